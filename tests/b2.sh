@@ -26,10 +26,13 @@ printf '%s\n' '#include <stdio.h>' '#include <unistd.h>' 'long rattle_arg(size_t
     'for (long i = 1; (n = rattle_arg(i, word, sizeof word)) >= 0; i++)' \
     'if (n == 10) printf("<%d>", (int)getpid()); else printf("<%.*s>", (int)n, word);' \
     'while ((c = getchar()) != EOF) putchar(c); puts(BUILD); return 7; }' >"$work/main.c"
-# A file of the small dist/, whose main is exported by a macro: COMPILER FILE BUILD.
+# A file of the small dist/, with two macros: COMPILER FILE BUILD.
 for folder in x86_64 aarch64; do
+    call=bl
+    [ $folder = aarch64 ] || call=call
     printf '.macro vj_export name\n\t.text\n\t.globl\t\\name\n\\name:\n.endm\n\t.section .note.GNU-stack,"",%%progbits\n' \
         >"$repository/dist/$folder/elf.inc"
+    printf '.macro vj_call name\n\t%s\t\\name\n.endm\n' $call >>"$repository/dist/$folder/elf.inc"
     for format in coff macho; do
         echo "/* $folder $format */" >"$repository/dist/$folder/$format.inc"
     done

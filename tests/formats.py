@@ -28,7 +28,9 @@ C_LIBRARY = {"memcpy", "memmove", "memset"}
 OF_PROGRAMS = {f"rattle_{it}" for it in ("alloc", "arg", "dealloc", "errno", "realloc", "set_errno")}
 OF_PROGRAMS |= {"__x86_get_cpuid_feature_leaf"}
 OF_B2 = {"linux": {"read", "write", "__write", "__sysv_signal"}, "windows": {"b2_read", "b2_write", "b2_signal"}}
-OF_B2SUM = {"b2sum_open", "b2sum_read", "b2sum_signal", "b2sum_update_tree", "__xpg_strerror_r", "close"}
+OF_B2SUM = {"b2sum_open", "b2sum_read", "b2sum_signal", "__xpg_strerror_r", "close"}
+# The functions of b2sum that C has instead.
+OF_C = re.compile(r"b2sum\.\.(disk\.\.hide_memory|hashes\.\.absorb_tree\.\.[0-9a-f]{16})_\d+_\d+_\d+_(v[234]|arm)")
 TOOLS = ("clang", "llvm-objdump", "llvm-nm")
 PADDING = re.compile(r"(nop|data16|cs nop|xchgw %ax, %ax|int3|udf)")
 
@@ -104,6 +106,9 @@ def check_system(name, arch, system, made, elf):
            len(same) == len(elf) == len(found) > 40 and sum(map(len, elf.values())) > 8000,
            sorted(elf.keys() - set(same))[:5])
     called = {re.sub("^_", "", it) if system == "macos" else it for it in symbols(made, "-u")}
+    of_c = {it for it in called if name.startswith("b2sum") and OF_C.fullmatch(it)}
+    yield "it calls the functions that C has instead", len(of_c) == 2 * name.startswith("b2sum"), called
+    called -= of_c
     yield "it calls the C library and what the C of the programs has", (
         C_LIBRARY <= called <= may_call(name, system)), called - may_call(name, system)
     link = f"{made}.linked"

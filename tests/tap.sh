@@ -77,8 +77,8 @@ block_of() { sed -n "/^\`\`\`$2\$/,/^\`\`\`\$/{/^\`\`\`\$/q;/^\`\`\`/d;p}" "$top
 # Writes a file for the compiler with the macros of dist/ and one of its texts, and prints its path.
 with_macros() {
     local file
-    file=$work/$(basename "${1%.s}").S
-    printf '#include "%s"\n' "$top/dist/macros.h" "$(readlink -f "$1")" >"$file" && echo "$file"
+    file=$work/macros/$(basename "${1%.s}").S
+    mkdir -p "$work/macros" && printf '#include "%s"\n' "$top/dist/macros.h" "$(readlink -f "$1")" >"$file" && echo "$file"
 }
 
 # The name that a file of a program in dist/ gives to a function that it calls or exports: FILE
