@@ -86,7 +86,7 @@ def target():
     found = re.fullmatch(r"(linux|macosx|mingw|win)[-_](?:([\d.]+)-)?"
                          r"(?:(x86_64|amd64)|(aarch64|arm64))(?:_\w+)?", platform)
     if not re.match("macosx|mingw|win", platform) and (not found or os.environ.get("VULFSJOR_PORTABLE")):
-        return "linux", ["src/portable.c"], LINKING["linux"]
+        return "linux", ["-DVULFSJOR_PORTABLE", "src/portable.c"], LINKING["linux"]
     if not found or sys.maxsize < 2**32:
         refuse("vulfsjor is assembly for Linux, macOS and Windows on x86-64 and on 64-bit ARM, and "
                f"has none for {platform}")

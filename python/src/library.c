@@ -2,7 +2,7 @@
  * functions of the library vulfsjor, whose assembly is linked with this file. */
 #include "library.h"
 
-#ifdef __x86_64__
+#if defined __x86_64__ && !defined VULFSJOR_PORTABLE
 #include <cpuid.h>
 #endif
 
@@ -606,7 +606,7 @@ static int add_version(PyObject *module) {
     return status;
 }
 
-#ifdef __x86_64__
+#if defined __x86_64__ && !defined VULFSJOR_PORTABLE
 /* Whether the processor has all of x86-64-v2. Where it has not, the first call of the library would
  * end the program (choose.c). */
 static int is_supported(void) {

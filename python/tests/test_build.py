@@ -144,8 +144,11 @@ class Build(Test):
         with zipfile.ZipFile(self.made("wheel", os.path.join(TOP, "python"), VULFSJOR_PORTABLE="1")) as wheel:
             wheel.extractall(os.path.join(self.folder, "portable"))
         code = "import vulfsjor; print(vulfsjor.blake2b(b'abc', key=b'k').hexdigest())"
-        self.assertEqual(self.succeeds(sys.executable, "-c", code, cwd=os.path.join(self.folder, "portable")).strip(),
-                         hashlib.blake2b(b"abc", key=b"k").hexdigest())
+        emulators = [[]] + [["qemu-x86_64", "-cpu", "core2duo"]] * (X86 and not absent(tools=["qemu-x86_64"]))
+        for emulator in emulators:
+            self.assertEqual(self.succeeds(*emulator, sys.executable, "-c", code,
+                                           cwd=os.path.join(self.folder, "portable")).strip(),
+                             hashlib.blake2b(b"abc", key=b"k").hexdigest())
 
     def test_what_is_missing(self):
         said = "build_package.py: there is no C compiler{}: install GCC{}, or set CC"
