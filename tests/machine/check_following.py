@@ -58,17 +58,31 @@ def readers(kind: str, tests: list, rng: Any) -> Iterator:
             yield "; ".join(filter(None, (rng.choice(first), keeper, reader))), 15
 
 
+def reached(program: Program) -> list:
+    """The functions that the calls whose secrets are followed reach, except those that compress or
+    overwrite the stack."""
+    starts = {program.extent(name)[0]: name for name in program.functions
+              if "@" not in name and not name.startswith(".plt")}
+    waiting = [name for name, _, family in calls.exports(program) if calls.is_followed(name, family)]
+    found = {functions.in_file(program.path, name): False for name, _, _ in functions.FILES[program.path]}
+    while waiting:
+        name = waiting.pop()
+        if name in found or name.startswith((functions.SCRUB_STACK, functions.SETTLE)):
+            continue
+        found[name] = True
+        waiting += [starts[i.target] for i in program.code(name, calls.MODELS[program.kind].Instruction)
+                    if i.target in starts]
+    return [name for name in found if found[name]]
+
+
 def chosen(program: Program, count: int, rng: Any, names: list | None = None) -> tuple:
     """Up to `count` instructions of each form, of these functions, or of all that calls reach and
     follow."""
     found: dict = {}
     kind = program.kind
     model = calls.MODELS[kind]
-    followed = names or [name for name in program.functions if "@" not in name and not (
-        name.startswith((functions.SCRUB_STACK, functions.SETTLE, ".plt")))]
-    listed = {name for name, _, _ in functions.FILES[program.path]}
-    for name in followed:
-        for i in program.code(name, model.Instruction) if name not in listed else ():
+    for name in names or reached(program):
+        for i in program.code(name, model.Instruction):
             has_index = kind == "aarch64" and any(getattr(o, "index", None) and o.kind == "memory"
                                                   for o in i.operands)
             if i.name not in SKIPPED and not has_index and not (
