@@ -370,8 +370,6 @@ chosen_by_cmake() {
             choose_by_cmake $system $name | diff <(echo dist/vulfsjor.S) - || return 1
         done
     done
-    choose_by_cmake Darwin arm64 "-DCMAKE_OSX_ARCHITECTURES=arm64;x86_64" |
-        diff <(echo dist/vulfsjor.S) - || return 1
     for name in "Linux aarch64_be" "Linux riscv64" "Linux armv7l" "Haiku x86_64" \
         "Linux x86_64 -DVULFSJOR_PORTABLE=ON"; do
         choose_by_cmake $name | diff <(echo dist/c/vulfsjor.c) - || return 1
