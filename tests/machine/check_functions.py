@@ -1,5 +1,6 @@
 """Executes whole functions in the model over numbers, and compares digests with hashlib: messages
-of one block with random lengths, and both values of the flag of the last node."""
+of one block with random lengths, and both values of the flag of the last node. Functions of stripes
+are left out: their blocks are never the last."""
 
 from __future__ import annotations
 
@@ -19,7 +20,7 @@ if TYPE_CHECKING:
 def numbers_of(call: Any, texts: Any, size: int) -> Any:
     """The numbers of a call's variables for messages of one block."""
     kind, n = call.kind, call.kind.bytes
-    found = {call.counter: T.const(64, size)}
+    found = {counter: T.const(64, size) for counter in getattr(call, "counters", [call.counter])}
     for j, text in enumerate(texts):
         h = [kind.iv[0] ^ 0x01010000 ^ 8 * n] + kind.iv[1:]
         block = text.ljust(kind.block, b"\0")
@@ -56,7 +57,7 @@ def digests(program: Program, entry: Any, rng: Any) -> Any:
     nodes = [bool(rng.randrange(2)) for _ in range(lanes)]
     assumed = {"last%d" % j: True for j in range(lanes)}
     assumed.update({"node%d" % j: node for j, node in enumerate(nodes)})
-    call = compression.Call(program, name, kind, lanes, assumed)
+    call = compression.call_of(entry[0])(program, name, kind, lanes, assumed)
     concrete(call, numbers_of(call, texts, size))
     compression.Runner(program.code(name)).run(call.machine)
     found = [b"".join(bytes(T.split(call.result(call.machine, j, k))) for k in range(8))
@@ -68,7 +69,9 @@ def digests(program: Program, entry: Any, rng: Any) -> Any:
 def check(path: str, count: int) -> Any:
     """Whether the model of each function of a file agrees with hashlib, in `count` runs."""
     program, rng, total = read(path), random.Random(2), 0
-    for entry in functions.FILES[path]:
+    listed = [entry for entry in functions.FILES[path]
+              if compression.call_of(entry[0]) is not compression.StripesCall]
+    for entry in listed:
         for _ in range(count):
             found, wanted = digests(program, entry, rng)
             total += len(wanted)
