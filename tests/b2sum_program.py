@@ -24,7 +24,7 @@ def programs(given):
             done = subprocess.run(["bash", "-c", ASSEMBLE, TOP, folder], stdout=subprocess.PIPE,
                 stderr=subprocess.STDOUT)
             tap.result(done.returncode == 0, "the program b2sum in dist/ is assembled", done.stdout.decode())
-            given = sorted(os.path.join(folder, name) for name in os.listdir(folder))
+            given = sorted(it.path for it in os.scandir(folder) if it.is_file() and os.access(it.path, os.X_OK))
         yield [os.path.abspath(program) for program in given]
     finally:
         shutil.rmtree(folder)

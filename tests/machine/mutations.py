@@ -51,12 +51,12 @@ def changed(lines: Any, number: Any, old: Any, new: Any) -> Any:
     if len(found) < number:
         raise NoMatch("%r matches %d lines, fewer than %d" % (old, len(found), number))
     at = found[number - 1]
+    # The labels of a file are numbers too, from 1 up.
+    new = "; ".join(re.sub(r"(?<![\w$%\\])(\d)(f$|:)", r"9999\1\2", part) for part in new.split("; "))
     text = new if exact else re.sub(old, new, clean[at], count=1)
     if text == clean[at]:
         raise NoMatch("the change of %r changes nothing" % clean[at])
-    # The labels of a file are numbers too, from 1 up.
-    inserted = [re.sub(r"(?<![\w$%])(\d)(f$|:)", r"9999\1\2", part) for part in text.split("; ") if part]
-    return lines[:at] + inserted + lines[at + 1:]
+    return lines[:at] + [part for part in text.split("; ") if part] + lines[at + 1:]
 
 
 def edit_text(name: str, is_data: bool, *change: Any) -> Any:
