@@ -6,7 +6,7 @@ pub use Rattle.blake2_transcript.specs.StepViews
 pub use Rattle.blake2_transcript.specs.Transcript
 pub use Rattle.blake2_transcript.specs.Witness
 pub use Rattle.blake2_replay.specs.Play
-pub use Rattle.blake2_replay.specs.Streams
+pub use Rattle.blake2_streams.specs.Streams
 pub mod Contexts
 pub mod CoreLaws
 pub mod Cores

@@ -38,15 +38,16 @@ mod hashers;
 pub mod laws;
 mod macs;
 pub mod many;
-pub mod steps;
 #[cfg(test)]
 mod tests;
+pub mod transcripts;
 
 pub use blake2_compress::params::Tree;
 pub use blake2_digest as digest;
 pub use blake2_digest::{Digest, LastNode};
-pub use blake2_replay::{calls, engine};
+pub use blake2_replay::calls;
 pub use blake2_simd::rows;
+pub use blake2_streams as streams;
 pub use cores::blake2b::Blake2bVarCore;
 pub use cores::blake2s::Blake2sVarCore;
 pub use hashers::blake2b::Blake2b;

@@ -3,7 +3,7 @@
 //!
 //! ```rust
 //! use blake2::many;
-//! use blake2::steps::Input;
+//! use blake2::transcripts::Input;
 //!
 //! let inputs: [Input<'_>; 4] = leaves;
 //! if many::blake2b::accepts_four(&inputs) {

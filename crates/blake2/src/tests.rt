@@ -7,7 +7,7 @@ mod scalar;
 
 use crate::calls::{Call, ReplayFault, replay};
 use crate::digest::{CustomizedInit, Duplicate, FixedOutput, FixedOutputReset, Reset, Update};
-use crate::engine::{SliceSink, SliceSource, StreamFault, hash_stream};
+use crate::streams::{SliceSink, SliceSource, StreamFault, hash_stream};
 use crate::{Blake2b, Blake2b128, Blake2b512, Blake2s, Blake2s256, Digest};
 use blake2_compress::consts::{BLAKE2B_IV, BLAKE2S_IV};
 use scalar::compress;

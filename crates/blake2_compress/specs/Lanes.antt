@@ -4,7 +4,7 @@ use Rattle.std.specs.Prelude.{slice_index_or, None}
 use Rattle.std.specs.Borrow.{Bor}
 use Rattle.blake2_compress.specs.declared.params.Tree as GivenTree
 use Rattle.blake2_compress.specs.declared.inputs.Input as GivenInput
-use Rattle.blake2_compress.specs.declared.words.Flags as GivenFlags
+use Rattle.blake2_compress.specs.declared.compress.Flags as GivenFlags
 use Rattle.blake2_simd.specs.Family.{Family, block_bytes}
 use Rattle.blake2_compress.specs.Hash.{Flags, Input, compress, input_data}
 use Rattle.blake2_compress.specs.Inputs.{Accepts}

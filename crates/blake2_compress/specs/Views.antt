@@ -4,7 +4,7 @@ use Rattle.std.specs.Prelude.{ℕ, List, Option, Some, None}
 use Rattle.std.specs.Borrow.{Bor}
 use Rattle.blake2_compress.specs.declared.params.Parameters as GivenParameters
 use Rattle.blake2_compress.specs.declared.params.Tree as GivenTree
-use Rattle.blake2_compress.specs.declared.words.Flags as GivenFlags
+use Rattle.blake2_compress.specs.declared.compress.Flags as GivenFlags
 use Rattle.blake2_compress.specs.declared.inputs.Input as GivenInput
 use Rattle.blake2_compress.specs.Hash.{flags, Flags, Input, Parameters, Tree}
 

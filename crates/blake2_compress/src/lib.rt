@@ -4,9 +4,9 @@
 
 #![tactic(auto)]
 
+pub mod compress;
 pub mod consts;
 pub mod inputs;
 pub mod laws;
 pub mod many;
 pub mod params;
-pub mod words;

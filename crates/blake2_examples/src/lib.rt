@@ -1,10 +1,10 @@
-//! Callers of this project's libraries, as the pages CALLING.md of their crates show them: what a
-//! caller writes, and what its contract may then promise.
+//! Callers of this project's libraries, to which the pages of their crates lead: what a caller
+//! writes, and what its contract may then promise.
 
 #![tactic(auto)]
 
+mod building_blocks;
 mod hashes;
 mod macs;
-mod parts;
-mod sizes;
+mod run_time_sizes;
 mod trees;

@@ -1,7 +1,7 @@
-//! BLAKE2b and BLAKE2s (RFC 7693), BLAKE2bp and BLAKE2sp as a static library for C: the digest of a
-//! message in one call, or step by step with a state that the caller keeps. `c/include/vulfsjor.h`
-//! declares these functions and says what a caller must guarantee. C programs use the functions
-//! `vulfsjor_*` of that header, which accept null pointers too.
+//! BLAKE2b and BLAKE2s (RFC 7693), BLAKE2bp and BLAKE2sp, BLAKE2Xb and BLAKE2Xs as a static library
+//! for C: the digest of a message in one call, or step by step with a state that the caller keeps.
+//! `c/include/vulfsjor.h` declares these functions and says what a caller must guarantee. C
+//! programs use the functions `vulfsjor_*` of that header, which accept null pointers too.
 //!
 //! No pointer is null, not even that of no bytes. A buffer is a pointer and its length in bytes.
 //! What a function writes overlaps none of its other arguments. A state is memory of written
@@ -18,6 +18,8 @@ mod blake2b;
 mod blake2bp;
 mod blake2s;
 mod blake2sp;
+mod blake2xb;
+mod blake2xs;
 mod many;
 mod plans;
 mod trees;
@@ -65,23 +67,6 @@ impl NodeParameters {
             inner_length: self.inner_length,
         }
     }
-}
-
-// The version of the library (https://semver.org), each number below 256. The header and the
-// packages name the same, and tests/pages.py and c/tests/edges.c compare them.
-const MAJOR: u32 = 0;
-
-const MINOR: u32 = 1;
-
-const PATCH: u32 = 0;
-
-/// Returns the version of the library: 65,536 times its first number, 256 times its second, and
-/// its third.
-#[unsafe(no_mangle)]
-pub extern "C" fn vulfsjor_ffi_version() -> u32
-    ensures { result ≡ 256 }
-{
-    MAJOR * 65536 + MINOR * 256 + PATCH
 }
 
 /// Returns 0 if the bytes are equal, and -1 if they are not. If the lengths are equal, it looks

@@ -16,7 +16,7 @@ ghost use Rattle.blake2_ffi.specs.Status.{Returns};
 
 use blake2_state::blake2b::State;
 use blake2_state::tree::{TreeState, leaf_state, root_state};
-use blake2_tree::plan::{Limits, Part, Plan};
+use blake2_tree::thread_plan::{Limits, Part, Plan};
 use blake2_tree::{MESSAGE_LIMIT, accepts};
 
 /// Returns 0 if a tree accepts these lengths, and otherwise -1: a root of 1 to 64 bytes, a salt

@@ -1,10 +1,10 @@
 //! Lists of calls on hashers.
 
 use crate::checks::{check_digits, take};
-use crate::inputs::{CALLS, count_up, reads};
 use blake2::calls::{Call, replay};
 use blake2::digest::{Duplicate, FixedOutput, FixedOutputReset, Reset, Update};
 use blake2::{Blake2b256, Blake2b512, Blake2s256, Digest};
+use blake2_test_support::inputs::{CALLS, count_up, reads};
 use std::process::Abort;
 
 // Checks that a list of calls returns these digests, in hexadecimal.

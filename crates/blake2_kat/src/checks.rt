@@ -2,11 +2,11 @@
 
 ghost use Rattle.std.specs.Prelude.{◌≤◌, length};
 
-use crate::inputs;
-use crate::inputs::reads;
 use blake2::digest::Update;
-use blake2::steps::{Entry, Input, Reading, Transcript};
+use blake2::transcripts::{Entry, Input, Reading, Transcript};
 use blake2::{Blake2b256, Digest};
+use blake2_test_support::inputs;
+use blake2_test_support::inputs::reads;
 use std::fmt;
 use std::process::Abort;
 

@@ -4,12 +4,12 @@
 ghost use Rattle.std.specs.Prelude.{◌≤◌, length};
 
 use crate::checks::{check_digits, take};
-use crate::inputs::{LENGTHS, count_up};
 use blake2::digest::{Duplicate, FixedOutput, FixedOutputReset, Reset};
 use blake2::{
     Blake2b128, Blake2b256, Blake2b512, Blake2bMac512, Blake2s128, Blake2s256, Blake2sMac256,
     Digest,
 };
+use blake2_test_support::inputs::{LENGTHS, count_up};
 use std::process::Abort;
 
 // Checks that a state returns this output after it has absorbed the piece.

@@ -1,9 +1,9 @@
 //! The two families by their words, so that a test is written once for both.
 
 use crate::checks::reading;
-use crate::inputs::read_input;
-use blake2::steps::{Input, Step, Transcript};
+use blake2::transcripts::{Input, Step, Transcript};
 use blake2::{Blake2b512, Blake2bVarCore, Blake2s256, Blake2sVarCore, Digest, LastNode};
+use blake2_test_support::inputs::read_input;
 use std::alloc::AllocError;
 use std::fmt::Debug;
 use std::process::Abort;

@@ -3,8 +3,8 @@
 ghost use Rattle.std.specs.Prelude.{◌≤◌, length};
 
 use crate::checks::{check_digits, take};
-use crate::inputs::reads;
 use blake2::{Blake2b, Blake2b512, Blake2s, Blake2s256, Digest};
+use blake2_test_support::inputs::reads;
 use std::process::Abort;
 
 // The digest of a message that comes in two pieces, cut after `at` bytes.

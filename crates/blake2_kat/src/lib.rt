@@ -3,8 +3,7 @@
 //! and when memory is refused. They come from RFC 7693 and from Python's `hashlib.blake2b` and
 //! `hashlib.blake2s`, and not from this project's own code. They are apart from the libraries,
 //! since a crate that has tests is proved twice. `blake2` contains the tests of what is private
-//! there. The modules `devices`, `hoards` and `inputs` are what the tests of several crates
-//! share.
+//! there.
 
 #![tactic(auto)]
 
@@ -13,24 +12,21 @@ mod buffer;
 #[cfg(test)]
 mod calls;
 #[cfg(test)]
+mod changed_transcripts;
+#[cfg(test)]
 mod checks;
 #[cfg(test)]
 mod copies;
-pub mod devices;
+#[cfg(test)]
+mod debug;
 #[cfg(test)]
 mod families;
 #[cfg(test)]
-mod flags;
-#[cfg(test)]
-mod forged;
-#[cfg(test)]
 mod hashers;
-pub mod hoards;
-pub mod inputs;
 #[cfg(test)]
-mod lanes;
+mod key_lengths;
 #[cfg(test)]
-mod lengths;
+mod last_node;
 #[cfg(test)]
 mod macs;
 #[cfg(test)]
@@ -38,9 +34,7 @@ mod memory;
 #[cfg(test)]
 mod nodes;
 #[cfg(test)]
-mod parameters;
-#[cfg(test)]
-mod printed;
+mod parameter_block;
 #[cfg(test)]
 mod readme;
 #[cfg(test)]
@@ -48,10 +42,12 @@ mod rounds;
 #[cfg(test)]
 mod selftest;
 #[cfg(test)]
-mod sizes;
-#[cfg(test)]
-mod steps;
+mod simd;
 #[cfg(test)]
 mod streams;
+#[cfg(test)]
+mod transcripts;
+#[cfg(test)]
+mod type_sizes;
 #[cfg(test)]
 mod witness;

@@ -1,13 +1,13 @@
 //! Outputs of the MACs, personas of the hashers, and what constructors refuse.
 
 use crate::checks::{check_digits, take};
-use crate::inputs::{KEY, reads};
 use blake2::digest::{
     CustomizedInit, FixedOutput, InvalidLength, InvalidOutputSize, KeyInit, Mac, VariableOutputCore,
 };
 use blake2::{
     Blake2b128, Blake2bMac, Blake2bMac512, Blake2bVarCore, Blake2sMac256, Blake2sVarCore,
 };
+use blake2_test_support::inputs::{KEY, reads};
 use std::process::Abort;
 
 // Checks the output of BLAKE2b's MAC for no message.

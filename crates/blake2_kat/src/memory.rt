@@ -4,11 +4,13 @@
 ghost use Rattle.std.specs.Prelude.{◌≤◌};
 
 use crate::checks::{reading, transcript};
-use crate::hoards::{SPARE_BYTES, TRIES, hoard, is_refused, plug};
-use crate::inputs::{CALLS, WORDS, blake2b_last, blake2s_last, entry, input, unkeyed};
 use blake2::calls::{Call, ReplayFault, replay};
-use blake2::steps::{Input, Reading, Transcript};
+use blake2::transcripts::{Input, Reading, Transcript};
 use blake2::{Blake2b512, Blake2bVarCore, Blake2sVarCore, Digest};
+use blake2_test_support::inputs::{
+    CALLS, WORDS, blake2b_last, blake2s_last, entry, input, unkeyed,
+};
+use blake2_test_support::no_memory::{SPARE_BYTES, TRIES, hoard, is_refused, plug};
 use std::alloc::{AllocError, Global};
 use std::process::Abort;
 

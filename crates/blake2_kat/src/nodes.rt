@@ -6,9 +6,9 @@ ghost use Rattle.std.specs.Prelude.{◌≤◌};
 
 use crate::checks::{check_digest_of, transcript};
 use crate::families::Word;
-use crate::inputs::{blake2b_last, count_up, entry, input, unkeyed};
 use blake2::Blake2bVarCore;
-use blake2::steps::{Entry, Input, Step, Transcript, Tree};
+use blake2::transcripts::{Entry, Input, Step, Transcript, Tree};
+use blake2_test_support::inputs::{blake2b_last, count_up, entry, input, unkeyed};
 use std::process::Abort;
 
 // The tree parameters of the node with this number among 64, if node offsets have 64 bits less

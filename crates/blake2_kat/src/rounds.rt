@@ -2,8 +2,8 @@
 
 use crate::checks::check_digits;
 use blake2::rows::{u32x4, u64x4};
+use blake2_compress::compress::{blake2b, blake2s};
 use blake2_compress::consts::{BLAKE2B_IV, BLAKE2S_IV, SIGMA};
-use blake2_compress::words::{blake2b, blake2s};
 
 // The first block of the hash of `abc`, in words.
 const ABC: [u32; 16] = [0x636261, 0, 0, 0, 0, 0, 0, 0, 0, 0, 0, 0, 0, 0, 0, 0];

@@ -4,9 +4,9 @@
 ghost use Rattle.std.specs.Prelude.{◌≤◌};
 
 use crate::checks::take;
-use crate::inputs::reads;
 use blake2::digest::FixedOutput;
 use blake2::{Blake2b, Blake2b256, Blake2bMac, Blake2s, Blake2s256, Blake2sMac, Digest};
+use blake2_test_support::inputs::reads;
 use std::process::Abort;
 
 // Fills the bytes with the appendix's sequence of this seed.

@@ -3,7 +3,7 @@
 ghost use Rattle.std.specs.Prelude.{◌≤◌};
 
 use blake2::digest::{KeyInit, Mac};
-use blake2::engine::{Sink, SliceSink, SliceSource, Source, StreamFault, hash_stream};
+use blake2::streams::{Sink, SliceSink, SliceSource, Source, StreamFault, hash_stream};
 use blake2::{Blake2b, Blake2b512, Blake2bMac, Blake2s, Digest};
 use std::process::Abort;
 

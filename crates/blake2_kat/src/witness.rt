@@ -3,9 +3,9 @@
 //! plain program of the compression (3.2) in Python, whose digests are those of `hashlib`.
 
 use crate::families::Word;
-use crate::inputs::{blake2b_last, blake2s_last, input, padded, step, unkeyed};
-use blake2::steps::Input;
+use blake2::transcripts::Input;
 use blake2::{Blake2b, Digest};
+use blake2_test_support::inputs::{blake2b_last, blake2s_last, input, padded, step, unkeyed};
 
 // An input that has only a salt.
 fn salted<'a>(salt: &'a [u8]) -> Input<'a> {

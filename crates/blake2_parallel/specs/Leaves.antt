@@ -1,5 +1,5 @@
--- The leaves of a hash that absorbs a message: what they have compressed, and the bytes that are not
--- dealt out yet.
+-- The leaves of a hash that absorbs a message: what they have compressed, and the bytes that are
+-- not dealt out yet.
 use Rattle.std.specs.Prelude.{◌≡◌, ℕ, zero, suc, ◌+◌, ◌*◌, ◌<◌, nat_eq, true, if◌then◌else◌, List}
 use Rattle.std.specs.Prelude.{◌++◌, length, take, nat_lt}
 use Rattle.std.specs.List.{flat_map, range_with_len}

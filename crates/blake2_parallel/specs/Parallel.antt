@@ -1,7 +1,8 @@
 -- BLAKE2bp and BLAKE2sp: trees of two levels with a fixed number of leaves, among which a message
--- is dealt out block by block (the BLAKE2 document, "Parallel hashing", and its reference code). One
--- definition serves both: it is over the family. The document has no salt and no personalization
--- for them. Here they are in the parameter block of each node, as in any tree of its section 2.10.
+-- is dealt out block by block (the BLAKE2 document, "Parallel hashing", and its reference code).
+-- One definition serves both: it is over the family. The document has no salt and no
+-- personalization for them. Here they are in the parameter block of each node, as in any tree of
+-- its section 2.10.
 use Rattle.std.specs.Prelude.{ℕ, ◌+◌, ◌-◌, ◌*◌, ◌/◌, ◌≤◌, Bool, true, nat_eq, List, [], ◌∷◌, ◌++◌}
 use Rattle.std.specs.Prelude.{length, take}
 use Rattle.std.specs.List.{flat_map, range_with_len}

@@ -14,11 +14,11 @@ ghost use Rattle.blake2_parallel.specs.Parallel.{node_parameters, output_from, s
 ghost use Rattle.blake2_parallel.specs.Blake2s.{IsReady, IsWithin, meaning, zeros, zeros_for};
 
 use crate::lanes::blake2s::{Lanes, words_from};
+use blake2_compress::compress::Flags;
+use blake2_compress::compress::blake2s::{compress, to_bytes, to_rows};
 use blake2_compress::many::blake2s as many;
 use blake2_compress::params::blake2s::start_words;
 use blake2_compress::params::{Parameters, Tree};
-use blake2_compress::words::Flags;
-use blake2_compress::words::blake2s::{compress, to_bytes, to_rows};
 use blake2_digest::{Duplicate, InvalidLength, is_same, padded, settle};
 use blake2_simd::rows::u32x4;
 use std::hint;

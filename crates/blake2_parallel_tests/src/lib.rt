@@ -8,3 +8,5 @@ mod blake2b;
 mod blake2s;
 #[cfg(test)]
 mod checks;
+#[cfg(test)]
+mod traits;

@@ -5,4 +5,3 @@ mod Placing
 mod Playing
 mod SlotPlaces
 mod Standing
-pub mod StreamLemmas

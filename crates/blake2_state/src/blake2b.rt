@@ -14,9 +14,9 @@ ghost use Rattle.blake2_state.specs.States.{is_on};
 
 use crate::StateParameters;
 use blake2::{Blake2bVarCore, Tree};
+use blake2_compress::compress::blake2b::to_words;
 use blake2_compress::params::Parameters;
 use blake2_compress::params::blake2b::{fits, start_of};
-use blake2_compress::words::blake2b::to_words;
 use blake2_digest::{
     InvalidLength, LastNode, LazyBuffer, UpdateCore, VariableOutputCore, digest_into, is_same,
     padded,

@@ -14,9 +14,9 @@ ghost use Rattle.blake2_state.specs.States.{is_on};
 
 use crate::StateParameters;
 use blake2::{Blake2sVarCore, Tree};
+use blake2_compress::compress::blake2s::to_words;
 use blake2_compress::params::Parameters;
 use blake2_compress::params::blake2s::{fits, start_of};
-use blake2_compress::words::blake2s::to_words;
 use blake2_digest::{
     InvalidLength, LastNode, LazyBuffer, UpdateCore, VariableOutputCore, digest_into, is_same,
     padded,

@@ -1,6 +1,6 @@
 //! Checks that several tests of this crate share.
 
-use blake2_kat::inputs::reads;
+use blake2_test_support::inputs::reads;
 use std::process::Abort;
 
 /// Checks that these digits are the bytes, as `reads` returns.

@@ -2,10 +2,10 @@
 
 use blake2::calls::{Call, ReplayFault};
 use blake2::digest::{InvalidLength, InvalidOutputSize, Lazy, MacError, TruncSide};
-use blake2::engine::{DeviceError, StreamFault};
 use blake2::rows::{u32x4, u64x4};
-use blake2::steps::{Entry, Input, Reading, Step, Tree};
-use blake2_kat::inputs::{entry, input, reading, step, transcript, unkeyed};
+use blake2::streams::{DeviceError, StreamFault};
+use blake2::transcripts::{Entry, Input, Reading, Step, Tree};
+use blake2_test_support::inputs::{entry, input, reading, step, transcript, unkeyed};
 use blake2_tree::TreeWitness;
 use std::alloc::AllocError;
 use std::fmt;

@@ -11,11 +11,11 @@ mod checks;
 #[cfg(test)]
 mod derives;
 #[cfg(test)]
-mod engine;
-#[cfg(test)]
 mod many;
 #[cfg(test)]
 mod state;
+#[cfg(test)]
+mod streams;
 #[cfg(test)]
 mod traits;
 #[cfg(test)]

@@ -7,8 +7,8 @@ mod blake2b;
 mod blake2b_eight;
 mod blake2s;
 
-use blake2::steps::Input;
-use blake2_kat::inputs::{count_up, input, numbered, unkeyed};
+use blake2::transcripts::Input;
+use blake2_test_support::inputs::{count_up, input, numbered, unkeyed};
 
 // Bytes that count up from 0, and begin anew after 250.
 fn counted() -> [u8; 4306] {

@@ -3,7 +3,7 @@
 mod blake2b;
 mod blake2s;
 mod leaves;
-mod trees;
+mod roots;
 
 use blake2::Tree;
 use blake2_state::StateParameters;

@@ -21,7 +21,7 @@ use blake2::digest::{
 use blake2::{
     Blake2b512, Blake2bMac512, Blake2bVarCore, Blake2s256, Blake2sMac256, Blake2sVarCore, Tree,
 };
-use blake2_kat::inputs::place;
+use blake2_test_support::inputs::place;
 
 // ---- Wipe
 

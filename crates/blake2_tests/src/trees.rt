@@ -10,7 +10,7 @@ mod witness;
 
 use blake2::Blake2b;
 use blake2::digest::{FixedOutput, LastNode, Update};
-use blake2::steps::{Step, Tree};
+use blake2::transcripts::{Step, Tree};
 
 // The digest of a node of a tree, without salt and persona.
 fn node(leaf_length: u32, node_offset: u64, node_depth: u8, last: bool, bytes: &[u8]) -> [u8; 64]

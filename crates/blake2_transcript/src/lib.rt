@@ -3,6 +3,6 @@
 
 #![tactic(auto)]
 
-pub mod compare;
+pub mod collision;
 pub mod laws;
 pub mod steps;

@@ -12,7 +12,7 @@ use Rattle.blake2_simd.specs.Family.{blake2b}
 use Rattle.blake2_compress.specs.Hash.{digest}
 use Rattle.blake2_compress.specs.Pieces.{piece}
 use Rattle.blake2_compress.proofs.Pieces.{piece-zero, piece-more}
-use Rattle.blake2_tree.specs.declared.plan.Plan.{Plan}
+use Rattle.blake2_tree.specs.declared.thread_plan.Plan.{Plan}
 use Rattle.blake2_tree.specs.TreeRoot.{TreeParameters, root_over, tree_root, leaf_digests}
 use Rattle.blake2_tree.specs.Ranges.{range_digests}
 use Rattle.blake2_tree.specs.Plans.{HasParts, part_digests, count_of_parts, HasDigests}

@@ -5,9 +5,9 @@ use Rattle.std.specs.Int.{div_ceil}
 use Rattle.std.proofs.lemmas.Grind.{div_ceil_times}
 use Rattle.std.proofs.lemmas.Bool.{cases_lt, cases_eq, le-leb, lt-leb, ne_eqb}
 use Rattle.std.proofs.Math.Nat.{mul-le-mul_right, mul-le-mul_left, mul-mod_left, mod_self, mod-eq_of_lt}
-use Rattle.blake2_tree.specs.declared.plan.Plan.{Plan}
-use Rattle.blake2_tree.specs.declared.plan.Limits.{Limits}
-use Rattle.blake2_tree.specs.declared.plan.Part.{Part}
+use Rattle.blake2_tree.specs.declared.thread_plan.Plan.{Plan}
+use Rattle.blake2_tree.specs.declared.thread_plan.Limits.{Limits}
+use Rattle.blake2_tree.specs.declared.thread_plan.Part.{Part}
 use Rattle.blake2_tree.specs.TreeRoot.{leaf_count}
 use Rattle.blake2_tree.specs.Plans.{HasParts, IsPlan, IsPart, IsInOrder, start_of_part, count_of_parts}
 use Rattle.blake2_tree.specs.Plans.{in_fours, share, part_leaves, AreParts}

@@ -3,9 +3,9 @@ use Rattle.std.specs.Prelude.{◌≡◌, ℕ, ◌+◌, ◌-◌, ◌*◌, ◌/◌
 use Rattle.std.specs.Prelude.{if◌then◌else◌, min, max, false, ◌&&◌, List, length}
 use Rattle.std.specs.List.{flat_map, range_with_len}
 use Rattle.std.specs.Int.{div_ceil}
-use Rattle.blake2_tree.specs.declared.plan.Limits.{Limits}
-use Rattle.blake2_tree.specs.declared.plan.Plan.{Plan}
-use Rattle.blake2_tree.specs.declared.plan.Part.{Part}
+use Rattle.blake2_tree.specs.declared.thread_plan.Limits.{Limits}
+use Rattle.blake2_tree.specs.declared.thread_plan.Plan.{Plan}
+use Rattle.blake2_tree.specs.declared.thread_plan.Part.{Part}
 use Rattle.blake2_simd.specs.Family.{blake2b}
 use Rattle.blake2_compress.specs.Hash.{digest}
 use Rattle.blake2_compress.specs.Pieces.{piece}

@@ -16,11 +16,11 @@
 #![tactic(auto)]
 
 mod hasher;
-mod label;
+mod kept_salt;
 mod limits;
 pub mod nodes;
-pub mod plan;
 mod ranges;
+pub mod thread_plan;
 mod witness;
 
 pub use hasher::{TreeHasher, tree_root};

@@ -11,11 +11,11 @@ ghost use Rattle.blake2_tree.specs.TreeRoot.{place, node, leaf_count, leaf_diges
 ghost use Rattle.blake2_tree.specs.TreeRoot.{root_over, tree_parameters};
 ghost use Rattle.blake2_tree.specs.Ranges.{IsRange, range_digests, with_part};
 
-use crate::label::Label;
+use crate::kept_salt::KeptSalt;
 use crate::ranges::leaf_count;
 use blake2::digest::{FixedOutput, LastNode, Update};
 use blake2::laws::pieces::{piece, piece_count};
-use blake2::steps::{Input, Tree};
+use blake2::transcripts::{Input, Tree};
 use blake2::{Blake2b, many};
 use std::alloc::{AllocError, Global};
 
@@ -23,8 +23,8 @@ use std::alloc::{AllocError, Global};
 /// bytes of a leaf, 1 to 2^32 - 1.
 #[derive(Drop)]
 pub struct Nodes {
-    salt: Label,
-    persona: Label,
+    salt: KeptSalt,
+    persona: KeptSalt,
     pub(crate) leaf_length: u32,
     ghost some_length: { 1 ≤ leaf_length },
 }
@@ -49,8 +49,8 @@ impl Nodes {
         ensures { shared_parameters result ≡ tree_parameters salt.now persona.now leaf_length }
     {
         Nodes {
-            salt: Label::new(salt),
-            persona: Label::new(persona),
+            salt: KeptSalt::new(salt),
+            persona: KeptSalt::new(persona),
             leaf_length,
         }
     }

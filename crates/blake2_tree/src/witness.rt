@@ -7,7 +7,7 @@ ghost use Rattle.blake2_tree.specs.TreeWitnesses.{RootsCollide, IsTreeWitness};
 use crate::nodes::Nodes;
 use blake2::Blake2bVarCore;
 use blake2::laws::pieces::first_difference;
-use blake2::steps::Step;
+use blake2::transcripts::Step;
 use std::alloc::{AllocError, Global};
 
 /// What two different messages with one root come to: two different compressions, one of each

@@ -8,8 +8,8 @@ ghost use Rattle.blake2.specs.Cores.{CoreState, absorbed, completed, last_output
 ghost use Rattle.blake2.specs.Cores.{node_parameters, core_restarted, core_node_set, core_wiped};
 ghost use Rattle.blake2.specs.CoreLaws.{absorbed-append, absorbed-nil, count-absorbed};
 
+use blake2_compress::compress::{Flags, blake2b as words};
 use blake2_compress::params::{Parameters, Tree, blake2b as params};
-use blake2_compress::words::{Flags, blake2b as words};
 use blake2_digest::{
     AlgorithmName, BlockSizeUser, BufferKindUser, Duplicate, HashMarker, InvalidOutputSize,
     LastNode, Lazy, LazyBuffer, OutputSizeUser, Reset, TruncSide, UpdateCore, VariableOutputCore,

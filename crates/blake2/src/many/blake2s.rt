@@ -1,3 +1,3 @@
 //! Eight messages of BLAKE2s in parallel.
 
-pub use blake2_compress::many::blake2s::{accepts_eight, hash_eight, hash_eight_sized};
+pub use blake2_compress::many::blake2s::{accepts_eight, hash_eight, hash_eight_sized, lanes};

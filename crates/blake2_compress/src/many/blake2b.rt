@@ -20,13 +20,13 @@ ghost use Rattle.blake2_compress.specs.Run;
 ghost use Rattle.blake2_compress.specs.Views.{given_flags, input_of};
 
 use super::later_blocks;
+use crate::compress::Flags;
+use crate::compress::blake2b::{block_words, to_bytes};
 use crate::consts::{BLAKE2B_IV, SIGMA};
 use crate::inputs::Input;
 use crate::inputs::blake2b::accepts;
 use crate::inputs::blocks::{block_at, counted, input_parameters, step_count};
 use crate::params::blake2b::start_words;
-use crate::words::Flags;
-use crate::words::blake2b::{block_words, to_bytes};
 use blake2_simd::rows::u64x4;
 
 /// Returns how many messages are best hashed in parallel: 1, 4 or 8. It is 4, and a build for a

@@ -1,7 +1,7 @@
 //! Eight messages of BLAKE2s: eight rows hold their chaining words, row k having word k of each.
 
 ghost use Rattle.std.specs.Prelude.{◌≡◌, ◌↔◌, ◌<◌, ◌≤◌, ◌+◌, ◌-◌, ◌*◌, ◌^◌, ◌%◌, ℕ, List, [], ◌++◌};
-ghost use Rattle.std.specs.Prelude.{IsTrue, length, bit_xor, map, take, drop, slice_index};
+ghost use Rattle.std.specs.Prelude.{◌⊎◌, IsTrue, length, bit_xor, map, take, drop, slice_index};
 ghost use Rattle.std.specs.Prelude.{slice_index_or};
 ghost use Rattle.blake2_simd.specs.Family.{blake2s, output_bytes, sigma};
 ghost use Rattle.blake2_simd.specs.Lanes.{in_lane};
@@ -18,14 +18,23 @@ ghost use Rattle.blake2_compress.specs.Run;
 ghost use Rattle.blake2_compress.specs.Views.{given_flags, input_of};
 
 use super::later_blocks;
+use crate::compress::Flags;
+use crate::compress::blake2s::{block_words, to_bytes, to_rows};
 use crate::consts::{BLAKE2S_IV, SIGMA};
 use crate::inputs::Input;
 use crate::inputs::blake2s::accepts;
 use crate::inputs::blocks::{block_at, counted, input_parameters, step_count};
 use crate::params::blake2s::start_words;
-use crate::words::Flags;
-use crate::words::blake2s::{block_words, to_bytes, to_rows};
 use blake2_simd::rows::{u32x4, u32x8};
+
+/// Returns how many messages are best hashed in parallel: 1 or 8. It is 8, and a build for a
+/// processor on which one after another is faster has 1 in its place. So a caller must be right for
+/// both.
+pub fn lanes() -> usize
+    ensures { (result ≡ 1) ⊎ (result ≡ 8) }
+{
+    8
+}
 
 // The row of word k of each of eight messages.
 #[inline(always)]

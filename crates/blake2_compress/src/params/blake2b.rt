@@ -9,8 +9,8 @@ ghost use Rattle.blake2_compress.specs.ParameterBlock;
 ghost use Rattle.blake2_compress.specs.Views.{given_parameters, tree_of};
 
 use super::{Parameters, Tree, parameter_block, tree_in};
+use crate::compress::blake2b::{to_rows, to_words, xor_rows};
 use crate::consts::BLAKE2B_IV;
-use crate::words::blake2b::{to_rows, to_words, xor_rows};
 use blake2_simd::rows::u64x4;
 
 /// Returns whether BLAKE2b accepts these tree parameters: at least one level and an inner node's

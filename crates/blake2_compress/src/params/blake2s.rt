@@ -9,8 +9,8 @@ ghost use Rattle.blake2_compress.specs.ParameterBlock;
 ghost use Rattle.blake2_compress.specs.Views.{given_parameters, tree_of};
 
 use super::{Parameters, Tree, parameter_block, tree_in};
+use crate::compress::blake2s::{to_rows, to_words, xor_rows};
 use crate::consts::BLAKE2S_IV;
-use crate::words::blake2s::{to_rows, to_words, xor_rows};
 use blake2_simd::rows::u32x4;
 
 // The largest node offset that has room in its 6 bytes.

@@ -16,7 +16,7 @@ use crate::many::{are_counted, is_room_for, write_digests};
 use blake2::Tree;
 use blake2::many::blake2b::eight::{accepts_eight, hash_eight_sized};
 use blake2::many::blake2b::{accepts_four, hash_four_sized, lanes};
-use blake2::steps::Input;
+use blake2::transcripts::Input;
 use blake2_digest::scrub_stack;
 use blake2_state::StateParameters;
 use blake2_state::blake2b::State;

@@ -14,8 +14,8 @@ ghost use Rattle.blake2_ffi.specs.Status.{Returns};
 use crate::Text;
 use crate::many::{are_counted, is_room_for, write_digests};
 use blake2::Tree;
-use blake2::many::blake2s::{accepts_eight, hash_eight_sized};
-use blake2::steps::Input;
+use blake2::many::blake2s::{accepts_eight, hash_eight_sized, lanes};
+use blake2::transcripts::Input;
 use blake2_digest::scrub_stack;
 use blake2_state::StateParameters;
 use blake2_state::blake2s::State;
@@ -77,7 +77,7 @@ fn write_next(out: &mut [u8], given: &StateParameters<'_>, messages: &[Text<'_>]
     ensures digests { out.new ≡ digests_given blake2s given.now (take result messages.now)
         ++ drop (result * given.now.output_size) out.old }
 {
-    if messages.len() >= 8 {
+    if lanes() >= 8 && messages.len() >= 8 {
         let StateParameters {
             output_size,
             key,
@@ -104,10 +104,10 @@ fn write_next(out: &mut [u8], given: &StateParameters<'_>, messages: &[Text<'_>]
 }
 
 /// Writes the digests of the messages, each as `vulfsjor_ffi_blake2s` would with this size and key,
-/// and with a salt and a persona of up to 8 bytes each, one after the other. Eight messages in a
-/// row that have one length are hashed in parallel. Returns 0, or -1 if a length is not one that
-/// BLAKE2s accepts, a message and the key's block have 2^64 bytes or more, or `out` does not have
-/// exactly `output_size` bytes for each message; nothing is then written.
+/// and with a salt and a persona of up to 8 bytes each, one after the other. As many messages in a
+/// row that have one length are hashed in parallel as `lanes` says. Returns 0, or -1 if a length is
+/// not one that BLAKE2s accepts, a message and the key's block have 2^64 bytes or more, or `out`
+/// does not have exactly `output_size` bytes for each message; nothing is then written.
 #[unsafe(no_mangle)]
 pub extern "C" fn vulfsjor_ffi_blake2s_many(
     out: &mut [u8],

@@ -31,8 +31,8 @@ impl<const N: usize> Blake2bp<N> {
         requires supported { N ≤ 64 }
         requires salt { length salt.now ≤ 16 }
         requires persona { length persona.now ≤ 16 }
-        ensures { Fresh (blake2bp_meaning N) (digests blake2b (settings N [] salt.now persona.now)) 0
-            result }
+        ensures { Fresh (blake2bp_meaning N)
+            (digests blake2b (settings N [] salt.now persona.now)) 0 result }
     {
         Blake2bp {
             state: State::new(N, &[], salt, persona),

@@ -31,8 +31,8 @@ impl<const N: usize> Blake2sp<N> {
         requires supported { N ≤ 32 }
         requires salt { length salt.now ≤ 8 }
         requires persona { length persona.now ≤ 8 }
-        ensures { Fresh (blake2sp_meaning N) (digests blake2s (settings N [] salt.now persona.now)) 0
-            result }
+        ensures { Fresh (blake2sp_meaning N)
+            (digests blake2s (settings N [] salt.now persona.now)) 0 result }
     {
         Blake2sp {
             state: State::new(N, &[], salt, persona),

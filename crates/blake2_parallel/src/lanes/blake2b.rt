@@ -1,23 +1,23 @@
 //! The four leaves of BLAKE2bp.
 
-ghost use Rattle.std.specs.Prelude.{◌≡◌, ℕ, ◌+◌, ◌-◌, ◌*◌, ◌^◌, ◌<◌, ◌≤◌, List, [], ◌∷◌, ◌++◌, length};
-ghost use Rattle.std.specs.Prelude.{take, drop, min, nat_eq, nat_lt, if◌then◌else◌, replicate};
-ghost use Rattle.std.specs.Prelude.{slice_index_or, ◌↔◌, IsTrue};
+ghost use Rattle.std.specs.Prelude.{◌≡◌, ℕ, ◌+◌, ◌-◌, ◌*◌, ◌^◌, ◌<◌, ◌≤◌, ◌↔◌, List, [], ◌∷◌, ◌++◌};
+ghost use Rattle.std.specs.Prelude.{length, take, drop, min, nat_eq, nat_lt, if◌then◌else◌};
+ghost use Rattle.std.specs.Prelude.{replicate, slice_index, slice_index_or, IsTrue};
 ghost use Rattle.std.specs.List.{flat_map};
 ghost use Rattle.blake2_simd.specs.Family.{blake2b};
 ghost use Rattle.blake2_simd.specs.Lanes.{in_lane};
 ghost use Rattle.blake2_simd.specs.Rows.{eight};
 ghost use Rattle.blake2_compress.specs.Hash.{bytes_of, compress as F, final, padded as filled};
-ghost use Rattle.blake2_compress.specs.Lanes.{flags_at};
+ghost use Rattle.blake2_compress.specs.Lanes.{flags_at, texts};
 ghost use Rattle.blake2_compress.specs.Pieces.{piece};
 ghost use Rattle.blake2_compress.specs.Views.{given_flags};
 ghost use Rattle.blake2_parallel.specs.Leaves.{Took, WentOn, end_flags, leaf_chain, leaf_future};
 ghost use Rattle.blake2_parallel.specs.Leaves.{total};
 ghost use Rattle.blake2_parallel.specs.Blake2b.{IsSound, leaves_of};
 
+use blake2_compress::compress::Flags;
+use blake2_compress::compress::blake2b::{compress, to_bytes, to_words};
 use blake2_compress::many::blake2b as many;
-use blake2_compress::words::Flags;
-use blake2_compress::words::blake2b::{compress, to_bytes, to_words};
 use blake2_digest::padded;
 use blake2_simd::rows::u64x4;
 
@@ -148,6 +148,55 @@ fn compress_stripes(rows: &mut [u64x4; 8], bytes: &[u8], counter: u64, count: us
 
 // ---- the end
 
+// The chaining words of a leaf after one more block.
+fn compress_one(h: [u64x4; 2], block: &[u8; 128], counter: u64, flags: Flags) -> [u64; 8]
+    ensures { result ≡ F blake2b (eight h) block.now counter (given_flags flags) }
+{
+    let mut words = h;
+    compress(&mut words, block, counter, flags);
+    to_words(&words)
+}
+
+// Does the same as `many::compress_each`, leaf by leaf.
+fn compress_one_by_one(
+    rows: &mut [u64x4; 8],
+    blocks: &[&[u8; 128]; 4],
+    counters: &[u64; 4],
+    flags: &[Flags; 4],
+)
+    ensures { (j : ℕ) → j < 4 → in_lane j rows.new
+        ≡ F blake2b (in_lane j rows.old) (slice_index_or (texts blocks.now) j [])
+        (slice_index counters.now j) (flags_at flags.now j) }
+{
+    let words = [
+        compress_one(lane_words(rows, 0), blocks[0], counters[0], flags[0]),
+        compress_one(lane_words(rows, 1), blocks[1], counters[1], flags[1]),
+        compress_one(lane_words(rows, 2), blocks[2], counters[2], flags[2]),
+        compress_one(lane_words(rows, 3), blocks[3], counters[3], flags[3]),
+    ];
+    let all = many::rows_of(&words);
+    *rows = all;
+}
+
+// Compresses a block of each leaf in the way that is faster on this processor.
+#[inline(always)]
+fn compress_each(
+    rows: &mut [u64x4; 8],
+    blocks: &[&[u8; 128]; 4],
+    counters: &[u64; 4],
+    flags: &[Flags; 4],
+)
+    ensures { (j : ℕ) → j < 4 → in_lane j rows.new
+        ≡ F blake2b (in_lane j rows.old) (slice_index_or (texts blocks.now) j [])
+        (slice_index counters.now j) (flags_at flags.now j) }
+{
+    if many::lanes() >= 4 {
+        many::compress_each(rows, blocks, counters, flags);
+    } else {
+        compress_one_by_one(rows, blocks, counters, flags);
+    }
+}
+
 // The number of bytes that block `j` of `n` bytes has.
 #[inline(always)]
 fn part(n: usize, j: usize) -> u64
@@ -176,7 +225,7 @@ fn compress_short(rows: &mut [u64x4; 8], bytes: &[u8], counter: u64, flags: &[Fl
         counter + part(n, 2),
         counter + part(n, 3),
     ];
-    many::compress_each(rows, &here, &counters, flags);
+    compress_each(rows, &here, &counters, flags);
 }
 
 // The flags of leaf `j`'s block of the last stripe but one, if the last has `n` bytes.

@@ -1,23 +1,23 @@
 //! The eight leaves of BLAKE2sp.
 
-ghost use Rattle.std.specs.Prelude.{◌≡◌, ℕ, ◌+◌, ◌-◌, ◌*◌, ◌^◌, ◌<◌, ◌≤◌, List, [], ◌∷◌, ◌++◌, length};
-ghost use Rattle.std.specs.Prelude.{take, drop, min, nat_eq, nat_lt, if◌then◌else◌, replicate};
-ghost use Rattle.std.specs.Prelude.{slice_index_or, ◌↔◌, IsTrue};
+ghost use Rattle.std.specs.Prelude.{◌≡◌, ℕ, ◌+◌, ◌-◌, ◌*◌, ◌^◌, ◌<◌, ◌≤◌, ◌↔◌, List, [], ◌∷◌, ◌++◌};
+ghost use Rattle.std.specs.Prelude.{length, take, drop, min, nat_eq, nat_lt, if◌then◌else◌};
+ghost use Rattle.std.specs.Prelude.{replicate, slice_index, slice_index_or, IsTrue};
 ghost use Rattle.std.specs.List.{flat_map};
 ghost use Rattle.blake2_simd.specs.Family.{blake2s};
 ghost use Rattle.blake2_simd.specs.Lanes.{in_lane};
 ghost use Rattle.blake2_simd.specs.Rows.{eight};
 ghost use Rattle.blake2_compress.specs.Hash.{bytes_of, compress as F, final, padded as filled};
-ghost use Rattle.blake2_compress.specs.Lanes.{flags_at};
+ghost use Rattle.blake2_compress.specs.Lanes.{flags_at, texts};
 ghost use Rattle.blake2_compress.specs.Pieces.{piece};
 ghost use Rattle.blake2_compress.specs.Views.{given_flags};
 ghost use Rattle.blake2_parallel.specs.Leaves.{Took, WentOn, end_flags, leaf_chain, leaf_future};
 ghost use Rattle.blake2_parallel.specs.Leaves.{total};
 ghost use Rattle.blake2_parallel.specs.Blake2s.{IsSound, leaves_of};
 
+use blake2_compress::compress::Flags;
+use blake2_compress::compress::blake2s::{compress, to_bytes, to_rows, to_words};
 use blake2_compress::many::blake2s as many;
-use blake2_compress::words::Flags;
-use blake2_compress::words::blake2s::{to_bytes, to_rows};
 use blake2_digest::padded;
 use blake2_simd::rows::{u32x4, u32x8};
 
@@ -77,9 +77,9 @@ fn lane_words(rows: &[u32x8; 8], j: usize) -> [u32x4; 2]
 
 // ---- stripes
 
-// Compresses the blocks of the first `count` stripes of `bytes`, all leaves in parallel. Each leaf
-// has counted `counter` bytes before.
-fn compress_stripes(rows: &mut [u32x8; 8], bytes: &[u8], counter: u64, count: usize)
+// Compresses the blocks of the first `count` stripes of `bytes`, with the leaves in lanes. Each
+// leaf has counted `counter` bytes before.
+fn compress_in_lanes(rows: &mut [u32x8; 8], bytes: &[u8], counter: u64, count: usize)
     requires whole { 512 * count ≤ length bytes.now }
     requires counted { counter + 64 * count < 2 ^ 64 }
     ensures { (j : ℕ) → j < 8 → in_lane j rows.new
@@ -105,7 +105,113 @@ fn compress_stripes(rows: &mut [u32x8; 8], bytes: &[u8], counter: u64, count: us
     *rows = all;
 }
 
+// The chaining words of leaf `j` after its blocks of the first `count` stripes of `bytes`.
+fn compress_leaf(h: [u32x4; 2], bytes: &[u8], j: usize, counter: u64, count: usize) -> [u32; 8]
+    requires lane { j < 8 }
+    requires whole { 512 * count ≤ length bytes.now }
+    requires counted { counter + 64 * count < 2 ^ 64 }
+    ensures { result ≡ leaf_chain blake2s (eight h) counter bytes.now j count }
+{
+    let (blocks, _) = bytes.as_chunks::<64>();
+    let mut words = h;
+    for i in 0..count {
+        let counted = counter + 64 * (i as u64 + 1);
+        compress(&mut words, &blocks[8 * i + j], counted, Flags::INNER);
+    }
+    to_words(&words)
+}
+
+// Does the same as `compress_in_lanes`, leaf by leaf.
+fn compress_by_leaf(rows: &mut [u32x8; 8], bytes: &[u8], counter: u64, count: usize)
+    requires whole { 512 * count ≤ length bytes.now }
+    requires counted { counter + 64 * count < 2 ^ 64 }
+    ensures { (j : ℕ) → j < 8 → in_lane j rows.new
+        ≡ leaf_chain blake2s (in_lane j rows.old) counter bytes.now j count }
+{
+    let words = [
+        compress_leaf(lane_words(rows, 0), bytes, 0, counter, count),
+        compress_leaf(lane_words(rows, 1), bytes, 1, counter, count),
+        compress_leaf(lane_words(rows, 2), bytes, 2, counter, count),
+        compress_leaf(lane_words(rows, 3), bytes, 3, counter, count),
+        compress_leaf(lane_words(rows, 4), bytes, 4, counter, count),
+        compress_leaf(lane_words(rows, 5), bytes, 5, counter, count),
+        compress_leaf(lane_words(rows, 6), bytes, 6, counter, count),
+        compress_leaf(lane_words(rows, 7), bytes, 7, counter, count),
+    ];
+    let all = many::rows_of(&words);
+    *rows = all;
+}
+
+// Compresses the blocks of the first `count` stripes of `bytes` in the way that is faster on this
+// processor.
+#[inline(always)]
+fn compress_stripes(rows: &mut [u32x8; 8], bytes: &[u8], counter: u64, count: usize)
+    requires whole { 512 * count ≤ length bytes.now }
+    requires counted { counter + 64 * count < 2 ^ 64 }
+    ensures { (j : ℕ) → j < 8 → in_lane j rows.new
+        ≡ leaf_chain blake2s (in_lane j rows.old) counter bytes.now j count }
+{
+    if many::lanes() >= 8 {
+        compress_in_lanes(rows, bytes, counter, count);
+    } else {
+        compress_by_leaf(rows, bytes, counter, count);
+    }
+}
+
 // ---- the end
+
+// The chaining words of a leaf after one more block.
+fn compress_one(h: [u32x4; 2], block: &[u8; 64], counter: u64, flags: Flags) -> [u32; 8]
+    ensures { result ≡ F blake2s (eight h) block.now counter (given_flags flags) }
+{
+    let mut words = h;
+    compress(&mut words, block, counter, flags);
+    to_words(&words)
+}
+
+// Does the same as `many::compress_each`, leaf by leaf.
+fn compress_one_by_one(
+    rows: &mut [u32x8; 8],
+    blocks: &[&[u8; 64]; 8],
+    counters: &[u64; 8],
+    flags: &[Flags; 8],
+)
+    ensures { (j : ℕ) → j < 8 → in_lane j rows.new
+        ≡ F blake2s (in_lane j rows.old) (slice_index_or (texts blocks.now) j [])
+        (slice_index counters.now j) (flags_at flags.now j) }
+{
+    let words = [
+        compress_one(lane_words(rows, 0), blocks[0], counters[0], flags[0]),
+        compress_one(lane_words(rows, 1), blocks[1], counters[1], flags[1]),
+        compress_one(lane_words(rows, 2), blocks[2], counters[2], flags[2]),
+        compress_one(lane_words(rows, 3), blocks[3], counters[3], flags[3]),
+        compress_one(lane_words(rows, 4), blocks[4], counters[4], flags[4]),
+        compress_one(lane_words(rows, 5), blocks[5], counters[5], flags[5]),
+        compress_one(lane_words(rows, 6), blocks[6], counters[6], flags[6]),
+        compress_one(lane_words(rows, 7), blocks[7], counters[7], flags[7]),
+    ];
+    let all = many::rows_of(&words);
+    *rows = all;
+}
+
+// Compresses a block of each leaf in the way that is faster on this processor.
+#[inline(always)]
+fn compress_each(
+    rows: &mut [u32x8; 8],
+    blocks: &[&[u8; 64]; 8],
+    counters: &[u64; 8],
+    flags: &[Flags; 8],
+)
+    ensures { (j : ℕ) → j < 8 → in_lane j rows.new
+        ≡ F blake2s (in_lane j rows.old) (slice_index_or (texts blocks.now) j [])
+        (slice_index counters.now j) (flags_at flags.now j) }
+{
+    if many::lanes() >= 8 {
+        many::compress_each(rows, blocks, counters, flags);
+    } else {
+        compress_one_by_one(rows, blocks, counters, flags);
+    }
+}
 
 // The number of bytes that block `j` of `n` bytes has.
 #[inline(always)]
@@ -142,7 +248,7 @@ fn compress_short(rows: &mut [u32x8; 8], bytes: &[u8], counter: u64, flags: &[Fl
         counter + part(n, 6),
         counter + part(n, 7),
     ];
-    many::compress_each(rows, &here, &counters, flags);
+    compress_each(rows, &here, &counters, flags);
 }
 
 // The flags of leaf `j`'s block of the last stripe but one, if the last has `n` bytes.

@@ -4,8 +4,8 @@ ghost use Rattle.std.specs.Prelude.{◌≤◌};
 
 use super::{counted, keyed, read_row, text};
 use blake2::many::blake2b::{accepts_four, hash_four};
-use blake2::steps::Input;
-use blake2_kat::inputs::{input, numbered, reads, unkeyed};
+use blake2::transcripts::Input;
+use blake2_test_support::inputs::{input, numbered, reads, unkeyed};
 
 // Four inputs, each of the first n bytes of its message, which are what a row says, as `eight_of`
 // has them.

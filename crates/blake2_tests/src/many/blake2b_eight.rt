@@ -2,8 +2,8 @@
 
 use super::{counted, eight_of, read_row};
 use blake2::many::blake2b::eight::{accepts_eight, hash_eight};
-use blake2::steps::Input;
-use blake2_kat::inputs::reads;
+use blake2::transcripts::Input;
+use blake2_test_support::inputs::reads;
 
 // Whether the inputs are accepted, and have these digests.
 fn digests_are(inputs: &[Input<'_>; 8], wanted: &str) -> bool {

@@ -2,8 +2,8 @@
 
 use super::{counted, eight_of, keyed, read_row, text};
 use blake2::many::blake2s::{accepts_eight, hash_eight};
-use blake2::steps::Input;
-use blake2_kat::inputs::{numbered, reads, unkeyed};
+use blake2::transcripts::Input;
+use blake2_test_support::inputs::{numbered, reads, unkeyed};
 
 // Whether the inputs are accepted, and have these digests.
 fn digests_are(inputs: &[Input<'_>; 8], wanted: &str) -> bool {

@@ -1,8 +1,8 @@
 //! Digests from hashlib: in pieces and after a reset, and of nodes of trees.
 
 use super::{keyed, node};
-use blake2_kat::inputs::{count_up, reads};
 use blake2_state::blake2b::State;
+use blake2_test_support::inputs::{count_up, reads};
 use std::process::Abort;
 
 // Absorbs the input.

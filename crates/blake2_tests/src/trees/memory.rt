@@ -5,8 +5,8 @@ ghost use Rattle.std.specs.Prelude.{◌≤◌};
 
 use super::witness::witness_of_a_and_b;
 use super::{node, root_step};
-use blake2::steps::Step;
-use blake2_kat::hoards::{SPARE_BYTES, TRIES, hoard, plug};
+use blake2::transcripts::Step;
+use blake2_test_support::no_memory::{SPARE_BYTES, TRIES, hoard, plug};
 use blake2_tree::{TreeWitness, tree_root, tree_witness};
 use std::alloc::{AllocError, Global};
 use std::process::Abort;

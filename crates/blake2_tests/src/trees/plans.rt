@@ -1,7 +1,7 @@
 //! Plans for threads, at numbers that were computed by hand.
 
 use blake2_tree::accepts;
-use blake2_tree::plan::{Limits, Plan};
+use blake2_tree::thread_plan::{Limits, Plan};
 
 const LIMITS: Limits = Limits {
     threads: 3,

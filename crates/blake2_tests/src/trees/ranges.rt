@@ -7,7 +7,7 @@ use crate::checks::check_digits;
 use crate::state::root_by_state;
 use blake2::Blake2b256;
 use blake2::digest::{Digest, Update};
-use blake2_kat::inputs::{count_up, numbered};
+use blake2_test_support::inputs::{count_up, numbered};
 use blake2_tree::{TreeHasher, hash_leaves, is_range, leaf_count, root_of_leaves, tree_root};
 use std::process::Abort;
 

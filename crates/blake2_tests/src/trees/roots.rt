@@ -7,7 +7,7 @@ use super::node;
 use crate::checks::check_digits;
 use blake2::Blake2b256;
 use blake2::digest::{Digest, Update};
-use blake2_kat::inputs::{count_up, numbered};
+use blake2_test_support::inputs::{count_up, numbered};
 use blake2_tree::{TreeHasher, tree_root};
 use std::process::Abort;
 

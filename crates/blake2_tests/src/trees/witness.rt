@@ -1,7 +1,7 @@
 //! Witnesses of two messages with one root.
 
 use super::root_step;
-use blake2::steps::Step;
+use blake2::transcripts::Step;
 use blake2_tree::{TreeWitness, tree_root, tree_witness};
 use std::process::Abort;
 

@@ -10,9 +10,9 @@ ghost use Rattle.blake2_transcript.specs.StepViews.{entries_of, entry_of, readin
 ghost use Rattle.blake2_transcript.specs.Reader.{AreTyped, IsReadable};
 
 use super::{Entry, Reading, Transcript, entries, reader};
+use blake2_compress::compress::blake2s::{to_bytes, to_rows};
 use blake2_compress::inputs::{Input, blocks};
 use blake2_compress::params::{Parameters, blake2s as params};
-use blake2_compress::words::blake2s::{to_bytes, to_rows};
 use std::alloc::{AllocError, Global};
 
 /// Returns the transcript of an input at a digest of `output_size` bytes, at most 32: the

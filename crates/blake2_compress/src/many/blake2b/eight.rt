@@ -19,13 +19,13 @@ ghost use Rattle.blake2_compress.specs.Views.{input_of};
 
 use super::super::later_blocks;
 use super::{last_words, output};
+use crate::compress::Flags;
+use crate::compress::blake2b::{block_words, to_rows};
 use crate::consts::SIGMA;
 use crate::inputs::Input;
 use crate::inputs::blake2b::accepts;
 use crate::inputs::blocks::{block_at, counted, input_parameters, step_count};
 use crate::params::blake2b::start_words;
-use crate::words::Flags;
-use crate::words::blake2b::{block_words, to_rows};
 use blake2_simd::rows::u64x8;
 
 // The row of word k of each of eight messages.

@@ -1,5 +1,0 @@
-use Rattle.blake2_compress.proofs.Sigma.{sigma_below}
-use Rattle.blake2_compress.proofs.words.blake2s.round_at.Goals as goal
-
-pub round-requires : goal.round-requires
-round-requires c = λ j _. sigma_below _ j

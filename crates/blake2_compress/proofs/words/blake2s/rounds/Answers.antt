@@ -1,6 +1,0 @@
-use Rattle.blake2_compress.specs.Hash.{after_rounds}
-use Rattle.blake2_compress.proofs.words.blake2s.rounds.Goals as goal
-
-pub returns : goal.returns
-unfolding after_rounds
-returns c = cc

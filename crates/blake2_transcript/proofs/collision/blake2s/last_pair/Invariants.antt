@@ -1,0 +1,15 @@
+use Rattle.blake2_simd.specs.Family.{blake2s}
+use Rattle.blake2_simd.specs.Rows.{eight}
+use Rattle.blake2_compress.specs.Views.{input_of}
+use Rattle.blake2_transcript.proofs.Front.{Walk}
+use Rattle.blake2_transcript.proofs.collision.blake2s.last_pair.Given as goal
+
+abbrev pub ghost-step_count : goal.ghost-step_count
+ghost-step_count a = blake2s
+
+abbrev pub ghost-entry_at : goal.ghost-entry_at
+ghost-entry_at a = blake2s
+
+abbrev pub invariant-loop-i : goal.invariant-loop-i
+invariant-loop-i l = Walk 64 blake2s l.output_size (input_of l.a) (input_of l.b) l.i
+    (eight l.chain_a) (eight l.chain_b) l.kept

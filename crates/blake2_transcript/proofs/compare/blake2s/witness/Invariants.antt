@@ -1,5 +1,0 @@
-use Rattle.blake2_simd.specs.Family.{blake2s}
-use Rattle.blake2_transcript.proofs.compare.blake2s.witness.Given as goal
-
-abbrev pub ghost-same : goal.ghost-same
-ghost-same a = blake2s

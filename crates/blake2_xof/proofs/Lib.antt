@@ -1,0 +1,7 @@
+pub mod Joined
+pub mod Blocks
+pub mod Reading
+pub mod Texts
+pub mod StateLaws
+pub mod Derivations
+pub mod Outputs

@@ -1,0 +1,4 @@
+pub mod Xof
+pub mod States
+pub mod Blake2b
+pub mod Blake2s

@@ -1,0 +1,11 @@
+//! Tests of BLAKE2Xb and BLAKE2Xs. The outputs are those of `output` in tests/oracle.py. Those of a
+//! message of 256 bytes are among the BLAKE2X authors' own.
+
+#![tactic(auto)]
+
+#[cfg(test)]
+mod blake2b;
+#[cfg(test)]
+mod blake2s;
+#[cfg(test)]
+mod checks;
