@@ -3,7 +3,7 @@
 #![tactic(auto)]
 
 use b2_commands::{Fault, run};
-use blake2::engine::{IoSink, IoSource};
+use blake2::streams::{IoSink, IoSource};
 use std::process::ExitCode;
 use std::rt::Env;
 use std::{env, io};

@@ -7,9 +7,9 @@ use Rattle.b2_commands.specs.declared.fault.Fault.TheVariants.{WrongWords, Wrong
 use Rattle.b2_commands.specs.declared.fault.Fault.TheVariants.{WrongLine}
 use Rattle.b2_commands.specs.declared.fault.Fault.TheVariants.{NoSuchSlot, LineTooLong, TooLong}
 use Rattle.b2_commands.specs.declared.fault.Fault.TheVariants.{ReadFailed, NoMemory, WriteFailed}
-use Rattle.blake2_replay.specs.declared.engine.stream.StreamFault.{StreamFault}
-use Rattle.blake2_replay.specs.declared.engine.stream.StreamFault.TheVariants.{Read, Write}
-use Rattle.blake2_replay.specs.declared.engine.stream.StreamFault.TheVariants.{TooLong as StreamTooLong}
+use Rattle.blake2_streams.specs.declared.stream.StreamFault.{StreamFault}
+use Rattle.blake2_streams.specs.declared.stream.StreamFault.TheVariants.{Read, Write}
+use Rattle.blake2_streams.specs.declared.stream.StreamFault.TheVariants.{TooLong as StreamTooLong}
 use Rattle.b2_commands.specs.Words.{Task, task_of, IsReadingFault}
 use Rattle.b2_commands.specs.Tasks.{IsRefusedTask, IsTooLongFor, IsFaultOfScript, TakesMemory}
 

@@ -1,13 +1,13 @@
 -- The kinds that the program has read.
 use Rattle.blake2.specs.Family.{Family, blake2b, blake2s}
-use Rattle.b2_commands.specs.declared.comparison.Family.{Family as FamilyNamed}
-use Rattle.b2_commands.specs.declared.comparison.Family.TheVariants.{Blake2b as FamilyB}
-use Rattle.b2_commands.specs.declared.comparison.Family.TheVariants.{Blake2s as FamilyS}
-use Rattle.b2_commands.specs.declared.words.Blake2bKind.{Blake2bKind}
-use Rattle.b2_commands.specs.declared.words.Blake2bKind.TheVariants.{B128, B256, B512}
-use Rattle.b2_commands.specs.declared.words.Blake2sKind.TheVariants.{S128, S256}
-use Rattle.b2_commands.specs.declared.words.Kind.{Kind as KindNamed}
-use Rattle.b2_commands.specs.declared.words.Kind.TheVariants.{Blake2b, Blake2s}
+use Rattle.b2_commands.specs.declared.witness_arguments.Family.{Family as FamilyNamed}
+use Rattle.b2_commands.specs.declared.witness_arguments.Family.TheVariants.{Blake2b as FamilyB}
+use Rattle.b2_commands.specs.declared.witness_arguments.Family.TheVariants.{Blake2s as FamilyS}
+use Rattle.b2_commands.specs.declared.arguments.Blake2bKind.{Blake2bKind}
+use Rattle.b2_commands.specs.declared.arguments.Blake2bKind.TheVariants.{B128, B256, B512}
+use Rattle.b2_commands.specs.declared.arguments.Blake2sKind.TheVariants.{S128, S256}
+use Rattle.b2_commands.specs.declared.arguments.Kind.{Kind as KindNamed}
+use Rattle.b2_commands.specs.declared.arguments.Kind.TheVariants.{Blake2b, Blake2s}
 use Rattle.b2_commands.specs.Words.{Kind, blake2b_of, blake2s_of}
 
 -- The kind of BLAKE2b that the program has read.

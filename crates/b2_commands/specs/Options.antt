@@ -2,7 +2,7 @@
 use Rattle.std.specs.Prelude.{ℕ, List, Option, Vec}
 use Rattle.std.specs.Option.{option_map}
 use Rattle.std.specs.declared.alloc.Global.{Global}
-use Rattle.b2_commands.specs.declared.words.Options.{Options}
+use Rattle.b2_commands.specs.declared.arguments.Options.{Options}
 use Rattle.b2_commands.specs.Words.{Given}
 
 -- The bytes of an option, if it is given.

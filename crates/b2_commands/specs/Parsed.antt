@@ -1,6 +1,6 @@
 -- The tasks that the program has read.
-use Rattle.b2_commands.specs.declared.comparison.Compared.{Compared}
-use Rattle.b2_commands.specs.declared.comparison.Comparison.{Comparison}
+use Rattle.b2_commands.specs.declared.witness_arguments.Compared.{Compared}
+use Rattle.b2_commands.specs.declared.witness_arguments.Comparison.{Comparison}
 use Rattle.b2_commands.specs.declared.task.Output.{Output}
 use Rattle.b2_commands.specs.declared.task.Output.TheVariants.{Digest, Digests, Transcript}
 use Rattle.b2_commands.specs.declared.task.Root.{Root}

@@ -2,8 +2,8 @@
 use Rattle.std.specs.Prelude.{◌≡◌, ⊤, ◌+◌, ◌^◌, ◌<◌, Result, Err}
 use Rattle.b2_commands.specs.declared.fault.Fault.{Fault}
 use Rattle.b2_commands.specs.declared.fault.Fault.TheVariants.{WrongLine, NoMemory}
-use Rattle.b2_commands.specs.declared.lines.ScriptCall.{ScriptCall}
-use Rattle.b2_commands.specs.declared.lines.ScriptCall.TheVariants as script
+use Rattle.b2_commands.specs.declared.script_lines.ScriptCall.{ScriptCall}
+use Rattle.b2_commands.specs.declared.script_lines.ScriptCall.TheVariants as script
 use Rattle.b2_commands.specs.Scripts.{slice_of}
 use Rattle.blake2_replay.specs.declared.calls.Call.{Call}
 use Rattle.blake2_replay.specs.declared.calls.Call.TheVariants.{Update, Clone, Reset, Finalize}

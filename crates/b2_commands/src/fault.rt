@@ -8,7 +8,7 @@ ghost use Rattle.b2_commands.specs.Faults.{fault_of_stream};
 
 use crate::print::{LINE_BYTES, Line};
 use blake2::digest::InvalidLength;
-use blake2::engine::{Sink, StreamFault};
+use blake2::streams::{Sink, StreamFault};
 use std::alloc::AllocError;
 
 /// An error of the arguments, the input, the devices or the memory. Each except `WriteFailed`

@@ -7,7 +7,7 @@ ghost use Rattle.std.specs.Result.{IsErrOf};
 ghost use Rattle.b2_commands.specs.declared.fault.Fault.TheVariants.{ReadFailed, NoMemory};
 
 use crate::fault::Fault;
-use blake2::engine::Source;
+use blake2::streams::Source;
 use std::alloc::Global;
 
 // The length of the buffer between the source and the memory, in bytes.

@@ -4,20 +4,20 @@
 
 #![tactic(auto)]
 
-mod command;
-mod comparison;
+mod arguments;
+mod digests;
+mod dispatch;
 mod fault;
-mod hash;
 mod input;
-mod lines;
 mod numbers;
 mod print;
 mod script;
-mod steps;
+mod script_lines;
 mod task;
+mod transcript;
 mod tree;
 mod witness;
-mod words;
+mod witness_arguments;
 
-pub use command::run;
+pub use dispatch::run;
 pub use fault::Fault;

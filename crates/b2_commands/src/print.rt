@@ -10,7 +10,7 @@ ghost use Rattle.blake2.specs.Streams.{line_of};
 ghost use Rattle.b2_commands.specs.Lines.{bytes_field, word_fields, number_field, flag_field};
 
 use crate::fault::Fault;
-use blake2::engine::{Sink, write_whole};
+use blake2::streams::{Sink, write_whole};
 use std::marker::Model;
 use text_lines::{DECIMAL_BYTES, write_decimal};
 

@@ -13,11 +13,11 @@ ghost use Rattle.b2_commands.specs.Ends.{EndsByDigests};
 
 use crate::fault::Fault;
 use crate::input::read_all;
-use crate::lines::{calls_of, read_script};
 use crate::print::print_digest;
+use crate::script_lines::{calls_of, read_script};
 use blake2::calls::{ReplayFault, replay};
 use blake2::digest::{Duplicate, FixedOutput, FixedOutputReset, Reset, Update};
-use blake2::engine::{Sink, Source};
+use blake2::streams::{Sink, Source};
 use std::alloc::Global;
 
 /// Prints the digests that the calls in the source's lines return, a line each. The state in slot

@@ -4,10 +4,10 @@ ghost use Rattle.std.specs.Prelude.{◌≡◌, ◌<◌, ◌≤◌, length, map, 
 ghost use Rattle.std.specs.String.{string_bytes};
 ghost use Rattle.b2_commands.specs.Words.{task_of, IsReadingFault};
 
-use crate::comparison::Comparison;
+use crate::arguments::{Blake2bKind, Kind, Options};
 use crate::fault::Fault;
 use crate::numbers::number_of;
-use crate::words::{Blake2bKind, Kind, Options};
+use crate::witness_arguments::Comparison;
 use std::alloc::Global;
 
 /// What a command prints for the input.

@@ -14,12 +14,12 @@ ghost use Rattle.b2_commands.specs.Parsed.{root_task};
 ghost use Rattle.b2_commands.specs.Tasks.{IsRefusedByTree, root_with};
 ghost use Rattle.b2_commands.specs.Trees.{IsFaultOfTree};
 
+use crate::arguments::{Blake2bKind, Options};
 use crate::fault::Fault;
 use crate::input::fill;
 use crate::print::print_digest;
 use crate::task::Root;
-use crate::words::{Blake2bKind, Options};
-use blake2::engine::{Sink, Source};
+use blake2::streams::{Sink, Source};
 use blake2_tree::{LABEL_BYTES, MESSAGE_LIMIT, TreeHasher, best_piece_length};
 use std::alloc::Global;
 

@@ -15,11 +15,11 @@ ghost use Rattle.b2_commands.specs.Lines.{step_line};
 ghost use Rattle.b2_commands.specs.Parsed.{comparison_task};
 ghost use Rattle.b2_commands.specs.Witnesses.{PrintsWitness};
 
-use crate::comparison::{Comparison, Family};
 use crate::fault::Fault;
 use crate::print::Line;
-use blake2::engine::{Sink, write_whole};
-use blake2::steps::{Input, Step, Tree};
+use crate::witness_arguments::{Comparison, Family};
+use blake2::streams::{Sink, write_whole};
+use blake2::transcripts::{Input, Step, Tree};
 use blake2::{Blake2bVarCore, Blake2sVarCore};
 use std::alloc::Global;
 

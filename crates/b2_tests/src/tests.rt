@@ -5,19 +5,19 @@
 //! tests have no errors to return: each of those would be one more way out of a test to prove.
 
 mod devices;
+mod failing_outputs;
+mod input_lengths;
 mod large;
-mod lengths;
 mod memory;
-mod outputs;
 mod refusals;
 mod script;
-mod steps;
 mod sum;
+mod transcript;
 mod tree;
 mod witness;
 
 use b2_commands::run;
-use blake2::engine::{IoSink, SliceSource};
+use blake2::streams::{IoSink, SliceSource};
 use blake2::{Blake2b256, Digest};
 use std::alloc::{AllocError, Global};
 use std::process::Abort;

@@ -1,9 +1,9 @@
 //! Devices that move few bytes a call, and that fail at each call.
 
-use super::lengths::script_of;
+use super::input_lengths::script_of;
 use super::{check_line, run_over, words_of};
 use b2_commands::run;
-use blake2::engine::{SliceSink, SliceSource};
+use blake2::streams::{SliceSink, SliceSource};
 use std::alloc::{AllocError, Global};
 use std::process::Abort;
 

@@ -6,8 +6,8 @@ use super::script::{ABC, NOTHING};
 use super::witness::B0;
 use super::{text_of, words_of};
 use b2_commands::run;
-use blake2::engine::{SliceSink, SliceSource};
-use blake2_kat::hoards::{hoard, is_refused};
+use blake2::streams::{SliceSink, SliceSource};
+use blake2_test_support::no_memory::{hoard, is_refused};
 use std::alloc::{AllocError, Global};
 use std::process::Abort;
 

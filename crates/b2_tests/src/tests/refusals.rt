@@ -2,7 +2,7 @@
 
 use super::{check_rows, words_of};
 use b2_commands::run;
-use blake2::engine::{SliceSink, SliceSource};
+use blake2::streams::{SliceSink, SliceSource};
 use std::alloc::{AllocError, Global};
 
 // The arguments, no input, and the line.

@@ -1,0 +1,42 @@
+use Rattle.std.proofs.Common.{◌≡◌, Ok, rules}
+use Rattle.blake2.specs.Family.{blake2s}
+use Rattle.blake2.specs.Keys.{key_count}
+use Rattle.b2_commands.specs.Options.{given_of}
+use Rattle.b2_commands.specs.Tasks.{node_digest_with}
+use Rattle.b2_commands.specs.Words.{blake2s_of, nothing_given}
+use Rattle.b2_commands.proofs.Hashing.{nothing_taken, sum_ends, script_ends}
+use Rattle.b2_commands.proofs.digests.hash_blake2s.Goals as goal
+
+pub returns-in_ok-hash_stream-in-Digest : goal.returns-in_ok-hash_stream-in-Digest
+returns-in_ok-hash_stream-in-Digest g c =
+    let none : given_of c.args.options.now ≡ nothing_given = search rules in
+    rw (c.in-Digest.is, none)
+    (sum_ends (blake2s_of g.row.N) nothing_given (Ok tt) _ _ _ _ _ (nothing_taken blake2s)
+    (search rules) (search rules) (search rules) (search rules) (search rules))
+
+pub returns-in_err-hash_stream-in-Digest : goal.returns-in_err-hash_stream-in-Digest
+returns-in_err-hash_stream-in-Digest g c =
+    let none : given_of c.args.options.now ≡ nothing_given = search rules in
+    rw (c.in-Digest.is, none)
+    (sum_ends (blake2s_of g.row.N) nothing_given c.from_residual.result _ _ _ _ _
+    (nothing_taken blake2s) (search rules) (search rules) (search rules) (search rules)
+    (search rules))
+
+pub returns-in-Digests : goal.returns-in-Digests
+returns-in-Digests g c =
+    let none : given_of c.args.options.now ≡ nothing_given = search rules in
+    let told = c.script.ensures in
+    rw (c.in-Digests.is, none)
+    (script_ends (blake2s_of g.row.N) nothing_given c.script.result _ _ _ _ _
+    (nothing_taken blake2s) told.length told.read told.write
+    (told.ends (node_digest_with blake2s g.row.N nothing_given) 0 c.new-in-Digests.ensures))
+
+pub returns-in_ok-mac_blake2s-in-Digests-2 : goal.returns-in_ok-mac_blake2s-in-Digests-2
+returns-in_ok-mac_blake2s-in-Digests-2 g c =
+    let given = given_of c.args.options.now in
+    let told = c.script-in-Digests-2.ensures in
+    rw (c.in-Digests-2.is)
+    (script_ends (blake2s_of g.row.N) given c.script-in-Digests-2.result _ _ _ _ _
+    (search rules) told.length told.read told.write
+    (told.ends (node_digest_with blake2s g.row.N given) (key_count blake2s given.key)
+    c.in_ok-mac_blake2s-in-Digests-2.ensures.made))

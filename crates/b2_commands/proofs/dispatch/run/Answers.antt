@@ -1,0 +1,36 @@
+use Rattle.std.proofs.Common.{map, rules}
+use Rattle.std.specs.String.{string_bytes}
+use Rattle.b2_commands.specs.Parsed.{comparison_task}
+use Rattle.b2_commands.proofs.Statuses.{done_by, told_by}
+use Rattle.b2_commands.proofs.dispatch.run.Goals as goal
+
+pub status_after-requires-in-Ok-Compare : goal.status_after-requires-in-Ok-Compare
+status_after-requires-in-Ok-Compare g c =
+    (c.witness-end.ensures (g.S.Source.left c.args.source.now)).write
+
+pub returns-in-Ok-Hash-clause-told : goal.returns-in-Ok-Hash-clause-told
+returns-in-Ok-Hash-clause-told g c =
+    let told = c.status_after.ensures in
+    told_by (map string_bytes c.args.words.now) _ c.hash-end.result _ _ _ _ _ _ _ _ _
+    c.in-Ok-Hash.ensures.task (search rules) (search rules) told.printed told.failed
+
+pub returns-in-Ok-Compare-clause-done : goal.returns-in-Ok-Compare-clause-done
+returns-in-Ok-Compare-clause-done g c =
+    let told = c.status_after-in-Ok-Compare.ensures in
+    done_by (map string_bytes c.args.words.now) (comparison_task c.in-Ok-Compare.comparison)
+    c.witness-end.result _ _ _ _ _ _ _ _ (search rules) (c.witness-end.ensures (g.S.Source.left c.args.source.now))
+    (search rules) told.printed told.unprinted
+
+pub returns-in-Ok-Compare-clause-told : goal.returns-in-Ok-Compare-clause-told
+returns-in-Ok-Compare-clause-told g c =
+    let told = c.status_after-in-Ok-Compare.ensures in
+    rw c.requires.source
+    (told_by (map string_bytes c.args.words.now) (comparison_task c.in-Ok-Compare.comparison)
+    c.witness-end.result _ _ _ _ _ _ _ _ _ (search rules) (c.witness-end.ensures (g.S.Source.left c.args.source.now))
+    (search rules) told.printed told.failed)
+
+pub returns-in-Ok-Tree-clause-told : goal.returns-in-Ok-Tree-clause-told
+returns-in-Ok-Tree-clause-told g c =
+    let told = c.status_after-in-Ok-Tree.ensures in
+    told_by (map string_bytes c.args.words.now) _ c.tree-end.result _ _ _ _ _ _ _ _ _
+    c.in-Ok-Tree.ensures.task (search rules) (search rules) told.printed told.failed

@@ -1,9 +1,0 @@
-use Rattle.std.proofs.Common.{◌≡◌, take, map, Ok}
-use Rattle.std.specs.String.{string_bytes}
-use Rattle.b2_commands.specs.Options.{given_of}
-use Rattle.b2_commands.specs.Words.{nothing_given, with_words}
-use Rattle.b2_commands.proofs.words.Options.from_words.Given as goal
-
-abbrev pub invariant-loop-word : goal.invariant-loop-word
-invariant-loop-word l = with_words l.takes_key nothing_given
-    (map string_bytes (take l.word-index l.words)) ≡ Ok (given_of l.options)
