@@ -2,11 +2,11 @@
 
 ghost use Rattle.std.specs.Prelude.{◌≡◌, ◌<◌, ◌||◌, None, true, false, is_some, is_err};
 ghost use Rattle.std.specs.Io.{ReadsAtMost};
-ghost use Rattle.blake2_replay.specs.Devices.{Gives};
+ghost use Rattle.blake2_streams.specs.Devices.{Gives};
 ghost use Rattle.b2sum.specs.Reading.{rest_of};
 
 use b2sum_commands::{Disk, OpenFile, Output};
-use blake2::engine::{DeviceError, Sink, Source};
+use blake2::streams::{DeviceError, Sink, Source};
 use std::alloc::{AllocError, Global};
 use std::fs::{File, Files};
 use std::io::{self, Read, Stdin, Write};
@@ -100,6 +100,10 @@ impl<F: Read + AsRawFd> OpenFile for Opened<F> {
 #[inline(never)]
 fn hide_memory() {}
 
+// Shows the progress of reads. `c/b2sum.c` does it too.
+#[inline(never)]
+fn show_progress() {}
+
 impl<R: Files> Disk for System<R>
 where
     R::File: AsRawFd,
@@ -114,6 +118,10 @@ where
 
     fn keep_secrets(&self) {
         hide_memory();
+    }
+
+    fn show_progress(&self) {
+        show_progress();
     }
 
     fn open(&self, alloc: Global, name: &[u8]) -> io::Result<Opened<R::File>> {

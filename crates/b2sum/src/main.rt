@@ -6,7 +6,7 @@ mod disk;
 mod hashes;
 
 use b2sum_commands::{Host, Session, run};
-use blake2::engine::write_whole;
+use blake2::streams::write_whole;
 use disk::{Opened, System, Writer};
 use hashes::Blake2;
 use std::alloc::{AllocError, Global};

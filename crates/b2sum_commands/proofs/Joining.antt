@@ -1,21 +1,6 @@
 -- What follows when one more file or line is done.
-use Rattle.std.proofs.Common.{
-  ◌≡◌,
-  ℕ,
-  ◌&&◌,
-  ◌||◌,
-  Bool,
-  true,
-  false,
-  List,
-  [],
-  ◌∷◌,
-  ◌++◌,
-  refl,
-  ap,
-  ◌∙◌,
-}
-use Rattle.std.proofs.Common.{append_assoc, append-nil, sym}
+use Rattle.std.proofs.Common.{◌≡◌, ◌&&◌, ◌||◌, Bool, true, false, List, [], ◌∷◌, ◌++◌, refl, ap, ◌∙◌}
+use Rattle.std.proofs.Common.{sym}
 use Rattle.std.specs.List.{list_all, list_any}
 
 pub and_true : (b : Bool) → (b && true) ≡ b

@@ -11,11 +11,13 @@ use Rattle.b2sum_commands.specs.World.{World, IsTold}
 use Rattle.b2sum_commands.specs.Checks.{AreCounted, Adds, IsBegun}
 use Rattle.b2sum_commands.specs.Manifests.{IsVerdict, is_equal, is_fine, is_formed, holds_by}
 use Rattle.b2sum_commands.specs.Manifests.{item, spacing_after, verdict_line, IsItem, IsLine}
+use Rattle.b2sum_commands.specs.Manifests.{listed_function}
 use Rattle.b2sum_commands.specs.Sums.{is_dash, ReadsAs, Leaves, CannotSum}
 use Rattle.b2sum_commands.specs.declared.check.Counts.{Counts}
 use Rattle.b2sum_commands.specs.declared.check.Verdict.{Verdict}
 use Rattle.b2sum_commands.specs.declared.check.Verdict.TheVariants.{Equal, Different, Unread}
 use Rattle.b2sum_commands.specs.declared.check.Verdict.TheVariants.{Skipped, Malformed, Comment}
+use Rattle.b2sum_commands.specs.declared.hashes.Function.{Function}
 use Rattle.b2sum_commands.specs.declared.options.Options.{Options}
 use Rattle.b2sum_commands.specs.declared.sums.Read.{Read}
 use Rattle.b2sum_commands.specs.declared.sums.Read.TheVariants.{Whole, Missing, Failed}
@@ -47,13 +49,14 @@ IsAbsent w o name = (o.ignores_missing ≡ true) × (is_dash name ≡ false)
     × (w.files.refuses name ≡ true) × (w.files.lacks name ≡ true)
 
 -- A file that was not read has a cause.
-pub unread_cause : (w : World) (o : Options) (n : ℕ) (name : List ℕ) (read : Read) → read ≢ Whole
-    → (read ≡ Missing → IsAbsent w o name) → (read ≡ Failed → CannotSum w o n name)
-    → CannotSum w o n name
-unread_cause w o n name Whole other missing failed = absurd (other refl)
-unread_cause w o n name Missing other missing failed =
+pub unread_cause : (w : World) (o : Options) (f : Function) (name : List ℕ) (read : Read)
+    → read ≢ Whole
+    → (read ≡ Missing → IsAbsent w o name) → (read ≡ Failed → CannotSum w o f name)
+    → CannotSum w o f name
+unread_cause w o f name Whole other missing failed = absurd (other refl)
+unread_cause w o f name Missing other missing failed =
     let absent = missing refl in inl (inl (absent.1, absent.2))
-unread_cause w o n name Failed other missing failed = failed refl
+unread_cause w o f name Failed other missing failed = failed refl
 
 -- A verdict on an entry is right.
 pub entry_verdict : (w : World) (o : Options) (left after : Option (List ℕ)) (e : Line)
@@ -61,10 +64,10 @@ pub entry_verdict : (w : World) (o : Options) (left after : Option (List ℕ)) (
     → Leaves (is_dash e.name) left after
     → ((v ≡ Equal) ⊎ (v ≡ Different) → (text : List ℕ)
     × ReadsAs (is_dash e.name) (w.files.holds e.name) left after text
-    × (found ≡ w.hashing.digest o (length e.digest) text))
+    × (found ≡ w.hashing.digest o (listed_function e) text))
     → (v ≡ Equal → found ≡ e.digest) → (v ≡ Different → found ≢ e.digest)
     → (v ≡ Skipped → IsAbsent w o e.name)
-    → (v ≡ Unread → CannotSum w o (length e.digest) e.name)
+    → (v ≡ Unread → CannotSum w o (listed_function e) e.name)
     → v ≢ Malformed → v ≢ Comment
     → IsVerdict w o left (Some e) v after
 entry_verdict w o left after e Equal found leaves whole same other absent unread formed entry =

@@ -1,6 +1,10 @@
 pub mod Joining
 pub mod Turns
 pub mod Judging
+pub mod Cutting
+pub mod Reading
+pub mod ReadBack
+pub mod Stopping
 pub mod Doing
 pub mod Telling
 pub mod Stops

@@ -1,5 +1,7 @@
 -- The stop of a part of a command line is that of the whole.
-use Rattle.std.proofs.Common.{◌≡◌, ℕ, true, false, List, Result, Ok, Err, IfErr}
+use Rattle.std.proofs.Common.{◌≡◌, ℕ, true, false, List, Result, Ok, Err, IfErr, Option, None, Bool, inl, inr}
+use Rattle.std.proofs.Common.{Vec, Global, map}
+use Rattle.std.specs.Option.{option_map}
 use Rattle.std.proofs.Common.{refl, ap, sym, subst, ◌∙◌, drop, codes, nat_eq}
 use Rattle.std.specs.List.{starts_with}
 use Rattle.std.specs.Str.{bytes_eq}
@@ -9,7 +11,11 @@ use Rattle.b2sum_commands.specs.declared.options.Stop.TheVariants.{NoMemory}
 use Rattle.b2sum_commands.specs.CommandLine.{Choice, Next, State, End, Helped, Versioned, Refused}
 use Rattle.b2sum_commands.specs.CommandLine.{with_option, read_any, read_long, read_letters}
 use Rattle.b2sum_commands.specs.Found.{Streams}
-use Rattle.b2sum_commands.specs.Readers.{StopsBy, IsRefusal, IsKept}
+use Rattle.b2sum_commands.specs.Readers.{StopsBy, IsPrinted}
+use Rattle.b2sum_commands.specs.World.{World}
+use Rattle.b2sum_commands.specs.Runs.{DoesLine, DoesChoice, IsRefused}
+use Rattle.b2sum_commands.specs.Accepted.{AreArguments, AreOptions, command_line}
+use Rattle.b2sum_commands.specs.declared.options.Arguments.{Arguments}
 
 -- A stop goes on through what keeps each end.
 pub stops_through : {A B : Type 0} (f : Result A End → Result B End)
@@ -45,19 +51,43 @@ letters_stop s word rest result whole front first alone is h =
     rw whole (rw front (rw first (rw alone
     (option_stops s (read_letters s.choice (drop 1 word)) result (rw (sym is) h)))))
 
--- If nothing is printed, nothing is printed for a command line that is refused.
-pub nothing_kept : (old new : Streams) (r : Result (Choice × List (List ℕ)) End)
-    → new.held ≡ old.held → IsKept old new r
-nothing_kept old new (Ok read) same = tt
-nothing_kept old new (Err Helped) same = tt
-nothing_kept old new (Err Versioned) same = tt
-nothing_kept old new (Err Refused) same = same
+-- An error that comes before all else ends what any command line means.
+pub nothing_done : (w : World) (help version : List ℕ)
+    (r : Result (Choice × List (List ℕ)) End) (old new : Streams) → IsRefused old new None
+    → DoesLine w help version r old new None
+nothing_done w help version (Ok read) old new none = inr none.0
+nothing_done w help version (Err Helped) old new none = inl none.0
+nothing_done w help version (Err Versioned) old new none = inl none.0
+nothing_done w help version (Err Refused) old new none = none
 
--- A stop that prints nothing for a refusal prints nothing for a command line that is refused.
-pub stop_kept : (old new : Streams) (r : Result (Choice × List (List ℕ)) End) (stop : Stop)
-    → StopsBy r stop → (IsRefusal stop → new.held ≡ old.held) → IsKept old new r
-stop_kept old new r Help by same = subst (IsKept old new) (sym by) tt
-stop_kept old new r Version by same = subst (IsKept old new) (sym by) tt
-stop_kept old new r (Usage line) by same = nothing_kept old new r (same tt)
-stop_kept old new r (Value first second) by same = nothing_kept old new r (same tt)
-stop_kept old new r NoMemory by same = nothing_kept old new r (same tt)
+no_memory : (w : World) (help version : List ℕ) (r : Result (Choice × List (List ℕ)) End)
+    (old new : Streams) (end : Option Bool) → end ≡ None → IsRefused old new None
+    → DoesLine w help version r old new end
+no_memory w help version r old new end is none =
+    subst (DoesLine w help version r old new) (sym is) (nothing_done w help version r old new none)
+
+-- A stop prints what the command line means.
+pub stop_does : (w : World) (help version : List ℕ) (r : Result (Choice × List (List ℕ)) End)
+    (old new : Streams) (stop : Stop) (end : Option Bool) → StopsBy r stop
+    → IsPrinted help version old new stop end → DoesLine w help version r old new end
+stop_does w help version r old new Help end by is =
+    subst (λ r. DoesLine w help version r old new end) (sym by) is
+stop_does w help version r old new Version end by is =
+    subst (λ r. DoesLine w help version r old new end) (sym by) is
+stop_does w help version r old new (Usage line) end by is =
+    subst (λ r. DoesLine w help version r old new end) (sym by) is
+stop_does w help version r old new (Value first second) end by is =
+    subst (λ r. DoesLine w help version r old new end) (sym by) is
+stop_does w help version r old new NoMemory end by is =
+    no_memory w help version r old new end is.0 is.1
+
+-- The task of arguments is that of the command line.
+pub arguments_do : (w : World) (help version : List ℕ) (words : List (List ℕ)) (a : Arguments)
+    (old new : Streams) (end : Option Bool) → AreArguments words a
+    → ((c : Choice) → AreOptions c a.options
+    → option_map (λ (name : Vec ℕ Global). name.items) a.key_file ≡ c.key_file
+    → DoesChoice w c (map (λ (name : Vec ℕ Global). name.items) a.files.items) old new end)
+    → DoesLine w help version (command_line words) old new end
+arguments_do w help version words a old new end are does =
+    subst (λ r. DoesLine w help version r old new end) (sym are.meaning)
+    (does are.choice are.options are.key_file)

@@ -1,9 +1,14 @@
 -- Messages, one after the other.
+use Rattle.std.proofs.Common.{false, Result, Ok, Err, OnOk, is_err}
 use Rattle.std.proofs.Common.{◌≡◌, ◌⊎◌, ◌<◌, ℕ, Bool, true, List, ◌++◌, Option, inl, inr, length, arith}
 use Rattle.std.proofs.Common.{length-append}
-use Rattle.std.proofs.KnownBytes.{Appends-trans}
+use Rattle.std.proofs.Common.{[], ◌∷◌, Some, None, codes, refl, subst, sym, ◌∙◌}
+use Rattle.std.proofs.KnownBytes.{Appends-nil, Appends-trans}
 use Rattle.std.specs.Io.KnownBytes.{Appends}
-use Rattle.b2sum_commands.specs.World.{IsWritten, HasMessage}
+use Rattle.b2sum_commands.specs.World.{World, IsWritten, HasMessage, HasMore, IsTold, IsEnded}
+use Rattle.b2sum_commands.specs.CommandLine.{Choice, End, Refused}
+use Rattle.b2sum_commands.specs.Found.{Streams}
+use Rattle.b2sum_commands.specs.Runs.{DoesLine, RunsLine, IsRefused, status_of}
 
 both_accepted : (b c : Bool) (x y z : Option (List ℕ)) (first second : List ℕ)
     → (b ≡ true → c ≡ true) → (b ≡ true) ⊎ Appends x y first → (c ≡ true) ⊎ Appends y z second
@@ -24,4 +29,98 @@ more_message a b c x y z first second some p q = (
     stays = λ failed. q.stays (p.stays failed);
     accepted = both_accepted b c x y z first second q.stays p.accepted q.accepted;
   },
+)
+
+-- What holds if a call succeeds, after one that did.
+pub after_ok : {A E : Type 0} (r : Result A E) (P : Type 0) → is_err r ≡ false → OnOk r P → P
+after_ok (Ok x) P is holds = holds
+after_ok (Err e) P is holds = absurd (grind (arith, is))
+
+-- No message is none or some.
+no_more : (b : Bool) (x : Option (List ℕ)) → HasMore b b x x
+no_more b x = ([], record { stays = λ failed. failed; accepted = inr (Appends-nil x) })
+
+-- A message is none or some.
+pub message_more : (a b : Bool) (x y : Option (List ℕ)) → HasMessage a b x y → HasMore a b x y
+message_more a b x y told = (told.0, told.2)
+
+pub line_more : (a b : Bool) (x y : Option (List ℕ)) (line : List ℕ) → IsWritten a b x y line
+    → HasMore a b x y
+line_more a b x y line written = (line, written)
+
+-- A sink of messages that is the same has no more.
+pub unsaid_more : {E : Type 0} (failed : E → Bool) (held : E → Option (List ℕ)) (old new : E)
+    → new ≡ old → HasMore (failed old) (failed new) (held old) (held new)
+unsaid_more failed held old new same =
+    subst (λ n. HasMore (failed old) (failed n) (held old) (held n)) (sym same)
+    (no_more (failed old) (held old))
+
+-- The message of an error is not empty.
+some_line : (line : List ℕ) (failed : Type 0)
+    → (line ≡ codes "b2sum: memory exhausted\n") ⊎ (failed
+    × (reason : List ℕ) × (line ≡ codes "b2sum: write error" ++ reason ++ (10 ∷ [])))
+    → 0 < length line
+some_line line failed (inl is) = subst (λ (l : List ℕ). 0 < length l) (sym is) (omega arith)
+some_line line failed (inr cause) =
+    subst (λ (l : List ℕ). 0 < length l) (sym cause.2) (omega arith)
+
+-- A run of a command line that is refused has status 1, and prints nothing but a message.
+pub refused_told : (w : World) (help version : List ℕ)
+    (r : Result (Choice × List (List ℕ)) End) (old new : Streams) (end : Option Bool)
+    → r ≡ Err Refused → RunsLine w help version r old new end
+    → (status_of end ≡ 1) × (new.held ≡ old.held) × IsTold old new
+refused_told w help version r old new (Some true) is runs =
+    let does : IsRefused old new (Some true) =
+    subst (λ r. DoesLine w help version r old new (Some true)) is runs in
+    absurd (grind (arith, does.0))
+refused_told w help version r old new (Some false) is runs =
+    let does : IsRefused old new (Some false) =
+    subst (λ r. DoesLine w help version r old new (Some false)) is runs in
+    (refl, does.1, does.2)
+refused_told w help version r old new None is runs =
+    let mid : Streams = runs.0 in
+    let does : IsRefused old mid None =
+    subst (λ r. DoesLine w help version r old mid None) is runs.1 in (
+      refl,
+      runs.2.held ∙ does.0,
+      more_message old.messages_failed mid.messages_failed new.messages_failed old.told mid.told
+          new.told does.1.0 runs.2.line
+          (some_line runs.2.line (new.output_failed ≡ true) runs.2.cause)
+          does.1.1 runs.2.told,
+    )
+
+-- What a run promises for its status.
+abbrev pub HasRun : World → List ℕ → List ℕ → Result (Choice × List (List ℕ)) End → Streams
+    → Streams → ℕ → Type 0
+HasRun w help version r old new result =
+    (end : Option Bool) × (result ≡ status_of end) × RunsLine w help version r old new end
+
+pub refused_run : (w : World) (help version : List ℕ)
+    (r : Result (Choice × List (List ℕ)) End) (old new : Streams) (result : ℕ)
+    → HasRun w help version r old new result → r ≡ Err Refused
+    → (result ≡ 1) × (new.held ≡ old.held) × IsTold old new
+refused_run w help version r old new result has is =
+    let told = refused_told w help version r old new has.0 is has.2 in
+    (has.1 ∙ told.0, told.1, told.2)
+
+-- No error ended a run.
+pub done_run : (w : World) (help version : List ℕ)
+    (r : Result (Choice × List (List ℕ)) End) (old new : Streams) (b well : Bool) (result : ℕ)
+    → b ≡ well → result ≡ status_of (Some well) → DoesLine w help version r old new (Some b)
+    → HasRun w help version r old new result
+done_run w help version r old new b well result is status does = (
+  Some well,
+  status,
+  subst (λ (x : Bool). DoesLine w help version r old new (Some x)) is does,
+)
+
+-- An error ended a run.
+pub ended_run : (w : World) (help version : List ℕ)
+    (r : Result (Choice × List (List ℕ)) End) (old mid new : Streams) (end : Option Bool)
+    → DoesLine w help version r old mid end → end ≡ None → IsEnded mid new
+    → HasRun w help version r old new 1
+ended_run w help version r old mid new end does is ended = (
+  None,
+  refl,
+  (mid, subst (DoesLine w help version r old mid) is does, ended),
 )

@@ -6,7 +6,9 @@ use Rattle.std.specs.List.{list_any}
 use Rattle.std.specs.Option.{option_map}
 use Rattle.b2sum_lines.specs.Lines.{max_bytes}
 use Rattle.b2sum_lines.specs.declared.entry.Algorithm.{Algorithm}
-use Rattle.b2sum_lines.specs.declared.entry.Algorithm.TheVariants.{Blake2b, Blake2s, Tree}
+use Rattle.b2sum_lines.specs.declared.entry.Algorithm.TheVariants.{Blake2b, Blake2s, Blake2bp}
+use Rattle.b2sum_lines.specs.declared.entry.Algorithm.TheVariants.{Blake2sp, Tree}
+use Rattle.b2sum_lines.specs.declared.entry.Needs.{Needs}
 use Rattle.b2sum_lines.specs.declared.entry.Style.{Style}
 use Rattle.b2sum_lines.specs.declared.entry.Style.TheVariants.{Tagged, Text, Binary}
 use Rattle.b2sum_commands.specs.declared.options.Arguments.{Arguments}
@@ -19,11 +21,13 @@ use Rattle.b2sum_commands.specs.declared.options.Report.TheVariants.{Nothing}
 use Rattle.b2sum_commands.specs.CommandLine.{Choice, End, Refused, reading}
 use Rattle.b2sum_commands.specs.Sums.{is_dash}
 
--- The algorithm is BLAKE2s.
-abbrev pub is_blake2s : Algorithm → Bool
-is_blake2s Blake2b = false
-is_blake2s Blake2s = true
-is_blake2s (Tree leaf) = false
+-- The algorithm has trees.
+abbrev pub has_trees : Algorithm → Bool
+has_trees Blake2b = true
+has_trees Blake2s = false
+has_trees Blake2bp = false
+has_trees Blake2sp = false
+has_trees (Tree leaf) = true
 
 -- The last of the options for a mode is `--text`.
 abbrev pub is_text : Option Bool → Bool
@@ -56,7 +60,7 @@ has_labels c =
 abbrev pub goes_with_tree : Choice → Bool
 goes_with_tree c =
     is_none c.leaf
-    || (not (is_blake2s c.algorithm)
+    || (has_trees c.algorithm
     && (is_none c.key_file && (c.checks || not (is_text c.is_binary))))
 
 -- The options go with a check: none is only for digests that are printed.
@@ -97,6 +101,18 @@ abbrev pub with_leaf : Algorithm → Option ℕ → Algorithm
 with_leaf a None = a
 with_leaf a (Some leaf) = Tree leaf
 
+-- Whether there are bytes.
+abbrev pub has_bytes : List ℕ → Bool
+has_bytes bytes = not (length bytes == 0)
+
+-- What the digests need besides a file.
+abbrev pub chosen_needs : Choice → Needs
+chosen_needs c = record {
+  key = is_some c.key_file;
+  salt = has_bytes c.salt;
+  personal = has_bytes c.persona;
+}
+
 -- What is printed of a digest.
 abbrev pub chosen_shape : Choice → Shape
 chosen_shape c = if c.is_raw then Bytes else if c.has_no_names then Digits else Named
@@ -104,7 +120,8 @@ chosen_shape c = if c.is_raw then Bytes else if c.has_no_names then Digits else 
 -- The style of the lines that are printed.
 abbrev pub chosen_style : Choice → Style
 chosen_style c =
-    if c.is_tagged || is_some c.leaf then Tagged else if is_binary c.is_binary then Binary else Text
+    if c.is_tagged || is_some c.leaf then Tagged (chosen_needs c)
+    else if is_binary c.is_binary then Binary else Text
 
 -- The options of a choice. The key is that of the key file, or none. A check demands a length of
 -- digests if one is given, and under a key.
@@ -113,6 +130,7 @@ pub record AreOptions (c : Choice) (o : Options) : Type 0 where
   pub bytes : o.bytes ≡ (if c.bits == 0 then max_bytes c.algorithm else c.bits / 8)
   pub demands_length : o.demands_length ≡ (not (c.bits == 0) || is_some c.key_file)
   pub key : c.key_file ≡ None → o.key.items ≡ []
+  pub needs : o.needs ≡ chosen_needs c
   pub salt : o.salt.items ≡ c.salt
   pub persona : o.persona.items ≡ c.persona
   pub checks : o.checks ≡ c.checks

@@ -1,6 +1,6 @@
 -- What the check of a manifest returns and prints.
 use Rattle.std.specs.Prelude.{◌≡◌, ◌⊎◌, ◌&&◌, ◌||◌, ℕ, Bool, true, false, List, ⊤}
-use Rattle.std.specs.Prelude.{Option, Some, None}
+use Rattle.std.specs.Prelude.{Option, Some, None, ◌++◌, if◌then◌else◌}
 use Rattle.std.specs.Io.KnownBytes.{Consumes, IsAtEnd}
 use Rattle.std.specs.List.{list_any, list_all}
 use Rattle.text_lines.specs.Cuts.{lines_of}
@@ -13,21 +13,22 @@ use Rattle.b2sum_commands.specs.declared.check.Item.TheVariants.{Comment, Listed
 use Rattle.b2sum_commands.specs.declared.check.Verdict.{Verdict}
 use Rattle.b2sum_commands.specs.declared.options.Options.{Options}
 use Rattle.b2sum_commands.specs.Found.{Streams}
-use Rattle.b2sum_commands.specs.World.{World, InTurn, IsQuiet}
-use Rattle.b2sum_commands.specs.Sums.{is_dash, CannotGet}
-use Rattle.b2sum_commands.specs.Manifests.{IsLine, is_equal, is_fine, is_formed, holds_by}
+use Rattle.b2sum_commands.specs.World.{World, InTurn, IsQuiet, IsStopped}
+use Rattle.b2sum_commands.specs.Sums.{is_dash, CannotGet, Leaves}
+use Rattle.b2sum_commands.specs.Manifests.{IsLine, BeginsLine, is_equal, is_fine, is_formed}
+use Rattle.b2sum_commands.specs.Manifests.{holds_by}
 
 -- What a line is, as `item` has it.
 abbrev pub item_value : Item → Option (Option Line)
 item_value Comment = None
 item_value (Listed e) = Some (Some (entry_value e))
-item_value Malformed = Some None
+item_value (Malformed lacks) = Some None
 
 -- Whether the entry of this line has the property. A line without an entry has it.
 abbrev pub IfListed : Item → (Entry → Type 0) → Type 0
 IfListed Comment holds = ⊤
 IfListed (Listed e) holds = holds e
-IfListed Malformed holds = ⊤
+IfListed (Malformed lacks) holds = ⊤
 
 -- The counts are those of verdicts.
 pub record AreCounted (vs : List Verdict) (counts : Counts) : Type 0 where
@@ -51,6 +52,28 @@ IsText false held left after text =
 abbrev pub IsBegun : Bool → Option (List ℕ) → Option (List ℕ) → List ℕ → Type 0
 IsBegun true held left text = (rest : Option (List ℕ)) × Consumes left rest text
 IsBegun false held left text = (rest : Option (List ℕ)) × Consumes held rest text
+
+-- Streams of which this is left of standard input, if the manifest is that.
+abbrev pub read_to : Bool → Option (List ℕ) → Streams → Streams
+read_to true left s = record s { left = left }
+read_to false left s = s
+
+-- The lines of what a manifest returned are checked, with these verdicts. Before that, it had
+-- `before` left, and after that, `rest`. No entry of a manifest on standard input reads that, so
+-- all of it may be read before any of them.
+pub record AreRead (w : World) (o : Options) (input : Bool) (before rest : Option (List ℕ))
+    (old new : Streams) (verdicts : List Verdict) : Type 0 where
+  pub text : List ℕ
+  pub passed : Consumes before rest text
+  pub lines : InTurn (IsLine w o input) (lines_of text) (read_to input new.left old) new verdicts
+
+-- A manifest is at its end, and the counts are those of the verdicts. There are none if a read
+-- failed, and then what is left is not known.
+abbrev pub EndsAt : Option Counts → List Verdict → Option (List ℕ) → Option (List ℕ) → Type 0
+    → Type 0
+EndsAt None vs rest left failed = failed
+EndsAt (Some counts) vs rest left failed =
+    AreCounted vs counts × (rest ≡ left) × IsAtEnd left
 
 -- The lines of a text are checked one after the other, with these verdicts, and nothing else is
 -- printed but messages. `input` says that the text is standard input, up to where `old` is.
@@ -82,7 +105,31 @@ pub record IsCut (w : World) (o : Options) (name : List ℕ) (old new : Streams)
   pub quiet : IsQuiet old start
   pub are_judged : AreJudged w o (is_dash name) text start new verdicts
 
--- The manifest of this name is checked, or it was not read to its end, and does not hold.
-abbrev pub IsChecked : World → Options → List ℕ → Streams → Streams → Bool → Type 0
-IsChecked w o name old new result =
+-- The lines of a text are whole: they stay the same, whatever comes after it.
+abbrev pub AreWhole : List ℕ → Type 0
+AreWhole text = (more : List ℕ) → lines_of (text ++ more) ≡ lines_of text ++ lines_of more
+
+-- An error ended the check of a manifest, which had `before` left, one line after the other. These
+-- are whole lines, unless it was read to its end, or a read failed.
+pub record AreStopped (w : World) (o : Options) (input : Bool) (before : Option (List ℕ))
+    (old new : Streams) : Type 0 where
+  pub text : List ℕ
+  pub rest : Option (List ℕ)
+  pub passed : Consumes before rest text
+  pub whole : AreWhole text ⊎ (IsAtEnd rest ⊎ w.breaks)
+  pub start : Streams
+  pub quiet : IsQuiet old start
+  pub left : Leaves input old.left start.left
+  pub lines : IsStopped (IsLine w o input) (BeginsLine w o input) (lines_of text) start new
+
+-- What the manifest of this name has: what is left of standard input for `-`.
+abbrev pub manifest_bytes : World → Option (List ℕ) → List ℕ → Option (List ℕ)
+manifest_bytes w left name = if is_dash name then left else w.files.holds name
+
+-- The manifest of this name is checked, or it was not read to its end, and does not hold. If there
+-- is no result, an error ended the check.
+abbrev pub IsChecked : World → Options → List ℕ → Streams → Streams → Option Bool → Type 0
+IsChecked w o name old new (Some result) =
     ((result ≡ false) × IsCut w o name old new) ⊎ IsJudged w o name old new result
+IsChecked w o name old new None =
+    AreStopped w o (is_dash name) (manifest_bytes w old.left name) old new

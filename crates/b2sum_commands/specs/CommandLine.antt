@@ -9,14 +9,17 @@ use Rattle.std.specs.Str.{bytes_eq}
 use Rattle.hex.specs.Hex.{decode_of}
 use Rattle.text_lines.specs.Cuts.{cut_at}
 use Rattle.b2sum_lines.specs.declared.entry.Algorithm as entry
-use Rattle.b2sum_lines.specs.declared.entry.Algorithm.TheVariants.{Blake2b, Blake2s}
-use Rattle.b2sum_commands.specs.declared.options.Flag.{Flag}
-use Rattle.b2sum_commands.specs.declared.options.Flag.TheVariants.{Algorithm, Length, KeyFile}
-use Rattle.b2sum_commands.specs.declared.options.Flag.TheVariants.{Personal, Salt, Tree, Progress}
-use Rattle.b2sum_commands.specs.declared.options.Flag.TheVariants.{Threads, NoNames, Raw}
-use Rattle.b2sum_commands.specs.declared.options.Flag.TheVariants.{Check, IgnoreMissing, Quiet}
-use Rattle.b2sum_commands.specs.declared.options.Flag.TheVariants.{Status, Warn, Strict, Tag, Zero}
-use Rattle.b2sum_commands.specs.declared.options.Flag.TheVariants.{Binary, Text, Help, Version}
+use Rattle.b2sum_lines.specs.declared.entry.Algorithm.TheVariants.{Blake2b, Blake2s, Blake2bp}
+use Rattle.b2sum_lines.specs.declared.entry.Algorithm.TheVariants.{Blake2sp}
+use Rattle.b2sum_commands.specs.declared.option_names.Flag.{Flag}
+use Rattle.b2sum_commands.specs.declared.option_names.Flag.TheVariants.{Algorithm, Length, KeyFile}
+use Rattle.b2sum_commands.specs.declared.option_names.Flag.TheVariants.{Personal, Salt, Tree}
+use Rattle.b2sum_commands.specs.declared.option_names.Flag.TheVariants.{Progress}
+use Rattle.b2sum_commands.specs.declared.option_names.Flag.TheVariants.{Threads, NoNames, Raw}
+use Rattle.b2sum_commands.specs.declared.option_names.Flag.TheVariants.{Check, IgnoreMissing, Quiet}
+use Rattle.b2sum_commands.specs.declared.option_names.Flag.TheVariants.{Status, Warn, Strict, Tag}
+use Rattle.b2sum_commands.specs.declared.option_names.Flag.TheVariants.{Zero}
+use Rattle.b2sum_commands.specs.declared.option_names.Flag.TheVariants.{Binary, Text, Help, Version}
 use Rattle.b2sum_commands.specs.declared.options.Report.{Report}
 use Rattle.b2sum_commands.specs.declared.options.Report.TheVariants.{Each, Warnings, Failures}
 use Rattle.b2sum_commands.specs.declared.options.Report.TheVariants.{Nothing}
@@ -127,6 +130,8 @@ abbrev pub algorithm_in : List ℕ → Option entry.Algorithm
 algorithm_in value =
     if bytes_eq value (codes "blake2b") then Some Blake2b
     else if bytes_eq value (codes "blake2s") then Some Blake2s
+    else if bytes_eq value (codes "blake2bp") then Some Blake2bp
+    else if bytes_eq value (codes "blake2sp") then Some Blake2sp
     else None
 
 -- The bytes that hexadecimal digits of either case write.

@@ -1,13 +1,15 @@
 -- The options of the command line: their names, their letters, and which of them have a value.
 use Rattle.std.specs.Prelude.{ℕ, ◌==◌, Bool, true, false, if◌then◌else◌, List, codes}
 use Rattle.std.specs.Prelude.{Option, Some, None}
-use Rattle.b2sum_commands.specs.declared.options.Flag.{Flag}
-use Rattle.b2sum_commands.specs.declared.options.Flag.TheVariants.{Algorithm, Length, KeyFile}
-use Rattle.b2sum_commands.specs.declared.options.Flag.TheVariants.{Personal, Salt, Tree, Progress}
-use Rattle.b2sum_commands.specs.declared.options.Flag.TheVariants.{Threads, NoNames, Raw}
-use Rattle.b2sum_commands.specs.declared.options.Flag.TheVariants.{Check, IgnoreMissing, Quiet}
-use Rattle.b2sum_commands.specs.declared.options.Flag.TheVariants.{Status, Warn, Strict, Tag, Zero}
-use Rattle.b2sum_commands.specs.declared.options.Flag.TheVariants.{Binary, Text, Help, Version}
+use Rattle.b2sum_commands.specs.declared.option_names.Flag.{Flag}
+use Rattle.b2sum_commands.specs.declared.option_names.Flag.TheVariants.{Algorithm, Length, KeyFile}
+use Rattle.b2sum_commands.specs.declared.option_names.Flag.TheVariants.{Personal, Salt, Tree}
+use Rattle.b2sum_commands.specs.declared.option_names.Flag.TheVariants.{Progress}
+use Rattle.b2sum_commands.specs.declared.option_names.Flag.TheVariants.{Threads, NoNames, Raw}
+use Rattle.b2sum_commands.specs.declared.option_names.Flag.TheVariants.{Check, IgnoreMissing, Quiet}
+use Rattle.b2sum_commands.specs.declared.option_names.Flag.TheVariants.{Status, Warn, Strict, Tag}
+use Rattle.b2sum_commands.specs.declared.option_names.Flag.TheVariants.{Zero}
+use Rattle.b2sum_commands.specs.declared.option_names.Flag.TheVariants.{Binary, Text, Help, Version}
 
 -- The name of the long option, which follows two hyphens.
 abbrev pub long_name : Flag → List ℕ

@@ -1,6 +1,7 @@
 -- Files, hash functions and streams.
 use Rattle.std.specs.Prelude.{ℕ, Bool, List, Option}
 use Rattle.b2sum_lines.specs.declared.entry.Spacing.{Spacing}
+use Rattle.b2sum_commands.specs.declared.hashes.Function.{Function}
 use Rattle.b2sum_commands.specs.declared.options.Options.{Options}
 
 -- Files by their names: the bytes of a file, if that is known, whether it may be that the file
@@ -10,11 +11,11 @@ pub record Files : Type 0 where
   pub refuses : List ℕ → Bool
   pub lacks : List ℕ → Bool
 
--- Hash functions, by the algorithm and the parameters of options: the digest of this many bytes of
--- a text, and whether a digest of this many bytes may be refused.
+-- Hash functions, with the parameters of options: the digest of a text, and whether a digest may be
+-- refused.
 pub record Hashing : Type 0 where
-  pub digest : Options → ℕ → List ℕ → List ℕ
-  pub rejects : Options → ℕ → Bool
+  pub digest : Options → Function → List ℕ → List ℕ
+  pub rejects : Options → Function → Bool
 
 -- What goes on from one file to the next: the bytes that are left of standard input, the bytes that
 -- standard output holds and those of messages, if that is known, whether a write to either failed,

@@ -2,7 +2,9 @@ pub mod Found
 pub mod World
 pub mod Sums
 pub mod Manifests
+pub mod LineReads
 pub mod Checks
+pub mod ReadBack
 pub mod Quoting
 pub mod Runs
 pub mod Flags

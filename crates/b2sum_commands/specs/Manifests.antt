@@ -1,11 +1,16 @@
 -- The check of a manifest: its lines, what becomes of each, and when it holds.
-use Rattle.std.specs.Prelude.{◌≡◌, ◌≢◌, ℕ, ◌-◌, ◌==◌, ◌&&◌, ◌||◌, Bool, true, false, not}
+use Rattle.std.specs.Prelude.{◌≡◌, ◌≢◌, ℕ, ◌+◌, ◌-◌, ◌==◌, ◌&&◌, ◌||◌, Bool, true, false, not}
 use Rattle.std.specs.Prelude.{if◌then◌else◌, List, [], ◌∷◌, ◌++◌, length, take, get_or, codes}
-use Rattle.std.specs.Prelude.{Option, Some, None}
+use Rattle.std.specs.Prelude.{Option, Some, None, ◌⊎◌}
 use Rattle.std.specs.Io.KnownBytes.{Appends}
 use Rattle.std.specs.List.{list_any, list_all}
 use Rattle.std.specs.Option.{option_map}
+use Rattle.blake2_streams.specs.Streams.{TakesPart}
 use Rattle.b2sum_lines.specs.Lines.{Line, escaped, line_entry}
+use Rattle.b2sum_lines.specs.declared.entry.Algorithm.{Algorithm}
+use Rattle.b2sum_lines.specs.declared.entry.Algorithm.TheVariants.{Blake2b, Blake2s, Blake2bp}
+use Rattle.b2sum_lines.specs.declared.entry.Algorithm.TheVariants.{Blake2sp, Tree}
+use Rattle.b2sum_lines.specs.declared.entry.Needs.{Needs}
 use Rattle.b2sum_lines.specs.declared.entry.Spacing.{Spacing}
 use Rattle.b2sum_lines.specs.declared.entry.Spacing.TheVariants.{Two, One}
 use Rattle.b2sum_lines.specs.declared.entry.Style.{Style}
@@ -13,6 +18,7 @@ use Rattle.b2sum_lines.specs.declared.entry.Style.TheVariants.{Tagged, Text, Bin
 use Rattle.b2sum_commands.specs.declared.check.Verdict.{Verdict}
 use Rattle.b2sum_commands.specs.declared.check.Verdict.TheVariants.{Equal, Different, Unread}
 use Rattle.b2sum_commands.specs.declared.check.Verdict.TheVariants.{Skipped, Malformed, Comment}
+use Rattle.b2sum_commands.specs.declared.hashes.Function.{Function}
 use Rattle.b2sum_commands.specs.declared.options.Options.{Options}
 use Rattle.b2sum_commands.specs.declared.options.Report.{Report}
 use Rattle.b2sum_commands.specs.declared.options.Report.TheVariants.{Each, Warnings, Failures}
@@ -42,12 +48,51 @@ trimmed (b ∷ line) = if b == 35 then None else not_empty (without_return (b �
 abbrev pub has_demanded_length : Options → List ℕ → Bool
 has_demanded_length o digest = not o.demands_length || length digest == o.bytes
 
--- An entry that can be checked: its digest has the length that is demanded. A manifest on standard
--- input has none for standard input.
+-- Two truth values are the same.
+abbrev pub is_equal_to : Bool → Bool → Bool
+is_equal_to true b = b
+is_equal_to false b = not b
+
+-- Two digests need the same besides a file.
+abbrev pub same_needs : Needs → Needs → Bool
+same_needs a b =
+    is_equal_to a.key b.key && (is_equal_to a.salt b.salt && is_equal_to a.personal b.personal)
+
+-- A number for each algorithm.
+abbrev pub algorithm_number : Algorithm → ℕ
+algorithm_number Blake2b = 0
+algorithm_number Blake2s = 1
+algorithm_number Blake2bp = 2
+algorithm_number Blake2sp = 3
+algorithm_number (Tree leaf) = 4 + leaf
+
+-- The line of a digest says what the options have: all that a tagged line needs, and nothing else.
+-- Other lines do not say what they need.
+abbrev pub has_needs : Options → Style → Bool
+has_needs o (Tagged needs) = same_needs needs o.needs
+has_needs o Text = true
+has_needs o Binary = true
+has_needs o Bare = true
+
+-- A digest that needs a key, a salt or a personalization is of the algorithm of the options, which
+-- they are for. Others are of any.
+abbrev pub has_algorithm : Options → Algorithm → Bool
+has_algorithm o a =
+    not (o.needs.key || (o.needs.salt || o.needs.personal))
+    || (algorithm_number a == algorithm_number o.algorithm)
+
+-- An entry that can be checked: its digest has the length that is demanded, and needs what the
+-- options have. A manifest on standard input has none for standard input.
 abbrev pub checkable : Options → Bool → Option Line → Option Line
 checkable o input None = None
 checkable o input (Some e) =
-    if has_demanded_length o e.digest && not (input && is_dash e.name) then Some e else None
+    if has_demanded_length o e.digest
+    && (has_needs o e.style && (has_algorithm o e.algorithm && not (input && is_dash e.name)))
+    then Some e else None
+
+-- The hash function of an entry: the algorithm, and the length of the digest.
+abbrev pub listed_function : Line → Function
+listed_function e = record { algorithm = e.algorithm; bytes = length e.digest }
 
 -- What a line is: none for a comment, and else its entry, which is none if it is malformed.
 abbrev pub item : Options → Bool → Spacing → List ℕ → Option (Option Line)
@@ -56,7 +101,7 @@ item o input s line =
 
 -- The spacing after an entry of this style.
 abbrev pub spacing_after : Spacing → Style → Spacing
-spacing_after s Tagged = s
+spacing_after s (Tagged needs) = s
 spacing_after s Text = Two
 spacing_after s Binary = Two
 spacing_after s Bare = One
@@ -69,19 +114,19 @@ next_spacing s (Some e) = spacing_after s e.style
 -- ---- verdicts
 
 -- The verdict on an entry, or on a malformed line, is right: the digest of the text that the source
--- returned is that of the entry, or it is not, or there is a cause. Only a file that is not there is
--- skipped, and only if the options say so.
+-- returned is that of the entry, or it is not, or there is a cause. Only a file that is not there
+-- is skipped, and only if the options say so.
 abbrev pub IsVerdict : World → Options → Option (List ℕ) → Option Line → Verdict → Option (List ℕ)
     → Type 0
 IsVerdict w o left None v after = (v ≡ Malformed) × (after ≡ left)
 IsVerdict w o left (Some e) Equal after =
     (text : List ℕ) × ReadsAs (is_dash e.name) (w.files.holds e.name) left after text
-    × (w.hashing.digest o (length e.digest) text ≡ e.digest)
+    × (w.hashing.digest o (listed_function e) text ≡ e.digest)
 IsVerdict w o left (Some e) Different after =
     (text : List ℕ) × ReadsAs (is_dash e.name) (w.files.holds e.name) left after text
-    × (w.hashing.digest o (length e.digest) text ≢ e.digest)
+    × (w.hashing.digest o (listed_function e) text ≢ e.digest)
 IsVerdict w o left (Some e) Unread after =
-    Leaves (is_dash e.name) left after × CannotSum w o (length e.digest) e.name
+    Leaves (is_dash e.name) left after × CannotSum w o (listed_function e) e.name
 IsVerdict w o left (Some e) Skipped after =
     (o.ignores_missing ≡ true) × (is_dash e.name ≡ false) × (after ≡ left)
     × (w.files.refuses e.name ≡ true) × (w.files.lacks e.name ≡ true)
@@ -166,3 +211,18 @@ IsItem w o (Some i) old new v =
 -- A line of a manifest is checked. `input` says that the manifest is standard input.
 abbrev pub IsLine : World → Options → Bool → List ℕ → Streams → Streams → Verdict → Type 0
 IsLine w o input line old new v = IsItem w o (item o input old.spacing line) old new v
+
+-- Nothing is printed for an entry, or a part of the line of a verdict that is right.
+abbrev pub BeginsVerdict : World → Options → Option Line → Streams → Streams → Type 0
+BeginsVerdict w o i old new = (new.held ≡ old.held)
+    ⊎ ((v : Verdict) × IsVerdict w o old.left i v new.left
+    × TakesPart old.held new.held (verdict_line o.report i v))
+
+-- An error ended the check of a line.
+abbrev pub BeginsItem : World → Options → Option (Option Line) → Streams → Streams → Type 0
+BeginsItem w o None old new = new.held ≡ old.held
+BeginsItem w o (Some i) old new = BeginsVerdict w o i old new
+
+-- An error ended the check of a line of a manifest.
+abbrev pub BeginsLine : World → Options → Bool → List ℕ → Streams → Streams → Type 0
+BeginsLine w o input line old new = BeginsItem w o (item o input old.spacing line) old new

@@ -1,6 +1,5 @@
 -- What the program's values are in the terms of CommandLine.
-use Rattle.std.specs.Prelude.{◌≡◌, ⊤, ℕ, Bool, true, false, List, Option, None, Result, Ok, Err}
-use Rattle.std.specs.Io.KnownBytes.{Appends}
+use Rattle.std.specs.Prelude.{◌≡◌, ⊤, ℕ, Bool, false, List, Option, None, Result, Err}
 use Rattle.std.specs.Option.{option_map}
 use Rattle.b2sum_commands.specs.declared.options.Reader.{Reader}
 use Rattle.b2sum_commands.specs.declared.options.Stop as stop
@@ -9,7 +8,7 @@ use Rattle.b2sum_commands.specs.declared.options.Stop.TheVariants.{Value}
 use Rattle.b2sum_commands.specs.declared.options.Next as next
 use Rattle.b2sum_commands.specs.declared.options.Next.TheVariants.{Any, Awaited, File}
 use Rattle.b2sum_commands.specs.Found.{Streams}
-use Rattle.b2sum_commands.specs.World.{IsTold}
+use Rattle.b2sum_commands.specs.Runs.{PrintsText, IsRefused}
 use Rattle.b2sum_commands.specs.CommandLine.{Choice, End, Helped, Versioned, Refused}
 use Rattle.b2sum_commands.specs.CommandLine.{Next, Anything, ValueOf, OnlyFile, State}
 
@@ -78,19 +77,10 @@ IsUnfit test (Value first second) = test ≡ false
 IsUnfit test NoMemory = ⊤
 
 -- What is printed if the program stops, with whether the command line is right: the help, the
--- version, or only a message.
-abbrev pub IsPrinted : List ℕ → List ℕ → Streams → Streams → stop.Stop → Bool → Type 0
-IsPrinted help version old new Help well = (well ≡ true) × Appends old.held new.held help
-IsPrinted help version old new Version well = (well ≡ true) × Appends old.held new.held version
-IsPrinted help version old new (Usage line) well =
-    (well ≡ false) × (new.held ≡ old.held) × IsTold old new
-IsPrinted help version old new (Value first second) well =
-    (well ≡ false) × (new.held ≡ old.held) × IsTold old new
-IsPrinted help version old new NoMemory well = ⊥
-
--- Nothing is printed for a command line that is refused.
-abbrev pub IsKept : Streams → Streams → Result (Choice × List (List ℕ)) End → Type 0
-IsKept old new (Err Helped) = ⊤
-IsKept old new (Err Versioned) = ⊤
-IsKept old new (Err Refused) = new.held ≡ old.held
-IsKept old new (Ok read) = ⊤
+-- version, or only a message. There is no result if an error ended it.
+abbrev pub IsPrinted : List ℕ → List ℕ → Streams → Streams → stop.Stop → Option Bool → Type 0
+IsPrinted help version old new Help end = PrintsText help old new end
+IsPrinted help version old new Version end = PrintsText version old new end
+IsPrinted help version old new (Usage line) end = IsRefused old new end
+IsPrinted help version old new (Value first second) end = IsRefused old new end
+IsPrinted help version old new NoMemory end = (end ≡ None) × IsRefused old new None

@@ -1,11 +1,12 @@
 -- What is read of a file, and the line that is printed for it.
-use Rattle.std.specs.Prelude.{◌≡◌, ℕ, Bool, true, false, List, [], ◌∷◌, ◌++◌, Option, ⊤}
+use Rattle.std.specs.Prelude.{◌≡◌, ℕ, Bool, true, false, List, [], ◌∷◌, ◌++◌, Option, Some, None, ⊤}
 use Rattle.std.specs.Prelude.{if◌then◌else◌, ◌⊎◌}
 use Rattle.std.specs.Str.{bytes_eq}
 use Rattle.std.specs.Io.KnownBytes.{Appends}
-use Rattle.blake2_replay.specs.Streams.{GivesAll}
+use Rattle.blake2_streams.specs.Streams.{GivesAll, TakesPart}
 use Rattle.b2sum_lines.specs.Lines.{Line, entry_line, plain_line}
 use Rattle.hex.specs.Hex.{encode_lower}
+use Rattle.b2sum_commands.specs.declared.hashes.Function.{Function}
 use Rattle.b2sum_commands.specs.declared.options.Options.{Options}
 use Rattle.b2sum_commands.specs.declared.options.Shape.{Shape}
 use Rattle.b2sum_commands.specs.declared.options.Shape.TheVariants.{Named, Digits, Bytes}
@@ -33,9 +34,13 @@ abbrev pub CannotGet : World → List ℕ → Type 0
 CannotGet w name =
     ((is_dash name ≡ false) × (w.files.refuses name ≡ true)) ⊎ w.breaks
 
--- A file has no digest of n bytes: it is not read to its end, or the hash function refuses it.
-abbrev pub CannotSum : World → Options → ℕ → List ℕ → Type 0
-CannotSum w o n name = CannotGet w name ⊎ (w.hashing.rejects o n ≡ true)
+-- A file has no digest: it is not read to its end, or the hash function refuses it.
+abbrev pub CannotSum : World → Options → Function → List ℕ → Type 0
+CannotSum w o f name = CannotGet w name ⊎ (w.hashing.rejects o f ≡ true)
+
+-- The hash function of the digests that are printed.
+abbrev pub printed_function : Options → Function
+printed_function o = record { algorithm = o.algorithm; bytes = o.bytes }
 
 -- The line of an entry with its end: a newline, or a zero byte after a name as it is.
 abbrev pub ended_line : Bool → Line → List ℕ
@@ -55,18 +60,26 @@ printed Bytes zero e = e.digest
 abbrev pub entry_of : World → Options → List ℕ → List ℕ → Line
 entry_of w o name text = record {
   algorithm = o.algorithm;
-  digest = w.hashing.digest o o.bytes text;
+  digest = w.hashing.digest o (printed_function o) text;
   name = name;
   style = o.style;
 }
 
--- The line of the file of this name is printed, with the digest of all its text. If the result is
--- false, nothing is printed, since the file cannot be read, as a message says; if files that do not
--- exist are ignored, there may be none.
-abbrev pub IsSum : World → Options → List ℕ → Streams → Streams → Bool → Type 0
-IsSum w o name old new true =
+-- A sink accepted this much of the line of the file of this name, which has the digest of all its
+-- text.
+abbrev pub HasSum : (Option (List ℕ) → Option (List ℕ) → List ℕ → Type 0) → World → Options
+    → List ℕ → Streams → Streams → Type 0
+HasSum accepts w o name old new =
     (text : List ℕ) × ReadsAs (is_dash name) (w.files.holds name) old.left new.left text
-    × Appends old.held new.held (printed o.shape o.ends_zero (entry_of w o name text))
-IsSum w o name old new false =
-    Leaves (is_dash name) old.left new.left × (new.held ≡ old.held) × CannotSum w o o.bytes name
+    × accepts old.held new.held (printed o.shape o.ends_zero (entry_of w o name text))
+
+-- The line of the file of this name is printed. If the result is false, nothing is printed, since
+-- the file cannot be read, as a message says; if files that do not exist are ignored, there may be
+-- none. If there is no result, an error ended it, and nothing or a part of the line is printed.
+abbrev pub IsSum : World → Options → List ℕ → Streams → Streams → Option Bool → Type 0
+IsSum w o name old new (Some true) = HasSum Appends w o name old new
+IsSum w o name old new (Some false) =
+    Leaves (is_dash name) old.left new.left × (new.held ≡ old.held)
+    × CannotSum w o (printed_function o) name
     × (o.ignores_missing ≡ false → IsTold old new)
+IsSum w o name old new None = (new.held ≡ old.held) ⊎ HasSum TakesPart w o name old new

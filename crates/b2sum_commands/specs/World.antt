@@ -1,10 +1,9 @@
 -- What a run finds, and what goes on from one file to the next.
-use Rattle.std.specs.Prelude.{◌≡◌, ℕ, Bool, true, false, List, [], ◌∷◌, Option, ◌⊎◌, ◌<◌}
-use Rattle.std.specs.Prelude.{◌≤◌, length}
+use Rattle.std.specs.Prelude.{◌≡◌, ℕ, Bool, true, List, [], ◌∷◌, Option, ◌⊎◌, ◌<◌}
+use Rattle.std.specs.Prelude.{◌≤◌, ◌++◌, length, codes, Some, None}
 use Rattle.std.specs.Io.KnownBytes.{Appends, Consumes, IsAtEnd}
 use Rattle.std.specs.List.{list_all}
-use Rattle.b2sum_lines.specs.declared.entry.Spacing.{Spacing}
-use Rattle.b2sum_commands.specs.declared.options.Options.{Options}
+use Rattle.blake2_streams.specs.Streams.{TakesPart}
 use Rattle.b2sum_commands.specs.Found.{Files, Hashing, Streams}
 
 -- What a run finds: the files, the hash functions, and whether there is an open file of which a
@@ -31,6 +30,11 @@ pub record IsKey (held : Option (List ℕ)) (most : ℕ) (key : List ℕ) : Type
   pub given : Consumes held end key
   pub at_end : IsAtEnd end
 
+-- A file has no key: it has no bytes, or more than this many.
+abbrev pub IsNoKey : Option (List ℕ) → ℕ → Type 0
+IsNoKey held most = (bytes : List ℕ) × (end : Option (List ℕ)) × Consumes held end bytes
+    × (((bytes ≡ []) × IsAtEnd end) ⊎ (most < length bytes))
+
 -- A sink accepted a line after all others, or it has failed. A sink that has failed stays so.
 pub record IsWritten (was_failed is_failed : Bool) (old new : Option (List ℕ)) (line : List ℕ)
     : Type 0 where
@@ -46,12 +50,23 @@ HasMessage was_failed is_failed old new =
 abbrev pub IsTold : Streams → Streams → Type 0
 IsTold old new = HasMessage old.messages_failed new.messages_failed old.told new.told
 
--- A message is printed, or it is the last that the sink of messages accepted after some state of it,
--- or messages cannot be printed.
-abbrev pub IsReported : {E : Type 0} → (E → Bool) → (E → Option (List ℕ)) → Streams → Streams
-    → Type 0
-IsReported {E} failed held old new = IsTold old new
-    ⊎ ((before : E) × HasMessage (failed before) new.messages_failed (held before) new.told)
+-- A sink accepted some messages or none, or it has failed. A sink that has failed stays so.
+abbrev pub HasMore : Bool → Bool → Option (List ℕ) → Option (List ℕ) → Type 0
+HasMore was_failed is_failed old new =
+    (lines : List ℕ) × IsWritten was_failed is_failed old new lines
+
+-- A sink accepted nothing, or a beginning of a text, and not all of it.
+abbrev pub StopsIn : Option (List ℕ) → Option (List ℕ) → List ℕ → Type 0
+StopsIn old new text = (new ≡ old) ⊎ TakesPart old new text
+
+-- An error ended a run, as one more message says: an allocation failed, or a write to the output,
+-- with the reason. Nothing else is printed.
+pub record IsEnded (old new : Streams) : Type 0 where
+  pub line : List ℕ
+  pub cause : (line ≡ codes "b2sum: memory exhausted\n") ⊎ ((new.output_failed ≡ true)
+      × (reason : List ℕ) × (line ≡ codes "b2sum: write error" ++ reason ++ (10 ∷ [])))
+  pub told : IsWritten old.messages_failed new.messages_failed old.told new.told line
+  pub held : new.held ≡ old.held
 
 -- Nothing is printed but messages.
 pub record IsQuiet (old new : Streams) : Type 0 where
@@ -67,9 +82,39 @@ InTurn does (x ∷ xs) old new [] = ⊥
 InTurn does (x ∷ xs) old new (y ∷ ys) =
     (mid : Streams) × does x old mid y × InTurn does xs mid new ys
 
+-- What is done for the next of these, if there is one, is begun. Otherwise nothing is printed.
+abbrev pub BeginsNext : {X : Type 0} → (X → Streams → Streams → Type 0) → List X → Streams
+    → Streams → Type 0
+BeginsNext begins [] old new = new.held ≡ old.held
+BeginsNext begins (x ∷ rest) old new = begins x old new
+
+-- An error ended what is done for these, one after the other: it is done for the first of them, and
+-- begun for the next.
+pub record IsStopped {X Y : Type 0} (does : X → Streams → Streams → Y → Type 0)
+    (begins : X → Streams → Streams → Type 0) (all : List X) (old new : Streams) : Type 0 where
+  pub done : List X
+  pub rest : List X
+  pub are_all : all ≡ done ++ rest
+  pub results : List Y
+  pub mid : Streams
+  pub are_done : InTurn does done old mid results
+  pub next : BeginsNext begins rest mid new
+
+-- What is done for a name, with this result.
+abbrev pub Ends : (List ℕ → Streams → Streams → Option Bool → Type 0) → List ℕ → Streams → Streams
+    → Bool → Type 0
+Ends does name old new well = does name old new (Some well)
+
+-- What is done for a name if an error ends it, so that there is no result.
+abbrev pub Stops : (List ℕ → Streams → Streams → Option Bool → Type 0) → List ℕ → Streams
+    → Streams → Type 0
+Stops does name old new = does name old new None
+
 -- Something is done for each of these names, one after the other. The result is whether each went
--- well.
-abbrev pub AllInTurn : (List ℕ → Streams → Streams → Bool → Type 0) → List (List ℕ) → Streams
-    → Streams → Bool → Type 0
-AllInTurn does names old new all =
-    (each : List Bool) × InTurn does names old new each × (all ≡ list_all (λ well. well) each)
+-- well. There is none if an error ended it.
+abbrev pub AllInTurn : (List ℕ → Streams → Streams → Option Bool → Type 0) → List (List ℕ)
+    → Streams → Streams → Option Bool → Type 0
+AllInTurn does names old new (Some all) =
+    (each : List Bool) × InTurn (Ends does) names old new each
+    × (all ≡ list_all (λ well. well) each)
+AllInTurn does names old new None = IsStopped (Ends does) (Stops does) names old new

@@ -1,18 +1,24 @@
 //! The check of manifests.
 
-ghost use Rattle.std.specs.Prelude.{◌≡◌, ◌≢◌, ◌⊎◌, ℕ, ◌<◌, ◌≤◌, ◌&&◌, ◌||◌, List, ◌++◌, length, map};
+ghost use Rattle.std.specs.Prelude.{◌≡◌, ◌≢◌, ◌⊎◌, ℕ, ◌<◌, ◌≤◌, ◌&&◌, ◌||◌, List, length};
 ghost use Rattle.std.specs.Prelude.{Option, Some, None, not, true, false, IfOk, IfSome, OnOk};
-ghost use Rattle.std.specs.Io.KnownBytes.{Appends, Consumes, IsAtEnd};
+ghost use Rattle.std.specs.Prelude.{[], is_none, if◌then◌else◌, IsErr, IsErrOf, OnErr, map};
+ghost use Rattle.std.specs.Prelude.{IsOkUnless};
+ghost use Rattle.std.specs.Io.KnownBytes.{Appends, Consumes};
 ghost use Rattle.std.specs.Option.{option_map};
-ghost use Rattle.text_lines.specs.Cuts.{lines_of};
+ghost use Rattle.std.specs.Result.{result_ok};
 ghost use Rattle.b2sum_lines.specs.Entries.{entry_value};
-ghost use Rattle.b2sum_commands.specs.World.{world_of, AllInTurn, InTurn, IsQuiet, IsTold};
-ghost use Rattle.b2sum_commands.specs.Sums.{is_dash, CannotGet, CannotSum};
+ghost use Rattle.b2sum_commands.specs.World.{world_of, AllInTurn, IsQuiet, IsTold, StopsIn};
+ghost use Rattle.b2sum_commands.specs.Sums.{is_dash};
+ghost use Rattle.b2sum_commands.specs.LineReads.{IsCutOff, IsAfter, source_left};
 ghost use Rattle.b2sum_commands.specs.Manifests.{trimmed, item, spacing_after, IsVerdict};
-ghost use Rattle.b2sum_commands.specs.Manifests.{has_demanded_length, IsItem, IsLine};
+ghost use Rattle.b2sum_commands.specs.Manifests.{has_demanded_length, IsLine};
+ghost use Rattle.b2sum_commands.specs.Manifests.{BeginsLine, BeginsVerdict};
+ghost use Rattle.b2sum_commands.specs.Manifests.{has_algorithm, has_needs};
 ghost use Rattle.b2sum_commands.specs.Manifests.{outcome, with_name, verdict_line};
-ghost use Rattle.b2sum_commands.specs.Checks.{item_value, IfListed, AreCounted, Adds};
-ghost use Rattle.b2sum_commands.specs.Checks.{IsChecked, IsText, IsBegun};
+ghost use Rattle.b2sum_commands.specs.Checks.{item_value, IfListed, Adds, IsChecked};
+ghost use Rattle.b2sum_commands.specs.Checks.{AreRead, EndsAt, AreStopped};
+ghost use Rattle.b2sum_commands.specs.declared.line_reader.LineEnd.TheVariants.{Failure};
 ghost use Rattle.b2sum_commands.specs.declared.check.Verdict.TheVariants.{Equal, Different};
 ghost use Rattle.b2sum_commands.specs.declared.check.Verdict.TheVariants.{Skipped, Malformed};
 ghost use Rattle.b2sum_commands.specs.declared.check.Verdict.TheVariants.{Unread, Comment};
@@ -20,17 +26,19 @@ ghost use Rattle.b2sum_commands.specs.declared.check.Verdict as verdict;
 ghost use Rattle.b2sum_commands.specs.declared.sums.Read.TheVariants.{Whole, Missing, Failed};
 
 use crate::devices::{Disk, Fault, OpenFile, Output, put};
-use crate::hashes::Hashes;
+use crate::hashes::{Function, Hashes};
+use crate::line_needs::{Lacks, has_algorithm, has_needs, tell_lacks};
+use crate::line_reader::{LineEnd, LineReader};
+use crate::messages::{warn, warn_of_count, warn_of_file};
 use crate::options::{Options, Report};
 use crate::quoting::quoted_name;
 use crate::session::{Host, Session};
 use crate::sums::{Read, digest_file, is_dash};
-use crate::texts::{warn, warn_of_count, warn_of_file};
 use b2sum_lines::{Entry, Spacing, Style, push_escaped, read_line};
 use blake2_digest::is_same;
-use blake2_replay::engine::{Sink, Source};
-use std::alloc::Global;
-use text_lines::{push_decimal, split_line};
+use blake2_streams::{Sink, Source};
+use std::alloc::{AllocError, Global};
+use text_lines::push_decimal;
 
 /// What the check of a line came to.
 #[derive(Clone, Copy, Debug, PartialEq, Eq)]
@@ -136,9 +144,10 @@ pub fn check_manifests<H: Hashes, D: Disk, K: Output, E: Sink>(
     session: &mut Session<D::File, K, E>,
     names: &[Vec<u8>],
 ) -> Result<bool, Fault>
-    ensures { IfOk result (λ all_hold. AllInTurn (IsChecked
+    ensures checked { AllInTurn (IsChecked
         (world_of D.File.failed (D.files host.now.disk) H.hashing) options.now)
-        (map (λ name. name.items) names.now) session.old session.new all_hold) }
+        (map (λ name. name.items) names.now) session.old session.new (result_ok result) }
+    ensures write { IsErrOf result Fault.WriteFailed → session.new.output_failed ≡ true }
 {
     let mut all_hold = true;
     for name in names {
@@ -148,23 +157,28 @@ pub fn check_manifests<H: Hashes, D: Disk, K: Output, E: Sink>(
     Ok(all_hold)
 }
 
-/// Checks the manifest of this name, or standard input for `-`. Returns whether it has an entry
-/// that is equal and none that differs or cannot be read.
+/// Checks the manifest of this name, or standard input for `-`, line by line as it is read. Returns
+/// whether it has an entry that is equal and none that differs or cannot be read. After an error
+/// the lines before it are printed, and of the next nothing or a part.
 pub fn check_manifest<H: Hashes, D: Disk, K: Output, E: Sink>(
     host: &Host<H, D>,
     options: &Options,
     session: &mut Session<D::File, K, E>,
     name: &[u8],
 ) -> Result<bool, Fault>
-    ensures { IfOk result (IsChecked (world_of D.File.failed (D.files host.now.disk) H.hashing)
-        options.now name.now session.old session.new) }
+    ensures checked { IsChecked (world_of D.File.failed (D.files host.now.disk) H.hashing)
+        options.now name.now session.old session.new (result_ok result) }
+    ensures write { IsErrOf result Fault.WriteFailed → session.new.output_failed ≡ true }
 {
-    let Some(manifest) = read_manifest(host, session, name)? else {
+    let Some(mut manifest) = open_manifest(host, session, name)? else {
         return Ok(false);
     };
-    let counts = check_lines(host, options, session, &manifest)?;
+    let found = check_lines(host, options, session, &mut manifest)?;
     let title = manifest.title.as_slice();
-    if !manifest.is_whole {
+    let lacks = session.lacks;
+    session.lacks = Lacks::none();
+    tell_lacks(host.alloc, options, title, lacks, &mut session.messages)?;
+    let Some(counts) = found else {
         warn(
             host.alloc,
             &mut session.messages,
@@ -173,68 +187,83 @@ pub fn check_manifest<H: Hashes, D: Disk, K: Output, E: Sink>(
             b"read error",
         )?;
         return Ok(false);
-    }
+    };
     report(host.alloc, options, title, &counts, &mut session.messages)?;
     Ok(counts.holds(options.is_strict))
 }
 
-// A manifest that was read.
+// A manifest that is open.
 #[derive(Drop)]
-struct Manifest {
+struct Manifest<F> {
     // The name as messages have it.
     title: Vec<u8>,
-    // It is standard input.
-    is_input: bool,
-    text: Vec<u8>,
-    // It was read to its end.
-    is_whole: bool,
+    // The file, or `None` for standard input.
+    file: Option<F>,
+    lines: LineReader,
 }
 
-// Returns the manifest of this name, or `None` if it cannot be opened, after a message.
-fn read_manifest<H, D: Disk, K: Output, E: Sink>(
+impl<F: OpenFile> Manifest<F> {
+    // Returns whether it is standard input.
+    fn is_input(&self) -> bool
+        ensures { result ≡ is_none self.now.file }
+    {
+        self.file.is_none()
+    }
+
+    // Reads the next line, as `LineReader::read_line` does, from the file or from standard input.
+    fn read_line(&mut self, input: &mut F, line: &mut Vec<u8>) -> Result<LineEnd, AllocError>
+        ensures passes { IfOk result (λ end. (more : List ℕ) × (rest : Option (List ℕ))
+            × Consumes (source_left F.left self.old.file (F.left input.old)) rest more
+            × IsCutOff end self.old.lines more line.new.items self.new.lines
+            × IsAfter end rest (source_left F.left self.new.file (F.left input.new))
+            ((file : F) × (F.failed file ≡ true))) }
+        ensures same { is_none self.new.file ≡ is_none self.old.file }
+        ensures other { is_none self.old.file ≡ false → input.new ≡ input.old }
+    {
+        match &mut self.file {
+            Some(file) => self.lines.read_line(file, line),
+            None => self.lines.read_line(input, line),
+        }
+    }
+}
+
+// Opens the manifest of this name. The result is `None` if it cannot be opened, after a message.
+fn open_manifest<H, D: Disk, K: Output, E: Sink>(
     host: &Host<H, D>,
     session: &mut Session<D::File, K, E>,
     name: &[u8],
-) -> Result<Option<Manifest>, Fault>
+) -> Result<Option<Manifest<D::File>>, Fault>
     ensures quiet { IsQuiet session.old session.new }
+    ensures left { session.new.left ≡ session.old.left }
     ensures none { IfOk result (λ found. found ≡ None
-        → ((is_dash name.now ≡ false) × ((D.files host.now.disk).refuses name.now ≡ true))
-        × (session.new.left ≡ session.old.left)) }
-    ensures input { IfOk result (λ found. IfSome found (λ m. m.is_input ≡ is_dash name.now)) }
-    ensures part { IfOk result (λ found. IfSome found (λ m. m.is_whole ≡ false
-        → (file : D.File) × (D.File.failed file ≡ true))) }
-    ensures begins { IfOk result (λ found. IfSome found (λ m. m.is_whole ≡ false
-        → IsBegun (is_dash name.now) ((D.files host.now.disk).holds name.now)
-        session.old.left m.text.items)) }
-    ensures text { IfOk result (λ found. IfSome found (λ m. m.is_whole ≡ true
-        → IsText (is_dash name.now) ((D.files host.now.disk).holds name.now)
-        session.old.left session.new.left m.text.items)) }
+        → (is_dash name.now ≡ false) × ((D.files host.now.disk).refuses name.now ≡ true)) }
+    ensures input { IfOk result (λ found. IfSome found
+        (λ m. is_none m.file ≡ is_dash name.now)) }
+    ensures start { IfOk result (λ found. IfSome found (λ m. (m.lines ≡ [])
+        × (source_left D.File.left m.file session.old.left ≡ (if is_dash name.now
+        then session.old.left else (D.files host.now.disk).holds name.now)))) }
+    ensures memory { IsOkUnless result Fault.NoMemory }
 {
     let title = quoted_name(host.alloc, title_of(name))?;
-    let mut text = Vec::new(host.alloc);
+    let lines = LineReader::new(host.alloc)?;
     if is_dash(name) {
-        let is_whole = read_whole(&mut session.input, session.buffer.as_mut_slice(), &mut text)?;
         return Ok(Some(Manifest {
             title,
-            is_input: true,
-            text,
-            is_whole,
+            file: None,
+            lines,
         }));
     }
-    let mut file = match host.disk.open(host.alloc, name) {
-        Ok(file) => file,
+    match host.disk.open(host.alloc, name) {
+        Ok(file) => Ok(Some(Manifest {
+            title,
+            file: Some(file),
+            lines,
+        })),
         Err(error) => {
             warn_of_file(host.alloc, error, &mut session.messages, name)?;
-            return Ok(None);
+            Ok(None)
         }
-    };
-    let is_whole = read_whole(&mut file, session.buffer.as_mut_slice(), &mut text)?;
-    Ok(Some(Manifest {
-        title,
-        is_input: false,
-        text,
-        is_whole,
-    }))
+    }
 }
 
 // Returns the name of a manifest as messages have it, before it is quoted.
@@ -246,58 +275,55 @@ fn title_of(name: &[u8]) -> &[u8] {
     }
 }
 
-// Reads the source to its end. Returns whether no read failed. The error is `Fault::NoMemory`.
-fn read_whole<S: Source>(
-    source: &mut S,
-    buffer: &mut [u8],
-    text: &mut Vec<u8>,
-) -> Result<bool, Fault>
-    requires room { 0 < length buffer.old }
-    ensures part { IfOk result (λ is_whole. is_whole ≡ false → S.failed source.new ≡ true) }
-    ensures begins { IfOk result (λ is_whole. is_whole ≡ false → (more : List ℕ)
-        × (text.new.items ≡ text.old.items ++ more)
-        × (rest : Option (List ℕ)) × Consumes (S.left source.old) rest more) }
-    ensures whole { IfOk result (λ is_whole. is_whole ≡ true → (more : List ℕ)
-        × (text.new.items ≡ text.old.items ++ more)
-        × Consumes (S.left source.old) (S.left source.new) more
-        × IsAtEnd (S.left source.new)) }
-{
-    for _ in 0..u64::MAX {
-        let Ok(count) = source.read(buffer) else {
-            return Ok(false);
-        };
-        if count == 0 {
-            return Ok(true);
-        }
-        text.extend_from_slice(&buffer[..count])?;
-    }
-    Err(Fault::NoMemory)
-}
-
-// Checks each line of a manifest, and prints what became of the entries.
+// Checks each line of a manifest when it is read, and prints what became of the entries. The result
+// is `None` if a read failed, after the lines before that.
 fn check_lines<H: Hashes, D: Disk, K: Output, E: Sink>(
     host: &Host<H, D>,
     options: &Options,
     session: &mut Session<D::File, K, E>,
-    manifest: &Manifest,
-) -> Result<Counts, Fault>
-    ensures { IfOk result (λ counts. (vs : List verdict.Verdict)
-        × InTurn (IsLine (world_of D.File.failed (D.files host.now.disk) H.hashing)
-        options.now manifest.now.is_input) (lines_of manifest.now.text.items)
+    manifest: &mut Manifest<D::File>,
+) -> Result<Option<Counts>, Fault>
+    requires { manifest.old.lines ≡ [] }
+    ensures lines { IfOk result (λ found. (rest : Option (List ℕ)) × (vs : List verdict.Verdict)
+        × AreRead (world_of D.File.failed (D.files host.now.disk) H.hashing) options.now
+        (is_none manifest.old.file)
+        (source_left D.File.left manifest.old.file session.old.left) rest
         session.old session.new vs
-        × AreCounted vs counts) }
+        × EndsAt found vs rest (source_left D.File.left manifest.new.file session.new.left)
+        ((file : D.File) × (D.File.failed file ≡ true))) }
+    ensures stopped { IsErr result → AreStopped
+        (world_of D.File.failed (D.files host.now.disk) H.hashing) options.now
+        (is_none manifest.old.file)
+        (source_left D.File.left manifest.old.file session.old.left) session.old session.new }
+    ensures file { is_none manifest.new.file ≡ is_none manifest.old.file }
+    ensures write { IsErrOf result Fault.WriteFailed → session.new.output_failed ≡ true }
 {
     let mut counts = Counts::none();
-    let mut number = 0u64;
-    let mut rest = manifest.text.as_slice();
-    'lines: while !rest.is_empty() {
-        let (line, after) = split_line(rest);
-        rest = after;
-        number = number.saturating_add(1);
-        let verdict = check_line(host, options, session, manifest, line, number)?;
+    let mut line = Vec::new(host.alloc);
+    for number in 1..u64::MAX {
+        let end = manifest.read_line(&mut session.input, &mut line)?;
+        if end != LineEnd::Newline && line.is_empty() {
+            return Ok(counted(end, counts));
+        }
+        let verdict = check_line(host, options, session, manifest, line.as_slice(), number)?;
         counts.add(verdict);
+        if end != LineEnd::Newline {
+            return Ok(counted(end, counts));
+        }
     }
-    Ok(counts)
+    Err(Fault::NoMemory)
+}
+
+// Returns the counts of a manifest that is at its end, and `None` if a read failed.
+fn counted(end: LineEnd, counts: Counts) -> Option<Counts>
+    ensures last { end ≢ Failure → result ≡ Some counts }
+    ensures failure { end ≡ Failure → result ≡ None }
+{
+    if end == LineEnd::Failure {
+        None
+    } else {
+        Some(counts)
+    }
 }
 
 // Checks a line of a manifest, the one of this number.
@@ -305,23 +331,24 @@ fn check_line<H: Hashes, D: Disk, K: Output, E: Sink>(
     host: &Host<H, D>,
     options: &Options,
     session: &mut Session<D::File, K, E>,
-    manifest: &Manifest,
+    manifest: &Manifest<D::File>,
     line: &[u8],
     number: u64,
 ) -> Result<Verdict, Fault>
-    ensures { IfOk result (IsLine (world_of D.File.failed (D.files host.now.disk) H.hashing)
-        options.now manifest.now.is_input line.now session.old session.new) }
+    ensures checked { IfOk result (IsLine
+        (world_of D.File.failed (D.files host.now.disk) H.hashing)
+        options.now (is_none manifest.now.file) line.now session.old session.new) }
+    ensures begun { IsErr result → BeginsLine
+        (world_of D.File.failed (D.files host.now.disk) H.hashing)
+        options.now (is_none manifest.now.file) line.now session.old session.new }
+    ensures write { IsErrOf result Fault.WriteFailed → session.new.output_failed ≡ true }
 {
-    let item = read_item(
-        host.alloc,
-        options,
-        session.spacing,
-        manifest.is_input,
-        line,
-    )?;
+    let is_input = manifest.is_input();
+    let item = read_item(host.alloc, options, session.spacing, is_input, line)?;
     match item {
         Item::Comment => Ok(Verdict::Comment),
-        Item::Malformed => {
+        Item::Malformed(lacks) => {
+            session.lacks.add(lacks);
             let title = manifest.title.as_slice();
             warn_of_line(host.alloc, options, title, number, &mut session.messages)?;
             Ok(Verdict::Malformed)
@@ -340,12 +367,12 @@ enum Item {
     Comment,
     /// The line of an entry.
     Listed(Entry),
-    /// Another line.
-    Malformed,
+    /// Another line, and what it lacks to be checked, if anything can be said of that.
+    Malformed(Lacks),
 }
 
-// Returns what a line is. An entry has the length that the options demand. In a manifest on standard
-// input, no entry is for standard input.
+// Returns what a line is. An entry has the length that the options demand. In a manifest on
+// standard input, no entry is for standard input.
 fn read_item(
     alloc: Global,
     options: &Options,
@@ -356,23 +383,30 @@ fn read_item(
     ensures is { IfOk result
         (λ i. item_value i ≡ item options.now is_input spacing line.now) }
     ensures fits { IfOk result (λ i. IfListed i (λ e. length e.digest.items ≤ 64)) }
+    ensures memory { IsOkUnless result Fault.NoMemory }
 {
     let Some(line) = trimmed(line) else {
         return Ok(Item::Comment);
     };
     match read_line(alloc, options.algorithm, spacing, line)? {
         Some(entry) if is_checkable(options, is_input, &entry) => Ok(Item::Listed(entry)),
-        _ => Ok(Item::Malformed),
+        Some(entry) => Ok(Item::Malformed(Lacks::of(options, &entry))),
+        None => Ok(Item::Malformed(Lacks::none())),
     }
 }
 
 // Returns whether the entry can be checked.
 fn is_checkable(options: &Options, is_input: bool, entry: &Entry) -> bool
     ensures { result ≡ (has_demanded_length options.now entry.now.digest.items
-        && not (is_input && is_dash entry.now.name.items)) }
+        && (has_needs options.now entry.now.style
+        && (has_algorithm options.now entry.now.algorithm
+        && not (is_input && is_dash entry.now.name.items)))) }
 {
     let has_length = !options.demands_length || entry.digest.len() == options.bytes;
-    has_length && !(is_input && is_dash(entry.name.as_slice()))
+    has_length
+        && has_needs(options, entry.style)
+        && has_algorithm(options, entry.algorithm)
+        && !(is_input && is_dash(entry.name.as_slice()))
 }
 
 // Returns the line without a carriage return at its end, or `None` for a comment and for an empty
@@ -397,7 +431,7 @@ fn spacing_after(spacing: Spacing, style: Style) -> Spacing
     ensures { result ≡ spacing_after spacing style }
 {
     match style {
-        Style::Tagged => spacing,
+        Style::Tagged(_) => spacing,
         Style::Text | Style::Binary => Spacing::Two,
         Style::Bare => Spacing::One,
     }
@@ -417,12 +451,20 @@ fn check_entry<H: Hashes, D: Disk, K: Output, E: Sink>(
     ensures line { IfOk result (λ v. Appends session.old.held session.new.held
         (verdict_line options.now.report (Some (entry_value entry.now)) v)) }
     ensures told { IfOk result (λ v. v ≡ Unread → IsTold session.old session.new) }
+    ensures begun { IsErr result → BeginsVerdict
+        (world_of D.File.failed (D.files host.now.disk) H.hashing) options.now
+        (Some (entry_value entry.now)) session.old session.new }
     ensures spacing { session.new.spacing ≡ session.old.spacing }
+    ensures write { IsErrOf result Fault.WriteFailed → session.new.output_failed ≡ true }
 {
     let mut digest = [0u8; 64];
     let size = entry.digest.len();
     let name = entry.name.as_slice();
-    let read = digest_file(host, options, session, name, size, &mut digest)?;
+    let function = Function {
+        algorithm: entry.algorithm,
+        bytes: size,
+    };
+    let read = digest_file(host, options, session, name, function, &mut digest)?;
     let all = &digest[..];
     let verdict = verdict_of(read, &all[..size], entry.digest.as_slice());
     let outcome = outcome_of(options.report, verdict);
@@ -470,8 +512,11 @@ fn print_outcome<K: Sink>(
     name: &[u8],
     outcome: &[u8],
 ) -> Result<(), Fault>
-    ensures { OnOk result (Appends (K.held output.old) (K.held output.new)
+    ensures whole { OnOk result (Appends (K.held output.old) (K.held output.new)
         (with_name name.now outcome.now)) }
+    ensures part { OnErr result (StopsIn (K.held output.old) (K.held output.new)
+        (with_name name.now outcome.now)) }
+    ensures write { IsErrOf result Fault.WriteFailed → K.failed output.new ≡ true }
 {
     let mut line = Vec::new(alloc);
     if outcome.is_empty() {
@@ -495,7 +540,9 @@ fn warn_of_line<E: Sink>(
     title: &[u8],
     number: u64,
     messages: &mut E,
-) -> Result<(), Fault> {
+) -> Result<(), Fault>
+    ensures memory { IsOkUnless result Fault.NoMemory }
+{
     if options.report != Report::Warnings {
         return Ok(());
     }
@@ -515,7 +562,9 @@ fn report<E: Sink>(
     title: &[u8],
     counts: &Counts,
     messages: &mut E,
-) -> Result<(), Fault> {
+) -> Result<(), Fault>
+    ensures memory { IsOkUnless result Fault.NoMemory }
+{
     if counts.has_no_entry() {
         warn(
             alloc,

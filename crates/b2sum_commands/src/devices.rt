@@ -1,12 +1,13 @@
 //! Files by name, and what is printed where.
 
-ghost use Rattle.std.specs.Prelude.{◌≡◌, true, false, IfOk, IfErr, IsErr, OnOk};
+ghost use Rattle.std.specs.Prelude.{◌≡◌, true, false, IfOk, IfErr, IsErr, OnOk, OnErr};
 ghost use Rattle.std.specs.Io.KnownBytes.{Appends};
 ghost use Rattle.std.specs.IoError.{error_kind};
 ghost use Rattle.std.specs.declared.io.ErrorKind.TheVariants.{NotFound};
-ghost use Rattle.b2sum_commands.specs.World.{IsWritten};
+ghost use Rattle.b2sum_commands.specs.World.{IsWritten, StopsIn};
+ghost use Rattle.b2sum_commands.specs.declared.devices.Fault.TheVariants.{NoMemory, WriteFailed};
 
-use blake2_replay::engine::{DeviceError, Sink, Source, write_whole};
+use blake2_streams::{DeviceError, Sink, Source, write_whole};
 use std::alloc::{AllocError, Global};
 use std::io;
 
@@ -39,6 +40,10 @@ pub trait Disk {
     /// before a key is read.
     fn keep_secrets(&self);
 
+    /// Shows the progress of long reads from now on, as far as the system can. It is called before
+    /// a file is opened.
+    fn show_progress(&self);
+
     /// Opens the file of this name for reading. The error says why it cannot be opened.
     fn open(&self, alloc: Global, name: &[u8]) -> io::Result<Self::File>
         ensures refused { IsErr result → (files self.now).refuses name.now ≡ true }
@@ -59,12 +64,16 @@ pub enum Fault {
 }
 
 impl From<AllocError> for Fault {
+    ghost from_gives = { λ _ fault. fault ≡ NoMemory };
+
     fn from(_: AllocError) -> Fault {
         Fault::NoMemory
     }
 }
 
 impl From<DeviceError> for Fault {
+    ghost from_gives = { λ _ fault. fault ≡ WriteFailed };
+
     fn from(_: DeviceError) -> Fault {
         Fault::WriteFailed
     }
@@ -75,6 +84,7 @@ pub(crate) fn put<K: Sink>(sink: &mut K, text: &[u8]) -> Result<(), DeviceError>
     ensures stays { K.failed sink.old ≡ true → K.failed sink.new ≡ true }
     ensures fails { IsErr result → K.failed sink.new ≡ true }
     ensures whole { OnOk result (Appends (K.held sink.old) (K.held sink.new) text.now) }
+    ensures part { OnErr result (StopsIn (K.held sink.old) (K.held sink.new) text.now) }
 {
     if sink.failed() {
         return Err(DeviceError);

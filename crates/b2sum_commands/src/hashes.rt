@@ -3,11 +3,21 @@
 ghost use Rattle.std.specs.Prelude.{◌≡◌, ◌↔◌, ℕ, ◌<◌, ◌≤◌, ◌^◌, List, length, take, IsTrue, OnOk};
 ghost use Rattle.std.specs.Prelude.{true, false, ◌||◌, IsErr};
 ghost use Rattle.std.specs.Result.{IsErrOf};
-ghost use Rattle.blake2_replay.specs.Streams.{GivesAll};
+ghost use Rattle.blake2_streams.specs.Streams.{GivesAll};
 
 use crate::devices::OpenFile;
 use crate::options::Options;
-use blake2_replay::engine::StreamFault;
+use b2sum_lines::Algorithm;
+use blake2_streams::StreamFault;
+
+/// A hash function, with the length of its digests.
+#[derive(Clone, Copy, Debug, PartialEq, Eq)]
+pub struct Function {
+    /// The algorithm.
+    pub algorithm: Algorithm,
+    /// The number of bytes of a digest, 1 to the most that the algorithm has.
+    pub bytes: usize,
+}
 
 /// Hash functions of what sources return.
 pub trait Hashes {
@@ -16,15 +26,15 @@ pub trait Hashes {
     // The digests of texts.
     ghost hashing: { Hashing };
 
-    /// Writes the digest of all that the source returns at the front of `out`. The digest has
-    /// `bytes` bytes, 1 to the most that the algorithm has. The source is read in pieces of the
+    /// Writes the digest of all that the source returns at the front of `out`, by this function
+    /// with the key, the salt and the persona of the options. The source is read in pieces of the
     /// buffer, which has at least 1 byte and at most 16 MiB. The source must not have failed
     /// before. The error is `StreamFault::Read` if a read returns an error, and `TooLong` if the
     /// source returns 2^64 bytes or more (2^58 for a tree), or if the algorithm refuses a length.
     fn digest_source<S: OpenFile>(
         &self,
         options: &Options,
-        bytes: usize,
+        function: Function,
         source: &mut S,
         buffer: &mut [u8],
         out: &mut [u8; 64],
@@ -34,10 +44,11 @@ pub trait Hashes {
         requires most { length buffer.old ≤ 2 ^ 24 }
         ensures read { IsErrOf result StreamFault.Read ↔ IsTrue (S.failed source.new) }
         ensures refused { IsErr result
-            → (S.failed source.new || hashing.rejects options.now bytes) ≡ true }
+            → (S.failed source.new || hashing.rejects options.now function) ≡ true }
         ensures whole { OnOk result ((text : List ℕ)
             × GivesAll (S.left source.old) (S.left source.new) text
-            × (take bytes out.new ≡ hashing.digest options.now bytes text)) };
+            × (take function.bytes out.new
+            ≡ hashing.digest options.now function text)) };
 
     /// Returns the best length of a buffer, in bytes.
     fn piece_bytes(&self, options: &Options) -> usize

@@ -1,12 +1,13 @@
 //! The key of digests, from a file.
 
-ghost use Rattle.std.specs.Prelude.{◌≡◌, ◌≤◌, length, true, None, IfOk, IfSome};
+ghost use Rattle.std.specs.Prelude.{◌≡◌, ◌⊎◌, ◌≤◌, length, true, None, IfOk, IfSome};
+ghost use Rattle.std.specs.Prelude.{IsOkUnless};
 ghost use Rattle.std.specs.Io.KnownBytes.{Consumes, IsAtEnd};
-ghost use Rattle.b2sum_commands.specs.World.{HasMessage, IsKey};
+ghost use Rattle.b2sum_commands.specs.World.{HasMessage, IsKey, IsNoKey};
 
 use crate::devices::{Disk, Fault, OpenFile};
-use crate::texts::{warn_of_file, warn_of_name};
-use blake2_replay::engine::{Sink, Source};
+use crate::messages::{warn_of_file, warn_of_name};
+use blake2_streams::{Sink, Source};
 use std::alloc::Global;
 
 /// Returns the bytes of the key's file, all of them, at least 1 and at most `most`. For another
@@ -20,9 +21,14 @@ pub(crate) fn read_key<D: Disk, E: Sink>(
 ) -> Result<Option<Vec<u8>>, Fault>
     ensures key { IfOk result (λ key. IfSome key
         (λ bytes. IsKey ((D.files disk.now).holds name.now) most bytes.items)) }
+    ensures cause { IfOk result (λ key. key ≡ None
+        → ((D.files disk.now).refuses name.now ≡ true)
+        ⊎ (IsNoKey ((D.files disk.now).holds name.now) most
+        ⊎ ((file : D.File) × (D.File.failed file ≡ true)))) }
     ensures kept { IfOk result (λ key. IfSome key (λ _. messages.new ≡ messages.old)) }
     ensures told { IfOk result (λ key. key ≡ None → HasMessage (E.failed messages.old)
         (E.failed messages.new) (E.held messages.old) (E.held messages.new)) }
+    ensures memory { IsOkUnless result Fault.NoMemory }
 {
     let mut file = match disk.open(alloc, name) {
         Ok(file) => file,
@@ -44,9 +50,12 @@ pub(crate) fn read_key_from<F: OpenFile, E: Sink>(
 ) -> Result<Option<Vec<u8>>, Fault>
     ensures key { IfOk result (λ key. IfSome key
         (λ bytes. IsKey (F.left file.old) most bytes.items)) }
+    ensures cause { IfOk result (λ key. key ≡ None
+        → IsNoKey (F.left file.old) most ⊎ (F.failed file.new ≡ true)) }
     ensures kept { IfOk result (λ key. IfSome key (λ _. messages.new ≡ messages.old)) }
     ensures told { IfOk result (λ key. key ≡ None → HasMessage (E.failed messages.old)
         (E.failed messages.new) (E.held messages.old) (E.held messages.new)) }
+    ensures memory { IsOkUnless result Fault.NoMemory }
 {
     let Some(key) = read_bytes(alloc, file, most)? else {
         warn_of_file(alloc, file.reason(), messages, name)?;
@@ -56,7 +65,7 @@ pub(crate) fn read_key_from<F: OpenFile, E: Sink>(
         let reason: &[u8] = if most == 64 {
             b"a key has 1 to 64 bytes"
         } else {
-            b"a key of BLAKE2s has 1 to 32 bytes"
+            b"a key of BLAKE2s or BLAKE2sp has 1 to 32 bytes"
         };
         warn_of_name(alloc, messages, name, reason)?;
         return Ok(None);
@@ -65,17 +74,20 @@ pub(crate) fn read_key_from<F: OpenFile, E: Sink>(
 }
 
 // Returns all bytes that the source returns, or more than `most` if it has more. The result is
-// `None` if a read failed. It has a separate frame, so that what it leaves of the key on the stack is
-// below the next read, where C wipes it.
+// `None` if a read failed. It has a separate frame, so that what it leaves of the key on the stack
+// is below the next read, where C wipes it.
 #[inline(never)]
 fn read_bytes<S: Source>(
     alloc: Global,
     source: &mut S,
     most: usize,
 ) -> Result<Option<Vec<u8>>, Fault>
-    ensures { IfOk result (λ found. IfSome found (λ bytes. length bytes.items ≤ most
-        → Consumes (S.left source.old) (S.left source.new) bytes.items
-        × IsAtEnd (S.left source.new))) }
+    ensures given { IfOk result (λ found. IfSome found
+        (λ bytes. Consumes (S.left source.old) (S.left source.new) bytes.items)) }
+    ensures whole { IfOk result (λ found. IfSome found
+        (λ bytes. length bytes.items ≤ most → IsAtEnd (S.left source.new))) }
+    ensures failed { IfOk result (λ found. found ≡ None → S.failed source.new ≡ true) }
+    ensures memory { IsOkUnless result Fault.NoMemory }
 {
     let mut bytes = Vec::with_capacity(alloc, most)?;
     let mut buffer = [0u8; 65];

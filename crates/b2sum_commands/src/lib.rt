@@ -4,20 +4,25 @@
 #![tactic(auto)]
 
 mod check;
+mod choices;
 mod devices;
 mod hashes;
 mod key;
+pub mod laws;
+mod line_needs;
+mod line_reader;
+mod messages;
+mod option_names;
 mod options;
 mod program;
 mod quoting;
 mod session;
 mod sums;
-mod texts;
 mod values;
 
 pub use check::{Counts, Verdict, check_manifest, check_manifests};
 pub use devices::{Disk, Fault, OpenFile, Output};
-pub use hashes::Hashes;
+pub use hashes::{Function, Hashes};
 pub use options::{Options, Report, Shape};
 pub use program::run;
 pub use session::{Host, Session};

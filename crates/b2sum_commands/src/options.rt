@@ -1,33 +1,20 @@
 //! The options of the command line.
 
-ghost use Rattle.std.specs.Prelude.{◌≡◌, ◌≢◌, ◌*◌, ◌≤◌, length, true, false, None, ◌<◌, ◌/◌, IfOk};
-ghost use Rattle.std.specs.Prelude.{IfSome, OnOk, Some, Ok, IfErr, ◌++◌, ◌∷◌, [], map, is_none};
-ghost use Rattle.std.specs.Prelude.{nat_eq};
-ghost use Rattle.b2sum_lines.specs.Lines.{max_bytes, is_tree};
-ghost use Rattle.b2sum_lines.specs.declared.entry.Algorithm.TheVariants.{Blake2b, Blake2s, Tree};
-ghost use Rattle.b2sum_lines.specs.declared.entry.Style.TheVariants.{Tagged, Text, Binary};
-ghost use Rattle.b2sum_commands.specs.declared.options.Report.TheVariants.{Each};
-ghost use Rattle.b2sum_commands.specs.Flags.{long_name, has_value, letter_flag};
-ghost use Rattle.std.specs.List.{starts_with, find, count_by, list_any};
-ghost use Rattle.std.specs.Str.{bytes_eq};
-ghost use Rattle.b2sum_commands.specs.CommandLine.{set_flag, set_value, no_choice, all_flags};
+ghost use Rattle.std.specs.Prelude.{◌≡◌, ◌≤◌, IfOk, OnOk, Some, Ok, IfErr, ◌++◌, ◌∷◌, [], map};
+ghost use Rattle.b2sum_commands.specs.CommandLine.{set_flag, set_value, no_choice};
 ghost use Rattle.b2sum_commands.specs.CommandLine.{flag_named, value_or_next, read_letters};
 ghost use Rattle.b2sum_commands.specs.CommandLine.{read_alone, read_with, read_long, read_any};
 ghost use Rattle.b2sum_commands.specs.CommandLine.{read_next, reading};
-ghost use Rattle.b2sum_commands.specs.Accepted.{accepted, has_length, has_labels, goes_together};
-ghost use Rattle.b2sum_commands.specs.Accepted.{goes_with_check, goes_with_sums, goes_with_files};
-ghost use Rattle.b2sum_commands.specs.Accepted.{chosen_style, chosen_shape};
-ghost use Rattle.b2sum_commands.specs.Sums.{is_dash};
-ghost use Rattle.b2sum_commands.specs.Accepted.{with_leaf, AreOptions, AreArguments, command_line};
+ghost use Rattle.b2sum_commands.specs.Accepted.{AreArguments, command_line};
 ghost use Rattle.b2sum_commands.specs.Readers.{choice_of, next_of, state_of, StopsBy, IsWrong};
-ghost use Rattle.b2sum_commands.specs.Readers.{IsUnfit};
 ghost use Rattle.b2sum_commands.specs.declared.options.Stop.TheVariants.{NoMemory};
 ghost use Rattle.b2sum_commands.specs.declared.options.Next.TheVariants.{Any};
 
+use crate::choices::finish;
+use crate::option_names::{FLAGS, Flag, beginning_flags, exact_flag, first_beginning};
 use crate::quoting::quoted_value;
-use crate::sums::is_dash;
 use crate::values::{algorithm_of, bits_of, bytes_of, leaf_of, threads_of};
-use b2sum_lines::{Algorithm, Style};
+use b2sum_lines::{Algorithm, Needs, Style};
 use std::alloc::{AllocError, Global};
 use text_lines::split_once;
 
@@ -66,9 +53,11 @@ pub struct Options {
     pub demands_length: bool,
     /// The key, which has no bytes if there is none.
     pub key: Vec<u8>,
-    /// The salt: at most 16 bytes, or 8 for BLAKE2s.
+    /// What the digests need besides a file: whether there is a key, a salt and a persona.
+    pub needs: Needs,
+    /// The salt: at most 16 bytes, or 8 for BLAKE2s and BLAKE2sp.
     pub salt: Vec<u8>,
-    /// The persona: at most 16 bytes, or 8 for BLAKE2s.
+    /// The persona: at most 16 bytes, or 8 for BLAKE2s and BLAKE2sp.
     pub persona: Vec<u8>,
     /// The files are manifests, which are checked.
     pub checks: bool,
@@ -123,122 +112,6 @@ impl From<AllocError> for Stop {
     }
 }
 
-#[derive(Clone, Copy, Debug, PartialEq, Eq)]
-enum Flag {
-    Algorithm,
-    Length,
-    KeyFile,
-    Personal,
-    Salt,
-    Tree,
-    Threads,
-    Progress,
-    NoNames,
-    Raw,
-    Check,
-    IgnoreMissing,
-    Quiet,
-    Status,
-    Warn,
-    Strict,
-    Tag,
-    Zero,
-    Binary,
-    Text,
-    Help,
-    Version,
-}
-
-impl Flag {
-    // Returns the name of the long option.
-    fn name(self) -> &'static [u8]
-        ensures { result.now ≡ long_name self }
-    {
-        match self {
-            Flag::Algorithm => b"algorithm",
-            Flag::Length => b"length",
-            Flag::KeyFile => b"key-file",
-            Flag::Personal => b"personal",
-            Flag::Salt => b"salt",
-            Flag::Tree => b"tree",
-            Flag::Threads => b"threads",
-            Flag::Progress => b"progress",
-            Flag::NoNames => b"no-names",
-            Flag::Raw => b"raw",
-            Flag::Check => b"check",
-            Flag::IgnoreMissing => b"ignore-missing",
-            Flag::Quiet => b"quiet",
-            Flag::Status => b"status",
-            Flag::Warn => b"warn",
-            Flag::Strict => b"strict",
-            Flag::Tag => b"tag",
-            Flag::Zero => b"zero",
-            Flag::Binary => b"binary",
-            Flag::Text => b"text",
-            Flag::Help => b"help",
-            Flag::Version => b"version",
-        }
-    }
-
-    // Returns whether the option has a value.
-    fn has_value(self) -> bool
-        ensures { result ≡ has_value self }
-    {
-        matches!(
-            self,
-            Flag::Algorithm
-                | Flag::Length
-                | Flag::KeyFile
-                | Flag::Personal
-                | Flag::Salt
-                | Flag::Tree
-                | Flag::Threads
-        )
-    }
-
-    // Returns the option of this letter, or `None` if there is none.
-    fn from_letter(letter: u8) -> Option<Flag>
-        ensures { result ≡ letter_flag letter }
-    {
-        match letter {
-            b'a' => Some(Flag::Algorithm),
-            b'l' => Some(Flag::Length),
-            b'c' => Some(Flag::Check),
-            b'w' => Some(Flag::Warn),
-            b'z' => Some(Flag::Zero),
-            b'b' => Some(Flag::Binary),
-            b't' => Some(Flag::Text),
-            _ => None,
-        }
-    }
-}
-
-// The long options, in the order in which messages list them.
-static FLAGS: [Flag; 22] = [
-    Flag::Length,
-    Flag::Check,
-    Flag::IgnoreMissing,
-    Flag::Quiet,
-    Flag::Status,
-    Flag::Warn,
-    Flag::Strict,
-    Flag::Tag,
-    Flag::Zero,
-    Flag::Binary,
-    Flag::Text,
-    Flag::Algorithm,
-    Flag::KeyFile,
-    Flag::Personal,
-    Flag::Salt,
-    Flag::Tree,
-    Flag::Threads,
-    Flag::Progress,
-    Flag::NoNames,
-    Flag::Raw,
-    Flag::Help,
-    Flag::Version,
-];
-
 // Joins the parts.
 pub(crate) fn joined(alloc: Global, a: &[u8], b: &[u8], c: &[u8]) -> Result<Vec<u8>, AllocError>
     ensures { IfOk result (λ text. text.items ≡ a.now ++ (b.now ++ c.now)) }
@@ -250,27 +123,27 @@ pub(crate) fn joined(alloc: Global, a: &[u8], b: &[u8], c: &[u8]) -> Result<Vec<
     Ok(text)
 }
 
-// The options while they are read. Lengths have to fit the algorithm only at the end.
+/// The options while they are read. Lengths have to fit the algorithm only at the end.
 #[derive(Drop)]
-struct Reader {
-    algorithm: Algorithm,
-    leaf: Option<u32>,
-    bits: u64,
-    bits_text: Vec<u8>,
-    key_file: Option<Vec<u8>>,
-    salt: Vec<u8>,
-    persona: Vec<u8>,
-    checks: bool,
-    is_binary: Option<bool>,
-    is_tagged: bool,
-    ends_zero: bool,
-    ignores_missing: bool,
-    report: Report,
-    is_strict: bool,
-    threads: u32,
-    shows_progress: bool,
-    has_no_names: bool,
-    is_raw: bool,
+pub(crate) struct Reader {
+    pub(crate) algorithm: Algorithm,
+    pub(crate) leaf: Option<u32>,
+    pub(crate) bits: u64,
+    pub(crate) bits_text: Vec<u8>,
+    pub(crate) key_file: Option<Vec<u8>>,
+    pub(crate) salt: Vec<u8>,
+    pub(crate) persona: Vec<u8>,
+    pub(crate) checks: bool,
+    pub(crate) is_binary: Option<bool>,
+    pub(crate) is_tagged: bool,
+    pub(crate) ends_zero: bool,
+    pub(crate) ignores_missing: bool,
+    pub(crate) report: Report,
+    pub(crate) is_strict: bool,
+    pub(crate) threads: u32,
+    pub(crate) shows_progress: bool,
+    pub(crate) has_no_names: bool,
+    pub(crate) is_raw: bool,
 }
 
 impl Reader {
@@ -462,33 +335,6 @@ fn long_flag(alloc: Global, name: &[u8], word: &[u8]) -> Result<Flag, Stop>
     Err(Stop::Usage(ambiguous(alloc, name, word)?))
 }
 
-// Returns the option of this long name.
-fn exact_flag(name: &[u8]) -> Option<Flag>
-    ensures { result ≡ find (λ f. bytes_eq (long_name f) name.now) all_flags }
-{
-    FLAGS.iter().copied().find(|flag| flag.name() == name)
-}
-
-// Returns the first option whose long name begins with these bytes.
-fn first_beginning(name: &[u8]) -> Option<Flag>
-    ensures { result ≡ find (λ f. starts_with nat_eq (long_name f) name.now) all_flags }
-{
-    FLAGS
-        .iter()
-        .copied()
-        .find(|flag| flag.name().starts_with(name))
-}
-
-// Returns the number of options whose long names begin with these bytes.
-fn beginning_flags(name: &[u8]) -> usize
-    ensures { result ≡ count_by (λ f. starts_with nat_eq (long_name f) name.now) all_flags }
-{
-    FLAGS
-        .iter()
-        .filter(|flag| flag.name().starts_with(name))
-        .count()
-}
-
 // Returns the message of a name with which several long options begin.
 fn ambiguous(alloc: Global, name: &[u8], word: &[u8]) -> Result<Vec<u8>, AllocError> {
     let mut text = joined(
@@ -603,285 +449,6 @@ fn take_value(alloc: Global, reader: &mut Reader, flag: Flag, value: &[u8]) -> R
         _ => {}
     }
     Ok(())
-}
-
-// Checks the options against one another.
-fn finish(alloc: Global, reader: Reader, files: Vec<Vec<u8>>) -> Result<Arguments, Stop>
-    ensures size { IfOk result (λ a. a.options.bytes ≤ 64) }
-    ensures accepted { OnOk result
-        (accepted (choice_of reader) (map (λ file. file.items) files.items) ≡ true) }
-    ensures options { IfOk result (λ a. AreOptions (choice_of reader) a.options) }
-    ensures no_key { IfOk result (λ a. a.options.key.items ≡ []) }
-    ensures files { IfOk result (λ a. a.files ≡ files) }
-    ensures key_file { IfOk result (λ a. a.key_file ≡ reader.key_file) }
-    ensures stop { IfErr result
-        (IsUnfit (accepted (choice_of reader) (map (λ file. file.items) files.items))) }
-{
-    check_length(alloc, &reader)?;
-    if let Some(text) = conflict(&reader) {
-        return Err(Stop::Usage(joined(alloc, text, b"", b"")?));
-    }
-    check_labels(alloc, &reader)?;
-    if let Some(text) = conflict_of_files(&reader, files.as_slice()) {
-        return Err(Stop::Usage(joined(alloc, text, b"", b"")?));
-    }
-    let bytes = output_bytes(&reader);
-    let demands_length = reader.bits != 0 || reader.key_file.is_some();
-    let shape = shape_of(&reader);
-    let style = style_of(&reader);
-    let chosen = chosen_algorithm(&reader);
-    let Reader {
-        algorithm: _,
-        leaf: _,
-        bits: _,
-        bits_text: _,
-        key_file,
-        salt,
-        persona,
-        checks,
-        is_binary: _,
-        is_tagged: _,
-        ends_zero,
-        ignores_missing,
-        report,
-        is_strict,
-        threads,
-        shows_progress,
-        has_no_names: _,
-        is_raw: _,
-    } = reader;
-    let options = Options {
-        algorithm: chosen,
-        bytes,
-        demands_length,
-        key: Vec::new(alloc),
-        salt,
-        persona,
-        checks,
-        shape,
-        style,
-        ends_zero,
-        ignores_missing,
-        report,
-        is_strict,
-        threads,
-        shows_progress,
-    };
-    Ok(Arguments {
-        options,
-        files,
-        key_file,
-    })
-}
-
-// Returns the algorithm, with the leaves of a tree.
-fn chosen_algorithm(reader: &Reader) -> Algorithm
-    ensures is { result ≡ with_leaf reader.now.algorithm reader.now.leaf }
-    ensures most { (reader.now.leaf ≢ None → reader.now.algorithm ≢ Blake2s)
-        → max_bytes result ≡ max_bytes reader.now.algorithm }
-    ensures leaf { is_tree result ≡ false → reader.now.leaf ≡ None }
-    ensures plain { reader.now.leaf ≡ None → result ≡ reader.now.algorithm }
-    ensures tree { IfSome reader.now.leaf (λ leaf. result ≡ Tree leaf) }
-{
-    match reader.leaf {
-        Some(leaf) => Algorithm::Tree(leaf),
-        None => reader.algorithm,
-    }
-}
-
-// Returns the number of bytes of the digests that are printed, at most 64.
-fn output_bytes(reader: &Reader) -> usize
-    ensures size { result ≤ 64 }
-    ensures most { result ≤ max_bytes reader.now.algorithm }
-    ensures whole { reader.now.bits ≡ 0 → result ≡ max_bytes reader.now.algorithm }
-    ensures given { reader.now.bits ≢ 0 → reader.now.bits ≤ 8 * max_bytes reader.now.algorithm
-        → result ≡ reader.now.bits / 8 }
-{
-    let most = reader.algorithm.max_bytes();
-    if reader.bits == 0 {
-        most
-    } else {
-        ((reader.bits / 8) as usize).min(most)
-    }
-}
-
-fn shape_of(reader: &Reader) -> Shape
-    ensures { result ≡ chosen_shape (choice_of reader.now) }
-{
-    if reader.is_raw {
-        Shape::Bytes
-    } else if reader.has_no_names {
-        Shape::Digits
-    } else {
-        Shape::Named
-    }
-}
-
-fn style_of(reader: &Reader) -> Style
-    ensures is { result ≡ chosen_style (choice_of reader.now) }
-    ensures tagged { reader.now.leaf ≢ None → result ≡ Tagged }
-    ensures text { reader.now.leaf ≡ None → reader.now.is_tagged ≡ false
-        → reader.now.is_binary ≡ None → result ≡ Text }
-    ensures tags { reader.now.is_tagged ≡ true → result ≡ Tagged }
-    ensures binary { reader.now.leaf ≡ None → reader.now.is_tagged ≡ false
-        → reader.now.is_binary ≡ Some true → result ≡ Binary }
-    ensures plain { reader.now.leaf ≡ None → reader.now.is_tagged ≡ false
-        → reader.now.is_binary ≢ Some true → result ≡ Text }
-{
-    if reader.is_tagged || reader.leaf.is_some() {
-        Style::Tagged
-    } else if reader.is_binary == Some(true) {
-        Style::Binary
-    } else {
-        Style::Text
-    }
-}
-
-// Refuses a length that the algorithm does not have.
-fn check_length(alloc: Global, reader: &Reader) -> Result<(), Stop>
-    ensures length { OnOk result (has_length (choice_of reader.now) ≡ true) }
-    ensures bits { OnOk result (reader.now.bits ≤ 8 * max_bytes reader.now.algorithm) }
-    ensures stop { IfErr result (IsUnfit (has_length (choice_of reader.now))) }
-{
-    if reader.bits <= 8 * reader.algorithm.max_bytes() as u64 {
-        return Ok(());
-    }
-    let first = joined(alloc, b"invalid length: ", reader.bits_text.as_slice(), b"")?;
-    let second: &[u8] = if reader.algorithm == Algorithm::Blake2s {
-        b"maximum digest length for 'BLAKE2s' is 256 bits"
-    } else {
-        b"maximum digest length for 'BLAKE2b' is 512 bits"
-    };
-    Err(Stop::Value(first, joined(alloc, second, b"", b"")?))
-}
-
-// Refuses a salt and a persona that are longer than the algorithm's.
-fn check_labels(alloc: Global, reader: &Reader) -> Result<(), Stop>
-    ensures labels { OnOk result (has_labels (choice_of reader.now) ≡ true) }
-    ensures salt { OnOk result
-        (4 * length reader.now.salt.items ≤ max_bytes reader.now.algorithm) }
-    ensures persona { OnOk result
-        (4 * length reader.now.persona.items ≤ max_bytes reader.now.algorithm) }
-    ensures stop { IfErr result (IsUnfit (has_labels (choice_of reader.now))) }
-{
-    let most = reader.algorithm.max_bytes() / 4;
-    let reason: &[u8] = if reader.salt.len() > most {
-        b"the salt is too long: at most 16 bytes, 8 for BLAKE2s"
-    } else if reader.persona.len() > most {
-        b"the personalization is too long: at most 16 bytes, 8 for BLAKE2s"
-    } else {
-        return Ok(());
-    };
-    Err(Stop::Usage(joined(alloc, reason, b"", b"")?))
-}
-
-// Returns the message of options that do not go together.
-fn conflict(reader: &Reader) -> Option<&'static [u8]>
-    ensures is { is_none result ≡ goes_together (choice_of reader.now) }
-    ensures tree { result ≡ None → reader.now.leaf ≢ None → reader.now.algorithm ≢ Blake2s }
-    ensures check { result ≡ None → reader.now.checks ≡ true → (reader.now.ends_zero ≡ false)
-        × (reader.now.is_tagged ≡ false) × (reader.now.is_binary ≡ None) }
-    ensures sums { result ≡ None → reader.now.checks ≡ false
-        → (reader.now.ignores_missing ≡ false) × (reader.now.is_strict ≡ false)
-        × (reader.now.report ≡ Each) }
-{
-    if reader.is_tagged && reader.is_binary == Some(false) {
-        return Some(b"--tag does not support --text mode");
-    }
-    if reader.is_tagged && (reader.has_no_names || reader.is_raw) {
-        return Some(b"--tag does not support --no-names and --raw");
-    }
-    if reader.leaf.is_some() {
-        if reader.algorithm == Algorithm::Blake2s {
-            return Some(b"the --tree option supports blake2b only");
-        }
-        if reader.key_file.is_some() {
-            return Some(b"the --tree option does not support --key-file");
-        }
-        if reader.is_binary == Some(false) && !reader.checks {
-            return Some(b"--tree does not support --text mode");
-        }
-    }
-    if reader.checks {
-        conflict_of_check(reader)
-    } else {
-        conflict_of_sums(reader)
-    }
-}
-
-fn conflict_of_check(reader: &Reader) -> Option<&'static [u8]>
-    ensures is { is_none result ≡ goes_with_check (choice_of reader.now) }
-    ensures check { result ≡ None → (reader.now.ends_zero ≡ false)
-        × (reader.now.is_tagged ≡ false) × (reader.now.is_binary ≡ None) }
-{
-    if reader.ends_zero {
-        return Some(b"the --zero option is not supported when verifying checksums");
-    }
-    if reader.is_tagged {
-        return Some(b"the --tag option is meaningless when verifying checksums");
-    }
-    if reader.is_binary.is_some() {
-        return Some(b"the --binary and --text options are meaningless when verifying checksums");
-    }
-    if reader.has_no_names || reader.is_raw {
-        return Some(b"the --no-names and --raw options are meaningless when verifying checksums");
-    }
-    None
-}
-
-// Returns the message of options that do not go with these files.
-fn conflict_of_files(reader: &Reader, files: &[Vec<u8>]) -> Option<&'static [u8]>
-    ensures { is_none result ≡ goes_with_files (choice_of reader.now)
-        (map (λ file. file.items) files.now) }
-{
-    if reader.is_raw && files.len() != 1 {
-        return Some(b"the --raw option needs one file");
-    }
-    if let Some(name) = &reader.key_file
-        && is_dash(name.as_slice())
-        && has_dash(files)
-    {
-        return Some(b"standard input is the key, and cannot be a file too");
-    }
-    None
-}
-
-// Returns whether standard input is one of the files.
-fn has_dash(files: &[Vec<u8>]) -> bool
-    ensures { result ≡ list_any is_dash (map (λ file. file.items) files.now) }
-{
-    for file in files {
-        if is_dash(file.as_slice()) {
-            return true;
-        }
-    }
-    false
-}
-
-fn conflict_of_sums(reader: &Reader) -> Option<&'static [u8]>
-    ensures is { is_none result ≡ goes_with_sums (choice_of reader.now) }
-    ensures sums { result ≡ None → (reader.now.ignores_missing ≡ false)
-        × (reader.now.is_strict ≡ false) × (reader.now.report ≡ Each) }
-{
-    if reader.ignores_missing {
-        return Some(b"the --ignore-missing option is meaningful only when verifying checksums");
-    }
-    match reader.report {
-        Report::Nothing => {
-            return Some(b"the --status option is meaningful only when verifying checksums");
-        }
-        Report::Warnings => {
-            return Some(b"the --warn option is meaningful only when verifying checksums");
-        }
-        Report::Failures => {
-            return Some(b"the --quiet option is meaningful only when verifying checksums");
-        }
-        Report::Each => {}
-    }
-    if reader.is_strict {
-        return Some(b"the --strict option is meaningful only when verifying checksums");
-    }
-    None
 }
 
 // Returns a copy of the bytes.

@@ -1,31 +1,36 @@
 //! The run of the program.
 
-ghost use Rattle.std.specs.Prelude.{◌≡◌, ◌⊎◌, ◌≤◌, map, true, false, None, Err, IfOk, IfSome, OnOk};
+ghost use Rattle.std.specs.Prelude.{◌≡◌, ◌≤◌, map, None, Err, IfOk, IfSome, OnOk};
+ghost use Rattle.std.specs.Prelude.{IsErrOf, IsOkUnless, true};
+ghost use Rattle.std.specs.Prelude.{ℕ, Bool, Option, List, [], ◌∷◌, ◌++◌, codes};
 ghost use Rattle.std.specs.Option.{option_map};
+ghost use Rattle.std.specs.Result.{result_ok};
 ghost use Rattle.b2sum_commands.specs.CommandLine.{Choice, Refused};
 ghost use Rattle.b2sum_commands.specs.Accepted.{AreOptions, command_line};
-ghost use Rattle.b2sum_commands.specs.World.{world_of, HasMessage, IsTold, IsReported};
-ghost use Rattle.b2sum_commands.specs.Runs.{DoesChoice, DoesLine, HasKey, AfterKey};
-ghost use Rattle.b2sum_commands.specs.Readers.{IsPrinted, IsRefusal, IsKept};
+ghost use Rattle.b2sum_commands.specs.World.{world_of, HasMessage, HasMore, IsTold, IsWritten};
+ghost use Rattle.b2sum_commands.specs.Runs.{DoesChoice, DoesLine, HasKey, AfterKey, IsKeyless};
+ghost use Rattle.b2sum_commands.specs.Runs.{RunsLine, status_of};
+ghost use Rattle.b2sum_lines.specs.Lines.{max_bytes};
+ghost use Rattle.b2sum_commands.specs.Readers.{IsPrinted};
 
 use crate::check::check_manifests;
 use crate::devices::{Disk, Fault, OpenFile, Output, put, tell};
 use crate::hashes::Hashes;
 use crate::key::{read_key, read_key_from};
+use crate::messages::{reason_of, warn};
 use crate::options::{Arguments, Options, Stop, read_arguments};
 use crate::session::{Host, Session};
 use crate::sums::{is_dash, print_sums};
-use crate::texts::{reason_of, warn};
-use blake2_replay::engine::Sink;
+use blake2_streams::Sink;
 use std::alloc::{AllocError, Global};
 use std::io;
 
 const HELP: &[u8] = b"Usage: b2sum [OPTION].. [FILE]..
 Print or check BLAKE2 digests. With no FILE, or if FILE is -, read standard input.
 
-  -a, --algorithm NAME  blake2b (the default) or blake2s
-  -l, --length BITS     length of the digests: a multiple of 8, at most 512 for blake2b
-                        and 256 for blake2s
+  -a, --algorithm NAME  blake2b (the default), blake2s, blake2bp or blake2sp
+  -l, --length BITS     length of the digests: a multiple of 8, at most 512, or 256 for blake2s
+                        and blake2sp
   -b, --binary          print * before each name
   -t, --text            print a space before each name (the default)
       --tag             print lines that name the algorithm
@@ -33,10 +38,10 @@ Print or check BLAKE2 digests. With no FILE, or if FILE is -, read standard inpu
       --no-names        print only the digits of each digest
       --raw             print only the bytes of the digest of one FILE
       --key-file FILE   use the bytes of the file, or of standard input if it is -, as the key:
-                        at most 64, 32 for blake2s
-      --salt HEX        use this salt: at most 16 bytes, 8 for blake2s
-      --personal HEX    use this personalization: at most 16 bytes, 8 for blake2s
-      --tree LEAF       print roots of trees with leaves of LEAF bytes, in lines that say so
+                        at most 64, or 32 for blake2s and blake2sp
+      --salt HEX        use this salt: at most 16 bytes, or 8 for blake2s and blake2sp
+      --personal HEX    use this personalization: at most 16 bytes, or 8 for blake2s and blake2sp
+      --tree LEAF       print roots of trees of blake2b with leaves of LEAF bytes
   -c, --check           read digests from the FILEs and check them
       --ignore-missing  do not fail for missing files
       --quiet           do not print OK
@@ -65,26 +70,23 @@ pub fn run<H: Hashes, D: Disk, K: Output, E: Sink>(
     words: &[Vec<u8>],
 ) -> u8
     ensures status { result ≤ 1 }
-    ensures success { result ≡ 0 → DoesLine (world_of D.File.failed (D.files host.now.disk) H.hashing)
-        HELP.now VERSION.now (command_line (map (λ word. word.items) words.now))
-        session.old session.new true }
-    ensures failure { result ≡ 1 → DoesLine (world_of D.File.failed (D.files host.now.disk) H.hashing)
-        HELP.now VERSION.now (command_line (map (λ word. word.items) words.now))
-        session.old session.new false ⊎ IsReported E.failed E.held session.old session.new }
+    ensures line { (end : Option Bool) × (result ≡ status_of end) × RunsLine
+        (world_of D.File.failed (D.files host.now.disk) H.hashing) HELP.now VERSION.now
+        (command_line (map (λ word. word.items) words.now)) session.old session.new end }
     ensures refused { command_line (map (λ word. word.items) words.now) ≡ Err Refused
         → (result ≡ 1) × (session.new.held ≡ session.old.held)
-        × IsReported E.failed E.held session.old session.new }
+        × IsTold session.old session.new }
 {
     match run_words(host, session, words) {
         Ok(true) => 0,
         Ok(false) => 1,
-        Err(Fault::NoMemory) => {
-            tell(&mut session.messages, b"b2sum: memory exhausted\n");
-            1
-        }
         Err(Fault::WriteFailed) => {
             let reason = session.output.reason();
             warn_of_write(host.alloc, reason, &mut session.messages);
+            1
+        }
+        Err(Fault::NoMemory) => {
+            tell(&mut session.messages, b"b2sum: memory exhausted\n");
             1
         }
     }
@@ -92,8 +94,9 @@ pub fn run<H: Hashes, D: Disk, K: Output, E: Sink>(
 
 // Prints the message of a write that failed.
 fn warn_of_write<E: Sink>(alloc: Global, error: io::Error, messages: &mut E)
-    ensures { HasMessage (E.failed messages.old) (E.failed messages.new) (E.held messages.old)
-        (E.held messages.new) }
+    ensures { (reason : List ℕ) × IsWritten (E.failed messages.old) (E.failed messages.new)
+        (E.held messages.old) (E.held messages.new)
+        (codes "b2sum: write error" ++ reason ++ (10 ∷ [])) }
 {
     let Ok(reason) = reason_of(alloc, error) else {
         return tell(messages, b"b2sum: write error\n");
@@ -108,11 +111,11 @@ fn run_words<H: Hashes, D: Disk, K: Output, E: Sink>(
     session: &mut Session<D::File, K, E>,
     words: &[Vec<u8>],
 ) -> Result<bool, Fault>
-    ensures done { IfOk result (λ well. DoesLine (world_of D.File.failed (D.files host.now.disk) H.hashing)
-        HELP.now VERSION.now (command_line (map (λ word. word.items) words.now))
-        session.old session.new well ⊎ ((well ≡ false) × IsTold session.old session.new)) }
-    ensures kept { IsKept session.old session.new
-        (command_line (map (λ word. word.items) words.now)) }
+    ensures line { DoesLine
+        (world_of D.File.failed (D.files host.now.disk) H.hashing) HELP.now VERSION.now
+        (command_line (map (λ word. word.items) words.now)) session.old session.new
+        (result_ok result) }
+    ensures write { IsErrOf result Fault.WriteFailed → session.new.output_failed ≡ true }
 {
     match read_arguments(host.alloc, words) {
         Ok(arguments) => run_task(host, session, arguments),
@@ -127,8 +130,9 @@ fn print_stop<F: OpenFile, K: Output, E: Sink>(
     session: &mut Session<F, K, E>,
     stop: Stop,
 ) -> Result<bool, Fault>
-    ensures printed { IfOk result (IsPrinted HELP.now VERSION.now session.old session.new stop) }
-    ensures refused { IsRefusal stop → session.new.held ≡ session.old.held }
+    ensures printed { IsPrinted HELP.now VERSION.now session.old session.new stop
+        (result_ok result) }
+    ensures write { IsErrOf result Fault.WriteFailed → session.new.output_failed ≡ true }
 {
     match stop {
         Stop::Help => {
@@ -154,8 +158,10 @@ fn print_stop<F: OpenFile, K: Output, E: Sink>(
 
 // Prints the message of wrong options, and the pointer to `--help`.
 fn tell_usage<E: Sink>(alloc: Global, text: &[u8], messages: &mut E) -> Result<(), AllocError>
-    ensures { OnOk result (HasMessage (E.failed messages.old) (E.failed messages.new)
+    ensures told { OnOk result (HasMessage (E.failed messages.old) (E.failed messages.new)
         (E.held messages.old) (E.held messages.new)) }
+    ensures more { HasMore (E.failed messages.old) (E.failed messages.new)
+        (E.held messages.old) (E.held messages.new) }
 {
     warn(alloc, messages, text, b"", b"")?;
     tell(messages, TRY_HELP);
@@ -169,8 +175,10 @@ fn tell_value<E: Sink>(
     second: &[u8],
     messages: &mut E,
 ) -> Result<(), AllocError>
-    ensures { OnOk result (HasMessage (E.failed messages.old) (E.failed messages.new)
+    ensures told { OnOk result (HasMessage (E.failed messages.old) (E.failed messages.new)
         (E.held messages.old) (E.held messages.new)) }
+    ensures more { HasMore (E.failed messages.old) (E.failed messages.new)
+        (E.held messages.old) (E.held messages.new) }
 {
     warn(alloc, messages, first, b"", b"")?;
     if second.is_empty() {
@@ -187,17 +195,21 @@ fn run_task<H: Hashes, D: Disk, K: Output, E: Sink>(
     arguments: Arguments,
 ) -> Result<bool, Fault>
     requires { arguments.options.bytes ≤ 64 }
-    ensures { (c : Choice) → AreOptions c arguments.options
+    ensures choice { (c : Choice) → AreOptions c arguments.options
         → option_map (λ name. name.items) arguments.key_file ≡ c.key_file
-        → IfOk result (λ well. DoesChoice (world_of D.File.failed (D.files host.now.disk) H.hashing) c
-        (map (λ name. name.items) arguments.files.items) session.old session.new well
-        ⊎ ((well ≡ false) × IsTold session.old session.new)) }
+        → DoesChoice (world_of D.File.failed (D.files host.now.disk) H.hashing) c
+        (map (λ name. name.items) arguments.files.items) session.old session.new
+        (result_ok result) }
+    ensures write { IsErrOf result Fault.WriteFailed → session.new.output_failed ≡ true }
 {
     let Arguments {
         options,
         files,
         key_file,
     } = arguments;
+    if options.shows_progress {
+        host.disk.show_progress();
+    }
     let Some(options) = with_key(host, session, options, key_file)? else {
         return Ok(false);
     };
@@ -225,9 +237,14 @@ fn with_key<H: Hashes, D: Disk, K: Output, E: Sink>(
         × HasKey (world_of D.File.failed (D.files host.now.disk) H.hashing) session.old.left
         c o)) }
     ensures bytes { IfOk result (λ found. IfSome found (λ o. o.bytes ≡ options.bytes)) }
+    ensures held { session.new.held ≡ session.old.held }
     ensures kept { IfOk result (λ found. IfSome found (λ _. AfterKey
         (option_map (λ name. name.items) key_file) session.old session.new)) }
-    ensures told { IfOk result (λ found. found ≡ None → IsTold session.old session.new) }
+    ensures keyless { IfOk result (λ found. found ≡ None → IsKeyless
+        (world_of D.File.failed (D.files host.now.disk) H.hashing)
+        (option_map (λ name. name.items) key_file) (max_bytes options.algorithm)
+        session.old session.new) }
+    ensures memory { IsOkUnless result Fault.NoMemory }
 {
     let Some(name) = key_file else {
         return Ok(Some(options));

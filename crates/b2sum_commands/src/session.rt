@@ -4,8 +4,9 @@ ghost use Rattle.std.specs.Prelude.{◌≡◌, ◌<◌, ◌≤◌, ◌^◌, leng
 ghost use Rattle.b2sum_lines.specs.declared.entry.Spacing.TheVariants.{Open};
 
 use crate::devices::{OpenFile, Output};
+use crate::line_needs::Lacks;
 use b2sum_lines::Spacing;
-use blake2_replay::engine::{Sink, Source};
+use blake2_streams::{Sink, Source};
 use std::alloc::{AllocError, Global};
 use std::marker::Model;
 
@@ -33,6 +34,8 @@ pub struct Session<F: OpenFile, K: Output, E: Sink> {
     pub(crate) buffer: Vec<u8>,
     // The spacing of the lines of manifests so far.
     pub(crate) spacing: Spacing,
+    // What lines of the manifest that is checked need.
+    pub(crate) lacks: Lacks,
 }
 
 impl<F: OpenFile, K: Output, E: Sink> Model for Session<F, K, E> {
@@ -73,6 +76,7 @@ impl<F: OpenFile + Drop, K: Output + Drop, E: Sink + Drop> Session<F, K, E> {
             messages,
             buffer,
             spacing: Spacing::Open,
+            lacks: Lacks::none(),
         })
     }
 }

@@ -4,17 +4,19 @@ ghost use Rattle.std.specs.Prelude.{◌++◌, ◌∷◌, []};
 ghost use Rattle.hex.specs.Hex.{encode_lower};
 ghost use Rattle.b2sum_commands.specs.Sums.{printed, end_of};
 ghost use Rattle.std.specs.Prelude.{◌≡◌, ℕ, ◌≤◌, List, length, map, take, true, false, IfOk};
+ghost use Rattle.std.specs.Prelude.{IsErrOf, IsOkUnless};
+ghost use Rattle.std.specs.Result.{result_ok};
 ghost use Rattle.b2sum_commands.specs.declared.sums.Read.TheVariants.{Whole, Missing, Failed};
 ghost use Rattle.b2sum_commands.specs.World.{world_of, AllInTurn, IsQuiet, IsTold};
 ghost use Rattle.b2sum_commands.specs.Sums.{is_dash, ReadsAs, Leaves, CannotSum, IsSum, ended_line};
 
 use crate::devices::{Disk, Fault, OpenFile, Output, put};
-use crate::hashes::Hashes;
+use crate::hashes::{Function, Hashes};
+use crate::messages::warn_of_file;
 use crate::options::{Options, Shape};
 use crate::session::{Host, Session};
-use crate::texts::warn_of_file;
 use b2sum_lines::{Entry, write_line, write_plain_line};
-use blake2_replay::engine::{Sink, Source};
+use blake2_streams::{Sink, Source};
 use std::alloc::Global;
 use std::io;
 
@@ -29,36 +31,37 @@ pub(crate) enum Read {
     Failed,
 }
 
-/// Writes the digest of `bytes` bytes of the file of this name, or of standard input for `-`, at
+/// Writes the digest of the file of this name, or of standard input for `-`, by this function at
 /// the front of `out`. A file that cannot be read has a message.
 pub(crate) fn digest_file<H: Hashes, D: Disk, K: Output, E: Sink>(
     host: &Host<H, D>,
     options: &Options,
     session: &mut Session<D::File, K, E>,
     name: &[u8],
-    bytes: usize,
+    function: Function,
     out: &mut [u8; 64],
 ) -> Result<Read, Fault>
     ensures whole { IfOk result (λ read. read ≡ Whole → (text : List ℕ)
         × ReadsAs (is_dash name.now) ((D.files host.now.disk).holds name.now)
         session.old.left session.new.left text
-        × (take bytes out.new ≡ H.hashing.digest options.now bytes text)) }
+        × (take function.bytes out.new ≡ H.hashing.digest options.now function text)) }
     ensures missing { IfOk result (λ read. read ≡ Missing → (options.now.ignores_missing ≡ true)
         × (is_dash name.now ≡ false) × ((D.files host.now.disk).refuses name.now ≡ true)
         × ((D.files host.now.disk).lacks name.now ≡ true)) }
     ensures failed { IfOk result (λ read. read ≡ Failed → CannotSum
         (world_of D.File.failed (D.files host.now.disk) H.hashing)
-        options.now bytes name.now) }
+        options.now function name.now) }
     ensures told { IfOk result (λ read. read ≡ Failed → IsTold session.old session.new) }
     ensures leaves { Leaves (is_dash name.now) session.old.left session.new.left }
     ensures quiet { IsQuiet session.old session.new }
+    ensures memory { IsOkUnless result Fault.NoMemory }
 {
     if is_dash(name) {
         let input = &mut session.input;
         if !input.failed()
             && host
                 .hashes
-                .digest_source(options, bytes, input, session.buffer.as_mut_slice(), out)
+                .digest_source(options, function, input, session.buffer.as_mut_slice(), out)
                 .is_ok()
         {
             return Ok(Read::Whole);
@@ -80,7 +83,7 @@ pub(crate) fn digest_file<H: Hashes, D: Disk, K: Output, E: Sink>(
     let buffer = session.buffer.as_mut_slice();
     if host
         .hashes
-        .digest_source(options, bytes, &mut file, buffer, out)
+        .digest_source(options, function, &mut file, buffer, out)
         .is_ok()
     {
         return Ok(Read::Whole);
@@ -91,7 +94,8 @@ pub(crate) fn digest_file<H: Hashes, D: Disk, K: Output, E: Sink>(
 
 /// Prints the line of each file, and nothing else. Returns whether all were read. A file that
 /// cannot be read has a message. The digests have at most 64 bytes. The error is
-/// `Fault::NoMemory` or `Fault::WriteFailed`; the lines before it are printed.
+/// `Fault::NoMemory` or `Fault::WriteFailed`; the lines before it are printed, and of the next
+/// nothing or a part.
 pub fn print_sums<H: Hashes, D: Disk, K: Output, E: Sink>(
     host: &Host<H, D>,
     options: &Options,
@@ -99,9 +103,10 @@ pub fn print_sums<H: Hashes, D: Disk, K: Output, E: Sink>(
     names: &[Vec<u8>],
 ) -> Result<bool, Fault>
     requires { options.now.bytes ≤ 64 }
-    ensures { IfOk result (λ are_read. AllInTurn (IsSum
+    ensures lines { AllInTurn (IsSum
         (world_of D.File.failed (D.files host.now.disk) H.hashing) options.now)
-        (map (λ name. name.items) names.now) session.old session.new are_read) }
+        (map (λ name. name.items) names.now) session.old session.new (result_ok result) }
+    ensures write { IsErrOf result Fault.WriteFailed → session.new.output_failed ≡ true }
 {
     let mut are_read = true;
     for name in names {
@@ -119,12 +124,17 @@ fn print_sum<H: Hashes, D: Disk, K: Output, E: Sink>(
     name: &[u8],
 ) -> Result<bool, Fault>
     requires { options.now.bytes ≤ 64 }
-    ensures { IfOk result (IsSum (world_of D.File.failed (D.files host.now.disk) H.hashing)
-        options.now name.now session.old session.new) }
+    ensures line { IsSum (world_of D.File.failed (D.files host.now.disk) H.hashing)
+        options.now name.now session.old session.new (result_ok result) }
+    ensures write { IsErrOf result Fault.WriteFailed → session.new.output_failed ≡ true }
 {
     let mut digest = [0u8; 64];
     let size = options.bytes;
-    let read = digest_file(host, options, session, name, size, &mut digest)?;
+    let function = Function {
+        algorithm: options.algorithm,
+        bytes: size,
+    };
+    let read = digest_file(host, options, session, name, function, &mut digest)?;
     if read != Read::Whole {
         return Ok(false);
     }
@@ -137,13 +147,14 @@ fn print_sum<H: Hashes, D: Disk, K: Output, E: Sink>(
 // Returns what is printed of a digest and a name.
 fn printed(alloc: Global, options: &Options, digest: &[u8], name: &[u8]) -> Result<Vec<u8>, Fault>
     requires { length digest.now ≤ 64 }
-    ensures { IfOk result (λ text. text.items
+    ensures text { IfOk result (λ text. text.items
         ≡ printed options.now.shape options.now.ends_zero (record {
           algorithm = options.now.algorithm;
           digest = digest.now;
           name = name.now;
           style = options.now.style;
         })) }
+    ensures memory { IsOkUnless result Fault.NoMemory }
 {
     match options.shape {
         Shape::Named => line_of(alloc, options, digest, name),
@@ -154,8 +165,9 @@ fn printed(alloc: Global, options: &Options, digest: &[u8], name: &[u8]) -> Resu
 
 // Returns the digits of a digest, with the end of a line.
 fn digits_of(alloc: Global, options: &Options, digest: &[u8]) -> Result<Vec<u8>, Fault>
-    ensures { IfOk result (λ text. text.items
+    ensures text { IfOk result (λ text. text.items
         ≡ encode_lower digest.now ++ (end_of options.now.ends_zero ∷ [])) }
+    ensures memory { IsOkUnless result Fault.NoMemory }
 {
     let mut text = copied(alloc, hex::encode(alloc, digest)?.as_bytes())?;
     text.push(if options.ends_zero { 0 } else { b'\n' })
@@ -166,12 +178,13 @@ fn digits_of(alloc: Global, options: &Options, digest: &[u8]) -> Result<Vec<u8>,
 // Returns the line of a digest and a name, with its end.
 fn line_of(alloc: Global, options: &Options, digest: &[u8], name: &[u8]) -> Result<Vec<u8>, Fault>
     requires { length digest.now ≤ 64 }
-    ensures { IfOk result (λ line. line.items ≡ ended_line options.now.ends_zero (record {
+    ensures line { IfOk result (λ line. line.items ≡ ended_line options.now.ends_zero (record {
       algorithm = options.now.algorithm;
       digest = digest.now;
       name = name.now;
       style = options.now.style;
     })) }
+    ensures memory { IsOkUnless result Fault.NoMemory }
 {
     let entry = Entry {
         algorithm: options.algorithm,
@@ -190,7 +203,8 @@ fn line_of(alloc: Global, options: &Options, digest: &[u8], name: &[u8]) -> Resu
 }
 
 fn copied(alloc: Global, bytes: &[u8]) -> Result<Vec<u8>, Fault>
-    ensures { IfOk result (λ copy. copy.items ≡ bytes.now) }
+    ensures same { IfOk result (λ copy. copy.items ≡ bytes.now) }
+    ensures memory { IsOkUnless result Fault.NoMemory }
 {
     let mut copy = Vec::new(alloc);
     copy.extend_from_slice(bytes)?;

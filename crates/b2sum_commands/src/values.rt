@@ -40,6 +40,12 @@ pub(crate) fn algorithm_of(alloc: Global, value: &[u8]) -> Result<Algorithm, Sto
     if value == b"blake2s".as_slice() {
         return Ok(Algorithm::Blake2s);
     }
+    if value == b"blake2bp".as_slice() {
+        return Ok(Algorithm::Blake2bp);
+    }
+    if value == b"blake2sp".as_slice() {
+        return Ok(Algorithm::Blake2sp);
+    }
     let value = quoted_value(alloc, value)?;
     let text = joined(alloc, b"invalid algorithm: ", value.as_slice(), b"")?;
     Err(Stop::Usage(text))

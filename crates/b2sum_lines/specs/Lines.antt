@@ -3,14 +3,19 @@
 -- `=`, 92 a backslash, 110 `n` and 114 `r`.
 use Rattle.std.specs.Prelude.{◌≡◌, ℕ, ◌-◌, ◌*◌, ◌≤◌, ◌<◌, ◌==◌, ◌&&◌, ◌||◌, Bool, true, false}
 use Rattle.std.specs.Prelude.{nat_lt, nat_le, if◌then◌else◌, List, [], ◌∷◌, ◌++◌, length, take}
-use Rattle.std.specs.Prelude.{drop, codes, decimal, Option, Some, None, Result, Ok, Err}
-use Rattle.std.specs.List.{list_any, flat_map}
+use Rattle.std.specs.Prelude.{drop, codes, decimal, get_or, Option, Some, None, Result, Ok, Err}
+use Rattle.std.specs.Prelude.{not, ◌^◌, ⊤}
+use Rattle.std.specs.Char.{is_ascii_digit}
+use Rattle.std.specs.List.{list_all, list_any, flat_map}
 use Rattle.std.specs.Option.{option_and_then, option_map}
 use Rattle.std.specs.Str.{bytes_eq}
+use Rattle.std.specs.Str.Parse.{digits_value}
 use Rattle.hex.specs.Hex.{encode_lower, decode_of, is_hex_digit, IsBytes}
 use Rattle.hex.specs.declared.error.FromHexError.{FromHexError}
 use Rattle.b2sum_lines.specs.declared.entry.Algorithm.{Algorithm}
-use Rattle.b2sum_lines.specs.declared.entry.Algorithm.TheVariants.{Blake2b, Blake2s, Tree}
+use Rattle.b2sum_lines.specs.declared.entry.Algorithm.TheVariants.{Blake2b, Blake2s, Blake2bp}
+use Rattle.b2sum_lines.specs.declared.entry.Algorithm.TheVariants.{Blake2sp, Tree}
+use Rattle.b2sum_lines.specs.declared.entry.Needs.{Needs}
 use Rattle.b2sum_lines.specs.declared.entry.Style.{Style}
 use Rattle.b2sum_lines.specs.declared.entry.Style.TheVariants.{Tagged, Text, Binary, Bare}
 use Rattle.b2sum_lines.specs.declared.entry.Spacing.{Spacing}
@@ -27,19 +32,36 @@ pub record Line : Type 0 where
 abbrev pub max_bytes : Algorithm → ℕ
 max_bytes Blake2b = 64
 max_bytes Blake2s = 32
+max_bytes Blake2bp = 64
+max_bytes Blake2sp = 32
 max_bytes (Tree leaf) = 64
 
 -- A digest is the root of a tree.
 abbrev pub is_tree : Algorithm → Bool
 is_tree Blake2b = false
 is_tree Blake2s = false
+is_tree Blake2bp = false
+is_tree Blake2sp = false
 is_tree (Tree leaf) = true
 
 -- The name of the algorithm in a tagged line.
 abbrev pub tag : Algorithm → List ℕ
 tag Blake2b = codes "BLAKE2b"
 tag Blake2s = codes "BLAKE2s"
+tag Blake2bp = codes "BLAKE2bp"
+tag Blake2sp = codes "BLAKE2sp"
 tag (Tree leaf) = codes "BLAKE2b-tree-" ++ decimal leaf
+
+-- A part of a tag, if it is there.
+abbrev pub part_if : Bool → List ℕ → List ℕ
+part_if true part = part
+part_if false part = []
+
+-- What a tag says of a key, a salt and a personalization, after the name of the algorithm.
+abbrev pub needs_text : Needs → List ℕ
+needs_text needs =
+    part_if needs.key (codes "-key")
+    ++ (part_if needs.salt (codes "-salt") ++ part_if needs.personal (codes "-personal"))
 
 -- The bytes that a name is escaped for: a backslash, a newline, a carriage return.
 abbrev pub is_special : ℕ → Bool
@@ -75,9 +97,9 @@ tag_length a n = if n == max_bytes a then [] else 45 ∷ decimal (8 * n)
 
 -- The line of a name's text and a digest in one style, without a mark and a newline.
 abbrev pub body_line : Style → Algorithm → List ℕ → List ℕ → List ℕ
-body_line Tagged a digest text =
-    tag a ++ (tag_length a (length digest)
-    ++ (codes " (" ++ (text ++ (codes ") = " ++ encode_lower digest))))
+body_line (Tagged needs) a digest text =
+    tag a ++ (needs_text needs ++ (tag_length a (length digest)
+    ++ (codes " (" ++ (text ++ (codes ") = " ++ encode_lower digest)))))
 body_line Text a digest text = encode_lower digest ++ (32 ∷ 32 ∷ text)
 body_line Binary a digest text = encode_lower digest ++ (32 ∷ 42 ∷ text)
 body_line Bare a digest text = encode_lower digest ++ (32 ∷ text)
@@ -212,6 +234,78 @@ abbrev pub after_prefix : List ℕ → List ℕ → Option (List ℕ)
 after_prefix bytes text =
     if bytes_eq (take (length bytes) text) bytes then Some (drop (length bytes) text) else None
 
+-- Decimal digits write the number of bytes of a leaf: 1 to 2^32 - 1, with no leading zero. 48 is
+-- the digit 0.
+abbrev pub is_leaf : List ℕ → Bool
+is_leaf digits =
+    nat_le (length digits) 10 && (not (get_or digits 0 48 == 48)
+    && (list_all is_ascii_digit digits && nat_lt (digits_value 10 digits) (2 ^ 32)))
+
+-- The number of bytes of a leaf that decimal digits write.
+abbrev pub leaf_value : List ℕ → Option ℕ
+leaf_value digits = if is_leaf digits then Some (digits_value 10 digits) else None
+
+-- A tree with leaves of so many bytes as the digits at the front of a text say, and the rest of
+-- that.
+abbrev pub tree_tag : List ℕ → Option (Algorithm × List ℕ)
+tree_tag text =
+    option_map (λ leaf. (Tree leaf, skip is_ascii_digit text))
+    (leaf_value (front is_ascii_digit text))
+
+-- The algorithm whose name goes on so after `BLAKE2b`, and what follows its name. What follows
+-- `-tree-` is given, if that is there.
+abbrev pub blake2b_or_tree : List ℕ → Option (List ℕ) → Option (Algorithm × List ℕ)
+blake2b_or_tree text (Some rest) = tree_tag rest
+blake2b_or_tree text None = Some (Blake2b, text)
+
+-- The same, if what follows a `p` is given, if that is there.
+abbrev pub blake2b_tag : List ℕ → Option (List ℕ) → Option (Algorithm × List ℕ)
+blake2b_tag text (Some rest) = Some (Blake2bp, rest)
+blake2b_tag text None = blake2b_or_tree text (after_prefix (codes "-tree-") text)
+
+-- The algorithm whose name goes on so after `BLAKE2s`, and what follows its name.
+abbrev pub blake2s_tag : List ℕ → Option (List ℕ) → Algorithm × List ℕ
+blake2s_tag text (Some rest) = (Blake2sp, rest)
+blake2s_tag text None = (Blake2s, text)
+
+-- The algorithm of a line, if what follows `BLAKE2b` is given, if that is at its front.
+abbrev pub tag_after : List ℕ → Option (List ℕ) → Option (Algorithm × List ℕ)
+tag_after line (Some rest) = blake2b_tag rest (after_prefix (codes "p") rest)
+tag_after line None =
+    option_map (λ rest. blake2s_tag rest (after_prefix (codes "p") rest))
+    (after_prefix (codes "BLAKE2s") line)
+
+-- The algorithm that the tag at the front of a line names, and what follows its name.
+abbrev pub tag_at : List ℕ → Option (Algorithm × List ℕ)
+tag_at line = tag_after line (after_prefix (codes "BLAKE2b") line)
+
+-- Whether a part is at the front of a text, and what follows it, which is given if it is there.
+abbrev pub part_or : List ℕ → Option (List ℕ) → Bool × List ℕ
+part_or text (Some rest) = (true, rest)
+part_or text None = (false, text)
+
+-- Whether a part is at the front of a text, and what follows it.
+abbrev pub part_at : List ℕ → List ℕ → Bool × List ℕ
+part_at part text = part_or text (after_prefix part text)
+
+-- What a tag needs, by its parts, and what follows the last of them.
+abbrev pub with_personal : Bool → Bool → Bool × List ℕ → Needs × List ℕ
+with_personal key salt personal =
+    (record { key = key; salt = salt; personal = personal.0 }, personal.1)
+
+-- What a tag needs, by its parts up to that of the salt and what follows that.
+abbrev pub with_salt : Bool → Bool × List ℕ → Needs × List ℕ
+with_salt key salt = with_personal key salt.0 (part_at (codes "-personal") salt.1)
+
+-- What a tag needs, by the part of the key and what follows that.
+abbrev pub with_key : Bool × List ℕ → Needs × List ℕ
+with_key key = with_salt key.0 (part_at (codes "-salt") key.1)
+
+-- What a tag says of a key, a salt and a personalization after the name of the algorithm, and what
+-- follows that.
+abbrev pub needs_at : List ℕ → Needs × List ℕ
+needs_at text = with_key (part_at (codes "-key") text)
+
 -- What follows the length of the digest, which may be left out for the longest digest.
 abbrev pub after_length : Bool → List ℕ → Option (List ℕ) → Option (List ℕ)
 after_length is_longest text (Some rest) = Some rest
@@ -238,22 +332,24 @@ abbrev pub after_equals : List ℕ → Option (List ℕ)
 after_equals [] = None
 after_equals (b ∷ rest) = if b == 61 then Some (skip is_blank rest) else None
 
--- The entry of what follows the tag, cut at the last parenthesis.
-abbrev pub tagged_parts : Algorithm → Bool → List ℕ × List ℕ → Option Line
-tagged_parts a is_escaped parts =
+-- The entry of what follows such a tag, cut at the last parenthesis.
+abbrev pub tagged_parts : Algorithm → Needs → Bool → List ℕ × List ℕ → Option Line
+tagged_parts a needs is_escaped parts =
     option_and_then (λ digits. option_and_then (λ digest. option_and_then
-    (λ text. entry_with a is_escaped digest (record { style = Tagged; text = text }))
+    (λ text. entry_with a is_escaped digest (record { style = Tagged needs; text = text }))
     (tagged_text a (length digest) parts.0)) (digest_of a digits))
     (after_equals (skip is_blank parts.1))
 
--- The entry of what follows the tag.
-abbrev pub tagged_entry : Algorithm → Bool → List ℕ → Option Line
-tagged_entry a is_escaped text = option_and_then (tagged_parts a is_escaped) (cut_last 41 text)
+-- The entry of an algorithm with what its tag needs, and what follows that.
+abbrev pub tagged_entry : Algorithm → Bool → Needs × List ℕ → Option Line
+tagged_entry a is_escaped tag =
+    option_and_then (tagged_parts a tag.0 is_escaped) (cut_last 41 tag.1)
 
--- The entry of a line without its mark: a tagged line, if what follows the tag is given. A tree has
--- no other lines.
-abbrev pub body_entry : Algorithm → Spacing → Bool → List ℕ → Option (List ℕ) → Option Line
-body_entry a spacing is_escaped line (Some rest) = tagged_entry a is_escaped rest
+-- The entry of a line without its mark: a tagged line, if there is a tag, whose algorithm is that
+-- of the tag. A tree has no other lines.
+abbrev pub body_entry : Algorithm → Spacing → Bool → List ℕ → Option (Algorithm × List ℕ)
+    → Option Line
+body_entry a spacing is_escaped line (Some t) = tagged_entry t.0 is_escaped (needs_at t.1)
 body_entry a spacing is_escaped line None =
     if is_tree a then None else untagged_entry a spacing is_escaped line
 
@@ -261,12 +357,28 @@ body_entry a spacing is_escaped line None =
 abbrev pub marked_entry : Algorithm → Spacing → List ℕ → Option Line
 marked_entry a spacing [] = None
 marked_entry a spacing (b ∷ rest) =
-    if b == 92 then body_entry a spacing true rest (after_prefix (tag a) rest)
-    else body_entry a spacing false (b ∷ rest) (after_prefix (tag a) (b ∷ rest))
+    if b == 92 then body_entry a spacing true rest (tag_at rest)
+    else body_entry a spacing false (b ∷ rest) (tag_at (b ∷ rest))
 
--- The entry that a line is read as, if it is one. The line has no newline.
+-- The entry that a line is read as, if it is one: that of its tag, or else one of the algorithm.
+-- The line has no newline.
 abbrev pub line_entry : Algorithm → Spacing → List ℕ → Option Line
 line_entry a spacing line = marked_entry a spacing (skip is_blank line)
+
+-- The line of this style is tagged.
+abbrev pub is_tagged : Style → Bool
+is_tagged (Tagged needs) = true
+is_tagged Text = false
+is_tagged Binary = false
+is_tagged Bare = false
+
+-- The leaves of a tree have a length that trees have.
+abbrev pub HasLeaf : Algorithm → Type 0
+HasLeaf Blake2b = ⊤
+HasLeaf Blake2s = ⊤
+HasLeaf Blake2bp = ⊤
+HasLeaf Blake2sp = ⊤
+HasLeaf (Tree leaf) = (0 < leaf) × (leaf < 2 ^ 32)
 
 -- The entries whose lines can be read: a digest of the algorithm's bytes, a name of a file, and a
 -- tag for the root of a tree.
@@ -276,10 +388,17 @@ pub record IsWritable (e : Line) : Type 0 where
   pub fits : length e.digest ≤ max_bytes e.algorithm
   pub some_name : 0 < length e.name
   pub no_zero : has_zero e.name ≡ false
-  pub tagged : is_tree e.algorithm ≡ true → e.style ≡ Tagged
+  pub tagged : is_tree e.algorithm ≡ true → is_tagged e.style ≡ true
+  pub has_leaf : HasLeaf e.algorithm
 
 -- The line is read as this entry, whatever the lines before had, unless they had one space.
 abbrev pub IsReadBack : Line → List ℕ → Type 0
 IsReadBack e line =
     IsWritable e → (e.style ≡ Bare → ⊥) → (s : Spacing) → (s ≡ One → ⊥)
     → line_entry e.algorithm s line ≡ Some e
+
+-- A tagged line is read as this entry whatever the algorithm of lines without a tag is.
+abbrev pub IsReadByTag : Line → List ℕ → Type 0
+IsReadByTag e line =
+    IsWritable e → is_tagged e.style ≡ true → (a : Algorithm) (s : Spacing)
+    → line_entry a s line ≡ Some e

@@ -13,6 +13,10 @@ pub enum Algorithm {
     Blake2b,
     /// BLAKE2s, with digests of at most 32 bytes.
     Blake2s,
+    /// BLAKE2bp, with digests of at most 64 bytes.
+    Blake2bp,
+    /// BLAKE2sp, with digests of at most 32 bytes.
+    Blake2sp,
     /// The root of a tree over BLAKE2b with leaves of this many bytes, at most 64 bytes long. Its
     /// lines are always tagged.
     Tree(u32),
@@ -25,8 +29,8 @@ impl Algorithm {
         ensures most { result ≤ 64 }
     {
         match self {
-            Algorithm::Blake2b | Algorithm::Tree(_) => 64,
-            Algorithm::Blake2s => 32,
+            Algorithm::Blake2b | Algorithm::Blake2bp | Algorithm::Tree(_) => 64,
+            Algorithm::Blake2s | Algorithm::Blake2sp => 32,
         }
     }
 
@@ -46,6 +50,8 @@ impl Algorithm {
         match self {
             Algorithm::Blake2b => name.extend_from_slice(b"BLAKE2b")?,
             Algorithm::Blake2s => name.extend_from_slice(b"BLAKE2s")?,
+            Algorithm::Blake2bp => name.extend_from_slice(b"BLAKE2bp")?,
+            Algorithm::Blake2sp => name.extend_from_slice(b"BLAKE2sp")?,
             Algorithm::Tree(leaf) => {
                 name.extend_from_slice(b"BLAKE2b-tree-")?;
                 push_decimal(&mut name, u64::from(leaf))?;
@@ -55,11 +61,23 @@ impl Algorithm {
     }
 }
 
+/// What a digest needs besides its file. A tag says it, so that nobody takes the digest for one
+/// that needs nothing.
+#[derive(Clone, Copy, Debug, PartialEq, Eq)]
+pub struct Needs {
+    /// It needs a key.
+    pub key: bool,
+    /// It needs a salt.
+    pub salt: bool,
+    /// It needs a personalization.
+    pub personal: bool,
+}
+
 /// How a line has its entry.
 #[derive(Clone, Copy, Debug, PartialEq, Eq)]
 pub enum Style {
-    /// `BLAKE2b-256 (NAME) = DIGITS`
-    Tagged,
+    /// `BLAKE2b-256 (NAME) = DIGITS`, or `BLAKE2b-key-256 (NAME) = DIGITS` with a key, and so on.
+    Tagged(Needs),
     /// `DIGITS  NAME`
     Text,
     /// `DIGITS *NAME`

@@ -5,19 +5,22 @@ ghost use Rattle.std.specs.Option.{option_map};
 ghost use Rattle.b2sum_lines.specs.Lines.{line_entry, body_entry, untagged_entry, tagged_entry};
 ghost use Rattle.b2sum_lines.specs.Lines.{after_digits, after_blank, after_equals, tagged_text};
 ghost use Rattle.b2sum_lines.specs.Lines.{digest_of, entry_with, opened, opened_or_spaced};
-ghost use Rattle.b2sum_lines.specs.Lines.{after_prefix, tag};
+ghost use Rattle.b2sum_lines.specs.Lines.{after_prefix};
+ghost use Rattle.b2sum_lines.specs.Lines.{tag_at, needs_at};
 ghost use Rattle.b2sum_lines.specs.Entries.{entry_value};
 
+use crate::cuts::{after_prefix, cut_last, skip_blanks, skip_digits};
 use crate::entry::{Algorithm, Entry, Spacing, Style};
 use crate::names::name_of;
-use crate::texts::{after_prefix, cut_last, skip_blanks, skip_digits};
+use crate::tags::{algorithm_of, needs_of};
 use hex::FromHexError;
 use std::alloc::{AllocError, Global};
 use text_lines::push_decimal;
 
 /// Returns the entry that a line without its newline is read as, or `None` if it is not the line
-/// of an entry of this algorithm. `spacing` is what the untagged lines before have. The digest of
-/// an entry has at most 64 bytes. The error is `AllocError`, if an allocation fails.
+/// of an entry. A tag says the algorithm; a line without a tag is of `algorithm`. `spacing` is what
+/// the untagged lines before have. The digest of an entry has at most 64 bytes. The error is
+/// `AllocError`, if an allocation fails.
 pub fn read_line(
     alloc: Global,
     algorithm: Algorithm,
@@ -44,12 +47,11 @@ fn read_body(
     line: &[u8],
 ) -> Result<Option<Entry>, AllocError>
     ensures entry { IfOk result (λ entry. option_map entry_value entry
-        ≡ body_entry algorithm spacing is_escaped line.now (after_prefix (tag algorithm) line.now)) }
+        ≡ body_entry algorithm spacing is_escaped line.now (tag_at line.now)) }
     ensures fits { IfOk result (λ entry. IfSome entry (λ e. length e.digest.items ≤ 64)) }
 {
-    let name = algorithm.tag(alloc)?;
-    match after_prefix(name.as_slice(), line) {
-        Some(rest) => read_tagged(alloc, algorithm, is_escaped, rest),
+    match algorithm_of(line) {
+        Some((named, rest)) => read_tagged(alloc, named, is_escaped, rest),
         None if algorithm.is_tree() => Ok(None),
         None => read_untagged(alloc, algorithm, spacing, is_escaped, line),
     }
@@ -78,7 +80,7 @@ fn read_untagged(
     entry_with(alloc, algorithm, is_escaped, digest, style, text)
 }
 
-// Returns the entry of what follows the tag.
+// Returns the entry of what follows the name of its algorithm.
 fn read_tagged(
     alloc: Global,
     algorithm: Algorithm,
@@ -86,9 +88,10 @@ fn read_tagged(
     text: &[u8],
 ) -> Result<Option<Entry>, AllocError>
     ensures entry { IfOk result (λ entry. option_map entry_value entry
-        ≡ tagged_entry algorithm is_escaped text.now) }
+        ≡ tagged_entry algorithm is_escaped (needs_at text.now)) }
     ensures fits { IfOk result (λ entry. IfSome entry (λ e. length e.digest.items ≤ 64)) }
 {
+    let (needs, text) = needs_of(text);
     let Some((front, tail)) = cut_last(text, b')') else {
         return Ok(None);
     };
@@ -101,7 +104,14 @@ fn read_tagged(
     let Some(name) = tagged_text(alloc, algorithm, digest.len(), front)? else {
         return Ok(None);
     };
-    entry_with(alloc, algorithm, is_escaped, digest, Style::Tagged, name)
+    entry_with(
+        alloc,
+        algorithm,
+        is_escaped,
+        digest,
+        Style::Tagged(needs),
+        name,
+    )
 }
 
 // Returns the entry of these parts, or `None` if the text stands for no name.

@@ -2,10 +2,11 @@
 
 ghost use Rattle.std.specs.Prelude.{◌≡◌, ◌++◌, ◌*◌, ◌≤◌, length, IfOk, OnOk};
 ghost use Rattle.hex.specs.Hex.{encode_lower};
-ghost use Rattle.b2sum_lines.specs.Lines.{entry_line, plain_line, body_line, tag_length, IsReadBack};
+ghost use Rattle.b2sum_lines.specs.Lines.{entry_line, plain_line, body_line, needs_text};
+ghost use Rattle.b2sum_lines.specs.Lines.{tag, tag_length, IsReadBack, IsReadByTag};
 ghost use Rattle.b2sum_lines.specs.Entries.{entry_value};
 
-use crate::entry::{Algorithm, Entry, Style};
+use crate::entry::{Algorithm, Entry, Needs, Style};
 use crate::names::{escape_name, push_escaped};
 use std::alloc::{AllocError, Global};
 use text_lines::push_decimal;
@@ -14,11 +15,13 @@ use text_lines::push_decimal;
 /// return is escaped, with a backslash at the front of the line. The error is `AllocError`, if an
 /// allocation fails. The digest has at most 64 bytes.
 ///
-/// A line of a digest that the algorithm has and of a name with no zero byte is read as its entry.
+/// A line of a digest that the algorithm has and of a name with no zero byte is read as its entry,
+/// a tagged line whatever the algorithm of lines without a tag is.
 pub fn write_line(alloc: Global, entry: &Entry) -> Result<Vec<u8>, AllocError>
     requires { length entry.now.digest.items ≤ 64 }
     ensures line { IfOk result (λ line. line.items ≡ entry_line (entry_value entry.now)) }
     ensures read_back { IfOk result (λ line. IsReadBack (entry_value entry.now) line.items) }
+    ensures read_by_tag { IfOk result (λ line. IsReadByTag (entry_value entry.now) line.items) }
 {
     let line = line_of(alloc, entry)?;
     Ok(line)
@@ -64,9 +67,8 @@ fn push_body(
         ++ body_line entry.now.style entry.now.algorithm entry.now.digest.items text.now) }
 {
     match entry.style {
-        Style::Tagged => {
-            line.extend_from_slice(entry.algorithm.tag(alloc)?.as_slice())?;
-            push_tag_length(line, entry.algorithm, entry.digest.len())?;
+        Style::Tagged(needs) => {
+            push_tag(alloc, line, entry, needs)?;
             line.extend_from_slice(b" (")?;
             line.extend_from_slice(text)?;
             line.extend_from_slice(b") = ")?;
@@ -96,6 +98,39 @@ fn push_hex(alloc: Global, line: &mut Vec<u8>, bytes: &[u8]) -> Result<(), Alloc
 {
     let text = hex::encode(alloc, bytes)?;
     line.extend_from_slice(text.as_bytes())
+}
+
+// Appends the tag of the entry.
+fn push_tag(
+    alloc: Global,
+    line: &mut Vec<u8>,
+    entry: &Entry,
+    needs: Needs,
+) -> Result<(), AllocError>
+    requires { length entry.now.digest.items ≤ 64 }
+    ensures { OnOk result (line.new.items ≡ line.old.items
+        ++ (tag entry.now.algorithm ++ (needs_text needs
+        ++ tag_length entry.now.algorithm (length entry.now.digest.items)))) }
+{
+    line.extend_from_slice(entry.algorithm.tag(alloc)?.as_slice())?;
+    push_needs(line, needs)?;
+    push_tag_length(line, entry.algorithm, entry.digest.len())
+}
+
+// Appends what a tag says of a key, a salt and a personalization.
+fn push_needs(line: &mut Vec<u8>, needs: Needs) -> Result<(), AllocError>
+    ensures { OnOk result (line.new.items ≡ line.old.items ++ needs_text needs) }
+{
+    if needs.key {
+        line.extend_from_slice(b"-key")?;
+    }
+    if needs.salt {
+        line.extend_from_slice(b"-salt")?;
+    }
+    if needs.personal {
+        line.extend_from_slice(b"-personal")?;
+    }
+    Ok(())
 }
 
 // Appends the length of the digest in a tag, in bits, unless it is the longest.

@@ -1,4 +1,4 @@
-use Rattle.std.proofs.Common.{◌∙◌, ap, false, ◌||◌, arith, take, ◌++◌}
+use Rattle.std.proofs.Common.{◌∙◌, ap, false, ◌||◌, length-append, arith, take, ◌++◌}
 use Rattle.std.proofs.KnownBytes.{Consumes-trans}
 use Rattle.blake2_digest.proofs.Texts.{AreBytes-append}
 use Rattle.b2sum.proofs.Updates.{Took-trans}
@@ -22,3 +22,19 @@ reading-preserved g c =
         Took-trans _ _ _ before.0 piece before.3 c.update.ensures.taken,
       );
     }
+
+pub returns-then-count-room-clause-too_long : goal.returns-then-count-room-clause-too_long
+returns-then-count-room-clause-too_long g c = λ _ _.
+    let before = c.reading.invariant.passed in
+    let read = c.in-Ok.ensures in
+    let piece = take c.in-Ok.count c.read.new.buf in (
+      before.0 ++ piece,
+      Consumes-trans _ _ _ before.0 piece before.2 read.bytes.0,
+      omega (
+        arith,
+        length-append before.0 piece,
+        read.bound.1,
+        before.3.count,
+        c.reading.invariant.room,
+      ),
+    )

@@ -2,7 +2,7 @@ use Rattle.std.proofs.Common.{◌∙◌, ap, false, ◌||◌, arith, take, ◌++
 use Rattle.std.proofs.KnownBytes.{Consumes-trans}
 use Rattle.blake2_digest.proofs.Texts.{AreBytes-append}
 use Rattle.blake2_state.specs.Blake2s.{meaning}
-use Rattle.blake2_replay.proofs.StreamLemmas.{Updated-trans}
+use Rattle.blake2_streams.proofs.StreamLemmas.{Updated-trans}
 use Rattle.b2sum.proofs.hashes.digest_blake2s.Goals as goal
 
 pub reading-preserved : goal.reading-preserved

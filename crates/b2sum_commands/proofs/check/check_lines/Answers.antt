@@ -1,52 +1,198 @@
-use Rattle.std.proofs.Common.{◌≡◌, [], ◌∷◌, ◌++◌, List, ℕ, length, subst, sym, rules}
-use Rattle.text_lines.specs.Cuts.{lines_of}
+use Rattle.std.proofs.Common.{◌≡◌, ◌⊎◌, ◌==◌, inl, inr, ◌<◌, Bool, true, length, [], List, ℕ, Option, refl, ap, ◌∙◌, subst, is_none, rules}
+use Rattle.std.specs.Io.KnownBytes.{Consumes}
+use Rattle.b2sum_commands.specs.Found.{Streams}
+use Rattle.b2sum_commands.specs.LineReads.{source_left, IsAfter}
+use Rattle.b2sum_commands.specs.Manifests.{IsLine, BeginsLine}
+use Rattle.b2sum_commands.specs.declared.line_reader.LineEnd.TheVariants.{Newline}
+use Rattle.b2sum_commands.proofs.Stopping.{stopped_between, stopped_in, some_bytes}
 use Rattle.b2sum_commands.specs.World.{world_of}
-use Rattle.b2sum_commands.specs.Manifests.{IsLine}
-use Rattle.b2sum_commands.specs.declared.check.Verdict.{Verdict}
-use Rattle.b2sum_commands.proofs.Judging.{count_step, no_bytes}
-use Rattle.b2sum_commands.proofs.Turns.{Sofar, sofar_start, sofar_step, sofar_end}
+use Rattle.b2sum_commands.proofs.Judging.{no_bytes}
+use Rattle.b2sum_commands.proofs.Reading.{reading_start, same_streams, found_end, found_last}
+use Rattle.b2sum_commands.proofs.Reading.{found_line, line_left}
+use Rattle.b2sum_commands.proofs.check.check_lines.Goals.{
+  else-ne-via-then-ne+else-is_empty,
+  else-ne-via-else-ne,
+}
 use Rattle.b2sum_commands.proofs.check.check_lines.Goals as goal
 
-pub lines-init : goal.lines-init
-lines-init g c =
-    let does = IsLine (world_of g.D.File.Source.failed (g.D.Disk.files c.args.host.now.disk)
-    g.H.Hashes.hashing) c.args.options.now c.args.manifest.now.is_input in (
-      [],
-      subst (λ (text : List ℕ). Sofar does (lines_of c.args.manifest.now.text.items)
-          c.args.session.now (lines_of text) c.args.session.now [])
-          (sym c.as_slice-rest.ensures.value) (sofar_start does _ _),
-      record {
-        equal = c.none-counts.ensures.equal;
-        fine = c.none-counts.ensures.fine;
-        formed = c.none-counts.ensures.formed;
-      },
-    )
+pub loop-number-init : goal.loop-number-init
+loop-number-init g c = record {
+  file = refl;
+  read = (
+    [],
+    reading_start _ _ _ _ _ _ c.requires,
+    record {
+      equal = c.none-counts.ensures.equal;
+      fine = c.none-counts.ensures.fine;
+      formed = c.none-counts.ensures.formed;
+    },
+  );
+}
 
-pub lines-preserved : goal.lines-preserved
-lines-preserved g c =
-    let does = IsLine (world_of g.D.File.Source.failed (g.D.Disk.files c.args.host.now.disk)
-    g.H.Hashes.hashing) c.args.options.now c.args.manifest.now.is_input in
-    let before = c.lines.invariant in
-    let v : Verdict = c.in_ok-verdict.verdict in (
-      before.0 ++ (v ∷ []),
-      sofar_step does _ c.args.session.now c.split_line.result.0.now
-          (lines_of c.split_line.result.1.now) c.lines.session c.check_line.new.session before.0 v
-          (subst (λ (lines : List (List ℕ)). Sofar does (lines_of c.args.manifest.now.text.items)
-          c.args.session.now lines c.lines.session before.0) c.split_line.ensures.first before.1)
-          c.in_ok-verdict.ensures,
-      count_step before.0 v c.lines.counts c.add.new.self before.2 c.add.ensures,
-    )
+pub returns-then-is_empty-clause-lines : goal.returns-then-is_empty-clause-lines
+returns-then-is_empty-clause-lines g c =
+    let before = c.loop-number.invariant.read in
+    let left = g.D.File.Source.left in
+    let now = c.loop-number.session in
+    let at : left c.session.inside.input ≡ now.left =
+    ap (λ (s : Streams). s.left) c.session.view_is in
+    let read = c.in_ok-end.ensures.passes in
+    let same = same_streams (is_none c.args.manifest.now.file) _ now (left c.read_line.new.input)
+    (ap (λ (s : Streams). record s { left = left c.read_line.new.input }) c.session.view_is)
+    (λ file. ap left (c.in_ok-end.ensures.other (c.loop-number.invariant.file ∙ file)) ∙ at) in
+    found_end _ _ _ _ c.args.session.now _ _ now before.0 c.in_ok-end.end read.0
+    c.read_line.new.line.items _ read.1 _ _ _ c.loop-number.counts c.counted.result before.1
+    before.2 (subst (λ (l : Option (List ℕ)). Consumes
+    (source_left left c.loop-number.manifest.file l) read.1 read.0) at read.2) read.3 read.4
+    (λ is. search (rules, is)) (no_bytes _ (search rules))
+    (record { last = c.counted.ensures.last; failure = c.counted.ensures.failure }) same
 
-pub returns : goal.returns
-returns g c =
-    let does = IsLine (world_of g.D.File.Source.failed (g.D.Disk.files c.args.host.now.disk)
-    g.H.Hashes.hashing) c.args.options.now c.args.manifest.now.is_input in
-    let before = c.lines.invariant in
-    let size : length c.lines.rest.now ≡ 0 = search rules in (
-      before.0,
-      sofar_end does _ c.args.session.now c.lines.session before.0
-          (subst (λ (rest : List ℕ). Sofar does (lines_of c.args.manifest.now.text.items)
-          c.args.session.now (lines_of rest) c.lines.session before.0)
-          (no_bytes c.lines.rest.now size) before.1),
-      before.2,
-    )
+pub returns-then-ne-2-clause-lines : goal.returns-then-ne-2-clause-lines
+returns-then-ne-2-clause-lines g c =
+    let before = c.loop-number.invariant.read in
+    let left = g.D.File.Source.left in
+    let now = c.loop-number.session in
+    let at : left c.session.inside.input ≡ now.left =
+    ap (λ (s : Streams). s.left) c.session.view_is in
+    let read = c.in_ok-end.ensures.passes in
+    let same = same_streams (is_none c.args.manifest.now.file) _ now (left c.read_line.new.input)
+    (ap (λ (s : Streams). record s { left = left c.read_line.new.input }) c.session.view_is)
+    (λ file. ap left (c.in_ok-end.ensures.other (c.loop-number.invariant.file ∙ file)) ∙ at) in
+    let w = world_of g.D.File.Source.failed (g.D.Disk.files c.args.host.now.disk)
+    g.H.Hashes.hashing in
+    let o = c.args.options.now in
+    let input : Bool = is_none c.args.manifest.now.file in
+    let mid : Streams = record {
+      left = left c.read_line.new.input;
+      held = g.K.Sink.held c.session.inside.output;
+      told = g.E.Sink.held c.session.inside.messages;
+      output_failed = g.K.Sink.failed c.session.inside.output;
+      messages_failed = g.E.Sink.failed c.session.inside.messages;
+      spacing = c.session.inside.spacing;
+    } in
+    let new : Streams = c.check_line.new.session in
+    let v = c.in_ok-verdict.verdict in
+    let items : List ℕ = c.read_line.new.line.items in
+    let file : is_none c.read_line.new.self.file ≡ input =
+    c.in_ok-end.ensures.same ∙ c.loop-number.invariant.file in
+    let line : IsLine w o input items mid new v =
+    subst (λ (xs : List ℕ). IsLine w o input xs mid new v) c.as_slice.ensures.value
+    (subst (λ (b : Bool). IsLine w o b c.as_slice.result.now mid new v) file
+    c.in_ok-verdict.ensures.checked) in
+    let some : 0 < length c.read_line.new.line.items = elim c.else-ne.branch [
+      | else-ne-via-then-ne+else-is_empty w ↦ search (rules, w.is_empty.ensures, w.if-is_empty)
+      | else-ne-via-else-ne w ↦ absurd (search (rules, w.if-ne, c.if-ne-2.true))
+    ] in
+    let stays = line_left left c.read_line.new.self.file w o input items mid new v file line in
+    found_last w o input _ c.args.session.now _ _ now before.0 c.in_ok-end.end read.0
+    items c.read_line.new.self.lines read.1 _ _ mid new v
+    c.loop-number.counts c.add.new.self c.counted-then-ne-2.result before.1
+    before.2 (subst (λ (l : Option (List ℕ)). Consumes
+    (source_left left c.loop-number.manifest.file l) read.1 read.0) at read.2) read.3
+    (subst (λ (l : Option (List ℕ)). IsAfter c.in_ok-end.end read.1 l
+    ((f : g.row.D-File.Denot) × (g.D.File.Source.failed f ≡ true))) stays read.4)
+    (λ is. search (rules, is)) some (record {
+      last = c.counted-then-ne-2.ensures.last;
+      failure = c.counted-then-ne-2.ensures.failure;
+    }) same line c.add.ensures
+
+pub loop-number-preserved : goal.loop-number-preserved
+loop-number-preserved g c =
+    let before = c.loop-number.invariant.read in
+    let left = g.D.File.Source.left in
+    let now = c.loop-number.session in
+    let at : left c.session.inside.input ≡ now.left =
+    ap (λ (s : Streams). s.left) c.session.view_is in
+    let read = c.in_ok-end.ensures.passes in
+    let same = same_streams (is_none c.args.manifest.now.file) _ now (left c.read_line.new.input)
+    (ap (λ (s : Streams). record s { left = left c.read_line.new.input }) c.session.view_is)
+    (λ file. ap left (c.in_ok-end.ensures.other (c.loop-number.invariant.file ∙ file)) ∙ at) in
+    let w = world_of g.D.File.Source.failed (g.D.Disk.files c.args.host.now.disk)
+    g.H.Hashes.hashing in
+    let o = c.args.options.now in
+    let input : Bool = is_none c.args.manifest.now.file in
+    let mid : Streams = record {
+      left = left c.read_line.new.input;
+      held = g.K.Sink.held c.session.inside.output;
+      told = g.E.Sink.held c.session.inside.messages;
+      output_failed = g.K.Sink.failed c.session.inside.output;
+      messages_failed = g.E.Sink.failed c.session.inside.messages;
+      spacing = c.session.inside.spacing;
+    } in
+    let new : Streams = c.check_line.new.session in
+    let v = c.in_ok-verdict.verdict in
+    let items : List ℕ = c.read_line.new.line.items in
+    let file : is_none c.read_line.new.self.file ≡ input =
+    c.in_ok-end.ensures.same ∙ c.loop-number.invariant.file in
+    let line : IsLine w o input items mid new v =
+    subst (λ (xs : List ℕ). IsLine w o input xs mid new v) c.as_slice.ensures.value
+    (subst (λ (b : Bool). IsLine w o b c.as_slice.result.now mid new v) file
+    c.in_ok-verdict.ensures.checked) in
+    let stays = line_left left c.read_line.new.self.file w o input items mid new v file line in
+    record {
+      file = file;
+      read = found_line w o input _ c.args.session.now _ _ now before.0 c.in_ok-end.end read.0
+          items _ read.1 _ _ mid new v
+          c.loop-number.counts c.add.new.self before.1
+          before.2 (subst (λ (l : Option (List ℕ)). Consumes
+          (source_left left c.loop-number.manifest.file l) read.1 read.0) at read.2) read.3
+          (subst (λ (l : Option (List ℕ)). IsAfter c.in_ok-end.end read.1 l
+          ((f : g.row.D-File.Denot) × (g.D.File.Source.failed f ≡ true))) stays read.4)
+          (search rules) same line c.add.ensures;
+    }
+
+pub returns-in_err-end-clause-stopped : goal.returns-in_err-end-clause-stopped
+returns-in_err-end-clause-stopped g c = λ _.
+    let before = c.loop-number.invariant.read in
+    stopped_between _ _ _ _ c.args.session.now _ _ c.loop-number.session _ before.0 before.1
+    (ap (λ (s : Streams). s.held) c.session.view_is)
+
+pub returns-in_err-verdict-clause-stopped : goal.returns-in_err-verdict-clause-stopped
+returns-in_err-verdict-clause-stopped g c = λ _.
+    let before = c.loop-number.invariant.read in
+    let left = g.D.File.Source.left in
+    let now = c.loop-number.session in
+    let at : left c.session.inside.input ≡ now.left =
+    ap (λ (s : Streams). s.left) c.session.view_is in
+    let read = c.in_ok-end.ensures.passes in
+    let same = same_streams (is_none c.args.manifest.now.file) _ now (left c.read_line.new.input)
+    (ap (λ (s : Streams). record s { left = left c.read_line.new.input }) c.session.view_is)
+    (λ file. ap left (c.in_ok-end.ensures.other (c.loop-number.invariant.file ∙ file)) ∙ at) in
+    let w = world_of g.D.File.Source.failed (g.D.Disk.files c.args.host.now.disk)
+    g.H.Hashes.hashing in
+    let o = c.args.options.now in
+    let input : Bool = is_none c.args.manifest.now.file in
+    let mid : Streams = record {
+      left = left c.read_line.new.input;
+      held = g.K.Sink.held c.session.inside.output;
+      told = g.E.Sink.held c.session.inside.messages;
+      output_failed = g.K.Sink.failed c.session.inside.output;
+      messages_failed = g.E.Sink.failed c.session.inside.messages;
+      spacing = c.session.inside.spacing;
+    } in
+    let new : Streams = c.check_line.new.session in
+    let items : List ℕ = c.read_line.new.line.items in
+    let file : is_none c.read_line.new.self.file ≡ input =
+    c.in_ok-end.ensures.same ∙ c.loop-number.invariant.file in
+    let begun : BeginsLine w o input items mid new =
+    subst (λ (xs : List ℕ). BeginsLine w o input xs mid new) c.as_slice.ensures.value
+    (subst (λ (b : Bool). BeginsLine w o b c.as_slice.result.now mid new) file
+    (c.in_err-verdict.ensures.begun refl)) in
+    let len : c.read_line.new.line.len ≡ length c.read_line.new.line.items =
+    search (rules, c.read_line.new.line.ok) in
+    let some : (c.in_ok-end.end ≡ Newline) ⊎ (0 < length c.read_line.new.line.items) =
+    elim c.else-ne.branch [
+      | else-ne-via-then-ne+else-is_empty w ↦ inr (some_bytes c.read_line.new.line.items _
+          (w.is_empty.ensures ∙ ap (λ (n : ℕ). n == 0) len) w.if-is_empty.false)
+      | else-ne-via-else-ne w ↦ inl (search (rules, w.if-ne))
+    ] in
+    stopped_in w o input _ c.args.session.now _ _ now before.0 c.in_ok-end.end read.0 items
+    c.read_line.new.self.lines read.1 _ mid new before.1
+    (subst (λ (l : Option (List ℕ)). Consumes
+    (source_left left c.loop-number.manifest.file l) read.1 read.0) at read.2) read.3 read.4 some
+    same begun
+
+pub returns-clause-stopped : goal.returns-clause-stopped
+returns-clause-stopped g c = λ _.
+    let before = c.loop-number.invariant.read in
+    stopped_between _ _ _ _ c.args.session.now _ _ c.loop-number.session _ before.0 before.1 refl

@@ -1,8 +1,9 @@
 use Rattle.std.proofs.Common.{Bool, ◌&&◌, [], ◌∷◌, ◌++◌, refl, ap, ◌∙◌, sym, arith}
-use Rattle.b2sum_commands.specs.World.{world_of}
-use Rattle.b2sum_commands.specs.Checks.{IsChecked}
 use Rattle.b2sum_commands.proofs.Joining.{all_more}
-use Rattle.b2sum_commands.proofs.Turns.{items_of, sofar_start, name_step, names_end}
+use Rattle.b2sum_commands.proofs.Stopping.{stops}
+use Rattle.b2sum_commands.proofs.Turns.{sofar_start, name_step, name_stops, names_end, items_of}
+use Rattle.b2sum_commands.specs.World.{world_of, AllInTurn, Ends, Stops}
+use Rattle.b2sum_commands.specs.Checks.{IsChecked}
 use Rattle.b2sum_commands.proofs.check.check_manifests.Goals as goal
 
 pub loop-name-init : goal.loop-name-init
@@ -15,15 +16,29 @@ loop-name-preserved g c =
       before.0 ++ (one ∷ []),
       name_step _ c.args.names.now _ c.loop-name.name-index c.name-item.result c.as_slice.result.now
           c.loop-name.session c.check_manifest.new.session before.0 one c.loop-name-test.true c.name-item.is
-          c.as_slice.ensures.value before.1 c.in_ok-holds.ensures,
+          c.as_slice.ensures.value before.1 c.in_ok-holds.ensures.checked,
       ap (λ b. b && one) before.2 ∙ sym (all_more (λ well. well) before.0 one),
     )
 
-pub returns : goal.returns
-returns g c =
+pub returns-clause-checked : goal.returns-clause-checked
+returns-clause-checked g c =
     let before = c.loop-name.invariant in (
       before.0,
       names_end _ c.args.names.now _ c.loop-name.name-index c.loop-name.session before.0
           (omega (arith, c.loop-name-test.false)) before.1,
       before.2,
     )
+
+pub returns-in_err-holds-clause-checked : goal.returns-in_err-holds-clause-checked
+returns-in_err-holds-clause-checked g c =
+    let w = world_of g.D.File.Source.failed (g.D.Disk.files c.args.host.now.disk)
+    g.H.Hashes.hashing in
+    let does = IsChecked w c.args.options.now in
+    let names = c.args.names.now in
+    let before = c.loop-name.invariant in
+    stops (AllInTurn does (items_of names) c.args.session.now c.check_manifest.new.session)
+    c.from_residual.result _ c.from_residual.ensures.1
+    (name_stops (Ends does) (Stops does) names c.args.session.now c.loop-name.name-index
+    c.name-item.result c.as_slice.result.now c.loop-name.session c.check_manifest.new.session before.0
+    c.loop-name-test.true c.name-item.is c.as_slice.ensures.value before.1
+    c.in_err-holds.ensures.checked)

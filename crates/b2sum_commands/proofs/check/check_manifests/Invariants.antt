@@ -1,13 +1,13 @@
 use Rattle.std.proofs.Common.{◌≡◌, Bool, List, drop}
 use Rattle.std.specs.List.{list_all}
-use Rattle.b2sum_commands.specs.World.{world_of}
+use Rattle.b2sum_commands.specs.World.{world_of, Ends}
 use Rattle.b2sum_commands.specs.Checks.{IsChecked}
 use Rattle.b2sum_commands.proofs.Turns.{Sofar, items_of}
 use Rattle.b2sum_commands.proofs.check.check_manifests.Given as goal
 
 abbrev pub invariant-loop-name : goal.invariant-loop-name
 invariant-loop-name g l =
-    (each : List Bool) × Sofar (IsChecked (world_of g.D.File.Source.failed
-    (g.D.Disk.files l.host.disk) g.H.Hashes.hashing) l.options) (items_of l.names) l.fn.session
+    (each : List Bool) × Sofar (Ends (IsChecked (world_of g.D.File.Source.failed
+    (g.D.Disk.files l.host.disk) g.H.Hashes.hashing) l.options)) (items_of l.names) l.fn.session
     (items_of (drop l.name-index l.names)) l.session each
     × (l.all_hold ≡ list_all (λ well. well) each)

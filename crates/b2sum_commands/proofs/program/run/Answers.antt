@@ -1,13 +1,48 @@
-use Rattle.std.proofs.Common.{inr, arith, rules}
+use Rattle.std.proofs.Common.{true, false, refl, rules}
+use Rattle.b2sum_commands.specs.declared.program.TheConstants.{HELP, VERSION}
+use Rattle.b2sum_commands.specs.Accepted.{command_line}
+use Rattle.b2sum_commands.specs.Found.{Streams}
+use Rattle.b2sum_commands.specs.World.{world_of}
+use Rattle.b2sum_commands.proofs.Telling.{HasRun, done_run, refused_run}
+use Rattle.b2sum_commands.proofs.Turns.{items_of}
 use Rattle.b2sum_commands.proofs.program.run.Goals as goal
 
-pub returns-in-Err-NoMemory-clause-failure : goal.returns-in-Err-NoMemory-clause-failure
-returns-in-Err-NoMemory-clause-failure g c = λ _.
-    inr (inr (c.session.inside.messages, (_, omega arith, c.tell.ensures)))
+pub returns-in-Ok-true-clause-line : goal.returns-in-Ok-true-clause-line
+returns-in-Ok-true-clause-line g c =
+    done_run _ _ _ _ c.args.session.now c.run_words.new.session c.in-Ok-true.field-0 true 0
+    (search rules) refl c.in-Ok-true.ensures.line
+
+pub returns-in-Ok-false-clause-line : goal.returns-in-Ok-false-clause-line
+returns-in-Ok-false-clause-line g c =
+    done_run _ _ _ _ c.args.session.now c.run_words.new.session c.in-Ok-false.field-0 false 1
+    (search rules) refl c.in-Ok-false.ensures.line
+
+pub returns-in-Err-WriteFailed-clause-refused : goal.returns-in-Err-WriteFailed-clause-refused
+returns-in-Err-WriteFailed-clause-refused g c =
+    let new : Streams = record {
+      left = g.D.File.Source.left c.session.inside.input;
+      held = g.K.Sink.held c.session.inside.output;
+      told = g.E.Sink.held c.warn_of_write.new.messages;
+      output_failed = g.K.Sink.failed c.session.inside.output;
+      messages_failed = g.E.Sink.failed c.warn_of_write.new.messages;
+      spacing = c.session.inside.spacing;
+    } in
+    let run : HasRun (world_of g.D.File.Source.failed (g.D.Disk.files c.args.host.now.disk)
+    g.H.Hashes.hashing) HELP.now VERSION.now (command_line (items_of c.args.words.now))
+    c.args.session.now new 1 = search rules in
+    refused_run _ _ _ _ c.args.session.now new 1 run
 
 pub returns-in-Err-NoMemory-clause-refused : goal.returns-in-Err-NoMemory-clause-refused
-returns-in-Err-NoMemory-clause-refused g c = λ refused. (
-  search rules,
-  search (rules, refused),
-  inr (c.session.inside.messages, (_, omega arith, c.tell.ensures)),
-)
+returns-in-Err-NoMemory-clause-refused g c =
+    let new : Streams = record {
+      left = g.D.File.Source.left c.session.inside.input;
+      held = g.K.Sink.held c.session.inside.output;
+      told = g.E.Sink.held c.tell.new.sink;
+      output_failed = g.K.Sink.failed c.session.inside.output;
+      messages_failed = g.E.Sink.failed c.tell.new.sink;
+      spacing = c.session.inside.spacing;
+    } in
+    let run : HasRun (world_of g.D.File.Source.failed (g.D.Disk.files c.args.host.now.disk)
+    g.H.Hashes.hashing) HELP.now VERSION.now (command_line (items_of c.args.words.now))
+    c.args.session.now new 1 = search rules in
+    refused_run _ _ _ _ c.args.session.now new 1 run

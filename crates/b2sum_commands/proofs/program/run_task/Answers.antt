@@ -1,5 +1,6 @@
-use Rattle.std.proofs.Common.{◌≡◌, List, Vec, ℕ, Global, inl, IfSome, subst, ap, ◌∙◌}
-use Rattle.std.proofs.lemmas.Result.{IfOk-weaker}
+use Rattle.std.proofs.Common.{◌≡◌, List, Vec, ℕ, Global, inl, inr, refl, IfSome, subst, ap, ◌∙◌, rules}
+use Rattle.b2sum_lines.specs.Lines.{max_bytes}
+use Rattle.std.specs.Result.{result_ok}
 use Rattle.b2sum_lines.specs.declared.entry.Spacing.TheVariants.{Open}
 use Rattle.b2sum_commands.specs.declared.options.Options.{Options}
 use Rattle.b2sum_commands.specs.Found.{Streams}
@@ -8,13 +9,24 @@ use Rattle.b2sum_commands.specs.Sums.{IsSum}
 use Rattle.b2sum_commands.specs.Checks.{IsChecked}
 use Rattle.b2sum_commands.specs.Accepted.{AreOptions}
 use Rattle.std.specs.Option.{option_map}
-use Rattle.b2sum_commands.specs.Runs.{HasKey, AfterKey}
+use Rattle.b2sum_commands.specs.Runs.{HasKey, AfterKey, IsKeyless, DoesChoice}
+use Rattle.b2sum_commands.proofs.Stopping.{stops}
 use Rattle.b2sum_commands.proofs.Turns.{items_of}
 use Rattle.b2sum_commands.proofs.Doing.{checks_done, sums_done}
 use Rattle.b2sum_commands.proofs.program.run_task.Goals as goal
 
-pub returns-then-options : goal.returns-then-options
-returns-then-options g c = λ ch are given.
+pub returns-in_default-clause-choice : goal.returns-in_default-clause-choice
+returns-in_default-clause-choice g c = λ ch are given. inr (
+  refl,
+  c.args.arguments.options,
+  are,
+  subst (λ file. IsKeyless (world_of g.D.File.Source.failed (g.D.Disk.files c.args.host.now.disk)
+      g.H.Hashes.hashing) file (max_bytes c.args.arguments.options.algorithm) c.args.session.now
+      c.with_key.new.session) given (c.in_ok-options.ensures.keyless (search rules)),
+)
+
+pub returns-then-options-2-clause-choice : goal.returns-then-options-2-clause-choice
+returns-then-options-2-clause-choice g c = λ ch are given.
     let w = world_of g.D.File.Source.failed (g.D.Disk.files c.args.host.now.disk)
     g.H.Hashes.hashing in
     let o = c.in-Some.options in
@@ -30,16 +42,16 @@ returns-then-options g c = λ ch are given.
     let begun : c.begin_checks.new.self ≡ record keyed { spacing = Open } =
     c.begin_checks.ensures ∙ ap (λ (s : Streams). record s { spacing = Open })
     c.make_room.ensures in
-    IfOk-weaker c.check_manifests.result _ _ (λ well done. inl (checks_done w ch o
+    let end = result_ok c.check_manifests.result in
+    inl (checks_done w ch o
     (items_of c.args.arguments.files.items) old keyed c.begin_checks.new.self
-    c.check_manifests.new.session well chosen after
-    c.if-options.true begun
+    c.check_manifests.new.session end chosen after c.if-options-2.true begun
     (subst (λ (ns : List (Vec ℕ Global)). AllInTurn (IsChecked w o) (items_of ns)
-    c.begin_checks.new.self c.check_manifests.new.session well) c.as_slice-names.ensures.value done)))
-    c.check_manifests.ensures
+    c.begin_checks.new.self c.check_manifests.new.session end) c.as_slice-names.ensures.value
+    c.check_manifests.ensures.checked))
 
-pub returns : goal.returns
-returns g c = λ ch are given.
+pub returns-clause-choice : goal.returns-clause-choice
+returns-clause-choice g c = λ ch are given.
     let w = world_of g.D.File.Source.failed (g.D.Disk.files c.args.host.now.disk)
     g.H.Hashes.hashing in
     let o = c.in-Some.options in
@@ -53,10 +65,26 @@ returns g c = λ ch are given.
     (option_map (λ (n : Vec ℕ Global). n.items) c.args.arguments.key_file) old keyed)) c.in-Some.is
     c.in_ok-options.ensures.kept) in
     let begun : c.make_room.new.self ≡ keyed = c.make_room.ensures in
-    IfOk-weaker c.print_sums.result _ _ (λ well done. inl (sums_done w ch o
+    let end = result_ok c.print_sums.result in
+    inl (sums_done w ch o
     (items_of c.args.arguments.files.items) old keyed c.make_room.new.self
-    c.print_sums.new.session well chosen after
-    c.if-options.false begun
+    c.print_sums.new.session end chosen after c.if-options-2.false begun
     (subst (λ (ns : List (Vec ℕ Global)). AllInTurn (IsSum w o) (items_of ns)
-    c.make_room.new.self c.print_sums.new.session well) c.as_slice-names.ensures.value done)))
-    c.print_sums.ensures
+    c.make_room.new.self c.print_sums.new.session end) c.as_slice-names.ensures.value
+    c.print_sums.ensures.lines))
+
+pub returns-in_err-options-clause-choice : goal.returns-in_err-options-clause-choice
+returns-in_err-options-clause-choice g c = λ ch are given.
+    let w = world_of g.D.File.Source.failed (g.D.Disk.files c.args.host.now.disk)
+    g.H.Hashes.hashing in
+    stops (DoesChoice w ch (items_of c.args.arguments.files.items) c.args.session.now
+    c.with_key.new.session) _ _ c.from_residual.ensures.1
+    (inr c.in_err-options.ensures.held)
+
+pub returns-in_err-make_room-clause-choice : goal.returns-in_err-make_room-clause-choice
+returns-in_err-make_room-clause-choice g c = λ ch are given.
+    let w = world_of g.D.File.Source.failed (g.D.Disk.files c.args.host.now.disk)
+    g.H.Hashes.hashing in
+    stops (DoesChoice w ch (items_of c.args.arguments.files.items) c.args.session.now
+    c.make_room.new.self) _ _ c.from_residual-in_err-make_room.ensures.1
+    (inr (ap (λ (s : Streams). s.held) c.make_room.ensures ∙ c.in_ok-options.ensures.held))

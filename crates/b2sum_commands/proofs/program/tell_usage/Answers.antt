@@ -1,6 +1,15 @@
-use Rattle.std.proofs.Common.{arith}
-use Rattle.b2sum_commands.proofs.Telling.{more_message}
+use Rattle.std.proofs.Common.{refl, arith}
+use Rattle.b2sum_commands.proofs.Telling.{more_message, message_more, unsaid_more}
 use Rattle.b2sum_commands.proofs.program.tell_usage.Goals as goal
 
-pub returns : goal.returns
-returns g c = more_message _ _ _ _ _ _ _ _ (omega arith) c.in_ok-warn.ensures.line c.tell.ensures
+pub returns-clause-told : goal.returns-clause-told
+returns-clause-told g c =
+    more_message _ _ _ _ _ _ _ _ (omega arith) c.in_ok-warn.ensures.line c.tell.ensures
+
+pub returns-clause-more : goal.returns-clause-more
+returns-clause-more g c = message_more _ _ _ _
+    (more_message _ _ _ _ _ _ _ _ (omega arith) c.in_ok-warn.ensures.line c.tell.ensures)
+
+pub returns-in_err-warn-clause-more : goal.returns-in_err-warn-clause-more
+returns-in_err-warn-clause-more g c =
+    unsaid_more g.E.Sink.failed g.E.Sink.held _ _ (c.in_err-warn.ensures.unsaid refl)

@@ -1,27 +1,55 @@
-use Rattle.std.proofs.Common.{◌≡◌, Some, IfSome, refl, sym, subst, ap, ◌∙◌, rules}
+use Rattle.std.proofs.Common.{◌≡◌, ◌⊎◌, ℕ, List, true, refl, sym, subst, ap, rules}
+use Rattle.b2sum_lines.specs.Lines.{max_bytes}
 use Rattle.b2sum_commands.specs.Found.{Streams}
-use Rattle.b2sum_commands.specs.World.{HasMessage}
+use Rattle.b2sum_commands.specs.World.{HasMessage, IsNoKey, world_of}
+use Rattle.b2sum_commands.proofs.Doing.{input_lacks_key, file_lacks_key, opened_lacks_key}
 use Rattle.b2sum_commands.proofs.program.with_key.Goals.{then-is_dash+in_ok-found, else-is_dash+in_ok-found-2}
 use Rattle.b2sum_commands.proofs.program.with_key.Goals as goal
 
 pub returns-in_default-clause-kept : goal.returns-in_default-clause-kept
 returns-in_default-clause-kept g c = (c.args.session.now.left, refl, λ _. refl)
 
-pub returns-in_default-found-clause-told : goal.returns-in_default-found-clause-told
-returns-in_default-found-clause-told g c = λ _. elim c.if-is_dash.branch [
-  | then-is_dash+in_ok-found w ↦ subst (λ (n : Streams). HasMessage
-      c.args.session.now.messages_failed n.messages_failed c.args.session.now.told n.told)
-      (sym w.session-is) (subst (λ (s : Streams). HasMessage s.messages_failed
-      (g.E.Sink.failed w.read_key_from.new.messages) s.told
-      (g.E.Sink.held w.read_key_from.new.messages)) c.session.view_is
-      (w.in_ok-found.ensures.told (search (rules, w.found-is))))
-  | else-is_dash+in_ok-found-2 w ↦ subst (λ (n : Streams). HasMessage
-      c.args.session.now.messages_failed n.messages_failed c.args.session.now.told n.told)
-      (sym w.session-is) (subst (λ (s : Streams). HasMessage s.messages_failed
-      (g.E.Sink.failed w.read_key.new.messages) s.told
-      (g.E.Sink.held w.read_key.new.messages)) c.session.view_is
-      (w.in_ok-found-2.ensures.told (search (rules, w.found-is))))
-]
+pub returns-in_default-found-clause-keyless : goal.returns-in_default-found-clause-keyless
+returns-in_default-found-clause-keyless g c = λ _.
+    let w = world_of g.D.File.Source.failed (g.D.Disk.files c.args.host.now.disk)
+    g.H.Hashes.hashing in
+    let left = g.D.File.Source.left in
+    let name : List ℕ = c.as_slice-name.result.now in
+    let most : c.max_bytes-most.result ≡ max_bytes c.args.options.algorithm =
+    c.max_bytes-most.ensures.is in
+    elim c.if-is_dash.branch [
+      | then-is_dash+in_ok-found w' ↦ record {
+        name = name;
+        named = search (rules, c.in-Some.is, c.as_slice-name.ensures);
+        cause = input_lacks_key w c.args.session.now.left _ name (search (rules, w'.if-is_dash))
+            (opened_lacks_key g.D.File.Source.failed w'.read_key_from.new.file
+            (left c.session.inside.input) c.args.session.now.left _ _
+            (ap (λ (s : Streams). s.left) c.session.view_is) most
+            (w'.in_ok-found.ensures.cause (search (rules, w'.found-is))));
+        kept = search (rules, w'.session-is, c.session.view_is);
+        told = subst (λ (n : Streams). HasMessage
+            c.args.session.now.messages_failed n.messages_failed c.args.session.now.told n.told)
+            (sym w'.session-is) (subst (λ (s : Streams). HasMessage s.messages_failed
+            (g.E.Sink.failed w'.read_key_from.new.messages) s.told
+            (g.E.Sink.held w'.read_key_from.new.messages)) c.session.view_is
+            (w'.in_ok-found.ensures.told (search (rules, w'.found-is))));
+      }
+      | else-is_dash+in_ok-found-2 w' ↦ record {
+        name = name;
+        named = search (rules, c.in-Some.is, c.as_slice-name.ensures);
+        cause = file_lacks_key w c.args.session.now.left _ name (search (rules, w'.if-is_dash))
+            (subst (λ (n : ℕ). (w.files.refuses name ≡ true)
+            ⊎ (IsNoKey (w.files.holds name) n ⊎ w.breaks)) most
+            (w'.in_ok-found-2.ensures.cause (search (rules, w'.found-is))));
+        kept = search (rules, w'.session-is, c.session.view_is);
+        told = subst (λ (n : Streams). HasMessage
+            c.args.session.now.messages_failed n.messages_failed c.args.session.now.told n.told)
+            (sym w'.session-is) (subst (λ (s : Streams). HasMessage s.messages_failed
+            (g.E.Sink.failed w'.read_key.new.messages) s.told
+            (g.E.Sink.held w'.read_key.new.messages)) c.session.view_is
+            (w'.in_ok-found-2.ensures.told (search (rules, w'.found-is))));
+      }
+    ]
 
 pub returns-clause-kept : goal.returns-clause-kept
 returns-clause-kept g c =

@@ -1,0 +1,19 @@
+use Rattle.std.proofs.Common.{◌≡◌, subst, rules}
+use Rattle.b2sum_commands.specs.World.{StopsIn}
+use Rattle.b2sum_commands.specs.Manifests.{with_name}
+use Rattle.b2sum_commands.proofs.Stopping.{on_err}
+use Rattle.b2sum_commands.proofs.check.print_outcome.Goals.{
+  then-contains+in_ok-extend_from_slice+in_ok-push_escaped,
+  else-contains+in_ok-extend_from_slice-2,
+}
+use Rattle.b2sum_commands.proofs.check.print_outcome.Goals as goal
+
+pub returns-in_err-put-clause-part : goal.returns-in_err-put-clause-part
+returns-in_err-put-clause-part g c =
+    let text : c.as_slice.result.now ≡ with_name c.args.name.now c.args.outcome.now =
+    elim c.if-contains.branch [
+      | then-contains+in_ok-extend_from_slice+in_ok-push_escaped w ↦ search rules
+      | else-contains+in_ok-extend_from_slice-2 w ↦ search rules
+    ] in
+    on_err _ _ (subst (StopsIn (g.K.Sink.held c.args.output.now) (g.K.Sink.held c.put.new.sink)) text
+    c.in_err-put.ensures.part)

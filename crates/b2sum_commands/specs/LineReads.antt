@@ -1,0 +1,30 @@
+-- The lines of what a source returns.
+use Rattle.std.specs.Prelude.{◌≡◌, ℕ, ◌==◌, false, List, ◌∷◌, ◌++◌, Option, Some, None}
+use Rattle.std.specs.Io.KnownBytes.{IsAtEnd}
+use Rattle.std.specs.List.{All}
+use Rattle.b2sum_commands.specs.declared.line_reader.LineEnd.{LineEnd}
+use Rattle.b2sum_commands.specs.declared.line_reader.LineEnd.TheVariants.{Newline, Last, Failure}
+
+-- No byte is a newline.
+abbrev pub IsOneLine : List ℕ → Type 0
+IsOneLine line = All (λ b. (b == 10) ≡ false) line
+
+-- The line is cut off from what was unread and more bytes that were read, and what comes after its
+-- newline is unread. If no newline comes after it, nothing is.
+abbrev pub IsCutOff : LineEnd → List ℕ → List ℕ → List ℕ → List ℕ → Type 0
+IsCutOff Newline old more line new = IsOneLine line × (old ++ more ≡ line ++ (10 ∷ new))
+IsCutOff Last old more line new = IsOneLine line × (old ++ more ≡ line)
+IsCutOff Failure old more line new = IsOneLine line × (old ++ more ≡ line)
+
+-- Where a source is after a line: it has `rest` left, which is nothing if it is at its end. If a
+-- read failed, that is so, and what is left is not known.
+abbrev pub IsAfter : LineEnd → Option (List ℕ) → Option (List ℕ) → Type 0 → Type 0
+IsAfter Newline rest left failed = rest ≡ left
+IsAfter Last rest left failed = (rest ≡ left) × IsAtEnd left
+IsAfter Failure rest left failed = failed
+
+-- What is left of a manifest: of its file, or of standard input if it has none.
+abbrev pub source_left : {F : Type 0} → (F → Option (List ℕ)) → Option F → Option (List ℕ)
+    → Option (List ℕ)
+source_left left None input = input
+source_left left (Some file) input = left file

@@ -1,0 +1,329 @@
+//! Which options go together, and what they choose.
+
+ghost use Rattle.std.specs.Prelude.{◌≡◌, ◌≢◌, ◌*◌, ◌≤◌, ◌/◌, length, map, true, false, [], None};
+ghost use Rattle.std.specs.Prelude.{Some, IfSome, IfOk, IfErr, OnOk, is_none};
+ghost use Rattle.std.specs.List.{list_any};
+ghost use Rattle.b2sum_lines.specs.Lines.{max_bytes, is_tree};
+ghost use Rattle.b2sum_lines.specs.declared.entry.Algorithm.TheVariants.{Tree};
+ghost use Rattle.b2sum_lines.specs.declared.entry.Style.TheVariants.{Tagged, Text, Binary};
+ghost use Rattle.b2sum_commands.specs.declared.options.Report.TheVariants.{Each};
+ghost use Rattle.b2sum_commands.specs.Accepted.{accepted, has_length, has_labels, goes_together};
+ghost use Rattle.b2sum_commands.specs.Accepted.{goes_with_check, goes_with_sums, goes_with_files};
+ghost use Rattle.b2sum_commands.specs.Accepted.{chosen_needs, chosen_style, chosen_shape};
+ghost use Rattle.b2sum_commands.specs.Accepted.{has_bytes, has_trees, with_leaf, AreOptions};
+ghost use Rattle.b2sum_commands.specs.Sums.{is_dash};
+ghost use Rattle.b2sum_commands.specs.Readers.{choice_of, IsUnfit};
+
+use crate::options::{Arguments, Options, Reader, Report, Shape, Stop, joined};
+use crate::sums::is_dash;
+use b2sum_lines::{Algorithm, Needs, Style};
+use std::alloc::Global;
+
+/// Checks the options against one another.
+pub(crate) fn finish(alloc: Global, reader: Reader, files: Vec<Vec<u8>>) -> Result<Arguments, Stop>
+    ensures size { IfOk result (λ a. a.options.bytes ≤ 64) }
+    ensures accepted { OnOk result
+        (accepted (choice_of reader) (map (λ file. file.items) files.items) ≡ true) }
+    ensures options { IfOk result (λ a. AreOptions (choice_of reader) a.options) }
+    ensures no_key { IfOk result (λ a. a.options.key.items ≡ []) }
+    ensures files { IfOk result (λ a. a.files ≡ files) }
+    ensures key_file { IfOk result (λ a. a.key_file ≡ reader.key_file) }
+    ensures stop { IfErr result
+        (IsUnfit (accepted (choice_of reader) (map (λ file. file.items) files.items))) }
+{
+    check_length(alloc, &reader)?;
+    if let Some(text) = conflict(&reader) {
+        return Err(Stop::Usage(joined(alloc, text, b"", b"")?));
+    }
+    check_labels(alloc, &reader)?;
+    if let Some(text) = conflict_of_files(&reader, files.as_slice()) {
+        return Err(Stop::Usage(joined(alloc, text, b"", b"")?));
+    }
+    let bytes = output_bytes(&reader);
+    let demands_length = reader.bits != 0 || reader.key_file.is_some();
+    let shape = shape_of(&reader);
+    let needs = needs_of(&reader);
+    let style = style_of(&reader);
+    let chosen = chosen_algorithm(&reader);
+    let Reader {
+        algorithm: _,
+        leaf: _,
+        bits: _,
+        bits_text: _,
+        key_file,
+        salt,
+        persona,
+        checks,
+        is_binary: _,
+        is_tagged: _,
+        ends_zero,
+        ignores_missing,
+        report,
+        is_strict,
+        threads,
+        shows_progress,
+        has_no_names: _,
+        is_raw: _,
+    } = reader;
+    let options = Options {
+        algorithm: chosen,
+        bytes,
+        demands_length,
+        key: Vec::new(alloc),
+        needs,
+        salt,
+        persona,
+        checks,
+        shape,
+        style,
+        ends_zero,
+        ignores_missing,
+        report,
+        is_strict,
+        threads,
+        shows_progress,
+    };
+    Ok(Arguments {
+        options,
+        files,
+        key_file,
+    })
+}
+
+// Returns the algorithm, with the leaves of a tree.
+fn chosen_algorithm(reader: &Reader) -> Algorithm
+    ensures is { result ≡ with_leaf reader.now.algorithm reader.now.leaf }
+    ensures most { (reader.now.leaf ≢ None → has_trees reader.now.algorithm ≡ true)
+        → max_bytes result ≡ max_bytes reader.now.algorithm }
+    ensures leaf { is_tree result ≡ false → reader.now.leaf ≡ None }
+    ensures plain { reader.now.leaf ≡ None → result ≡ reader.now.algorithm }
+    ensures tree { IfSome reader.now.leaf (λ leaf. result ≡ Tree leaf) }
+{
+    match reader.leaf {
+        Some(leaf) => Algorithm::Tree(leaf),
+        None => reader.algorithm,
+    }
+}
+
+// Returns the number of bytes of the digests that are printed, at most 64.
+fn output_bytes(reader: &Reader) -> usize
+    ensures size { result ≤ 64 }
+    ensures most { result ≤ max_bytes reader.now.algorithm }
+    ensures whole { reader.now.bits ≡ 0 → result ≡ max_bytes reader.now.algorithm }
+    ensures given { reader.now.bits ≢ 0 → reader.now.bits ≤ 8 * max_bytes reader.now.algorithm
+        → result ≡ reader.now.bits / 8 }
+{
+    let most = reader.algorithm.max_bytes();
+    if reader.bits == 0 {
+        most
+    } else {
+        ((reader.bits / 8) as usize).min(most)
+    }
+}
+
+fn shape_of(reader: &Reader) -> Shape
+    ensures { result ≡ chosen_shape (choice_of reader.now) }
+{
+    if reader.is_raw {
+        Shape::Bytes
+    } else if reader.has_no_names {
+        Shape::Digits
+    } else {
+        Shape::Named
+    }
+}
+
+// Returns what the digests need besides a file.
+fn needs_of(reader: &Reader) -> Needs
+    ensures { result ≡ chosen_needs (choice_of reader.now) }
+{
+    Needs {
+        key: reader.key_file.is_some(),
+        salt: !reader.salt.is_empty(),
+        personal: !reader.persona.is_empty(),
+    }
+}
+
+fn style_of(reader: &Reader) -> Style
+    ensures is { result ≡ chosen_style (choice_of reader.now) }
+    ensures tagged { reader.now.leaf ≢ None
+        → result ≡ Tagged (chosen_needs (choice_of reader.now)) }
+    ensures text { reader.now.leaf ≡ None → reader.now.is_tagged ≡ false
+        → reader.now.is_binary ≡ None → result ≡ Text }
+    ensures tags { reader.now.is_tagged ≡ true
+        → result ≡ Tagged (chosen_needs (choice_of reader.now)) }
+    ensures binary { reader.now.leaf ≡ None → reader.now.is_tagged ≡ false
+        → reader.now.is_binary ≡ Some true → result ≡ Binary }
+    ensures plain { reader.now.leaf ≡ None → reader.now.is_tagged ≡ false
+        → reader.now.is_binary ≢ Some true → result ≡ Text }
+{
+    if reader.is_tagged || reader.leaf.is_some() {
+        Style::Tagged(needs_of(reader))
+    } else if reader.is_binary == Some(true) {
+        Style::Binary
+    } else {
+        Style::Text
+    }
+}
+
+// Refuses a length that the algorithm does not have.
+fn check_length(alloc: Global, reader: &Reader) -> Result<(), Stop>
+    ensures length { OnOk result (has_length (choice_of reader.now) ≡ true) }
+    ensures bits { OnOk result (reader.now.bits ≤ 8 * max_bytes reader.now.algorithm) }
+    ensures stop { IfErr result (IsUnfit (has_length (choice_of reader.now))) }
+{
+    if reader.bits <= 8 * reader.algorithm.max_bytes() as u64 {
+        return Ok(());
+    }
+    let first = joined(alloc, b"invalid length: ", reader.bits_text.as_slice(), b"")?;
+    let name = reader.algorithm.tag(alloc)?;
+    let reason: &[u8] = if reader.algorithm.max_bytes() == 32 {
+        b"' is 256 bits"
+    } else {
+        b"' is 512 bits"
+    };
+    let second = joined(
+        alloc,
+        b"maximum digest length for '",
+        name.as_slice(),
+        reason,
+    )?;
+    Err(Stop::Value(first, second))
+}
+
+// Refuses a salt and a persona that are longer than the algorithm's.
+fn check_labels(alloc: Global, reader: &Reader) -> Result<(), Stop>
+    ensures labels { OnOk result (has_labels (choice_of reader.now) ≡ true) }
+    ensures salt { OnOk result
+        (4 * length reader.now.salt.items ≤ max_bytes reader.now.algorithm) }
+    ensures persona { OnOk result
+        (4 * length reader.now.persona.items ≤ max_bytes reader.now.algorithm) }
+    ensures stop { IfErr result (IsUnfit (has_labels (choice_of reader.now))) }
+{
+    let most = reader.algorithm.max_bytes() / 4;
+    let reason: &[u8] = if reader.salt.len() > most {
+        b"the salt is too long: at most 16 bytes, 8 for BLAKE2s and BLAKE2sp"
+    } else if reader.persona.len() > most {
+        b"the personalization is too long: at most 16 bytes, 8 for BLAKE2s and BLAKE2sp"
+    } else {
+        return Ok(());
+    };
+    Err(Stop::Usage(joined(alloc, reason, b"", b"")?))
+}
+
+// Returns whether the algorithm has trees.
+fn has_trees(algorithm: Algorithm) -> bool
+    ensures { result ≡ has_trees algorithm }
+{
+    matches!(algorithm, Algorithm::Blake2b | Algorithm::Tree(_))
+}
+
+// Returns the message of options that do not go together.
+fn conflict(reader: &Reader) -> Option<&'static [u8]>
+    ensures is { is_none result ≡ goes_together (choice_of reader.now) }
+    ensures tree { result ≡ None → reader.now.leaf ≢ None
+        → has_trees reader.now.algorithm ≡ true }
+    ensures check { result ≡ None → reader.now.checks ≡ true → (reader.now.ends_zero ≡ false)
+        × (reader.now.is_tagged ≡ false) × (reader.now.is_binary ≡ None) }
+    ensures sums { result ≡ None → reader.now.checks ≡ false
+        → (reader.now.ignores_missing ≡ false) × (reader.now.is_strict ≡ false)
+        × (reader.now.report ≡ Each) }
+{
+    if reader.is_tagged && reader.is_binary == Some(false) {
+        return Some(b"--tag does not support --text mode");
+    }
+    if reader.is_tagged && (reader.has_no_names || reader.is_raw) {
+        return Some(b"--tag does not support --no-names and --raw");
+    }
+    if reader.leaf.is_some() {
+        if !has_trees(reader.algorithm) {
+            return Some(b"the --tree option supports blake2b only");
+        }
+        if reader.key_file.is_some() {
+            return Some(b"the --tree option does not support --key-file");
+        }
+        if reader.is_binary == Some(false) && !reader.checks {
+            return Some(b"--tree does not support --text mode");
+        }
+    }
+    if reader.checks {
+        conflict_of_check(reader)
+    } else {
+        conflict_of_sums(reader)
+    }
+}
+
+fn conflict_of_check(reader: &Reader) -> Option<&'static [u8]>
+    ensures is { is_none result ≡ goes_with_check (choice_of reader.now) }
+    ensures check { result ≡ None → (reader.now.ends_zero ≡ false)
+        × (reader.now.is_tagged ≡ false) × (reader.now.is_binary ≡ None) }
+{
+    if reader.ends_zero {
+        return Some(b"the --zero option is not supported when verifying checksums");
+    }
+    if reader.is_tagged {
+        return Some(b"the --tag option is meaningless when verifying checksums");
+    }
+    if reader.is_binary.is_some() {
+        return Some(b"the --binary and --text options are meaningless when verifying checksums");
+    }
+    if reader.has_no_names || reader.is_raw {
+        return Some(b"the --no-names and --raw options are meaningless when verifying checksums");
+    }
+    None
+}
+
+// Returns the message of options that do not go with these files.
+fn conflict_of_files(reader: &Reader, files: &[Vec<u8>]) -> Option<&'static [u8]>
+    ensures { is_none result ≡ goes_with_files (choice_of reader.now)
+        (map (λ file. file.items) files.now) }
+{
+    if reader.is_raw && files.len() != 1 {
+        return Some(b"the --raw option needs one file");
+    }
+    if let Some(name) = &reader.key_file
+        && is_dash(name.as_slice())
+        && has_dash(files)
+    {
+        return Some(b"standard input is the key, and cannot be a file too");
+    }
+    None
+}
+
+// Returns whether standard input is one of the files.
+fn has_dash(files: &[Vec<u8>]) -> bool
+    ensures { result ≡ list_any is_dash (map (λ file. file.items) files.now) }
+{
+    for file in files {
+        if is_dash(file.as_slice()) {
+            return true;
+        }
+    }
+    false
+}
+
+fn conflict_of_sums(reader: &Reader) -> Option<&'static [u8]>
+    ensures is { is_none result ≡ goes_with_sums (choice_of reader.now) }
+    ensures sums { result ≡ None → (reader.now.ignores_missing ≡ false)
+        × (reader.now.is_strict ≡ false) × (reader.now.report ≡ Each) }
+{
+    if reader.ignores_missing {
+        return Some(b"the --ignore-missing option is meaningful only when verifying checksums");
+    }
+    match reader.report {
+        Report::Nothing => {
+            return Some(b"the --status option is meaningful only when verifying checksums");
+        }
+        Report::Warnings => {
+            return Some(b"the --warn option is meaningful only when verifying checksums");
+        }
+        Report::Failures => {
+            return Some(b"the --quiet option is meaningful only when verifying checksums");
+        }
+        Report::Each => {}
+    }
+    if reader.is_strict {
+        return Some(b"the --strict option is meaningful only when verifying checksums");
+    }
+    None
+}

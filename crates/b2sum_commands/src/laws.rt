@@ -1,0 +1,40 @@
+//! A law of manifests: a check reads what was printed.
+
+ghost use Rattle.std.specs.Prelude.{◌≡◌, ◌≤◌, map, true, false, IfOk, IsErrOf};
+ghost use Rattle.b2sum_commands.specs.declared.options.Shape.TheVariants.{Named};
+ghost use Rattle.b2sum_commands.specs.World.{world_of};
+ghost use Rattle.b2sum_commands.specs.ReadBack.{IsManifest};
+
+use crate::devices::{Disk, Fault, Output};
+use crate::hashes::Hashes;
+use crate::options::Options;
+use crate::session::{Host, Session};
+use crate::sums::print_sums;
+use blake2_streams::Sink;
+
+/// Prints a manifest of the files of these names, as `print_sums` does, and returns whether all
+/// were read. The options must be those of lines with names, which end with newlines. The digests
+/// have at most 64 bytes. The errors are those of `print_sums`.
+///
+/// A check reads what was printed as exactly the entries of the files that were read, in order,
+/// each with its name and its digest. If the bytes of the files are the same as before, it finds
+/// that none has changed. This is for digests of the length that the options have, which must be
+/// one of the algorithm, and with a tag for roots of trees; for names that files can have, of at
+/// least one byte, none of which is zero (newlines, carriage returns and backslashes are escaped);
+/// and for a check that has what the digests need and demands no other length.
+pub fn print_manifest<H: Hashes, D: Disk, K: Output, E: Sink>(
+    host: &Host<H, D>,
+    options: &Options,
+    session: &mut Session<D::File, K, E>,
+    names: &[Vec<u8>],
+) -> Result<bool, Fault>
+    requires most { options.now.bytes ≤ 64 }
+    requires named { options.now.shape ≡ Named }
+    requires lines { options.now.ends_zero ≡ false }
+    ensures manifest { IfOk result (IsManifest
+        (world_of D.File.failed (D.files host.now.disk) H.hashing) options.now
+        (map (λ name. name.items) names.now) session.old session.new) }
+    ensures write { IsErrOf result Fault.WriteFailed → session.new.output_failed ≡ true }
+{
+    print_sums(host, options, session, names)
+}

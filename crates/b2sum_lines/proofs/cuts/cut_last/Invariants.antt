@@ -1,0 +1,12 @@
+use Rattle.std.proofs.Common.{◌≡◌, ◌≤◌, length, drop, None}
+use Rattle.b2sum_lines.specs.Lines.{cut_last}
+use Rattle.b2sum_lines.proofs.cuts.cut_last.Given as goal
+
+abbrev pub invariant-searching : goal.invariant-searching
+invariant-searching l = record {
+  within : l.at ≤ length l.text;
+  none : cut_last l.byte (drop l.at l.text) ≡ None;
+}
+
+abbrev pub decreases-searching : goal.decreases-searching
+decreases-searching l = l.at

@@ -1,0 +1,25 @@
+use Rattle.std.proofs.Common.{◌≡◌, ◌+◌, ◌*◌, ◌^◌, add-one, get_or, refl, sym, ◌∙◌, arith}
+use Rattle.std.proofs.Math.Nat.{pow-suc}
+use Rattle.std.proofs.lemmas.Bool.Decides.{nat_tests}
+use Rattle.std.proofs.lemmas.Int.Digits.{digits_value_more}
+use Rattle.std.proofs.lemmas.List.Folds.{list_all_more}
+use Rattle.std.specs.Char.{digit_value, is_ascii_digit}
+use Rattle.b2sum_lines.proofs.tags.value_of.Goals as goal
+
+pub loop-digit-preserved : goal.loop-digit-preserved
+loop-digit-preserved c =
+    let digits = c.args.digits.now in
+    let i = c.loop-digit.digit-index in
+    let digit : digit_value (get_or digits i 0) ≡ c.from.result = grind (arith, nat_tests) in
+    let power : 10 ^ (i + 1) ≡ 10 ^ i * 10 = rw add-one (pow-suc 10 i) in
+    record {
+      value = omega (
+        arith,
+        digits_value_more 10 digits i c.loop-digit-test.true,
+        digit,
+        c.loop-digit.invariant.value,
+      );
+      digits = list_all_more is_ascii_digit digits i 0 c.loop-digit-test.true
+          ∙ rw (c.loop-digit.invariant.digits, sym c.if-not-is_ascii_digit.ensures.value) refl;
+      below = grind (arith, power, c.loop-digit.invariant.below);
+    }
