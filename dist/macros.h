@@ -14,3 +14,6 @@
 #else
 #include "aarch64/elf.inc"
 #endif
+
+/* An object of such texts only is marked for branch protection. */
+	vj_marks

@@ -1,5 +1,5 @@
 /* The code of the library, for Linux, macOS and Windows. On x86-64 it is there three times, and one
- * and one of the builds is chosen at run time. */
+ * of the builds is chosen at run time. */
 #include "macros.h"
 #ifdef __aarch64__
 #include "aarch64/vulfsjor.s"

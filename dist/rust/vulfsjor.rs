@@ -1,0 +1,14955 @@
+// BLAKE2b and BLAKE2s for processors without assembly in dist/: the functions of the header, in Rust.
+//
+// Do not edit. tools/wasm_to_rust.py translates the WebAssembly module that the proved crate
+// blake2_ffi compiles to, instruction by instruction. The translator and your compiler are tested,
+// not proved. The comment above a function has its name in the crates; docs/PORTABLE.md says how the
+// text is read, and where it is more than a translation.
+//
+// Addresses and lengths are 64-bit numbers. Numbers in memory are little-endian on every processor,
+// also in states.
+#![allow(dead_code, non_snake_case, unused_assignments, unused_mut, unused_parens)]
+#![allow(unsafe_op_in_unsafe_fn)]
+#![allow(clippy::all)]
+
+use super::*;
+
+macro_rules! address {
+    ($place:expr) => {
+        core::ptr::addr_of_mut!($place) as u64
+    };
+}
+
+// Sums, differences and products without the bits that their type has no room for.
+trait Number {
+    fn plus(self, other: Self) -> Self;
+    fn minus(self, other: Self) -> Self;
+    fn times(self, other: Self) -> Self;
+}
+
+macro_rules! number {
+    ($type:ident) => {
+        impl Number for $type {
+            #[inline(always)]
+            fn plus(self, other: Self) -> Self {
+                self.wrapping_add(other)
+            }
+
+            #[inline(always)]
+            fn minus(self, other: Self) -> Self {
+                self.wrapping_sub(other)
+            }
+
+            #[inline(always)]
+            fn times(self, other: Self) -> Self {
+                self.wrapping_mul(other)
+            }
+        }
+    };
+}
+
+number!(u32);
+number!(u64);
+
+// Never called: what the module does not reach.
+#[cold]
+fn abort() -> ! {
+    unreachable!()
+}
+
+// Numbers in memory, at any address.
+macro_rules! memory {
+    ($load:ident, $store:ident, $type:ident, $result:ident) => {
+        #[inline(always)]
+        unsafe fn $load(address: u64) -> $result {
+            $type::from_le((address as *const $type).read_unaligned()) as $result
+        }
+
+        #[inline(always)]
+        unsafe fn $store(address: u64, number: u64) {
+            (address as *mut $type).write_unaligned((number as $type).to_le())
+        }
+    };
+}
+
+memory!(load8, store8, u8, u32);
+memory!(load16, store16, u16, u32);
+memory!(load32, store32, u32, u32);
+memory!(load64, store64, u64, u64);
+
+#[inline(always)]
+unsafe fn copy(to: u64, from: u64, length: u64) {
+    core::ptr::copy(from as *const u8, to as *mut u8, length as usize)
+}
+
+#[inline(always)]
+unsafe fn fill(to: u64, byte: u32, length: u64) {
+    core::ptr::write_bytes(to as *mut u8, byte as u8, length as usize)
+}
+
+macro_rules! operators {
+    ($type:ident, $signed:ident, $rotl:ident, $rotr:ident, $shr_s:ident, $sign:ident, $div_u:ident, $rem_u:ident) => {
+        #[inline(always)]
+        fn $rotl(x: $type, by: $type) -> $type {
+            x.rotate_left(by as u32 % $type::BITS)
+        }
+
+        #[inline(always)]
+        fn $rotr(x: $type, by: $type) -> $type {
+            x.rotate_right(by as u32 % $type::BITS)
+        }
+
+        #[inline(always)]
+        fn $shr_s(x: $type, by: $type) -> $type {
+            (x as $signed).wrapping_shr(by as u32) as $type
+        }
+
+        // The bits below and with `top`, whose bit is that of the sign.
+        #[inline(always)]
+        fn $sign(x: $type, top: $type) -> $type {
+            ((x & (top.wrapping_mul(2).wrapping_sub(1))) ^ top).wrapping_sub(top)
+        }
+
+        // A divisor of 0 panics.
+        #[inline(always)]
+        fn $div_u(a: $type, b: $type) -> $type {
+            a / b
+        }
+
+        #[inline(always)]
+        fn $rem_u(a: $type, b: $type) -> $type {
+            a % b
+        }
+    };
+}
+
+operators!(u32, i32, rotl32, rotr32, shr_s32, sign32, div_u32, rem_u32);
+operators!(u64, i64, rotl64, rotr64, shr_s64, sign64, div_u64, rem_u64);
+
+// rattle::export vulfsjor_ffi_memcmp
+#[inline(never)]
+unsafe fn exported_memcmp(mut v0: u64, mut v1: u64, mut v2: u64, mut v3: u64) -> u32 {
+ let mut v4: u32;
+ let mut v5: u64;
+ let mut v6: u64;
+ let mut v7: u64;
+ let mut v8: u32;
+ let mut v9: u64;
+ let mut v10: u64;
+ let mut v11: u64;
+ let mut v12: u64;
+ v4 = 0xffffffff;
+ 'l2: loop {
+ if v1 != v3 { break 'l2; }
+ 'l3: loop {
+ if v1 == 0 { break 'l3; }
+ v5 = if v2 == 0 { 4096_u64 } else { 0 };
+ v6 = if v0 == 0 { 4096_u64 } else { 0 };
+ v7 = v1 & 3;
+ 'l4: loop {
+ 'l5: loop {
+ 'l6: loop {
+ if v1 >= 4 { break 'l6; }
+ v3 = 0;
+ v8 = 0;
+ break 'l5;
+ }
+ v9 = v2.plus(v5);
+ v10 = v0.plus(v6);
+ v11 = v1 & 0xfffffffffffffffc;
+ v3 = 0;
+ v8 = 0;
+ 'l7: loop {
+ v1 = v9.plus(v3);
+ v12 = v10.plus(v3);
+ v8 = (load8(v1.plus(3)) ^ load8(v12.plus(3))) | ((load8(v1.plus(2)) ^ load8(v12.plus(2))) |
+   ((load8(v1.plus(1)) ^ load8(v12.plus(1))) | ((load8(v1) ^ load8(v12)) | v8)));
+ v3 = v3.plus(4);
+ if v11 != v3 { continue 'l7; }
+ break 'l7; }
+ if v7 == 0 { break 'l4; }
+ break 'l5; }
+ v1 = v0.plus(v6.plus(v3));
+ v3 = v2.plus(v5.plus(v3));
+ 'l8: loop {
+ v8 = (load8(v3) ^ load8(v1)) | v8;
+ v1 = v1.plus(1);
+ v3 = v3.plus(1);
+ v7 = v7.minus(1);
+ if v7 != 0 { continue 'l8; }
+ break 'l8; }
+ break 'l4; }
+ if (v8 & 255) != 0 { break 'l2; }
+ break 'l3; }
+ v4 = 0;
+ break 'l2; }
+ return v4;
+}
+
+// rattle::export vulfsjor_ffi_wipe
+#[inline(never)]
+unsafe fn exported_wipe(mut v0: u64, mut v1: u64) {
+ let mut v2: u32;
+ 'l2: loop {
+ if v1 == 0 { break 'l2; }
+ v0 = v0.plus(if v0 == 0 { 4096_u64 } else { 0 });
+ 'l3: loop {
+ v1 = v1.minus(1);
+ v2 = (v1 == 0) as u32;
+ if v2 != 0 { break 'l3; }
+ if v2 != 0 { break 'l3; }
+ fill(v0, 0, v1);
+ break 'l3; }
+ store8(v0.plus(v1), 0);
+ break 'l2; }
+ return;
+}
+
+// blake2_compress::compress::blake2b::compress
+#[inline(never)]
+unsafe fn compress_compress_blake2b_compress(mut v0: u64, mut v1: u64, mut v2: u64, mut v3: u32, mut
+        v4: u32) {
+ let mut v5: u64;
+ let mut v6: u64;
+ let mut v7: u64;
+ let mut v8: u64;
+ let mut v9: u64;
+ let mut v10: u64;
+ let mut v11: u64;
+ let mut v12: u64;
+ let mut v13: u64;
+ let mut v14: u64;
+ let mut v15: u64;
+ let mut v16: u64;
+ let mut v17: u64;
+ let mut v18: u64;
+ let mut v19: u64;
+ let mut v20: u64;
+ let mut v21: u64;
+ let mut v22: u64;
+ let mut v23: u64;
+ let mut v24: u64;
+ let mut v25: u64;
+ let mut v26: u64;
+ let mut v27: u64;
+ let mut v28: u64;
+ let mut v29: u64;
+ let mut v30: u64;
+ let mut v31: u64;
+ let mut v32: u64;
+ let mut v33: u64;
+ let mut v34: u64;
+ let mut v35: u64;
+ let mut v36: u64;
+ let mut v37: u64;
+ let mut v38: u64;
+ let mut v39: u64;
+ let mut v40: u64;
+ let mut v41: u64;
+ let mut v42: u64;
+ let mut v43: u64;
+ let mut v44: u64;
+ let mut v45: u64;
+ let mut t0: u64;
+ let mut t1: u64;
+ let mut t2: u64;
+ let mut t3: u64;
+ let mut t4: u64;
+ let mut t5: u64;
+ let mut t6: u64;
+ let mut t7: u64;
+ let mut t8: u64;
+ let mut t9: u64;
+ let mut t10: u64;
+ let mut t11: u64;
+ let mut t12: u64;
+ let mut t13: u64;
+ let mut t14: u64;
+ let mut t15: u64;
+ let mut t16: u64;
+ let mut t17: u64;
+ let mut t18: u64;
+ let mut t19: u64;
+ let mut t20: u64;
+ let mut t21: u64;
+ let mut t22: u64;
+ let mut t23: u64;
+ let mut t24: u64;
+ let mut t25: u64;
+ let mut t26: u64;
+ let mut t27: u64;
+ let mut t28: u64;
+ let mut t29: u64;
+ let mut t30: u64;
+ let mut t31: u64;
+ let mut t32: u64;
+ let mut t33: u64;
+ let mut t34: u64;
+ let mut t35: u64;
+ let mut t36: u64;
+ let mut t37: u64;
+ let mut t38: u64;
+ let mut t39: u64;
+ let mut t40: u64;
+ let mut t41: u64;
+ let mut t42: u64;
+ let mut t43: u64;
+ let mut t44: u64;
+ let mut t45: u64;
+ let mut t46: u64;
+ let mut t47: u64;
+ let mut t48: u64;
+ let mut t49: u64;
+ let mut t50: u64;
+ let mut t51: u64;
+ let mut t52: u64;
+ let mut t53: u64;
+ let mut t54: u64;
+ let mut t55: u64;
+ let mut t56: u64;
+ let mut t57: u64;
+ let mut t58: u64;
+ let mut t59: u64;
+ let mut t60: u64;
+ let mut t61: u64;
+ let mut t62: u64;
+ let mut t63: u64;
+ let mut t64: u64;
+ let mut t65: u64;
+ let mut t66: u64;
+ let mut t67: u64;
+ let mut t68: u64;
+ let mut t69: u64;
+ let mut t70: u64;
+ let mut t71: u64;
+ let mut t72: u64;
+ let mut t73: u64;
+ let mut t74: u64;
+ let mut t75: u64;
+ let mut t76: u64;
+ let mut t77: u64;
+ let mut t78: u64;
+ let mut t79: u64;
+ let mut t80: u64;
+ v5 = load64(v0 + 16);
+ v6 = load64(v1.plus(32));
+ v7 = load64(v0 + 48);
+ v8 = v5.plus(v6).plus(v7);
+ v9 = load64(v1.plus(40));
+ v10 = rotl64((if (v3 & 1) != 0 { 0xffffffffffffffff_u64 } else { 0 }) ^ v8 ^ 0x1f83d9abfb41bd6b,
+   32);
+ v11 = v10.plus(0x3c6ef372fe94f82b);
+ v12 = rotl64(v11 ^ v7, 40);
+ v13 = v8.plus(v9).plus(v12);
+ v8 = load64(v1.plus(96));
+ v14 = load64(v0 + 24);
+ v15 = load64(v1.plus(48));
+ v16 = load64(v0 + 56);
+ v17 = v14.plus(v15).plus(v16);
+ v18 = load64(v1.plus(56));
+ t0 = v17.plus(v18);
+ v17 = rotl64((if (v4 & 1) != 0 { 0xffffffffffffffff_u64 } else { 0 }) ^ v17 ^ 0x5be0cd19137e2179,
+   32);
+ v19 = v17.plus(0xa54ff53a5f1d36f1);
+ v20 = rotl64(v19 ^ v16, 40);
+ v21 = t0.plus(v20);
+ v22 = rotl64(v21 ^ v17, 48);
+ v23 = v22.plus(v19);
+ v24 = rotl64(v23 ^ v20, 1);
+ v25 = v13.plus(v8).plus(v24);
+ v17 = load64(v1.plus(104));
+ v26 = load64(v0 + 8);
+ v19 = load64(v1 + 16);
+ v27 = load64(v0 + 40);
+ v28 = v26.plus(v19).plus(v27);
+ v20 = load64(v1 + 24);
+ t1 = v28.plus(v20);
+ v28 = rotl64(v28 ^ 0x9b05688c2b3e6c1f, 32);
+ v29 = v28.plus(0xbb67ae8584caa73b);
+ v30 = rotl64(v29 ^ v27, 40);
+ v31 = t1.plus(v30);
+ v32 = rotl64(v31 ^ v28, 48);
+ v33 = rotl64(v25 ^ v32, 32);
+ v34 = load64(v0);
+ t2 = v25.plus(v17);
+ v25 = load64(v1);
+ v35 = load64(v0 + 32);
+ v36 = v34.plus(v25).plus(v35);
+ v28 = load64(v1 + 8);
+ v2 = rotl64(v2 ^ v36 ^ 0x510e527fade682d1, 32);
+ t3 = v36.plus(v28);
+ v36 = v2.plus(0x6a09e667f3bcc908);
+ v37 = rotl64(v36 ^ v35, 40);
+ v38 = t3.plus(v37);
+ v39 = rotl64(v38 ^ v2, 48);
+ v36 = v39.plus(v36);
+ v40 = v33.plus(v36);
+ v41 = rotl64(v40 ^ v24, 40);
+ v42 = t2.plus(v41);
+ v2 = load64(v1.plus(72));
+ v24 = load64(v1.plus(80));
+ v13 = rotl64(v13 ^ v10, 48);
+ t4 = v31.plus(v24);
+ v31 = v13.plus(v11);
+ v11 = rotl64(v31 ^ v12, 1);
+ v12 = t4.plus(v11);
+ v10 = load64(v1.plus(88));
+ t5 = v12.plus(v10);
+ v12 = rotl64(v12 ^ v39, 32);
+ v23 = v12.plus(v23);
+ v11 = rotl64(v23 ^ v11, 40);
+ v39 = t5.plus(v11);
+ v43 = rotl64(v39 ^ v12, 48);
+ v23 = v43.plus(v23);
+ v44 = rotl64(v23 ^ v11, 1);
+ v45 = v42.plus(v2).plus(v44);
+ v11 = load64(v1.plus(120));
+ v12 = load64(v1.plus(112));
+ t6 = v21.plus(v12);
+ v21 = rotl64(v36 ^ v37, 1);
+ v36 = t6.plus(v21);
+ v13 = rotl64(v36 ^ v13, 32);
+ v29 = v32.plus(v29);
+ v32 = v13.plus(v29);
+ v21 = rotl64(v32 ^ v21, 40);
+ v36 = v36.plus(v11).plus(v21);
+ v13 = rotl64(v36 ^ v13, 48);
+ v37 = rotl64(v45 ^ v13, 32);
+ v1 = load64(v1.plus(64));
+ v29 = rotl64(v29 ^ v30, 1);
+ v30 = v38.plus(v1).plus(v29);
+ v22 = rotl64(v30 ^ v22, 32);
+ t7 = v30.plus(v2);
+ v30 = v22.plus(v31);
+ v29 = rotl64(v30 ^ v29, 40);
+ v31 = t7.plus(v29);
+ v22 = rotl64(v31 ^ v22, 48);
+ v30 = v22.plus(v30);
+ v38 = v37.plus(v30);
+ v44 = rotl64(v38 ^ v44, 40);
+ v45 = v45.plus(v11).plus(v44);
+ v33 = rotl64(v42 ^ v33, 48);
+ t8 = v36.plus(v17);
+ v36 = v33.plus(v40);
+ v40 = rotl64(v36 ^ v41, 1);
+ v41 = t8.plus(v40);
+ v22 = rotl64(v41 ^ v22, 32);
+ v23 = v22.plus(v23);
+ v40 = rotl64(v23 ^ v40, 40);
+ v41 = v41.plus(v15).plus(v40);
+ v22 = rotl64(v41 ^ v22, 48);
+ v23 = v22.plus(v23);
+ v40 = rotl64(v23 ^ v40, 1);
+ v42 = v45.plus(v10).plus(v40);
+ v29 = rotl64(v30 ^ v29, 1);
+ v30 = v39.plus(v6).plus(v29);
+ t9 = v30.plus(v1);
+ v30 = rotl64(v30 ^ v33, 32);
+ v13 = v13.plus(v32);
+ v32 = v30.plus(v13);
+ v29 = rotl64(v32 ^ v29, 40);
+ v33 = t9.plus(v29);
+ v30 = rotl64(v33 ^ v30, 48);
+ v39 = rotl64(v42 ^ v30, 32);
+ v13 = rotl64(v13 ^ v21, 1);
+ v21 = v31.plus(v12).plus(v13);
+ t10 = v21.plus(v24);
+ v21 = rotl64(v21 ^ v43, 32);
+ v31 = v21.plus(v36);
+ v13 = rotl64(v31 ^ v13, 40);
+ v36 = t10.plus(v13);
+ v21 = rotl64(v36 ^ v21, 48);
+ v31 = v21.plus(v31);
+ t11 = v42.plus(v18);
+ v42 = v39.plus(v31);
+ v40 = rotl64(v42 ^ v40, 40);
+ v43 = t11.plus(v40);
+ t12 = v33.plus(v25);
+ v33 = rotl64(v45 ^ v37, 48);
+ v37 = v33.plus(v38);
+ v38 = rotl64(v37 ^ v44, 1);
+ v44 = t12.plus(v38);
+ v21 = rotl64(v44 ^ v21, 32);
+ v23 = v21.plus(v23);
+ v38 = rotl64(v23 ^ v38, 40);
+ v44 = v44.plus(v19).plus(v38);
+ v21 = rotl64(v44 ^ v21, 48);
+ v23 = v21.plus(v23);
+ v38 = rotl64(v23 ^ v38, 1);
+ v45 = v43.plus(v9).plus(v38);
+ v13 = rotl64(v31 ^ v13, 1);
+ v31 = v41.plus(v9).plus(v13);
+ t13 = v31.plus(v20);
+ v31 = rotl64(v31 ^ v33, 32);
+ v30 = v30.plus(v32);
+ v32 = v31.plus(v30);
+ v13 = rotl64(v32 ^ v13, 40);
+ v33 = t13.plus(v13);
+ v31 = rotl64(v33 ^ v31, 48);
+ v41 = rotl64(v45 ^ v31, 32);
+ v29 = rotl64(v30 ^ v29, 1);
+ v30 = v36.plus(v28).plus(v29);
+ v22 = rotl64(v30 ^ v22, 32);
+ t14 = v30.plus(v8);
+ v30 = v22.plus(v37);
+ v29 = rotl64(v30 ^ v29, 40);
+ v36 = t14.plus(v29);
+ v22 = rotl64(v36 ^ v22, 48);
+ v30 = v22.plus(v30);
+ v37 = v41.plus(v30);
+ v38 = rotl64(v37 ^ v38, 40);
+ v45 = v45.plus(v19).plus(v38);
+ t15 = v33.plus(v11);
+ v33 = rotl64(v43 ^ v39, 48);
+ v39 = v33.plus(v42);
+ v40 = rotl64(v39 ^ v40, 1);
+ v42 = t15.plus(v40);
+ v22 = rotl64(v42 ^ v22, 32);
+ v23 = v22.plus(v23);
+ v40 = rotl64(v23 ^ v40, 40);
+ v42 = v42.plus(v17).plus(v40);
+ v22 = rotl64(v42 ^ v22, 48);
+ v23 = v22.plus(v23);
+ v40 = rotl64(v23 ^ v40, 1);
+ v43 = v45.plus(v18).plus(v40);
+ v29 = rotl64(v30 ^ v29, 1);
+ v30 = v44.plus(v8).plus(v29);
+ t16 = v30.plus(v25);
+ v30 = rotl64(v30 ^ v33, 32);
+ v31 = v31.plus(v32);
+ v32 = v30.plus(v31);
+ v29 = rotl64(v32 ^ v29, 40);
+ v33 = t16.plus(v29);
+ v30 = rotl64(v33 ^ v30, 48);
+ t17 = v43.plus(v28);
+ v43 = rotl64(v43 ^ v30, 32);
+ v13 = rotl64(v31 ^ v13, 1);
+ v31 = v36.plus(v10).plus(v13);
+ v21 = rotl64(v31 ^ v21, 32);
+ t18 = v31.plus(v1);
+ v31 = v21.plus(v39);
+ v13 = rotl64(v31 ^ v13, 40);
+ v36 = t18.plus(v13);
+ v21 = rotl64(v36 ^ v21, 48);
+ v31 = v21.plus(v31);
+ v39 = v43.plus(v31);
+ v40 = rotl64(v39 ^ v40, 40);
+ v44 = t17.plus(v40);
+ t19 = v33.plus(v20);
+ v33 = rotl64(v45 ^ v41, 48);
+ v37 = v33.plus(v37);
+ v38 = rotl64(v37 ^ v38, 1);
+ v41 = t19.plus(v38);
+ v21 = rotl64(v41 ^ v21, 32);
+ v23 = v21.plus(v23);
+ v38 = rotl64(v23 ^ v38, 40);
+ v41 = v41.plus(v15).plus(v38);
+ v21 = rotl64(v41 ^ v21, 48);
+ v23 = v21.plus(v23);
+ v38 = rotl64(v23 ^ v38, 1);
+ v45 = v44.plus(v17).plus(v38);
+ v13 = rotl64(v31 ^ v13, 1);
+ v31 = v42.plus(v2).plus(v13);
+ t20 = v31.plus(v6);
+ v31 = rotl64(v31 ^ v33, 32);
+ v30 = v30.plus(v32);
+ v32 = v31.plus(v30);
+ v13 = rotl64(v32 ^ v13, 40);
+ v33 = t20.plus(v13);
+ v31 = rotl64(v33 ^ v31, 48);
+ v42 = rotl64(v45 ^ v31, 32);
+ v29 = rotl64(v30 ^ v29, 1);
+ v30 = v36.plus(v24).plus(v29);
+ v22 = rotl64(v30 ^ v22, 32);
+ t21 = v30.plus(v12);
+ v30 = v22.plus(v37);
+ v29 = rotl64(v30 ^ v29, 40);
+ v36 = t21.plus(v29);
+ v22 = rotl64(v36 ^ v22, 48);
+ v30 = v22.plus(v30);
+ v37 = v42.plus(v30);
+ v38 = rotl64(v37 ^ v38, 40);
+ v45 = v45.plus(v8).plus(v38);
+ t22 = v33.plus(v10);
+ v33 = rotl64(v44 ^ v43, 48);
+ v39 = v33.plus(v39);
+ v40 = rotl64(v39 ^ v40, 1);
+ v43 = t22.plus(v40);
+ v22 = rotl64(v43 ^ v22, 32);
+ v23 = v22.plus(v23);
+ v40 = rotl64(v23 ^ v40, 40);
+ v43 = v43.plus(v12).plus(v40);
+ v22 = rotl64(v43 ^ v22, 48);
+ v23 = v22.plus(v23);
+ v40 = rotl64(v23 ^ v40, 1);
+ v44 = v45.plus(v6).plus(v40);
+ v29 = rotl64(v30 ^ v29, 1);
+ v30 = v41.plus(v20).plus(v29);
+ t23 = v30.plus(v28);
+ v30 = rotl64(v30 ^ v33, 32);
+ v31 = v31.plus(v32);
+ v32 = v30.plus(v31);
+ v29 = rotl64(v32 ^ v29, 40);
+ v33 = t23.plus(v29);
+ v30 = rotl64(v33 ^ v30, 48);
+ v41 = rotl64(v44 ^ v30, 32);
+ v13 = rotl64(v31 ^ v13, 1);
+ v31 = v36.plus(v18).plus(v13);
+ v21 = rotl64(v31 ^ v21, 32);
+ t24 = v31.plus(v2);
+ v31 = v21.plus(v39);
+ v13 = rotl64(v31 ^ v13, 40);
+ v36 = t24.plus(v13);
+ v21 = rotl64(v36 ^ v21, 48);
+ v31 = v21.plus(v31);
+ v39 = v41.plus(v31);
+ v40 = rotl64(v39 ^ v40, 40);
+ v44 = v44.plus(v25).plus(v40);
+ t25 = v33.plus(v9);
+ v33 = rotl64(v45 ^ v42, 48);
+ v37 = v33.plus(v37);
+ v38 = rotl64(v37 ^ v38, 1);
+ v42 = t25.plus(v38);
+ v21 = rotl64(v42 ^ v21, 32);
+ v23 = v21.plus(v23);
+ v38 = rotl64(v23 ^ v38, 40);
+ v42 = v42.plus(v24).plus(v38);
+ v21 = rotl64(v42 ^ v21, 48);
+ v23 = v21.plus(v23);
+ v38 = rotl64(v23 ^ v38, 1);
+ v45 = v44.plus(v19).plus(v38);
+ v13 = rotl64(v31 ^ v13, 1);
+ v31 = v43.plus(v11).plus(v13);
+ t26 = v31.plus(v1);
+ v31 = rotl64(v31 ^ v33, 32);
+ v30 = v30.plus(v32);
+ v32 = v31.plus(v30);
+ v13 = rotl64(v32 ^ v13, 40);
+ v33 = t26.plus(v13);
+ v31 = rotl64(v33 ^ v31, 48);
+ v43 = rotl64(v45 ^ v31, 32);
+ v29 = rotl64(v30 ^ v29, 1);
+ v30 = v36.plus(v19).plus(v29);
+ v22 = rotl64(v30 ^ v22, 32);
+ t27 = v30.plus(v15);
+ v30 = v22.plus(v37);
+ v29 = rotl64(v30 ^ v29, 40);
+ v36 = t27.plus(v29);
+ v22 = rotl64(v36 ^ v22, 48);
+ v30 = v22.plus(v30);
+ v37 = v43.plus(v30);
+ v38 = rotl64(v37 ^ v38, 40);
+ v45 = v45.plus(v6).plus(v38);
+ t28 = v33.plus(v24);
+ v33 = rotl64(v44 ^ v41, 48);
+ v39 = v33.plus(v39);
+ v40 = rotl64(v39 ^ v40, 1);
+ v41 = t28.plus(v40);
+ v22 = rotl64(v41 ^ v22, 32);
+ v23 = v22.plus(v23);
+ v40 = rotl64(v23 ^ v40, 40);
+ v41 = v41.plus(v11).plus(v40);
+ v22 = rotl64(v41 ^ v22, 48);
+ v23 = v22.plus(v23);
+ v40 = rotl64(v23 ^ v40, 1);
+ v44 = v45.plus(v15).plus(v40);
+ v29 = rotl64(v30 ^ v29, 1);
+ v30 = v42.plus(v9).plus(v29);
+ t29 = v30.plus(v18);
+ v30 = rotl64(v30 ^ v33, 32);
+ v31 = v31.plus(v32);
+ v32 = v30.plus(v31);
+ v29 = rotl64(v32 ^ v29, 40);
+ v33 = t29.plus(v29);
+ v30 = rotl64(v33 ^ v30, 48);
+ v42 = rotl64(v44 ^ v30, 32);
+ v13 = rotl64(v31 ^ v13, 1);
+ v31 = v36.plus(v2).plus(v13);
+ v21 = rotl64(v31 ^ v21, 32);
+ t30 = v31.plus(v25);
+ v31 = v21.plus(v39);
+ v13 = rotl64(v31 ^ v13, 40);
+ v36 = t30.plus(v13);
+ v21 = rotl64(v36 ^ v21, 48);
+ v31 = v21.plus(v31);
+ v39 = v42.plus(v31);
+ v40 = rotl64(v39 ^ v40, 40);
+ v44 = v44.plus(v1).plus(v40);
+ t31 = v33.plus(v10);
+ v33 = rotl64(v45 ^ v43, 48);
+ v37 = v33.plus(v37);
+ v38 = rotl64(v37 ^ v38, 1);
+ v43 = t31.plus(v38);
+ v21 = rotl64(v43 ^ v21, 32);
+ v23 = v21.plus(v23);
+ v38 = rotl64(v23 ^ v38, 40);
+ v43 = v43.plus(v8).plus(v38);
+ v21 = rotl64(v43 ^ v21, 48);
+ v23 = v21.plus(v23);
+ v38 = rotl64(v23 ^ v38, 1);
+ v45 = v44.plus(v25).plus(v38);
+ v13 = rotl64(v31 ^ v13, 1);
+ v31 = v41.plus(v20).plus(v13);
+ t32 = v31.plus(v17);
+ v31 = rotl64(v31 ^ v33, 32);
+ v30 = v30.plus(v32);
+ v32 = v31.plus(v30);
+ v13 = rotl64(v32 ^ v13, 40);
+ v33 = t32.plus(v13);
+ v31 = rotl64(v33 ^ v31, 48);
+ v41 = rotl64(v45 ^ v31, 32);
+ v29 = rotl64(v30 ^ v29, 1);
+ v30 = v36.plus(v12).plus(v29);
+ v22 = rotl64(v30 ^ v22, 32);
+ t33 = v30.plus(v28);
+ v30 = v22.plus(v37);
+ v29 = rotl64(v30 ^ v29, 40);
+ v36 = t33.plus(v29);
+ v22 = rotl64(v36 ^ v22, 48);
+ v30 = v22.plus(v30);
+ v37 = v41.plus(v30);
+ v38 = rotl64(v37 ^ v38, 40);
+ v45 = v45.plus(v10).plus(v38);
+ t34 = v33.plus(v1);
+ v33 = rotl64(v44 ^ v42, 48);
+ v39 = v33.plus(v39);
+ v40 = rotl64(v39 ^ v40, 1);
+ v42 = t34.plus(v40);
+ v22 = rotl64(v42 ^ v22, 32);
+ v23 = v22.plus(v23);
+ v40 = rotl64(v23 ^ v40, 40);
+ v42 = v42.plus(v20).plus(v40);
+ v22 = rotl64(v42 ^ v22, 48);
+ v23 = v22.plus(v23);
+ v40 = rotl64(v23 ^ v40, 1);
+ v44 = v45.plus(v11).plus(v40);
+ v29 = rotl64(v30 ^ v29, 1);
+ v30 = v43.plus(v15).plus(v29);
+ t35 = v30.plus(v24);
+ v30 = rotl64(v30 ^ v33, 32);
+ v31 = v31.plus(v32);
+ v32 = v30.plus(v31);
+ v29 = rotl64(v32 ^ v29, 40);
+ v33 = t35.plus(v29);
+ v30 = rotl64(v33 ^ v30, 48);
+ v43 = rotl64(v44 ^ v30, 32);
+ v13 = rotl64(v31 ^ v13, 1);
+ v31 = v36.plus(v19).plus(v13);
+ v21 = rotl64(v31 ^ v21, 32);
+ t36 = v31.plus(v8);
+ v31 = v21.plus(v39);
+ v13 = rotl64(v31 ^ v13, 40);
+ v36 = t36.plus(v13);
+ v21 = rotl64(v36 ^ v21, 48);
+ v31 = v21.plus(v31);
+ v39 = v43.plus(v31);
+ v40 = rotl64(v39 ^ v40, 40);
+ v44 = v44.plus(v12).plus(v40);
+ t37 = v33.plus(v18);
+ v33 = rotl64(v45 ^ v41, 48);
+ v37 = v33.plus(v37);
+ v38 = rotl64(v37 ^ v38, 1);
+ v41 = t37.plus(v38);
+ v21 = rotl64(v41 ^ v21, 32);
+ v23 = v21.plus(v23);
+ v38 = rotl64(v23 ^ v38, 40);
+ v41 = v41.plus(v9).plus(v38);
+ v21 = rotl64(v41 ^ v21, 48);
+ v23 = v21.plus(v23);
+ v38 = rotl64(v23 ^ v38, 1);
+ v45 = v44.plus(v12).plus(v38);
+ v13 = rotl64(v31 ^ v13, 1);
+ v31 = v42.plus(v28).plus(v13);
+ t38 = v31.plus(v2);
+ v31 = rotl64(v31 ^ v33, 32);
+ v30 = v30.plus(v32);
+ v32 = v31.plus(v30);
+ v13 = rotl64(v32 ^ v13, 40);
+ v33 = t38.plus(v13);
+ v31 = rotl64(v33 ^ v31, 48);
+ v42 = rotl64(v45 ^ v31, 32);
+ v29 = rotl64(v30 ^ v29, 1);
+ v30 = v36.plus(v6).plus(v29);
+ v22 = rotl64(v30 ^ v22, 32);
+ t39 = v30.plus(v17);
+ v30 = v22.plus(v37);
+ v29 = rotl64(v30 ^ v29, 40);
+ v36 = t39.plus(v29);
+ v22 = rotl64(v36 ^ v22, 48);
+ v30 = v22.plus(v30);
+ v37 = v42.plus(v30);
+ v38 = rotl64(v37 ^ v38, 40);
+ v45 = v45.plus(v17).plus(v38);
+ t40 = v33.plus(v6);
+ v33 = rotl64(v44 ^ v43, 48);
+ v39 = v33.plus(v39);
+ v40 = rotl64(v39 ^ v40, 1);
+ v43 = t40.plus(v40);
+ v22 = rotl64(v43 ^ v22, 32);
+ v23 = v22.plus(v23);
+ v40 = rotl64(v23 ^ v40, 40);
+ v43 = v43.plus(v24).plus(v40);
+ v22 = rotl64(v43 ^ v22, 48);
+ v23 = v22.plus(v23);
+ v40 = rotl64(v23 ^ v40, 1);
+ v44 = v45.plus(v2).plus(v40);
+ v29 = rotl64(v30 ^ v29, 1);
+ v30 = v41.plus(v28).plus(v29);
+ t41 = v30.plus(v11);
+ v30 = rotl64(v30 ^ v33, 32);
+ v31 = v31.plus(v32);
+ v32 = v30.plus(v31);
+ v29 = rotl64(v32 ^ v29, 40);
+ v33 = t41.plus(v29);
+ v30 = rotl64(v33 ^ v30, 48);
+ v41 = rotl64(v44 ^ v30, 32);
+ v13 = rotl64(v31 ^ v13, 1);
+ v31 = v36.plus(v8).plus(v13);
+ v21 = rotl64(v31 ^ v21, 32);
+ t42 = v31.plus(v9);
+ v31 = v21.plus(v39);
+ v13 = rotl64(v31 ^ v13, 40);
+ v36 = t42.plus(v13);
+ v21 = rotl64(v36 ^ v21, 48);
+ v31 = v21.plus(v31);
+ v39 = v41.plus(v31);
+ v40 = rotl64(v39 ^ v40, 40);
+ v44 = v44.plus(v19).plus(v40);
+ t43 = v33.plus(v15);
+ v33 = rotl64(v45 ^ v42, 48);
+ v37 = v33.plus(v37);
+ v38 = rotl64(v37 ^ v38, 1);
+ v42 = t43.plus(v38);
+ v21 = rotl64(v42 ^ v21, 32);
+ v23 = v21.plus(v23);
+ v38 = rotl64(v23 ^ v38, 40);
+ v42 = v42.plus(v20).plus(v38);
+ v21 = rotl64(v42 ^ v21, 48);
+ v23 = v21.plus(v23);
+ v38 = rotl64(v23 ^ v38, 1);
+ v45 = v44.plus(v8).plus(v38);
+ v13 = rotl64(v31 ^ v13, 1);
+ v31 = v43.plus(v1).plus(v13);
+ t44 = v31.plus(v10);
+ v31 = rotl64(v31 ^ v33, 32);
+ v30 = v30.plus(v32);
+ v32 = v31.plus(v30);
+ v13 = rotl64(v32 ^ v13, 40);
+ v33 = t44.plus(v13);
+ v31 = rotl64(v33 ^ v31, 48);
+ v43 = rotl64(v45 ^ v31, 32);
+ v29 = rotl64(v30 ^ v29, 1);
+ v30 = v36.plus(v25).plus(v29);
+ v22 = rotl64(v30 ^ v22, 32);
+ t45 = v30.plus(v18);
+ v30 = v22.plus(v37);
+ v29 = rotl64(v30 ^ v29, 40);
+ v36 = t45.plus(v29);
+ v22 = rotl64(v36 ^ v22, 48);
+ v30 = v22.plus(v30);
+ v37 = v43.plus(v30);
+ v38 = rotl64(v37 ^ v38, 40);
+ v45 = v45.plus(v28).plus(v38);
+ t46 = v33.plus(v20);
+ v33 = rotl64(v44 ^ v41, 48);
+ v39 = v33.plus(v39);
+ v40 = rotl64(v39 ^ v40, 1);
+ v41 = t46.plus(v40);
+ v22 = rotl64(v41 ^ v22, 32);
+ v23 = v22.plus(v23);
+ v40 = rotl64(v23 ^ v40, 40);
+ v41 = v41.plus(v2).plus(v40);
+ v22 = rotl64(v41 ^ v22, 48);
+ v23 = v22.plus(v23);
+ v40 = rotl64(v23 ^ v40, 1);
+ v44 = v45.plus(v1).plus(v40);
+ v29 = rotl64(v30 ^ v29, 1);
+ v30 = v42.plus(v18).plus(v29);
+ t47 = v30.plus(v12);
+ v30 = rotl64(v30 ^ v33, 32);
+ v31 = v31.plus(v32);
+ v32 = v30.plus(v31);
+ v29 = rotl64(v32 ^ v29, 40);
+ v33 = t47.plus(v29);
+ v30 = rotl64(v33 ^ v30, 48);
+ v42 = rotl64(v44 ^ v30, 32);
+ v13 = rotl64(v31 ^ v13, 1);
+ v31 = v36.plus(v17).plus(v13);
+ v21 = rotl64(v31 ^ v21, 32);
+ t48 = v31.plus(v10);
+ v31 = v21.plus(v39);
+ v13 = rotl64(v31 ^ v13, 40);
+ v36 = t48.plus(v13);
+ v21 = rotl64(v36 ^ v21, 48);
+ v31 = v21.plus(v31);
+ v39 = v42.plus(v31);
+ v40 = rotl64(v39 ^ v40, 40);
+ v44 = v44.plus(v15).plus(v40);
+ t49 = v33.plus(v11);
+ v33 = rotl64(v45 ^ v43, 48);
+ v37 = v33.plus(v37);
+ v38 = rotl64(v37 ^ v38, 1);
+ v43 = t49.plus(v38);
+ v21 = rotl64(v43 ^ v21, 32);
+ v23 = v21.plus(v23);
+ v38 = rotl64(v23 ^ v38, 40);
+ v43 = v43.plus(v6).plus(v38);
+ v21 = rotl64(v43 ^ v21, 48);
+ v23 = v21.plus(v23);
+ v38 = rotl64(v23 ^ v38, 1);
+ v45 = v44.plus(v10).plus(v38);
+ v13 = rotl64(v31 ^ v13, 1);
+ v31 = v41.plus(v19).plus(v13);
+ t50 = v31.plus(v24);
+ v31 = rotl64(v31 ^ v33, 32);
+ v30 = v30.plus(v32);
+ v32 = v31.plus(v30);
+ v13 = rotl64(v32 ^ v13, 40);
+ v33 = t50.plus(v13);
+ v31 = rotl64(v33 ^ v31, 48);
+ v41 = rotl64(v45 ^ v31, 32);
+ v29 = rotl64(v30 ^ v29, 1);
+ v30 = v36.plus(v9).plus(v29);
+ v22 = rotl64(v30 ^ v22, 32);
+ t51 = v30.plus(v25);
+ v30 = v22.plus(v37);
+ v29 = rotl64(v30 ^ v29, 40);
+ v36 = t51.plus(v29);
+ v22 = rotl64(v36 ^ v22, 48);
+ v30 = v22.plus(v30);
+ v37 = v41.plus(v30);
+ v38 = rotl64(v37 ^ v38, 40);
+ v45 = v45.plus(v20).plus(v38);
+ t52 = v33.plus(v25);
+ v33 = rotl64(v44 ^ v42, 48);
+ v39 = v33.plus(v39);
+ v40 = rotl64(v39 ^ v40, 1);
+ v42 = t52.plus(v40);
+ v22 = rotl64(v42 ^ v22, 32);
+ v23 = v22.plus(v23);
+ v40 = rotl64(v23 ^ v40, 40);
+ v42 = v42.plus(v1).plus(v40);
+ v22 = rotl64(v42 ^ v22, 48);
+ v23 = v22.plus(v23);
+ v40 = rotl64(v23 ^ v40, 1);
+ v44 = v45.plus(v28).plus(v40);
+ v29 = rotl64(v30 ^ v29, 1);
+ v30 = v43.plus(v12).plus(v29);
+ t53 = v30.plus(v2);
+ v30 = rotl64(v30 ^ v33, 32);
+ v31 = v31.plus(v32);
+ v32 = v30.plus(v31);
+ v29 = rotl64(v32 ^ v29, 40);
+ v33 = t53.plus(v29);
+ v30 = rotl64(v33 ^ v30, 48);
+ v43 = rotl64(v44 ^ v30, 32);
+ v13 = rotl64(v31 ^ v13, 1);
+ v31 = v36.plus(v15).plus(v13);
+ v21 = rotl64(v31 ^ v21, 32);
+ t54 = v31.plus(v11);
+ v31 = v21.plus(v39);
+ v13 = rotl64(v31 ^ v13, 40);
+ v36 = t54.plus(v13);
+ v21 = rotl64(v36 ^ v21, 48);
+ v31 = v21.plus(v31);
+ v39 = v43.plus(v31);
+ v40 = rotl64(v39 ^ v40, 40);
+ v44 = v44.plus(v6).plus(v40);
+ t55 = v33.plus(v17);
+ v33 = rotl64(v45 ^ v41, 48);
+ v37 = v33.plus(v37);
+ v38 = rotl64(v37 ^ v38, 1);
+ v41 = t55.plus(v38);
+ v21 = rotl64(v41 ^ v21, 32);
+ v23 = v21.plus(v23);
+ v38 = rotl64(v23 ^ v38, 40);
+ v41 = v41.plus(v18).plus(v38);
+ v21 = rotl64(v41 ^ v21, 48);
+ v23 = v21.plus(v23);
+ v38 = rotl64(v23 ^ v38, 1);
+ v45 = v44.plus(v18).plus(v38);
+ v13 = rotl64(v31 ^ v13, 1);
+ v31 = v42.plus(v24).plus(v13);
+ t56 = v31.plus(v9);
+ v31 = rotl64(v31 ^ v33, 32);
+ v30 = v30.plus(v32);
+ v32 = v31.plus(v30);
+ v13 = rotl64(v32 ^ v13, 40);
+ v33 = t56.plus(v13);
+ v31 = rotl64(v33 ^ v31, 48);
+ v42 = rotl64(v45 ^ v31, 32);
+ v29 = rotl64(v30 ^ v29, 1);
+ v30 = v36.plus(v8).plus(v29);
+ v22 = rotl64(v30 ^ v22, 32);
+ t57 = v30.plus(v19);
+ v30 = v22.plus(v37);
+ v29 = rotl64(v30 ^ v29, 40);
+ v36 = t57.plus(v29);
+ v22 = rotl64(v36 ^ v22, 48);
+ v30 = v22.plus(v30);
+ v37 = v42.plus(v30);
+ v38 = rotl64(v37 ^ v38, 40);
+ v45 = v45.plus(v15).plus(v38);
+ t58 = v33.plus(v28);
+ v33 = rotl64(v44 ^ v43, 48);
+ v39 = v33.plus(v39);
+ v40 = rotl64(v39 ^ v40, 1);
+ v43 = t58.plus(v40);
+ v22 = rotl64(v43 ^ v22, 32);
+ v23 = v22.plus(v23);
+ v40 = rotl64(v23 ^ v40, 40);
+ v43 = v43.plus(v9).plus(v40);
+ v22 = rotl64(v43 ^ v22, 48);
+ v23 = v22.plus(v23);
+ v40 = rotl64(v23 ^ v40, 1);
+ v44 = v45.plus(v20).plus(v40);
+ v29 = rotl64(v30 ^ v29, 1);
+ v30 = v41.plus(v1).plus(v29);
+ t59 = v30.plus(v6);
+ v30 = rotl64(v30 ^ v33, 32);
+ v31 = v31.plus(v32);
+ v32 = v30.plus(v31);
+ v29 = rotl64(v32 ^ v29, 40);
+ v33 = t59.plus(v29);
+ v30 = rotl64(v33 ^ v30, 48);
+ v41 = rotl64(v44 ^ v30, 32);
+ v13 = rotl64(v31 ^ v13, 1);
+ v31 = v36.plus(v24).plus(v13);
+ v21 = rotl64(v31 ^ v21, 32);
+ t60 = v31.plus(v19);
+ v31 = v21.plus(v39);
+ v13 = rotl64(v31 ^ v13, 40);
+ v36 = t60.plus(v13);
+ v21 = rotl64(v36 ^ v21, 48);
+ v31 = v21.plus(v31);
+ v39 = v41.plus(v31);
+ v40 = rotl64(v39 ^ v40, 40);
+ v44 = v44.plus(v8).plus(v40);
+ t61 = v33.plus(v2);
+ v33 = rotl64(v45 ^ v42, 48);
+ v37 = v33.plus(v37);
+ v38 = rotl64(v37 ^ v38, 1);
+ v42 = t61.plus(v38);
+ v21 = rotl64(v42 ^ v21, 32);
+ v23 = v21.plus(v23);
+ v38 = rotl64(v23 ^ v38, 40);
+ v42 = v42.plus(v12).plus(v38);
+ v21 = rotl64(v42 ^ v21, 48);
+ v23 = v21.plus(v23);
+ v38 = rotl64(v23 ^ v38, 1);
+ v45 = v44.plus(v6).plus(v38);
+ v13 = rotl64(v31 ^ v13, 1);
+ v31 = v43.plus(v17).plus(v13);
+ t62 = v31.plus(v25);
+ v31 = rotl64(v31 ^ v33, 32);
+ v30 = v30.plus(v32);
+ v32 = v31.plus(v30);
+ v13 = rotl64(v32 ^ v13, 40);
+ v33 = t62.plus(v13);
+ v31 = rotl64(v33 ^ v31, 48);
+ v43 = rotl64(v45 ^ v31, 32);
+ v29 = rotl64(v30 ^ v29, 1);
+ v30 = v36.plus(v11).plus(v29);
+ v22 = rotl64(v30 ^ v22, 32);
+ t63 = v30.plus(v10);
+ v30 = v22.plus(v37);
+ v29 = rotl64(v30 ^ v29, 40);
+ v36 = t63.plus(v29);
+ v22 = rotl64(v36 ^ v22, 48);
+ v30 = v22.plus(v30);
+ v37 = v43.plus(v30);
+ v38 = rotl64(v37 ^ v38, 40);
+ v45 = v45.plus(v9).plus(v38);
+ t64 = v33.plus(v15);
+ v33 = rotl64(v44 ^ v41, 48);
+ v39 = v33.plus(v39);
+ v40 = rotl64(v39 ^ v40, 1);
+ v41 = t64.plus(v40);
+ v22 = rotl64(v41 ^ v22, 32);
+ v23 = v22.plus(v23);
+ v40 = rotl64(v23 ^ v40, 40);
+ v41 = v41.plus(v18).plus(v40);
+ v22 = rotl64(v41 ^ v22, 48);
+ v23 = v22.plus(v23);
+ v40 = rotl64(v23 ^ v40, 1);
+ v44 = v45.plus(v8).plus(v40);
+ v29 = rotl64(v30 ^ v29, 1);
+ v30 = v42.plus(v19).plus(v29);
+ t65 = v30.plus(v20);
+ v30 = rotl64(v30 ^ v33, 32);
+ v31 = v31.plus(v32);
+ v32 = v30.plus(v31);
+ v29 = rotl64(v32 ^ v29, 40);
+ v33 = t65.plus(v29);
+ v30 = rotl64(v33 ^ v30, 48);
+ v42 = rotl64(v44 ^ v30, 32);
+ v13 = rotl64(v31 ^ v13, 1);
+ v31 = v36.plus(v25).plus(v13);
+ v21 = rotl64(v31 ^ v21, 32);
+ t66 = v31.plus(v28);
+ v31 = v21.plus(v39);
+ v13 = rotl64(v31 ^ v13, 40);
+ v36 = t66.plus(v13);
+ v21 = rotl64(v36 ^ v21, 48);
+ v31 = v21.plus(v31);
+ v39 = v42.plus(v31);
+ v40 = rotl64(v39 ^ v40, 40);
+ v44 = v44.plus(v17).plus(v40);
+ t67 = v33.plus(v24);
+ v33 = rotl64(v45 ^ v43, 48);
+ v37 = v33.plus(v37);
+ v38 = rotl64(v37 ^ v38, 1);
+ v43 = t67.plus(v38);
+ v21 = rotl64(v43 ^ v21, 32);
+ v23 = v21.plus(v23);
+ v38 = rotl64(v23 ^ v38, 40);
+ v43 = v43.plus(v10).plus(v38);
+ v21 = rotl64(v43 ^ v21, 48);
+ v23 = v21.plus(v23);
+ v38 = rotl64(v23 ^ v38, 1);
+ v45 = v44.plus(v2).plus(v38);
+ v13 = rotl64(v31 ^ v13, 1);
+ v31 = v41.plus(v12).plus(v13);
+ t68 = v45.plus(v11);
+ t69 = v31.plus(v11);
+ v11 = rotl64(v31 ^ v33, 32);
+ v30 = v30.plus(v32);
+ v31 = v11.plus(v30);
+ v13 = rotl64(v31 ^ v13, 40);
+ v32 = t69.plus(v13);
+ v11 = rotl64(v32 ^ v11, 48);
+ v33 = rotl64(v45 ^ v11, 32);
+ v29 = rotl64(v30 ^ v29, 1);
+ v30 = v36.plus(v1).plus(v29);
+ t70 = v30.plus(v2);
+ v2 = rotl64(v30 ^ v22, 32);
+ v22 = v2.plus(v37);
+ v29 = rotl64(v22 ^ v29, 40);
+ v30 = t70.plus(v29);
+ v2 = rotl64(v30 ^ v2, 48);
+ v22 = v2.plus(v22);
+ v36 = v33.plus(v22);
+ v37 = rotl64(v36 ^ v38, 40);
+ v38 = t68.plus(v37);
+ t71 = v32.plus(v17);
+ v17 = rotl64(v44 ^ v42, 48);
+ t72 = v38.plus(v10);
+ v10 = v17.plus(v39);
+ v32 = rotl64(v10 ^ v40, 1);
+ v39 = t71.plus(v32);
+ t73 = v39.plus(v15);
+ v15 = rotl64(v39 ^ v2, 32);
+ v2 = v15.plus(v23);
+ v23 = rotl64(v2 ^ v32, 40);
+ v32 = t73.plus(v23);
+ v15 = rotl64(v32 ^ v15, 48);
+ v2 = v15.plus(v2);
+ v23 = rotl64(v2 ^ v23, 1);
+ v39 = t72.plus(v23);
+ t74 = v43.plus(v6);
+ v6 = rotl64(v22 ^ v29, 1);
+ t75 = v39.plus(v18);
+ v18 = t74.plus(v6);
+ t76 = v18.plus(v1);
+ v1 = rotl64(v18 ^ v17, 32);
+ v18 = v11.plus(v31);
+ v17 = v1.plus(v18);
+ v6 = rotl64(v17 ^ v6, 40);
+ v11 = t76.plus(v6);
+ v1 = rotl64(v11 ^ v1, 48);
+ v22 = rotl64(v39 ^ v1, 32);
+ v18 = rotl64(v18 ^ v13, 1);
+ v12 = v30.plus(v12).plus(v18);
+ t77 = v12.plus(v24);
+ v24 = rotl64(v12 ^ v21, 32);
+ v10 = v24.plus(v10);
+ v18 = rotl64(v10 ^ v18, 40);
+ v12 = t77.plus(v18);
+ v24 = rotl64(v12 ^ v24, 48);
+ v10 = v24.plus(v10);
+ v13 = v22.plus(v10);
+ v21 = rotl64(v13 ^ v23, 40);
+ v23 = t75.plus(v21);
+ v1 = v1.plus(v17);
+ v6 = rotl64(v1 ^ v6, 1);
+ v17 = v12.plus(v28).plus(v6);
+ t78 = v17.plus(v8);
+ v8 = rotl64(v17 ^ v15, 32);
+ v15 = rotl64(v38 ^ v33, 48);
+ v17 = v15.plus(v36);
+ v28 = v8.plus(v17);
+ v6 = rotl64(v28 ^ v6, 40);
+ v12 = t78.plus(v6);
+ v8 = rotl64(v12 ^ v8, 48);
+ v28 = v8.plus(v28);
+ store64(v0 + 16, v23 ^ v28 ^ v5);
+ v17 = rotl64(v17 ^ v37, 1);
+ v25 = v11.plus(v25).plus(v17);
+ t79 = v19.plus(v25);
+ v19 = rotl64(v25 ^ v24, 32);
+ v25 = v19.plus(v2);
+ v17 = rotl64(v25 ^ v17, 40);
+ v2 = t79.plus(v17);
+ t80 = v32.plus(v9);
+ v9 = rotl64(v10 ^ v18, 1);
+ v18 = t80.plus(v9);
+ v15 = rotl64(v18 ^ v15, 32);
+ v1 = v15.plus(v1);
+ v9 = rotl64(v1 ^ v9, 40);
+ v18 = v20.plus(v18).plus(v9);
+ v15 = rotl64(v18 ^ v15, 48);
+ v1 = v15.plus(v1);
+ store64(v0 + 8, v26 ^ (v2 ^ v1));
+ v19 = rotl64(v2 ^ v19, 48);
+ v20 = v19.plus(v25);
+ store64(v0 + 24, v14 ^ (v18 ^ v20));
+ v18 = rotl64(v23 ^ v22, 48);
+ v25 = v18.plus(v13);
+ store64(v0, v34 ^ (v12 ^ v25));
+ store64(v0 + 40, v27 ^ (v18 ^ rotl64(v28 ^ v6, 1)));
+ store64(v0 + 32, v35 ^ (v19 ^ rotl64(v1 ^ v9, 1)));
+ store64(v0 + 56, v16 ^ (v8 ^ rotl64(v25 ^ v21, 1)));
+ store64(v0 + 48, v7 ^ (v15 ^ rotl64(v20 ^ v17, 1)));
+ return;
+}
+
+// blake2_state::blake2b::State::write_digest
+#[inline(never)]
+unsafe fn state_blake2b_State_write_digest(mut v0: u64, mut v1: u64) {
+ let mut v2: u64;
+ let mut v3: u64;
+ let mut v4: u64;
+ let mut v5: u64;
+ let mut v6: u64;
+ let mut v7: u64;
+ let mut v8: u64;
+ let mut v9: u64;
+ let mut v10: u64;
+ let mut v11: u64;
+ let mut v12: u64;
+ let mut v13: u64;
+ let mut v14: u64;
+ let mut v15: u64;
+ let mut v16: u64;
+ let mut v17: u64;
+ let mut v18: u64;
+ let mut v19: u64;
+ let mut v20: u32;
+ let mut v21: u32;
+ let mut frame = [0_u64; 78];
+ let top = (address!(frame)).plus(624) & !15;
+ v2 = top.minus(608);
+ v3 = load64(v0.plus(128));
+ v4 = load64(v0.plus(160));
+ v5 = load64(v0.plus(64));
+ v6 = load64(v0.plus(72));
+ v7 = load64(v0.plus(80));
+ v8 = load64(v0.plus(88));
+ v9 = load64(v0.plus(96));
+ v10 = load64(v0.plus(104));
+ v11 = load64(v0.plus(112));
+ v12 = load64(v0);
+ v13 = load64(v0 + 8);
+ v14 = load64(v0 + 16);
+ v15 = load64(v0 + 24);
+ v16 = load64(v0 + 32);
+ v17 = load64(v0 + 40);
+ v18 = load64(v0 + 48);
+ v19 = load64(v0 + 56);
+ store64(v2 + 328, load64(v0.plus(120)));
+ store64(v2 + 320, v11);
+ store64(v2 + 312, v10);
+ store64(v2 + 304, v9);
+ store64(v2 + 296, v8);
+ store64(v2 + 288, v7);
+ store64(v2 + 280, v6);
+ store64(v2 + 272, v5);
+ store64(v2 + 264, v19);
+ store64(v2 + 256, v18);
+ store64(v2 + 248, v17);
+ store64(v2 + 240, v16);
+ store64(v2 + 232, v15);
+ store64(v2 + 224, v14);
+ store64(v2 + 216, v13);
+ store64(v2 + 208, v12);
+ v20 = (v4 != 0) as u32;
+ store64(v2 + 344, v20 as u64);
+ v4 = load64(v0.plus(136));
+ fill(v2.plus(352), 0, 128);
+ 'l2: loop {
+ v21 = (v4 == 0) as u32;
+ if v21 != 0 { break 'l2; }
+ copy(v2.plus(352), v0.plus(168), v4);
+ break 'l2; }
+ copy(v2.plus(72), v2.plus(352), 128);
+ store64(v2 + 8, 0);
+ store64(v2 + 200, v4);
+ fill(v2 + 16, 0, 56);
+ v3 = v4.plus(v3);
+ store64(v2 + 336, v3);
+ fill(v2.plus(480), 0, 128);
+ 'l3: loop {
+ if v21 != 0 { break 'l3; }
+ copy(v2.plus(480), v2.plus(72), v4);
+ break 'l3; }
+ compress_compress_blake2b_compress(v2.plus(208), v2.plus(480), v3, 1, v20);
+ store64(v2 + 64, load64(v2 + 264));
+ store64(v2 + 56, load64(v2 + 256));
+ store64(v2 + 48, load64(v2 + 248));
+ store64(v2 + 40, load64(v2 + 240));
+ store64(v2 + 32, load64(v2 + 232));
+ store64(v2 + 24, load64(v2 + 224));
+ store64(v2 + 16, load64(v2 + 216));
+ store64(v2 + 8, load64(v2 + 208));
+ 'l4: loop {
+ v0 = load64(v0.plus(152));
+ if v0 == 0 { break 'l4; }
+ copy(v1, v2.plus(8), v0);
+ break 'l4; }
+ return;
+}
+
+// blake2_digest::buffer::digest_into::<#33c1e97afcdf8a5d>
+#[inline(never)]
+unsafe fn digest_buffer_digest_into_33c1e97afcdf8a5d(mut v0: u64, mut v1: u64, mut v2: u64, mut v3:
+        u64, mut v4: u64) -> u64 {
+ let mut v6: u64;
+ let mut v7: u64;
+ let mut v8: u64;
+ let mut v9: u64;
+ let mut v10: u64;
+ let mut v11: u64;
+ let mut v12: u64;
+ let mut t0: u64;
+ let mut t1: u64;
+ 'l1: loop {
+ 'l2: loop {
+ 'l3: loop {
+ 'l5: loop {
+ 'l6: loop {
+ 'l7: loop {
+ 'l8: loop {
+ v6 = 128_u64.minus(v1);
+ if v3 <= v6 { break 'l8; }
+ if v1 == 0 { break 'l5; }
+ v7 = v0.plus(v1);
+ if v7.minus(v2) >= v6 { break 'l7; }
+ v8 = v6 & 3;
+ v9 = 0;
+ 'l9: loop {
+ if v1.minus(125) < 3 { break 'l9; }
+ v10 = v6 & 0xfffffffffffffffc;
+ v9 = 0;
+ 'l10: loop {
+ v11 = v7.plus(v9);
+ v12 = v2.plus(v9);
+ store8(v11, load8(v12) as u64);
+ store8(v11.plus(1), load8(v12.plus(1)) as u64);
+ store8(v11.plus(2), load8(v12.plus(2)) as u64);
+ store8(v11.plus(3), load8(v12.plus(3)) as u64);
+ v9 = v9.plus(4);
+ if v10 != v9 { continue 'l10; }
+ break 'l10; }
+ if v8 == 0 { break 'l6; }
+ break 'l9; }
+ v11 = v2.plus(v9);
+ v9 = v0.plus(v9.plus(v1));
+ 'l11: loop {
+ store8(v9, load8(v11) as u64);
+ v9 = v9.plus(1);
+ v11 = v11.plus(1);
+ v8 = v8.minus(1);
+ if v8 != 0 { continue 'l11; }
+ break 'l6;
+ }
+ }
+ 'l12: loop {
+ 'l13: loop {
+ v8 = v0.plus(v1);
+ if v8.minus(v2) >= v3 { break 'l13; }
+ v12 = v3 & 3;
+ v4 = 0;
+ 'l14: loop {
+ if v3 < 4 { break 'l14; }
+ v7 = v3 & 0xfffffffffffffffc;
+ v4 = 0;
+ 'l15: loop {
+ v11 = v8.plus(v4);
+ v9 = v2.plus(v4);
+ store8(v11, load8(v9) as u64);
+ store8(v11.plus(1), load8(v9.plus(1)) as u64);
+ store8(v11.plus(2), load8(v9.plus(2)) as u64);
+ store8(v11.plus(3), load8(v9.plus(3)) as u64);
+ v4 = v4.plus(4);
+ if v7 != v4 { continue 'l15; }
+ break 'l15; }
+ if v12 == 0 { break 'l12; }
+ break 'l14; }
+ v11 = v2.plus(v4);
+ v4 = v0.plus(v4.plus(v1));
+ 'l16: loop {
+ store8(v4, load8(v11) as u64);
+ v4 = v4.plus(1);
+ v11 = v11.plus(1);
+ v12 = v12.minus(1);
+ if v12 != 0 { continue 'l16; }
+ break 'l12;
+ }
+ }
+ if v3 == 0 { break 'l12; }
+ copy(v8, v2, v3);
+ break 'l12; }
+ return v3.plus(v1);
+ }
+ if v6 == 0 { break 'l6; }
+ copy(v7, v2, v6);
+ break 'l6; }
+ v3 = v3.minus(v6);
+ v2 = v2.plus(v6);
+ v11 = v4.plus(128);
+ t0 = v11;
+ v11 = load64(v11).plus(128);
+ store64(t0, v11);
+ compress_compress_blake2b_compress(v4, v0, v11, 0, 0);
+ break 'l5; }
+ v11 = v3.minus(((v3 != 0) as u32) as u64);
+ v1 = v11 & 0xffffffffffffff80;
+ 'l17: loop {
+ v9 = v11 >> 7;
+ if v9 == 0 { break 'l17; }
+ v11 = v2;
+ 'l18: loop {
+ v12 = v4.plus(128);
+ t1 = v12;
+ v12 = load64(v12).plus(128);
+ store64(t1, v12);
+ compress_compress_blake2b_compress(v4, v11, v12, 0, 0);
+ v11 = v11.plus(128);
+ v9 = v9.minus(1);
+ if v9 != 0 { continue 'l18; }
+ break 'l18; }
+ break 'l17; }
+ fill(v0, 0, 128);
+ 'l19: loop {
+ v8 = v2.plus(v1);
+ v7 = v3.minus(v1);
+ if v0.minus(v8) >= v7 { break 'l19; }
+ v12 = v3 & 3;
+ v4 = 0;
+ if v1.minus(v3) > 0xfffffffffffffffc { break 'l2; }
+ v3 = (v3 & 0xfffffffffffffffc).minus(v1);
+ v4 = 0;
+ 'l20: loop {
+ v11 = v0.plus(v4);
+ v9 = v8.plus(v4);
+ store8(v11, load8(v9) as u64);
+ store8(v11.plus(1), load8(v9.plus(1)) as u64);
+ store8(v11.plus(2), load8(v9.plus(2)) as u64);
+ store8(v11.plus(3), load8(v9.plus(3)) as u64);
+ v4 = v4.plus(4);
+ if v3 != v4 { continue 'l20; }
+ break 'l3;
+ }
+ }
+ if v7 == 0 { break 'l1; }
+ copy(v0, v8, v7);
+ return v7;
+ }
+ if v12 == 0 { break 'l1; }
+ break 'l2; }
+ v11 = v0.plus(v4);
+ v4 = v2.plus(v4.plus(v1));
+ 'l21: loop {
+ store8(v11, load8(v4) as u64);
+ v11 = v11.plus(1);
+ v4 = v4.plus(1);
+ v12 = v12.minus(1);
+ if v12 != 0 { continue 'l21; }
+ break 'l21; }
+ break 'l1; }
+ return v7;
+}
+
+// blake2_state::blake2b::State::take
+#[inline(never)]
+unsafe fn state_blake2b_State_take(mut v0: u64, mut v1: u64, mut v2: u64) {
+ let mut v3: u64;
+ let mut v4: u64;
+ let mut v5: u64;
+ let mut v6: u64;
+ let mut v7: u64;
+ let mut v8: u64;
+ let mut v9: u64;
+ let mut v10: u64;
+ let mut v11: u64;
+ let mut v12: u64;
+ let mut v13: u64;
+ let mut v14: u64;
+ let mut v15: u64;
+ let mut v16: u64;
+ let mut v17: u64;
+ let mut v18: u64;
+ let mut v19: u64;
+ let mut v20: u64;
+ let mut v21: u64;
+ let mut v22: u64;
+ let mut v23: u64;
+ let mut t0: u64;
+ let mut frame = [0_u64; 20];
+ let top = (address!(frame)).plus(160) & !15;
+ v3 = top.minus(144);
+ v4 = v3;
+ 'l2: loop {
+ 'l3: loop {
+ v3 = v0.plus(136);
+ v5 = load64(v3);
+ if v2 > 128_u64.minus(v5) { break 'l3; }
+ 'l4: loop {
+ 'l5: loop {
+ v6 = v0.plus(v5);
+ v3 = v6.plus(168);
+ if v3.minus(v1) >= v2 { break 'l5; }
+ v7 = v2 & 3;
+ v8 = 0;
+ 'l6: loop {
+ if v2 < 4 { break 'l6; }
+ v9 = v2 & 0xfffffffffffffffc;
+ v8 = 0;
+ 'l7: loop {
+ v3 = v6.plus(v8);
+ v10 = v1.plus(v8);
+ store8(v3.plus(168), load8(v10) as u64);
+ store8(v3.plus(169), load8(v10.plus(1)) as u64);
+ store8(v3.plus(170), load8(v10.plus(2)) as u64);
+ store8(v3.plus(171), load8(v10.plus(3)) as u64);
+ v8 = v8.plus(4);
+ if v9 != v8 { continue 'l7; }
+ break 'l7; }
+ if v7 == 0 { break 'l4; }
+ break 'l6; }
+ v3 = v1.plus(v8);
+ v8 = v8.plus(v5).plus(v0).plus(168);
+ 'l8: loop {
+ store8(v8, load8(v3) as u64);
+ v8 = v8.plus(1);
+ v3 = v3.plus(1);
+ v7 = v7.minus(1);
+ if v7 != 0 { continue 'l8; }
+ break 'l4;
+ }
+ }
+ if v2 == 0 { break 'l4; }
+ copy(v3, v1, v2);
+ break 'l4; }
+ store64(v0.plus(136), v5.plus(v2));
+ break 'l2;
+ }
+ v8 = load64(v0.plus(160));
+ v10 = v0.plus(128);
+ v7 = load64(v10);
+ v6 = load64(v0.plus(64));
+ v9 = load64(v0.plus(72));
+ v11 = load64(v0.plus(80));
+ v12 = load64(v0.plus(88));
+ v13 = load64(v0.plus(96));
+ v14 = load64(v0.plus(104));
+ v15 = load64(v0.plus(112));
+ v16 = load64(v0);
+ v17 = load64(v0 + 8);
+ v18 = load64(v0 + 16);
+ v19 = load64(v0 + 24);
+ v20 = load64(v0 + 32);
+ v21 = load64(v0 + 40);
+ v22 = load64(v0 + 48);
+ v23 = load64(v0 + 56);
+ store64(v4 + 120, load64(v0.plus(120)));
+ store64(v4 + 112, v15);
+ store64(v4 + 104, v14);
+ store64(v4 + 96, v13);
+ store64(v4 + 88, v12);
+ store64(v4 + 80, v11);
+ store64(v4 + 72, v9);
+ store64(v4 + 64, v6);
+ store64(v4 + 56, v23);
+ store64(v4 + 48, v22);
+ store64(v4 + 40, v21);
+ store64(v4 + 32, v20);
+ store64(v4 + 24, v19);
+ store64(v4 + 16, v18);
+ store64(v4 + 8, v17);
+ store64(v4, v16);
+ store64(v4 + 128, v7);
+ store64(v4 + 136, ((v8 != 0) as u32) as u64);
+ t0 = digest_buffer_digest_into_33c1e97afcdf8a5d(v0.plus(168), v5, v1, v2, v4);
+ store64(v3, t0);
+ store64(v0 + 56, load64(v4 + 56));
+ store64(v0 + 48, load64(v4 + 48));
+ store64(v0 + 40, load64(v4 + 40));
+ store64(v0 + 32, load64(v4 + 32));
+ store64(v0 + 24, load64(v4 + 24));
+ store64(v0 + 16, load64(v4 + 16));
+ store64(v0 + 8, load64(v4 + 8));
+ store64(v0, load64(v4));
+ store64(v10, load64(v4 + 128));
+ break 'l2; }
+ return;
+}
+
+// Overwrites the stack below the caller.
+#[inline(never)]
+unsafe fn digest_wiping_scrub_stack_3072() {
+    let mut room = [0_u64; 512];
+    for word in room.iter_mut() {
+        core::ptr::write_volatile(word, 0);
+    }
+}
+
+// blake2_ffi::blake2b::write_keyed
+#[inline(never)]
+unsafe fn ffi_blake2b_write_keyed(mut v0: u64, mut v1: u64, mut v2: u64, mut v3: u64, mut v4: u64,
+        mut v5: u64) -> u32 {
+ let mut v6: u64;
+ let mut v7: u64;
+ let mut v8: u32;
+ let mut v9: u64;
+ let mut frame = [0_u64; 104];
+ let top = (address!(frame)).plus(832) & !15;
+ v6 = top.minus(816);
+ 'l1: loop {
+ 'l2: loop {
+ 'l4: loop {
+ if v1.minus(1) > 63 { break 'l4; }
+ if v5 > 64 { break 'l4; }
+ v7 = 0;
+ v8 = v1 as u32;
+ 'l5: loop {
+ if v5 != 0 { break 'l5; }
+ fill(v6.plus(560), 0, 128);
+ fill(v6.plus(688), 0, 128);
+ v4 = ((v8 | 0x1010000) as u64) ^ 0x6a09e667f3bcc908;
+ break 'l2;
+ }
+ v7 = 128;
+ 'l6: loop {
+ v9 = 128_u64.minus(v5);
+ if v9 == 0 { break 'l6; }
+ fill(v6.plus(688).plus(v5), 0, v9);
+ break 'l6; }
+ 'l7: loop {
+ if v5 == 0 { break 'l7; }
+ copy(v6.plus(688), v4, v5);
+ break 'l7; }
+ copy(v6.plus(560), v6.plus(688), 128);
+ v4 = ((((v5 as u32) << 8) | v8 | 0x1010000) as u64) ^ 0x6a09e667f3bcc908;
+ break 'l2;
+ }
+ v8 = 0xffffffff;
+ break 'l1;
+ }
+ copy(v6.plus(8), v6.plus(560), 128);
+ store64(v6 + 296, 0);
+ store64(v6 + 288, v1);
+ store64(v6 + 280, v7);
+ store64(v6 + 272, v7);
+ store64(v6 + 264, 0);
+ store64(v6 + 256, 0x5be0cd19137e2179);
+ store64(v6 + 248, 0x1f83d9abfb41bd6b);
+ store64(v6 + 240, 0x9b05688c2b3e6c1f);
+ store64(v6 + 232, 0x510e527fade682d1);
+ store64(v6 + 224, 0xa54ff53a5f1d36f1);
+ store64(v6 + 216, 0x3c6ef372fe94f82b);
+ store64(v6 + 208, 0xbb67ae8584caa73b);
+ store64(v6 + 200, v4);
+ store64(v6 + 192, 0x5be0cd19137e2179);
+ store64(v6 + 184, 0x1f83d9abfb41bd6b);
+ store64(v6 + 176, 0x9b05688c2b3e6c1f);
+ store64(v6 + 168, 0x510e527fade682d1);
+ store64(v6 + 160, 0xa54ff53a5f1d36f1);
+ store64(v6 + 152, 0x3c6ef372fe94f82b);
+ store64(v6 + 144, 0xbb67ae8584caa73b);
+ store64(v6 + 136, v4);
+ v1 = v6.plus(304);
+ copy(v1, v6.plus(8), 128);
+ copy(v6.plus(432), v6.plus(688), 128);
+ v8 = 0xffffffff;
+ if v3 > (!v7) { break 'l1; }
+ 'l8: loop {
+ 'l9: loop {
+ if v3 == 1 { break 'l9; }
+ state_blake2b_State_take(v6.plus(136), v2, v3);
+ break 'l8;
+ }
+ 'l10: loop {
+ if v5 == 0 { break 'l10; }
+ state_blake2b_State_take(v6.plus(136), v2, 1);
+ break 'l8;
+ }
+ store8(v1.plus(v7), load8(v2) as u64);
+ store64(v6 + 272, v7 | 1);
+ break 'l8; }
+ state_blake2b_State_write_digest(v6.plus(136), v0);
+ v8 = 0;
+ break 'l1; }
+ return v8;
+}
+
+// rattle::export vulfsjor_ffi_blake2b
+#[inline(never)]
+unsafe fn exported_blake2b(mut v0: u64, mut v1: u64, mut v2: u64, mut v3: u64, mut v4: u64, mut v5:
+        u64) -> u32 {
+ let mut v6: u64;
+ let mut v7: u64;
+ let mut v8: u64;
+ let mut v9: u32;
+ let mut v10: u32;
+ let mut frame = [0_u64; 72];
+ let top = (address!(frame)).plus(576) & !15;
+ v6 = top.minus(560);
+ v7 = v2.plus(if v2 == 0 { 4096_u64 } else { 0 });
+ v8 = v0.plus(if v0 == 0 { 4096_u64 } else { 0 });
+ 'l2: loop {
+ 'l3: loop {
+ 'l4: loop {
+ 'l5: loop {
+ if v1 != 64 { break 'l5; }
+ if v5 != 0 { break 'l4; }
+ store64(v6 + 128, 0x5be0cd19137e2179);
+ store64(v6 + 120, 0x1f83d9abfb41bd6b);
+ store64(v6 + 112, 0x9b05688c2b3e6c1f);
+ store64(v6 + 104, 0x510e527fade682d1);
+ store64(v6 + 96, 0xa54ff53a5f1d36f1);
+ store64(v6 + 88, 0x3c6ef372fe94f82b);
+ store64(v6 + 80, 0xbb67ae8584caa73b);
+ store64(v6 + 72, 0x6a09e667f2bdc948);
+ store64(v6 + 64, 0x5be0cd19137e2179);
+ store64(v6 + 56, 0x1f83d9abfb41bd6b);
+ store64(v6 + 48, 0x9b05688c2b3e6c1f);
+ store64(v6 + 40, 0x510e527fade682d1);
+ store64(v6 + 32, 0xa54ff53a5f1d36f1);
+ store64(v6 + 24, 0x3c6ef372fe94f82b);
+ store64(v6 + 16, 0xbb67ae8584caa73b);
+ store64(v6 + 8, 0x6a09e667f2bdc948);
+ fill(v6.plus(8).plus(128), 0, 152);
+ v5 = v6.plus(152);
+ 'l6: loop {
+ 'l7: loop {
+ if v3 > 128 { break 'l7; }
+ 'l8: loop {
+ if v3 == 0 { break 'l8; }
+ copy(v5, v7, v3);
+ break 'l8; }
+ v2 = 0;
+ v9 = 0;
+ break 'l6;
+ }
+ v4 = v3.minus(1);
+ v0 = v4 >> 7;
+ v2 = v7;
+ 'l9: loop {
+ v1 = load64(v6 + 136).plus(128);
+ store64(v6 + 136, v1);
+ compress_compress_blake2b_compress(v6.plus(8), v2, v1, 0, 0);
+ v2 = v2.plus(128);
+ v0 = v0.minus(1);
+ if v0 != 0 { continue 'l9; }
+ break 'l9; }
+ fill(v5, 0, 128);
+ 'l10: loop {
+ v2 = v4 & 0xffffffffffffff80;
+ v3 = v3.minus(v2);
+ if v3 == 0 { break 'l10; }
+ copy(v5, v7.plus(v2), v3);
+ break 'l10; }
+ v9 = load8(v6 + 144);
+ v2 = load64(v6 + 136);
+ break 'l6; }
+ store64(v6 + 280, v3);
+ v2 = v3.plus(v2);
+ store64(v6 + 136, v2);
+ v10 = 0;
+ fill(v6.plus(432), 0, 128);
+ 'l11: loop {
+ if v3 == 0 { break 'l11; }
+ copy(v6.plus(432), v5, v3);
+ break 'l11; }
+ fill(v5, 0, 136);
+ compress_compress_blake2b_compress(v6.plus(8), v6.plus(432), v2, 1, v9);
+ v2 = load64(v6 + 8);
+ v0 = load64(v6 + 16);
+ v1 = load64(v6 + 24);
+ v3 = load64(v6 + 32);
+ v5 = load64(v6 + 40);
+ v4 = load64(v6 + 48);
+ v7 = load64(v6 + 56);
+ store64(v8 + 56, load64(v6 + 64));
+ store64(v8 + 48, v7);
+ store64(v8 + 40, v4);
+ store64(v8 + 32, v5);
+ store64(v8 + 24, v3);
+ store64(v8 + 16, v1);
+ store64(v8 + 8, v0);
+ store64(v8, v2);
+ break 'l2;
+ }
+ if v5 == 0 { break 'l3; }
+ break 'l4; }
+ v10 = ffi_blake2b_write_keyed(v8, v1, v7, v3, v4.plus(if v4 == 0 { 4096_u64 } else { 0 }), v5);
+ digest_wiping_scrub_stack_3072();
+ break 'l2;
+ }
+ v10 = 0xffffffff;
+ if v1.minus(1) > 63 { break 'l2; }
+ store64(v6 + 136, 0);
+ store64(v6 + 128, 0x5be0cd19137e2179);
+ store64(v6 + 120, 0x1f83d9abfb41bd6b);
+ store64(v6 + 112, 0x9b05688c2b3e6c1f);
+ store64(v6 + 104, 0x510e527fade682d1);
+ store64(v6 + 96, 0xa54ff53a5f1d36f1);
+ store64(v6 + 88, 0x3c6ef372fe94f82b);
+ store64(v6 + 80, 0xbb67ae8584caa73b);
+ store64(v6 + 64, 0x5be0cd19137e2179);
+ store64(v6 + 56, 0x1f83d9abfb41bd6b);
+ store64(v6 + 48, 0x9b05688c2b3e6c1f);
+ store64(v6 + 40, 0x510e527fade682d1);
+ store64(v6 + 32, 0xa54ff53a5f1d36f1);
+ store64(v6 + 24, 0x3c6ef372fe94f82b);
+ store64(v6 + 16, 0xbb67ae8584caa73b);
+ fill(v6 + 144, 0, 16);
+ v2 = (((v1 as u32) | 0x1010000) as u64) ^ 0x6a09e667f3bcc908;
+ store64(v6 + 72, v2);
+ store64(v6 + 8, v2);
+ store64(v6 + 160, v1);
+ fill(v6.plus(168), 0, 264);
+ 'l12: loop {
+ 'l13: loop {
+ if v3 == 1 { break 'l13; }
+ state_blake2b_State_take(v6.plus(8), v7, v3);
+ break 'l12;
+ }
+ store64(v6 + 144, 1);
+ store8(v6 + 176, load8(v7) as u64);
+ break 'l12; }
+ state_blake2b_State_write_digest(v6.plus(8), v8);
+ v10 = 0;
+ break 'l2; }
+ return v10;
+}
+
+// __multi3
+#[inline(never)]
+unsafe fn multi3(mut v0: u64, mut v1: u64, mut v2: u64, mut v3: u64, mut v4: u64) {
+ let mut v5: u64;
+ let mut v6: u64;
+ let mut t0: u64;
+ v5 = v3 >> 32;
+ v6 = v1 >> 32;
+ t0 = v5.times(v6).plus(v2.times(v3)).plus(v4.times(v1));
+ v3 &= 0xffffffff;
+ v1 &= 0xffffffff;
+ v2 = v3.times(v1);
+ v3 = (v2 >> 32).plus(v3.times(v6));
+ v1 = (v3 & 0xffffffff).plus(v5.times(v1));
+ store64(v0 + 8, t0.plus(v3 >> 32).plus(v1 >> 32));
+ store64(v0, (v1 << 32) | (v2 & 0xffffffff));
+}
+
+// blake2_ffi::blake2b::many::write_all
+#[inline(never)]
+unsafe fn ffi_blake2b_many_write_all(mut v0: u64, mut v1: u64, mut v2: u64, mut v3: u64, mut v4:
+        u64) {
+ let mut v5: u64;
+ let mut v7: u64;
+ let mut v8: u64;
+ let mut v9: u64;
+ let mut v10: u64;
+ let mut v11: u64;
+ let mut v12: u64;
+ let mut v13: u64;
+ let mut v14: u64;
+ let mut v15: u64;
+ let mut v16: u64;
+ let mut v17: u64;
+ let mut v18: u64;
+ let mut v19: u64;
+ let mut v20: u64;
+ let mut v21: u64;
+ let mut v22: u64;
+ let mut frame = [0_u64; 94];
+ let top = (address!(frame)).plus(752) & !15;
+ let _ = v1;
+ v5 = top;
+ v5 = v5.minus(704) & 0xffffffffffffffe0;
+ 'l2: loop {
+ if v4 == 0 { break 'l2; }
+ v7 = v5.plus(576) | 16;
+ v8 = v5.plus(320);
+ v9 = v5.plus(192);
+ v10 = 0;
+ 'l3: loop {
+ 'l4: loop {
+ v11 = load64(v2);
+ if v11.minus(1) > 63 { break 'l4; }
+ v12 = load64(v2.plus(16));
+ if v12 > 64 { break 'l4; }
+ v13 = load64(v2.plus(32));
+ if v13 > 16 { break 'l4; }
+ v14 = load64(v2.plus(48));
+ if v14 > 16 { break 'l4; }
+ v15 = v11.times(v10);
+ v16 = load64(v3.plus(8));
+ v17 = load64(v3);
+ v18 = load64(v2.plus(40));
+ v19 = load64(v2.plus(24));
+ v20 = 0;
+ 'l5: loop {
+ 'l6: loop {
+ if v12 != 0 { break 'l6; }
+ fill(v5 + 576, 0, 32);
+ 'l7: loop {
+ if v13 == 0 { break 'l7; }
+ copy(v5.plus(576), v19, v13);
+ break 'l7; }
+ 'l8: loop {
+ if v14 == 0 { break 'l8; }
+ copy(v7, v18, v14);
+ break 'l8; }
+ v21 = load64(v5 + 576);
+ v19 = load64(v5 + 584);
+ v18 = load64(v5 + 592);
+ v14 = load64(v5 + 600);
+ fill(v5.plus(448), 0, 128);
+ fill(v5.plus(576), 0, 128);
+ v13 = (((v11 as u32) | 0x1010000) as u64) ^ 0x6a09e667f3bcc908;
+ v14 ^= 0x5be0cd19137e2179;
+ v18 ^= 0x1f83d9abfb41bd6b;
+ v19 ^= 0x9b05688c2b3e6c1f;
+ v21 ^= 0x510e527fade682d1;
+ break 'l5;
+ }
+ v22 = load64(v2.plus(8));
+ fill(v5 + 576, 0, 32);
+ 'l9: loop {
+ if v13 == 0 { break 'l9; }
+ copy(v5.plus(576), v19, v13);
+ break 'l9; }
+ 'l10: loop {
+ if v14 == 0 { break 'l10; }
+ copy(v7, v18, v14);
+ break 'l10; }
+ v20 = 128;
+ v21 = load64(v5 + 576);
+ v19 = load64(v5 + 584);
+ v18 = load64(v5 + 592);
+ v14 = load64(v5 + 600);
+ 'l11: loop {
+ v13 = 128_u64.minus(v12);
+ if v13 == 0 { break 'l11; }
+ fill(v5.plus(576).plus(v12), 0, v13);
+ break 'l11; }
+ 'l12: loop {
+ if v12 == 0 { break 'l12; }
+ copy(v5.plus(576), v22, v12);
+ break 'l12; }
+ copy(v5.plus(448), v5.plus(576), 128);
+ v13 = ((((v12 as u32) << 8) | (v11 as u32) | 0x1010000) as u64) ^ 0x6a09e667f3bcc908;
+ v14 ^= 0x5be0cd19137e2179;
+ v18 ^= 0x1f83d9abfb41bd6b;
+ v19 ^= 0x9b05688c2b3e6c1f;
+ v21 ^= 0x510e527fade682d1;
+ break 'l5; }
+ v15 = v0.plus(v15);
+ store64(v5 + 184, 0);
+ store64(v5 + 176, v11);
+ store64(v5 + 168, v20);
+ store64(v5 + 160, v20);
+ store64(v5 + 152, 0);
+ store64(v5 + 144, v14);
+ store64(v5 + 136, v18);
+ store64(v5 + 128, v19);
+ store64(v5 + 120, v21);
+ store64(v5 + 112, 0xa54ff53a5f1d36f1);
+ store64(v5 + 104, 0x3c6ef372fe94f82b);
+ store64(v5 + 96, 0xbb67ae8584caa73b);
+ store64(v5 + 88, v13);
+ store64(v5 + 80, v14);
+ store64(v5 + 72, v18);
+ store64(v5 + 64, v19);
+ store64(v5 + 56, v21);
+ store64(v5 + 48, 0xa54ff53a5f1d36f1);
+ store64(v5 + 40, 0x3c6ef372fe94f82b);
+ store64(v5 + 32, 0xbb67ae8584caa73b);
+ store64(v5 + 24, v13);
+ copy(v9, v5.plus(448), 128);
+ copy(v8, v5.plus(576), 128);
+ 'l13: loop {
+ 'l14: loop {
+ if v16 == 1 { break 'l14; }
+ state_blake2b_State_take(v5.plus(24), v17, v16);
+ break 'l13;
+ }
+ 'l15: loop {
+ if v12 == 0 { break 'l15; }
+ state_blake2b_State_take(v5.plus(24), v17, 1);
+ break 'l13;
+ }
+ store8(v9.plus(v20), load8(v17) as u64);
+ store64(v5 + 160, v20 | 1);
+ break 'l13; }
+ state_blake2b_State_write_digest(v5.plus(24), v15);
+ break 'l4; }
+ v3 = v3.plus(16);
+ v10 = v10.plus(1);
+ if v4 != v10 { continue 'l3; }
+ break 'l3; }
+ break 'l2; }
+ return;
+}
+
+// Overwrites the stack below the caller.
+#[inline(never)]
+unsafe fn digest_wiping_scrub_stack_9216() {
+    let mut room = [0_u64; 1280];
+    for word in room.iter_mut() {
+        core::ptr::write_volatile(word, 0);
+    }
+}
+
+// rattle::export vulfsjor_ffi_blake2b_many
+#[inline(never)]
+unsafe fn exported_blake2b_many(mut v0: u64, mut v1: u64, mut v2: u64, mut v3: u64, mut v4: u64, mut
+        v5: u64, mut v6: u64, mut v7: u64, mut v8: u64, mut v9: u64, mut v10: u64) -> u32 {
+ let mut v11: u64;
+ let mut v12: u32;
+ let mut frame = [0_u64; 12];
+ let top = (address!(frame)).plus(96) & !15;
+ v11 = top.minus(80);
+ 'l1: loop {
+ 'l2: loop {
+ 'l3: loop {
+ store64(v11 + 72, v10);
+ store64(v11 + 56, v8);
+ store64(v11 + 40, v6);
+ store64(v11 + 64, v9.plus(if v9 == 0 { 4096_u64 } else { 0 }));
+ store64(v11 + 48, v7.plus(if v7 == 0 { 4096_u64 } else { 0 }));
+ store64(v11 + 32, v5.plus(if v5 == 0 { 4096_u64 } else { 0 }));
+ store64(v11 + 24, v2);
+ v12 = 0xffffffff;
+ if v2.minus(1) > 63 { break 'l1; }
+ if v6 > 64 { break 'l1; }
+ if v8 > 16 { break 'l1; }
+ if v10 > 16 { break 'l1; }
+ multi3(v11, v4, 0, v2, 0);
+ if ((load64(v11) ^ v1) | load64(v11 + 8)) != 0 { break 'l1; }
+ v7 = v3.plus(if v3 == 0 { 4096_u64 } else { 0 });
+ v5 = v0.plus(if v0 == 0 { 4096_u64 } else { 0 });
+ if v6 == 0 { break 'l3; }
+ v2 = v7.plus(8);
+ v6 = 0xffffffffffffffff;
+ 'l5: loop {
+ 'l6: loop {
+ v6 = v6.plus(1);
+ if v4 == v6 { break 'l5; }
+ v9 = load64(v2);
+ v2 = v2.plus(16);
+ if v9 <= 0xffffffffffffff7f { continue 'l6; }
+ break 'l1;
+ }
+ }
+ ffi_blake2b_many_write_all(v5, v1, v11.plus(24), v7, v4);
+ digest_wiping_scrub_stack_9216();
+ break 'l2;
+ }
+ ffi_blake2b_many_write_all(v5, v1, v11.plus(24), v7, v4);
+ break 'l2; }
+ v12 = 0;
+ break 'l1; }
+ return v12;
+}
+
+// blake2_ffi::blake2b::initialize
+#[inline(never)]
+unsafe fn ffi_blake2b_initialize(mut v0: u64, mut v1: u64, mut v2: u64) -> u32 {
+ let mut v3: u64;
+ let mut v5: u64;
+ let mut v6: u64;
+ let mut v7: u64;
+ let mut v8: u64;
+ let mut v9: u32;
+ let mut v10: u32;
+ let mut v11: u64;
+ let mut v12: u64;
+ let mut v13: u32;
+ let mut v14: u32;
+ let mut v15: u32;
+ let mut v16: u32;
+ let mut v17: u32;
+ let mut v18: u32;
+ let mut v19: u32;
+ let mut v20: u32;
+ let mut v21: u64;
+ let mut frame = [0_u64; 58];
+ let top = (address!(frame)).plus(464) & !15;
+ v3 = top;
+ v3 = v3.minus(416) & 0xffffffffffffffe0;
+ 'l2: loop {
+ v5 = load64(v1);
+ if v5.minus(1) > 63 { break 'l2; }
+ v6 = load64(v1.plus(16));
+ if v6 > 64 { break 'l2; }
+ v7 = load64(v1.plus(32));
+ if v7 > 16 { break 'l2; }
+ v8 = load64(v1.plus(48));
+ if v8 > 16 { break 'l2; }
+ v9 = load8(v2 + 1);
+ if v9 == 0 { break 'l2; }
+ v10 = load8(v2 + 17);
+ if (v10 & 255) > 64 { break 'l2; }
+ v11 = load64(v1.plus(40));
+ v12 = load64(v1.plus(24));
+ v13 = load16(v2 + 14);
+ v14 = load16(v2 + 12);
+ v15 = load16(v2 + 10);
+ v16 = load16(v2 + 8);
+ v17 = load16(v2 + 6);
+ v18 = load16(v2 + 4);
+ v19 = load8(v2 + 16);
+ v20 = load8(v2);
+ v2 = 0;
+ 'l3: loop {
+ 'l4: loop {
+ if v6 != 0 { break 'l4; }
+ fill(v3 + 256, 0, 32);
+ 'l5: loop {
+ if v7 == 0 { break 'l5; }
+ copy(v3.plus(256), v12, v7);
+ break 'l5; }
+ 'l6: loop {
+ if v8 == 0 { break 'l6; }
+ copy(v3.plus(256) | 16, v11, v8);
+ break 'l6; }
+ v21 = load64(v3 + 256);
+ v12 = load64(v3 + 264);
+ v11 = load64(v3 + 272);
+ v8 = load64(v3 + 280);
+ fill(v3.plus(128), 0, 128);
+ fill(v3, 0, 128);
+ v1 = ((((v20 << 16) | (v5 as u32)).plus(v9 << 24) as u64) | ((((v18 & 0xffff) | (v17 << 16)) as
+   u64) << 32)) ^ 0x6a09e667f3bcc908;
+ v7 = ((((v16 & 0xffff) | (v15 << 16)) as u64) | ((((v14 & 0xffff) | (v13 << 16)) as u64) << 32)) ^
+   0xbb67ae8584caa73b;
+ v6 = ((((v10 << 8) | (v19 & 255)) & 0xffff) as u64) ^ 0x3c6ef372fe94f82b;
+ v8 ^= 0x5be0cd19137e2179;
+ v11 ^= 0x1f83d9abfb41bd6b;
+ v12 ^= 0x9b05688c2b3e6c1f;
+ v21 ^= 0x510e527fade682d1;
+ break 'l3;
+ }
+ v1 = load64(v1.plus(8));
+ fill(v3 + 256, 0, 32);
+ 'l7: loop {
+ if v7 == 0 { break 'l7; }
+ copy(v3.plus(256), v12, v7);
+ break 'l7; }
+ 'l8: loop {
+ if v8 == 0 { break 'l8; }
+ copy(v3.plus(256) | 16, v11, v8);
+ break 'l8; }
+ v2 = 128;
+ v21 = load64(v3 + 256);
+ v12 = load64(v3 + 264);
+ v11 = load64(v3 + 272);
+ v8 = load64(v3 + 280);
+ 'l9: loop {
+ v7 = 128_u64.minus(v6);
+ if v7 == 0 { break 'l9; }
+ fill(v3.plus(288).plus(v6), 0, v7);
+ break 'l9; }
+ 'l10: loop {
+ if v6 == 0 { break 'l10; }
+ copy(v3.plus(288), v1, v6);
+ break 'l10; }
+ copy(v3.plus(128), v3.plus(288), 128);
+ copy(v3, v3.plus(288), 128);
+ v7 = ((((v16 & 0xffff) | (v15 << 16)) as u64) | ((((v14 & 0xffff) | (v13 << 16)) as u64) << 32)) ^
+   0xbb67ae8584caa73b;
+ v1 = ((((((v6 as u32) << 8) & 0xff00) | (v5 as u32)).plus(v20 << 16).plus(v9 << 24) as u64) |
+   ((((v18 & 0xffff) | (v17 << 16)) as u64) << 32)) ^ 0x6a09e667f3bcc908;
+ v6 = ((((v10 << 8) | (v19 & 255)) & 0xffff) as u64) ^ 0x3c6ef372fe94f82b;
+ v8 ^= 0x5be0cd19137e2179;
+ v11 ^= 0x1f83d9abfb41bd6b;
+ v12 ^= 0x9b05688c2b3e6c1f;
+ v21 ^= 0x510e527fade682d1;
+ break 'l3; }
+ store64(v0 + 160, 0);
+ store64(v0 + 152, v5);
+ store64(v0 + 144, v2);
+ store64(v0 + 136, v2);
+ store64(v0 + 128, 0);
+ store64(v0 + 120, v8);
+ store64(v0 + 112, v11);
+ store64(v0 + 104, v12);
+ store64(v0 + 96, v21);
+ store64(v0 + 88, 0xa54ff53a5f1d36f1);
+ store64(v0 + 80, v6);
+ store64(v0 + 72, v7);
+ store64(v0 + 64, v1);
+ store64(v0 + 56, v8);
+ store64(v0 + 48, v11);
+ store64(v0 + 40, v12);
+ store64(v0 + 32, v21);
+ store64(v0 + 24, 0xa54ff53a5f1d36f1);
+ store64(v0 + 16, v6);
+ store64(v0 + 8, v7);
+ store64(v0, v1);
+ copy(v0.plus(168), v3.plus(128), 128);
+ copy(v0.plus(296), v3, 128);
+ return 0;
+ }
+ fill(v0, 0, 424);
+ return 0xffffffff;
+}
+
+// Overwrites the stack below the caller.
+#[inline(never)]
+unsafe fn digest_wiping_scrub_stack_1024() {
+    let mut room = [0_u64; 256];
+    for word in room.iter_mut() {
+        core::ptr::write_volatile(word, 0);
+    }
+}
+
+// rattle::export vulfsjor_ffi_blake2b_init_salt_personal
+#[inline(never)]
+unsafe fn exported_blake2b_init_salt_personal(mut v0: u64, mut v1: u64, mut v2: u64, mut v3: u64,
+        mut v4: u64, mut v5: u64, mut v6: u64, mut v7: u64) -> u32 {
+ let mut v8: u64;
+ let mut v9: u32;
+ let mut frame = [0_u64; 12];
+ let top = (address!(frame)).plus(96) & !15;
+ v8 = top.minus(80);
+ store64(v8 + 72, v7);
+ store64(v8 + 56, v5);
+ store64(v8 + 24, v1);
+ store64(v8 + 2, 0);
+ store16(v8, 257);
+ store64(v8 + 10, 0);
+ store64(v8 + 16, 0);
+ store64(v8 + 64, v6.plus(if v6 == 0 { 4096_u64 } else { 0 }));
+ store64(v8 + 48, v4.plus(if v4 == 0 { 4096_u64 } else { 0 }));
+ store64(v8 + 32, v2.plus(if v2 == 0 { 4096_u64 } else { 0 }));
+ store64(v8 + 40, v3);
+ v9 = ffi_blake2b_initialize(v0, v8.plus(24), v8);
+ 'l2: loop {
+ if v3 == 0 { break 'l2; }
+ digest_wiping_scrub_stack_1024();
+ break 'l2; }
+ return v9;
+}
+
+// rattle::export vulfsjor_ffi_blake2b_init_key
+#[inline(never)]
+unsafe fn exported_blake2b_init_key(mut v0: u64, mut v1: u64, mut v2: u64, mut v3: u64) -> u32 {
+ let mut v4: u64;
+ let mut v5: u32;
+ let mut frame = [0_u64; 12];
+ let top = (address!(frame)).plus(96) & !15;
+ v4 = top.minus(80);
+ 'l1: loop {
+ 'l2: loop {
+ if v3 != 0 { break 'l2; }
+ fill(v0, 0, 424);
+ v5 = 0xffffffff;
+ break 'l1;
+ }
+ store64(v4 + 72, 0);
+ store64(v4 + 64, 0x100000);
+ store64(v4 + 56, 0);
+ store64(v4 + 48, 0x100000);
+ store64(v4 + 40, v3);
+ store64(v4 + 32, v2.plus(if v2 == 0 { 4096_u64 } else { 0 }));
+ store64(v4 + 24, v1);
+ store64(v4 + 2, 0);
+ store16(v4, 257);
+ store64(v4 + 10, 0);
+ store64(v4 + 16, 0);
+ v5 = ffi_blake2b_initialize(v0, v4.plus(24), v4);
+ digest_wiping_scrub_stack_1024();
+ break 'l1; }
+ return v5;
+}
+
+// rattle::export vulfsjor_ffi_blake2b_init_tree
+#[inline(never)]
+unsafe fn exported_blake2b_init_tree(mut v0: u64, mut v1: u64, mut v2: u64, mut v3: u64, mut v4:
+        u64, mut v5: u64, mut v6: u64, mut v7: u64, mut v8: u64) -> u32 {
+ let mut v9: u64;
+ let mut v10: u32;
+ let mut v11: u32;
+ let mut frame = [0_u64; 12];
+ let top = (address!(frame)).plus(96) & !15;
+ v9 = top.minus(80);
+ store32(v9 + 74, 0);
+ store16(v9 + 58, 0);
+ store16(v9 + 78, 0);
+ store64(v9 + 64, load64(v8));
+ v10 = load8(v8.plus(15));
+ store8(v9 + 73, v10 as u64);
+ store8(v9 + 72, load8(v8.plus(14)) as u64);
+ store32(v9 + 60, load32(v8.plus(8)) as u64);
+ v11 = load8(v8.plus(13));
+ store8(v9 + 57, v11 as u64);
+ store8(v9 + 56, load8(v8.plus(12)) as u64);
+ 'l2: loop {
+ 'l3: loop {
+ 'l4: loop {
+ if v11 == 0 { break 'l4; }
+ if (v10 & 255) < 65 { break 'l3; }
+ break 'l4; }
+ fill(v0, 0, 424);
+ v11 = 0xffffffff;
+ break 'l2;
+ }
+ store64(v9 + 48, v7);
+ store64(v9 + 40, v6.plus(if v6 == 0 { 4096_u64 } else { 0 }));
+ store64(v9 + 32, v5);
+ store64(v9 + 24, v4.plus(if v4 == 0 { 4096_u64 } else { 0 }));
+ store64(v9 + 8, v2.plus(if v2 == 0 { 4096_u64 } else { 0 }));
+ store64(v9, v1);
+ store64(v9 + 16, v3);
+ v11 = ffi_blake2b_initialize(v0, v9, v9.plus(56));
+ if v3 == 0 { break 'l2; }
+ digest_wiping_scrub_stack_1024();
+ break 'l2; }
+ return v11;
+}
+
+// rattle::export vulfsjor_ffi_blake2b_init_param
+#[inline(never)]
+unsafe fn exported_blake2b_init_param(mut v0: u64, mut v1: u64, mut v2: u64) -> u32 {
+ let mut v3: u64;
+ let mut v4: u64;
+ let mut v5: u64;
+ let mut v6: u64;
+ let mut v7: u64;
+ let mut v8: u64;
+ let mut v9: u64;
+ 'l1: loop {
+ if v2 != 64 { break 'l1; }
+ v1 = v1.plus(if v1 == 0 { 4096_u64 } else { 0 });
+ if (load8(v1).minus(65) & 255) < 192 { break 'l1; }
+ if load8(v1 + 1) > 64 { break 'l1; }
+ v3 = load64(v1.plus(56));
+ v4 = load64(v1.plus(48));
+ v5 = load64(v1.plus(40));
+ v6 = load64(v1.plus(32));
+ v2 = load64(v1);
+ v7 = load64(v1 + 24);
+ v8 = load64(v1 + 16);
+ v1 = load64(v1 + 8) ^ 0xbb67ae8584caa73b;
+ store64(v0 + 8, v1);
+ v8 ^= 0x3c6ef372fe94f82b;
+ store64(v0 + 16, v8);
+ v7 ^= 0xa54ff53a5f1d36f1;
+ store64(v0 + 24, v7);
+ v9 = v2 ^ 0x6a09e667f3bcc908;
+ store64(v0 + 64, v9);
+ store64(v0 + 72, v1);
+ store64(v0 + 80, v8);
+ store64(v0 + 88, v7);
+ fill(v0 + 128, 0, 24);
+ store64(v0, v9);
+ v1 = v6 ^ 0x510e527fade682d1;
+ store64(v0 + 32, v1);
+ v5 ^= 0x9b05688c2b3e6c1f;
+ store64(v0 + 40, v5);
+ v4 ^= 0x1f83d9abfb41bd6b;
+ store64(v0 + 48, v4);
+ v3 ^= 0x5be0cd19137e2179;
+ store64(v0 + 56, v3);
+ store64(v0 + 96, v1);
+ store64(v0 + 104, v5);
+ store64(v0 + 112, v4);
+ store64(v0 + 120, v3);
+ store64(v0 + 152, v2 & 255);
+ fill(v0.plus(160), 0, 264);
+ return 0;
+ }
+ fill(v0, 0, 424);
+ return 0xffffffff;
+}
+
+// blake2_ffi::blake2b::absorb
+#[inline(never)]
+unsafe fn ffi_blake2b_absorb(mut v0: u64, mut v1: u64, mut v2: u64) {
+ let mut v4: u64;
+ let mut v5: u32;
+ 'l2: loop {
+ if v2 == 1 { break 'l2; }
+ state_blake2b_State_take(v0, v1, v2);
+ return;
+ }
+ 'l3: loop {
+ v4 = v0.plus(136);
+ v2 = load64(v4);
+ if v2 < 128 { break 'l3; }
+ state_blake2b_State_take(v0, v1, 1);
+ return;
+ }
+ v5 = load8(v1);
+ store64(v4, v2.plus(1));
+ store8(v0.plus(v2).plus(168), v5 as u64);
+ return;
+}
+
+// Overwrites the stack below the caller.
+#[inline(never)]
+unsafe fn digest_wiping_scrub_stack_1152() {
+    let mut room = [0_u64; 272];
+    for word in room.iter_mut() {
+        core::ptr::write_volatile(word, 0);
+    }
+}
+
+// blake2_ffi::blake2b::absorb_scrubbed
+#[inline(never)]
+unsafe fn ffi_blake2b_absorb_scrubbed(mut v0: u64, mut v1: u64, mut v2: u64) {
+ ffi_blake2b_absorb(v0, v1, v2);
+ digest_wiping_scrub_stack_1152();
+ return;
+}
+
+// rattle::export vulfsjor_ffi_blake2b_update
+#[inline(never)]
+unsafe fn exported_blake2b_update(mut v0: u64, mut v1: u64, mut v2: u64) -> u32 {
+ let mut v4: u32;
+ let mut v5: u64;
+ let mut v6: u64;
+ let mut v7: u64;
+ 'l1: loop {
+ 'l2: loop {
+ 'l3: loop {
+ v4 = 0xffffffff;
+ if load64(v0.plus(152)).minus(1) > 63 { break 'l1; }
+ v5 = load64(v0.plus(136));
+ if v5 > 128 { break 'l1; }
+ v6 = load64(v0.plus(144));
+ if v6 > 128 { break 'l1; }
+ v7 = load64(v0.plus(128));
+ if v7 > (!v5) { break 'l1; }
+ if v2 > (!v7.plus(v5)) { break 'l1; }
+ v1 = v1.plus(if v1 == 0 { 4096_u64 } else { 0 });
+ 'l5: loop {
+ if v7 >= v6 { break 'l5; }
+ ffi_blake2b_absorb_scrubbed(v0, v1, v2);
+ break 'l2;
+ }
+ 'l6: loop {
+ if v2 == 1 { break 'l6; }
+ state_blake2b_State_take(v0, v1, v2);
+ break 'l2;
+ }
+ if v5 != 128 { break 'l3; }
+ state_blake2b_State_take(v0, v1, 1);
+ break 'l2;
+ }
+ v4 = load8(v1);
+ store64(v0.plus(136), v5.plus(1));
+ store8(v0.plus(v5).plus(168), v4 as u64);
+ break 'l2; }
+ v4 = 0;
+ break 'l1; }
+ return v4;
+}
+
+// blake2_ffi::blake2b::finalize
+#[inline(never)]
+unsafe fn ffi_blake2b_finalize(mut v0: u64, mut v1: u64) {
+ state_blake2b_State_write_digest(v0, v1);
+ fill(v0, 0, 424);
+ return;
+}
+
+// Overwrites the stack below the caller.
+#[inline(never)]
+unsafe fn digest_wiping_scrub_stack_1664() {
+    let mut room = [0_u64; 336];
+    for word in room.iter_mut() {
+        core::ptr::write_volatile(word, 0);
+    }
+}
+
+// rattle::export vulfsjor_ffi_blake2b_final
+#[inline(never)]
+unsafe fn exported_blake2b_final(mut v0: u64, mut v1: u64, mut v2: u64) -> u32 {
+ let mut v4: u32;
+ let mut v5: u64;
+ let mut v6: u64;
+ let mut v7: u64;
+ v4 = 0xffffffff;
+ 'l2: loop {
+ v5 = load64(v0.plus(152));
+ if v5.minus(1) > 63 { break 'l2; }
+ v6 = load64(v0.plus(136));
+ if v6 > 128 { break 'l2; }
+ v7 = load64(v0.plus(144));
+ if v7 > 128 { break 'l2; }
+ if v2 < v5 { break 'l2; }
+ v2 = load64(v0.plus(128));
+ if v2 > (!v6) { break 'l2; }
+ ffi_blake2b_finalize(v0, v1.plus(if v1 == 0 { 4096_u64 } else { 0 }));
+ v4 = 0;
+ if v2 >= v7 { break 'l2; }
+ digest_wiping_scrub_stack_1664();
+ break 'l2; }
+ return v4;
+}
+
+// blake2_ffi::blake2b::is_digest_of
+#[inline(never)]
+unsafe fn ffi_blake2b_is_digest_of(mut v0: u64, mut v1: u64, mut v2: u64) -> u32 {
+ let mut v3: u64;
+ let mut v4: u64;
+ let mut v5: u32;
+ let mut v6: u64;
+ let mut v7: u64;
+ let mut frame = [0_u64; 10];
+ let top = (address!(frame)).plus(80) & !15;
+ v3 = top.minus(64);
+ v4 = v3;
+ fill(v4, 0, 64);
+ state_blake2b_State_write_digest(v0, v4);
+ 'l2: loop {
+ 'l3: loop {
+ if v2 == load64(v0.plus(152)) { break 'l3; }
+ v5 = 0;
+ break 'l2;
+ }
+ 'l4: loop {
+ if !(v2 == 0) { break 'l4; }
+ v5 = 1;
+ break 'l2;
+ }
+ v6 = v2 & 3;
+ 'l5: loop {
+ 'l6: loop {
+ 'l7: loop {
+ if v2 >= 4 { break 'l7; }
+ v0 = 0;
+ v5 = 0;
+ break 'l6;
+ }
+ v7 = v2 & 0xfffffffffffffffc;
+ v0 = 0;
+ v5 = 0;
+ 'l8: loop {
+ v2 = v4.plus(v0);
+ v3 = v1.plus(v0);
+ v5 = (load8(v2.plus(3)) ^ load8(v3.plus(3))) | ((load8(v2.plus(2)) ^ load8(v3.plus(2))) |
+   ((load8(v2.plus(1)) ^ load8(v3.plus(1))) | ((load8(v2) ^ load8(v3)) | v5)));
+ v0 = v0.plus(4);
+ if v7 != v0 { continue 'l8; }
+ break 'l8; }
+ if v6 == 0 { break 'l5; }
+ break 'l6; }
+ v2 = v1.plus(v0);
+ v0 = v4.plus(v0);
+ 'l9: loop {
+ v5 = (load8(v0) ^ load8(v2)) | v5;
+ v2 = v2.plus(1);
+ v0 = v0.plus(1);
+ v6 = v6.minus(1);
+ if v6 != 0 { continue 'l9; }
+ break 'l9; }
+ break 'l5; }
+ v5 = ((v5 & 255) == 0) as u32;
+ break 'l2; }
+ return v5;
+}
+
+// rattle::export vulfsjor_ffi_blake2b_verify
+#[inline(never)]
+unsafe fn exported_blake2b_verify(mut v0: u64, mut v1: u64, mut v2: u64) -> u32 {
+ let mut v4: u64;
+ let mut v5: u64;
+ let mut v6: u64;
+ let mut v7: u32;
+ 'l1: loop {
+ 'l2: loop {
+ 'l3: loop {
+ 'l4: loop {
+ 'l6: loop {
+ 'l7: loop {
+ if load64(v0.plus(152)).minus(1) > 63 { break 'l7; }
+ v4 = load64(v0.plus(136));
+ if v4 > 128 { break 'l7; }
+ v5 = load64(v0.plus(144));
+ if v5 < 129 { break 'l6; }
+ break 'l7; }
+ if load64(v0.plus(128)) >= load64(v0.plus(144)) { break 'l1; }
+ break 'l2;
+ }
+ 'l8: loop {
+ v6 = load64(v0.plus(128));
+ if v6 <= (!v4) { break 'l8; }
+ if v6 < v5 { break 'l2; }
+ break 'l1;
+ }
+ v7 = ffi_blake2b_is_digest_of(v0, v1.plus(if v1 == 0 { 4096_u64 } else { 0 }), v2);
+ fill(v0, 0, 424);
+ if v6 < v5 { break 'l4; }
+ if v7 == 0 { break 'l1; }
+ break 'l3;
+ }
+ digest_wiping_scrub_stack_1664();
+ if v7 == 0 { break 'l1; }
+ break 'l3; }
+ return 0;
+ }
+ digest_wiping_scrub_stack_1664();
+ break 'l1; }
+ return 0xffffffff;
+}
+
+// rattle::export vulfsjor_ffi_blake2b_set_last_node
+#[inline(never)]
+unsafe fn exported_blake2b_set_last_node(mut v0: u64, mut v1: u32) -> u32 {
+ let mut v2: u32;
+ let mut v3: u64;
+ v2 = 0xffffffff;
+ 'l2: loop {
+ if load64(v0.plus(152)).minus(1) > 63 { break 'l2; }
+ v3 = load64(v0.plus(136));
+ if v3 > 128 { break 'l2; }
+ if load64(v0.plus(144)) > 128 { break 'l2; }
+ if load64(v0.plus(128)) > (!v3) { break 'l2; }
+ v2 = 0;
+ store64(v0.plus(160), ((v1 != 0) as u32) as u64);
+ break 'l2; }
+ return v2;
+}
+
+// rattle::export vulfsjor_ffi_blake2b_reset
+#[inline(never)]
+unsafe fn exported_blake2b_reset(mut v0: u64) -> u32 {
+ let mut v1: u32;
+ let mut v2: u64;
+ let mut v3: u64;
+ let mut v4: u64;
+ v1 = 0xffffffff;
+ 'l2: loop {
+ if load64(v0.plus(152)).minus(1) > 63 { break 'l2; }
+ v2 = load64(v0.plus(136));
+ if v2 > 128 { break 'l2; }
+ v3 = load64(v0.plus(144));
+ if v3 > 128 { break 'l2; }
+ v4 = v0.plus(128);
+ if load64(v4) > (!v2) { break 'l2; }
+ store64(v0.plus(136), v3);
+ store64(v4, 0);
+ store64(v0 + 56, load64(v0.plus(120)));
+ store64(v0 + 48, load64(v0.plus(112)));
+ store64(v0 + 40, load64(v0.plus(104)));
+ store64(v0 + 32, load64(v0.plus(96)));
+ store64(v0 + 24, load64(v0.plus(88)));
+ store64(v0 + 16, load64(v0.plus(80)));
+ store64(v0 + 8, load64(v0.plus(72)));
+ store64(v0, load64(v0.plus(64)));
+ copy(v0.plus(168), v0.plus(296), 128);
+ v1 = 0;
+ break 'l2; }
+ return v1;
+}
+
+// rattle::export vulfsjor_ffi_blake2b_wipe
+#[inline(never)]
+unsafe fn exported_blake2b_wipe(mut v0: u64) {
+ 'l1: loop {
+ break 'l1;
+ }
+ fill(v0, 0, 424);
+}
+
+// rattle::export vulfsjor_ffi_blake2b_digest_size
+#[inline(never)]
+unsafe fn exported_blake2b_digest_size(mut v0: u64) -> u64 {
+ let mut v1: u64;
+ let mut v2: u64;
+ let mut v3: u64;
+ v1 = 0;
+ 'l2: loop {
+ v2 = load64(v0.plus(152));
+ if v2.minus(1) > 63 { break 'l2; }
+ v3 = load64(v0.plus(136));
+ if v3 > 128 { break 'l2; }
+ if load64(v0.plus(144)) > 128 { break 'l2; }
+ v1 = if load64(v0.plus(128)) > (!v3) { 0 } else { v2 };
+ break 'l2; }
+ return v1;
+}
+
+// rattle::export vulfsjor_ffi_blake2b_count
+#[inline(never)]
+unsafe fn exported_blake2b_count(mut v0: u64) -> u64 {
+ let mut v1: u64;
+ let mut v2: u64;
+ let mut v3: u64;
+ v1 = 0;
+ 'l2: loop {
+ if load64(v0.plus(152)).minus(1) > 63 { break 'l2; }
+ v2 = load64(v0.plus(136));
+ if v2 > 128 { break 'l2; }
+ v3 = load64(v0.plus(144));
+ if v3 > 128 { break 'l2; }
+ v0 = load64(v0.plus(128));
+ if v0 > (!v2) { break 'l2; }
+ v0 = v0.plus(v2);
+ v1 = v0.minus(v3);
+ v1 = if v1 > v0 { 0 } else { v1 };
+ break 'l2; }
+ return v1;
+}
+
+// rattle::export vulfsjor_ffi_blake2b_state_size
+#[inline(never)]
+unsafe fn exported_blake2b_state_size() {
+ 'l1: loop {
+ break 'l1;
+ }
+}
+
+// vulfsjor_ffi_blake2b_state_size
+#[inline(never)]
+unsafe fn module_blake2b_state_size() -> u64 {
+ 'l1: loop {
+ break 'l1;
+ }
+ exported_blake2b_state_size();
+ return 424;
+}
+
+// blake2_compress::compress::blake2s::compress
+#[inline(never)]
+unsafe fn compress_compress_blake2s_compress(mut v0: u64, mut v1: u64, mut v2: u64, mut v3: u32, mut
+        v4: u32) {
+ let mut v5: u32;
+ let mut v6: u32;
+ let mut v7: u32;
+ let mut v8: u32;
+ let mut v9: u32;
+ let mut v10: u32;
+ let mut v11: u32;
+ let mut v12: u32;
+ let mut v13: u32;
+ let mut v14: u32;
+ let mut v15: u32;
+ let mut v16: u32;
+ let mut v17: u32;
+ let mut v18: u32;
+ let mut v19: u32;
+ let mut v20: u32;
+ let mut v21: u32;
+ let mut v22: u32;
+ let mut v23: u32;
+ let mut v24: u32;
+ let mut v25: u32;
+ let mut v26: u32;
+ let mut v27: u32;
+ let mut v28: u32;
+ let mut v29: u32;
+ let mut v30: u32;
+ let mut v31: u32;
+ let mut v32: u32;
+ let mut v33: u32;
+ let mut v34: u32;
+ let mut v35: u32;
+ let mut v36: u32;
+ let mut v37: u32;
+ let mut v38: u32;
+ let mut v39: u32;
+ let mut v40: u32;
+ let mut v41: u32;
+ let mut v42: u32;
+ let mut v43: u32;
+ let mut v44: u32;
+ let mut v45: u32;
+ let mut t0: u32;
+ let mut t1: u32;
+ let mut t2: u32;
+ let mut t3: u32;
+ let mut t4: u32;
+ let mut t5: u32;
+ let mut t6: u32;
+ let mut t7: u32;
+ let mut t8: u32;
+ let mut t9: u32;
+ let mut t10: u32;
+ let mut t11: u32;
+ let mut t12: u32;
+ let mut t13: u32;
+ let mut t14: u32;
+ let mut t15: u32;
+ let mut t16: u32;
+ let mut t17: u32;
+ let mut t18: u32;
+ let mut t19: u32;
+ let mut t20: u32;
+ let mut t21: u32;
+ let mut t22: u32;
+ let mut t23: u32;
+ let mut t24: u32;
+ let mut t25: u32;
+ let mut t26: u32;
+ let mut t27: u32;
+ let mut t28: u32;
+ let mut t29: u32;
+ let mut t30: u32;
+ let mut t31: u32;
+ let mut t32: u32;
+ let mut t33: u32;
+ let mut t34: u32;
+ let mut t35: u32;
+ let mut t36: u32;
+ let mut t37: u32;
+ let mut t38: u32;
+ let mut t39: u32;
+ let mut t40: u32;
+ let mut t41: u32;
+ let mut t42: u32;
+ let mut t43: u32;
+ let mut t44: u32;
+ let mut t45: u32;
+ let mut t46: u32;
+ let mut t47: u32;
+ let mut t48: u32;
+ let mut t49: u32;
+ let mut t50: u32;
+ let mut t51: u32;
+ let mut t52: u32;
+ let mut t53: u32;
+ let mut t54: u32;
+ let mut t55: u32;
+ let mut t56: u32;
+ let mut t57: u32;
+ let mut t58: u32;
+ let mut t59: u32;
+ let mut t60: u32;
+ let mut t61: u32;
+ let mut t62: u32;
+ let mut t63: u32;
+ let mut t64: u32;
+ let mut t65: u32;
+ let mut t66: u32;
+ let mut t67: u32;
+ let mut t68: u32;
+ let mut t69: u32;
+ let mut t70: u32;
+ v5 = load32(v0 + 12);
+ v6 = load32(v1.plus(24));
+ v7 = load32(v0 + 28);
+ v8 = v5.plus(v6).plus(v7);
+ v9 = load32(v1.plus(28));
+ v10 = rotl32((if (v4 & 1) != 0 { 0xffffffff_u32 } else { 0 }) ^ v8 ^ 0x5be0cd19, 16);
+ v11 = v10.plus(0xa54ff53a);
+ v12 = rotl32(v11 ^ v7, 20);
+ v13 = v8.plus(v9).plus(v12);
+ v4 = load32(v1.plus(56));
+ v14 = load32(v0);
+ v8 = load32(v1);
+ v15 = load32(v0 + 16);
+ v16 = v14.plus(v8).plus(v15);
+ v17 = load32(v1 + 4);
+ t0 = v16.plus(v17);
+ v16 = rotl32((v2 as u32) ^ v16 ^ 0x510e527f, 16);
+ v18 = v16.plus(0x6a09e667);
+ v19 = rotl32(v18 ^ v15, 20);
+ v20 = t0.plus(v19);
+ v21 = rotl32(v20 ^ v16, 24);
+ v22 = v21.plus(v18);
+ v23 = rotl32(v22 ^ v19, 25);
+ v24 = v13.plus(v4).plus(v23);
+ v16 = load32(v1.plus(60));
+ v25 = load32(v0 + 8);
+ v18 = load32(v1.plus(16));
+ v26 = load32(v0 + 24);
+ v27 = v25.plus(v18).plus(v26);
+ v19 = load32(v1.plus(20));
+ v3 = rotl32((if (v3 & 1) != 0 { 0xe07c2654_u32 } else { 0x1f83d9ab }) ^ v27, 16);
+ v28 = v3.plus(0x3c6ef372);
+ v29 = rotl32(v28 ^ v26, 20);
+ v30 = v27.plus(v19).plus(v29);
+ v31 = rotl32(v30 ^ v3, 24);
+ v32 = rotl32(v24 ^ v31, 16);
+ v33 = load32(v0 + 4);
+ v3 = load32(v1 + 8);
+ v34 = load32(v0 + 20);
+ v27 = v33.plus(v3).plus(v34);
+ t1 = v24.plus(v16);
+ v24 = load32(v1 + 12);
+ t2 = v27.plus(v24);
+ v27 = rotl32(((v2 >> 32) as u32) ^ v27 ^ 0x9b05688c, 16);
+ v35 = v27.plus(0xbb67ae85);
+ v36 = rotl32(v35 ^ v34, 20);
+ v37 = t2.plus(v36);
+ v38 = rotl32(v37 ^ v27, 24);
+ v35 = v38.plus(v35);
+ v39 = v32.plus(v35);
+ v40 = rotl32(v39 ^ v23, 20);
+ v41 = t1.plus(v40);
+ v23 = load32(v1.plus(52));
+ v27 = load32(v1.plus(48));
+ v13 = rotl32(v13 ^ v10, 24);
+ t3 = v30.plus(v27);
+ v30 = v13.plus(v11);
+ v10 = rotl32(v30 ^ v12, 25);
+ v11 = t3.plus(v10);
+ t4 = v11.plus(v23);
+ v11 = rotl32(v11 ^ v38, 16);
+ v12 = v11.plus(v22);
+ v10 = rotl32(v12 ^ v10, 20);
+ v22 = t4.plus(v10);
+ v38 = rotl32(v22 ^ v11, 24);
+ v42 = v38.plus(v12);
+ v43 = rotl32(v42 ^ v10, 25);
+ v12 = v41.plus(v23).plus(v43);
+ v10 = load32(v1.plus(32));
+ t5 = v20.plus(v10);
+ v20 = rotl32(v35 ^ v36, 25);
+ v35 = t5.plus(v20);
+ v11 = load32(v1.plus(36));
+ v13 = rotl32(v35 ^ v13, 16);
+ v28 = v31.plus(v28);
+ v31 = v13.plus(v28);
+ v20 = rotl32(v31 ^ v20, 20);
+ v35 = v35.plus(v11).plus(v20);
+ v36 = rotl32(v35 ^ v13, 24);
+ v44 = rotl32(v12 ^ v36, 16);
+ t6 = v12.plus(v6);
+ v12 = load32(v1.plus(40));
+ v28 = rotl32(v28 ^ v29, 25);
+ v29 = v37.plus(v12).plus(v28);
+ v13 = load32(v1.plus(44));
+ v21 = rotl32(v29 ^ v21, 16);
+ t7 = v29.plus(v13);
+ v29 = v21.plus(v30);
+ v28 = rotl32(v29 ^ v28, 20);
+ v30 = t7.plus(v28);
+ v21 = rotl32(v30 ^ v21, 24);
+ v29 = v21.plus(v29);
+ v37 = v44.plus(v29);
+ v43 = rotl32(v37 ^ v43, 20);
+ v45 = t6.plus(v43);
+ v32 = rotl32(v41 ^ v32, 24);
+ t8 = v35.plus(v4);
+ v35 = v32.plus(v39);
+ v39 = rotl32(v35 ^ v40, 25);
+ v40 = t8.plus(v39);
+ v21 = rotl32(v40 ^ v21, 16);
+ t9 = v40.plus(v12);
+ v40 = v21.plus(v42);
+ v39 = rotl32(v40 ^ v39, 20);
+ v41 = t9.plus(v39);
+ v21 = rotl32(v41 ^ v21, 24);
+ v40 = v21.plus(v40);
+ v39 = rotl32(v40 ^ v39, 25);
+ v42 = v45.plus(v19).plus(v39);
+ t10 = v22.plus(v11);
+ v22 = rotl32(v29 ^ v28, 25);
+ v28 = t10.plus(v22);
+ t11 = v28.plus(v16);
+ v28 = rotl32(v28 ^ v32, 16);
+ v29 = v36.plus(v31);
+ v31 = v28.plus(v29);
+ v22 = rotl32(v31 ^ v22, 20);
+ v32 = t11.plus(v22);
+ v28 = rotl32(v32 ^ v28, 24);
+ v36 = rotl32(v42 ^ v28, 16);
+ v20 = rotl32(v29 ^ v20, 25);
+ v29 = v30.plus(v18).plus(v20);
+ t12 = v29.plus(v10);
+ v29 = rotl32(v29 ^ v38, 16);
+ v30 = v29.plus(v35);
+ v20 = rotl32(v30 ^ v20, 20);
+ v35 = t12.plus(v20);
+ v29 = rotl32(v35 ^ v29, 24);
+ v30 = v29.plus(v30);
+ v38 = v36.plus(v30);
+ v39 = rotl32(v38 ^ v39, 20);
+ v42 = v42.plus(v24).plus(v39);
+ t13 = v32.plus(v13);
+ v32 = rotl32(v45 ^ v44, 24);
+ v37 = v32.plus(v37);
+ v43 = rotl32(v37 ^ v43, 25);
+ v44 = t13.plus(v43);
+ v29 = rotl32(v44 ^ v29, 16);
+ v40 = v29.plus(v40);
+ v43 = rotl32(v40 ^ v43, 20);
+ v44 = v44.plus(v9).plus(v43);
+ v29 = rotl32(v44 ^ v29, 24);
+ v40 = v29.plus(v40);
+ v43 = rotl32(v40 ^ v43, 25);
+ v45 = v42.plus(v16).plus(v43);
+ v20 = rotl32(v30 ^ v20, 25);
+ v30 = v41.plus(v17).plus(v20);
+ t14 = v30.plus(v27);
+ v30 = rotl32(v30 ^ v32, 16);
+ v28 = v28.plus(v31);
+ v31 = v30.plus(v28);
+ v20 = rotl32(v31 ^ v20, 20);
+ v32 = t14.plus(v20);
+ v30 = rotl32(v32 ^ v30, 24);
+ v41 = rotl32(v45 ^ v30, 16);
+ v22 = rotl32(v28 ^ v22, 25);
+ v28 = v35.plus(v8).plus(v22);
+ v21 = rotl32(v28 ^ v21, 16);
+ t15 = v28.plus(v3);
+ v28 = v21.plus(v37);
+ v22 = rotl32(v28 ^ v22, 20);
+ v35 = t15.plus(v22);
+ v21 = rotl32(v35 ^ v21, 24);
+ v28 = v21.plus(v28);
+ v37 = v41.plus(v28);
+ v43 = rotl32(v37 ^ v43, 20);
+ v45 = v45.plus(v23).plus(v43);
+ t16 = v32.plus(v13);
+ v32 = rotl32(v42 ^ v36, 24);
+ v36 = v32.plus(v38);
+ v38 = rotl32(v36 ^ v39, 25);
+ v39 = t16.plus(v38);
+ v21 = rotl32(v39 ^ v21, 16);
+ t17 = v39.plus(v10);
+ v39 = v21.plus(v40);
+ v38 = rotl32(v39 ^ v38, 20);
+ v40 = t17.plus(v38);
+ v21 = rotl32(v40 ^ v21, 24);
+ v39 = v21.plus(v39);
+ v38 = rotl32(v39 ^ v38, 25);
+ v42 = v45.plus(v11).plus(v38);
+ v22 = rotl32(v28 ^ v22, 25);
+ v28 = v44.plus(v19).plus(v22);
+ t18 = v28.plus(v3);
+ v28 = rotl32(v28 ^ v32, 16);
+ v30 = v30.plus(v31);
+ v31 = v28.plus(v30);
+ v22 = rotl32(v31 ^ v22, 20);
+ v32 = t18.plus(v22);
+ v28 = rotl32(v32 ^ v28, 24);
+ t19 = v42.plus(v18);
+ v42 = rotl32(v42 ^ v28, 16);
+ v20 = rotl32(v30 ^ v20, 25);
+ v30 = v35.plus(v27).plus(v20);
+ v29 = rotl32(v30 ^ v29, 16);
+ t20 = v30.plus(v8);
+ v30 = v29.plus(v36);
+ v20 = rotl32(v30 ^ v20, 20);
+ v35 = t20.plus(v20);
+ v29 = rotl32(v35 ^ v29, 24);
+ v30 = v29.plus(v30);
+ v36 = v42.plus(v30);
+ v38 = rotl32(v36 ^ v38, 20);
+ v44 = t19.plus(v38);
+ t21 = v32.plus(v9);
+ v32 = rotl32(v45 ^ v41, 24);
+ v37 = v32.plus(v37);
+ v41 = rotl32(v37 ^ v43, 25);
+ v43 = t21.plus(v41);
+ v29 = rotl32(v43 ^ v29, 16);
+ v39 = v29.plus(v39);
+ v41 = rotl32(v39 ^ v41, 20);
+ v43 = v43.plus(v17).plus(v41);
+ v29 = rotl32(v43 ^ v29, 24);
+ v39 = v29.plus(v39);
+ v41 = rotl32(v39 ^ v41, 25);
+ v45 = v44.plus(v13).plus(v41);
+ v20 = rotl32(v30 ^ v20, 25);
+ v30 = v40.plus(v12).plus(v20);
+ t22 = v30.plus(v4);
+ v30 = rotl32(v30 ^ v32, 16);
+ v28 = v28.plus(v31);
+ v31 = v30.plus(v28);
+ v20 = rotl32(v31 ^ v20, 20);
+ v32 = t22.plus(v20);
+ v30 = rotl32(v32 ^ v30, 24);
+ v40 = rotl32(v45 ^ v30, 16);
+ v22 = rotl32(v28 ^ v22, 25);
+ v28 = v35.plus(v24).plus(v22);
+ v21 = rotl32(v28 ^ v21, 16);
+ t23 = v28.plus(v6);
+ v28 = v21.plus(v37);
+ v22 = rotl32(v28 ^ v22, 20);
+ v35 = t23.plus(v22);
+ v21 = rotl32(v35 ^ v21, 24);
+ v28 = v21.plus(v28);
+ v37 = v40.plus(v28);
+ v41 = rotl32(v37 ^ v41, 20);
+ v45 = v45.plus(v4).plus(v41);
+ t24 = v32.plus(v9);
+ v32 = rotl32(v44 ^ v42, 24);
+ v36 = v32.plus(v36);
+ v38 = rotl32(v36 ^ v38, 25);
+ v42 = t24.plus(v38);
+ v21 = rotl32(v42 ^ v21, 16);
+ v39 = v21.plus(v39);
+ v38 = rotl32(v39 ^ v38, 20);
+ v42 = v42.plus(v11).plus(v38);
+ v21 = rotl32(v42 ^ v21, 24);
+ v39 = v21.plus(v39);
+ v38 = rotl32(v39 ^ v38, 25);
+ v44 = v45.plus(v16).plus(v38);
+ v22 = rotl32(v28 ^ v22, 25);
+ v28 = v43.plus(v23).plus(v22);
+ t25 = v28.plus(v27);
+ v28 = rotl32(v28 ^ v32, 16);
+ v30 = v30.plus(v31);
+ v31 = v28.plus(v30);
+ v22 = rotl32(v31 ^ v22, 20);
+ v32 = t25.plus(v22);
+ v28 = rotl32(v32 ^ v28, 24);
+ v43 = rotl32(v44 ^ v28, 16);
+ v20 = rotl32(v30 ^ v20, 25);
+ v30 = v35.plus(v24).plus(v20);
+ v29 = rotl32(v30 ^ v29, 16);
+ t26 = v30.plus(v17);
+ v30 = v29.plus(v36);
+ v20 = rotl32(v30 ^ v20, 20);
+ v35 = t26.plus(v20);
+ v29 = rotl32(v35 ^ v29, 24);
+ v30 = v29.plus(v30);
+ v36 = v43.plus(v30);
+ v38 = rotl32(v36 ^ v38, 20);
+ v44 = v44.plus(v10).plus(v38);
+ t27 = v32.plus(v18);
+ v32 = rotl32(v45 ^ v40, 24);
+ v37 = v32.plus(v37);
+ v40 = rotl32(v37 ^ v41, 25);
+ v41 = t27.plus(v40);
+ v29 = rotl32(v41 ^ v29, 16);
+ v39 = v29.plus(v39);
+ v40 = rotl32(v39 ^ v40, 20);
+ v41 = v41.plus(v8).plus(v40);
+ v29 = rotl32(v41 ^ v29, 24);
+ v39 = v29.plus(v39);
+ v40 = rotl32(v39 ^ v40, 25);
+ v45 = v44.plus(v12).plus(v40);
+ v20 = rotl32(v30 ^ v20, 25);
+ v30 = v42.plus(v3).plus(v20);
+ t28 = v30.plus(v6);
+ v30 = rotl32(v30 ^ v32, 16);
+ v28 = v28.plus(v31);
+ v31 = v30.plus(v28);
+ v20 = rotl32(v31 ^ v20, 20);
+ v32 = t28.plus(v20);
+ v30 = rotl32(v32 ^ v30, 24);
+ v42 = rotl32(v45 ^ v30, 16);
+ v22 = rotl32(v28 ^ v22, 25);
+ v28 = v35.plus(v19).plus(v22);
+ v21 = rotl32(v28 ^ v21, 16);
+ t29 = v28.plus(v12);
+ v28 = v21.plus(v37);
+ v22 = rotl32(v28 ^ v22, 20);
+ v35 = t29.plus(v22);
+ v21 = rotl32(v35 ^ v21, 24);
+ v28 = v21.plus(v28);
+ v37 = v42.plus(v28);
+ v40 = rotl32(v37 ^ v40, 20);
+ v45 = v45.plus(v16).plus(v40);
+ t30 = v32.plus(v11);
+ v32 = rotl32(v44 ^ v43, 24);
+ v36 = v32.plus(v36);
+ v38 = rotl32(v36 ^ v38, 25);
+ v43 = t30.plus(v38);
+ v21 = rotl32(v43 ^ v21, 16);
+ v39 = v21.plus(v39);
+ v38 = rotl32(v39 ^ v38, 20);
+ v43 = v43.plus(v8).plus(v38);
+ v21 = rotl32(v43 ^ v21, 24);
+ v39 = v21.plus(v39);
+ v38 = rotl32(v39 ^ v38, 25);
+ v44 = v45.plus(v24).plus(v38);
+ v22 = rotl32(v28 ^ v22, 25);
+ v28 = v41.plus(v3).plus(v22);
+ t31 = v28.plus(v18);
+ v28 = rotl32(v28 ^ v32, 16);
+ v30 = v30.plus(v31);
+ v31 = v28.plus(v30);
+ v22 = rotl32(v31 ^ v22, 20);
+ v32 = t31.plus(v22);
+ v28 = rotl32(v32 ^ v28, 24);
+ v41 = rotl32(v44 ^ v28, 16);
+ v20 = rotl32(v30 ^ v20, 25);
+ v30 = v35.plus(v19).plus(v20);
+ v29 = rotl32(v30 ^ v29, 16);
+ t32 = v30.plus(v9);
+ v30 = v29.plus(v36);
+ v20 = rotl32(v30 ^ v20, 20);
+ v35 = t32.plus(v20);
+ v29 = rotl32(v35 ^ v29, 24);
+ v30 = v29.plus(v30);
+ v36 = v41.plus(v30);
+ v38 = rotl32(v36 ^ v38, 20);
+ v44 = v44.plus(v23).plus(v38);
+ t33 = v32.plus(v6);
+ v32 = rotl32(v45 ^ v42, 24);
+ v37 = v32.plus(v37);
+ v40 = rotl32(v37 ^ v40, 25);
+ v42 = t33.plus(v40);
+ v29 = rotl32(v42 ^ v29, 16);
+ v39 = v29.plus(v39);
+ v40 = rotl32(v39 ^ v40, 20);
+ v42 = v42.plus(v10).plus(v40);
+ v29 = rotl32(v42 ^ v29, 24);
+ v39 = v29.plus(v39);
+ v40 = rotl32(v39 ^ v40, 25);
+ v45 = v44.plus(v10).plus(v40);
+ v20 = rotl32(v30 ^ v20, 25);
+ v30 = v43.plus(v4).plus(v20);
+ t34 = v30.plus(v17);
+ v30 = rotl32(v30 ^ v32, 16);
+ v28 = v28.plus(v31);
+ v31 = v30.plus(v28);
+ v20 = rotl32(v31 ^ v20, 20);
+ v32 = t34.plus(v20);
+ v30 = rotl32(v32 ^ v30, 24);
+ v43 = rotl32(v45 ^ v30, 16);
+ v22 = rotl32(v28 ^ v22, 25);
+ v28 = v35.plus(v13).plus(v22);
+ v21 = rotl32(v28 ^ v21, 16);
+ t35 = v28.plus(v27);
+ v28 = v21.plus(v37);
+ v22 = rotl32(v28 ^ v22, 20);
+ v35 = t35.plus(v22);
+ v21 = rotl32(v35 ^ v21, 24);
+ v28 = v21.plus(v28);
+ v37 = v43.plus(v28);
+ v40 = rotl32(v37 ^ v40, 20);
+ v45 = v45.plus(v24).plus(v40);
+ t36 = v32.plus(v3);
+ v32 = rotl32(v44 ^ v41, 24);
+ v36 = v32.plus(v36);
+ v38 = rotl32(v36 ^ v38, 25);
+ v41 = t36.plus(v38);
+ v21 = rotl32(v41 ^ v21, 16);
+ v39 = v21.plus(v39);
+ v38 = rotl32(v39 ^ v38, 20);
+ v41 = v41.plus(v27).plus(v38);
+ v21 = rotl32(v41 ^ v21, 24);
+ v39 = v21.plus(v39);
+ v38 = rotl32(v39 ^ v38, 25);
+ v44 = v45.plus(v17).plus(v38);
+ v22 = rotl32(v28 ^ v22, 25);
+ v28 = v42.plus(v8).plus(v22);
+ t37 = v28.plus(v13);
+ v28 = rotl32(v28 ^ v32, 16);
+ v30 = v30.plus(v31);
+ v31 = v28.plus(v30);
+ v22 = rotl32(v31 ^ v22, 20);
+ v32 = t37.plus(v22);
+ v28 = rotl32(v32 ^ v28, 24);
+ v42 = rotl32(v44 ^ v28, 16);
+ v20 = rotl32(v30 ^ v20, 25);
+ v30 = v35.plus(v6).plus(v20);
+ v29 = rotl32(v30 ^ v29, 16);
+ t38 = v30.plus(v12);
+ v30 = v29.plus(v36);
+ v20 = rotl32(v30 ^ v20, 20);
+ v35 = t38.plus(v20);
+ v29 = rotl32(v35 ^ v29, 24);
+ v30 = v29.plus(v30);
+ v36 = v42.plus(v30);
+ v38 = rotl32(v36 ^ v38, 20);
+ v44 = v44.plus(v11).plus(v38);
+ t39 = v32.plus(v16);
+ v32 = rotl32(v45 ^ v43, 24);
+ v37 = v32.plus(v37);
+ v40 = rotl32(v37 ^ v40, 25);
+ v43 = t39.plus(v40);
+ v29 = rotl32(v43 ^ v29, 16);
+ v39 = v29.plus(v39);
+ v40 = rotl32(v39 ^ v40, 20);
+ v43 = v43.plus(v4).plus(v40);
+ v29 = rotl32(v43 ^ v29, 24);
+ v39 = v29.plus(v39);
+ v40 = rotl32(v39 ^ v40, 25);
+ v45 = v44.plus(v18).plus(v40);
+ v20 = rotl32(v30 ^ v20, 25);
+ v30 = v41.plus(v18).plus(v20);
+ t40 = v30.plus(v23);
+ v30 = rotl32(v30 ^ v32, 16);
+ v28 = v28.plus(v31);
+ v31 = v30.plus(v28);
+ v20 = rotl32(v31 ^ v20, 20);
+ v32 = t40.plus(v20);
+ v30 = rotl32(v32 ^ v30, 24);
+ v41 = rotl32(v45 ^ v30, 16);
+ v22 = rotl32(v28 ^ v22, 25);
+ v28 = v35.plus(v9).plus(v22);
+ v21 = rotl32(v28 ^ v21, 16);
+ t41 = v28.plus(v19);
+ v28 = v21.plus(v37);
+ v22 = rotl32(v28 ^ v22, 20);
+ v35 = t41.plus(v22);
+ v21 = rotl32(v35 ^ v21, 24);
+ v28 = v21.plus(v28);
+ v37 = v41.plus(v28);
+ v40 = rotl32(v37 ^ v40, 20);
+ v45 = v45.plus(v12).plus(v40);
+ t42 = v32.plus(v27);
+ v32 = rotl32(v44 ^ v42, 24);
+ v36 = v32.plus(v36);
+ v38 = rotl32(v36 ^ v38, 25);
+ v42 = t42.plus(v38);
+ v21 = rotl32(v42 ^ v21, 16);
+ v39 = v21.plus(v39);
+ v38 = rotl32(v39 ^ v38, 20);
+ v42 = v42.plus(v19).plus(v38);
+ v21 = rotl32(v42 ^ v21, 24);
+ v39 = v21.plus(v39);
+ v38 = rotl32(v39 ^ v38, 25);
+ v44 = v45.plus(v10).plus(v38);
+ v22 = rotl32(v28 ^ v22, 25);
+ v28 = v43.plus(v4).plus(v22);
+ t43 = v28.plus(v23);
+ v28 = rotl32(v28 ^ v32, 16);
+ v30 = v30.plus(v31);
+ v31 = v28.plus(v30);
+ v22 = rotl32(v31 ^ v22, 20);
+ v32 = t43.plus(v22);
+ v28 = rotl32(v32 ^ v28, 24);
+ v43 = rotl32(v44 ^ v28, 16);
+ v20 = rotl32(v30 ^ v20, 25);
+ v30 = v35.plus(v17).plus(v20);
+ v29 = rotl32(v30 ^ v29, 16);
+ t44 = v30.plus(v16);
+ v30 = v29.plus(v36);
+ v20 = rotl32(v30 ^ v20, 20);
+ v35 = t44.plus(v20);
+ v29 = rotl32(v35 ^ v29, 24);
+ v30 = v29.plus(v30);
+ v36 = v43.plus(v30);
+ v38 = rotl32(v36 ^ v38, 20);
+ v44 = v44.plus(v13).plus(v38);
+ t45 = v32.plus(v11);
+ v32 = rotl32(v45 ^ v41, 24);
+ v37 = v32.plus(v37);
+ v40 = rotl32(v37 ^ v40, 25);
+ v41 = t45.plus(v40);
+ v29 = rotl32(v41 ^ v29, 16);
+ v39 = v29.plus(v39);
+ v40 = rotl32(v39 ^ v40, 20);
+ v41 = v41.plus(v3).plus(v40);
+ v29 = rotl32(v41 ^ v29, 24);
+ v39 = v29.plus(v39);
+ v40 = rotl32(v39 ^ v40, 25);
+ v45 = v44.plus(v24).plus(v40);
+ v20 = rotl32(v30 ^ v20, 25);
+ v30 = v42.plus(v8).plus(v20);
+ t46 = v30.plus(v9);
+ v30 = rotl32(v30 ^ v32, 16);
+ v28 = v28.plus(v31);
+ v31 = v30.plus(v28);
+ v20 = rotl32(v31 ^ v20, 20);
+ v32 = t46.plus(v20);
+ v30 = rotl32(v32 ^ v30, 24);
+ v42 = rotl32(v45 ^ v30, 16);
+ v22 = rotl32(v28 ^ v22, 25);
+ v28 = v35.plus(v6).plus(v22);
+ v21 = rotl32(v28 ^ v21, 16);
+ t47 = v28.plus(v24);
+ v28 = v21.plus(v37);
+ v22 = rotl32(v28 ^ v22, 20);
+ v35 = t47.plus(v22);
+ v21 = rotl32(v35 ^ v21, 24);
+ v28 = v21.plus(v28);
+ v37 = v42.plus(v28);
+ v40 = rotl32(v37 ^ v40, 20);
+ v45 = v45.plus(v11).plus(v40);
+ t48 = v32.plus(v23);
+ v32 = rotl32(v44 ^ v43, 24);
+ v36 = v32.plus(v36);
+ v38 = rotl32(v36 ^ v38, 25);
+ v43 = t48.plus(v38);
+ v21 = rotl32(v43 ^ v21, 16);
+ v39 = v21.plus(v39);
+ v38 = rotl32(v39 ^ v38, 20);
+ v43 = v43.plus(v13).plus(v38);
+ v21 = rotl32(v43 ^ v21, 24);
+ v39 = v21.plus(v39);
+ v38 = rotl32(v39 ^ v38, 25);
+ v44 = v45.plus(v3).plus(v38);
+ v22 = rotl32(v28 ^ v22, 25);
+ v28 = v41.plus(v27).plus(v22);
+ t49 = v28.plus(v17);
+ v28 = rotl32(v28 ^ v32, 16);
+ v30 = v30.plus(v31);
+ v31 = v28.plus(v30);
+ v22 = rotl32(v31 ^ v22, 20);
+ v32 = t49.plus(v22);
+ v28 = rotl32(v32 ^ v28, 24);
+ v41 = rotl32(v44 ^ v28, 16);
+ v20 = rotl32(v30 ^ v20, 25);
+ v30 = v35.plus(v9).plus(v20);
+ v29 = rotl32(v30 ^ v29, 16);
+ t50 = v30.plus(v4);
+ v30 = v29.plus(v36);
+ v20 = rotl32(v30 ^ v20, 20);
+ v35 = t50.plus(v20);
+ v29 = rotl32(v35 ^ v29, 24);
+ v30 = v29.plus(v30);
+ v36 = v41.plus(v30);
+ v38 = rotl32(v36 ^ v38, 20);
+ v44 = v44.plus(v12).plus(v38);
+ t51 = v32.plus(v10);
+ v32 = rotl32(v45 ^ v42, 24);
+ v37 = v32.plus(v37);
+ v40 = rotl32(v37 ^ v40, 25);
+ v42 = t51.plus(v40);
+ v29 = rotl32(v42 ^ v29, 16);
+ v39 = v29.plus(v39);
+ v40 = rotl32(v39 ^ v40, 20);
+ v42 = v42.plus(v6).plus(v40);
+ v29 = rotl32(v42 ^ v29, 24);
+ v39 = v29.plus(v39);
+ v40 = rotl32(v39 ^ v40, 25);
+ v45 = v44.plus(v8).plus(v40);
+ v20 = rotl32(v30 ^ v20, 25);
+ v30 = v43.plus(v19).plus(v20);
+ t52 = v30.plus(v8);
+ v30 = rotl32(v30 ^ v32, 16);
+ v28 = v28.plus(v31);
+ v31 = v30.plus(v28);
+ v20 = rotl32(v31 ^ v20, 20);
+ v32 = t52.plus(v20);
+ v30 = rotl32(v32 ^ v30, 24);
+ v43 = rotl32(v45 ^ v30, 16);
+ v22 = rotl32(v28 ^ v22, 25);
+ v28 = v35.plus(v16).plus(v22);
+ v21 = rotl32(v28 ^ v21, 16);
+ t53 = v28.plus(v18);
+ v28 = v21.plus(v37);
+ v22 = rotl32(v28 ^ v22, 20);
+ v35 = t53.plus(v22);
+ v21 = rotl32(v35 ^ v21, 24);
+ v28 = v21.plus(v28);
+ v37 = v43.plus(v28);
+ v40 = rotl32(v37 ^ v40, 20);
+ v45 = v45.plus(v10).plus(v40);
+ t54 = v32.plus(v6);
+ v32 = rotl32(v44 ^ v41, 24);
+ v36 = v32.plus(v36);
+ v38 = rotl32(v36 ^ v38, 25);
+ v41 = t54.plus(v38);
+ v21 = rotl32(v41 ^ v21, 16);
+ v39 = v21.plus(v39);
+ v38 = rotl32(v39 ^ v38, 20);
+ v41 = v41.plus(v16).plus(v38);
+ v21 = rotl32(v41 ^ v21, 24);
+ v39 = v21.plus(v39);
+ v38 = rotl32(v39 ^ v38, 25);
+ v44 = v45.plus(v12).plus(v38);
+ v22 = rotl32(v28 ^ v22, 25);
+ v28 = v42.plus(v13).plus(v22);
+ t55 = v28.plus(v24);
+ v28 = rotl32(v28 ^ v32, 16);
+ v30 = v30.plus(v31);
+ v31 = v28.plus(v30);
+ v22 = rotl32(v31 ^ v22, 20);
+ v32 = t55.plus(v22);
+ v28 = rotl32(v32 ^ v28, 24);
+ v42 = rotl32(v44 ^ v28, 16);
+ v20 = rotl32(v30 ^ v20, 25);
+ v30 = v35.plus(v4).plus(v20);
+ v29 = rotl32(v30 ^ v29, 16);
+ t56 = v30.plus(v11);
+ v30 = v29.plus(v36);
+ v20 = rotl32(v30 ^ v20, 20);
+ v35 = t56.plus(v20);
+ v29 = rotl32(v35 ^ v29, 24);
+ v30 = v29.plus(v30);
+ v36 = v42.plus(v30);
+ v38 = rotl32(v36 ^ v38, 20);
+ v44 = v44.plus(v19).plus(v38);
+ t57 = v44.plus(v17);
+ t58 = v32.plus(v17);
+ v17 = rotl32(v45 ^ v43, 24);
+ v32 = v17.plus(v37);
+ v37 = rotl32(v32 ^ v40, 25);
+ v40 = t58.plus(v37);
+ v29 = rotl32(v40 ^ v29, 16);
+ v39 = v29.plus(v39);
+ v37 = rotl32(v39 ^ v37, 20);
+ v40 = v40.plus(v18).plus(v37);
+ v29 = rotl32(v40 ^ v29, 24);
+ v39 = v29.plus(v39);
+ v37 = rotl32(v39 ^ v37, 25);
+ v43 = t57.plus(v37);
+ t59 = v43.plus(v19);
+ v19 = rotl32(v30 ^ v20, 25);
+ v20 = v41.plus(v27).plus(v19);
+ v17 = rotl32(v20 ^ v17, 16);
+ t60 = v20.plus(v3);
+ v20 = v28.plus(v31);
+ v28 = v17.plus(v20);
+ v19 = rotl32(v28 ^ v19, 20);
+ v30 = t60.plus(v19);
+ v17 = rotl32(v30 ^ v17, 24);
+ v31 = rotl32(v43 ^ v17, 16);
+ v20 = rotl32(v20 ^ v22, 25);
+ v22 = v35.plus(v23).plus(v20);
+ v21 = rotl32(v22 ^ v21, 16);
+ t61 = v22.plus(v9);
+ v22 = v21.plus(v32);
+ v20 = rotl32(v22 ^ v20, 20);
+ v32 = t61.plus(v20);
+ v21 = rotl32(v32 ^ v21, 24);
+ v22 = v21.plus(v22);
+ v35 = v31.plus(v22);
+ v37 = rotl32(v35 ^ v37, 20);
+ v41 = t59.plus(v37);
+ t62 = v41.plus(v23);
+ v23 = rotl32(v44 ^ v42, 24);
+ t63 = v30.plus(v12);
+ v12 = v23.plus(v36);
+ v30 = rotl32(v12 ^ v38, 25);
+ v36 = t63.plus(v30);
+ t64 = v36.plus(v3);
+ v3 = rotl32(v36 ^ v21, 16);
+ v21 = v3.plus(v39);
+ v30 = rotl32(v21 ^ v30, 20);
+ v36 = t64.plus(v30);
+ v3 = rotl32(v36 ^ v3, 24);
+ v21 = v3.plus(v21);
+ v30 = rotl32(v21 ^ v30, 25);
+ v38 = t62.plus(v30);
+ t65 = v40.plus(v9);
+ v9 = rotl32(v22 ^ v20, 25);
+ t66 = v38.plus(v8);
+ v8 = t65.plus(v9);
+ t67 = v8.plus(v6);
+ v6 = rotl32(v8 ^ v23, 16);
+ v8 = v17.plus(v28);
+ v17 = v6.plus(v8);
+ v9 = rotl32(v17 ^ v9, 20);
+ v23 = t67.plus(v9);
+ v6 = rotl32(v23 ^ v6, 24);
+ v20 = rotl32(v38 ^ v6, 16);
+ v8 = rotl32(v8 ^ v19, 25);
+ v19 = v32.plus(v10).plus(v8);
+ t68 = v19.plus(v18);
+ v18 = rotl32(v19 ^ v29, 16);
+ v19 = v18.plus(v12);
+ v8 = rotl32(v19 ^ v8, 20);
+ v10 = t68.plus(v8);
+ v18 = rotl32(v10 ^ v18, 24);
+ v19 = v18.plus(v19);
+ v12 = v20.plus(v19);
+ v22 = rotl32(v12 ^ v30, 20);
+ v28 = t66.plus(v22);
+ v6 = v6.plus(v17);
+ v9 = rotl32(v6 ^ v9, 25);
+ v17 = v10.plus(v11).plus(v9);
+ t69 = v17.plus(v4);
+ v4 = rotl32(v17 ^ v3, 16);
+ v17 = rotl32(v41 ^ v31, 24);
+ v3 = v17.plus(v35);
+ v10 = v4.plus(v3);
+ v9 = rotl32(v10 ^ v9, 20);
+ v11 = t69.plus(v9);
+ v4 = rotl32(v11 ^ v4, 24);
+ v10 = v4.plus(v10);
+ store32(v0 + 12, (v28 ^ v10 ^ v5) as u64);
+ v3 = rotl32(v3 ^ v37, 25);
+ v24 = v23.plus(v24).plus(v3);
+ v18 = rotl32(v24 ^ v18, 16);
+ t70 = v27.plus(v24);
+ v24 = v18.plus(v21);
+ v3 = rotl32(v24 ^ v3, 20);
+ v23 = t70.plus(v3);
+ v8 = rotl32(v19 ^ v8, 25);
+ v16 = v36.plus(v16).plus(v8);
+ v17 = rotl32(v16 ^ v17, 16);
+ v6 = v17.plus(v6);
+ v8 = rotl32(v6 ^ v8, 20);
+ v16 = v13.plus(v16).plus(v8);
+ v17 = rotl32(v16 ^ v17, 24);
+ v6 = v17.plus(v6);
+ store32(v0 + 8, (v25 ^ (v23 ^ v6)) as u64);
+ v19 = rotl32(v28 ^ v20, 24);
+ v27 = v19.plus(v12);
+ store32(v0 + 4, (v33 ^ (v11 ^ v27)) as u64);
+ v18 = rotl32(v23 ^ v18, 24);
+ v24 = v18.plus(v24);
+ store32(v0, (v14 ^ (v16 ^ v24)) as u64);
+ store32(v0 + 20, (v34 ^ (v18 ^ rotl32(v6 ^ v8, 25))) as u64);
+ store32(v0 + 16, (v15 ^ (v4 ^ rotl32(v27 ^ v22, 25))) as u64);
+ store32(v0 + 24, (v26 ^ (v19 ^ rotl32(v10 ^ v9, 25))) as u64);
+ store32(v0 + 28, (v7 ^ (v17 ^ rotl32(v24 ^ v3, 25))) as u64);
+ return;
+}
+
+// blake2_state::blake2s::State::write_digest
+#[inline(never)]
+unsafe fn state_blake2s_State_write_digest(mut v0: u64, mut v1: u64) {
+ let mut v2: u64;
+ let mut v3: u32;
+ let mut v4: u64;
+ let mut v5: u64;
+ let mut v6: u32;
+ let mut frame = [0_u64; 42];
+ let top = (address!(frame)).plus(336) & !15;
+ v2 = top.minus(320);
+ fill(v2 + 192, 0, 64);
+ store64(v2 + 112, load64(v0));
+ store64(v2 + 120, load64(v0 + 8));
+ store64(v2 + 128, load64(v0 + 16));
+ store64(v2 + 136, load64(v0 + 24));
+ store64(v2 + 144, load64(v0.plus(32)));
+ store64(v2 + 152, load64(v0.plus(40)));
+ store64(v2 + 160, load64(v0.plus(48)));
+ store64(v2 + 168, load64(v0.plus(56)));
+ v3 = (load64(v0.plus(96)) != 0) as u32;
+ store64(v2 + 184, v3 as u64);
+ v4 = load64(v0.plus(64));
+ 'l2: loop {
+ v5 = load64(v0.plus(72));
+ v6 = (v5 == 0) as u32;
+ if v6 != 0 { break 'l2; }
+ copy(v2.plus(192), v0.plus(104), v5);
+ break 'l2; }
+ store64(v2 + 104, v5);
+ fill(v2 + 8, 0, 32);
+ store64(v2 + 96, load64(v2 + 248));
+ store64(v2 + 88, load64(v2 + 240));
+ store64(v2 + 80, load64(v2 + 232));
+ store64(v2 + 72, load64(v2 + 224));
+ store64(v2 + 64, load64(v2 + 216));
+ store64(v2 + 56, load64(v2 + 208));
+ store64(v2 + 48, load64(v2 + 200));
+ store64(v2 + 40, load64(v2 + 192));
+ store64(v2 + 256, 0);
+ v4 = v5.plus(v4);
+ store64(v2 + 176, v4);
+ fill(v2 + 264, 0, 56);
+ 'l3: loop {
+ if v6 != 0 { break 'l3; }
+ copy(v2.plus(256), v2.plus(40), v5);
+ break 'l3; }
+ compress_compress_blake2s_compress(v2.plus(112), v2.plus(256), v4, 1, v3);
+ store64(v2 + 8, load64(v2 + 112));
+ store64(v2 + 16, load64(v2 + 120));
+ store64(v2 + 24, load64(v2 + 128));
+ store64(v2 + 32, load64(v2 + 136));
+ 'l4: loop {
+ v0 = load64(v0.plus(88));
+ if v0 == 0 { break 'l4; }
+ copy(v1, v2.plus(8), v0);
+ break 'l4; }
+ return;
+}
+
+// blake2_digest::buffer::digest_into::<#288ea74a914fd90c>
+#[inline(never)]
+unsafe fn digest_buffer_digest_into_288ea74a914fd90c(mut v0: u64, mut v1: u64, mut v2: u64, mut v3:
+        u64, mut v4: u64) -> u64 {
+ let mut v6: u64;
+ let mut v7: u64;
+ let mut v8: u64;
+ let mut v9: u64;
+ let mut v10: u64;
+ let mut v11: u64;
+ let mut v12: u64;
+ let mut t0: u64;
+ let mut t1: u64;
+ 'l1: loop {
+ 'l2: loop {
+ 'l3: loop {
+ 'l5: loop {
+ 'l6: loop {
+ 'l7: loop {
+ 'l8: loop {
+ v6 = 64_u64.minus(v1);
+ if v3 <= v6 { break 'l8; }
+ if v1 == 0 { break 'l5; }
+ v7 = v0.plus(v1);
+ if v7.minus(v2) >= v6 { break 'l7; }
+ v8 = v6 & 3;
+ v9 = 0;
+ 'l9: loop {
+ if v1.minus(61) < 3 { break 'l9; }
+ v10 = v6 & 0xfffffffffffffffc;
+ v9 = 0;
+ 'l10: loop {
+ v11 = v7.plus(v9);
+ v12 = v2.plus(v9);
+ store8(v11, load8(v12) as u64);
+ store8(v11.plus(1), load8(v12.plus(1)) as u64);
+ store8(v11.plus(2), load8(v12.plus(2)) as u64);
+ store8(v11.plus(3), load8(v12.plus(3)) as u64);
+ v9 = v9.plus(4);
+ if v10 != v9 { continue 'l10; }
+ break 'l10; }
+ if v8 == 0 { break 'l6; }
+ break 'l9; }
+ v11 = v2.plus(v9);
+ v9 = v0.plus(v9.plus(v1));
+ 'l11: loop {
+ store8(v9, load8(v11) as u64);
+ v9 = v9.plus(1);
+ v11 = v11.plus(1);
+ v8 = v8.minus(1);
+ if v8 != 0 { continue 'l11; }
+ break 'l6;
+ }
+ }
+ 'l12: loop {
+ 'l13: loop {
+ v8 = v0.plus(v1);
+ if v8.minus(v2) >= v3 { break 'l13; }
+ v12 = v3 & 3;
+ v4 = 0;
+ 'l14: loop {
+ if v3 < 4 { break 'l14; }
+ v7 = v3 & 0xfffffffffffffffc;
+ v4 = 0;
+ 'l15: loop {
+ v11 = v8.plus(v4);
+ v9 = v2.plus(v4);
+ store8(v11, load8(v9) as u64);
+ store8(v11.plus(1), load8(v9.plus(1)) as u64);
+ store8(v11.plus(2), load8(v9.plus(2)) as u64);
+ store8(v11.plus(3), load8(v9.plus(3)) as u64);
+ v4 = v4.plus(4);
+ if v7 != v4 { continue 'l15; }
+ break 'l15; }
+ if v12 == 0 { break 'l12; }
+ break 'l14; }
+ v11 = v2.plus(v4);
+ v4 = v0.plus(v4.plus(v1));
+ 'l16: loop {
+ store8(v4, load8(v11) as u64);
+ v4 = v4.plus(1);
+ v11 = v11.plus(1);
+ v12 = v12.minus(1);
+ if v12 != 0 { continue 'l16; }
+ break 'l12;
+ }
+ }
+ if v3 == 0 { break 'l12; }
+ copy(v8, v2, v3);
+ break 'l12; }
+ return v3.plus(v1);
+ }
+ if v6 == 0 { break 'l6; }
+ copy(v7, v2, v6);
+ break 'l6; }
+ v3 = v3.minus(v6);
+ v2 = v2.plus(v6);
+ v11 = v4.plus(64);
+ t0 = v11;
+ v11 = load64(v11).plus(64);
+ store64(t0, v11);
+ compress_compress_blake2s_compress(v4, v0, v11, 0, 0);
+ break 'l5; }
+ v11 = v3.minus(((v3 != 0) as u32) as u64);
+ v1 = v11 & 0xffffffffffffffc0;
+ 'l17: loop {
+ v9 = v11 >> 6;
+ if v9 == 0 { break 'l17; }
+ v11 = v2;
+ 'l18: loop {
+ v12 = v4.plus(64);
+ t1 = v12;
+ v12 = load64(v12).plus(64);
+ store64(t1, v12);
+ compress_compress_blake2s_compress(v4, v11, v12, 0, 0);
+ v11 = v11.plus(64);
+ v9 = v9.minus(1);
+ if v9 != 0 { continue 'l18; }
+ break 'l18; }
+ break 'l17; }
+ fill(v0, 0, 64);
+ 'l19: loop {
+ v8 = v2.plus(v1);
+ v7 = v3.minus(v1);
+ if v0.minus(v8) >= v7 { break 'l19; }
+ v12 = v3 & 3;
+ v4 = 0;
+ if v1.minus(v3) > 0xfffffffffffffffc { break 'l2; }
+ v3 = (v3 & 0xfffffffffffffffc).minus(v1);
+ v4 = 0;
+ 'l20: loop {
+ v11 = v0.plus(v4);
+ v9 = v8.plus(v4);
+ store8(v11, load8(v9) as u64);
+ store8(v11.plus(1), load8(v9.plus(1)) as u64);
+ store8(v11.plus(2), load8(v9.plus(2)) as u64);
+ store8(v11.plus(3), load8(v9.plus(3)) as u64);
+ v4 = v4.plus(4);
+ if v3 != v4 { continue 'l20; }
+ break 'l3;
+ }
+ }
+ if v7 == 0 { break 'l1; }
+ copy(v0, v8, v7);
+ return v7;
+ }
+ if v12 == 0 { break 'l1; }
+ break 'l2; }
+ v11 = v0.plus(v4);
+ v4 = v2.plus(v4.plus(v1));
+ 'l21: loop {
+ store8(v11, load8(v4) as u64);
+ v11 = v11.plus(1);
+ v4 = v4.plus(1);
+ v12 = v12.minus(1);
+ if v12 != 0 { continue 'l21; }
+ break 'l21; }
+ break 'l1; }
+ return v7;
+}
+
+// blake2_state::blake2s::State::take
+#[inline(never)]
+unsafe fn state_blake2s_State_take(mut v0: u64, mut v1: u64, mut v2: u64) {
+ let mut v3: u64;
+ let mut v4: u64;
+ let mut v5: u64;
+ let mut v6: u64;
+ let mut v7: u64;
+ let mut v8: u64;
+ let mut v9: u64;
+ let mut v10: u64;
+ let mut t0: u64;
+ let mut frame = [0_u64; 12];
+ let top = (address!(frame)).plus(96) & !15;
+ v3 = top.minus(80);
+ v4 = v3;
+ 'l2: loop {
+ 'l3: loop {
+ v3 = v0.plus(72);
+ v5 = load64(v3);
+ if v2 > 64_u64.minus(v5) { break 'l3; }
+ 'l4: loop {
+ 'l5: loop {
+ v6 = v0.plus(v5);
+ v3 = v6.plus(104);
+ if v3.minus(v1) >= v2 { break 'l5; }
+ v7 = v2 & 3;
+ v8 = 0;
+ 'l6: loop {
+ if v2 < 4 { break 'l6; }
+ v9 = v2 & 0xfffffffffffffffc;
+ v8 = 0;
+ 'l7: loop {
+ v3 = v6.plus(v8);
+ v10 = v1.plus(v8);
+ store8(v3.plus(104), load8(v10) as u64);
+ store8(v3.plus(105), load8(v10.plus(1)) as u64);
+ store8(v3.plus(106), load8(v10.plus(2)) as u64);
+ store8(v3.plus(107), load8(v10.plus(3)) as u64);
+ v8 = v8.plus(4);
+ if v9 != v8 { continue 'l7; }
+ break 'l7; }
+ if v7 == 0 { break 'l4; }
+ break 'l6; }
+ v3 = v1.plus(v8);
+ v8 = v8.plus(v5).plus(v0).plus(104);
+ 'l8: loop {
+ store8(v8, load8(v3) as u64);
+ v8 = v8.plus(1);
+ v3 = v3.plus(1);
+ v7 = v7.minus(1);
+ if v7 != 0 { continue 'l8; }
+ break 'l4;
+ }
+ }
+ if v2 == 0 { break 'l4; }
+ copy(v3, v1, v2);
+ break 'l4; }
+ store64(v0.plus(72), v5.plus(v2));
+ break 'l2;
+ }
+ store64(v4, load64(v0));
+ store64(v4 + 8, load64(v0 + 8));
+ store64(v4 + 16, load64(v0 + 16));
+ store64(v4 + 24, load64(v0 + 24));
+ v8 = v0.plus(64);
+ store64(v4 + 64, load64(v8));
+ store64(v4 + 32, load64(v0.plus(32)));
+ store64(v4 + 40, load64(v0.plus(40)));
+ store64(v4 + 48, load64(v0.plus(48)));
+ store64(v4 + 56, load64(v0.plus(56)));
+ store64(v4 + 72, ((load64(v0.plus(96)) != 0) as u32) as u64);
+ t0 = digest_buffer_digest_into_288ea74a914fd90c(v0.plus(104), v5, v1, v2, v4);
+ store64(v3, t0);
+ store64(v0 + 24, load64(v4 + 24));
+ store64(v0 + 16, load64(v4 + 16));
+ store64(v0 + 8, load64(v4 + 8));
+ store64(v0, load64(v4));
+ store64(v8, load64(v4 + 64));
+ break 'l2; }
+ return;
+}
+
+// blake2_ffi::blake2s::write_keyed
+#[inline(never)]
+unsafe fn ffi_blake2s_write_keyed(mut v0: u64, mut v1: u64, mut v2: u64, mut v3: u64, mut v4: u64,
+        mut v5: u64) -> u32 {
+ let mut v6: u64;
+ let mut v7: u64;
+ let mut v8: u32;
+ let mut v9: u64;
+ let mut frame = [0_u64; 56];
+ let top = (address!(frame)).plus(448) & !15;
+ v6 = top.minus(432);
+ 'l1: loop {
+ 'l2: loop {
+ 'l4: loop {
+ if v1.minus(33) < 0xffffffffffffffe0 { break 'l4; }
+ if v5 > 32 { break 'l4; }
+ v7 = 0;
+ v8 = v1 as u32;
+ 'l5: loop {
+ if v5 != 0 { break 'l5; }
+ fill(v6 + 304, 0, 128);
+ v8 = (v8 | 0x1010000) ^ 0x6a09e667;
+ break 'l2;
+ }
+ v7 = 64;
+ 'l6: loop {
+ v9 = 64_u64.minus(v5);
+ if v9 == 0 { break 'l6; }
+ fill(v6.plus(368).plus(v5), 0, v9);
+ break 'l6; }
+ 'l7: loop {
+ if v5 == 0 { break 'l7; }
+ copy(v6.plus(368), v4, v5);
+ break 'l7; }
+ store64(v6 + 360, load64(v6 + 424));
+ store64(v6 + 352, load64(v6 + 416));
+ store64(v6 + 344, load64(v6 + 408));
+ store64(v6 + 336, load64(v6 + 400));
+ store64(v6 + 328, load64(v6 + 392));
+ store64(v6 + 320, load64(v6 + 384));
+ store64(v6 + 312, load64(v6 + 376));
+ store64(v6 + 304, load64(v6 + 368));
+ v8 = (((v5 as u32) << 8) | v8 | 0x1010000) ^ 0x6a09e667;
+ break 'l2;
+ }
+ v8 = 0xffffffff;
+ break 'l1;
+ }
+ store64(v6 + 64, load64(v6 + 360));
+ store64(v6 + 56, load64(v6 + 352));
+ store64(v6 + 48, load64(v6 + 344));
+ store64(v6 + 40, load64(v6 + 336));
+ store64(v6 + 32, load64(v6 + 328));
+ store64(v6 + 24, load64(v6 + 320));
+ store64(v6 + 16, load64(v6 + 312));
+ store64(v6 + 8, load64(v6 + 304));
+ store64(v6 + 168, 0);
+ store64(v6 + 160, v1);
+ store64(v6 + 152, v7);
+ store64(v6 + 144, v7);
+ store64(v6 + 136, 0);
+ store64(v6 + 128, 0x5be0cd191f83d9ab);
+ store64(v6 + 120, 0x9b05688c510e527f);
+ store32(v6 + 116, 0xa54ff53a);
+ store32(v6 + 112, 0x3c6ef372);
+ store32(v6 + 108, 0xbb67ae85);
+ store32(v6 + 104, v8 as u64);
+ store64(v6 + 96, 0x5be0cd191f83d9ab);
+ store64(v6 + 88, 0x9b05688c510e527f);
+ store32(v6 + 84, 0xa54ff53a);
+ store32(v6 + 80, 0x3c6ef372);
+ store32(v6 + 76, 0xbb67ae85);
+ store32(v6 + 72, v8 as u64);
+ store64(v6 + 232, load64(v6 + 64));
+ store64(v6 + 224, load64(v6 + 56));
+ store64(v6 + 216, load64(v6 + 48));
+ store64(v6 + 208, load64(v6 + 40));
+ store64(v6 + 200, load64(v6 + 32));
+ store64(v6 + 192, load64(v6 + 24));
+ store64(v6 + 184, load64(v6 + 16));
+ store64(v6 + 176, load64(v6 + 8));
+ store64(v6 + 240, load64(v6 + 368));
+ store64(v6 + 248, load64(v6 + 376));
+ store64(v6 + 256, load64(v6 + 384));
+ store64(v6 + 264, load64(v6 + 392));
+ store64(v6 + 272, load64(v6 + 400));
+ store64(v6 + 280, load64(v6 + 408));
+ store64(v6 + 288, load64(v6 + 416));
+ store64(v6 + 296, load64(v6 + 424));
+ v8 = 0xffffffff;
+ if v3 > (!v7) { break 'l1; }
+ 'l8: loop {
+ 'l9: loop {
+ if v3 == 1 { break 'l9; }
+ state_blake2s_State_take(v6.plus(72), v2, v3);
+ break 'l8;
+ }
+ 'l10: loop {
+ if v5 == 0 { break 'l10; }
+ state_blake2s_State_take(v6.plus(72), v2, 1);
+ break 'l8;
+ }
+ store8(v6.plus(176).plus(v7), load8(v2) as u64);
+ store64(v6 + 144, v7 | 1);
+ break 'l8; }
+ state_blake2s_State_write_digest(v6.plus(72), v0);
+ v8 = 0;
+ break 'l1; }
+ return v8;
+}
+
+// Overwrites the stack below the caller.
+#[inline(never)]
+unsafe fn digest_wiping_scrub_stack_1536() {
+    let mut room = [0_u64; 320];
+    for word in room.iter_mut() {
+        core::ptr::write_volatile(word, 0);
+    }
+}
+
+// rattle::export vulfsjor_ffi_blake2s
+#[inline(never)]
+unsafe fn exported_blake2s(mut v0: u64, mut v1: u64, mut v2: u64, mut v3: u64, mut v4: u64, mut v5:
+        u64) -> u32 {
+ let mut v6: u64;
+ let mut v7: u64;
+ let mut v8: u64;
+ let mut v9: u32;
+ let mut v10: u32;
+ let mut frame = [0_u64; 40];
+ let top = (address!(frame)).plus(320) & !15;
+ v6 = top.minus(304);
+ v7 = v2.plus(if v2 == 0 { 4096_u64 } else { 0 });
+ v8 = v0.plus(if v0 == 0 { 4096_u64 } else { 0 });
+ 'l2: loop {
+ 'l3: loop {
+ 'l4: loop {
+ 'l5: loop {
+ if v1 != 32 { break 'l5; }
+ if v5 != 0 { break 'l4; }
+ store64(v6 + 56, 0x5be0cd191f83d9ab);
+ store64(v6 + 48, 0x9b05688c510e527f);
+ store64(v6 + 40, 0xa54ff53a3c6ef372);
+ store64(v6 + 32, 0xbb67ae856b08e647);
+ store64(v6 + 24, 0x5be0cd191f83d9ab);
+ store64(v6 + 16, 0x9b05688c510e527f);
+ store64(v6 + 8, 0xa54ff53a3c6ef372);
+ store64(v6, 0xbb67ae856b08e647);
+ fill(v6.plus(64), 0, 88);
+ v5 = v6.plus(80);
+ 'l6: loop {
+ 'l7: loop {
+ if v3 > 64 { break 'l7; }
+ 'l8: loop {
+ if v3 == 0 { break 'l8; }
+ copy(v5, v7, v3);
+ break 'l8; }
+ v2 = 0;
+ v9 = 0;
+ break 'l6;
+ }
+ v4 = v3.minus(1);
+ v0 = v4 >> 6;
+ v2 = v7;
+ 'l9: loop {
+ v1 = load64(v6 + 64).plus(64);
+ store64(v6 + 64, v1);
+ compress_compress_blake2s_compress(v6, v2, v1, 0, 0);
+ v2 = v2.plus(64);
+ v0 = v0.minus(1);
+ if v0 != 0 { continue 'l9; }
+ break 'l9; }
+ fill(v5, 0, 64);
+ 'l10: loop {
+ v2 = v4 & 0xffffffffffffffc0;
+ v3 = v3.minus(v2);
+ if v3 == 0 { break 'l10; }
+ copy(v5, v7.plus(v2), v3);
+ break 'l10; }
+ v9 = load8(v6 + 72);
+ v2 = load64(v6 + 64);
+ break 'l6; }
+ store64(v6 + 144, v3);
+ v2 = v3.plus(v2);
+ store64(v6 + 64, v2);
+ fill(v6 + 240, 0, 64);
+ 'l11: loop {
+ if v3 == 0 { break 'l11; }
+ copy(v6.plus(240), v5, v3);
+ break 'l11; }
+ v10 = 0;
+ fill(v5, 0, 72);
+ compress_compress_blake2s_compress(v6, v6.plus(240), v2, 1, v9);
+ v2 = load64(v6);
+ v0 = load64(v6 + 8);
+ v1 = load64(v6 + 16);
+ store64(v8 + 24, load64(v6 + 24));
+ store64(v8 + 16, v1);
+ store64(v8 + 8, v0);
+ store64(v8, v2);
+ break 'l2;
+ }
+ if v5 == 0 { break 'l3; }
+ break 'l4; }
+ v10 = ffi_blake2s_write_keyed(v8, v1, v7, v3, v4.plus(if v4 == 0 { 4096_u64 } else { 0 }), v5);
+ digest_wiping_scrub_stack_1536();
+ break 'l2;
+ }
+ v10 = 0xffffffff;
+ if v1.minus(33) < 0xffffffffffffffe0 { break 'l2; }
+ store64(v6 + 64, 0);
+ store64(v6 + 56, 0x5be0cd191f83d9ab);
+ store64(v6 + 48, 0x9b05688c510e527f);
+ store32(v6 + 44, 0xa54ff53a);
+ store64(v6 + 36, 0x3c6ef372bb67ae85);
+ store64(v6 + 24, 0x5be0cd191f83d9ab);
+ store64(v6 + 16, 0x9b05688c510e527f);
+ store32(v6 + 12, 0xa54ff53a);
+ store64(v6 + 4, 0x3c6ef372bb67ae85);
+ fill(v6 + 72, 0, 16);
+ store64(v6 + 88, v1);
+ v10 = ((v1 as u32) | 0x1010000) ^ 0x6a09e667;
+ store32(v6 + 32, v10 as u64);
+ store32(v6, v10 as u64);
+ fill(v6.plus(96), 0, 136);
+ 'l12: loop {
+ 'l13: loop {
+ if v3 == 1 { break 'l13; }
+ state_blake2s_State_take(v6, v7, v3);
+ break 'l12;
+ }
+ store64(v6 + 72, 1);
+ store8(v6 + 104, load8(v7) as u64);
+ break 'l12; }
+ state_blake2s_State_write_digest(v6, v8);
+ v10 = 0;
+ break 'l2; }
+ return v10;
+}
+
+// blake2_ffi::blake2s::many::write_all
+#[inline(never)]
+unsafe fn ffi_blake2s_many_write_all(mut v0: u64, mut v1: u64, mut v2: u64, mut v3: u64, mut v4:
+        u64) {
+ let mut v5: u64;
+ let mut v6: u64;
+ let mut v7: u64;
+ let mut v8: u64;
+ let mut v9: u64;
+ let mut v10: u64;
+ let mut v11: u64;
+ let mut v12: u64;
+ let mut v13: u64;
+ let mut v14: u64;
+ let mut v15: u64;
+ let mut v16: u64;
+ let mut v17: u64;
+ let mut v18: u64;
+ let mut v19: u64;
+ let mut v20: u64;
+ let mut v21: u32;
+ let mut v22: u32;
+ let mut v23: u32;
+ let mut v24: u32;
+ let mut v25: u32;
+ let mut v26: u64;
+ let mut frame = [0_u64; 50];
+ let top = (address!(frame)).plus(400) & !15;
+ let _ = v1;
+ v5 = top.minus(384);
+ 'l2: loop {
+ if v4 == 0 { break 'l2; }
+ v6 = v5.plus(304) | 8;
+ v7 = v5.plus(320) | 8;
+ v8 = v5.plus(176);
+ v9 = v5.plus(112);
+ v10 = 0;
+ 'l3: loop {
+ 'l4: loop {
+ v11 = load64(v2);
+ if v11.minus(33) < 0xffffffffffffffe0 { break 'l4; }
+ v12 = load64(v2.plus(16));
+ if v12 > 32 { break 'l4; }
+ v13 = load64(v2.plus(32));
+ if v13 > 8 { break 'l4; }
+ v14 = load64(v2.plus(48));
+ if v14 > 8 { break 'l4; }
+ v15 = v11.times(v10);
+ v16 = load64(v3.plus(8));
+ v17 = load64(v3);
+ v18 = load64(v2.plus(40));
+ v19 = load64(v2.plus(24));
+ v20 = 0;
+ 'l5: loop {
+ 'l6: loop {
+ if v12 != 0 { break 'l6; }
+ fill(v5 + 304, 0, 16);
+ 'l7: loop {
+ if v13 == 0 { break 'l7; }
+ copy(v5.plus(304), v19, v13);
+ break 'l7; }
+ 'l8: loop {
+ if v14 == 0 { break 'l8; }
+ copy(v6, v18, v14);
+ break 'l8; }
+ fill(v5 + 240, 0, 64);
+ fill(v5 + 320, 0, 64);
+ v21 = ((v11 as u32) | 0x1010000) ^ 0x6a09e667;
+ v22 = load32(v5 + 316) ^ 0x5be0cd19;
+ v23 = load32(v5 + 312) ^ 0x1f83d9ab;
+ v24 = load32(v5 + 308) ^ 0x9b05688c;
+ v25 = load32(v5 + 304) ^ 0x510e527f;
+ break 'l5;
+ }
+ v26 = load64(v2.plus(8));
+ fill(v5 + 320, 0, 16);
+ 'l9: loop {
+ if v13 == 0 { break 'l9; }
+ copy(v5.plus(320), v19, v13);
+ break 'l9; }
+ 'l10: loop {
+ if v14 == 0 { break 'l10; }
+ copy(v7, v18, v14);
+ break 'l10; }
+ v20 = 64;
+ v25 = load32(v5 + 320);
+ v24 = load32(v5 + 324);
+ v23 = load32(v5 + 328);
+ v22 = load32(v5 + 332);
+ 'l11: loop {
+ v13 = 64_u64.minus(v12);
+ if v13 == 0 { break 'l11; }
+ fill(v5.plus(320).plus(v12), 0, v13);
+ break 'l11; }
+ 'l12: loop {
+ if v12 == 0 { break 'l12; }
+ copy(v5.plus(320), v26, v12);
+ break 'l12; }
+ store64(v5 + 296, load64(v5 + 376));
+ store64(v5 + 288, load64(v5 + 368));
+ store64(v5 + 280, load64(v5 + 360));
+ store64(v5 + 272, load64(v5 + 352));
+ store64(v5 + 264, load64(v5 + 344));
+ store64(v5 + 256, load64(v5 + 336));
+ store64(v5 + 248, load64(v5 + 328));
+ store64(v5 + 240, load64(v5 + 320));
+ v21 = (((v12 as u32) << 8) | (v11 as u32) | 0x1010000) ^ 0x6a09e667;
+ v22 ^= 0x5be0cd19;
+ v23 ^= 0x1f83d9ab;
+ v24 ^= 0x9b05688c;
+ v25 ^= 0x510e527f;
+ break 'l5; }
+ v13 = v0.plus(v15);
+ store64(v5 + 104, 0);
+ store64(v5 + 96, v11);
+ store64(v5 + 88, v20);
+ store64(v5 + 80, v20);
+ store64(v5 + 72, 0);
+ store32(v5 + 68, v22 as u64);
+ store32(v5 + 64, v23 as u64);
+ store32(v5 + 60, v24 as u64);
+ store32(v5 + 56, v25 as u64);
+ store32(v5 + 52, 0xa54ff53a);
+ store32(v5 + 48, 0x3c6ef372);
+ store32(v5 + 44, 0xbb67ae85);
+ store32(v5 + 40, v21 as u64);
+ store32(v5 + 36, v22 as u64);
+ store32(v5 + 32, v23 as u64);
+ store32(v5 + 28, v24 as u64);
+ store32(v5 + 24, v25 as u64);
+ store32(v5 + 20, 0xa54ff53a);
+ store32(v5 + 16, 0x3c6ef372);
+ store32(v5 + 12, 0xbb67ae85);
+ store32(v5 + 8, v21 as u64);
+ store64(v9 + 56, load64(v5 + 296));
+ store64(v9 + 48, load64(v5 + 288));
+ store64(v9 + 40, load64(v5 + 280));
+ store64(v9 + 32, load64(v5 + 272));
+ store64(v9 + 24, load64(v5 + 264));
+ store64(v9 + 16, load64(v5 + 256));
+ store64(v9 + 8, load64(v5 + 248));
+ store64(v9, load64(v5 + 240));
+ store64(v8, load64(v5 + 320));
+ store64(v8 + 8, load64(v5 + 328));
+ store64(v8 + 16, load64(v5 + 336));
+ store64(v8 + 24, load64(v5 + 344));
+ store64(v8 + 32, load64(v5 + 352));
+ store64(v8 + 40, load64(v5 + 360));
+ store64(v8 + 48, load64(v5 + 368));
+ store64(v8 + 56, load64(v5 + 376));
+ 'l13: loop {
+ 'l14: loop {
+ if v16 == 1 { break 'l14; }
+ state_blake2s_State_take(v5.plus(8), v17, v16);
+ break 'l13;
+ }
+ 'l15: loop {
+ if v12 == 0 { break 'l15; }
+ state_blake2s_State_take(v5.plus(8), v17, 1);
+ break 'l13;
+ }
+ store8(v9.plus(v20), load8(v17) as u64);
+ store64(v5 + 80, v20 | 1);
+ break 'l13; }
+ state_blake2s_State_write_digest(v5.plus(8), v13);
+ break 'l4; }
+ v3 = v3.plus(16);
+ v10 = v10.plus(1);
+ if v4 != v10 { continue 'l3; }
+ break 'l3; }
+ break 'l2; }
+ return;
+}
+
+// Overwrites the stack below the caller.
+#[inline(never)]
+unsafe fn digest_wiping_scrub_stack_5632() {
+    let mut room = [0_u64; 832];
+    for word in room.iter_mut() {
+        core::ptr::write_volatile(word, 0);
+    }
+}
+
+// rattle::export vulfsjor_ffi_blake2s_many
+#[inline(never)]
+unsafe fn exported_blake2s_many(mut v0: u64, mut v1: u64, mut v2: u64, mut v3: u64, mut v4: u64, mut
+        v5: u64, mut v6: u64, mut v7: u64, mut v8: u64, mut v9: u64, mut v10: u64) -> u32 {
+ let mut v11: u64;
+ let mut v12: u32;
+ let mut frame = [0_u64; 12];
+ let top = (address!(frame)).plus(96) & !15;
+ v11 = top.minus(80);
+ 'l1: loop {
+ 'l2: loop {
+ 'l3: loop {
+ store64(v11 + 72, v10);
+ store64(v11 + 56, v8);
+ store64(v11 + 40, v6);
+ store64(v11 + 64, v9.plus(if v9 == 0 { 4096_u64 } else { 0 }));
+ store64(v11 + 48, v7.plus(if v7 == 0 { 4096_u64 } else { 0 }));
+ store64(v11 + 32, v5.plus(if v5 == 0 { 4096_u64 } else { 0 }));
+ store64(v11 + 24, v2);
+ v12 = 0xffffffff;
+ if v2.minus(1) > 31 { break 'l1; }
+ if v6 > 32 { break 'l1; }
+ if v8 > 8 { break 'l1; }
+ if v10 > 8 { break 'l1; }
+ multi3(v11, v4, 0, v2, 0);
+ if ((load64(v11) ^ v1) | load64(v11 + 8)) != 0 { break 'l1; }
+ v7 = v3.plus(if v3 == 0 { 4096_u64 } else { 0 });
+ v5 = v0.plus(if v0 == 0 { 4096_u64 } else { 0 });
+ if v6 == 0 { break 'l3; }
+ v2 = v7.plus(8);
+ v6 = 0xffffffffffffffff;
+ 'l5: loop {
+ 'l6: loop {
+ v6 = v6.plus(1);
+ if v4 == v6 { break 'l5; }
+ v9 = load64(v2);
+ v2 = v2.plus(16);
+ if v9 <= 0xffffffffffffffbf { continue 'l6; }
+ break 'l1;
+ }
+ }
+ ffi_blake2s_many_write_all(v5, v1, v11.plus(24), v7, v4);
+ digest_wiping_scrub_stack_5632();
+ break 'l2;
+ }
+ ffi_blake2s_many_write_all(v5, v1, v11.plus(24), v7, v4);
+ break 'l2; }
+ v12 = 0;
+ break 'l1; }
+ return v12;
+}
+
+// Overwrites the stack below the caller.
+#[inline(never)]
+unsafe fn digest_wiping_scrub_stack_768() {
+    let mut room = [0_u64; 224];
+    for word in room.iter_mut() {
+        core::ptr::write_volatile(word, 0);
+    }
+}
+
+// blake2_ffi::blake2s::initialize
+#[inline(never)]
+unsafe fn ffi_blake2s_initialize(mut v0: u64, mut v1: u64, mut v2: u64) -> u32 {
+ let mut v3: u64;
+ let mut v4: u64;
+ let mut v5: u64;
+ let mut v6: u64;
+ let mut v7: u64;
+ let mut v8: u32;
+ let mut v9: u32;
+ let mut v10: u64;
+ let mut v11: u64;
+ let mut v12: u64;
+ let mut v13: u32;
+ let mut v14: u32;
+ let mut v15: u32;
+ let mut v16: u32;
+ let mut v17: u32;
+ let mut v18: u32;
+ let mut v19: u32;
+ let mut v20: u32;
+ let mut v21: u64;
+ let mut v22: u64;
+ let mut v23: u64;
+ let mut frame = [0_u64; 28];
+ let top = (address!(frame)).plus(224) & !15;
+ v3 = top.minus(208);
+ 'l1: loop {
+ 'l3: loop {
+ v4 = load64(v1);
+ if v4.minus(33) < 0xffffffffffffffe0 { break 'l3; }
+ v5 = load64(v1.plus(16));
+ if v5 > 32 { break 'l3; }
+ v6 = load64(v1.plus(32));
+ if v6 > 8 { break 'l3; }
+ v7 = load64(v1.plus(48));
+ if v7 > 8 { break 'l3; }
+ v8 = load8(v2 + 1);
+ if v8 == 0 { break 'l3; }
+ v9 = load8(v2 + 17);
+ if (v9 & 255) > 32 { break 'l3; }
+ v10 = load64(v2 + 8);
+ if v10 > 0xffffffffffff { break 'l3; }
+ v11 = load64(v1.plus(40));
+ v12 = load64(v1.plus(24));
+ v13 = load16(v2 + 6);
+ v14 = load16(v2 + 4);
+ v15 = load8(v2 + 16);
+ v16 = load8(v2);
+ v2 = 0;
+ 'l4: loop {
+ 'l5: loop {
+ if v5 != 0 { break 'l5; }
+ fill(v3 + 128, 0, 16);
+ 'l6: loop {
+ if v6 == 0 { break 'l6; }
+ copy(v3.plus(128), v12, v6);
+ break 'l6; }
+ 'l7: loop {
+ if v7 == 0 { break 'l7; }
+ copy(v3.plus(128) | 8, v11, v7);
+ break 'l7; }
+ fill(v3, 0, 128);
+ v13 = ((v14 & 0xffff) | (v13 << 16)) ^ 0xbb67ae85;
+ v8 = ((v16 << 16) | (v4 as u32) | (v8 << 24)) ^ 0x6a09e667;
+ v9 = ((((v10 >> 32) as u32) & 0xffff) | ((v9 << 24) | ((v15 & 255) << 16))) ^ 0xa54ff53a;
+ v14 = (v10 as u32) ^ 0x3c6ef372;
+ v15 = load32(v3 + 140) ^ 0x5be0cd19;
+ v16 = load32(v3 + 136) ^ 0x1f83d9ab;
+ v17 = load32(v3 + 132) ^ 0x9b05688c;
+ v18 = load32(v3 + 128) ^ 0x510e527f;
+ break 'l4;
+ }
+ v1 = load64(v1.plus(8));
+ fill(v3 + 128, 0, 16);
+ 'l8: loop {
+ if v6 == 0 { break 'l8; }
+ copy(v3.plus(128), v12, v6);
+ break 'l8; }
+ 'l9: loop {
+ if v7 == 0 { break 'l9; }
+ copy(v3.plus(128) | 8, v11, v7);
+ break 'l9; }
+ v2 = 64;
+ v18 = load32(v3 + 128);
+ v17 = load32(v3 + 132);
+ v19 = load32(v3 + 136);
+ v20 = load32(v3 + 140);
+ 'l10: loop {
+ v6 = 64_u64.minus(v5);
+ if v6 == 0 { break 'l10; }
+ fill(v3.plus(144).plus(v5), 0, v6);
+ break 'l10; }
+ 'l11: loop {
+ if v5 == 0 { break 'l11; }
+ copy(v3.plus(144), v1, v5);
+ break 'l11; }
+ v1 = load64(v3 + 200);
+ store64(v3 + 120, v1);
+ v6 = load64(v3 + 192);
+ store64(v3 + 112, v6);
+ v7 = load64(v3 + 184);
+ store64(v3 + 104, v7);
+ v11 = load64(v3 + 176);
+ store64(v3 + 96, v11);
+ v12 = load64(v3 + 168);
+ store64(v3 + 88, v12);
+ v21 = load64(v3 + 160);
+ store64(v3 + 80, v21);
+ v22 = load64(v3 + 152);
+ store64(v3 + 72, v22);
+ v23 = load64(v3 + 144);
+ store64(v3 + 64, v23);
+ store64(v3, v23);
+ store64(v3 + 8, v22);
+ store64(v3 + 16, v21);
+ store64(v3 + 24, v12);
+ store64(v3 + 32, v11);
+ store64(v3 + 40, v7);
+ store64(v3 + 48, v6);
+ store64(v3 + 56, v1);
+ v13 = ((v14 & 0xffff) | (v13 << 16)) ^ 0xbb67ae85;
+ v9 = ((((v10 >> 32) as u32) & 0xffff) | ((v9 << 24) | ((v15 & 255) << 16))) ^ 0xa54ff53a;
+ v8 = ((v16 << 16) | ((((v5 as u32) << 8) & 0xff00) | (v4 as u32))).plus(v8 << 24) ^ 0x6a09e667;
+ v14 = (v10 as u32) ^ 0x3c6ef372;
+ v15 = v20 ^ 0x5be0cd19;
+ v16 = v19 ^ 0x1f83d9ab;
+ v17 ^= 0x9b05688c;
+ v18 ^= 0x510e527f;
+ break 'l4; }
+ store64(v0 + 96, 0);
+ store64(v0 + 88, v4);
+ store64(v0 + 80, v2);
+ store64(v0 + 72, v2);
+ store64(v0 + 64, 0);
+ store32(v0 + 60, v15 as u64);
+ store32(v0 + 56, v16 as u64);
+ store32(v0 + 52, v17 as u64);
+ store32(v0 + 48, v18 as u64);
+ store32(v0 + 44, v9 as u64);
+ store32(v0 + 40, v14 as u64);
+ store32(v0 + 36, v13 as u64);
+ store32(v0 + 32, v8 as u64);
+ store32(v0 + 28, v15 as u64);
+ store32(v0 + 24, v16 as u64);
+ store32(v0 + 20, v17 as u64);
+ store32(v0 + 16, v18 as u64);
+ store32(v0 + 12, v9 as u64);
+ store32(v0 + 8, v14 as u64);
+ store32(v0 + 4, v13 as u64);
+ store32(v0, v8 as u64);
+ store64(v0 + 160, load64(v3 + 120));
+ store64(v0 + 152, load64(v3 + 112));
+ store64(v0 + 144, load64(v3 + 104));
+ store64(v0 + 136, load64(v3 + 96));
+ store64(v0 + 128, load64(v3 + 88));
+ store64(v0 + 120, load64(v3 + 80));
+ store64(v0 + 112, load64(v3 + 72));
+ store64(v0 + 104, load64(v3 + 64));
+ store64(v0 + 224, load64(v3 + 56));
+ store64(v0 + 216, load64(v3 + 48));
+ store64(v0 + 208, load64(v3 + 40));
+ store64(v0 + 200, load64(v3 + 32));
+ store64(v0 + 192, load64(v3 + 24));
+ store64(v0 + 184, load64(v3 + 16));
+ store64(v0 + 176, load64(v3 + 8));
+ store64(v0 + 168, load64(v3));
+ v8 = 0;
+ break 'l1;
+ }
+ fill(v0, 0, 232);
+ v8 = 0xffffffff;
+ break 'l1;
+ }
+ return v8;
+}
+
+// rattle::export vulfsjor_ffi_blake2s_init_salt_personal
+#[inline(never)]
+unsafe fn exported_blake2s_init_salt_personal(mut v0: u64, mut v1: u64, mut v2: u64, mut v3: u64,
+        mut v4: u64, mut v5: u64, mut v6: u64, mut v7: u64) -> u32 {
+ let mut v8: u64;
+ let mut v9: u32;
+ let mut frame = [0_u64; 12];
+ let top = (address!(frame)).plus(96) & !15;
+ v8 = top.minus(80);
+ store64(v8 + 72, v7);
+ store64(v8 + 56, v5);
+ store64(v8 + 24, v1);
+ store64(v8 + 2, 0);
+ store16(v8, 257);
+ store64(v8 + 10, 0);
+ store64(v8 + 16, 0);
+ store64(v8 + 64, v6.plus(if v6 == 0 { 4096_u64 } else { 0 }));
+ store64(v8 + 48, v4.plus(if v4 == 0 { 4096_u64 } else { 0 }));
+ store64(v8 + 32, v2.plus(if v2 == 0 { 4096_u64 } else { 0 }));
+ store64(v8 + 40, v3);
+ v9 = ffi_blake2s_initialize(v0, v8.plus(24), v8);
+ 'l2: loop {
+ if v3 == 0 { break 'l2; }
+ digest_wiping_scrub_stack_768();
+ break 'l2; }
+ return v9;
+}
+
+// rattle::export vulfsjor_ffi_blake2s_init_key
+#[inline(never)]
+unsafe fn exported_blake2s_init_key(mut v0: u64, mut v1: u64, mut v2: u64, mut v3: u64) -> u32 {
+ let mut v4: u64;
+ let mut v5: u32;
+ let mut frame = [0_u64; 12];
+ let top = (address!(frame)).plus(96) & !15;
+ v4 = top.minus(80);
+ 'l1: loop {
+ 'l2: loop {
+ if v3 != 0 { break 'l2; }
+ fill(v0, 0, 232);
+ v5 = 0xffffffff;
+ break 'l1;
+ }
+ store64(v4 + 72, 0);
+ store64(v4 + 64, 0x100000);
+ store64(v4 + 56, 0);
+ store64(v4 + 48, 0x100000);
+ store64(v4 + 40, v3);
+ store64(v4 + 32, v2.plus(if v2 == 0 { 4096_u64 } else { 0 }));
+ store64(v4 + 24, v1);
+ store64(v4 + 2, 0);
+ store16(v4, 257);
+ store64(v4 + 10, 0);
+ store64(v4 + 16, 0);
+ v5 = ffi_blake2s_initialize(v0, v4.plus(24), v4);
+ digest_wiping_scrub_stack_768();
+ break 'l1; }
+ return v5;
+}
+
+// rattle::export vulfsjor_ffi_blake2s_init_tree
+#[inline(never)]
+unsafe fn exported_blake2s_init_tree(mut v0: u64, mut v1: u64, mut v2: u64, mut v3: u64, mut v4:
+        u64, mut v5: u64, mut v6: u64, mut v7: u64, mut v8: u64) -> u32 {
+ let mut v9: u64;
+ let mut v10: u64;
+ let mut v11: u32;
+ let mut v12: u32;
+ let mut frame = [0_u64; 12];
+ let top = (address!(frame)).plus(96) & !15;
+ v9 = top.minus(80);
+ store32(v9 + 74, 0);
+ store16(v9 + 58, 0);
+ store16(v9 + 78, 0);
+ v10 = load64(v8);
+ store64(v9 + 64, v10);
+ v11 = load8(v8.plus(15));
+ store8(v9 + 73, v11 as u64);
+ store8(v9 + 72, load8(v8.plus(14)) as u64);
+ store32(v9 + 60, load32(v8.plus(8)) as u64);
+ v12 = load8(v8.plus(13));
+ store8(v9 + 57, v12 as u64);
+ store8(v9 + 56, load8(v8.plus(12)) as u64);
+ 'l2: loop {
+ 'l3: loop {
+ 'l4: loop {
+ if v12 == 0 { break 'l4; }
+ if v10 > 0xffffffffffff { break 'l4; }
+ if (v11 & 255) < 33 { break 'l3; }
+ break 'l4; }
+ fill(v0, 0, 232);
+ v12 = 0xffffffff;
+ break 'l2;
+ }
+ store64(v9 + 48, v7);
+ store64(v9 + 40, v6.plus(if v6 == 0 { 4096_u64 } else { 0 }));
+ store64(v9 + 32, v5);
+ store64(v9 + 24, v4.plus(if v4 == 0 { 4096_u64 } else { 0 }));
+ store64(v9 + 8, v2.plus(if v2 == 0 { 4096_u64 } else { 0 }));
+ store64(v9, v1);
+ store64(v9 + 16, v3);
+ v12 = ffi_blake2s_initialize(v0, v9, v9.plus(56));
+ if v3 == 0 { break 'l2; }
+ digest_wiping_scrub_stack_768();
+ break 'l2; }
+ return v12;
+}
+
+// rattle::export vulfsjor_ffi_blake2s_init_param
+#[inline(never)]
+unsafe fn exported_blake2s_init_param(mut v0: u64, mut v1: u64, mut v2: u64) -> u32 {
+ let mut v3: u32;
+ let mut v4: u32;
+ let mut v5: u32;
+ let mut v6: u32;
+ let mut v7: u32;
+ let mut v8: u32;
+ let mut v9: u32;
+ let mut v10: u32;
+ let mut v11: u32;
+ 'l1: loop {
+ if v2 != 32 { break 'l1; }
+ v1 = v1.plus(if v1 == 0 { 4096_u64 } else { 0 });
+ if (load8(v1).minus(33) & 255) < 224 { break 'l1; }
+ if load8(v1 + 1) > 32 { break 'l1; }
+ v3 = load32(v1.plus(28));
+ v4 = load32(v1.plus(24));
+ v5 = load32(v1.plus(20));
+ v6 = load32(v1.plus(16));
+ v7 = load32(v1);
+ v8 = load32(v1 + 12);
+ v9 = load32(v1 + 8);
+ v10 = load32(v1 + 4) ^ 0xbb67ae85;
+ store32(v0 + 4, v10 as u64);
+ v9 ^= 0x3c6ef372;
+ store32(v0 + 8, v9 as u64);
+ v8 ^= 0xa54ff53a;
+ store32(v0 + 12, v8 as u64);
+ v11 = v7 ^ 0x6a09e667;
+ store32(v0 + 32, v11 as u64);
+ store32(v0 + 36, v10 as u64);
+ store32(v0 + 40, v9 as u64);
+ store32(v0 + 44, v8 as u64);
+ fill(v0 + 64, 0, 24);
+ store32(v0, v11 as u64);
+ v6 ^= 0x510e527f;
+ store32(v0 + 16, v6 as u64);
+ v5 ^= 0x9b05688c;
+ store32(v0 + 20, v5 as u64);
+ v4 ^= 0x1f83d9ab;
+ store32(v0 + 24, v4 as u64);
+ v3 ^= 0x5be0cd19;
+ store32(v0 + 28, v3 as u64);
+ store32(v0 + 48, v6 as u64);
+ store32(v0 + 52, v5 as u64);
+ store32(v0 + 56, v4 as u64);
+ store32(v0 + 60, v3 as u64);
+ store64(v0 + 88, (v7 as u64) & 255);
+ fill(v0.plus(96), 0, 136);
+ return 0;
+ }
+ fill(v0, 0, 232);
+ return 0xffffffff;
+}
+
+// blake2_ffi::blake2s::absorb
+#[inline(never)]
+unsafe fn ffi_blake2s_absorb(mut v0: u64, mut v1: u64, mut v2: u64) {
+ let mut v4: u64;
+ let mut v5: u32;
+ 'l2: loop {
+ if v2 == 1 { break 'l2; }
+ state_blake2s_State_take(v0, v1, v2);
+ return;
+ }
+ 'l3: loop {
+ v4 = v0.plus(72);
+ v2 = load64(v4);
+ if v2 < 64 { break 'l3; }
+ state_blake2s_State_take(v0, v1, 1);
+ return;
+ }
+ v5 = load8(v1);
+ store64(v4, v2.plus(1));
+ store8(v0.plus(v2).plus(104), v5 as u64);
+ return;
+}
+
+// Overwrites the stack below the caller.
+#[inline(never)]
+unsafe fn digest_wiping_scrub_stack_512() {
+    let mut room = [0_u64; 192];
+    for word in room.iter_mut() {
+        core::ptr::write_volatile(word, 0);
+    }
+}
+
+// blake2_ffi::blake2s::absorb_scrubbed
+#[inline(never)]
+unsafe fn ffi_blake2s_absorb_scrubbed(mut v0: u64, mut v1: u64, mut v2: u64) {
+ ffi_blake2s_absorb(v0, v1, v2);
+ digest_wiping_scrub_stack_512();
+ return;
+}
+
+// rattle::export vulfsjor_ffi_blake2s_update
+#[inline(never)]
+unsafe fn exported_blake2s_update(mut v0: u64, mut v1: u64, mut v2: u64) -> u32 {
+ let mut v4: u32;
+ let mut v5: u64;
+ let mut v6: u64;
+ let mut v7: u64;
+ 'l1: loop {
+ 'l2: loop {
+ 'l3: loop {
+ v4 = 0xffffffff;
+ if load64(v0.plus(88)).minus(1) > 31 { break 'l1; }
+ v5 = load64(v0.plus(72));
+ if v5 > 64 { break 'l1; }
+ v6 = load64(v0.plus(80));
+ if v6 > 64 { break 'l1; }
+ v7 = load64(v0.plus(64));
+ if v7 > (!v5) { break 'l1; }
+ if v2 > (!v7.plus(v5)) { break 'l1; }
+ v1 = v1.plus(if v1 == 0 { 4096_u64 } else { 0 });
+ 'l5: loop {
+ if v7 >= v6 { break 'l5; }
+ ffi_blake2s_absorb_scrubbed(v0, v1, v2);
+ break 'l2;
+ }
+ 'l6: loop {
+ if v2 == 1 { break 'l6; }
+ state_blake2s_State_take(v0, v1, v2);
+ break 'l2;
+ }
+ if v5 != 64 { break 'l3; }
+ state_blake2s_State_take(v0, v1, 1);
+ break 'l2;
+ }
+ v4 = load8(v1);
+ store64(v0.plus(72), v5.plus(1));
+ store8(v0.plus(v5).plus(104), v4 as u64);
+ break 'l2; }
+ v4 = 0;
+ break 'l1; }
+ return v4;
+}
+
+// blake2_ffi::blake2s::finalize
+#[inline(never)]
+unsafe fn ffi_blake2s_finalize(mut v0: u64, mut v1: u64) {
+ state_blake2s_State_write_digest(v0, v1);
+ fill(v0, 0, 232);
+ return;
+}
+
+// rattle::export vulfsjor_ffi_blake2s_final
+#[inline(never)]
+unsafe fn exported_blake2s_final(mut v0: u64, mut v1: u64, mut v2: u64) -> u32 {
+ let mut v4: u32;
+ let mut v5: u64;
+ let mut v6: u64;
+ let mut v7: u64;
+ v4 = 0xffffffff;
+ 'l2: loop {
+ v5 = load64(v0.plus(88));
+ if v5.minus(1) > 31 { break 'l2; }
+ v6 = load64(v0.plus(72));
+ if v6 > 64 { break 'l2; }
+ v7 = load64(v0.plus(80));
+ if v7 > 64 { break 'l2; }
+ if v2 < v5 { break 'l2; }
+ v2 = load64(v0.plus(64));
+ if v2 > (!v6) { break 'l2; }
+ ffi_blake2s_finalize(v0, v1.plus(if v1 == 0 { 4096_u64 } else { 0 }));
+ v4 = 0;
+ if v2 >= v7 { break 'l2; }
+ digest_wiping_scrub_stack_768();
+ break 'l2; }
+ return v4;
+}
+
+// blake2_ffi::blake2s::is_digest_of
+#[inline(never)]
+unsafe fn ffi_blake2s_is_digest_of(mut v0: u64, mut v1: u64, mut v2: u64) -> u32 {
+ let mut v3: u64;
+ let mut v4: u64;
+ let mut v5: u32;
+ let mut v6: u64;
+ let mut v7: u64;
+ let mut frame = [0_u64; 6];
+ let top = (address!(frame)).plus(48) & !15;
+ v3 = top.minus(32);
+ v4 = v3;
+ fill(v4, 0, 32);
+ state_blake2s_State_write_digest(v0, v4);
+ 'l2: loop {
+ 'l3: loop {
+ if v2 == load64(v0.plus(88)) { break 'l3; }
+ v5 = 0;
+ break 'l2;
+ }
+ 'l4: loop {
+ if !(v2 == 0) { break 'l4; }
+ v5 = 1;
+ break 'l2;
+ }
+ v6 = v2 & 3;
+ 'l5: loop {
+ 'l6: loop {
+ 'l7: loop {
+ if v2 >= 4 { break 'l7; }
+ v0 = 0;
+ v5 = 0;
+ break 'l6;
+ }
+ v7 = v2 & 0xfffffffffffffffc;
+ v0 = 0;
+ v5 = 0;
+ 'l8: loop {
+ v2 = v4.plus(v0);
+ v3 = v1.plus(v0);
+ v5 = (load8(v2.plus(3)) ^ load8(v3.plus(3))) | ((load8(v2.plus(2)) ^ load8(v3.plus(2))) |
+   ((load8(v2.plus(1)) ^ load8(v3.plus(1))) | ((load8(v2) ^ load8(v3)) | v5)));
+ v0 = v0.plus(4);
+ if v7 != v0 { continue 'l8; }
+ break 'l8; }
+ if v6 == 0 { break 'l5; }
+ break 'l6; }
+ v2 = v1.plus(v0);
+ v0 = v4.plus(v0);
+ 'l9: loop {
+ v5 = (load8(v0) ^ load8(v2)) | v5;
+ v2 = v2.plus(1);
+ v0 = v0.plus(1);
+ v6 = v6.minus(1);
+ if v6 != 0 { continue 'l9; }
+ break 'l9; }
+ break 'l5; }
+ v5 = ((v5 & 255) == 0) as u32;
+ break 'l2; }
+ return v5;
+}
+
+// rattle::export vulfsjor_ffi_blake2s_verify
+#[inline(never)]
+unsafe fn exported_blake2s_verify(mut v0: u64, mut v1: u64, mut v2: u64) -> u32 {
+ let mut v4: u64;
+ let mut v5: u64;
+ let mut v6: u64;
+ let mut v7: u32;
+ 'l1: loop {
+ 'l2: loop {
+ 'l3: loop {
+ 'l4: loop {
+ 'l6: loop {
+ 'l7: loop {
+ if load64(v0.plus(88)).minus(1) > 31 { break 'l7; }
+ v4 = load64(v0.plus(72));
+ if v4 > 64 { break 'l7; }
+ v5 = load64(v0.plus(80));
+ if v5 < 65 { break 'l6; }
+ break 'l7; }
+ if load64(v0.plus(64)) >= load64(v0.plus(80)) { break 'l1; }
+ break 'l2;
+ }
+ 'l8: loop {
+ v6 = load64(v0.plus(64));
+ if v6 <= (!v4) { break 'l8; }
+ if v6 < v5 { break 'l2; }
+ break 'l1;
+ }
+ v7 = ffi_blake2s_is_digest_of(v0, v1.plus(if v1 == 0 { 4096_u64 } else { 0 }), v2);
+ fill(v0, 0, 232);
+ if v6 < v5 { break 'l4; }
+ if v7 == 0 { break 'l1; }
+ break 'l3;
+ }
+ digest_wiping_scrub_stack_768();
+ if v7 == 0 { break 'l1; }
+ break 'l3; }
+ return 0;
+ }
+ digest_wiping_scrub_stack_768();
+ break 'l1; }
+ return 0xffffffff;
+}
+
+// rattle::export vulfsjor_ffi_blake2s_set_last_node
+#[inline(never)]
+unsafe fn exported_blake2s_set_last_node(mut v0: u64, mut v1: u32) -> u32 {
+ let mut v2: u32;
+ let mut v3: u64;
+ v2 = 0xffffffff;
+ 'l2: loop {
+ if load64(v0.plus(88)).minus(1) > 31 { break 'l2; }
+ v3 = load64(v0.plus(72));
+ if v3 > 64 { break 'l2; }
+ if load64(v0.plus(80)) > 64 { break 'l2; }
+ if load64(v0.plus(64)) > (!v3) { break 'l2; }
+ v2 = 0;
+ store64(v0.plus(96), ((v1 != 0) as u32) as u64);
+ break 'l2; }
+ return v2;
+}
+
+// rattle::export vulfsjor_ffi_blake2s_reset
+#[inline(never)]
+unsafe fn exported_blake2s_reset(mut v0: u64) -> u32 {
+ let mut v1: u32;
+ let mut v2: u64;
+ let mut v3: u64;
+ let mut v4: u64;
+ v1 = 0xffffffff;
+ 'l2: loop {
+ if load64(v0.plus(88)).minus(1) > 31 { break 'l2; }
+ v2 = load64(v0.plus(72));
+ if v2 > 64 { break 'l2; }
+ v3 = load64(v0.plus(80));
+ if v3 > 64 { break 'l2; }
+ v4 = v0.plus(64);
+ if load64(v4) > (!v2) { break 'l2; }
+ store64(v0.plus(72), v3);
+ store64(v4, 0);
+ store64(v0 + 24, load64(v0.plus(56)));
+ store64(v0 + 16, load64(v0.plus(48)));
+ store64(v0 + 8, load64(v0.plus(40)));
+ store64(v0, load64(v0.plus(32)));
+ store64(v0.plus(104), load64(v0.plus(168)));
+ store64(v0.plus(112), load64(v0.plus(176)));
+ store64(v0.plus(120), load64(v0.plus(184)));
+ store64(v0.plus(128), load64(v0.plus(192)));
+ store64(v0.plus(136), load64(v0.plus(200)));
+ store64(v0.plus(144), load64(v0.plus(208)));
+ store64(v0.plus(152), load64(v0.plus(216)));
+ store64(v0.plus(160), load64(v0.plus(224)));
+ v1 = 0;
+ break 'l2; }
+ return v1;
+}
+
+// rattle::export vulfsjor_ffi_blake2s_wipe
+#[inline(never)]
+unsafe fn exported_blake2s_wipe(mut v0: u64) {
+ 'l1: loop {
+ break 'l1;
+ }
+ fill(v0, 0, 232);
+}
+
+// rattle::export vulfsjor_ffi_blake2s_digest_size
+#[inline(never)]
+unsafe fn exported_blake2s_digest_size(mut v0: u64) -> u64 {
+ let mut v1: u64;
+ let mut v2: u64;
+ let mut v3: u64;
+ v1 = 0;
+ 'l2: loop {
+ v2 = load64(v0.plus(88));
+ if v2.minus(1) > 31 { break 'l2; }
+ v3 = load64(v0.plus(72));
+ if v3 > 64 { break 'l2; }
+ if load64(v0.plus(80)) > 64 { break 'l2; }
+ v1 = if load64(v0.plus(64)) > (!v3) { 0 } else { v2 };
+ break 'l2; }
+ return v1;
+}
+
+// rattle::export vulfsjor_ffi_blake2s_count
+#[inline(never)]
+unsafe fn exported_blake2s_count(mut v0: u64) -> u64 {
+ let mut v1: u64;
+ let mut v2: u64;
+ let mut v3: u64;
+ v1 = 0;
+ 'l2: loop {
+ if load64(v0.plus(88)).minus(1) > 31 { break 'l2; }
+ v2 = load64(v0.plus(72));
+ if v2 > 64 { break 'l2; }
+ v3 = load64(v0.plus(80));
+ if v3 > 64 { break 'l2; }
+ v0 = load64(v0.plus(64));
+ if v0 > (!v2) { break 'l2; }
+ v0 = v0.plus(v2);
+ v1 = v0.minus(v3);
+ v1 = if v1 > v0 { 0 } else { v1 };
+ break 'l2; }
+ return v1;
+}
+
+// rattle::export vulfsjor_ffi_blake2s_state_size
+#[inline(never)]
+unsafe fn exported_blake2s_state_size() {
+ 'l1: loop {
+ break 'l1;
+ }
+}
+
+// vulfsjor_ffi_blake2s_state_size
+#[inline(never)]
+unsafe fn module_blake2s_state_size() -> u64 {
+ 'l1: loop {
+ break 'l1;
+ }
+ exported_blake2s_state_size();
+ return 232;
+}
+
+// blake2_parallel::lanes::blake2b::compress_short
+#[inline(never)]
+unsafe fn parallel_lanes_blake2b_compress_short(mut v0: u64, mut v1: u64, mut v2: u64, mut v3: u64,
+        mut v4: u64) {
+ let mut v5: u64;
+ let mut v6: u64;
+ let mut v7: u64;
+ let mut v8: u64;
+ let mut v9: u64;
+ let mut v10: u64;
+ let mut v11: u64;
+ let mut v12: u64;
+ let mut v13: u64;
+ let mut v14: u64;
+ let mut v15: u64;
+ let mut v16: u64;
+ let mut v17: u64;
+ let mut v18: u64;
+ let mut v19: u64;
+ let mut v20: u64;
+ let mut v21: u64;
+ let mut v22: u64;
+ let mut v23: u64;
+ let mut v24: u64;
+ let mut v25: u64;
+ let mut v26: u64;
+ let mut v27: u64;
+ let mut v28: u64;
+ let mut v29: u32;
+ let mut v30: u32;
+ let mut v31: u64;
+ let mut v32: u64;
+ let mut v33: u64;
+ let mut v34: u64;
+ let mut v35: u64;
+ let mut v36: u64;
+ let mut v37: u64;
+ let mut v38: u64;
+ let mut frame = [0_u64; 74];
+ let top = (address!(frame)).plus(592) & !15;
+ v5 = top.minus(576);
+ fill(v5, 0, 512);
+ 'l2: loop {
+ if v2 == 0 { break 'l2; }
+ copy(v5, v1, v2);
+ break 'l2; }
+ v1 = load64(v0 + 24);
+ v6 = load64(v0 + 56);
+ v7 = load64(v0 + 88);
+ v8 = load64(v0 + 120);
+ v9 = load64(v0 + 152);
+ v10 = load64(v0 + 184);
+ v11 = load64(v0 + 216);
+ v12 = load64(v0 + 248);
+ v13 = load64(v0 + 16);
+ v14 = load64(v0 + 48);
+ v15 = load64(v0 + 80);
+ v16 = load64(v0 + 112);
+ v17 = load64(v0 + 144);
+ v18 = load64(v0 + 176);
+ v19 = load64(v0 + 208);
+ v20 = load64(v0 + 240);
+ v21 = load64(v0 + 8);
+ v22 = load64(v0 + 40);
+ v23 = load64(v0 + 72);
+ v24 = load64(v0 + 104);
+ v25 = load64(v0 + 136);
+ v26 = load64(v0 + 168);
+ v27 = load64(v0 + 200);
+ v28 = load64(v0 + 232);
+ v29 = load8(v4 + 1);
+ v30 = load8(v4);
+ v31 = load64(v0);
+ v32 = load64(v0 + 32);
+ v33 = load64(v0 + 64);
+ v34 = load64(v0 + 96);
+ v35 = load64(v0 + 128);
+ v36 = load64(v0 + 160);
+ v37 = load64(v0 + 192);
+ store64(v5 + 568, load64(v0 + 224));
+ store64(v5 + 560, v37);
+ store64(v5 + 552, v36);
+ store64(v5 + 544, v35);
+ store64(v5 + 536, v34);
+ store64(v5 + 528, v33);
+ store64(v5 + 520, v32);
+ store64(v5 + 512, v31);
+ compress_compress_blake2b_compress(v5.plus(512), v5, v3.plus(if v2 < 128 { v2 } else { 128 }), v30,
+   v29);
+ v31 = load64(v5 + 512);
+ v32 = load64(v5 + 520);
+ v33 = load64(v5 + 528);
+ v34 = load64(v5 + 536);
+ v35 = load64(v5 + 544);
+ v36 = load64(v5 + 552);
+ v37 = load64(v5 + 560);
+ v38 = load64(v5 + 568);
+ v29 = load8(v4 + 3);
+ v30 = load8(v4 + 2);
+ store64(v5 + 568, v28);
+ store64(v5 + 560, v27);
+ store64(v5 + 552, v26);
+ store64(v5 + 544, v25);
+ store64(v5 + 536, v24);
+ store64(v5 + 528, v23);
+ store64(v5 + 520, v22);
+ store64(v5 + 512, v21);
+ v21 = v2.minus(128);
+ v21 = if v21 > v2 { 0 } else { v21 };
+ compress_compress_blake2b_compress(v5.plus(512), v5.plus(128), (if v21 < 128 { v21 } else { 128
+   }).plus(v3), v30, v29);
+ v21 = load64(v5 + 512);
+ v22 = load64(v5 + 520);
+ v23 = load64(v5 + 528);
+ v24 = load64(v5 + 536);
+ v25 = load64(v5 + 544);
+ v26 = load64(v5 + 552);
+ v27 = load64(v5 + 560);
+ v28 = load64(v5 + 568);
+ v29 = load8(v4 + 5);
+ v30 = load8(v4 + 4);
+ store64(v5 + 568, v20);
+ store64(v5 + 560, v19);
+ store64(v5 + 552, v18);
+ store64(v5 + 544, v17);
+ store64(v5 + 536, v16);
+ store64(v5 + 528, v15);
+ store64(v5 + 520, v14);
+ store64(v5 + 512, v13);
+ v13 = v2.minus(256);
+ v13 = if v13 > v2 { 0 } else { v13 };
+ compress_compress_blake2b_compress(v5.plus(512), v5.plus(256), (if v13 < 128 { v13 } else { 128
+   }).plus(v3), v30, v29);
+ v13 = load64(v5 + 512);
+ v14 = load64(v5 + 520);
+ v15 = load64(v5 + 528);
+ v16 = load64(v5 + 536);
+ v17 = load64(v5 + 544);
+ v18 = load64(v5 + 552);
+ v19 = load64(v5 + 560);
+ v20 = load64(v5 + 568);
+ v29 = load8(v4 + 7);
+ v30 = load8(v4 + 6);
+ store64(v5 + 568, v12);
+ store64(v5 + 560, v11);
+ store64(v5 + 552, v10);
+ store64(v5 + 544, v9);
+ store64(v5 + 536, v8);
+ store64(v5 + 528, v7);
+ store64(v5 + 520, v6);
+ store64(v5 + 512, v1);
+ v4 = v2.minus(384);
+ v2 = if v4 > v2 { 0 } else { v4 };
+ compress_compress_blake2b_compress(v5.plus(512), v5.plus(384), (if v2 < 128 { v2 } else { 128
+   }).plus(v3), v30, v29);
+ v2 = load64(v5 + 512);
+ v4 = load64(v5 + 520);
+ v3 = load64(v5 + 528);
+ v1 = load64(v5 + 536);
+ v6 = load64(v5 + 544);
+ v7 = load64(v5 + 552);
+ v8 = load64(v5 + 560);
+ store64(v0 + 248, load64(v5 + 568));
+ store64(v0 + 240, v20);
+ store64(v0 + 232, v28);
+ store64(v0 + 224, v38);
+ store64(v0 + 216, v8);
+ store64(v0 + 208, v19);
+ store64(v0 + 200, v27);
+ store64(v0 + 192, v37);
+ store64(v0 + 184, v7);
+ store64(v0 + 176, v18);
+ store64(v0 + 168, v26);
+ store64(v0 + 160, v36);
+ store64(v0 + 152, v6);
+ store64(v0 + 144, v17);
+ store64(v0 + 136, v25);
+ store64(v0 + 128, v35);
+ store64(v0 + 120, v1);
+ store64(v0 + 112, v16);
+ store64(v0 + 104, v24);
+ store64(v0 + 96, v34);
+ store64(v0 + 88, v3);
+ store64(v0 + 80, v15);
+ store64(v0 + 72, v23);
+ store64(v0 + 64, v33);
+ store64(v0 + 56, v4);
+ store64(v0 + 48, v14);
+ store64(v0 + 40, v22);
+ store64(v0 + 32, v32);
+ store64(v0 + 24, v2);
+ store64(v0 + 16, v13);
+ store64(v0 + 8, v21);
+ store64(v0, v31);
+ return;
+}
+
+// blake2_parallel::blake2b::State::output
+#[inline(never)]
+unsafe fn parallel_blake2b_State_output(mut v0: u64, mut v1: u64) {
+ let mut v2: u64;
+ let mut v3: u64;
+ let mut v4: u64;
+ let mut v5: u64;
+ let mut v6: u64;
+ let mut v7: u64;
+ let mut v8: u64;
+ let mut v9: u64;
+ let mut v10: u64;
+ let mut v11: u64;
+ let mut v12: u64;
+ let mut v13: u64;
+ let mut v14: u64;
+ let mut v15: u64;
+ let mut v16: u64;
+ let mut v17: u64;
+ let mut v18: u64;
+ let mut v19: u64;
+ let mut v20: u64;
+ let mut v21: u64;
+ let mut v22: u64;
+ let mut v23: u64;
+ let mut v24: u64;
+ let mut v25: u64;
+ let mut v26: u64;
+ let mut v27: u64;
+ let mut v28: u64;
+ let mut v29: u64;
+ let mut v30: u64;
+ let mut v31: u64;
+ let mut v32: u64;
+ let mut v33: u64;
+ let mut v34: u64;
+ let mut v35: u64;
+ let mut v36: u64;
+ let mut v37: u32;
+ let mut v38: u64;
+ let mut v39: u32;
+ let mut v40: u64;
+ let mut v41: u64;
+ let mut v42: u64;
+ let mut v43: u64;
+ let mut v44: u64;
+ let mut v45: u64;
+ let mut v46: u64;
+ let mut v47: u64;
+ let mut v48: u64;
+ let mut v49: u64;
+ let mut v50: u64;
+ let mut v51: u64;
+ let mut v52: u64;
+ let mut v53: u64;
+ let mut v54: u64;
+ let mut v55: u64;
+ let mut v56: u64;
+ let mut v57: u64;
+ let mut v58: u64;
+ let mut v59: u64;
+ let mut v60: u64;
+ let mut v61: u64;
+ let mut v62: u32;
+ let mut v63: u32;
+ let mut v64: u32;
+ let mut v65: u32;
+ let mut v66: u32;
+ let mut v67: u32;
+ let mut v68: u32;
+ let mut v69: u32;
+ let mut v70: u32;
+ let mut v71: u32;
+ let mut v72: u32;
+ let mut v73: u32;
+ let mut v74: u32;
+ let mut v75: u32;
+ let mut v76: u32;
+ let mut v77: u32;
+ let mut v78: u32;
+ let mut v79: u32;
+ let mut v80: u32;
+ let mut v81: u32;
+ let mut v82: u32;
+ let mut v83: u32;
+ let mut v84: u32;
+ let mut v85: u32;
+ let mut v86: u32;
+ let mut v87: u32;
+ let mut v88: u32;
+ let mut v89: u32;
+ let mut v90: u32;
+ let mut v91: u32;
+ let mut v92: u32;
+ let mut v93: u32;
+ let mut v94: u32;
+ let mut v95: u32;
+ let mut v96: u32;
+ let mut v97: u32;
+ let mut v98: u32;
+ let mut v99: u32;
+ let mut v100: u32;
+ let mut v101: u32;
+ let mut v102: u32;
+ let mut v103: u32;
+ let mut v104: u32;
+ let mut v105: u32;
+ let mut v106: u32;
+ let mut v107: u32;
+ let mut v108: u32;
+ let mut v109: u32;
+ let mut v110: u32;
+ let mut v111: u32;
+ let mut v112: u32;
+ let mut v113: u32;
+ let mut v114: u32;
+ let mut v115: u32;
+ let mut v116: u32;
+ let mut v117: u32;
+ let mut v118: u32;
+ let mut v119: u32;
+ let mut v120: u32;
+ let mut v121: u32;
+ let mut v122: u32;
+ let mut frame = [0_u64; 68];
+ let top = (address!(frame)).plus(544) & !15;
+ v2 = top.minus(528);
+ fill(v2.plus(8), 0, 256);
+ v3 = load64(v1.plus(256));
+ v4 = load64(v1.plus(32));
+ v5 = load64(v1.plus(40));
+ v6 = load64(v1.plus(48));
+ v7 = load64(v1.plus(56));
+ v8 = load64(v1.plus(64));
+ v9 = load64(v1.plus(72));
+ v10 = load64(v1.plus(80));
+ v11 = load64(v1.plus(88));
+ v12 = load64(v1.plus(96));
+ v13 = load64(v1.plus(104));
+ v14 = load64(v1.plus(112));
+ v15 = load64(v1.plus(120));
+ v16 = load64(v1.plus(128));
+ v17 = load64(v1.plus(136));
+ v18 = load64(v1.plus(144));
+ v19 = load64(v1.plus(152));
+ v20 = load64(v1.plus(160));
+ v21 = load64(v1.plus(168));
+ v22 = load64(v1.plus(176));
+ v23 = load64(v1.plus(184));
+ v24 = load64(v1.plus(192));
+ v25 = load64(v1.plus(200));
+ v26 = load64(v1.plus(208));
+ v27 = load64(v1.plus(216));
+ v28 = load64(v1.plus(224));
+ v29 = load64(v1.plus(232));
+ v30 = load64(v1.plus(240));
+ v31 = load64(v1.plus(248));
+ v32 = load64(v1.plus(264));
+ v33 = load64(v1);
+ v34 = load64(v1 + 8);
+ v35 = load64(v1 + 16);
+ v36 = load64(v1 + 24);
+ store64(v2 + 520, 0);
+ v37 = (v32 < 513) as u32;
+ store8(v2 + 520, v37 as u64);
+ store64(v2 + 512, v31);
+ store64(v2 + 504, v30);
+ store64(v2 + 496, v29);
+ store64(v2 + 488, v28);
+ store64(v2 + 480, v27);
+ store64(v2 + 472, v26);
+ store64(v2 + 464, v25);
+ store64(v2 + 456, v24);
+ store64(v2 + 448, v23);
+ store64(v2 + 440, v22);
+ store64(v2 + 432, v21);
+ store64(v2 + 424, v20);
+ store64(v2 + 416, v19);
+ store64(v2 + 408, v18);
+ store64(v2 + 400, v17);
+ store64(v2 + 392, v16);
+ store64(v2 + 384, v15);
+ store64(v2 + 376, v14);
+ store64(v2 + 368, v13);
+ store64(v2 + 360, v12);
+ store64(v2 + 352, v11);
+ store64(v2 + 344, v10);
+ store64(v2 + 336, v9);
+ store64(v2 + 328, v8);
+ store64(v2 + 320, v7);
+ store64(v2 + 312, v6);
+ store64(v2 + 304, v5);
+ store64(v2 + 296, v4);
+ store64(v2 + 288, v36);
+ store64(v2 + 280, v35);
+ store64(v2 + 272, v34);
+ store64(v2 + 264, v33);
+ v38 = if v32 < 512 { v32 } else { 512 };
+ v11 = v32.minus(v38);
+ v39 = (v11 < 385) as u32;
+ store8(v2 + 527, v39 as u64);
+ store8(v2 + 526, v39 as u64);
+ store8(v2 + 524, ((v11 < 257) as u32) as u64);
+ store8(v2 + 522, ((v11 < 129) as u32) as u64);
+ v40 = v1.plus(272);
+ parallel_lanes_blake2b_compress_short(v2.plus(264), v40, v38, v3, v2.plus(520));
+ v20 = load64(v2 + 512);
+ v21 = load64(v2 + 504);
+ v12 = load64(v2 + 496);
+ v32 = load64(v2 + 488);
+ v22 = load64(v2 + 480);
+ v23 = load64(v2 + 472);
+ v13 = load64(v2 + 464);
+ v4 = load64(v2 + 456);
+ v24 = load64(v2 + 448);
+ v25 = load64(v2 + 440);
+ v14 = load64(v2 + 432);
+ v5 = load64(v2 + 424);
+ v26 = load64(v2 + 416);
+ v27 = load64(v2 + 408);
+ v15 = load64(v2 + 400);
+ v6 = load64(v2 + 392);
+ v28 = load64(v2 + 384);
+ v29 = load64(v2 + 376);
+ v16 = load64(v2 + 368);
+ v7 = load64(v2 + 360);
+ v30 = load64(v2 + 352);
+ v31 = load64(v2 + 344);
+ v17 = load64(v2 + 336);
+ v8 = load64(v2 + 328);
+ v33 = load64(v2 + 320);
+ v34 = load64(v2 + 312);
+ v18 = load64(v2 + 304);
+ v9 = load64(v2 + 296);
+ v35 = load64(v2 + 288);
+ v36 = load64(v2 + 280);
+ v19 = load64(v2 + 272);
+ v10 = load64(v2 + 264);
+ store64(v2 + 520, 0x101000100010001);
+ 'l2: loop {
+ 'l3: loop {
+ if v37 == 0 { break 'l3; }
+ v3 = v12;
+ v38 = v21;
+ v40 = v20;
+ v41 = v13;
+ v42 = v23;
+ v43 = v22;
+ v44 = v14;
+ v45 = v25;
+ v46 = v24;
+ v47 = v15;
+ v48 = v27;
+ v49 = v26;
+ v50 = v16;
+ v51 = v29;
+ v52 = v28;
+ v53 = v17;
+ v54 = v31;
+ v55 = v30;
+ v56 = v18;
+ v57 = v34;
+ v58 = v33;
+ v59 = v19;
+ v60 = v36;
+ v61 = v35;
+ break 'l2;
+ }
+ store64(v2 + 488, v32);
+ store64(v2 + 456, v4);
+ store64(v2 + 424, v5);
+ store64(v2 + 392, v6);
+ store64(v2 + 360, v7);
+ store64(v2 + 328, v8);
+ store64(v2 + 296, v9);
+ store64(v2 + 264, v10);
+ store64(v2 + 496, v12);
+ store64(v2 + 464, v13);
+ store64(v2 + 432, v14);
+ store64(v2 + 400, v15);
+ store64(v2 + 368, v16);
+ store64(v2 + 336, v17);
+ store64(v2 + 304, v18);
+ store64(v2 + 272, v19);
+ store64(v2 + 504, v21);
+ store64(v2 + 472, v23);
+ store64(v2 + 440, v25);
+ store64(v2 + 408, v27);
+ store64(v2 + 376, v29);
+ store64(v2 + 344, v31);
+ store64(v2 + 312, v34);
+ store64(v2 + 280, v36);
+ store64(v2 + 512, v20);
+ store64(v2 + 480, v22);
+ store64(v2 + 448, v24);
+ store64(v2 + 416, v26);
+ store64(v2 + 384, v28);
+ store64(v2 + 352, v30);
+ store64(v2 + 320, v33);
+ store64(v2 + 288, v35);
+ parallel_lanes_blake2b_compress_short(v2.plus(264), v40.plus(v38), v11, v3.plus(128),
+   v2.plus(520));
+ v40 = load64(v2 + 512);
+ v38 = load64(v2 + 504);
+ v3 = load64(v2 + 496);
+ v32 = load64(v2 + 488);
+ v43 = load64(v2 + 480);
+ v42 = load64(v2 + 472);
+ v41 = load64(v2 + 464);
+ v4 = load64(v2 + 456);
+ v46 = load64(v2 + 448);
+ v45 = load64(v2 + 440);
+ v44 = load64(v2 + 432);
+ v5 = load64(v2 + 424);
+ v49 = load64(v2 + 416);
+ v48 = load64(v2 + 408);
+ v47 = load64(v2 + 400);
+ v6 = load64(v2 + 392);
+ v52 = load64(v2 + 384);
+ v51 = load64(v2 + 376);
+ v50 = load64(v2 + 368);
+ v7 = load64(v2 + 360);
+ v55 = load64(v2 + 352);
+ v54 = load64(v2 + 344);
+ v53 = load64(v2 + 336);
+ v8 = load64(v2 + 328);
+ v58 = load64(v2 + 320);
+ v57 = load64(v2 + 312);
+ v56 = load64(v2 + 304);
+ v9 = load64(v2 + 296);
+ v61 = load64(v2 + 288);
+ v60 = load64(v2 + 280);
+ v59 = load64(v2 + 272);
+ v10 = load64(v2 + 264);
+ break 'l2; }
+ store32(v2 + 68, v32 >> 32);
+ store32(v2 + 60, v4 >> 32);
+ store32(v2 + 52, v5 >> 32);
+ store32(v2 + 44, v6 >> 32);
+ store32(v2 + 36, v7 >> 32);
+ store32(v2 + 28, v8 >> 32);
+ store32(v2 + 20, v9 >> 32);
+ store32(v2 + 12, v10 >> 32);
+ v37 = (v11 > 128) as u32;
+ v12 = if v37 != 0 { v3 } else { v12 };
+ store32(v2 + 132, v12 >> 32);
+ v13 = if v37 != 0 { v41 } else { v13 };
+ store32(v2 + 124, v13 >> 32);
+ v14 = if v37 != 0 { v44 } else { v14 };
+ store32(v2 + 116, v14 >> 32);
+ v15 = if v37 != 0 { v47 } else { v15 };
+ store32(v2 + 108, v15 >> 32);
+ v16 = if v37 != 0 { v50 } else { v16 };
+ store32(v2 + 100, v16 >> 32);
+ v17 = if v37 != 0 { v53 } else { v17 };
+ store32(v2 + 92, v17 >> 32);
+ v18 = if v37 != 0 { v56 } else { v18 };
+ store32(v2 + 84, v18 >> 32);
+ v19 = if v37 != 0 { v59 } else { v19 };
+ store32(v2 + 76, v19 >> 32);
+ v37 = v32 as u32;
+ store32(v2 + 64, v37 as u64);
+ v37 = v4 as u32;
+ store32(v2 + 56, v37 as u64);
+ v37 = v5 as u32;
+ store32(v2 + 48, v37 as u64);
+ v37 = v6 as u32;
+ store32(v2 + 40, v37 as u64);
+ v37 = v7 as u32;
+ store32(v2 + 32, v37 as u64);
+ v37 = v8 as u32;
+ store32(v2 + 24, v37 as u64);
+ v37 = v9 as u32;
+ store32(v2 + 16, v37 as u64);
+ v37 = v10 as u32;
+ store32(v2 + 8, v37 as u64);
+ v37 = (v11 > 256) as u32;
+ v32 = if v37 != 0 { v38 } else { v21 };
+ store32(v2 + 196, v32 >> 32);
+ v4 = if v37 != 0 { v42 } else { v23 };
+ store32(v2 + 188, v4 >> 32);
+ v5 = if v37 != 0 { v45 } else { v25 };
+ store32(v2 + 180, v5 >> 32);
+ v6 = if v37 != 0 { v48 } else { v27 };
+ store32(v2 + 172, v6 >> 32);
+ v7 = if v37 != 0 { v51 } else { v29 };
+ store32(v2 + 164, v7 >> 32);
+ v8 = if v37 != 0 { v54 } else { v31 };
+ store32(v2 + 156, v8 >> 32);
+ v9 = if v37 != 0 { v57 } else { v34 };
+ store32(v2 + 148, v9 >> 32);
+ v10 = if v37 != 0 { v60 } else { v36 };
+ store32(v2 + 140, v10 >> 32);
+ v37 = (v11 > 384) as u32;
+ v11 = if v37 != 0 { v40 } else { v20 };
+ store32(v2 + 260, v11 >> 32);
+ v20 = if v37 != 0 { v43 } else { v22 };
+ store32(v2 + 252, v20 >> 32);
+ v21 = if v37 != 0 { v46 } else { v24 };
+ store32(v2 + 244, v21 >> 32);
+ v22 = if v37 != 0 { v49 } else { v26 };
+ store32(v2 + 236, v22 >> 32);
+ v23 = if v37 != 0 { v52 } else { v28 };
+ store32(v2 + 228, v23 >> 32);
+ v24 = if v37 != 0 { v55 } else { v30 };
+ store32(v2 + 220, v24 >> 32);
+ v25 = if v37 != 0 { v58 } else { v33 };
+ store32(v2 + 212, v25 >> 32);
+ v26 = if v37 != 0 { v61 } else { v35 };
+ store32(v2 + 204, v26 >> 32);
+ v37 = v12 as u32;
+ store32(v2 + 128, v37 as u64);
+ v37 = v13 as u32;
+ store32(v2 + 120, v37 as u64);
+ v37 = v14 as u32;
+ store32(v2 + 112, v37 as u64);
+ v37 = v15 as u32;
+ store32(v2 + 104, v37 as u64);
+ v37 = v16 as u32;
+ store32(v2 + 96, v37 as u64);
+ v37 = v17 as u32;
+ store32(v2 + 88, v37 as u64);
+ v37 = v18 as u32;
+ store32(v2 + 80, v37 as u64);
+ v37 = v19 as u32;
+ store32(v2 + 72, v37 as u64);
+ v37 = v32 as u32;
+ store32(v2 + 192, v37 as u64);
+ v37 = v4 as u32;
+ store32(v2 + 184, v37 as u64);
+ v37 = v5 as u32;
+ store32(v2 + 176, v37 as u64);
+ v37 = v6 as u32;
+ store32(v2 + 168, v37 as u64);
+ v37 = v7 as u32;
+ store32(v2 + 160, v37 as u64);
+ v37 = v8 as u32;
+ store32(v2 + 152, v37 as u64);
+ v37 = v9 as u32;
+ store32(v2 + 144, v37 as u64);
+ v37 = v10 as u32;
+ store32(v2 + 136, v37 as u64);
+ v37 = v11 as u32;
+ store32(v2 + 256, v37 as u64);
+ v37 = v20 as u32;
+ store32(v2 + 248, v37 as u64);
+ v37 = v21 as u32;
+ store32(v2 + 240, v37 as u64);
+ v37 = v22 as u32;
+ store32(v2 + 232, v37 as u64);
+ v37 = v23 as u32;
+ store32(v2 + 224, v37 as u64);
+ v37 = v24 as u32;
+ store32(v2 + 216, v37 as u64);
+ v37 = v25 as u32;
+ store32(v2 + 208, v37 as u64);
+ v37 = v26 as u32;
+ store32(v2 + 200, v37 as u64);
+ v32 = load64(v1.plus(1424));
+ v4 = load64(v1.plus(1432));
+ v5 = load64(v1.plus(1440));
+ v6 = load64(v1.plus(1448));
+ v7 = load64(v1.plus(1456));
+ v8 = load64(v1.plus(1464));
+ v9 = load64(v1.plus(1472));
+ store64(v2 + 320, load64(v1.plus(1480)));
+ store64(v2 + 312, v9);
+ store64(v2 + 304, v8);
+ store64(v2 + 296, v7);
+ store64(v2 + 288, v6);
+ store64(v2 + 280, v5);
+ store64(v2 + 272, v4);
+ store64(v2 + 264, v32);
+ compress_compress_blake2b_compress(v2.plus(264), v2.plus(8), 128, 0, 0);
+ compress_compress_blake2b_compress(v2.plus(264), v2.plus(8).plus(128), 256, 1, 1);
+ v37 = load8(v2 + 264);
+ v39 = load8(v2 + 265);
+ v62 = load8(v2 + 266);
+ v63 = load8(v2 + 267);
+ v64 = load8(v2 + 268);
+ v65 = load8(v2 + 269);
+ v66 = load8(v2 + 270);
+ v67 = load8(v2 + 271);
+ v68 = load8(v2 + 272);
+ v69 = load8(v2 + 273);
+ v70 = load8(v2 + 274);
+ v71 = load8(v2 + 275);
+ v72 = load8(v2 + 276);
+ v73 = load8(v2 + 277);
+ v74 = load8(v2 + 278);
+ v75 = load8(v2 + 279);
+ v76 = load8(v2 + 280);
+ v77 = load8(v2 + 281);
+ v78 = load8(v2 + 282);
+ v79 = load8(v2 + 283);
+ v80 = load8(v2 + 284);
+ v81 = load8(v2 + 285);
+ v82 = load8(v2 + 286);
+ v83 = load8(v2 + 287);
+ v84 = load8(v2 + 288);
+ v85 = load8(v2 + 289);
+ v86 = load8(v2 + 290);
+ v87 = load8(v2 + 291);
+ v88 = load8(v2 + 292);
+ v89 = load8(v2 + 293);
+ v90 = load8(v2 + 294);
+ v91 = load8(v2 + 295);
+ v92 = load8(v2 + 296);
+ v93 = load8(v2 + 297);
+ v94 = load8(v2 + 298);
+ v95 = load8(v2 + 299);
+ v96 = load8(v2 + 300);
+ v97 = load8(v2 + 301);
+ v98 = load8(v2 + 302);
+ v99 = load8(v2 + 303);
+ v100 = load8(v2 + 304);
+ v101 = load8(v2 + 305);
+ v102 = load8(v2 + 306);
+ v103 = load8(v2 + 307);
+ v104 = load8(v2 + 308);
+ v105 = load8(v2 + 309);
+ v106 = load8(v2 + 310);
+ v107 = load8(v2 + 311);
+ v108 = load8(v2 + 312);
+ v109 = load8(v2 + 313);
+ v110 = load8(v2 + 314);
+ v111 = load8(v2 + 315);
+ v112 = load8(v2 + 316);
+ v113 = load8(v2 + 317);
+ v114 = load8(v2 + 318);
+ v115 = load8(v2 + 319);
+ v116 = load8(v2 + 320);
+ v117 = load8(v2 + 321);
+ v118 = load8(v2 + 322);
+ v119 = load8(v2 + 323);
+ v120 = load8(v2 + 324);
+ v121 = load8(v2 + 325);
+ v122 = load8(v2 + 326);
+ store8(v0 + 63, load8(v2 + 327) as u64);
+ store8(v0 + 62, v122 as u64);
+ store8(v0 + 61, v121 as u64);
+ store8(v0 + 60, v120 as u64);
+ store8(v0 + 59, v119 as u64);
+ store8(v0 + 58, v118 as u64);
+ store8(v0 + 57, v117 as u64);
+ store8(v0 + 56, v116 as u64);
+ store8(v0 + 55, v115 as u64);
+ store8(v0 + 54, v114 as u64);
+ store8(v0 + 53, v113 as u64);
+ store8(v0 + 52, v112 as u64);
+ store8(v0 + 51, v111 as u64);
+ store8(v0 + 50, v110 as u64);
+ store8(v0 + 49, v109 as u64);
+ store8(v0 + 48, v108 as u64);
+ store8(v0 + 47, v107 as u64);
+ store8(v0 + 46, v106 as u64);
+ store8(v0 + 45, v105 as u64);
+ store8(v0 + 44, v104 as u64);
+ store8(v0 + 43, v103 as u64);
+ store8(v0 + 42, v102 as u64);
+ store8(v0 + 41, v101 as u64);
+ store8(v0 + 40, v100 as u64);
+ store8(v0 + 39, v99 as u64);
+ store8(v0 + 38, v98 as u64);
+ store8(v0 + 37, v97 as u64);
+ store8(v0 + 36, v96 as u64);
+ store8(v0 + 35, v95 as u64);
+ store8(v0 + 34, v94 as u64);
+ store8(v0 + 33, v93 as u64);
+ store8(v0 + 32, v92 as u64);
+ store8(v0 + 31, v91 as u64);
+ store8(v0 + 30, v90 as u64);
+ store8(v0 + 29, v89 as u64);
+ store8(v0 + 28, v88 as u64);
+ store8(v0 + 27, v87 as u64);
+ store8(v0 + 26, v86 as u64);
+ store8(v0 + 25, v85 as u64);
+ store8(v0 + 24, v84 as u64);
+ store8(v0 + 23, v83 as u64);
+ store8(v0 + 22, v82 as u64);
+ store8(v0 + 21, v81 as u64);
+ store8(v0 + 20, v80 as u64);
+ store8(v0 + 19, v79 as u64);
+ store8(v0 + 18, v78 as u64);
+ store8(v0 + 17, v77 as u64);
+ store8(v0 + 16, v76 as u64);
+ store8(v0 + 15, v75 as u64);
+ store8(v0 + 14, v74 as u64);
+ store8(v0 + 13, v73 as u64);
+ store8(v0 + 12, v72 as u64);
+ store8(v0 + 11, v71 as u64);
+ store8(v0 + 10, v70 as u64);
+ store8(v0 + 9, v69 as u64);
+ store8(v0 + 8, v68 as u64);
+ store8(v0 + 7, v67 as u64);
+ store8(v0 + 6, v66 as u64);
+ store8(v0 + 5, v65 as u64);
+ store8(v0 + 4, v64 as u64);
+ store8(v0 + 3, v63 as u64);
+ store8(v0 + 2, v62 as u64);
+ store8(v0 + 1, v39 as u64);
+ store8(v0, v37 as u64);
+ return;
+}
+
+// blake2_parallel::lanes::blake2b::compress_by_leaf
+#[inline(never)]
+unsafe fn parallel_lanes_blake2b_compress_by_leaf(mut v0: u64, mut v1: u64, mut v2: u64, mut v3:
+        u64) {
+ let mut v4: u64;
+ let mut v5: u64;
+ let mut v6: u64;
+ let mut v7: u64;
+ let mut v8: u64;
+ let mut v9: u64;
+ let mut v10: u64;
+ let mut v11: u64;
+ let mut v12: u64;
+ let mut v13: u64;
+ let mut v14: u64;
+ let mut v15: u64;
+ let mut v16: u64;
+ let mut v17: u64;
+ let mut v18: u64;
+ let mut v19: u64;
+ let mut v20: u64;
+ let mut v21: u64;
+ let mut v22: u64;
+ let mut v23: u64;
+ let mut v24: u64;
+ let mut v25: u64;
+ let mut v26: u64;
+ let mut v27: u64;
+ let mut v28: u64;
+ let mut v29: u64;
+ let mut v30: u64;
+ let mut v31: u64;
+ let mut v32: u64;
+ let mut v33: u64;
+ let mut v34: u64;
+ let mut v35: u64;
+ let mut v36: u64;
+ let mut v37: u32;
+ let mut v38: u64;
+ let mut v39: u64;
+ let mut v40: u64;
+ let mut frame = [0_u64; 10];
+ let top = (address!(frame)).plus(80) & !15;
+ v4 = top.minus(64);
+ v5 = load64(v0 + 248);
+ v6 = load64(v0 + 240);
+ v7 = load64(v0 + 232);
+ v8 = load64(v0 + 216);
+ v9 = load64(v0 + 208);
+ v10 = load64(v0 + 200);
+ v11 = load64(v0 + 184);
+ v12 = load64(v0 + 176);
+ v13 = load64(v0 + 168);
+ v14 = load64(v0 + 152);
+ v15 = load64(v0 + 144);
+ v16 = load64(v0 + 136);
+ v17 = load64(v0 + 120);
+ v18 = load64(v0 + 112);
+ v19 = load64(v0 + 104);
+ v20 = load64(v0 + 88);
+ v21 = load64(v0 + 80);
+ v22 = load64(v0 + 72);
+ v23 = load64(v0 + 56);
+ v24 = load64(v0 + 48);
+ v25 = load64(v0 + 40);
+ v26 = load64(v0 + 24);
+ v27 = load64(v0 + 16);
+ v28 = load64(v0 + 8);
+ v29 = load64(v0);
+ v30 = load64(v0 + 32);
+ v31 = load64(v0 + 64);
+ v32 = load64(v0 + 96);
+ v33 = load64(v0 + 128);
+ v34 = load64(v0 + 160);
+ v35 = load64(v0 + 192);
+ v36 = load64(v0 + 224);
+ store64(v4 + 56, v36);
+ store64(v4 + 48, v35);
+ store64(v4 + 40, v34);
+ store64(v4 + 32, v33);
+ store64(v4 + 24, v32);
+ store64(v4 + 16, v31);
+ store64(v4 + 8, v30);
+ store64(v4, v29);
+ 'l2: loop {
+ v37 = (v3 == 0) as u32;
+ if v37 != 0 { break 'l2; }
+ v32 = v2.plus(128);
+ v38 = v3;
+ v39 = v1;
+ 'l3: loop {
+ compress_compress_blake2b_compress(v4, v39, v32, 0, 0);
+ v32 = v32.plus(128);
+ v39 = v39.plus(512);
+ v38 = v38.minus(1);
+ if v38 != 0 { continue 'l3; }
+ break 'l3; }
+ v31 = load64(v4.plus(16));
+ v36 = load64(v4 + 56);
+ v35 = load64(v4 + 48);
+ v34 = load64(v4 + 40);
+ v33 = load64(v4 + 32);
+ v30 = load64(v4 + 8);
+ v29 = load64(v4);
+ break 'l2; }
+ v40 = load64(v4 + 24);
+ store64(v4 + 56, v7);
+ store64(v4 + 48, v10);
+ store64(v4 + 40, v13);
+ store64(v4 + 32, v16);
+ store64(v4 + 24, v19);
+ store64(v4 + 16, v22);
+ store64(v4 + 8, v25);
+ store64(v4, v28);
+ 'l4: loop {
+ if v37 != 0 { break 'l4; }
+ v32 = v2.plus(128);
+ v39 = v1.plus(128);
+ v38 = v3;
+ 'l5: loop {
+ compress_compress_blake2b_compress(v4, v39, v32, 0, 0);
+ v32 = v32.plus(128);
+ v39 = v39.plus(512);
+ v38 = v38.minus(1);
+ if v38 != 0 { continue 'l5; }
+ break 'l5; }
+ v7 = load64(v4 + 56);
+ v10 = load64(v4 + 48);
+ v13 = load64(v4 + 40);
+ v16 = load64(v4 + 32);
+ v19 = load64(v4 + 24);
+ v22 = load64(v4 + 16);
+ v25 = load64(v4 + 8);
+ v28 = load64(v4);
+ break 'l4; }
+ store64(v4 + 48, v9);
+ store64(v4 + 32, v15);
+ store64(v4 + 16, v21);
+ store64(v4, v27);
+ store64(v4 + 56, v6);
+ store64(v4 + 40, v12);
+ store64(v4 + 24, v18);
+ store64(v4 + 8, v24);
+ 'l6: loop {
+ if v37 != 0 { break 'l6; }
+ v32 = v2.plus(128);
+ v39 = v1.plus(256);
+ v38 = v3;
+ 'l7: loop {
+ compress_compress_blake2b_compress(v4, v39, v32, 0, 0);
+ v32 = v32.plus(128);
+ v39 = v39.plus(512);
+ v38 = v38.minus(1);
+ if v38 != 0 { continue 'l7; }
+ break 'l7; }
+ v6 = load64(v4 + 56);
+ v9 = load64(v4 + 48);
+ v12 = load64(v4 + 40);
+ v15 = load64(v4 + 32);
+ v18 = load64(v4 + 24);
+ v21 = load64(v4 + 16);
+ v24 = load64(v4 + 8);
+ v27 = load64(v4);
+ break 'l6; }
+ store64(v4 + 48, v8);
+ store64(v4 + 32, v14);
+ store64(v4 + 16, v20);
+ store64(v4, v26);
+ store64(v4 + 56, v5);
+ store64(v4 + 40, v11);
+ store64(v4 + 24, v17);
+ store64(v4 + 8, v23);
+ 'l8: loop {
+ if v37 != 0 { break 'l8; }
+ v32 = v2.plus(128);
+ v39 = v1.plus(384);
+ 'l9: loop {
+ compress_compress_blake2b_compress(v4, v39, v32, 0, 0);
+ v32 = v32.plus(128);
+ v39 = v39.plus(512);
+ v3 = v3.minus(1);
+ if v3 != 0 { continue 'l9; }
+ break 'l9; }
+ v5 = load64(v4 + 56);
+ v8 = load64(v4 + 48);
+ v11 = load64(v4 + 40);
+ v14 = load64(v4 + 32);
+ v17 = load64(v4 + 24);
+ v20 = load64(v4 + 16);
+ v23 = load64(v4 + 8);
+ v26 = load64(v4);
+ break 'l8; }
+ store64(v0 + 248, v5);
+ store64(v0 + 240, v6);
+ store64(v0 + 232, v7);
+ store64(v0 + 224, v36);
+ store64(v0 + 216, v8);
+ store64(v0 + 208, v9);
+ store64(v0 + 200, v10);
+ store64(v0 + 192, v35);
+ store64(v0 + 184, v11);
+ store64(v0 + 176, v12);
+ store64(v0 + 168, v13);
+ store64(v0 + 160, v34);
+ store64(v0 + 152, v14);
+ store64(v0 + 144, v15);
+ store64(v0 + 136, v16);
+ store64(v0 + 128, v33);
+ store64(v0 + 120, v17);
+ store64(v0 + 112, v18);
+ store64(v0 + 104, v19);
+ store64(v0 + 96, v40);
+ store64(v0 + 88, v20);
+ store64(v0 + 80, v21);
+ store64(v0 + 72, v22);
+ store64(v0 + 64, v31);
+ store64(v0 + 56, v23);
+ store64(v0 + 48, v24);
+ store64(v0 + 40, v25);
+ store64(v0 + 32, v30);
+ store64(v0 + 24, v26);
+ store64(v0 + 16, v27);
+ store64(v0 + 8, v28);
+ store64(v0, v29);
+ return;
+}
+
+// blake2_parallel::lanes::blake2b::Lanes::compress_held
+#[inline(never)]
+unsafe fn parallel_lanes_blake2b_Lanes_compress_held(mut v0: u64) {
+ let mut v1: u64;
+ let mut v2: u64;
+ let mut v3: u64;
+ let mut v4: u64;
+ let mut v5: u64;
+ let mut v6: u64;
+ let mut v7: u64;
+ let mut v8: u64;
+ let mut v9: u64;
+ let mut v10: u64;
+ let mut v11: u64;
+ let mut v12: u64;
+ let mut v13: u64;
+ let mut v14: u64;
+ let mut v15: u64;
+ let mut v16: u64;
+ let mut v17: u64;
+ let mut v18: u64;
+ let mut v19: u64;
+ let mut v20: u64;
+ let mut v21: u64;
+ let mut v22: u64;
+ let mut v23: u64;
+ let mut v24: u64;
+ let mut v25: u64;
+ let mut v26: u64;
+ let mut v27: u64;
+ let mut v28: u64;
+ let mut v29: u64;
+ let mut v30: u64;
+ let mut v31: u64;
+ let mut v32: u64;
+ let mut v33: u64;
+ let mut v34: u64;
+ let mut v35: u64;
+ let mut v36: u64;
+ let mut v37: u64;
+ let mut v38: u64;
+ let mut v39: u64;
+ let mut v40: u64;
+ let mut v41: u64;
+ let mut v42: u64;
+ let mut v43: u64;
+ let mut v44: u64;
+ let mut v45: u64;
+ let mut v46: u64;
+ let mut v47: u64;
+ let mut v48: u64;
+ let mut v49: u64;
+ let mut v50: u64;
+ let mut v51: u64;
+ let mut v52: u64;
+ let mut v53: u64;
+ let mut v54: u64;
+ let mut v55: u64;
+ let mut v56: u64;
+ let mut v57: u64;
+ let mut v58: u64;
+ let mut v59: u64;
+ let mut v60: u64;
+ let mut v61: u64;
+ let mut v62: u64;
+ let mut v63: u64;
+ let mut v64: u64;
+ let mut v65: u64;
+ let mut v66: u64;
+ let mut frame = [0_u64; 146];
+ let top = (address!(frame)).plus(1168) & !15;
+ v1 = top.minus(1152);
+ v2 = v0.plus(32);
+ v3 = load64(v2);
+ v4 = v0.plus(40);
+ v5 = load64(v4);
+ v6 = v0.plus(48);
+ v7 = load64(v6);
+ v8 = v0.plus(56);
+ v9 = load64(v8);
+ v10 = v0.plus(64);
+ v11 = load64(v10);
+ v12 = v0.plus(72);
+ v13 = load64(v12);
+ v14 = v0.plus(80);
+ v15 = load64(v14);
+ v16 = v0.plus(88);
+ v17 = load64(v16);
+ v18 = v0.plus(96);
+ v19 = load64(v18);
+ v20 = v0.plus(104);
+ v21 = load64(v20);
+ v22 = v0.plus(112);
+ v23 = load64(v22);
+ v24 = v0.plus(120);
+ v25 = load64(v24);
+ v26 = v0.plus(128);
+ v27 = load64(v26);
+ v28 = v0.plus(136);
+ v29 = load64(v28);
+ v30 = v0.plus(144);
+ v31 = load64(v30);
+ v32 = v0.plus(152);
+ v33 = load64(v32);
+ v34 = v0.plus(160);
+ v35 = load64(v34);
+ v36 = v0.plus(168);
+ v37 = load64(v36);
+ v38 = v0.plus(176);
+ v39 = load64(v38);
+ v40 = v0.plus(184);
+ v41 = load64(v40);
+ v42 = v0.plus(192);
+ v43 = load64(v42);
+ v44 = v0.plus(200);
+ v45 = load64(v44);
+ v46 = v0.plus(208);
+ v47 = load64(v46);
+ v48 = v0.plus(216);
+ v49 = load64(v48);
+ v50 = v0.plus(224);
+ v51 = load64(v50);
+ v52 = v0.plus(232);
+ v53 = load64(v52);
+ v54 = v0.plus(240);
+ v55 = load64(v54);
+ v56 = load64(v0);
+ v57 = load64(v0 + 8);
+ v58 = load64(v0 + 16);
+ v59 = load64(v0 + 24);
+ v60 = v0.plus(248);
+ store64(v1 + 248, load64(v60));
+ store64(v1 + 240, v55);
+ store64(v1 + 232, v53);
+ store64(v1 + 224, v51);
+ store64(v1 + 216, v49);
+ store64(v1 + 208, v47);
+ store64(v1 + 200, v45);
+ store64(v1 + 192, v43);
+ store64(v1 + 184, v41);
+ store64(v1 + 176, v39);
+ store64(v1 + 168, v37);
+ store64(v1 + 160, v35);
+ store64(v1 + 152, v33);
+ store64(v1 + 144, v31);
+ store64(v1 + 136, v29);
+ store64(v1 + 128, v27);
+ store64(v1 + 120, v25);
+ store64(v1 + 112, v23);
+ store64(v1 + 104, v21);
+ store64(v1 + 96, v19);
+ store64(v1 + 88, v17);
+ store64(v1 + 80, v15);
+ store64(v1 + 72, v13);
+ store64(v1 + 64, v11);
+ store64(v1 + 56, v9);
+ store64(v1 + 48, v7);
+ store64(v1 + 40, v5);
+ store64(v1 + 32, v3);
+ store64(v1 + 24, v59);
+ store64(v1 + 16, v58);
+ store64(v1 + 8, v57);
+ store64(v1, v56);
+ v5 = v0.plus(272);
+ v7 = v0.plus(256);
+ v9 = load64(v7);
+ parallel_lanes_blake2b_compress_by_leaf(v1, v5, v9, 1);
+ v11 = v0.plus(264);
+ v3 = load64(v11);
+ fill(v1.plus(256), 0, 896);
+ 'l2: loop {
+ v3 = v3.minus(512);
+ if v3 == 0 { break 'l2; }
+ copy(v1.plus(256), v0.plus(784), v3);
+ break 'l2; }
+ v13 = load64(v1);
+ v15 = load64(v1 + 8);
+ v17 = load64(v1 + 16);
+ v19 = load64(v1 + 24);
+ v21 = load64(v1 + 32);
+ v23 = load64(v1 + 40);
+ v25 = load64(v1 + 48);
+ v27 = load64(v1 + 56);
+ v29 = load64(v1 + 64);
+ v31 = load64(v1 + 72);
+ v33 = load64(v1 + 80);
+ v35 = load64(v1 + 88);
+ v37 = load64(v1 + 96);
+ v39 = load64(v1 + 104);
+ v41 = load64(v1 + 112);
+ v43 = load64(v1 + 120);
+ v45 = load64(v1 + 128);
+ v47 = load64(v1 + 136);
+ v49 = load64(v1 + 144);
+ v51 = load64(v1 + 152);
+ v53 = load64(v1 + 160);
+ v55 = load64(v1 + 168);
+ v56 = load64(v1 + 176);
+ v57 = load64(v1 + 184);
+ v58 = load64(v1 + 192);
+ v59 = load64(v1 + 200);
+ v61 = load64(v1 + 208);
+ v62 = load64(v1 + 216);
+ v63 = load64(v1 + 224);
+ v64 = load64(v1 + 232);
+ v65 = load64(v1 + 240);
+ v66 = load64(v1 + 248);
+ store64(v7, v9.plus(128));
+ store64(v60, v66);
+ store64(v54, v65);
+ store64(v52, v64);
+ store64(v50, v63);
+ store64(v48, v62);
+ store64(v46, v61);
+ store64(v44, v59);
+ store64(v42, v58);
+ store64(v40, v57);
+ store64(v38, v56);
+ store64(v36, v55);
+ store64(v34, v53);
+ store64(v32, v51);
+ store64(v30, v49);
+ store64(v28, v47);
+ store64(v26, v45);
+ store64(v24, v43);
+ store64(v22, v41);
+ store64(v20, v39);
+ store64(v18, v37);
+ store64(v16, v35);
+ store64(v14, v33);
+ store64(v12, v31);
+ store64(v10, v29);
+ store64(v8, v27);
+ store64(v6, v25);
+ store64(v4, v23);
+ store64(v2, v21);
+ store64(v0 + 24, v19);
+ store64(v0 + 16, v17);
+ store64(v0 + 8, v15);
+ store64(v0, v13);
+ copy(v5, v1.plus(256), 896);
+ store64(v11, v3);
+ return;
+}
+
+// blake2_parallel::blake2b::State::update
+#[inline(never)]
+unsafe fn parallel_blake2b_State_update(mut v0: u64, mut v1: u64, mut v2: u64) {
+ let mut v3: u64;
+ let mut v4: u64;
+ let mut v5: u64;
+ let mut v6: u64;
+ let mut v7: u64;
+ let mut v8: u64;
+ let mut v9: u64;
+ let mut v10: u64;
+ let mut v11: u64;
+ let mut v12: u64;
+ let mut v13: u64;
+ let mut v14: u64;
+ let mut v15: u64;
+ let mut v16: u64;
+ let mut v17: u64;
+ let mut v18: u64;
+ let mut v19: u64;
+ let mut v20: u64;
+ let mut v21: u64;
+ let mut v22: u64;
+ let mut v23: u64;
+ let mut v24: u64;
+ let mut v25: u64;
+ let mut v26: u64;
+ let mut v27: u64;
+ let mut v28: u64;
+ let mut v29: u64;
+ let mut v30: u64;
+ let mut v31: u64;
+ let mut v32: u64;
+ let mut v33: u64;
+ let mut v34: u64;
+ let mut v35: u64;
+ let mut v36: u64;
+ let mut v37: u64;
+ let mut v38: u64;
+ let mut v39: u64;
+ let mut v40: u64;
+ let mut v41: u64;
+ let mut v42: u64;
+ let mut v43: u64;
+ let mut v44: u64;
+ let mut v45: u64;
+ let mut v46: u64;
+ let mut v47: u64;
+ let mut v48: u64;
+ let mut v49: u64;
+ let mut v50: u64;
+ let mut v51: u64;
+ let mut v52: u64;
+ let mut v53: u64;
+ let mut v54: u64;
+ let mut v55: u64;
+ let mut v56: u64;
+ let mut v57: u64;
+ let mut v58: u64;
+ let mut v59: u64;
+ let mut v60: u64;
+ let mut v61: u64;
+ let mut v62: u64;
+ let mut v63: u64;
+ let mut v64: u64;
+ let mut v65: u64;
+ let mut v66: u64;
+ let mut v67: u64;
+ let mut v68: u64;
+ let mut frame = [0_u64; 34];
+ let top = (address!(frame)).plus(272) & !15;
+ v3 = top.minus(256);
+ 'l2: loop {
+ v4 = load64(v0.plus(264));
+ if 896_u64.minus(v4) >= v2 { break 'l2; }
+ v5 = v0.plus(272);
+ 'l3: loop {
+ 'l4: loop {
+ 'l5: loop {
+ if v4 != 0 { break 'l5; }
+ v6 = v0.plus(32);
+ v7 = load64(v6);
+ v8 = v0.plus(40);
+ v9 = load64(v8);
+ v4 = v0.plus(48);
+ v10 = load64(v4);
+ v11 = v0.plus(56);
+ v12 = load64(v11);
+ v13 = v0.plus(64);
+ v14 = load64(v13);
+ v15 = v0.plus(72);
+ v16 = load64(v15);
+ v17 = v0.plus(80);
+ v18 = load64(v17);
+ v19 = v0.plus(88);
+ v20 = load64(v19);
+ v21 = v0.plus(96);
+ v22 = load64(v21);
+ v23 = v0.plus(104);
+ v24 = load64(v23);
+ v25 = v0.plus(112);
+ v26 = load64(v25);
+ v27 = v0.plus(120);
+ v28 = load64(v27);
+ v29 = v0.plus(128);
+ v30 = load64(v29);
+ v31 = v0.plus(136);
+ v32 = load64(v31);
+ v33 = v0.plus(144);
+ v34 = load64(v33);
+ v35 = v0.plus(152);
+ v36 = load64(v35);
+ v37 = v0.plus(160);
+ v38 = load64(v37);
+ v39 = v0.plus(168);
+ v40 = load64(v39);
+ v41 = v0.plus(176);
+ v42 = load64(v41);
+ v43 = v0.plus(184);
+ v44 = load64(v43);
+ v45 = v0.plus(192);
+ v46 = load64(v45);
+ v47 = v0.plus(200);
+ v48 = load64(v47);
+ v49 = v0.plus(208);
+ v50 = load64(v49);
+ v51 = v0.plus(216);
+ v52 = load64(v51);
+ v53 = v0.plus(224);
+ v54 = load64(v53);
+ v55 = v0.plus(232);
+ v56 = load64(v55);
+ v57 = v0.plus(240);
+ v58 = load64(v57);
+ v59 = load64(v0);
+ v60 = load64(v0 + 8);
+ v61 = load64(v0 + 16);
+ v62 = load64(v0 + 24);
+ v63 = v0.plus(248);
+ store64(v3 + 248, load64(v63));
+ store64(v3 + 240, v58);
+ store64(v3 + 232, v56);
+ store64(v3 + 224, v54);
+ store64(v3 + 216, v52);
+ store64(v3 + 208, v50);
+ store64(v3 + 200, v48);
+ store64(v3 + 192, v46);
+ store64(v3 + 184, v44);
+ store64(v3 + 176, v42);
+ store64(v3 + 168, v40);
+ store64(v3 + 160, v38);
+ store64(v3 + 152, v36);
+ store64(v3 + 144, v34);
+ store64(v3 + 136, v32);
+ store64(v3 + 128, v30);
+ store64(v3 + 120, v28);
+ store64(v3 + 112, v26);
+ store64(v3 + 104, v24);
+ store64(v3 + 96, v22);
+ store64(v3 + 88, v20);
+ store64(v3 + 80, v18);
+ store64(v3 + 72, v16);
+ store64(v3 + 64, v14);
+ store64(v3 + 56, v12);
+ store64(v3 + 48, v10);
+ store64(v3 + 40, v9);
+ store64(v3 + 32, v7);
+ store64(v3 + 24, v62);
+ store64(v3 + 16, v61);
+ store64(v3 + 8, v60);
+ store64(v3, v59);
+ v7 = v0.plus(256);
+ v9 = load64(v7);
+ v10 = v2.minus(385);
+ v12 = v10 >> 9;
+ parallel_lanes_blake2b_compress_by_leaf(v3, v1, v9, v12);
+ v14 = load64(v3);
+ v16 = load64(v3 + 8);
+ v18 = load64(v3 + 16);
+ v20 = load64(v3 + 24);
+ v22 = load64(v3 + 32);
+ v24 = load64(v3 + 40);
+ v26 = load64(v3 + 48);
+ v28 = load64(v3 + 56);
+ v30 = load64(v3 + 64);
+ v32 = load64(v3 + 72);
+ v34 = load64(v3 + 80);
+ v36 = load64(v3 + 88);
+ v38 = load64(v3 + 96);
+ v40 = load64(v3 + 104);
+ v42 = load64(v3 + 112);
+ v44 = load64(v3 + 120);
+ v46 = load64(v3 + 128);
+ v48 = load64(v3 + 136);
+ v50 = load64(v3 + 144);
+ v52 = load64(v3 + 152);
+ v54 = load64(v3 + 160);
+ v56 = load64(v3 + 168);
+ v58 = load64(v3 + 176);
+ v59 = load64(v3 + 184);
+ v60 = load64(v3 + 192);
+ v61 = load64(v3 + 200);
+ v62 = load64(v3 + 208);
+ v64 = load64(v3 + 216);
+ v65 = load64(v3 + 224);
+ v66 = load64(v3 + 232);
+ v67 = load64(v3 + 240);
+ v68 = load64(v3 + 248);
+ store64(v7, v9.plus(v12 << 7));
+ store64(v63, v68);
+ store64(v57, v67);
+ store64(v55, v66);
+ store64(v53, v65);
+ store64(v51, v64);
+ store64(v49, v62);
+ store64(v47, v61);
+ store64(v45, v60);
+ store64(v43, v59);
+ store64(v41, v58);
+ store64(v39, v56);
+ store64(v37, v54);
+ store64(v35, v52);
+ store64(v33, v50);
+ store64(v31, v48);
+ store64(v29, v46);
+ store64(v27, v44);
+ store64(v25, v42);
+ store64(v23, v40);
+ store64(v21, v38);
+ store64(v19, v36);
+ store64(v17, v34);
+ store64(v15, v32);
+ store64(v13, v30);
+ store64(v11, v28);
+ store64(v4, v26);
+ store64(v8, v24);
+ store64(v6, v22);
+ store64(v0 + 24, v20);
+ store64(v0 + 16, v18);
+ store64(v0 + 8, v16);
+ store64(v0, v14);
+ v6 = v10 & 0xfffffffffffffe00;
+ v2 = v2.minus(v6);
+ v1 = v1.plus(v6);
+ break 'l4;
+ }
+ 'l6: loop {
+ if v4 > 511 { break 'l6; }
+ 'l7: loop {
+ 'l8: loop {
+ v6 = v5.plus(v4);
+ v12 = 512_u64.minus(v4);
+ if v6.minus(v1) >= v12 { break 'l8; }
+ v9 = v12 & 3;
+ v7 = 0;
+ 'l9: loop {
+ if v4 > 508 { break 'l9; }
+ v10 = v0.plus(v4);
+ v11 = v12 & 1020;
+ v7 = 0;
+ 'l10: loop {
+ v6 = v10.plus(v7);
+ v8 = v1.plus(v7);
+ store8(v6.plus(272), load8(v8) as u64);
+ store8(v6.plus(273), load8(v8.plus(1)) as u64);
+ store8(v6.plus(274), load8(v8.plus(2)) as u64);
+ store8(v6.plus(275), load8(v8.plus(3)) as u64);
+ v7 = v7.plus(4);
+ if v11 != v7 { continue 'l10; }
+ break 'l10; }
+ if v9 == 0 { break 'l7; }
+ break 'l9; }
+ v6 = v1.plus(v7);
+ v7 = v5.plus(v4.plus(v7));
+ 'l11: loop {
+ store8(v7, load8(v6) as u64);
+ v7 = v7.plus(1);
+ v6 = v6.plus(1);
+ v9 = v9.minus(1);
+ if v9 != 0 { continue 'l11; }
+ break 'l7;
+ }
+ }
+ if v12 == 0 { break 'l7; }
+ copy(v6, v1, v12);
+ break 'l7; }
+ store64(v0.plus(264), 512);
+ parallel_lanes_blake2b_Lanes_compress_held(v0);
+ v1 = v1.plus(v12);
+ v2 = v2.minus(v12);
+ break 'l4;
+ }
+ parallel_lanes_blake2b_Lanes_compress_held(v0);
+ break 'l4; }
+ v4 = load64(v0.plus(264));
+ if 896_u64.minus(v4) < v2 { continue 'l3; }
+ break 'l3; }
+ break 'l2; }
+ 'l12: loop {
+ 'l13: loop {
+ v10 = v0.plus(v4);
+ v6 = v10.plus(272);
+ if v6.minus(v1) >= v2 { break 'l13; }
+ v9 = v2 & 3;
+ v7 = 0;
+ 'l14: loop {
+ if v2 < 4 { break 'l14; }
+ v11 = v2 & 0xfffffffffffffffc;
+ v7 = 0;
+ 'l15: loop {
+ v6 = v10.plus(v7);
+ v8 = v1.plus(v7);
+ store8(v6.plus(272), load8(v8) as u64);
+ store8(v6.plus(273), load8(v8.plus(1)) as u64);
+ store8(v6.plus(274), load8(v8.plus(2)) as u64);
+ store8(v6.plus(275), load8(v8.plus(3)) as u64);
+ v7 = v7.plus(4);
+ if v11 != v7 { continue 'l15; }
+ break 'l15; }
+ if v9 == 0 { break 'l12; }
+ break 'l14; }
+ v6 = v1.plus(v7);
+ v7 = v4.plus(v7).plus(v0).plus(272);
+ 'l16: loop {
+ store8(v7, load8(v6) as u64);
+ v7 = v7.plus(1);
+ v6 = v6.plus(1);
+ v9 = v9.minus(1);
+ if v9 != 0 { continue 'l16; }
+ break 'l12;
+ }
+ }
+ if v2 == 0 { break 'l12; }
+ copy(v6, v1, v2);
+ break 'l12; }
+ store64(v0.plus(264), v4.plus(v2));
+ return;
+}
+
+// blake2_ffi::blake2bp::write
+#[inline(never)]
+unsafe fn ffi_blake2bp_write(mut v0: u64, mut v1: u64, mut v2: u64, mut v3: u64, mut v4: u64, mut
+        v5: u64) -> u32 {
+ let mut v6: u64;
+ let mut v7: u32;
+ let mut v8: u32;
+ let mut frame = [0_u64; 398];
+ let top = (address!(frame)).plus(3184) & !15;
+ v6 = top.minus(3168);
+ fill(v6.plus(1472), 0, 160);
+ v7 = 0xffffffff;
+ 'l2: loop {
+ if v1.minus(1) > 63 { break 'l2; }
+ if v5 > 64 { break 'l2; }
+ fill(v6.plus(1632), 0, 128);
+ 'l3: loop {
+ v8 = (v5 == 0) as u32;
+ if v8 != 0 { break 'l3; }
+ copy(v6.plus(1632), v4, v5);
+ break 'l3; }
+ copy(v6.plus(1760).plus(384), v6.plus(1632), 128);
+ copy(v6.plus(1760), v6.plus(1632), 128);
+ copy(v6.plus(1760).plus(128), v6.plus(1632), 128);
+ copy(v6.plus(2016), v6.plus(1632), 128);
+ fill(v6.plus(2272).plus(512), 0, 384);
+ copy(v6.plus(2272), v6.plus(1760), 512);
+ store64(v6 + 248, 0x5be0cd19137e2179);
+ store64(v6 + 240, 0x5be0cd19137e2179);
+ store64(v6 + 232, 0x5be0cd19137e2179);
+ store64(v6 + 224, 0x5be0cd19137e2179);
+ store64(v6 + 216, 0x1f83d9abfb41bd6b);
+ store64(v6 + 208, 0x1f83d9abfb41bd6b);
+ store64(v6 + 200, 0x1f83d9abfb41bd6b);
+ store64(v6 + 192, 0x1f83d9abfb41bd6b);
+ store64(v6 + 184, 0x9b05688c2b3e6c1f);
+ store64(v6 + 176, 0x9b05688c2b3e6c1f);
+ store64(v6 + 168, 0x9b05688c2b3e6c1f);
+ store64(v6 + 160, 0x9b05688c2b3e6c1f);
+ store64(v6 + 152, 0x510e527fade682d1);
+ store64(v6 + 144, 0x510e527fade682d1);
+ store64(v6 + 136, 0x510e527fade682d1);
+ store64(v6 + 128, 0x510e527fade682d1);
+ store64(v6 + 120, 0xa54ff53a5f1d36f1);
+ store64(v6 + 112, 0xa54ff53a5f1d36f1);
+ store64(v6 + 104, 0xa54ff53a5f1d36f1);
+ store64(v6 + 96, 0xa54ff53a5f1d36f1);
+ store64(v6 + 88, 0x3c6ef372fe94b82b);
+ store64(v6 + 80, 0x3c6ef372fe94b82b);
+ store64(v6 + 72, 0x3c6ef372fe94b82b);
+ store64(v6 + 64, 0x3c6ef372fe94b82b);
+ store64(v6 + 56, 0xbb67ae8584caa738);
+ store64(v6 + 48, 0xbb67ae8584caa739);
+ store64(v6 + 40, 0xbb67ae8584caa73a);
+ store64(v6 + 32, 0xbb67ae8584caa73b);
+ v5 = ((((v5 as u32) << 8) | (v1 as u32) | 0x2040000) as u64) ^ 0x6a09e667f3bcc908;
+ store64(v6 + 24, v5);
+ store64(v6 + 16, v5);
+ store64(v6 + 8, v5);
+ store64(v6, v5);
+ store64(v6 + 256, 0);
+ v4 = if v8 != 0 { 0_u64 } else { 512 };
+ store64(v6 + 264, v4);
+ copy(v6.plus(272), v6.plus(2272), 896);
+ store64(v6 + 1496, v1);
+ store64(v6 + 1488, v4);
+ store64(v6 + 1480, 0x5be0cd19137e2179);
+ store64(v6 + 1472, 0x1f83d9abfb41bd6b);
+ store64(v6 + 1464, 0x9b05688c2b3e6c1f);
+ store64(v6 + 1456, 0x510e527fade682d1);
+ store64(v6 + 1448, 0xa54ff53a5f1d36f1);
+ store64(v6 + 1440, 0x3c6ef372fe94b82a);
+ store64(v6 + 1432, 0xbb67ae8584caa73b);
+ store64(v6 + 1424, v5);
+ store64(v6 + 1416, 0x5be0cd19137e2179);
+ store64(v6 + 1408, 0x5be0cd19137e2179);
+ store64(v6 + 1400, 0x5be0cd19137e2179);
+ store64(v6 + 1392, 0x5be0cd19137e2179);
+ store64(v6 + 1384, 0x1f83d9abfb41bd6b);
+ store64(v6 + 1376, 0x1f83d9abfb41bd6b);
+ store64(v6 + 1368, 0x1f83d9abfb41bd6b);
+ store64(v6 + 1360, 0x1f83d9abfb41bd6b);
+ store64(v6 + 1352, 0x9b05688c2b3e6c1f);
+ store64(v6 + 1344, 0x9b05688c2b3e6c1f);
+ store64(v6 + 1336, 0x9b05688c2b3e6c1f);
+ store64(v6 + 1328, 0x9b05688c2b3e6c1f);
+ store64(v6 + 1320, 0x510e527fade682d1);
+ store64(v6 + 1312, 0x510e527fade682d1);
+ store64(v6 + 1304, 0x510e527fade682d1);
+ store64(v6 + 1296, 0x510e527fade682d1);
+ store64(v6 + 1288, 0xa54ff53a5f1d36f1);
+ store64(v6 + 1280, 0xa54ff53a5f1d36f1);
+ store64(v6 + 1272, 0xa54ff53a5f1d36f1);
+ store64(v6 + 1264, 0xa54ff53a5f1d36f1);
+ store64(v6 + 1256, 0x3c6ef372fe94b82b);
+ store64(v6 + 1248, 0x3c6ef372fe94b82b);
+ store64(v6 + 1240, 0x3c6ef372fe94b82b);
+ store64(v6 + 1232, 0x3c6ef372fe94b82b);
+ store64(v6 + 1224, 0xbb67ae8584caa738);
+ store64(v6 + 1216, 0xbb67ae8584caa739);
+ store64(v6 + 1208, 0xbb67ae8584caa73a);
+ store64(v6 + 1200, 0xbb67ae8584caa73b);
+ store64(v6 + 1192, v5);
+ store64(v6 + 1184, v5);
+ store64(v6 + 1176, v5);
+ store64(v6 + 1168, v5);
+ copy(v6.plus(1504), v6.plus(1632), 128);
+ if v3 > (!v4) { break 'l2; }
+ parallel_blake2b_State_update(v6, v2, v3);
+ fill(v6 + 1760, 0, 64);
+ parallel_blake2b_State_output(v6.plus(1760), v6);
+ 'l4: loop {
+ v5 = load64(v6 + 1496);
+ if v5 == 0 { break 'l4; }
+ copy(v0, v6.plus(1760), v5);
+ break 'l4; }
+ v7 = 0;
+ break 'l2; }
+ return v7;
+}
+
+// Overwrites the stack below the caller.
+#[inline(never)]
+unsafe fn digest_wiping_scrub_stack_7168() {
+    let mut room = [0_u64; 1024];
+    for word in room.iter_mut() {
+        core::ptr::write_volatile(word, 0);
+    }
+}
+
+// rattle::export vulfsjor_ffi_blake2bp
+#[inline(never)]
+unsafe fn exported_blake2bp(mut v0: u64, mut v1: u64, mut v2: u64, mut v3: u64, mut v4: u64, mut v5:
+        u64) -> u32 {
+ let mut v7: u32;
+ v7 = ffi_blake2bp_write(v0.plus(if v0 == 0 { 4096_u64 } else { 0 }), v1, v2.plus(if v2 == 0 {
+   4096_u64 } else { 0 }), v3, v4.plus(if v4 == 0 { 4096_u64 } else { 0 }), v5);
+ 'l2: loop {
+ if v5 == 0 { break 'l2; }
+ digest_wiping_scrub_stack_7168();
+ break 'l2; }
+ return v7;
+}
+
+// blake2_ffi::blake2bp::initialize
+#[inline(never)]
+unsafe fn ffi_blake2bp_initialize(mut v0: u64, mut v1: u64, mut v2: u64, mut v3: u64, mut v4: u64,
+        mut v5: u64, mut v6: u64, mut v7: u64) -> u32 {
+ let mut v8: u64;
+ let mut v10: u32;
+ let mut v11: u64;
+ let mut v12: u32;
+ let mut v13: u64;
+ let mut v14: u64;
+ let mut v15: u64;
+ let mut v16: u64;
+ let mut v17: u64;
+ let mut v18: u64;
+ let mut v19: u64;
+ let mut v20: u64;
+ let mut v21: u64;
+ let mut v22: u64;
+ let mut v23: u64;
+ let mut v24: u64;
+ let mut v25: u64;
+ let mut v26: u64;
+ let mut v27: u64;
+ let mut v28: u64;
+ let mut frame = [0_u64; 198];
+ let top = (address!(frame)).plus(1584) & !15;
+ v8 = top;
+ v8 = v8.minus(1536) & 0xffffffffffffffe0;
+ 'l2: loop {
+ if v1.minus(1) > 63 { break 'l2; }
+ if v3 > 64 { break 'l2; }
+ if v5 > 16 { break 'l2; }
+ if v7 > 16 { break 'l2; }
+ fill(v8 + 128, 0, 32);
+ 'l3: loop {
+ v10 = (v5 == 0) as u32;
+ if v10 != 0 { break 'l3; }
+ copy(v8.plus(128), v4, v5);
+ break 'l3; }
+ v11 = v8.plus(128) | 16;
+ 'l4: loop {
+ v12 = (v7 == 0) as u32;
+ if v12 != 0 { break 'l4; }
+ copy(v11, v6, v7);
+ break 'l4; }
+ v13 = load64(v8 + 128);
+ v14 = load64(v8 + 136);
+ v15 = load64(v8 + 144);
+ v16 = load64(v8 + 152);
+ fill(v8 + 128, 0, 32);
+ 'l5: loop {
+ if v10 != 0 { break 'l5; }
+ copy(v8.plus(128), v4, v5);
+ break 'l5; }
+ 'l6: loop {
+ if v12 != 0 { break 'l6; }
+ copy(v11, v6, v7);
+ break 'l6; }
+ v17 = load64(v8 + 128);
+ v18 = load64(v8 + 136);
+ v19 = load64(v8 + 144);
+ v20 = load64(v8 + 152);
+ fill(v8 + 128, 0, 32);
+ 'l7: loop {
+ if v10 != 0 { break 'l7; }
+ copy(v8.plus(128), v4, v5);
+ break 'l7; }
+ 'l8: loop {
+ if v12 != 0 { break 'l8; }
+ copy(v11, v6, v7);
+ break 'l8; }
+ v21 = load64(v8 + 128);
+ v22 = load64(v8 + 136);
+ v23 = load64(v8 + 144);
+ v24 = load64(v8 + 152);
+ fill(v8 + 128, 0, 32);
+ 'l9: loop {
+ if v10 != 0 { break 'l9; }
+ copy(v8.plus(128), v4, v5);
+ break 'l9; }
+ 'l10: loop {
+ if v12 != 0 { break 'l10; }
+ copy(v11, v6, v7);
+ break 'l10; }
+ v25 = load64(v8 + 128);
+ v26 = load64(v8 + 136);
+ v27 = load64(v8 + 144);
+ v28 = load64(v8 + 152);
+ fill(v8 + 128, 0, 32);
+ 'l11: loop {
+ if v10 != 0 { break 'l11; }
+ copy(v8.plus(128), v4, v5);
+ break 'l11; }
+ 'l12: loop {
+ if v12 != 0 { break 'l12; }
+ copy(v11, v6, v7);
+ break 'l12; }
+ v7 = load64(v8 + 128);
+ v6 = load64(v8 + 136);
+ v4 = load64(v8 + 144);
+ v11 = load64(v8 + 152);
+ fill(v8, 0, 128);
+ 'l13: loop {
+ v10 = (v3 == 0) as u32;
+ if v10 != 0 { break 'l13; }
+ copy(v8, v2, v3);
+ break 'l13; }
+ copy(v8.plus(128).plus(384), v8, 128);
+ copy(v8.plus(128), v8, 128);
+ copy(v8.plus(128).plus(128), v8, 128);
+ copy(v8.plus(384), v8, 128);
+ fill(v8.plus(640).plus(512), 0, 384);
+ copy(v8.plus(640), v8.plus(128), 512);
+ v2 = if v10 != 0 { 0_u64 } else { 512 };
+ store64(v0 + 264, v2);
+ store64(v0 + 256, 0);
+ v28 ^= 0x5be0cd19137e2179;
+ store64(v0 + 248, v28);
+ v24 ^= 0x5be0cd19137e2179;
+ store64(v0 + 240, v24);
+ v20 ^= 0x5be0cd19137e2179;
+ store64(v0 + 232, v20);
+ v16 ^= 0x5be0cd19137e2179;
+ store64(v0 + 224, v16);
+ v27 ^= 0x1f83d9abfb41bd6b;
+ store64(v0 + 216, v27);
+ v23 ^= 0x1f83d9abfb41bd6b;
+ store64(v0 + 208, v23);
+ v19 ^= 0x1f83d9abfb41bd6b;
+ store64(v0 + 200, v19);
+ v15 ^= 0x1f83d9abfb41bd6b;
+ store64(v0 + 192, v15);
+ v26 ^= 0x9b05688c2b3e6c1f;
+ store64(v0 + 184, v26);
+ v22 ^= 0x9b05688c2b3e6c1f;
+ store64(v0 + 176, v22);
+ v18 ^= 0x9b05688c2b3e6c1f;
+ store64(v0 + 168, v18);
+ v14 ^= 0x9b05688c2b3e6c1f;
+ store64(v0 + 160, v14);
+ v25 ^= 0x510e527fade682d1;
+ store64(v0 + 152, v25);
+ v21 ^= 0x510e527fade682d1;
+ store64(v0 + 144, v21);
+ v17 ^= 0x510e527fade682d1;
+ store64(v0 + 136, v17);
+ v13 ^= 0x510e527fade682d1;
+ store64(v0 + 128, v13);
+ store64(v0 + 120, 0xa54ff53a5f1d36f1);
+ store64(v0 + 112, 0xa54ff53a5f1d36f1);
+ store64(v0 + 104, 0xa54ff53a5f1d36f1);
+ store64(v0 + 96, 0xa54ff53a5f1d36f1);
+ store64(v0 + 88, 0x3c6ef372fe94b82b);
+ store64(v0 + 80, 0x3c6ef372fe94b82b);
+ store64(v0 + 72, 0x3c6ef372fe94b82b);
+ store64(v0 + 64, 0x3c6ef372fe94b82b);
+ store64(v0 + 56, 0xbb67ae8584caa738);
+ store64(v0 + 48, 0xbb67ae8584caa739);
+ store64(v0 + 40, 0xbb67ae8584caa73a);
+ store64(v0 + 32, 0xbb67ae8584caa73b);
+ v5 = ((((v3 as u32) << 8) | (v1 as u32) | 0x2040000) as u64) ^ 0x6a09e667f3bcc908;
+ store64(v0 + 24, v5);
+ store64(v0 + 16, v5);
+ store64(v0 + 8, v5);
+ store64(v0, v5);
+ copy(v0.plus(272), v8.plus(640), 896);
+ store64(v0 + 1496, v1);
+ store64(v0 + 1488, v2);
+ store64(v0 + 1480, v11 ^ 0x5be0cd19137e2179);
+ store64(v0 + 1472, v4 ^ 0x1f83d9abfb41bd6b);
+ store64(v0 + 1464, v6 ^ 0x9b05688c2b3e6c1f);
+ store64(v0 + 1456, v7 ^ 0x510e527fade682d1);
+ store64(v0 + 1448, 0xa54ff53a5f1d36f1);
+ store64(v0 + 1440, 0x3c6ef372fe94b82a);
+ store64(v0 + 1432, 0xbb67ae8584caa73b);
+ store64(v0 + 1424, v5);
+ store64(v0 + 1416, v28);
+ store64(v0 + 1408, v24);
+ store64(v0 + 1400, v20);
+ store64(v0 + 1392, v16);
+ store64(v0 + 1384, v27);
+ store64(v0 + 1376, v23);
+ store64(v0 + 1368, v19);
+ store64(v0 + 1360, v15);
+ store64(v0 + 1352, v26);
+ store64(v0 + 1344, v22);
+ store64(v0 + 1336, v18);
+ store64(v0 + 1328, v14);
+ store64(v0 + 1320, v25);
+ store64(v0 + 1312, v21);
+ store64(v0 + 1304, v17);
+ store64(v0 + 1296, v13);
+ store64(v0 + 1288, 0xa54ff53a5f1d36f1);
+ store64(v0 + 1280, 0xa54ff53a5f1d36f1);
+ store64(v0 + 1272, 0xa54ff53a5f1d36f1);
+ store64(v0 + 1264, 0xa54ff53a5f1d36f1);
+ store64(v0 + 1256, 0x3c6ef372fe94b82b);
+ store64(v0 + 1248, 0x3c6ef372fe94b82b);
+ store64(v0 + 1240, 0x3c6ef372fe94b82b);
+ store64(v0 + 1232, 0x3c6ef372fe94b82b);
+ store64(v0 + 1224, 0xbb67ae8584caa738);
+ store64(v0 + 1216, 0xbb67ae8584caa739);
+ store64(v0 + 1208, 0xbb67ae8584caa73a);
+ store64(v0 + 1200, 0xbb67ae8584caa73b);
+ store64(v0 + 1192, v5);
+ store64(v0 + 1184, v5);
+ store64(v0 + 1176, v5);
+ store64(v0 + 1168, v5);
+ copy(v0.plus(1504), v8, 128);
+ return 0;
+ }
+ fill(v0, 0, 1632);
+ return 0xffffffff;
+}
+
+// Overwrites the stack below the caller.
+#[inline(never)]
+unsafe fn digest_wiping_scrub_stack_2304() {
+    let mut room = [0_u64; 416];
+    for word in room.iter_mut() {
+        core::ptr::write_volatile(word, 0);
+    }
+}
+
+// rattle::export vulfsjor_ffi_blake2bp_init_salt_personal
+#[inline(never)]
+unsafe fn exported_blake2bp_init_salt_personal(mut v0: u64, mut v1: u64, mut v2: u64, mut v3: u64,
+        mut v4: u64, mut v5: u64, mut v6: u64, mut v7: u64) -> u32 {
+ let mut v9: u32;
+ v9 = ffi_blake2bp_initialize(v0, v1, v2.plus(if v2 == 0 { 4096_u64 } else { 0 }), v3, v4.plus(if v4
+   == 0 { 4096_u64 } else { 0 }), v5, v6.plus(if v6 == 0 { 4096_u64 } else { 0 }), v7);
+ 'l2: loop {
+ if v3 == 0 { break 'l2; }
+ digest_wiping_scrub_stack_2304();
+ break 'l2; }
+ return v9;
+}
+
+// rattle::export vulfsjor_ffi_blake2bp_init_key
+#[inline(never)]
+unsafe fn exported_blake2bp_init_key(mut v0: u64, mut v1: u64, mut v2: u64, mut v3: u64) -> u32 {
+ let mut v5: u32;
+ 'l1: loop {
+ if v3 != 0 { break 'l1; }
+ fill(v0, 0, 1632);
+ return 0xffffffff;
+ }
+ v5 = ffi_blake2bp_initialize(v0, v1, v2.plus(if v2 == 0 { 4096_u64 } else { 0 }), v3, 0x100000, 0,
+   0x100000, 0);
+ digest_wiping_scrub_stack_2304();
+ return v5;
+}
+
+// blake2_ffi::blake2bp::absorb
+#[inline(never)]
+unsafe fn ffi_blake2bp_absorb(mut v0: u64, mut v1: u64, mut v2: u64) {
+ parallel_blake2b_State_update(v0, v1, v2);
+ return;
+}
+
+// blake2_ffi::blake2bp::absorb_scrubbed
+#[inline(never)]
+unsafe fn ffi_blake2bp_absorb_scrubbed(mut v0: u64, mut v1: u64, mut v2: u64) {
+ ffi_blake2bp_absorb(v0, v1, v2);
+ digest_wiping_scrub_stack_3072();
+ return;
+}
+
+// rattle::export vulfsjor_ffi_blake2bp_update
+#[inline(never)]
+unsafe fn exported_blake2bp_update(mut v0: u64, mut v1: u64, mut v2: u64) -> u32 {
+ let mut v4: u32;
+ let mut v5: u64;
+ let mut v6: u64;
+ let mut v7: u64;
+ 'l1: loop {
+ 'l2: loop {
+ 'l3: loop {
+ v4 = 0xffffffff;
+ if load64(v0.plus(1496)).minus(1) > 63 { break 'l1; }
+ v5 = load64(v0.plus(264));
+ if v5 > 896 { break 'l1; }
+ v6 = load64(v0.plus(256));
+ if v6 > ((!v5) >> 2) { break 'l1; }
+ v7 = load64(v0.plus(1488));
+ if v7 > 512 { break 'l1; }
+ if v2 > (!(v6 << 2).plus(v5)) { break 'l1; }
+ v1 = v1.plus(if v1 == 0 { 4096_u64 } else { 0 });
+ if v6 != 0 { break 'l3; }
+ if v7 == 0 { break 'l3; }
+ ffi_blake2bp_absorb_scrubbed(v0, v1, v2);
+ break 'l2;
+ }
+ parallel_blake2b_State_update(v0, v1, v2);
+ break 'l2; }
+ v4 = 0;
+ break 'l1; }
+ return v4;
+}
+
+// blake2_ffi::blake2bp::finalize
+#[inline(never)]
+unsafe fn ffi_blake2bp_finalize(mut v0: u64, mut v1: u64) {
+ let mut v2: u64;
+ let mut v3: u64;
+ let mut frame = [0_u64; 10];
+ let top = (address!(frame)).plus(80) & !15;
+ v2 = top.minus(64);
+ fill(v2, 0, 64);
+ parallel_blake2b_State_output(v2, v0);
+ 'l2: loop {
+ v3 = load64(v0.plus(1496));
+ if v3 == 0 { break 'l2; }
+ copy(v1, v2, v3);
+ break 'l2; }
+ fill(v0, 0, 1632);
+ return;
+}
+
+// Overwrites the stack below the caller.
+#[inline(never)]
+unsafe fn digest_wiping_scrub_stack_4096() {
+    let mut room = [0_u64; 640];
+    for word in room.iter_mut() {
+        core::ptr::write_volatile(word, 0);
+    }
+}
+
+// rattle::export vulfsjor_ffi_blake2bp_final
+#[inline(never)]
+unsafe fn exported_blake2bp_final(mut v0: u64, mut v1: u64, mut v2: u64) -> u32 {
+ let mut v4: u32;
+ let mut v5: u64;
+ let mut v6: u64;
+ let mut v7: u64;
+ v4 = 0xffffffff;
+ 'l2: loop {
+ v5 = load64(v0.plus(1496));
+ if v5.minus(1) > 63 { break 'l2; }
+ v6 = load64(v0.plus(264));
+ if v6 > 896 { break 'l2; }
+ v7 = load64(v0.plus(256));
+ if v7 > ((!v6) >> 2) { break 'l2; }
+ if v2 < v5 { break 'l2; }
+ v2 = load64(v0.plus(1488));
+ if v2 > 512 { break 'l2; }
+ v1 = v1.plus(if v1 == 0 { 4096_u64 } else { 0 });
+ 'l3: loop {
+ if v7 == 0 { break 'l3; }
+ ffi_blake2bp_finalize(v0, v1);
+ return 0;
+ }
+ ffi_blake2bp_finalize(v0, v1);
+ v4 = 0;
+ if v2 == 0 { break 'l2; }
+ digest_wiping_scrub_stack_4096();
+ break 'l2; }
+ return v4;
+}
+
+// blake2_ffi::blake2bp::is_digest_of
+#[inline(never)]
+unsafe fn ffi_blake2bp_is_digest_of(mut v0: u64, mut v1: u64, mut v2: u64) -> u32 {
+ let mut v3: u64;
+ let mut v4: u64;
+ let mut v5: u32;
+ let mut v6: u64;
+ let mut v7: u64;
+ let mut frame = [0_u64; 10];
+ let top = (address!(frame)).plus(80) & !15;
+ v3 = top.minus(64);
+ v4 = v3;
+ fill(v4, 0, 64);
+ parallel_blake2b_State_output(v4, v0);
+ 'l2: loop {
+ 'l3: loop {
+ if v2 == load64(v0.plus(1496)) { break 'l3; }
+ v5 = 0;
+ break 'l2;
+ }
+ 'l4: loop {
+ if !(v2 == 0) { break 'l4; }
+ v5 = 1;
+ break 'l2;
+ }
+ v6 = v2 & 3;
+ 'l5: loop {
+ 'l6: loop {
+ 'l7: loop {
+ if v2 >= 4 { break 'l7; }
+ v0 = 0;
+ v5 = 0;
+ break 'l6;
+ }
+ v7 = v2 & 0xfffffffffffffffc;
+ v0 = 0;
+ v5 = 0;
+ 'l8: loop {
+ v2 = v4.plus(v0);
+ v3 = v1.plus(v0);
+ v5 = (load8(v2.plus(3)) ^ load8(v3.plus(3))) | ((load8(v2.plus(2)) ^ load8(v3.plus(2))) |
+   ((load8(v2.plus(1)) ^ load8(v3.plus(1))) | ((load8(v2) ^ load8(v3)) | v5)));
+ v0 = v0.plus(4);
+ if v7 != v0 { continue 'l8; }
+ break 'l8; }
+ if v6 == 0 { break 'l5; }
+ break 'l6; }
+ v2 = v1.plus(v0);
+ v0 = v4.plus(v0);
+ 'l9: loop {
+ v5 = (load8(v0) ^ load8(v2)) | v5;
+ v2 = v2.plus(1);
+ v0 = v0.plus(1);
+ v6 = v6.minus(1);
+ if v6 != 0 { continue 'l9; }
+ break 'l9; }
+ break 'l5; }
+ v5 = ((v5 & 255) == 0) as u32;
+ break 'l2; }
+ return v5;
+}
+
+// rattle::export vulfsjor_ffi_blake2bp_verify
+#[inline(never)]
+unsafe fn exported_blake2bp_verify(mut v0: u64, mut v1: u64, mut v2: u64) -> u32 {
+ let mut v4: u32;
+ let mut v5: u32;
+ let mut v6: u64;
+ let mut v7: u32;
+ v4 = 0;
+ v5 = 0;
+ 'l2: loop {
+ if load64(v0.plus(1496)).minus(1) > 63 { break 'l2; }
+ v5 = 0;
+ v6 = load64(v0.plus(264));
+ if v6 > 896 { break 'l2; }
+ v5 = 0;
+ if load64(v0.plus(256)) > ((!v6) >> 2) { break 'l2; }
+ v5 = (load64(v0.plus(1488)) < 513) as u32;
+ break 'l2; }
+ 'l3: loop {
+ if load64(v0.plus(256)) != 0 { break 'l3; }
+ v4 = (load64(v0.plus(1488)) != 0) as u32;
+ break 'l3; }
+ v7 = 0xffffffff;
+ 'l4: loop {
+ if v5 == 0 { break 'l4; }
+ v5 = ffi_blake2bp_is_digest_of(v0, v1.plus(if v1 == 0 { 4096_u64 } else { 0 }), v2);
+ fill(v0, 0, 1632);
+ v7 = v5.minus(1);
+ break 'l4; }
+ 'l5: loop {
+ if v4 == 0 { break 'l5; }
+ digest_wiping_scrub_stack_4096();
+ break 'l5; }
+ return v7;
+}
+
+// blake2_ffi::blake2bp::start_again
+#[inline(never)]
+unsafe fn ffi_blake2bp_start_again(mut v0: u64) {
+ let mut v1: u64;
+ let mut v2: u64;
+ let mut v3: u64;
+ let mut frame = [0_u64; 178];
+ let top = (address!(frame)).plus(1424) & !15;
+ v1 = top.minus(1408);
+ v2 = load64(v0.plus(1488));
+ v3 = v0.plus(1504);
+ copy(v1.plus(384), v3, 128);
+ copy(v1, v3, 128);
+ copy(v1.plus(128), v3, 128);
+ copy(v1.plus(256), v3, 128);
+ fill(v1.plus(512).plus(512), 0, 384);
+ copy(v1.plus(512), v1, 512);
+ copy(v0, v0.plus(1168), 256);
+ store64(v0 + 264, v2);
+ store64(v0 + 256, 0);
+ copy(v0.plus(272), v1.plus(512), 896);
+ return;
+}
+
+// Overwrites the stack below the caller.
+#[inline(never)]
+unsafe fn digest_wiping_scrub_stack_1792() {
+    let mut room = [0_u64; 352];
+    for word in room.iter_mut() {
+        core::ptr::write_volatile(word, 0);
+    }
+}
+
+// rattle::export vulfsjor_ffi_blake2bp_reset
+#[inline(never)]
+unsafe fn exported_blake2bp_reset(mut v0: u64) -> u32 {
+ let mut v2: u32;
+ let mut v3: u64;
+ v2 = 0xffffffff;
+ 'l2: loop {
+ if load64(v0.plus(1496)).minus(1) > 63 { break 'l2; }
+ v3 = load64(v0.plus(264));
+ if v3 > 896 { break 'l2; }
+ if load64(v0.plus(256)) > ((!v3) >> 2) { break 'l2; }
+ v3 = load64(v0.plus(1488));
+ if v3 > 512 { break 'l2; }
+ ffi_blake2bp_start_again(v0);
+ v2 = 0;
+ if v3 == 0 { break 'l2; }
+ digest_wiping_scrub_stack_1792();
+ break 'l2; }
+ return v2;
+}
+
+// rattle::export vulfsjor_ffi_blake2bp_wipe
+#[inline(never)]
+unsafe fn exported_blake2bp_wipe(mut v0: u64) {
+ 'l1: loop {
+ break 'l1;
+ }
+ fill(v0, 0, 1632);
+}
+
+// rattle::export vulfsjor_ffi_blake2bp_digest_size
+#[inline(never)]
+unsafe fn exported_blake2bp_digest_size(mut v0: u64) -> u64 {
+ let mut v1: u64;
+ let mut v2: u64;
+ let mut v3: u64;
+ v1 = 0;
+ 'l2: loop {
+ v2 = load64(v0.plus(1496));
+ if v2.minus(1) > 63 { break 'l2; }
+ v3 = load64(v0.plus(264));
+ if v3 > 896 { break 'l2; }
+ if load64(v0.plus(256)) > ((!v3) >> 2) { break 'l2; }
+ v1 = if load64(v0.plus(1488)) < 513 { v2 } else { 0 };
+ break 'l2; }
+ return v1;
+}
+
+// rattle::export vulfsjor_ffi_blake2bp_count
+#[inline(never)]
+unsafe fn exported_blake2bp_count(mut v0: u64) -> u64 {
+ let mut v1: u64;
+ let mut v2: u64;
+ let mut v3: u64;
+ v1 = 0;
+ 'l2: loop {
+ if load64(v0.plus(1496)).minus(1) > 63 { break 'l2; }
+ v2 = load64(v0.plus(264));
+ if v2 > 896 { break 'l2; }
+ v3 = load64(v0.plus(256));
+ if v3 > ((!v2) >> 2) { break 'l2; }
+ v0 = load64(v0.plus(1488));
+ if v0 > 512 { break 'l2; }
+ v1 = (v3 << 2).plus(v2);
+ v0 = v1.minus(v0);
+ v1 = if v0 > v1 { 0 } else { v0 };
+ break 'l2; }
+ return v1;
+}
+
+// rattle::export vulfsjor_ffi_blake2bp_state_size
+#[inline(never)]
+unsafe fn exported_blake2bp_state_size() {
+ 'l1: loop {
+ break 'l1;
+ }
+}
+
+// vulfsjor_ffi_blake2bp_state_size
+#[inline(never)]
+unsafe fn module_blake2bp_state_size() -> u64 {
+ 'l1: loop {
+ break 'l1;
+ }
+ exported_blake2bp_state_size();
+ return 1632;
+}
+
+// blake2_parallel::lanes::blake2s::compress_short
+#[inline(never)]
+unsafe fn parallel_lanes_blake2s_compress_short(mut v0: u64, mut v1: u64, mut v2: u64, mut v3: u64,
+        mut v4: u64) {
+ let mut v5: u64;
+ let mut v6: u32;
+ let mut v7: u32;
+ let mut v8: u32;
+ let mut v9: u32;
+ let mut v10: u32;
+ let mut v11: u32;
+ let mut v12: u32;
+ let mut v13: u32;
+ let mut v14: u32;
+ let mut v15: u32;
+ let mut v16: u32;
+ let mut v17: u32;
+ let mut v18: u32;
+ let mut v19: u32;
+ let mut v20: u32;
+ let mut v21: u32;
+ let mut v22: u32;
+ let mut v23: u32;
+ let mut v24: u32;
+ let mut v25: u32;
+ let mut v26: u32;
+ let mut v27: u32;
+ let mut v28: u32;
+ let mut v29: u32;
+ let mut v30: u32;
+ let mut v31: u32;
+ let mut v32: u32;
+ let mut v33: u32;
+ let mut v34: u32;
+ let mut v35: u32;
+ let mut v36: u32;
+ let mut v37: u32;
+ let mut v38: u32;
+ let mut v39: u32;
+ let mut v40: u32;
+ let mut v41: u32;
+ let mut v42: u32;
+ let mut v43: u32;
+ let mut v44: u32;
+ let mut v45: u32;
+ let mut v46: u32;
+ let mut v47: u32;
+ let mut v48: u32;
+ let mut v49: u32;
+ let mut v50: u32;
+ let mut v51: u32;
+ let mut v52: u32;
+ let mut v53: u32;
+ let mut v54: u32;
+ let mut v55: u32;
+ let mut v56: u32;
+ let mut v57: u32;
+ let mut v58: u32;
+ let mut v59: u32;
+ let mut v60: u32;
+ let mut v61: u32;
+ let mut v62: u32;
+ let mut v63: u32;
+ let mut v64: u32;
+ let mut v65: u32;
+ let mut v66: u32;
+ let mut v67: u32;
+ let mut v68: u32;
+ let mut v69: u32;
+ let mut v70: u32;
+ let mut v71: u32;
+ let mut frame = [0_u64; 70];
+ let top = (address!(frame)).plus(560) & !15;
+ v5 = top.minus(544);
+ fill(v5, 0, 512);
+ 'l2: loop {
+ if v2 == 0 { break 'l2; }
+ copy(v5, v1, v2);
+ break 'l2; }
+ v6 = load32(v0 + 28);
+ v7 = load32(v0 + 60);
+ v8 = load32(v0 + 92);
+ v9 = load32(v0 + 124);
+ v10 = load32(v0 + 156);
+ v11 = load32(v0 + 188);
+ v12 = load32(v0 + 220);
+ v13 = load32(v0 + 252);
+ v14 = load32(v0 + 24);
+ v15 = load32(v0 + 56);
+ v16 = load32(v0 + 88);
+ v17 = load32(v0 + 120);
+ v18 = load32(v0 + 152);
+ v19 = load32(v0 + 184);
+ v20 = load32(v0 + 216);
+ v21 = load32(v0 + 248);
+ v22 = load32(v0 + 20);
+ v23 = load32(v0 + 52);
+ v24 = load32(v0 + 84);
+ v25 = load32(v0 + 116);
+ v26 = load32(v0 + 148);
+ v27 = load32(v0 + 180);
+ v28 = load32(v0 + 212);
+ v29 = load32(v0 + 244);
+ v30 = load32(v0 + 16);
+ v31 = load32(v0 + 48);
+ v32 = load32(v0 + 80);
+ v33 = load32(v0 + 112);
+ v34 = load32(v0 + 144);
+ v35 = load32(v0 + 176);
+ v36 = load32(v0 + 208);
+ v37 = load32(v0 + 240);
+ v38 = load32(v0 + 12);
+ v39 = load32(v0 + 44);
+ v40 = load32(v0 + 76);
+ v41 = load32(v0 + 108);
+ v42 = load32(v0 + 140);
+ v43 = load32(v0 + 172);
+ v44 = load32(v0 + 204);
+ v45 = load32(v0 + 236);
+ v46 = load32(v0 + 8);
+ v47 = load32(v0 + 40);
+ v48 = load32(v0 + 72);
+ v49 = load32(v0 + 104);
+ v50 = load32(v0 + 136);
+ v51 = load32(v0 + 168);
+ v52 = load32(v0 + 200);
+ v53 = load32(v0 + 232);
+ v54 = load32(v0 + 4);
+ v55 = load32(v0 + 36);
+ v56 = load32(v0 + 68);
+ v57 = load32(v0 + 100);
+ v58 = load32(v0 + 132);
+ v59 = load32(v0 + 164);
+ v60 = load32(v0 + 196);
+ v61 = load32(v0 + 228);
+ v62 = load8(v4 + 1);
+ v63 = load8(v4);
+ v64 = load32(v0);
+ v65 = load32(v0 + 32);
+ v66 = load32(v0 + 64);
+ v67 = load32(v0 + 96);
+ v68 = load32(v0 + 128);
+ v69 = load32(v0 + 160);
+ v70 = load32(v0 + 192);
+ store32(v5 + 540, load32(v0 + 224) as u64);
+ store32(v5 + 536, v70 as u64);
+ store32(v5 + 532, v69 as u64);
+ store32(v5 + 528, v68 as u64);
+ store32(v5 + 524, v67 as u64);
+ store32(v5 + 520, v66 as u64);
+ store32(v5 + 516, v65 as u64);
+ store32(v5 + 512, v64 as u64);
+ compress_compress_blake2s_compress(v5.plus(512), v5, v3.plus(if v2 < 64 { v2 } else { 64 }), v63,
+   v62);
+ v62 = load32(v5 + 512);
+ v63 = load32(v5 + 516);
+ v64 = load32(v5 + 520);
+ v65 = load32(v5 + 524);
+ v66 = load32(v5 + 528);
+ v67 = load32(v5 + 532);
+ v68 = load32(v5 + 536);
+ v69 = load32(v5 + 540);
+ v70 = load8(v4 + 3);
+ v71 = load8(v4 + 2);
+ store32(v5 + 540, v61 as u64);
+ store32(v5 + 536, v60 as u64);
+ store32(v5 + 532, v59 as u64);
+ store32(v5 + 528, v58 as u64);
+ store32(v5 + 524, v57 as u64);
+ store32(v5 + 520, v56 as u64);
+ store32(v5 + 516, v55 as u64);
+ store32(v5 + 512, v54 as u64);
+ v1 = v2.minus(64);
+ v1 = if v1 > v2 { 0 } else { v1 };
+ compress_compress_blake2s_compress(v5.plus(512), v5.plus(64), (if v1 < 64 { v1 } else { 64
+   }).plus(v3), v71, v70);
+ v54 = load32(v5 + 512);
+ v55 = load32(v5 + 516);
+ v56 = load32(v5 + 520);
+ v57 = load32(v5 + 524);
+ v58 = load32(v5 + 528);
+ v59 = load32(v5 + 532);
+ v60 = load32(v5 + 536);
+ v61 = load32(v5 + 540);
+ v70 = load8(v4 + 5);
+ v71 = load8(v4 + 4);
+ store32(v5 + 540, v53 as u64);
+ store32(v5 + 536, v52 as u64);
+ store32(v5 + 532, v51 as u64);
+ store32(v5 + 528, v50 as u64);
+ store32(v5 + 524, v49 as u64);
+ store32(v5 + 520, v48 as u64);
+ store32(v5 + 516, v47 as u64);
+ store32(v5 + 512, v46 as u64);
+ v1 = v2.minus(128);
+ v1 = if v1 > v2 { 0 } else { v1 };
+ compress_compress_blake2s_compress(v5.plus(512), v5.plus(128), (if v1 < 64 { v1 } else { 64
+   }).plus(v3), v71, v70);
+ v46 = load32(v5 + 512);
+ v47 = load32(v5 + 516);
+ v48 = load32(v5 + 520);
+ v49 = load32(v5 + 524);
+ v50 = load32(v5 + 528);
+ v51 = load32(v5 + 532);
+ v52 = load32(v5 + 536);
+ v53 = load32(v5 + 540);
+ v70 = load8(v4 + 7);
+ v71 = load8(v4 + 6);
+ store32(v5 + 540, v45 as u64);
+ store32(v5 + 536, v44 as u64);
+ store32(v5 + 532, v43 as u64);
+ store32(v5 + 528, v42 as u64);
+ store32(v5 + 524, v41 as u64);
+ store32(v5 + 520, v40 as u64);
+ store32(v5 + 516, v39 as u64);
+ store32(v5 + 512, v38 as u64);
+ v1 = v2.minus(192);
+ v1 = if v1 > v2 { 0 } else { v1 };
+ compress_compress_blake2s_compress(v5.plus(512), v5.plus(192), (if v1 < 64 { v1 } else { 64
+   }).plus(v3), v71, v70);
+ v38 = load32(v5 + 512);
+ v39 = load32(v5 + 516);
+ v40 = load32(v5 + 520);
+ v41 = load32(v5 + 524);
+ v42 = load32(v5 + 528);
+ v43 = load32(v5 + 532);
+ v44 = load32(v5 + 536);
+ v45 = load32(v5 + 540);
+ v70 = load8(v4 + 9);
+ v71 = load8(v4 + 8);
+ store32(v5 + 540, v37 as u64);
+ store32(v5 + 536, v36 as u64);
+ store32(v5 + 532, v35 as u64);
+ store32(v5 + 528, v34 as u64);
+ store32(v5 + 524, v33 as u64);
+ store32(v5 + 520, v32 as u64);
+ store32(v5 + 516, v31 as u64);
+ store32(v5 + 512, v30 as u64);
+ v1 = v2.minus(256);
+ v1 = if v1 > v2 { 0 } else { v1 };
+ compress_compress_blake2s_compress(v5.plus(512), v5.plus(256), (if v1 < 64 { v1 } else { 64
+   }).plus(v3), v71, v70);
+ v30 = load32(v5 + 512);
+ v31 = load32(v5 + 516);
+ v32 = load32(v5 + 520);
+ v33 = load32(v5 + 524);
+ v34 = load32(v5 + 528);
+ v35 = load32(v5 + 532);
+ v36 = load32(v5 + 536);
+ v37 = load32(v5 + 540);
+ v70 = load8(v4 + 11);
+ v71 = load8(v4 + 10);
+ store32(v5 + 540, v29 as u64);
+ store32(v5 + 536, v28 as u64);
+ store32(v5 + 532, v27 as u64);
+ store32(v5 + 528, v26 as u64);
+ store32(v5 + 524, v25 as u64);
+ store32(v5 + 520, v24 as u64);
+ store32(v5 + 516, v23 as u64);
+ store32(v5 + 512, v22 as u64);
+ v1 = v2.minus(320);
+ v1 = if v1 > v2 { 0 } else { v1 };
+ compress_compress_blake2s_compress(v5.plus(512), v5.plus(320), (if v1 < 64 { v1 } else { 64
+   }).plus(v3), v71, v70);
+ v22 = load32(v5 + 512);
+ v23 = load32(v5 + 516);
+ v24 = load32(v5 + 520);
+ v25 = load32(v5 + 524);
+ v26 = load32(v5 + 528);
+ v27 = load32(v5 + 532);
+ v28 = load32(v5 + 536);
+ v29 = load32(v5 + 540);
+ v70 = load8(v4 + 13);
+ v71 = load8(v4 + 12);
+ store32(v5 + 540, v21 as u64);
+ store32(v5 + 536, v20 as u64);
+ store32(v5 + 532, v19 as u64);
+ store32(v5 + 528, v18 as u64);
+ store32(v5 + 524, v17 as u64);
+ store32(v5 + 520, v16 as u64);
+ store32(v5 + 516, v15 as u64);
+ store32(v5 + 512, v14 as u64);
+ v1 = v2.minus(384);
+ v1 = if v1 > v2 { 0 } else { v1 };
+ compress_compress_blake2s_compress(v5.plus(512), v5.plus(384), (if v1 < 64 { v1 } else { 64
+   }).plus(v3), v71, v70);
+ v14 = load32(v5 + 512);
+ v15 = load32(v5 + 516);
+ v16 = load32(v5 + 520);
+ v17 = load32(v5 + 524);
+ v18 = load32(v5 + 528);
+ v19 = load32(v5 + 532);
+ v20 = load32(v5 + 536);
+ v21 = load32(v5 + 540);
+ v70 = load8(v4 + 15);
+ v71 = load8(v4 + 14);
+ store32(v5 + 540, v13 as u64);
+ store32(v5 + 536, v12 as u64);
+ store32(v5 + 532, v11 as u64);
+ store32(v5 + 528, v10 as u64);
+ store32(v5 + 524, v9 as u64);
+ store32(v5 + 520, v8 as u64);
+ store32(v5 + 516, v7 as u64);
+ store32(v5 + 512, v6 as u64);
+ v4 = v2.minus(448);
+ v2 = if v4 > v2 { 0 } else { v4 };
+ compress_compress_blake2s_compress(v5.plus(512), v5.plus(448), (if v2 < 64 { v2 } else { 64
+   }).plus(v3), v71, v70);
+ v6 = load32(v5 + 512);
+ v7 = load32(v5 + 516);
+ v8 = load32(v5 + 520);
+ v9 = load32(v5 + 524);
+ v10 = load32(v5 + 528);
+ v11 = load32(v5 + 532);
+ v12 = load32(v5 + 536);
+ store32(v0 + 252, load32(v5 + 540) as u64);
+ store32(v0 + 248, v21 as u64);
+ store32(v0 + 244, v29 as u64);
+ store32(v0 + 240, v37 as u64);
+ store32(v0 + 236, v45 as u64);
+ store32(v0 + 232, v53 as u64);
+ store32(v0 + 228, v61 as u64);
+ store32(v0 + 224, v69 as u64);
+ store32(v0 + 220, v12 as u64);
+ store32(v0 + 216, v20 as u64);
+ store32(v0 + 212, v28 as u64);
+ store32(v0 + 208, v36 as u64);
+ store32(v0 + 204, v44 as u64);
+ store32(v0 + 200, v52 as u64);
+ store32(v0 + 196, v60 as u64);
+ store32(v0 + 192, v68 as u64);
+ store32(v0 + 188, v11 as u64);
+ store32(v0 + 184, v19 as u64);
+ store32(v0 + 180, v27 as u64);
+ store32(v0 + 176, v35 as u64);
+ store32(v0 + 172, v43 as u64);
+ store32(v0 + 168, v51 as u64);
+ store32(v0 + 164, v59 as u64);
+ store32(v0 + 160, v67 as u64);
+ store32(v0 + 156, v10 as u64);
+ store32(v0 + 152, v18 as u64);
+ store32(v0 + 148, v26 as u64);
+ store32(v0 + 144, v34 as u64);
+ store32(v0 + 140, v42 as u64);
+ store32(v0 + 136, v50 as u64);
+ store32(v0 + 132, v58 as u64);
+ store32(v0 + 128, v66 as u64);
+ store32(v0 + 124, v9 as u64);
+ store32(v0 + 120, v17 as u64);
+ store32(v0 + 116, v25 as u64);
+ store32(v0 + 112, v33 as u64);
+ store32(v0 + 108, v41 as u64);
+ store32(v0 + 104, v49 as u64);
+ store32(v0 + 100, v57 as u64);
+ store32(v0 + 96, v65 as u64);
+ store32(v0 + 92, v8 as u64);
+ store32(v0 + 88, v16 as u64);
+ store32(v0 + 84, v24 as u64);
+ store32(v0 + 80, v32 as u64);
+ store32(v0 + 76, v40 as u64);
+ store32(v0 + 72, v48 as u64);
+ store32(v0 + 68, v56 as u64);
+ store32(v0 + 64, v64 as u64);
+ store32(v0 + 60, v7 as u64);
+ store32(v0 + 56, v15 as u64);
+ store32(v0 + 52, v23 as u64);
+ store32(v0 + 48, v31 as u64);
+ store32(v0 + 44, v39 as u64);
+ store32(v0 + 40, v47 as u64);
+ store32(v0 + 36, v55 as u64);
+ store32(v0 + 32, v63 as u64);
+ store32(v0 + 28, v6 as u64);
+ store32(v0 + 24, v14 as u64);
+ store32(v0 + 20, v22 as u64);
+ store32(v0 + 16, v30 as u64);
+ store32(v0 + 12, v38 as u64);
+ store32(v0 + 8, v46 as u64);
+ store32(v0 + 4, v54 as u64);
+ store32(v0, v62 as u64);
+ return;
+}
+
+// blake2_parallel::blake2s::State::output
+#[inline(never)]
+unsafe fn parallel_blake2s_State_output(mut v0: u64, mut v1: u64) {
+ let mut v2: u64;
+ let mut v3: u64;
+ let mut v4: u64;
+ let mut v5: u64;
+ let mut v6: u64;
+ let mut v7: u64;
+ let mut v8: u64;
+ let mut v9: u64;
+ let mut v10: u64;
+ let mut v11: u64;
+ let mut v12: u64;
+ let mut v13: u64;
+ let mut v14: u64;
+ let mut v15: u64;
+ let mut v16: u64;
+ let mut v17: u64;
+ let mut v18: u64;
+ let mut v19: u64;
+ let mut v20: u64;
+ let mut v21: u64;
+ let mut v22: u64;
+ let mut v23: u64;
+ let mut v24: u64;
+ let mut v25: u64;
+ let mut v26: u64;
+ let mut v27: u64;
+ let mut v28: u64;
+ let mut v29: u64;
+ let mut v30: u64;
+ let mut v31: u64;
+ let mut v32: u64;
+ let mut v33: u64;
+ let mut v34: u64;
+ let mut v35: u64;
+ let mut v36: u64;
+ let mut v37: u32;
+ let mut v38: u32;
+ let mut v39: u32;
+ let mut v40: u32;
+ let mut v41: u32;
+ let mut v42: u32;
+ let mut v43: u32;
+ let mut v44: u32;
+ let mut v45: u32;
+ let mut v46: u32;
+ let mut v47: u32;
+ let mut v48: u32;
+ let mut v49: u32;
+ let mut v50: u32;
+ let mut v51: u32;
+ let mut v52: u32;
+ let mut v53: u32;
+ let mut v54: u32;
+ let mut v55: u32;
+ let mut v56: u32;
+ let mut v57: u32;
+ let mut v58: u32;
+ let mut v59: u32;
+ let mut v60: u32;
+ let mut v61: u32;
+ let mut v62: u32;
+ let mut v63: u32;
+ let mut v64: u32;
+ let mut v65: u32;
+ let mut v66: u32;
+ let mut v67: u32;
+ let mut v68: u32;
+ let mut v69: u32;
+ let mut v70: u32;
+ let mut v71: u32;
+ let mut v72: u32;
+ let mut v73: u32;
+ let mut v74: u32;
+ let mut v75: u32;
+ let mut v76: u32;
+ let mut v77: u32;
+ let mut v78: u32;
+ let mut v79: u32;
+ let mut v80: u32;
+ let mut v81: u32;
+ let mut v82: u32;
+ let mut v83: u32;
+ let mut v84: u32;
+ let mut v85: u32;
+ let mut v86: u32;
+ let mut v87: u32;
+ let mut v88: u32;
+ let mut v89: u32;
+ let mut v90: u32;
+ let mut v91: u32;
+ let mut v92: u32;
+ let mut v93: u32;
+ let mut v94: u32;
+ let mut v95: u32;
+ let mut v96: u32;
+ let mut v97: u32;
+ let mut v98: u32;
+ let mut v99: u32;
+ let mut v100: u32;
+ let mut v101: u32;
+ let mut v102: u32;
+ let mut v103: u32;
+ let mut v104: u32;
+ let mut v105: u32;
+ let mut v106: u32;
+ let mut v107: u32;
+ let mut v108: u32;
+ let mut v109: u32;
+ let mut v110: u32;
+ let mut v111: u32;
+ let mut v112: u32;
+ let mut v113: u32;
+ let mut v114: u32;
+ let mut v115: u32;
+ let mut v116: u32;
+ let mut v117: u32;
+ let mut v118: u32;
+ let mut v119: u32;
+ let mut v120: u32;
+ let mut v121: u32;
+ let mut v122: u32;
+ let mut v123: u32;
+ let mut v124: u32;
+ let mut v125: u32;
+ let mut v126: u32;
+ let mut v127: u32;
+ let mut v128: u32;
+ let mut v129: u32;
+ let mut v130: u32;
+ let mut v131: u32;
+ let mut v132: u32;
+ let mut v133: u32;
+ let mut v134: u32;
+ let mut v135: u32;
+ let mut v136: u32;
+ let mut v137: u32;
+ let mut v138: u32;
+ let mut v139: u32;
+ let mut v140: u32;
+ let mut v141: u32;
+ let mut v142: u32;
+ let mut v143: u32;
+ let mut v144: u32;
+ let mut v145: u32;
+ let mut v146: u32;
+ let mut v147: u32;
+ let mut v148: u32;
+ let mut v149: u32;
+ let mut v150: u32;
+ let mut v151: u32;
+ let mut v152: u32;
+ let mut v153: u32;
+ let mut v154: u32;
+ let mut v155: u32;
+ let mut v156: u32;
+ let mut frame = [0_u64; 76];
+ let top = (address!(frame)).plus(608) & !15;
+ v2 = top.minus(592);
+ fill(v2, 0, 256);
+ fill(v2 + 256, 0, 32);
+ v3 = load64(v1.plus(256));
+ v4 = load64(v1.plus(32));
+ v5 = load64(v1.plus(40));
+ v6 = load64(v1.plus(48));
+ v7 = load64(v1.plus(56));
+ v8 = load64(v1.plus(64));
+ v9 = load64(v1.plus(72));
+ v10 = load64(v1.plus(80));
+ v11 = load64(v1.plus(88));
+ v12 = load64(v1.plus(96));
+ v13 = load64(v1.plus(104));
+ v14 = load64(v1.plus(112));
+ v15 = load64(v1.plus(120));
+ v16 = load64(v1.plus(128));
+ v17 = load64(v1.plus(136));
+ v18 = load64(v1.plus(144));
+ v19 = load64(v1.plus(152));
+ v20 = load64(v1.plus(160));
+ v21 = load64(v1.plus(168));
+ v22 = load64(v1.plus(176));
+ v23 = load64(v1.plus(184));
+ v24 = load64(v1.plus(192));
+ v25 = load64(v1.plus(200));
+ v26 = load64(v1.plus(208));
+ v27 = load64(v1.plus(216));
+ v28 = load64(v1.plus(224));
+ v29 = load64(v1.plus(232));
+ v30 = load64(v1.plus(240));
+ v31 = load64(v1.plus(248));
+ v32 = load64(v1.plus(264));
+ v33 = load64(v1);
+ v34 = load64(v1 + 8);
+ v35 = load64(v1 + 16);
+ v36 = load64(v1 + 24);
+ store8(v2 + 589, 0);
+ store8(v2 + 587, 0);
+ store8(v2 + 585, 0);
+ store8(v2 + 583, 0);
+ store8(v2 + 581, 0);
+ store8(v2 + 579, 0);
+ store8(v2 + 577, 0);
+ v37 = (v32 < 513) as u32;
+ store8(v2 + 576, v37 as u64);
+ store64(v2 + 568, v31);
+ store64(v2 + 560, v30);
+ store64(v2 + 552, v29);
+ store64(v2 + 544, v28);
+ store64(v2 + 536, v27);
+ store64(v2 + 528, v26);
+ store64(v2 + 520, v25);
+ store64(v2 + 512, v24);
+ store64(v2 + 504, v23);
+ store64(v2 + 496, v22);
+ store64(v2 + 488, v21);
+ store64(v2 + 480, v20);
+ store64(v2 + 472, v19);
+ store64(v2 + 464, v18);
+ store64(v2 + 456, v17);
+ store64(v2 + 448, v16);
+ store64(v2 + 440, v15);
+ store64(v2 + 432, v14);
+ store64(v2 + 424, v13);
+ store64(v2 + 416, v12);
+ store64(v2 + 408, v11);
+ store64(v2 + 400, v10);
+ store64(v2 + 392, v9);
+ store64(v2 + 384, v8);
+ store64(v2 + 376, v7);
+ store64(v2 + 368, v6);
+ store64(v2 + 360, v5);
+ store64(v2 + 352, v4);
+ store64(v2 + 344, v36);
+ store64(v2 + 336, v35);
+ store64(v2 + 328, v34);
+ store64(v2 + 320, v33);
+ v4 = if v32 < 512 { v32 } else { 512 };
+ v32 = v32.minus(v4);
+ v38 = (v32 < 449) as u32;
+ store8(v2 + 591, v38 as u64);
+ store8(v2 + 590, v38 as u64);
+ store8(v2 + 588, ((v32 < 385) as u32) as u64);
+ store8(v2 + 586, ((v32 < 321) as u32) as u64);
+ store8(v2 + 584, ((v32 < 257) as u32) as u64);
+ store8(v2 + 582, ((v32 < 193) as u32) as u64);
+ store8(v2 + 580, ((v32 < 129) as u32) as u64);
+ store8(v2 + 578, ((v32 < 65) as u32) as u64);
+ v5 = v1.plus(272);
+ parallel_lanes_blake2s_compress_short(v2.plus(320), v5, v4, v3, v2.plus(576));
+ v39 = load32(v2 + 572);
+ v40 = load32(v2 + 568);
+ v41 = load32(v2 + 564);
+ v42 = load32(v2 + 560);
+ v43 = load32(v2 + 556);
+ v44 = load32(v2 + 552);
+ v45 = load32(v2 + 548);
+ v46 = load32(v2 + 540);
+ v47 = load32(v2 + 536);
+ v48 = load32(v2 + 532);
+ v49 = load32(v2 + 528);
+ v50 = load32(v2 + 524);
+ v51 = load32(v2 + 520);
+ v52 = load32(v2 + 516);
+ v53 = load32(v2 + 508);
+ v54 = load32(v2 + 504);
+ v55 = load32(v2 + 500);
+ v56 = load32(v2 + 496);
+ v57 = load32(v2 + 492);
+ v58 = load32(v2 + 488);
+ v59 = load32(v2 + 484);
+ v60 = load32(v2 + 476);
+ v61 = load32(v2 + 472);
+ v62 = load32(v2 + 468);
+ v63 = load32(v2 + 464);
+ v64 = load32(v2 + 460);
+ v65 = load32(v2 + 456);
+ v66 = load32(v2 + 452);
+ v67 = load32(v2 + 444);
+ v68 = load32(v2 + 440);
+ v69 = load32(v2 + 436);
+ v70 = load32(v2 + 432);
+ v71 = load32(v2 + 428);
+ v72 = load32(v2 + 424);
+ v73 = load32(v2 + 420);
+ v74 = load32(v2 + 412);
+ v75 = load32(v2 + 408);
+ v76 = load32(v2 + 404);
+ v77 = load32(v2 + 400);
+ v78 = load32(v2 + 396);
+ v79 = load32(v2 + 392);
+ v80 = load32(v2 + 388);
+ v81 = load32(v2 + 380);
+ v82 = load32(v2 + 376);
+ v83 = load32(v2 + 372);
+ v84 = load32(v2 + 368);
+ v85 = load32(v2 + 364);
+ v86 = load32(v2 + 360);
+ v87 = load32(v2 + 356);
+ v88 = load32(v2 + 348);
+ v89 = load32(v2 + 344);
+ v90 = load32(v2 + 340);
+ v91 = load32(v2 + 336);
+ v92 = load32(v2 + 332);
+ v93 = load32(v2 + 328);
+ v94 = load32(v2 + 324);
+ v38 = load32(v2 + 544);
+ v95 = load32(v2 + 512);
+ v96 = load32(v2 + 480);
+ v97 = load32(v2 + 448);
+ v98 = load32(v2 + 416);
+ v99 = load32(v2 + 384);
+ v100 = load32(v2 + 352);
+ v101 = load32(v2 + 320);
+ store32(v2 + 316, v101 as u64);
+ store32(v2 + 312, v100 as u64);
+ store32(v2 + 308, v99 as u64);
+ store32(v2 + 304, v98 as u64);
+ store32(v2 + 300, v97 as u64);
+ store32(v2 + 296, v96 as u64);
+ store32(v2 + 292, v95 as u64);
+ store32(v2 + 288, v38 as u64);
+ 'l2: loop {
+ 'l3: loop {
+ if v37 == 0 { break 'l3; }
+ v3 = v2.plus(316);
+ v4 = v2.plus(312);
+ v5 = v2.plus(308);
+ v6 = v2.plus(304);
+ v7 = v2.plus(300);
+ v8 = v2.plus(296);
+ v9 = v2.plus(292);
+ v10 = v2.plus(288);
+ v37 = v88;
+ v102 = v89;
+ v103 = v90;
+ v104 = v91;
+ v105 = v92;
+ v106 = v93;
+ v107 = v94;
+ v108 = v81;
+ v109 = v82;
+ v110 = v83;
+ v111 = v84;
+ v112 = v85;
+ v113 = v86;
+ v114 = v87;
+ v115 = v74;
+ v116 = v75;
+ v117 = v76;
+ v118 = v77;
+ v119 = v78;
+ v120 = v79;
+ v121 = v80;
+ v122 = v67;
+ v123 = v68;
+ v124 = v69;
+ v125 = v70;
+ v126 = v71;
+ v127 = v72;
+ v128 = v73;
+ v129 = v60;
+ v130 = v61;
+ v131 = v62;
+ v132 = v63;
+ v133 = v64;
+ v134 = v65;
+ v135 = v66;
+ v136 = v53;
+ v137 = v54;
+ v138 = v55;
+ v139 = v56;
+ v140 = v57;
+ v141 = v58;
+ v142 = v59;
+ v143 = v46;
+ v144 = v47;
+ v145 = v48;
+ v146 = v49;
+ v147 = v50;
+ v148 = v51;
+ v149 = v52;
+ v150 = v39;
+ v151 = v40;
+ v152 = v41;
+ v153 = v42;
+ v154 = v43;
+ v155 = v44;
+ v156 = v45;
+ break 'l2;
+ }
+ store64(v2 + 584, 0x101000100010001);
+ store64(v2 + 576, 0x1000100010001);
+ store32(v2 + 572, v39 as u64);
+ store32(v2 + 568, v40 as u64);
+ store32(v2 + 564, v41 as u64);
+ store32(v2 + 560, v42 as u64);
+ store32(v2 + 556, v43 as u64);
+ store32(v2 + 552, v44 as u64);
+ store32(v2 + 548, v45 as u64);
+ store32(v2 + 544, v38 as u64);
+ store32(v2 + 540, v46 as u64);
+ store32(v2 + 536, v47 as u64);
+ store32(v2 + 532, v48 as u64);
+ store32(v2 + 528, v49 as u64);
+ store32(v2 + 524, v50 as u64);
+ store32(v2 + 520, v51 as u64);
+ store32(v2 + 516, v52 as u64);
+ store32(v2 + 512, v95 as u64);
+ store32(v2 + 508, v53 as u64);
+ store32(v2 + 504, v54 as u64);
+ store32(v2 + 500, v55 as u64);
+ store32(v2 + 496, v56 as u64);
+ store32(v2 + 492, v57 as u64);
+ store32(v2 + 488, v58 as u64);
+ store32(v2 + 484, v59 as u64);
+ store32(v2 + 480, v96 as u64);
+ store32(v2 + 476, v60 as u64);
+ store32(v2 + 472, v61 as u64);
+ store32(v2 + 468, v62 as u64);
+ store32(v2 + 464, v63 as u64);
+ store32(v2 + 460, v64 as u64);
+ store32(v2 + 456, v65 as u64);
+ store32(v2 + 452, v66 as u64);
+ store32(v2 + 448, v97 as u64);
+ store32(v2 + 444, v67 as u64);
+ store32(v2 + 440, v68 as u64);
+ store32(v2 + 436, v69 as u64);
+ store32(v2 + 432, v70 as u64);
+ store32(v2 + 428, v71 as u64);
+ store32(v2 + 424, v72 as u64);
+ store32(v2 + 420, v73 as u64);
+ store32(v2 + 416, v98 as u64);
+ store32(v2 + 412, v74 as u64);
+ store32(v2 + 408, v75 as u64);
+ store32(v2 + 404, v76 as u64);
+ store32(v2 + 400, v77 as u64);
+ store32(v2 + 396, v78 as u64);
+ store32(v2 + 392, v79 as u64);
+ store32(v2 + 388, v80 as u64);
+ store32(v2 + 384, v99 as u64);
+ store32(v2 + 380, v81 as u64);
+ store32(v2 + 376, v82 as u64);
+ store32(v2 + 372, v83 as u64);
+ store32(v2 + 368, v84 as u64);
+ store32(v2 + 364, v85 as u64);
+ store32(v2 + 360, v86 as u64);
+ store32(v2 + 356, v87 as u64);
+ store32(v2 + 352, v100 as u64);
+ store32(v2 + 348, v88 as u64);
+ store32(v2 + 344, v89 as u64);
+ store32(v2 + 340, v90 as u64);
+ store32(v2 + 336, v91 as u64);
+ store32(v2 + 332, v92 as u64);
+ store32(v2 + 328, v93 as u64);
+ store32(v2 + 324, v94 as u64);
+ store32(v2 + 320, v101 as u64);
+ parallel_lanes_blake2s_compress_short(v2.plus(320), v5.plus(v4), v32, v3.plus(64), v2.plus(576));
+ v3 = v2.plus(284);
+ v4 = v2.plus(280);
+ v5 = v2.plus(276);
+ v6 = v2.plus(272);
+ v7 = v2.plus(268);
+ v8 = v2.plus(264);
+ v9 = v2.plus(260);
+ v10 = v2.plus(256);
+ v150 = load32(v2 + 572);
+ v151 = load32(v2 + 568);
+ v152 = load32(v2 + 564);
+ v153 = load32(v2 + 560);
+ v154 = load32(v2 + 556);
+ v155 = load32(v2 + 552);
+ v156 = load32(v2 + 548);
+ v38 = load32(v2 + 544);
+ v143 = load32(v2 + 540);
+ v144 = load32(v2 + 536);
+ v145 = load32(v2 + 532);
+ v146 = load32(v2 + 528);
+ v147 = load32(v2 + 524);
+ v148 = load32(v2 + 520);
+ v149 = load32(v2 + 516);
+ v95 = load32(v2 + 512);
+ v136 = load32(v2 + 508);
+ v137 = load32(v2 + 504);
+ v138 = load32(v2 + 500);
+ v139 = load32(v2 + 496);
+ v140 = load32(v2 + 492);
+ v141 = load32(v2 + 488);
+ v142 = load32(v2 + 484);
+ v96 = load32(v2 + 480);
+ v129 = load32(v2 + 476);
+ v130 = load32(v2 + 472);
+ v131 = load32(v2 + 468);
+ v132 = load32(v2 + 464);
+ v133 = load32(v2 + 460);
+ v134 = load32(v2 + 456);
+ v135 = load32(v2 + 452);
+ v97 = load32(v2 + 448);
+ v122 = load32(v2 + 444);
+ v123 = load32(v2 + 440);
+ v124 = load32(v2 + 436);
+ v125 = load32(v2 + 432);
+ v126 = load32(v2 + 428);
+ v127 = load32(v2 + 424);
+ v128 = load32(v2 + 420);
+ v98 = load32(v2 + 416);
+ v115 = load32(v2 + 412);
+ v116 = load32(v2 + 408);
+ v117 = load32(v2 + 404);
+ v118 = load32(v2 + 400);
+ v119 = load32(v2 + 396);
+ v120 = load32(v2 + 392);
+ v121 = load32(v2 + 388);
+ v99 = load32(v2 + 384);
+ v108 = load32(v2 + 380);
+ v109 = load32(v2 + 376);
+ v110 = load32(v2 + 372);
+ v111 = load32(v2 + 368);
+ v112 = load32(v2 + 364);
+ v113 = load32(v2 + 360);
+ v114 = load32(v2 + 356);
+ v100 = load32(v2 + 352);
+ v37 = load32(v2 + 348);
+ v102 = load32(v2 + 344);
+ v103 = load32(v2 + 340);
+ v104 = load32(v2 + 336);
+ v105 = load32(v2 + 332);
+ v106 = load32(v2 + 328);
+ v107 = load32(v2 + 324);
+ v101 = load32(v2 + 320);
+ break 'l2; }
+ store32(v2 + 256, v38 as u64);
+ store32(v2 + 284, v101 as u64);
+ store32(v2 + 280, v100 as u64);
+ store32(v2 + 276, v99 as u64);
+ store32(v2 + 272, v98 as u64);
+ store32(v2 + 268, v97 as u64);
+ store32(v2 + 264, v96 as u64);
+ store32(v2 + 260, v95 as u64);
+ v38 = load32(v3);
+ v95 = load32(v4);
+ v96 = load32(v5);
+ v97 = load32(v6);
+ v98 = load32(v7);
+ v99 = load32(v8);
+ v100 = load32(v9);
+ v101 = load32(v10);
+ store32(v2 + 28, v101 as u64);
+ store32(v2 + 24, v100 as u64);
+ store32(v2 + 20, v99 as u64);
+ store32(v2 + 16, v98 as u64);
+ store32(v2 + 12, v97 as u64);
+ store32(v2 + 8, v96 as u64);
+ store32(v2 + 4, v95 as u64);
+ store32(v2, v38 as u64);
+ v38 = (v32 > 448) as u32;
+ v95 = if v38 != 0 { v150 } else { v39 };
+ store32(v2 + 252, v95 as u64);
+ v95 = if v38 != 0 { v143 } else { v46 };
+ store32(v2 + 248, v95 as u64);
+ v95 = if v38 != 0 { v136 } else { v53 };
+ store32(v2 + 244, v95 as u64);
+ v95 = if v38 != 0 { v129 } else { v60 };
+ store32(v2 + 240, v95 as u64);
+ v95 = if v38 != 0 { v122 } else { v67 };
+ store32(v2 + 236, v95 as u64);
+ v95 = if v38 != 0 { v115 } else { v74 };
+ store32(v2 + 232, v95 as u64);
+ v95 = if v38 != 0 { v108 } else { v81 };
+ store32(v2 + 228, v95 as u64);
+ v38 = if v38 != 0 { v37 } else { v88 };
+ store32(v2 + 224, v38 as u64);
+ v38 = (v32 > 384) as u32;
+ v95 = if v38 != 0 { v151 } else { v40 };
+ store32(v2 + 220, v95 as u64);
+ v95 = if v38 != 0 { v144 } else { v47 };
+ store32(v2 + 216, v95 as u64);
+ v95 = if v38 != 0 { v137 } else { v54 };
+ store32(v2 + 212, v95 as u64);
+ v95 = if v38 != 0 { v130 } else { v61 };
+ store32(v2 + 208, v95 as u64);
+ v95 = if v38 != 0 { v123 } else { v68 };
+ store32(v2 + 204, v95 as u64);
+ v95 = if v38 != 0 { v116 } else { v75 };
+ store32(v2 + 200, v95 as u64);
+ v95 = if v38 != 0 { v109 } else { v82 };
+ store32(v2 + 196, v95 as u64);
+ v38 = if v38 != 0 { v102 } else { v89 };
+ store32(v2 + 192, v38 as u64);
+ v38 = (v32 > 320) as u32;
+ v95 = if v38 != 0 { v152 } else { v41 };
+ store32(v2 + 188, v95 as u64);
+ v95 = if v38 != 0 { v145 } else { v48 };
+ store32(v2 + 184, v95 as u64);
+ v95 = if v38 != 0 { v138 } else { v55 };
+ store32(v2 + 180, v95 as u64);
+ v95 = if v38 != 0 { v131 } else { v62 };
+ store32(v2 + 176, v95 as u64);
+ v95 = if v38 != 0 { v124 } else { v69 };
+ store32(v2 + 172, v95 as u64);
+ v95 = if v38 != 0 { v117 } else { v76 };
+ store32(v2 + 168, v95 as u64);
+ v95 = if v38 != 0 { v110 } else { v83 };
+ store32(v2 + 164, v95 as u64);
+ v38 = if v38 != 0 { v103 } else { v90 };
+ store32(v2 + 160, v38 as u64);
+ v38 = (v32 > 256) as u32;
+ v95 = if v38 != 0 { v153 } else { v42 };
+ store32(v2 + 156, v95 as u64);
+ v95 = if v38 != 0 { v146 } else { v49 };
+ store32(v2 + 152, v95 as u64);
+ v95 = if v38 != 0 { v139 } else { v56 };
+ store32(v2 + 148, v95 as u64);
+ v95 = if v38 != 0 { v132 } else { v63 };
+ store32(v2 + 144, v95 as u64);
+ v95 = if v38 != 0 { v125 } else { v70 };
+ store32(v2 + 140, v95 as u64);
+ v95 = if v38 != 0 { v118 } else { v77 };
+ store32(v2 + 136, v95 as u64);
+ v95 = if v38 != 0 { v111 } else { v84 };
+ store32(v2 + 132, v95 as u64);
+ v38 = if v38 != 0 { v104 } else { v91 };
+ store32(v2 + 128, v38 as u64);
+ v38 = (v32 > 192) as u32;
+ v95 = if v38 != 0 { v154 } else { v43 };
+ store32(v2 + 124, v95 as u64);
+ v95 = if v38 != 0 { v147 } else { v50 };
+ store32(v2 + 120, v95 as u64);
+ v95 = if v38 != 0 { v140 } else { v57 };
+ store32(v2 + 116, v95 as u64);
+ v95 = if v38 != 0 { v133 } else { v64 };
+ store32(v2 + 112, v95 as u64);
+ v95 = if v38 != 0 { v126 } else { v71 };
+ store32(v2 + 108, v95 as u64);
+ v95 = if v38 != 0 { v119 } else { v78 };
+ store32(v2 + 104, v95 as u64);
+ v95 = if v38 != 0 { v112 } else { v85 };
+ store32(v2 + 100, v95 as u64);
+ v38 = if v38 != 0 { v105 } else { v92 };
+ store32(v2 + 96, v38 as u64);
+ v38 = (v32 > 128) as u32;
+ v95 = if v38 != 0 { v155 } else { v44 };
+ store32(v2 + 92, v95 as u64);
+ v95 = if v38 != 0 { v148 } else { v51 };
+ store32(v2 + 88, v95 as u64);
+ v95 = if v38 != 0 { v141 } else { v58 };
+ store32(v2 + 84, v95 as u64);
+ v95 = if v38 != 0 { v134 } else { v65 };
+ store32(v2 + 80, v95 as u64);
+ v95 = if v38 != 0 { v127 } else { v72 };
+ store32(v2 + 76, v95 as u64);
+ v95 = if v38 != 0 { v120 } else { v79 };
+ store32(v2 + 72, v95 as u64);
+ v95 = if v38 != 0 { v113 } else { v86 };
+ store32(v2 + 68, v95 as u64);
+ v38 = if v38 != 0 { v106 } else { v93 };
+ store32(v2 + 64, v38 as u64);
+ v38 = (v32 > 64) as u32;
+ v95 = if v38 != 0 { v156 } else { v45 };
+ store32(v2 + 60, v95 as u64);
+ v95 = if v38 != 0 { v149 } else { v52 };
+ store32(v2 + 56, v95 as u64);
+ v95 = if v38 != 0 { v142 } else { v59 };
+ store32(v2 + 52, v95 as u64);
+ v95 = if v38 != 0 { v135 } else { v66 };
+ store32(v2 + 48, v95 as u64);
+ v95 = if v38 != 0 { v128 } else { v73 };
+ store32(v2 + 44, v95 as u64);
+ v95 = if v38 != 0 { v121 } else { v80 };
+ store32(v2 + 40, v95 as u64);
+ v95 = if v38 != 0 { v114 } else { v87 };
+ store32(v2 + 36, v95 as u64);
+ v38 = if v38 != 0 { v107 } else { v94 };
+ store32(v2 + 32, v38 as u64);
+ v38 = load32(v1.plus(1488));
+ v95 = load32(v1.plus(1492));
+ v96 = load32(v1.plus(1496));
+ v97 = load32(v1.plus(1500));
+ v98 = load32(v1.plus(1504));
+ v99 = load32(v1.plus(1508));
+ v100 = load32(v1.plus(1512));
+ store32(v2 + 348, load32(v1.plus(1516)) as u64);
+ store32(v2 + 344, v100 as u64);
+ store32(v2 + 340, v99 as u64);
+ store32(v2 + 336, v98 as u64);
+ store32(v2 + 332, v97 as u64);
+ store32(v2 + 328, v96 as u64);
+ store32(v2 + 324, v95 as u64);
+ store32(v2 + 320, v38 as u64);
+ compress_compress_blake2s_compress(v2.plus(320), v2, 64, 0, 0);
+ compress_compress_blake2s_compress(v2.plus(320), v2.plus(64), 128, 0, 0);
+ compress_compress_blake2s_compress(v2.plus(320), v2.plus(128), 192, 0, 0);
+ compress_compress_blake2s_compress(v2.plus(320), v2.plus(192), 256, 1, 1);
+ v38 = load8(v2 + 320);
+ v95 = load8(v2 + 321);
+ v96 = load8(v2 + 322);
+ v97 = load8(v2 + 323);
+ v98 = load8(v2 + 324);
+ v99 = load8(v2 + 325);
+ v100 = load8(v2 + 326);
+ v101 = load8(v2 + 327);
+ v39 = load8(v2 + 328);
+ v40 = load8(v2 + 329);
+ v41 = load8(v2 + 330);
+ v42 = load8(v2 + 331);
+ v43 = load8(v2 + 332);
+ v44 = load8(v2 + 333);
+ v45 = load8(v2 + 334);
+ v46 = load8(v2 + 335);
+ v47 = load8(v2 + 336);
+ v48 = load8(v2 + 337);
+ v49 = load8(v2 + 338);
+ v50 = load8(v2 + 339);
+ v51 = load8(v2 + 340);
+ v52 = load8(v2 + 341);
+ v53 = load8(v2 + 342);
+ v54 = load8(v2 + 343);
+ v55 = load8(v2 + 344);
+ v56 = load8(v2 + 345);
+ v57 = load8(v2 + 346);
+ v58 = load8(v2 + 347);
+ v59 = load8(v2 + 348);
+ v60 = load8(v2 + 349);
+ v61 = load8(v2 + 350);
+ store8(v0 + 31, load8(v2 + 351) as u64);
+ store8(v0 + 30, v61 as u64);
+ store8(v0 + 29, v60 as u64);
+ store8(v0 + 28, v59 as u64);
+ store8(v0 + 27, v58 as u64);
+ store8(v0 + 26, v57 as u64);
+ store8(v0 + 25, v56 as u64);
+ store8(v0 + 24, v55 as u64);
+ store8(v0 + 23, v54 as u64);
+ store8(v0 + 22, v53 as u64);
+ store8(v0 + 21, v52 as u64);
+ store8(v0 + 20, v51 as u64);
+ store8(v0 + 19, v50 as u64);
+ store8(v0 + 18, v49 as u64);
+ store8(v0 + 17, v48 as u64);
+ store8(v0 + 16, v47 as u64);
+ store8(v0 + 15, v46 as u64);
+ store8(v0 + 14, v45 as u64);
+ store8(v0 + 13, v44 as u64);
+ store8(v0 + 12, v43 as u64);
+ store8(v0 + 11, v42 as u64);
+ store8(v0 + 10, v41 as u64);
+ store8(v0 + 9, v40 as u64);
+ store8(v0 + 8, v39 as u64);
+ store8(v0 + 7, v101 as u64);
+ store8(v0 + 6, v100 as u64);
+ store8(v0 + 5, v99 as u64);
+ store8(v0 + 4, v98 as u64);
+ store8(v0 + 3, v97 as u64);
+ store8(v0 + 2, v96 as u64);
+ store8(v0 + 1, v95 as u64);
+ store8(v0, v38 as u64);
+ return;
+}
+
+// blake2_parallel::blake2s::State::init_salt_personal
+#[inline(never)]
+unsafe fn parallel_blake2s_State_init_salt_personal(mut v0: u64, mut v1: u64, mut v2: u64, mut v3:
+        u64, mut v4: u64, mut v5: u64, mut v6: u64, mut v7: u64) {
+ let mut v8: u64;
+ let mut v9: u32;
+ let mut v10: u64;
+ let mut v11: u32;
+ let mut v12: u32;
+ let mut v13: u32;
+ let mut v14: u32;
+ let mut v15: u32;
+ let mut v16: u32;
+ let mut v17: u32;
+ let mut v18: u32;
+ let mut v19: u32;
+ let mut v20: u32;
+ let mut v21: u32;
+ let mut v22: u32;
+ let mut v23: u32;
+ let mut v24: u32;
+ let mut v25: u32;
+ let mut v26: u32;
+ let mut v27: u32;
+ let mut v28: u32;
+ let mut v29: u32;
+ let mut v30: u32;
+ let mut v31: u32;
+ let mut v32: u32;
+ let mut v33: u32;
+ let mut v34: u32;
+ let mut v35: u32;
+ let mut v36: u32;
+ let mut v37: u32;
+ let mut v38: u32;
+ let mut v39: u32;
+ let mut v40: u32;
+ let mut v41: u32;
+ let mut v42: u32;
+ let mut v43: u32;
+ let mut v44: u32;
+ let mut v45: u32;
+ let mut v46: u32;
+ let mut v47: u64;
+ let mut v48: u64;
+ let mut v49: u64;
+ let mut frame = [0_u64; 330];
+ let top = (address!(frame)).plus(2640) & !15;
+ v8 = top.minus(2624);
+ 'l1: loop {
+ 'l3: loop {
+ 'l4: loop {
+ if v1.minus(1) > 31 { break 'l4; }
+ if v3 > 32 { break 'l4; }
+ if v5 > 8 { break 'l4; }
+ if v7 < 9 { break 'l3; }
+ break 'l4; }
+ store8(v0, 1);
+ fill(v0.plus(8), 0, 1600);
+ break 'l1;
+ }
+ fill(v8 + 1664, 0, 16);
+ 'l5: loop {
+ v9 = (v5 == 0) as u32;
+ if v9 != 0 { break 'l5; }
+ copy(v8.plus(1664), v4, v5);
+ break 'l5; }
+ v10 = v8.plus(1664) | 8;
+ 'l6: loop {
+ v11 = (v7 == 0) as u32;
+ if v11 != 0 { break 'l6; }
+ copy(v10, v6, v7);
+ break 'l6; }
+ v12 = load32(v8 + 1664);
+ v13 = load32(v8 + 1668);
+ v14 = load32(v8 + 1672);
+ v15 = load32(v8 + 1676);
+ fill(v8 + 1664, 0, 16);
+ 'l7: loop {
+ if v9 != 0 { break 'l7; }
+ copy(v8.plus(1664), v4, v5);
+ break 'l7; }
+ 'l8: loop {
+ if v11 != 0 { break 'l8; }
+ copy(v10, v6, v7);
+ break 'l8; }
+ v16 = load32(v8 + 1664);
+ v17 = load32(v8 + 1668);
+ v18 = load32(v8 + 1672);
+ v19 = load32(v8 + 1676);
+ fill(v8 + 1664, 0, 16);
+ 'l9: loop {
+ if v9 != 0 { break 'l9; }
+ copy(v8.plus(1664), v4, v5);
+ break 'l9; }
+ 'l10: loop {
+ if v11 != 0 { break 'l10; }
+ copy(v10, v6, v7);
+ break 'l10; }
+ v20 = load32(v8 + 1664);
+ v21 = load32(v8 + 1668);
+ v22 = load32(v8 + 1672);
+ v23 = load32(v8 + 1676);
+ fill(v8 + 1664, 0, 16);
+ 'l11: loop {
+ if v9 != 0 { break 'l11; }
+ copy(v8.plus(1664), v4, v5);
+ break 'l11; }
+ 'l12: loop {
+ if v11 != 0 { break 'l12; }
+ copy(v10, v6, v7);
+ break 'l12; }
+ v24 = load32(v8 + 1664);
+ v25 = load32(v8 + 1668);
+ v26 = load32(v8 + 1672);
+ v27 = load32(v8 + 1676);
+ fill(v8 + 1664, 0, 16);
+ 'l13: loop {
+ if v9 != 0 { break 'l13; }
+ copy(v8.plus(1664), v4, v5);
+ break 'l13; }
+ 'l14: loop {
+ if v11 != 0 { break 'l14; }
+ copy(v10, v6, v7);
+ break 'l14; }
+ v28 = load32(v8 + 1664);
+ v29 = load32(v8 + 1668);
+ v30 = load32(v8 + 1672);
+ v31 = load32(v8 + 1676);
+ fill(v8 + 1664, 0, 16);
+ 'l15: loop {
+ if v9 != 0 { break 'l15; }
+ copy(v8.plus(1664), v4, v5);
+ break 'l15; }
+ 'l16: loop {
+ if v11 != 0 { break 'l16; }
+ copy(v10, v6, v7);
+ break 'l16; }
+ v32 = load32(v8 + 1664);
+ v33 = load32(v8 + 1668);
+ v34 = load32(v8 + 1672);
+ v35 = load32(v8 + 1676);
+ fill(v8 + 1664, 0, 16);
+ 'l17: loop {
+ if v9 != 0 { break 'l17; }
+ copy(v8.plus(1664), v4, v5);
+ break 'l17; }
+ 'l18: loop {
+ if v11 != 0 { break 'l18; }
+ copy(v10, v6, v7);
+ break 'l18; }
+ v36 = load32(v8 + 1664);
+ v37 = load32(v8 + 1668);
+ v38 = load32(v8 + 1672);
+ v39 = load32(v8 + 1676);
+ fill(v8 + 1664, 0, 16);
+ 'l19: loop {
+ if v9 != 0 { break 'l19; }
+ copy(v8.plus(1664), v4, v5);
+ break 'l19; }
+ 'l20: loop {
+ if v11 != 0 { break 'l20; }
+ copy(v10, v6, v7);
+ break 'l20; }
+ v40 = load32(v8 + 1664);
+ v41 = load32(v8 + 1668);
+ v42 = load32(v8 + 1672);
+ v43 = load32(v8 + 1676);
+ fill(v8 + 1664, 0, 16);
+ 'l21: loop {
+ if v9 != 0 { break 'l21; }
+ copy(v8.plus(1664), v4, v5);
+ break 'l21; }
+ 'l22: loop {
+ if v11 != 0 { break 'l22; }
+ copy(v10, v6, v7);
+ break 'l22; }
+ fill(v8 + 1088, 0, 64);
+ v11 = load32(v8 + 1664);
+ v44 = load32(v8 + 1668);
+ v45 = load32(v8 + 1672);
+ v46 = load32(v8 + 1676);
+ 'l23: loop {
+ v9 = (v3 == 0) as u32;
+ if v9 != 0 { break 'l23; }
+ copy(v8.plus(1088), v2, v3);
+ break 'l23; }
+ v5 = load64(v8 + 1144);
+ store64(v8 + 1656, v5);
+ v7 = load64(v8 + 1136);
+ store64(v8 + 1648, v7);
+ v6 = load64(v8 + 1128);
+ store64(v8 + 1640, v6);
+ v4 = load64(v8 + 1120);
+ store64(v8 + 1632, v4);
+ v10 = load64(v8 + 1112);
+ store64(v8 + 1624, v10);
+ v2 = load64(v8 + 1104);
+ store64(v8 + 1616, v2);
+ v47 = load64(v8 + 1096);
+ store64(v8 + 1608, v47);
+ v48 = load64(v8 + 1088);
+ store64(v8 + 1600, v48);
+ store64(v8 + 1152, v48);
+ store64(v8 + 1160, v47);
+ store64(v8 + 1168, v2);
+ store64(v8 + 1176, v10);
+ store64(v8 + 1184, v4);
+ store64(v8 + 1192, v6);
+ store64(v8 + 1200, v7);
+ store64(v8 + 1208, v5);
+ v5 = load64(v8 + 1144);
+ store64(v8 + 1272, v5);
+ v7 = load64(v8 + 1136);
+ store64(v8 + 1264, v7);
+ v6 = load64(v8 + 1128);
+ store64(v8 + 1256, v6);
+ v4 = load64(v8 + 1120);
+ store64(v8 + 1248, v4);
+ v10 = load64(v8 + 1112);
+ store64(v8 + 1240, v10);
+ v2 = load64(v8 + 1104);
+ store64(v8 + 1232, v2);
+ v47 = load64(v8 + 1096);
+ store64(v8 + 1224, v47);
+ v48 = load64(v8 + 1088);
+ store64(v8 + 1216, v48);
+ store64(v8 + 1280, v48);
+ store64(v8 + 1288, v47);
+ store64(v8 + 1296, v2);
+ store64(v8 + 1304, v10);
+ store64(v8 + 1312, v4);
+ store64(v8 + 1320, v6);
+ store64(v8 + 1328, v7);
+ store64(v8 + 1336, v5);
+ v5 = load64(v8 + 1144);
+ store64(v8 + 1400, v5);
+ v7 = load64(v8 + 1136);
+ store64(v8 + 1392, v7);
+ v6 = load64(v8 + 1128);
+ store64(v8 + 1384, v6);
+ v4 = load64(v8 + 1120);
+ store64(v8 + 1376, v4);
+ v10 = load64(v8 + 1112);
+ store64(v8 + 1368, v10);
+ v2 = load64(v8 + 1104);
+ store64(v8 + 1360, v2);
+ v47 = load64(v8 + 1096);
+ store64(v8 + 1352, v47);
+ v48 = load64(v8 + 1088);
+ store64(v8 + 1344, v48);
+ store64(v8 + 1464, v5);
+ store64(v8 + 1456, v7);
+ store64(v8 + 1448, v6);
+ store64(v8 + 1440, v4);
+ store64(v8 + 1432, v10);
+ store64(v8 + 1424, v2);
+ store64(v8 + 1416, v47);
+ store64(v8 + 1408, v48);
+ store64(v8 + 1528, load64(v8 + 1144));
+ store64(v8 + 1520, load64(v8 + 1136));
+ store64(v8 + 1512, load64(v8 + 1128));
+ store64(v8 + 1504, load64(v8 + 1120));
+ store64(v8 + 1496, load64(v8 + 1112));
+ store64(v8 + 1488, load64(v8 + 1104));
+ store64(v8 + 1480, load64(v8 + 1096));
+ store64(v8 + 1472, load64(v8 + 1088));
+ store64(v8 + 1592, load64(v8 + 1144));
+ store64(v8 + 1584, load64(v8 + 1136));
+ store64(v8 + 1576, load64(v8 + 1128));
+ store64(v8 + 1568, load64(v8 + 1120));
+ store64(v8 + 1560, load64(v8 + 1112));
+ store64(v8 + 1552, load64(v8 + 1104));
+ store64(v8 + 1544, load64(v8 + 1096));
+ store64(v8 + 1536, load64(v8 + 1088));
+ fill(v8.plus(1664).plus(512), 0, 448);
+ copy(v8.plus(1664), v8.plus(1152), 512);
+ copy(v8.plus(64), v8.plus(1664), 960);
+ v5 = load64(v8 + 1144);
+ store64(v8 + 56, v5);
+ v7 = load64(v8 + 1136);
+ store64(v8 + 48, v7);
+ v6 = load64(v8 + 1128);
+ store64(v8 + 40, v6);
+ v4 = load64(v8 + 1120);
+ store64(v8 + 32, v4);
+ v10 = load64(v8 + 1112);
+ store64(v8 + 24, v10);
+ v2 = load64(v8 + 1104);
+ store64(v8 + 16, v2);
+ v47 = load64(v8 + 1096);
+ store64(v8 + 8, v47);
+ v48 = load64(v8 + 1088);
+ store64(v8, v48);
+ v49 = if v9 != 0 { 0_u64 } else { 512 };
+ store64(v0.plus(272), v49);
+ store64(v0.plus(264), 0);
+ v43 ^= 0x5be0cd19;
+ store32(v0.plus(260), v43 as u64);
+ v39 ^= 0x5be0cd19;
+ store32(v0.plus(256), v39 as u64);
+ v35 ^= 0x5be0cd19;
+ store32(v0.plus(252), v35 as u64);
+ v31 ^= 0x5be0cd19;
+ store32(v0.plus(248), v31 as u64);
+ v27 ^= 0x5be0cd19;
+ store32(v0.plus(244), v27 as u64);
+ v23 ^= 0x5be0cd19;
+ store32(v0.plus(240), v23 as u64);
+ v19 ^= 0x5be0cd19;
+ store32(v0.plus(236), v19 as u64);
+ v15 ^= 0x5be0cd19;
+ store32(v0.plus(232), v15 as u64);
+ v42 ^= 0x1f83d9ab;
+ store32(v0.plus(228), v42 as u64);
+ v38 ^= 0x1f83d9ab;
+ store32(v0.plus(224), v38 as u64);
+ v34 ^= 0x1f83d9ab;
+ store32(v0.plus(220), v34 as u64);
+ v30 ^= 0x1f83d9ab;
+ store32(v0.plus(216), v30 as u64);
+ v26 ^= 0x1f83d9ab;
+ store32(v0.plus(212), v26 as u64);
+ v22 ^= 0x1f83d9ab;
+ store32(v0.plus(208), v22 as u64);
+ v18 ^= 0x1f83d9ab;
+ store32(v0.plus(204), v18 as u64);
+ v14 ^= 0x1f83d9ab;
+ store32(v0.plus(200), v14 as u64);
+ v41 ^= 0x9b05688c;
+ store32(v0.plus(196), v41 as u64);
+ v37 ^= 0x9b05688c;
+ store32(v0.plus(192), v37 as u64);
+ v33 ^= 0x9b05688c;
+ store32(v0.plus(188), v33 as u64);
+ v29 ^= 0x9b05688c;
+ store32(v0.plus(184), v29 as u64);
+ v25 ^= 0x9b05688c;
+ store32(v0.plus(180), v25 as u64);
+ v21 ^= 0x9b05688c;
+ store32(v0.plus(176), v21 as u64);
+ v17 ^= 0x9b05688c;
+ store32(v0.plus(172), v17 as u64);
+ v13 ^= 0x9b05688c;
+ store32(v0.plus(168), v13 as u64);
+ v40 ^= 0x510e527f;
+ store32(v0.plus(164), v40 as u64);
+ v36 ^= 0x510e527f;
+ store32(v0.plus(160), v36 as u64);
+ v32 ^= 0x510e527f;
+ store32(v0.plus(156), v32 as u64);
+ v28 ^= 0x510e527f;
+ store32(v0.plus(152), v28 as u64);
+ v24 ^= 0x510e527f;
+ store32(v0.plus(148), v24 as u64);
+ v20 ^= 0x510e527f;
+ store32(v0.plus(144), v20 as u64);
+ v16 ^= 0x510e527f;
+ store32(v0.plus(140), v16 as u64);
+ v12 ^= 0x510e527f;
+ store32(v0.plus(136), v12 as u64);
+ store64(v0.plus(128), 0x854ff53a854ff53a);
+ store64(v0.plus(120), 0x854ff53a854ff53a);
+ store64(v0.plus(112), 0x854ff53a854ff53a);
+ store64(v0.plus(104), 0x854ff53a854ff53a);
+ store64(v0.plus(96), 0x3c6ef3753c6ef374);
+ store64(v0.plus(88), 0x3c6ef3773c6ef376);
+ store64(v0.plus(80), 0x3c6ef3713c6ef370);
+ store64(v0.plus(72), 0x3c6ef3733c6ef372);
+ store64(v0.plus(64), 0xbb67ae85bb67ae85);
+ store64(v0.plus(56), 0xbb67ae85bb67ae85);
+ store64(v0.plus(48), 0xbb67ae85bb67ae85);
+ store64(v0.plus(40), 0xbb67ae85bb67ae85);
+ v9 = (((v3 as u32) << 8) | (v1 as u32) | 0x2080000) ^ 0x6a09e667;
+ store32(v0.plus(36), v9 as u64);
+ store32(v0.plus(32), v9 as u64);
+ store32(v0.plus(28), v9 as u64);
+ store32(v0.plus(24), v9 as u64);
+ store32(v0.plus(20), v9 as u64);
+ store32(v0.plus(16), v9 as u64);
+ store32(v0.plus(12), v9 as u64);
+ store32(v0.plus(8), v9 as u64);
+ store8(v0, 0);
+ store64(v8 + 1024, v48);
+ store64(v8 + 1032, v47);
+ store64(v8 + 1040, v2);
+ store64(v8 + 1048, v10);
+ store64(v8 + 1056, v4);
+ store64(v8 + 1064, v6);
+ store64(v8 + 1072, v7);
+ store64(v8 + 1080, v5);
+ copy(v0.plus(280), v8.plus(64), 960);
+ store64(v0.plus(1536), v1);
+ store64(v0.plus(1528), v49);
+ store32(v0.plus(1524), (v46 ^ 0x5be0cd19) as u64);
+ store32(v0.plus(1520), (v45 ^ 0x1f83d9ab) as u64);
+ store32(v0.plus(1516), (v44 ^ 0x9b05688c) as u64);
+ store32(v0.plus(1512), (v11 ^ 0x510e527f) as u64);
+ store32(v0.plus(1508), 0x854ef53a);
+ store64(v0.plus(1500), 0x3c6ef372bb67ae85);
+ store32(v0.plus(1496), v9 as u64);
+ store32(v0.plus(1492), v43 as u64);
+ store32(v0.plus(1488), v39 as u64);
+ store32(v0.plus(1484), v35 as u64);
+ store32(v0.plus(1480), v31 as u64);
+ store32(v0.plus(1476), v27 as u64);
+ store32(v0.plus(1472), v23 as u64);
+ store32(v0.plus(1468), v19 as u64);
+ store32(v0.plus(1464), v15 as u64);
+ store32(v0.plus(1460), v42 as u64);
+ store32(v0.plus(1456), v38 as u64);
+ store32(v0.plus(1452), v34 as u64);
+ store32(v0.plus(1448), v30 as u64);
+ store32(v0.plus(1444), v26 as u64);
+ store32(v0.plus(1440), v22 as u64);
+ store32(v0.plus(1436), v18 as u64);
+ store32(v0.plus(1432), v14 as u64);
+ store32(v0.plus(1428), v41 as u64);
+ store32(v0.plus(1424), v37 as u64);
+ store32(v0.plus(1420), v33 as u64);
+ store32(v0.plus(1416), v29 as u64);
+ store32(v0.plus(1412), v25 as u64);
+ store32(v0.plus(1408), v21 as u64);
+ store32(v0.plus(1404), v17 as u64);
+ store32(v0.plus(1400), v13 as u64);
+ store32(v0.plus(1396), v40 as u64);
+ store32(v0.plus(1392), v36 as u64);
+ store32(v0.plus(1388), v32 as u64);
+ store32(v0.plus(1384), v28 as u64);
+ store32(v0.plus(1380), v24 as u64);
+ store32(v0.plus(1376), v20 as u64);
+ store32(v0.plus(1372), v16 as u64);
+ store32(v0.plus(1368), v12 as u64);
+ store64(v0.plus(1360), 0x854ff53a854ff53a);
+ store64(v0.plus(1352), 0x854ff53a854ff53a);
+ store64(v0.plus(1344), 0x854ff53a854ff53a);
+ store64(v0.plus(1336), 0x854ff53a854ff53a);
+ store64(v0.plus(1328), 0x3c6ef3753c6ef374);
+ store64(v0.plus(1320), 0x3c6ef3773c6ef376);
+ store64(v0.plus(1312), 0x3c6ef3713c6ef370);
+ store64(v0.plus(1304), 0x3c6ef3733c6ef372);
+ store64(v0.plus(1296), 0xbb67ae85bb67ae85);
+ store64(v0.plus(1288), 0xbb67ae85bb67ae85);
+ store64(v0.plus(1280), 0xbb67ae85bb67ae85);
+ store64(v0.plus(1272), 0xbb67ae85bb67ae85);
+ store32(v0.plus(1268), v9 as u64);
+ store32(v0.plus(1264), v9 as u64);
+ store32(v0.plus(1260), v9 as u64);
+ store32(v0.plus(1256), v9 as u64);
+ store32(v0.plus(1252), v9 as u64);
+ store32(v0.plus(1248), v9 as u64);
+ store32(v0.plus(1244), v9 as u64);
+ store32(v0.plus(1240), v9 as u64);
+ store64(v0.plus(1600), load64(v8 + 1080));
+ store64(v0.plus(1592), load64(v8 + 1072));
+ store64(v0.plus(1584), load64(v8 + 1064));
+ store64(v0.plus(1576), load64(v8 + 1056));
+ store64(v0.plus(1568), load64(v8 + 1048));
+ store64(v0.plus(1560), load64(v8 + 1040));
+ store64(v0.plus(1552), load64(v8 + 1032));
+ store64(v0.plus(1544), load64(v8 + 1024));
+ break 'l1;
+ }
+}
+
+// blake2_parallel::lanes::blake2s::compress_by_leaf
+#[inline(never)]
+unsafe fn parallel_lanes_blake2s_compress_by_leaf(mut v0: u64, mut v1: u64, mut v2: u64, mut v3:
+        u64) {
+ let mut v4: u64;
+ let mut v5: u32;
+ let mut v6: u32;
+ let mut v7: u32;
+ let mut v8: u32;
+ let mut v9: u32;
+ let mut v10: u32;
+ let mut v11: u32;
+ let mut v12: u32;
+ let mut v13: u32;
+ let mut v14: u32;
+ let mut v15: u32;
+ let mut v16: u32;
+ let mut v17: u32;
+ let mut v18: u32;
+ let mut v19: u32;
+ let mut v20: u32;
+ let mut v21: u32;
+ let mut v22: u32;
+ let mut v23: u32;
+ let mut v24: u32;
+ let mut v25: u32;
+ let mut v26: u32;
+ let mut v27: u32;
+ let mut v28: u32;
+ let mut v29: u32;
+ let mut v30: u32;
+ let mut v31: u32;
+ let mut v32: u32;
+ let mut v33: u32;
+ let mut v34: u32;
+ let mut v35: u32;
+ let mut v36: u32;
+ let mut v37: u32;
+ let mut v38: u32;
+ let mut v39: u32;
+ let mut v40: u32;
+ let mut v41: u32;
+ let mut v42: u32;
+ let mut v43: u32;
+ let mut v44: u32;
+ let mut v45: u32;
+ let mut v46: u32;
+ let mut v47: u32;
+ let mut v48: u32;
+ let mut v49: u32;
+ let mut v50: u32;
+ let mut v51: u32;
+ let mut v52: u32;
+ let mut v53: u32;
+ let mut v54: u32;
+ let mut v55: u32;
+ let mut v56: u32;
+ let mut v57: u32;
+ let mut v58: u32;
+ let mut v59: u32;
+ let mut v60: u32;
+ let mut v61: u32;
+ let mut v62: u32;
+ let mut v63: u32;
+ let mut v64: u32;
+ let mut v65: u32;
+ let mut v66: u32;
+ let mut v67: u32;
+ let mut v68: u32;
+ let mut v69: u32;
+ let mut v70: u64;
+ let mut v71: u64;
+ let mut v72: u64;
+ let mut frame = [0_u64; 6];
+ let top = (address!(frame)).plus(48) & !15;
+ v4 = top.minus(32);
+ v5 = load32(v0 + 252);
+ v6 = load32(v0 + 248);
+ v7 = load32(v0 + 244);
+ v8 = load32(v0 + 240);
+ v9 = load32(v0 + 236);
+ v10 = load32(v0 + 232);
+ v11 = load32(v0 + 228);
+ v12 = load32(v0 + 220);
+ v13 = load32(v0 + 216);
+ v14 = load32(v0 + 212);
+ v15 = load32(v0 + 208);
+ v16 = load32(v0 + 204);
+ v17 = load32(v0 + 200);
+ v18 = load32(v0 + 196);
+ v19 = load32(v0 + 188);
+ v20 = load32(v0 + 184);
+ v21 = load32(v0 + 180);
+ v22 = load32(v0 + 176);
+ v23 = load32(v0 + 172);
+ v24 = load32(v0 + 168);
+ v25 = load32(v0 + 164);
+ v26 = load32(v0 + 156);
+ v27 = load32(v0 + 152);
+ v28 = load32(v0 + 148);
+ v29 = load32(v0 + 144);
+ v30 = load32(v0 + 140);
+ v31 = load32(v0 + 136);
+ v32 = load32(v0 + 132);
+ v33 = load32(v0 + 124);
+ v34 = load32(v0 + 120);
+ v35 = load32(v0 + 116);
+ v36 = load32(v0 + 112);
+ v37 = load32(v0 + 108);
+ v38 = load32(v0 + 104);
+ v39 = load32(v0 + 100);
+ v40 = load32(v0 + 92);
+ v41 = load32(v0 + 88);
+ v42 = load32(v0 + 84);
+ v43 = load32(v0 + 80);
+ v44 = load32(v0 + 76);
+ v45 = load32(v0 + 72);
+ v46 = load32(v0 + 68);
+ v47 = load32(v0 + 60);
+ v48 = load32(v0 + 56);
+ v49 = load32(v0 + 52);
+ v50 = load32(v0 + 48);
+ v51 = load32(v0 + 44);
+ v52 = load32(v0 + 40);
+ v53 = load32(v0 + 36);
+ v54 = load32(v0 + 28);
+ v55 = load32(v0 + 24);
+ v56 = load32(v0 + 20);
+ v57 = load32(v0 + 16);
+ v58 = load32(v0 + 12);
+ v59 = load32(v0 + 8);
+ v60 = load32(v0 + 4);
+ v61 = load32(v0);
+ v62 = load32(v0 + 32);
+ v63 = load32(v0 + 64);
+ v64 = load32(v0 + 96);
+ v65 = load32(v0 + 128);
+ v66 = load32(v0 + 160);
+ v67 = load32(v0 + 192);
+ v68 = load32(v0 + 224);
+ store32(v4 + 28, v68 as u64);
+ store32(v4 + 24, v67 as u64);
+ store32(v4 + 20, v66 as u64);
+ store32(v4 + 16, v65 as u64);
+ store32(v4 + 12, v64 as u64);
+ store32(v4 + 8, v63 as u64);
+ store32(v4 + 4, v62 as u64);
+ store32(v4, v61 as u64);
+ 'l2: loop {
+ v69 = (v3 == 0) as u32;
+ if v69 != 0 { break 'l2; }
+ v70 = v2.plus(64);
+ v71 = v3;
+ v72 = v1;
+ 'l3: loop {
+ compress_compress_blake2s_compress(v4, v72, v70, 0, 0);
+ v70 = v70.plus(64);
+ v72 = v72.plus(512);
+ v71 = v71.minus(1);
+ if v71 != 0 { continue 'l3; }
+ break 'l3; }
+ v68 = load32(v4 + 28);
+ v67 = load32(v4 + 24);
+ v66 = load32(v4 + 20);
+ v65 = load32(v4 + 16);
+ v64 = load32(v4 + 12);
+ v63 = load32(v4 + 8);
+ v62 = load32(v4 + 4);
+ v61 = load32(v4);
+ break 'l2; }
+ store32(v4 + 28, v11 as u64);
+ store32(v4 + 24, v18 as u64);
+ store32(v4 + 20, v25 as u64);
+ store32(v4 + 16, v32 as u64);
+ store32(v4 + 12, v39 as u64);
+ store32(v4 + 8, v46 as u64);
+ store32(v4 + 4, v53 as u64);
+ store32(v4, v60 as u64);
+ 'l4: loop {
+ if v69 != 0 { break 'l4; }
+ v70 = v2.plus(64);
+ v72 = v1.plus(64);
+ v71 = v3;
+ 'l5: loop {
+ compress_compress_blake2s_compress(v4, v72, v70, 0, 0);
+ v70 = v70.plus(64);
+ v72 = v72.plus(512);
+ v71 = v71.minus(1);
+ if v71 != 0 { continue 'l5; }
+ break 'l5; }
+ v11 = load32(v4 + 28);
+ v18 = load32(v4 + 24);
+ v25 = load32(v4 + 20);
+ v32 = load32(v4 + 16);
+ v39 = load32(v4 + 12);
+ v46 = load32(v4 + 8);
+ v53 = load32(v4 + 4);
+ v60 = load32(v4);
+ break 'l4; }
+ store32(v4 + 28, v10 as u64);
+ store32(v4 + 24, v17 as u64);
+ store32(v4 + 20, v24 as u64);
+ store32(v4 + 16, v31 as u64);
+ store32(v4 + 12, v38 as u64);
+ store32(v4 + 8, v45 as u64);
+ store32(v4 + 4, v52 as u64);
+ store32(v4, v59 as u64);
+ 'l6: loop {
+ if v69 != 0 { break 'l6; }
+ v70 = v2.plus(64);
+ v72 = v1.plus(128);
+ v71 = v3;
+ 'l7: loop {
+ compress_compress_blake2s_compress(v4, v72, v70, 0, 0);
+ v70 = v70.plus(64);
+ v72 = v72.plus(512);
+ v71 = v71.minus(1);
+ if v71 != 0 { continue 'l7; }
+ break 'l7; }
+ v10 = load32(v4 + 28);
+ v17 = load32(v4 + 24);
+ v24 = load32(v4 + 20);
+ v31 = load32(v4 + 16);
+ v38 = load32(v4 + 12);
+ v45 = load32(v4 + 8);
+ v52 = load32(v4 + 4);
+ v59 = load32(v4);
+ break 'l6; }
+ store32(v4 + 28, v9 as u64);
+ store32(v4 + 24, v16 as u64);
+ store32(v4 + 20, v23 as u64);
+ store32(v4 + 16, v30 as u64);
+ store32(v4 + 12, v37 as u64);
+ store32(v4 + 8, v44 as u64);
+ store32(v4 + 4, v51 as u64);
+ store32(v4, v58 as u64);
+ 'l8: loop {
+ if v69 != 0 { break 'l8; }
+ v70 = v2.plus(64);
+ v72 = v1.plus(192);
+ v71 = v3;
+ 'l9: loop {
+ compress_compress_blake2s_compress(v4, v72, v70, 0, 0);
+ v70 = v70.plus(64);
+ v72 = v72.plus(512);
+ v71 = v71.minus(1);
+ if v71 != 0 { continue 'l9; }
+ break 'l9; }
+ v9 = load32(v4 + 28);
+ v16 = load32(v4 + 24);
+ v23 = load32(v4 + 20);
+ v30 = load32(v4 + 16);
+ v37 = load32(v4 + 12);
+ v44 = load32(v4 + 8);
+ v51 = load32(v4 + 4);
+ v58 = load32(v4);
+ break 'l8; }
+ store32(v4 + 28, v8 as u64);
+ store32(v4 + 24, v15 as u64);
+ store32(v4 + 20, v22 as u64);
+ store32(v4 + 16, v29 as u64);
+ store32(v4 + 12, v36 as u64);
+ store32(v4 + 8, v43 as u64);
+ store32(v4 + 4, v50 as u64);
+ store32(v4, v57 as u64);
+ 'l10: loop {
+ if v69 != 0 { break 'l10; }
+ v70 = v2.plus(64);
+ v72 = v1.plus(256);
+ v71 = v3;
+ 'l11: loop {
+ compress_compress_blake2s_compress(v4, v72, v70, 0, 0);
+ v70 = v70.plus(64);
+ v72 = v72.plus(512);
+ v71 = v71.minus(1);
+ if v71 != 0 { continue 'l11; }
+ break 'l11; }
+ v8 = load32(v4 + 28);
+ v15 = load32(v4 + 24);
+ v22 = load32(v4 + 20);
+ v29 = load32(v4 + 16);
+ v36 = load32(v4 + 12);
+ v43 = load32(v4 + 8);
+ v50 = load32(v4 + 4);
+ v57 = load32(v4);
+ break 'l10; }
+ store32(v4 + 28, v7 as u64);
+ store32(v4 + 24, v14 as u64);
+ store32(v4 + 20, v21 as u64);
+ store32(v4 + 16, v28 as u64);
+ store32(v4 + 12, v35 as u64);
+ store32(v4 + 8, v42 as u64);
+ store32(v4 + 4, v49 as u64);
+ store32(v4, v56 as u64);
+ 'l12: loop {
+ if v69 != 0 { break 'l12; }
+ v70 = v2.plus(64);
+ v72 = v1.plus(320);
+ v71 = v3;
+ 'l13: loop {
+ compress_compress_blake2s_compress(v4, v72, v70, 0, 0);
+ v70 = v70.plus(64);
+ v72 = v72.plus(512);
+ v71 = v71.minus(1);
+ if v71 != 0 { continue 'l13; }
+ break 'l13; }
+ v7 = load32(v4 + 28);
+ v14 = load32(v4 + 24);
+ v21 = load32(v4 + 20);
+ v28 = load32(v4 + 16);
+ v35 = load32(v4 + 12);
+ v42 = load32(v4 + 8);
+ v49 = load32(v4 + 4);
+ v56 = load32(v4);
+ break 'l12; }
+ store32(v4 + 28, v6 as u64);
+ store32(v4 + 24, v13 as u64);
+ store32(v4 + 20, v20 as u64);
+ store32(v4 + 16, v27 as u64);
+ store32(v4 + 12, v34 as u64);
+ store32(v4 + 8, v41 as u64);
+ store32(v4 + 4, v48 as u64);
+ store32(v4, v55 as u64);
+ 'l14: loop {
+ if v69 != 0 { break 'l14; }
+ v70 = v2.plus(64);
+ v72 = v1.plus(384);
+ v71 = v3;
+ 'l15: loop {
+ compress_compress_blake2s_compress(v4, v72, v70, 0, 0);
+ v70 = v70.plus(64);
+ v72 = v72.plus(512);
+ v71 = v71.minus(1);
+ if v71 != 0 { continue 'l15; }
+ break 'l15; }
+ v6 = load32(v4 + 28);
+ v13 = load32(v4 + 24);
+ v20 = load32(v4 + 20);
+ v27 = load32(v4 + 16);
+ v34 = load32(v4 + 12);
+ v41 = load32(v4 + 8);
+ v48 = load32(v4 + 4);
+ v55 = load32(v4);
+ break 'l14; }
+ store32(v4 + 28, v5 as u64);
+ store32(v4 + 24, v12 as u64);
+ store32(v4 + 20, v19 as u64);
+ store32(v4 + 16, v26 as u64);
+ store32(v4 + 12, v33 as u64);
+ store32(v4 + 8, v40 as u64);
+ store32(v4 + 4, v47 as u64);
+ store32(v4, v54 as u64);
+ 'l16: loop {
+ if v69 != 0 { break 'l16; }
+ v70 = v2.plus(64);
+ v72 = v1.plus(448);
+ 'l17: loop {
+ compress_compress_blake2s_compress(v4, v72, v70, 0, 0);
+ v70 = v70.plus(64);
+ v72 = v72.plus(512);
+ v3 = v3.minus(1);
+ if v3 != 0 { continue 'l17; }
+ break 'l17; }
+ v5 = load32(v4 + 28);
+ v12 = load32(v4 + 24);
+ v19 = load32(v4 + 20);
+ v26 = load32(v4 + 16);
+ v33 = load32(v4 + 12);
+ v40 = load32(v4 + 8);
+ v47 = load32(v4 + 4);
+ v54 = load32(v4);
+ break 'l16; }
+ store32(v0 + 252, v5 as u64);
+ store32(v0 + 248, v6 as u64);
+ store32(v0 + 244, v7 as u64);
+ store32(v0 + 240, v8 as u64);
+ store32(v0 + 236, v9 as u64);
+ store32(v0 + 232, v10 as u64);
+ store32(v0 + 228, v11 as u64);
+ store32(v0 + 224, v68 as u64);
+ store32(v0 + 220, v12 as u64);
+ store32(v0 + 216, v13 as u64);
+ store32(v0 + 212, v14 as u64);
+ store32(v0 + 208, v15 as u64);
+ store32(v0 + 204, v16 as u64);
+ store32(v0 + 200, v17 as u64);
+ store32(v0 + 196, v18 as u64);
+ store32(v0 + 192, v67 as u64);
+ store32(v0 + 188, v19 as u64);
+ store32(v0 + 184, v20 as u64);
+ store32(v0 + 180, v21 as u64);
+ store32(v0 + 176, v22 as u64);
+ store32(v0 + 172, v23 as u64);
+ store32(v0 + 168, v24 as u64);
+ store32(v0 + 164, v25 as u64);
+ store32(v0 + 160, v66 as u64);
+ store32(v0 + 156, v26 as u64);
+ store32(v0 + 152, v27 as u64);
+ store32(v0 + 148, v28 as u64);
+ store32(v0 + 144, v29 as u64);
+ store32(v0 + 140, v30 as u64);
+ store32(v0 + 136, v31 as u64);
+ store32(v0 + 132, v32 as u64);
+ store32(v0 + 128, v65 as u64);
+ store32(v0 + 124, v33 as u64);
+ store32(v0 + 120, v34 as u64);
+ store32(v0 + 116, v35 as u64);
+ store32(v0 + 112, v36 as u64);
+ store32(v0 + 108, v37 as u64);
+ store32(v0 + 104, v38 as u64);
+ store32(v0 + 100, v39 as u64);
+ store32(v0 + 96, v64 as u64);
+ store32(v0 + 92, v40 as u64);
+ store32(v0 + 88, v41 as u64);
+ store32(v0 + 84, v42 as u64);
+ store32(v0 + 80, v43 as u64);
+ store32(v0 + 76, v44 as u64);
+ store32(v0 + 72, v45 as u64);
+ store32(v0 + 68, v46 as u64);
+ store32(v0 + 64, v63 as u64);
+ store32(v0 + 60, v47 as u64);
+ store32(v0 + 56, v48 as u64);
+ store32(v0 + 52, v49 as u64);
+ store32(v0 + 48, v50 as u64);
+ store32(v0 + 44, v51 as u64);
+ store32(v0 + 40, v52 as u64);
+ store32(v0 + 36, v53 as u64);
+ store32(v0 + 32, v62 as u64);
+ store32(v0 + 28, v54 as u64);
+ store32(v0 + 24, v55 as u64);
+ store32(v0 + 20, v56 as u64);
+ store32(v0 + 16, v57 as u64);
+ store32(v0 + 12, v58 as u64);
+ store32(v0 + 8, v59 as u64);
+ store32(v0 + 4, v60 as u64);
+ store32(v0, v61 as u64);
+ return;
+}
+
+// blake2_parallel::lanes::blake2s::Lanes::compress_held
+#[inline(never)]
+unsafe fn parallel_lanes_blake2s_Lanes_compress_held(mut v0: u64) {
+ let mut v1: u64;
+ let mut v2: u64;
+ let mut v3: u64;
+ let mut v4: u64;
+ let mut v5: u64;
+ let mut v6: u64;
+ let mut v7: u64;
+ let mut v8: u64;
+ let mut v9: u64;
+ let mut v10: u64;
+ let mut v11: u64;
+ let mut v12: u64;
+ let mut v13: u64;
+ let mut v14: u64;
+ let mut v15: u64;
+ let mut v16: u64;
+ let mut v17: u64;
+ let mut v18: u64;
+ let mut v19: u64;
+ let mut v20: u64;
+ let mut v21: u64;
+ let mut v22: u64;
+ let mut v23: u64;
+ let mut v24: u64;
+ let mut v25: u64;
+ let mut v26: u64;
+ let mut v27: u64;
+ let mut v28: u64;
+ let mut v29: u64;
+ let mut v30: u64;
+ let mut v31: u64;
+ let mut v32: u64;
+ let mut v33: u64;
+ let mut v34: u64;
+ let mut v35: u64;
+ let mut v36: u64;
+ let mut v37: u64;
+ let mut v38: u64;
+ let mut v39: u64;
+ let mut v40: u64;
+ let mut v41: u64;
+ let mut v42: u64;
+ let mut v43: u64;
+ let mut v44: u64;
+ let mut v45: u64;
+ let mut v46: u64;
+ let mut v47: u64;
+ let mut v48: u64;
+ let mut v49: u64;
+ let mut v50: u64;
+ let mut v51: u64;
+ let mut v52: u64;
+ let mut v53: u64;
+ let mut v54: u64;
+ let mut v55: u64;
+ let mut v56: u64;
+ let mut v57: u64;
+ let mut v58: u64;
+ let mut v59: u64;
+ let mut v60: u64;
+ let mut v61: u64;
+ let mut v62: u64;
+ let mut v63: u64;
+ let mut v64: u64;
+ let mut v65: u64;
+ let mut v66: u64;
+ let mut frame = [0_u64; 154];
+ let top = (address!(frame)).plus(1232) & !15;
+ v1 = top.minus(1216);
+ v2 = v0.plus(32);
+ v3 = load64(v2);
+ v4 = v0.plus(40);
+ v5 = load64(v4);
+ v6 = v0.plus(48);
+ v7 = load64(v6);
+ v8 = v0.plus(56);
+ v9 = load64(v8);
+ v10 = v0.plus(64);
+ v11 = load64(v10);
+ v12 = v0.plus(72);
+ v13 = load64(v12);
+ v14 = v0.plus(80);
+ v15 = load64(v14);
+ v16 = v0.plus(88);
+ v17 = load64(v16);
+ v18 = v0.plus(96);
+ v19 = load64(v18);
+ v20 = v0.plus(104);
+ v21 = load64(v20);
+ v22 = v0.plus(112);
+ v23 = load64(v22);
+ v24 = v0.plus(120);
+ v25 = load64(v24);
+ v26 = v0.plus(128);
+ v27 = load64(v26);
+ v28 = v0.plus(136);
+ v29 = load64(v28);
+ v30 = v0.plus(144);
+ v31 = load64(v30);
+ v32 = v0.plus(152);
+ v33 = load64(v32);
+ v34 = v0.plus(160);
+ v35 = load64(v34);
+ v36 = v0.plus(168);
+ v37 = load64(v36);
+ v38 = v0.plus(176);
+ v39 = load64(v38);
+ v40 = v0.plus(184);
+ v41 = load64(v40);
+ v42 = v0.plus(192);
+ v43 = load64(v42);
+ v44 = v0.plus(200);
+ v45 = load64(v44);
+ v46 = v0.plus(208);
+ v47 = load64(v46);
+ v48 = v0.plus(216);
+ v49 = load64(v48);
+ v50 = v0.plus(224);
+ v51 = load64(v50);
+ v52 = v0.plus(232);
+ v53 = load64(v52);
+ v54 = v0.plus(240);
+ v55 = load64(v54);
+ v56 = load64(v0);
+ v57 = load64(v0 + 8);
+ v58 = load64(v0 + 16);
+ v59 = load64(v0 + 24);
+ v60 = v0.plus(248);
+ store64(v1 + 248, load64(v60));
+ store64(v1 + 240, v55);
+ store64(v1 + 232, v53);
+ store64(v1 + 224, v51);
+ store64(v1 + 216, v49);
+ store64(v1 + 208, v47);
+ store64(v1 + 200, v45);
+ store64(v1 + 192, v43);
+ store64(v1 + 184, v41);
+ store64(v1 + 176, v39);
+ store64(v1 + 168, v37);
+ store64(v1 + 160, v35);
+ store64(v1 + 152, v33);
+ store64(v1 + 144, v31);
+ store64(v1 + 136, v29);
+ store64(v1 + 128, v27);
+ store64(v1 + 120, v25);
+ store64(v1 + 112, v23);
+ store64(v1 + 104, v21);
+ store64(v1 + 96, v19);
+ store64(v1 + 88, v17);
+ store64(v1 + 80, v15);
+ store64(v1 + 72, v13);
+ store64(v1 + 64, v11);
+ store64(v1 + 56, v9);
+ store64(v1 + 48, v7);
+ store64(v1 + 40, v5);
+ store64(v1 + 32, v3);
+ store64(v1 + 24, v59);
+ store64(v1 + 16, v58);
+ store64(v1 + 8, v57);
+ store64(v1, v56);
+ v5 = v0.plus(272);
+ v7 = v0.plus(256);
+ v9 = load64(v7);
+ parallel_lanes_blake2s_compress_by_leaf(v1, v5, v9, 1);
+ v11 = v0.plus(264);
+ v3 = load64(v11);
+ fill(v1.plus(256), 0, 960);
+ 'l2: loop {
+ v3 = v3.minus(512);
+ if v3 == 0 { break 'l2; }
+ copy(v1.plus(256), v0.plus(784), v3);
+ break 'l2; }
+ v13 = load64(v1);
+ v15 = load64(v1 + 8);
+ v17 = load64(v1 + 16);
+ v19 = load64(v1 + 24);
+ v21 = load64(v1 + 32);
+ v23 = load64(v1 + 40);
+ v25 = load64(v1 + 48);
+ v27 = load64(v1 + 56);
+ v29 = load64(v1 + 64);
+ v31 = load64(v1 + 72);
+ v33 = load64(v1 + 80);
+ v35 = load64(v1 + 88);
+ v37 = load64(v1 + 96);
+ v39 = load64(v1 + 104);
+ v41 = load64(v1 + 112);
+ v43 = load64(v1 + 120);
+ v45 = load64(v1 + 128);
+ v47 = load64(v1 + 136);
+ v49 = load64(v1 + 144);
+ v51 = load64(v1 + 152);
+ v53 = load64(v1 + 160);
+ v55 = load64(v1 + 168);
+ v56 = load64(v1 + 176);
+ v57 = load64(v1 + 184);
+ v58 = load64(v1 + 192);
+ v59 = load64(v1 + 200);
+ v61 = load64(v1 + 208);
+ v62 = load64(v1 + 216);
+ v63 = load64(v1 + 224);
+ v64 = load64(v1 + 232);
+ v65 = load64(v1 + 240);
+ v66 = load64(v1 + 248);
+ store64(v7, v9.plus(64));
+ store64(v60, v66);
+ store64(v54, v65);
+ store64(v52, v64);
+ store64(v50, v63);
+ store64(v48, v62);
+ store64(v46, v61);
+ store64(v44, v59);
+ store64(v42, v58);
+ store64(v40, v57);
+ store64(v38, v56);
+ store64(v36, v55);
+ store64(v34, v53);
+ store64(v32, v51);
+ store64(v30, v49);
+ store64(v28, v47);
+ store64(v26, v45);
+ store64(v24, v43);
+ store64(v22, v41);
+ store64(v20, v39);
+ store64(v18, v37);
+ store64(v16, v35);
+ store64(v14, v33);
+ store64(v12, v31);
+ store64(v10, v29);
+ store64(v8, v27);
+ store64(v6, v25);
+ store64(v4, v23);
+ store64(v2, v21);
+ store64(v0 + 24, v19);
+ store64(v0 + 16, v17);
+ store64(v0 + 8, v15);
+ store64(v0, v13);
+ copy(v5, v1.plus(256), 960);
+ store64(v11, v3);
+ return;
+}
+
+// blake2_parallel::blake2s::State::update
+#[inline(never)]
+unsafe fn parallel_blake2s_State_update(mut v0: u64, mut v1: u64, mut v2: u64) {
+ let mut v3: u64;
+ let mut v4: u64;
+ let mut v5: u64;
+ let mut v6: u64;
+ let mut v7: u64;
+ let mut v8: u64;
+ let mut v9: u64;
+ let mut v10: u64;
+ let mut v11: u64;
+ let mut v12: u64;
+ let mut v13: u64;
+ let mut v14: u64;
+ let mut v15: u64;
+ let mut v16: u64;
+ let mut v17: u64;
+ let mut v18: u64;
+ let mut v19: u64;
+ let mut v20: u64;
+ let mut v21: u64;
+ let mut v22: u64;
+ let mut v23: u64;
+ let mut v24: u64;
+ let mut v25: u64;
+ let mut v26: u64;
+ let mut v27: u64;
+ let mut v28: u64;
+ let mut v29: u64;
+ let mut v30: u64;
+ let mut v31: u64;
+ let mut v32: u64;
+ let mut v33: u64;
+ let mut v34: u64;
+ let mut v35: u64;
+ let mut v36: u64;
+ let mut v37: u64;
+ let mut v38: u64;
+ let mut v39: u64;
+ let mut v40: u64;
+ let mut v41: u64;
+ let mut v42: u64;
+ let mut v43: u64;
+ let mut v44: u64;
+ let mut v45: u64;
+ let mut v46: u64;
+ let mut v47: u64;
+ let mut v48: u64;
+ let mut v49: u64;
+ let mut v50: u64;
+ let mut v51: u64;
+ let mut v52: u64;
+ let mut v53: u64;
+ let mut v54: u64;
+ let mut v55: u64;
+ let mut v56: u64;
+ let mut v57: u64;
+ let mut v58: u64;
+ let mut v59: u64;
+ let mut v60: u64;
+ let mut v61: u64;
+ let mut v62: u64;
+ let mut v63: u64;
+ let mut v64: u64;
+ let mut v65: u64;
+ let mut v66: u64;
+ let mut v67: u64;
+ let mut v68: u64;
+ let mut frame = [0_u64; 34];
+ let top = (address!(frame)).plus(272) & !15;
+ v3 = top.minus(256);
+ 'l2: loop {
+ v4 = load64(v0.plus(264));
+ if 960_u64.minus(v4) >= v2 { break 'l2; }
+ v5 = v0.plus(272);
+ 'l3: loop {
+ 'l4: loop {
+ 'l5: loop {
+ if v4 != 0 { break 'l5; }
+ v6 = v0.plus(32);
+ v7 = load64(v6);
+ v8 = v0.plus(40);
+ v9 = load64(v8);
+ v4 = v0.plus(48);
+ v10 = load64(v4);
+ v11 = v0.plus(56);
+ v12 = load64(v11);
+ v13 = v0.plus(64);
+ v14 = load64(v13);
+ v15 = v0.plus(72);
+ v16 = load64(v15);
+ v17 = v0.plus(80);
+ v18 = load64(v17);
+ v19 = v0.plus(88);
+ v20 = load64(v19);
+ v21 = v0.plus(96);
+ v22 = load64(v21);
+ v23 = v0.plus(104);
+ v24 = load64(v23);
+ v25 = v0.plus(112);
+ v26 = load64(v25);
+ v27 = v0.plus(120);
+ v28 = load64(v27);
+ v29 = v0.plus(128);
+ v30 = load64(v29);
+ v31 = v0.plus(136);
+ v32 = load64(v31);
+ v33 = v0.plus(144);
+ v34 = load64(v33);
+ v35 = v0.plus(152);
+ v36 = load64(v35);
+ v37 = v0.plus(160);
+ v38 = load64(v37);
+ v39 = v0.plus(168);
+ v40 = load64(v39);
+ v41 = v0.plus(176);
+ v42 = load64(v41);
+ v43 = v0.plus(184);
+ v44 = load64(v43);
+ v45 = v0.plus(192);
+ v46 = load64(v45);
+ v47 = v0.plus(200);
+ v48 = load64(v47);
+ v49 = v0.plus(208);
+ v50 = load64(v49);
+ v51 = v0.plus(216);
+ v52 = load64(v51);
+ v53 = v0.plus(224);
+ v54 = load64(v53);
+ v55 = v0.plus(232);
+ v56 = load64(v55);
+ v57 = v0.plus(240);
+ v58 = load64(v57);
+ v59 = load64(v0);
+ v60 = load64(v0 + 8);
+ v61 = load64(v0 + 16);
+ v62 = load64(v0 + 24);
+ v63 = v0.plus(248);
+ store64(v3 + 248, load64(v63));
+ store64(v3 + 240, v58);
+ store64(v3 + 232, v56);
+ store64(v3 + 224, v54);
+ store64(v3 + 216, v52);
+ store64(v3 + 208, v50);
+ store64(v3 + 200, v48);
+ store64(v3 + 192, v46);
+ store64(v3 + 184, v44);
+ store64(v3 + 176, v42);
+ store64(v3 + 168, v40);
+ store64(v3 + 160, v38);
+ store64(v3 + 152, v36);
+ store64(v3 + 144, v34);
+ store64(v3 + 136, v32);
+ store64(v3 + 128, v30);
+ store64(v3 + 120, v28);
+ store64(v3 + 112, v26);
+ store64(v3 + 104, v24);
+ store64(v3 + 96, v22);
+ store64(v3 + 88, v20);
+ store64(v3 + 80, v18);
+ store64(v3 + 72, v16);
+ store64(v3 + 64, v14);
+ store64(v3 + 56, v12);
+ store64(v3 + 48, v10);
+ store64(v3 + 40, v9);
+ store64(v3 + 32, v7);
+ store64(v3 + 24, v62);
+ store64(v3 + 16, v61);
+ store64(v3 + 8, v60);
+ store64(v3, v59);
+ v7 = v0.plus(256);
+ v9 = load64(v7);
+ v10 = v2.minus(449);
+ v12 = v10 >> 9;
+ parallel_lanes_blake2s_compress_by_leaf(v3, v1, v9, v12);
+ v14 = load64(v3);
+ v16 = load64(v3 + 8);
+ v18 = load64(v3 + 16);
+ v20 = load64(v3 + 24);
+ v22 = load64(v3 + 32);
+ v24 = load64(v3 + 40);
+ v26 = load64(v3 + 48);
+ v28 = load64(v3 + 56);
+ v30 = load64(v3 + 64);
+ v32 = load64(v3 + 72);
+ v34 = load64(v3 + 80);
+ v36 = load64(v3 + 88);
+ v38 = load64(v3 + 96);
+ v40 = load64(v3 + 104);
+ v42 = load64(v3 + 112);
+ v44 = load64(v3 + 120);
+ v46 = load64(v3 + 128);
+ v48 = load64(v3 + 136);
+ v50 = load64(v3 + 144);
+ v52 = load64(v3 + 152);
+ v54 = load64(v3 + 160);
+ v56 = load64(v3 + 168);
+ v58 = load64(v3 + 176);
+ v59 = load64(v3 + 184);
+ v60 = load64(v3 + 192);
+ v61 = load64(v3 + 200);
+ v62 = load64(v3 + 208);
+ v64 = load64(v3 + 216);
+ v65 = load64(v3 + 224);
+ v66 = load64(v3 + 232);
+ v67 = load64(v3 + 240);
+ v68 = load64(v3 + 248);
+ store64(v7, v9.plus(v12 << 6));
+ store64(v63, v68);
+ store64(v57, v67);
+ store64(v55, v66);
+ store64(v53, v65);
+ store64(v51, v64);
+ store64(v49, v62);
+ store64(v47, v61);
+ store64(v45, v60);
+ store64(v43, v59);
+ store64(v41, v58);
+ store64(v39, v56);
+ store64(v37, v54);
+ store64(v35, v52);
+ store64(v33, v50);
+ store64(v31, v48);
+ store64(v29, v46);
+ store64(v27, v44);
+ store64(v25, v42);
+ store64(v23, v40);
+ store64(v21, v38);
+ store64(v19, v36);
+ store64(v17, v34);
+ store64(v15, v32);
+ store64(v13, v30);
+ store64(v11, v28);
+ store64(v4, v26);
+ store64(v8, v24);
+ store64(v6, v22);
+ store64(v0 + 24, v20);
+ store64(v0 + 16, v18);
+ store64(v0 + 8, v16);
+ store64(v0, v14);
+ v6 = v10 & 0xfffffffffffffe00;
+ v2 = v2.minus(v6);
+ v1 = v1.plus(v6);
+ break 'l4;
+ }
+ 'l6: loop {
+ if v4 > 511 { break 'l6; }
+ 'l7: loop {
+ 'l8: loop {
+ v6 = v5.plus(v4);
+ v12 = 512_u64.minus(v4);
+ if v6.minus(v1) >= v12 { break 'l8; }
+ v9 = v12 & 3;
+ v7 = 0;
+ 'l9: loop {
+ if v4 > 508 { break 'l9; }
+ v10 = v0.plus(v4);
+ v11 = v12 & 1020;
+ v7 = 0;
+ 'l10: loop {
+ v6 = v10.plus(v7);
+ v8 = v1.plus(v7);
+ store8(v6.plus(272), load8(v8) as u64);
+ store8(v6.plus(273), load8(v8.plus(1)) as u64);
+ store8(v6.plus(274), load8(v8.plus(2)) as u64);
+ store8(v6.plus(275), load8(v8.plus(3)) as u64);
+ v7 = v7.plus(4);
+ if v11 != v7 { continue 'l10; }
+ break 'l10; }
+ if v9 == 0 { break 'l7; }
+ break 'l9; }
+ v6 = v1.plus(v7);
+ v7 = v5.plus(v4.plus(v7));
+ 'l11: loop {
+ store8(v7, load8(v6) as u64);
+ v7 = v7.plus(1);
+ v6 = v6.plus(1);
+ v9 = v9.minus(1);
+ if v9 != 0 { continue 'l11; }
+ break 'l7;
+ }
+ }
+ if v12 == 0 { break 'l7; }
+ copy(v6, v1, v12);
+ break 'l7; }
+ store64(v0.plus(264), 512);
+ parallel_lanes_blake2s_Lanes_compress_held(v0);
+ v1 = v1.plus(v12);
+ v2 = v2.minus(v12);
+ break 'l4;
+ }
+ parallel_lanes_blake2s_Lanes_compress_held(v0);
+ break 'l4; }
+ v4 = load64(v0.plus(264));
+ if 960_u64.minus(v4) < v2 { continue 'l3; }
+ break 'l3; }
+ break 'l2; }
+ 'l12: loop {
+ 'l13: loop {
+ v10 = v0.plus(v4);
+ v6 = v10.plus(272);
+ if v6.minus(v1) >= v2 { break 'l13; }
+ v9 = v2 & 3;
+ v7 = 0;
+ 'l14: loop {
+ if v2 < 4 { break 'l14; }
+ v11 = v2 & 0xfffffffffffffffc;
+ v7 = 0;
+ 'l15: loop {
+ v6 = v10.plus(v7);
+ v8 = v1.plus(v7);
+ store8(v6.plus(272), load8(v8) as u64);
+ store8(v6.plus(273), load8(v8.plus(1)) as u64);
+ store8(v6.plus(274), load8(v8.plus(2)) as u64);
+ store8(v6.plus(275), load8(v8.plus(3)) as u64);
+ v7 = v7.plus(4);
+ if v11 != v7 { continue 'l15; }
+ break 'l15; }
+ if v9 == 0 { break 'l12; }
+ break 'l14; }
+ v6 = v1.plus(v7);
+ v7 = v4.plus(v7).plus(v0).plus(272);
+ 'l16: loop {
+ store8(v7, load8(v6) as u64);
+ v7 = v7.plus(1);
+ v6 = v6.plus(1);
+ v9 = v9.minus(1);
+ if v9 != 0 { continue 'l16; }
+ break 'l12;
+ }
+ }
+ if v2 == 0 { break 'l12; }
+ copy(v6, v1, v2);
+ break 'l12; }
+ store64(v0.plus(264), v4.plus(v2));
+ return;
+}
+
+// blake2_ffi::blake2sp::write
+#[inline(never)]
+unsafe fn ffi_blake2sp_write(mut v0: u64, mut v1: u64, mut v2: u64, mut v3: u64, mut v4: u64, mut
+        v5: u64) -> u32 {
+ let mut v6: u64;
+ let mut v7: u32;
+ let mut frame = [0_u64; 408];
+ let top = (address!(frame)).plus(3264) & !15;
+ v6 = top.minus(3248);
+ fill(v6.plus(8), 0, 1608);
+ parallel_blake2s_State_init_salt_personal(v6.plus(8), v1, v4, v5, 0x100000, 0, 0x100000, 0);
+ v7 = 0xffffffff;
+ 'l2: loop {
+ if load8(v6 + 8) != 0 { break 'l2; }
+ copy(v6.plus(1616), v6.plus(16), 1600);
+ if v3 > (!(load64(v6 + 1872) << 3).plus(load64(v6 + 1880))) { break 'l2; }
+ parallel_blake2s_State_update(v6.plus(1616), v2, v3);
+ fill(v6 + 3216, 0, 32);
+ parallel_blake2s_State_output(v6.plus(3216), v6.plus(1616));
+ 'l3: loop {
+ v5 = load64(v6 + 3144);
+ if v5 == 0 { break 'l3; }
+ copy(v0, v6.plus(3216), v5);
+ break 'l3; }
+ v7 = 0;
+ break 'l2; }
+ return v7;
+}
+
+// rattle::export vulfsjor_ffi_blake2sp
+#[inline(never)]
+unsafe fn exported_blake2sp(mut v0: u64, mut v1: u64, mut v2: u64, mut v3: u64, mut v4: u64, mut v5:
+        u64) -> u32 {
+ let mut v7: u32;
+ v7 = ffi_blake2sp_write(v0.plus(if v0 == 0 { 4096_u64 } else { 0 }), v1, v2.plus(if v2 == 0 {
+   4096_u64 } else { 0 }), v3, v4.plus(if v4 == 0 { 4096_u64 } else { 0 }), v5);
+ 'l2: loop {
+ if v5 == 0 { break 'l2; }
+ digest_wiping_scrub_stack_7168();
+ break 'l2; }
+ return v7;
+}
+
+// blake2_ffi::blake2sp::initialize
+#[inline(never)]
+unsafe fn ffi_blake2sp_initialize(mut v0: u64, mut v1: u64, mut v2: u64, mut v3: u64, mut v4: u64,
+        mut v5: u64, mut v6: u64, mut v7: u64) -> u32 {
+ let mut v8: u64;
+ let mut v9: u32;
+ let mut frame = [0_u64; 204];
+ let top = (address!(frame)).plus(1632) & !15;
+ v8 = top.minus(1616);
+ 'l1: loop {
+ v9 = 0;
+ fill(v8.plus(8), 0, 1608);
+ parallel_blake2s_State_init_salt_personal(v8.plus(8), v1, v2, v3, v4, v5, v6, v7);
+ 'l3: loop {
+ if load8(v8 + 8) != 0 { break 'l3; }
+ copy(v0, v8.plus(16), 1600);
+ break 'l1;
+ }
+ fill(v0, 0, 1600);
+ v9 = 0xffffffff;
+ break 'l1;
+ }
+ return v9;
+}
+
+// Overwrites the stack below the caller.
+#[inline(never)]
+unsafe fn digest_wiping_scrub_stack_5120() {
+    let mut room = [0_u64; 768];
+    for word in room.iter_mut() {
+        core::ptr::write_volatile(word, 0);
+    }
+}
+
+// rattle::export vulfsjor_ffi_blake2sp_init_salt_personal
+#[inline(never)]
+unsafe fn exported_blake2sp_init_salt_personal(mut v0: u64, mut v1: u64, mut v2: u64, mut v3: u64,
+        mut v4: u64, mut v5: u64, mut v6: u64, mut v7: u64) -> u32 {
+ let mut v9: u32;
+ v9 = ffi_blake2sp_initialize(v0, v1, v2.plus(if v2 == 0 { 4096_u64 } else { 0 }), v3, v4.plus(if v4
+   == 0 { 4096_u64 } else { 0 }), v5, v6.plus(if v6 == 0 { 4096_u64 } else { 0 }), v7);
+ 'l2: loop {
+ if v3 == 0 { break 'l2; }
+ digest_wiping_scrub_stack_5120();
+ break 'l2; }
+ return v9;
+}
+
+// rattle::export vulfsjor_ffi_blake2sp_init_key
+#[inline(never)]
+unsafe fn exported_blake2sp_init_key(mut v0: u64, mut v1: u64, mut v2: u64, mut v3: u64) -> u32 {
+ let mut v5: u32;
+ 'l1: loop {
+ if v3 != 0 { break 'l1; }
+ fill(v0, 0, 1600);
+ return 0xffffffff;
+ }
+ v5 = ffi_blake2sp_initialize(v0, v1, v2.plus(if v2 == 0 { 4096_u64 } else { 0 }), v3, 0x100000, 0,
+   0x100000, 0);
+ digest_wiping_scrub_stack_5120();
+ return v5;
+}
+
+// blake2_ffi::blake2sp::absorb
+#[inline(never)]
+unsafe fn ffi_blake2sp_absorb(mut v0: u64, mut v1: u64, mut v2: u64) {
+ parallel_blake2s_State_update(v0, v1, v2);
+ return;
+}
+
+// blake2_ffi::blake2sp::absorb_scrubbed
+#[inline(never)]
+unsafe fn ffi_blake2sp_absorb_scrubbed(mut v0: u64, mut v1: u64, mut v2: u64) {
+ ffi_blake2sp_absorb(v0, v1, v2);
+ digest_wiping_scrub_stack_3072();
+ return;
+}
+
+// rattle::export vulfsjor_ffi_blake2sp_update
+#[inline(never)]
+unsafe fn exported_blake2sp_update(mut v0: u64, mut v1: u64, mut v2: u64) -> u32 {
+ let mut v4: u32;
+ let mut v5: u64;
+ let mut v6: u64;
+ let mut v7: u64;
+ 'l1: loop {
+ 'l2: loop {
+ 'l3: loop {
+ v4 = 0xffffffff;
+ if load64(v0.plus(1528)).minus(1) > 31 { break 'l1; }
+ v5 = load64(v0.plus(264));
+ if v5 > 960 { break 'l1; }
+ v6 = load64(v0.plus(256));
+ if v6 > ((!v5) >> 3) { break 'l1; }
+ v7 = load64(v0.plus(1520));
+ if v7 > 512 { break 'l1; }
+ if v2 > (!(v6 << 3).plus(v5)) { break 'l1; }
+ v1 = v1.plus(if v1 == 0 { 4096_u64 } else { 0 });
+ if v6 != 0 { break 'l3; }
+ if v7 == 0 { break 'l3; }
+ ffi_blake2sp_absorb_scrubbed(v0, v1, v2);
+ break 'l2;
+ }
+ parallel_blake2s_State_update(v0, v1, v2);
+ break 'l2; }
+ v4 = 0;
+ break 'l1; }
+ return v4;
+}
+
+// blake2_ffi::blake2sp::finalize
+#[inline(never)]
+unsafe fn ffi_blake2sp_finalize(mut v0: u64, mut v1: u64) {
+ let mut v2: u64;
+ let mut v3: u64;
+ let mut frame = [0_u64; 6];
+ let top = (address!(frame)).plus(48) & !15;
+ v2 = top.minus(32);
+ fill(v2, 0, 32);
+ parallel_blake2s_State_output(v2, v0);
+ 'l2: loop {
+ v3 = load64(v0.plus(1528));
+ if v3 == 0 { break 'l2; }
+ copy(v1, v2, v3);
+ break 'l2; }
+ fill(v0, 0, 1600);
+ return;
+}
+
+// rattle::export vulfsjor_ffi_blake2sp_final
+#[inline(never)]
+unsafe fn exported_blake2sp_final(mut v0: u64, mut v1: u64, mut v2: u64) -> u32 {
+ let mut v4: u32;
+ let mut v5: u64;
+ let mut v6: u64;
+ let mut v7: u64;
+ v4 = 0xffffffff;
+ 'l2: loop {
+ v5 = load64(v0.plus(1528));
+ if v5.minus(1) > 31 { break 'l2; }
+ v6 = load64(v0.plus(264));
+ if v6 > 960 { break 'l2; }
+ v7 = load64(v0.plus(256));
+ if v7 > ((!v6) >> 3) { break 'l2; }
+ if v2 < v5 { break 'l2; }
+ v2 = load64(v0.plus(1520));
+ if v2 > 512 { break 'l2; }
+ v1 = v1.plus(if v1 == 0 { 4096_u64 } else { 0 });
+ 'l3: loop {
+ if v7 == 0 { break 'l3; }
+ ffi_blake2sp_finalize(v0, v1);
+ return 0;
+ }
+ ffi_blake2sp_finalize(v0, v1);
+ v4 = 0;
+ if v2 == 0 { break 'l2; }
+ digest_wiping_scrub_stack_4096();
+ break 'l2; }
+ return v4;
+}
+
+// blake2_ffi::blake2sp::is_digest_of
+#[inline(never)]
+unsafe fn ffi_blake2sp_is_digest_of(mut v0: u64, mut v1: u64, mut v2: u64) -> u32 {
+ let mut v3: u64;
+ let mut v4: u64;
+ let mut v5: u32;
+ let mut v6: u64;
+ let mut v7: u64;
+ let mut frame = [0_u64; 6];
+ let top = (address!(frame)).plus(48) & !15;
+ v3 = top.minus(32);
+ v4 = v3;
+ fill(v4, 0, 32);
+ parallel_blake2s_State_output(v4, v0);
+ 'l2: loop {
+ 'l3: loop {
+ if v2 == load64(v0.plus(1528)) { break 'l3; }
+ v5 = 0;
+ break 'l2;
+ }
+ 'l4: loop {
+ if !(v2 == 0) { break 'l4; }
+ v5 = 1;
+ break 'l2;
+ }
+ v6 = v2 & 3;
+ 'l5: loop {
+ 'l6: loop {
+ 'l7: loop {
+ if v2 >= 4 { break 'l7; }
+ v0 = 0;
+ v5 = 0;
+ break 'l6;
+ }
+ v7 = v2 & 0xfffffffffffffffc;
+ v0 = 0;
+ v5 = 0;
+ 'l8: loop {
+ v2 = v4.plus(v0);
+ v3 = v1.plus(v0);
+ v5 = (load8(v2.plus(3)) ^ load8(v3.plus(3))) | ((load8(v2.plus(2)) ^ load8(v3.plus(2))) |
+   ((load8(v2.plus(1)) ^ load8(v3.plus(1))) | ((load8(v2) ^ load8(v3)) | v5)));
+ v0 = v0.plus(4);
+ if v7 != v0 { continue 'l8; }
+ break 'l8; }
+ if v6 == 0 { break 'l5; }
+ break 'l6; }
+ v2 = v1.plus(v0);
+ v0 = v4.plus(v0);
+ 'l9: loop {
+ v5 = (load8(v0) ^ load8(v2)) | v5;
+ v2 = v2.plus(1);
+ v0 = v0.plus(1);
+ v6 = v6.minus(1);
+ if v6 != 0 { continue 'l9; }
+ break 'l9; }
+ break 'l5; }
+ v5 = ((v5 & 255) == 0) as u32;
+ break 'l2; }
+ return v5;
+}
+
+// rattle::export vulfsjor_ffi_blake2sp_verify
+#[inline(never)]
+unsafe fn exported_blake2sp_verify(mut v0: u64, mut v1: u64, mut v2: u64) -> u32 {
+ let mut v4: u32;
+ let mut v5: u32;
+ let mut v6: u64;
+ let mut v7: u32;
+ v4 = 0;
+ v5 = 0;
+ 'l2: loop {
+ if load64(v0.plus(1528)).minus(1) > 31 { break 'l2; }
+ v5 = 0;
+ v6 = load64(v0.plus(264));
+ if v6 > 960 { break 'l2; }
+ v5 = 0;
+ if load64(v0.plus(256)) > ((!v6) >> 3) { break 'l2; }
+ v5 = (load64(v0.plus(1520)) < 513) as u32;
+ break 'l2; }
+ 'l3: loop {
+ if load64(v0.plus(256)) != 0 { break 'l3; }
+ v4 = (load64(v0.plus(1520)) != 0) as u32;
+ break 'l3; }
+ v7 = 0xffffffff;
+ 'l4: loop {
+ if v5 == 0 { break 'l4; }
+ v5 = ffi_blake2sp_is_digest_of(v0, v1.plus(if v1 == 0 { 4096_u64 } else { 0 }), v2);
+ fill(v0, 0, 1600);
+ v7 = v5.minus(1);
+ break 'l4; }
+ 'l5: loop {
+ if v4 == 0 { break 'l5; }
+ digest_wiping_scrub_stack_4096();
+ break 'l5; }
+ return v7;
+}
+
+// blake2_ffi::blake2sp::start_again
+#[inline(never)]
+unsafe fn ffi_blake2sp_start_again(mut v0: u64) {
+ let mut v1: u64;
+ let mut v2: u64;
+ let mut v3: u64;
+ let mut v4: u64;
+ let mut v5: u64;
+ let mut v6: u64;
+ let mut v7: u64;
+ let mut v8: u64;
+ let mut v9: u64;
+ let mut v10: u64;
+ let mut v11: u64;
+ let mut v12: u64;
+ let mut v13: u64;
+ let mut v14: u64;
+ let mut v15: u64;
+ let mut v16: u64;
+ let mut v17: u64;
+ let mut v18: u64;
+ let mut frame = [0_u64; 186];
+ let top = (address!(frame)).plus(1488) & !15;
+ v1 = top.minus(1472);
+ v2 = load64(v0.plus(1520));
+ v3 = v0.plus(1592);
+ v4 = load64(v3);
+ store64(v1 + 504, v4);
+ v5 = v0.plus(1584);
+ v6 = load64(v5);
+ store64(v1 + 496, v6);
+ v7 = v0.plus(1576);
+ v8 = load64(v7);
+ store64(v1 + 488, v8);
+ v9 = v0.plus(1568);
+ v10 = load64(v9);
+ store64(v1 + 480, v10);
+ v11 = v0.plus(1560);
+ v12 = load64(v11);
+ store64(v1 + 472, v12);
+ v13 = v0.plus(1552);
+ v14 = load64(v13);
+ store64(v1 + 464, v14);
+ v15 = v0.plus(1544);
+ v16 = load64(v15);
+ store64(v1 + 456, v16);
+ v17 = v0.plus(1536);
+ v18 = load64(v17);
+ store64(v1 + 448, v18);
+ store64(v1, v18);
+ store64(v1 + 8, v16);
+ store64(v1 + 16, v14);
+ store64(v1 + 24, v12);
+ store64(v1 + 32, v10);
+ store64(v1 + 40, v8);
+ store64(v1 + 48, v6);
+ store64(v1 + 56, v4);
+ v4 = load64(v3);
+ store64(v1 + 120, v4);
+ v6 = load64(v5);
+ store64(v1 + 112, v6);
+ v8 = load64(v7);
+ store64(v1 + 104, v8);
+ v10 = load64(v9);
+ store64(v1 + 96, v10);
+ v12 = load64(v11);
+ store64(v1 + 88, v12);
+ v14 = load64(v13);
+ store64(v1 + 80, v14);
+ v16 = load64(v15);
+ store64(v1 + 72, v16);
+ v18 = load64(v17);
+ store64(v1 + 64, v18);
+ store64(v1 + 184, v4);
+ store64(v1 + 176, v6);
+ store64(v1 + 168, v8);
+ store64(v1 + 160, v10);
+ store64(v1 + 152, v12);
+ store64(v1 + 144, v14);
+ store64(v1 + 136, v16);
+ store64(v1 + 128, v18);
+ v4 = load64(v3);
+ store64(v1 + 248, v4);
+ v6 = load64(v5);
+ store64(v1 + 240, v6);
+ v8 = load64(v7);
+ store64(v1 + 232, v8);
+ v10 = load64(v9);
+ store64(v1 + 224, v10);
+ v12 = load64(v11);
+ store64(v1 + 216, v12);
+ v14 = load64(v13);
+ store64(v1 + 208, v14);
+ v16 = load64(v15);
+ store64(v1 + 200, v16);
+ v18 = load64(v17);
+ store64(v1 + 192, v18);
+ store64(v1 + 304, v6);
+ store64(v1 + 312, v4);
+ store64(v1 + 296, v8);
+ store64(v1 + 288, v10);
+ store64(v1 + 280, v12);
+ store64(v1 + 272, v14);
+ store64(v1 + 264, v16);
+ store64(v1 + 256, v18);
+ v3 = load64(v3);
+ store64(v1 + 376, v3);
+ v5 = load64(v5);
+ store64(v1 + 368, v5);
+ v7 = load64(v7);
+ store64(v1 + 360, v7);
+ v9 = load64(v9);
+ store64(v1 + 352, v9);
+ v11 = load64(v11);
+ store64(v1 + 344, v11);
+ v13 = load64(v13);
+ store64(v1 + 336, v13);
+ v15 = load64(v15);
+ store64(v1 + 328, v15);
+ v17 = load64(v17);
+ store64(v1 + 320, v17);
+ store64(v1 + 424, v7);
+ store64(v1 + 440, v3);
+ store64(v1 + 432, v5);
+ store64(v1 + 416, v9);
+ store64(v1 + 408, v11);
+ store64(v1 + 400, v13);
+ store64(v1 + 392, v15);
+ store64(v1 + 384, v17);
+ fill(v1.plus(512).plus(512), 0, 448);
+ copy(v1.plus(512), v1, 512);
+ copy(v0, v0.plus(1232), 256);
+ store64(v0 + 264, v2);
+ store64(v0 + 256, 0);
+ copy(v0.plus(272), v1.plus(512), 960);
+ return;
+}
+
+// rattle::export vulfsjor_ffi_blake2sp_reset
+#[inline(never)]
+unsafe fn exported_blake2sp_reset(mut v0: u64) -> u32 {
+ let mut v2: u32;
+ let mut v3: u64;
+ v2 = 0xffffffff;
+ 'l2: loop {
+ if load64(v0.plus(1528)).minus(1) > 31 { break 'l2; }
+ v3 = load64(v0.plus(264));
+ if v3 > 960 { break 'l2; }
+ if load64(v0.plus(256)) > ((!v3) >> 3) { break 'l2; }
+ v3 = load64(v0.plus(1520));
+ if v3 > 512 { break 'l2; }
+ ffi_blake2sp_start_again(v0);
+ v2 = 0;
+ if v3 == 0 { break 'l2; }
+ digest_wiping_scrub_stack_1792();
+ break 'l2; }
+ return v2;
+}
+
+// rattle::export vulfsjor_ffi_blake2sp_wipe
+#[inline(never)]
+unsafe fn exported_blake2sp_wipe(mut v0: u64) {
+ 'l1: loop {
+ break 'l1;
+ }
+ fill(v0, 0, 1600);
+}
+
+// rattle::export vulfsjor_ffi_blake2sp_digest_size
+#[inline(never)]
+unsafe fn exported_blake2sp_digest_size(mut v0: u64) -> u64 {
+ let mut v1: u64;
+ let mut v2: u64;
+ let mut v3: u64;
+ v1 = 0;
+ 'l2: loop {
+ v2 = load64(v0.plus(1528));
+ if v2.minus(1) > 31 { break 'l2; }
+ v3 = load64(v0.plus(264));
+ if v3 > 960 { break 'l2; }
+ if load64(v0.plus(256)) > ((!v3) >> 3) { break 'l2; }
+ v1 = if load64(v0.plus(1520)) < 513 { v2 } else { 0 };
+ break 'l2; }
+ return v1;
+}
+
+// rattle::export vulfsjor_ffi_blake2sp_count
+#[inline(never)]
+unsafe fn exported_blake2sp_count(mut v0: u64) -> u64 {
+ let mut v1: u64;
+ let mut v2: u64;
+ let mut v3: u64;
+ v1 = 0;
+ 'l2: loop {
+ if load64(v0.plus(1528)).minus(1) > 31 { break 'l2; }
+ v2 = load64(v0.plus(264));
+ if v2 > 960 { break 'l2; }
+ v3 = load64(v0.plus(256));
+ if v3 > ((!v2) >> 3) { break 'l2; }
+ v0 = load64(v0.plus(1520));
+ if v0 > 512 { break 'l2; }
+ v1 = (v3 << 3).plus(v2);
+ v0 = v1.minus(v0);
+ v1 = if v0 > v1 { 0 } else { v0 };
+ break 'l2; }
+ return v1;
+}
+
+// rattle::export vulfsjor_ffi_blake2sp_state_size
+#[inline(never)]
+unsafe fn exported_blake2sp_state_size() {
+ 'l1: loop {
+ break 'l1;
+ }
+}
+
+// vulfsjor_ffi_blake2sp_state_size
+#[inline(never)]
+unsafe fn module_blake2sp_state_size() -> u64 {
+ 'l1: loop {
+ break 'l1;
+ }
+ exported_blake2sp_state_size();
+ return 1600;
+}
+
+// blake2_xof::blake2b::State::squeeze
+#[inline(never)]
+unsafe fn xof_blake2b_State_squeeze(mut v0: u64, mut v1: u64, mut v2: u64) {
+ let mut v3: u64;
+ let mut v4: u64;
+ let mut v5: u64;
+ let mut v6: u64;
+ let mut v7: u64;
+ let mut v8: u64;
+ let mut v9: u64;
+ let mut t0: u64;
+ let mut frame = [0_u64; 34];
+ let top = (address!(frame)).plus(272) & !15;
+ v3 = top.minus(256);
+ 'l2: loop {
+ v4 = v0.plus(536);
+ if load64(v4) != 0 { break 'l2; }
+ state_blake2b_State_write_digest(v0, v0.plus(424));
+ store64(v4, 1);
+ break 'l2; }
+ 'l3: loop {
+ if v2 == 0 { break 'l3; }
+ v4 = v0.plus(424);
+ v5 = load64(v0.plus(528));
+ v6 = v3.plus(128).plus(64);
+ v7 = 0;
+ 'l4: loop {
+ fill(v6, 0, 64);
+ store64(v3 + 88, 0xa54ff53a5f1d36f1);
+ store64(v3 + 80, 0x3c6ef372fe94b82b);
+ store64(v3 + 128, load64(v4));
+ store64(v3 + 136, load64(v4 + 8));
+ store64(v3 + 144, load64(v4 + 16));
+ store64(v3 + 152, load64(v4 + 24));
+ store64(v3 + 160, load64(v4 + 32));
+ store64(v3 + 168, load64(v4 + 40));
+ store64(v3 + 176, load64(v4 + 48));
+ store64(v3 + 184, load64(v4 + 56));
+ store64(v3 + 120, load64(v0.plus(512)) ^ 0x5be0cd19137e2179);
+ store64(v3 + 112, load64(v0.plus(504)) ^ 0x1f83d9abfb41bd6b);
+ store64(v3 + 104, load64(v0.plus(496)) ^ 0x9b05688c2b3e6c1f);
+ store64(v3 + 96, load64(v0.plus(488)) ^ 0x510e527fade682d1);
+ v8 = load64(v0.plus(520));
+ store64(v3 + 72, (v8 << 32).plus(v5 >> 6) ^ 0xbb67ae8584caa73b);
+ v8 = if v8 == 0xffffffff { 0x4000000000 } else { v8 };
+ v9 = v8.minus(v5 & 0xffffffffffffffc0);
+ v8 = if v9 > v8 { 0 } else { v9 };
+ store64(v3 + 64, ((if v8 < 64 { v8 } else { 64 }) | 0x4000000000) ^ 0x6a09e667f3bcc908);
+ compress_compress_blake2b_compress(v3.plus(64), v3.plus(128), 64, 1, 0);
+ store64(v3 + 56, load64(v3 + 120));
+ store64(v3 + 48, load64(v3 + 112));
+ store64(v3 + 40, load64(v3 + 104));
+ store64(v3 + 32, load64(v3 + 96));
+ store64(v3 + 24, load64(v3 + 88));
+ store64(v3 + 16, load64(v3 + 80));
+ store64(v3 + 8, load64(v3 + 72));
+ store64(v3, load64(v3 + 64));
+ 'l5: loop {
+ v9 = v5 & 63;
+ v5 = 64_u64.minus(v9);
+ v8 = v2.minus(v7);
+ v8 = if v5 < v8 { v5 } else { v8 };
+ if v8 == 0 { break 'l5; }
+ copy(v1.plus(v7), v3.plus(v9), v8);
+ break 'l5; }
+ v5 = v0.plus(528);
+ t0 = v5;
+ v5 = load64(v5).plus(v8);
+ store64(t0, v5);
+ v7 = v8.plus(v7);
+ if v7 < v2 { continue 'l4; }
+ break 'l4; }
+ break 'l3; }
+ return;
+}
+
+// blake2_ffi::blake2xb::write
+#[inline(never)]
+unsafe fn ffi_blake2xb_write(mut v0: u64, mut v1: u64, mut v2: u64, mut v3: u64, mut v4: u64, mut
+        v5: u64) -> u32 {
+ let mut v6: u64;
+ let mut v7: u32;
+ let mut v8: u64;
+ let mut v9: u32;
+ let mut v10: u32;
+ let mut v11: u64;
+ let mut v12: u64;
+ let mut v13: u64;
+ let mut frame = [0_u64; 134];
+ let top = (address!(frame)).plus(1072) & !15;
+ v6 = top.minus(1056);
+ v7 = 0xffffffff;
+ 'l2: loop {
+ if v1 >= 0xffffffff { break 'l2; }
+ if v1 == 0 { break 'l2; }
+ if v5 > 64 { break 'l2; }
+ v8 = 0;
+ v9 = ((v1 >> 16) & 0xffff) as u32;
+ v10 = v1 as u32;
+ 'l3: loop {
+ 'l4: loop {
+ if v5 != 0 { break 'l4; }
+ fill(v6.plus(672), 0, 128);
+ fill(v6.plus(800), 0, 128);
+ v4 = ((((v10 & 0xffff) | (v9 << 16)) as u64) << 32) ^ 0xbb67ae8584caa73b;
+ v11 = 0xa54ff53a5f1d36f1;
+ v12 = 0x3c6ef372fe94f82b;
+ v13 = 0x6a09e667f2bdc948;
+ break 'l3;
+ }
+ v8 = 128;
+ 'l5: loop {
+ v11 = 128_u64.minus(v5);
+ if v11 == 0 { break 'l5; }
+ fill(v6.plus(800).plus(v5), 0, v11);
+ break 'l5; }
+ 'l6: loop {
+ if v5 == 0 { break 'l6; }
+ copy(v6.plus(800), v4, v5);
+ break 'l6; }
+ copy(v6.plus(672), v6.plus(800), 128);
+ v4 = ((((v10 & 0xffff) | (v9 << 16)) as u64) << 32) ^ 0xbb67ae8584caa73b;
+ v13 = ((((v5 as u32) << 8) | 0x1010040) as u64) ^ 0x6a09e667f3bcc908;
+ v11 = 0xa54ff53a5f1d36f1;
+ v12 = 0x3c6ef372fe94f82b;
+ break 'l3; }
+ fill(v6 + 960, 0, 96);
+ copy(v6, v6.plus(672), 128);
+ store64(v6 + 288, 0);
+ store64(v6 + 280, 64);
+ store64(v6 + 272, v8);
+ store64(v6 + 264, v8);
+ store64(v6 + 256, 0);
+ store64(v6 + 248, 0x5be0cd19137e2179);
+ store64(v6 + 240, 0x1f83d9abfb41bd6b);
+ store64(v6 + 232, 0x9b05688c2b3e6c1f);
+ store64(v6 + 224, 0x510e527fade682d1);
+ store64(v6 + 216, v11);
+ store64(v6 + 208, v12);
+ store64(v6 + 200, v4);
+ store64(v6 + 192, v13);
+ store64(v6 + 184, 0x5be0cd19137e2179);
+ store64(v6 + 176, 0x1f83d9abfb41bd6b);
+ store64(v6 + 168, 0x9b05688c2b3e6c1f);
+ store64(v6 + 160, 0x510e527fade682d1);
+ store64(v6 + 152, v11);
+ store64(v6 + 144, v12);
+ store64(v6 + 136, v4);
+ store64(v6 + 128, v13);
+ v4 = v6.plus(296);
+ copy(v4, v6, 128);
+ copy(v6.plus(424), v6.plus(800), 128);
+ copy(v6.plus(552), v6.plus(960), 96);
+ store64(v6 + 656, 0);
+ store64(v6 + 648, v1);
+ store64(v6 + 664, 0);
+ if v3 > (!v8) { break 'l2; }
+ 'l7: loop {
+ 'l8: loop {
+ if v3 == 1 { break 'l8; }
+ state_blake2b_State_take(v6.plus(128), v2, v3);
+ break 'l7;
+ }
+ 'l9: loop {
+ if v5 == 0 { break 'l9; }
+ state_blake2b_State_take(v6.plus(128), v2, 1);
+ break 'l7;
+ }
+ store8(v4.plus(v8), load8(v2) as u64);
+ store64(v6 + 264, v8 | 1);
+ break 'l7; }
+ xof_blake2b_State_squeeze(v6.plus(128), v0, v1);
+ v7 = 0;
+ break 'l2; }
+ return v7;
+}
+
+// rattle::export vulfsjor_ffi_blake2xb
+#[inline(never)]
+unsafe fn exported_blake2xb(mut v0: u64, mut v1: u64, mut v2: u64, mut v3: u64, mut v4: u64, mut v5:
+        u64) -> u32 {
+ let mut v7: u32;
+ v7 = ffi_blake2xb_write(v0.plus(if v0 == 0 { 4096_u64 } else { 0 }), v1, v2.plus(if v2 == 0 {
+   4096_u64 } else { 0 }), v3, v4.plus(if v4 == 0 { 4096_u64 } else { 0 }), v5);
+ 'l2: loop {
+ if v5 == 0 { break 'l2; }
+ digest_wiping_scrub_stack_7168();
+ break 'l2; }
+ return v7;
+}
+
+// rattle::export vulfsjor_ffi_blake2xb_derive_key
+#[inline(never)]
+unsafe fn exported_blake2xb_derive_key(mut v0: u64, mut v1: u64, mut v2: u64, mut v3: u64, mut v4:
+        u64, mut v5: u64) -> u32 {
+ let mut v7: u32;
+ 'l1: loop {
+ if !(v3 == 0) { break 'l1; }
+ return 0xffffffff;
+ }
+ v7 = ffi_blake2xb_write(v0.plus(if v0 == 0 { 4096_u64 } else { 0 }), v1, v4.plus(if v4 == 0 {
+   4096_u64 } else { 0 }), v5, v2.plus(if v2 == 0 { 4096_u64 } else { 0 }), v3);
+ digest_wiping_scrub_stack_7168();
+ return v7;
+}
+
+// blake2_ffi::blake2xb::initialize
+#[inline(never)]
+unsafe fn ffi_blake2xb_initialize(mut v0: u64, mut v1: u64, mut v2: u64, mut v3: u64, mut v4: u64,
+        mut v5: u64, mut v6: u64, mut v7: u64) -> u32 {
+ let mut v8: u64;
+ let mut v10: u64;
+ let mut v11: u32;
+ let mut v12: u32;
+ let mut v13: u64;
+ let mut v14: u64;
+ let mut v15: u64;
+ let mut v16: u64;
+ let mut v17: u64;
+ let mut v18: u64;
+ let mut frame = [0_u64; 74];
+ let top = (address!(frame)).plus(592) & !15;
+ v8 = top;
+ v8 = v8.minus(544) & 0xffffffffffffffe0;
+ 'l2: loop {
+ if v1.minus(1) > 0xfffffffe { break 'l2; }
+ if v3 > 64 { break 'l2; }
+ if v5 > 16 { break 'l2; }
+ if v7 > 16 { break 'l2; }
+ v10 = 0;
+ v11 = ((v1 >> 16) & 0xffff) as u32;
+ v12 = v1 as u32;
+ 'l3: loop {
+ 'l4: loop {
+ if v3 != 0 { break 'l4; }
+ fill(v8 + 384, 0, 32);
+ 'l5: loop {
+ if v5 == 0 { break 'l5; }
+ copy(v8.plus(384), v4, v5);
+ break 'l5; }
+ 'l6: loop {
+ if v7 == 0 { break 'l6; }
+ copy(v8.plus(384) | 16, v6, v7);
+ break 'l6; }
+ v3 = load64(v8 + 384);
+ v13 = load64(v8 + 392);
+ v14 = load64(v8 + 400);
+ v15 = load64(v8 + 408);
+ fill(v8.plus(128), 0, 128);
+ fill(v8.plus(256), 0, 128);
+ v2 = ((((v12 & 0xffff) | (v11 << 16)) as u64) << 32) ^ 0xbb67ae8584caa73b;
+ v15 ^= 0x5be0cd19137e2179;
+ v14 ^= 0x1f83d9abfb41bd6b;
+ v13 ^= 0x9b05688c2b3e6c1f;
+ v16 = v3 ^ 0x510e527fade682d1;
+ v3 = 0xa54ff53a5f1d36f1;
+ v17 = 0x3c6ef372fe94f82b;
+ v18 = 0x6a09e667f2bdc948;
+ break 'l3;
+ }
+ fill(v8 + 384, 0, 32);
+ 'l7: loop {
+ if v5 == 0 { break 'l7; }
+ copy(v8.plus(384), v4, v5);
+ break 'l7; }
+ 'l8: loop {
+ if v7 == 0 { break 'l8; }
+ copy(v8.plus(384) | 16, v6, v7);
+ break 'l8; }
+ v10 = 128;
+ v16 = load64(v8 + 384);
+ v13 = load64(v8 + 392);
+ v14 = load64(v8 + 400);
+ v15 = load64(v8 + 408);
+ 'l9: loop {
+ v17 = 128_u64.minus(v3);
+ if v17 == 0 { break 'l9; }
+ fill(v8.plus(256).plus(v3), 0, v17);
+ break 'l9; }
+ 'l10: loop {
+ if v3 == 0 { break 'l10; }
+ copy(v8.plus(256), v2, v3);
+ break 'l10; }
+ copy(v8.plus(128), v8.plus(256), 128);
+ v2 = ((((v12 & 0xffff) | (v11 << 16)) as u64) << 32) ^ 0xbb67ae8584caa73b;
+ v15 ^= 0x5be0cd19137e2179;
+ v14 ^= 0x1f83d9abfb41bd6b;
+ v13 ^= 0x9b05688c2b3e6c1f;
+ v16 ^= 0x510e527fade682d1;
+ v18 = ((((v3 as u32) << 8) | 0x1010040) as u64) ^ 0x6a09e667f3bcc908;
+ v3 = 0xa54ff53a5f1d36f1;
+ v17 = 0x3c6ef372fe94f82b;
+ break 'l3; }
+ fill(v8 + 512, 0, 16);
+ 'l11: loop {
+ if v5 == 0 { break 'l11; }
+ copy(v8.plus(512), v4, v5);
+ break 'l11; }
+ store64(v8 + 392, load64(v8 + 520));
+ store64(v8 + 384, load64(v8 + 512));
+ fill(v8 + 528, 0, 16);
+ 'l12: loop {
+ if v7 == 0 { break 'l12; }
+ copy(v8.plus(528), v6, v7);
+ break 'l12; }
+ v5 = load64(v8 + 528);
+ store64(v8 + 512, v5);
+ fill(v8 + 416, 0, 64);
+ store64(v8 + 400, v5);
+ store64(v8 + 504, load64(v8 + 536));
+ store64(v8 + 496, v5);
+ store64(v8 + 488, load64(v8 + 392));
+ store64(v8 + 480, load64(v8 + 384));
+ copy(v8, v8.plus(128), 128);
+ store64(v0 + 160, 0);
+ store64(v0 + 152, 64);
+ store64(v0 + 144, v10);
+ store64(v0 + 136, v10);
+ store64(v0 + 128, 0);
+ store64(v0 + 120, v15);
+ store64(v0 + 112, v14);
+ store64(v0 + 104, v13);
+ store64(v0 + 96, v16);
+ store64(v0 + 88, v3);
+ store64(v0 + 80, v17);
+ store64(v0 + 72, v2);
+ store64(v0 + 64, v18);
+ store64(v0 + 56, v15);
+ store64(v0 + 48, v14);
+ store64(v0 + 40, v13);
+ store64(v0 + 32, v16);
+ store64(v0 + 24, v3);
+ store64(v0 + 16, v17);
+ store64(v0 + 8, v2);
+ store64(v0, v18);
+ copy(v0.plus(168), v8, 128);
+ copy(v0.plus(296), v8.plus(256), 128);
+ copy(v0.plus(424), v8.plus(416), 96);
+ store64(v0 + 528, 0);
+ store64(v0 + 520, v1);
+ store64(v0 + 536, 0);
+ return 0;
+ }
+ fill(v0, 0, 544);
+ return 0xffffffff;
+}
+
+// rattle::export vulfsjor_ffi_blake2xb_init_salt_personal
+#[inline(never)]
+unsafe fn exported_blake2xb_init_salt_personal(mut v0: u64, mut v1: u64, mut v2: u64, mut v3: u64,
+        mut v4: u64, mut v5: u64, mut v6: u64, mut v7: u64) -> u32 {
+ let mut v9: u32;
+ v9 = ffi_blake2xb_initialize(v0, v1, v2.plus(if v2 == 0 { 4096_u64 } else { 0 }), v3, v4.plus(if v4
+   == 0 { 4096_u64 } else { 0 }), v5, v6.plus(if v6 == 0 { 4096_u64 } else { 0 }), v7);
+ 'l2: loop {
+ if v3 == 0 { break 'l2; }
+ digest_wiping_scrub_stack_2304();
+ break 'l2; }
+ return v9;
+}
+
+// blake2_ffi::blake2xb::absorb
+#[inline(never)]
+unsafe fn ffi_blake2xb_absorb(mut v0: u64, mut v1: u64, mut v2: u64) {
+ let mut v4: u64;
+ let mut v5: u32;
+ 'l2: loop {
+ if v2 == 1 { break 'l2; }
+ state_blake2b_State_take(v0, v1, v2);
+ return;
+ }
+ 'l3: loop {
+ v4 = v0.plus(136);
+ v2 = load64(v4);
+ if v2 < 128 { break 'l3; }
+ state_blake2b_State_take(v0, v1, 1);
+ return;
+ }
+ v5 = load8(v1);
+ store64(v4, v2.plus(1));
+ store8(v0.plus(v2).plus(168), v5 as u64);
+ return;
+}
+
+// rattle::export vulfsjor_ffi_blake2xb_update
+#[inline(never)]
+unsafe fn exported_blake2xb_update(mut v0: u64, mut v1: u64, mut v2: u64) -> u32 {
+ let mut v4: u32;
+ let mut v5: u64;
+ let mut v6: u64;
+ let mut v7: u64;
+ let mut v8: u64;
+ let mut v9: u64;
+ v4 = 0xffffffff;
+ 'l2: loop {
+ v5 = load64(v0.plus(152));
+ if v5.minus(1) > 63 { break 'l2; }
+ v6 = load64(v0.plus(136));
+ if v6 > 128 { break 'l2; }
+ v7 = load64(v0.plus(144));
+ if v7 > 128 { break 'l2; }
+ if v5 != 64 { break 'l2; }
+ v8 = load64(v0.plus(128));
+ if v8 > (!v6) { break 'l2; }
+ v5 = load64(v0.plus(520));
+ if v5.minus(1) > 0xfffffffe { break 'l2; }
+ v9 = load64(v0.plus(528));
+ if v9 > (if v5 == 0xffffffff { 0x4000000000 } else { v5 }) { break 'l2; }
+ if (load64(v0.plus(536)) | v9) != 0 { break 'l2; }
+ if v2 > (!v8.plus(v6)) { break 'l2; }
+ v5 = v1.plus(if v1 == 0 { 4096_u64 } else { 0 });
+ 'l3: loop {
+ if v8 == 0 { break 'l3; }
+ ffi_blake2xb_absorb(v0, v5, v2);
+ return 0;
+ }
+ ffi_blake2xb_absorb(v0, v5, v2);
+ v4 = 0;
+ if v7 == 0 { break 'l2; }
+ digest_wiping_scrub_stack_3072();
+ break 'l2; }
+ return v4;
+}
+
+// blake2_ffi::blake2xb::read
+#[inline(never)]
+unsafe fn ffi_blake2xb_read(mut v0: u64, mut v1: u64, mut v2: u64) {
+ xof_blake2b_State_squeeze(v0, v1, v2);
+ return;
+}
+
+// rattle::export vulfsjor_ffi_blake2xb_squeeze
+#[inline(never)]
+unsafe fn exported_blake2xb_squeeze(mut v0: u64, mut v1: u64, mut v2: u64) -> u32 {
+ let mut v4: u32;
+ let mut v5: u64;
+ let mut v6: u64;
+ let mut v7: u64;
+ v4 = 0xffffffff;
+ 'l2: loop {
+ v5 = load64(v0.plus(152));
+ if v5.minus(1) > 63 { break 'l2; }
+ v6 = load64(v0.plus(136));
+ if v6 > 128 { break 'l2; }
+ v7 = load64(v0.plus(144));
+ if v7 > 128 { break 'l2; }
+ if v5 != 64 { break 'l2; }
+ if load64(v0.plus(128)) > (!v6) { break 'l2; }
+ v5 = load64(v0.plus(520));
+ if v5.minus(1) > 0xfffffffe { break 'l2; }
+ v5 = if v5 == 0xffffffff { 0x4000000000 } else { v5 };
+ v6 = load64(v0.plus(528));
+ if v5 < v6 { break 'l2; }
+ if v5.minus(v6) < v2 { break 'l2; }
+ ffi_blake2xb_read(v0, v1.plus(if v1 == 0 { 4096_u64 } else { 0 }), v2);
+ v4 = 0;
+ if v7 == 0 { break 'l2; }
+ digest_wiping_scrub_stack_4096();
+ break 'l2; }
+ return v4;
+}
+
+// blake2_ffi::blake2xb::start_again
+#[inline(never)]
+unsafe fn ffi_blake2xb_start_again(mut v0: u64) {
+ store64(v0.plus(128), 0);
+ store64(v0 + 56, load64(v0.plus(120)));
+ store64(v0 + 48, load64(v0.plus(112)));
+ store64(v0 + 40, load64(v0.plus(104)));
+ store64(v0 + 32, load64(v0.plus(96)));
+ store64(v0 + 24, load64(v0.plus(88)));
+ store64(v0 + 16, load64(v0.plus(80)));
+ store64(v0 + 8, load64(v0.plus(72)));
+ store64(v0, load64(v0.plus(64)));
+ store64(v0.plus(136), load64(v0.plus(144)));
+ copy(v0.plus(168), v0.plus(296), 128);
+ store64(v0.plus(480), 0);
+ store64(v0.plus(472), 0);
+ store64(v0.plus(464), 0);
+ store64(v0.plus(456), 0);
+ store64(v0.plus(448), 0);
+ store64(v0.plus(440), 0);
+ store64(v0.plus(432), 0);
+ store64(v0.plus(424), 0);
+ store64(v0.plus(528), 0);
+ store64(v0.plus(536), 0);
+ return;
+}
+
+// rattle::export vulfsjor_ffi_blake2xb_reset
+#[inline(never)]
+unsafe fn exported_blake2xb_reset(mut v0: u64) -> u32 {
+ let mut v2: u32;
+ let mut v3: u64;
+ let mut v4: u64;
+ let mut v5: u64;
+ v2 = 0xffffffff;
+ 'l2: loop {
+ v3 = load64(v0.plus(152));
+ if v3.minus(1) > 63 { break 'l2; }
+ v4 = load64(v0.plus(136));
+ if v4 > 128 { break 'l2; }
+ v5 = load64(v0.plus(144));
+ if v5 > 128 { break 'l2; }
+ if v3 != 64 { break 'l2; }
+ if load64(v0.plus(128)) > (!v4) { break 'l2; }
+ v3 = load64(v0.plus(520));
+ if v3.minus(1) > 0xfffffffe { break 'l2; }
+ if load64(v0.plus(528)) > (if v3 == 0xffffffff { 0x4000000000 } else { v3 }) { break 'l2; }
+ ffi_blake2xb_start_again(v0);
+ v2 = 0;
+ if v5 == 0 { break 'l2; }
+ digest_wiping_scrub_stack_1792();
+ break 'l2; }
+ return v2;
+}
+
+// rattle::export vulfsjor_ffi_blake2xb_wipe
+#[inline(never)]
+unsafe fn exported_blake2xb_wipe(mut v0: u64) {
+ 'l1: loop {
+ break 'l1;
+ }
+ fill(v0, 0, 544);
+}
+
+// rattle::export vulfsjor_ffi_blake2xb_left
+#[inline(never)]
+unsafe fn exported_blake2xb_left(mut v0: u64) -> u64 {
+ let mut v1: u64;
+ let mut v2: u64;
+ let mut v3: u64;
+ v1 = 0;
+ 'l2: loop {
+ v2 = load64(v0.plus(152));
+ if v2.minus(1) > 63 { break 'l2; }
+ v3 = load64(v0.plus(136));
+ if v3 > 128 { break 'l2; }
+ if load64(v0.plus(144)) > 128 { break 'l2; }
+ if v2 != 64 { break 'l2; }
+ if load64(v0.plus(128)) > (!v3) { break 'l2; }
+ v2 = load64(v0.plus(520));
+ if v2.minus(1) > 0xfffffffe { break 'l2; }
+ v1 = if v2 == 0xffffffff { 0x4000000000 } else { v2 };
+ v0 = v1.minus(load64(v0.plus(528)));
+ v1 = if v0 > v1 { 0 } else { v0 };
+ break 'l2; }
+ return v1;
+}
+
+// rattle::export vulfsjor_ffi_blake2xb_count
+#[inline(never)]
+unsafe fn exported_blake2xb_count(mut v0: u64) -> u64 {
+ let mut v1: u64;
+ let mut v2: u64;
+ let mut v3: u64;
+ let mut v4: u64;
+ let mut v5: u64;
+ v1 = 0;
+ 'l2: loop {
+ v2 = load64(v0.plus(152));
+ if v2.minus(1) > 63 { break 'l2; }
+ v3 = load64(v0.plus(136));
+ if v3 > 128 { break 'l2; }
+ v4 = load64(v0.plus(144));
+ if v4 > 128 { break 'l2; }
+ if v2 != 64 { break 'l2; }
+ v5 = load64(v0.plus(128));
+ if v5 > (!v3) { break 'l2; }
+ v2 = load64(v0.plus(520));
+ if v2.minus(1) > 0xfffffffe { break 'l2; }
+ if load64(v0.plus(528)) > (if v2 == 0xffffffff { 0x4000000000 } else { v2 }) { break 'l2; }
+ v0 = v5.plus(v3);
+ v1 = v0.minus(v4);
+ v1 = if v1 > v0 { 0 } else { v1 };
+ break 'l2; }
+ return v1;
+}
+
+// rattle::export vulfsjor_ffi_blake2xb_state_size
+#[inline(never)]
+unsafe fn exported_blake2xb_state_size() {
+ 'l1: loop {
+ break 'l1;
+ }
+}
+
+// vulfsjor_ffi_blake2xb_state_size
+#[inline(never)]
+unsafe fn module_blake2xb_state_size() -> u64 {
+ 'l1: loop {
+ break 'l1;
+ }
+ exported_blake2xb_state_size();
+ return 544;
+}
+
+// blake2_xof::blake2s::State::squeeze
+#[inline(never)]
+unsafe fn xof_blake2s_State_squeeze(mut v0: u64, mut v1: u64, mut v2: u64) {
+ let mut v3: u64;
+ let mut v4: u64;
+ let mut v5: u64;
+ let mut v6: u64;
+ let mut v7: u64;
+ let mut v8: u64;
+ let mut v9: u64;
+ let mut t0: u64;
+ let mut frame = [0_u64; 18];
+ let top = (address!(frame)).plus(144) & !15;
+ v3 = top.minus(128);
+ 'l2: loop {
+ v4 = v0.plus(296);
+ if load64(v4) != 0 { break 'l2; }
+ state_blake2s_State_write_digest(v0, v0.plus(232));
+ store64(v4, 1);
+ break 'l2; }
+ 'l3: loop {
+ if v2 == 0 { break 'l3; }
+ v4 = v0.plus(232);
+ v5 = load64(v0.plus(288));
+ v6 = v3.plus(64).plus(32);
+ v7 = 0;
+ 'l4: loop {
+ fill(v6, 0, 32);
+ store32(v3 + 36, 0xbb67aea5);
+ store64(v3 + 64, load64(v4));
+ store64(v3 + 72, load64(v4 + 8));
+ store64(v3 + 80, load64(v4 + 16));
+ store64(v3 + 88, load64(v4 + 24));
+ store32(v3 + 60, (load32(v0.plus(276)) ^ 0x5be0cd19) as u64);
+ store32(v3 + 56, (load32(v0.plus(272)) ^ 0x1f83d9ab) as u64);
+ store32(v3 + 52, (load32(v0.plus(268)) ^ 0x9b05688c) as u64);
+ store32(v3 + 48, (load32(v0.plus(264)) ^ 0x510e527f) as u64);
+ v8 = load64(v0.plus(280));
+ v9 = (v8 << 32).plus(v5 >> 5);
+ store32(v3 + 40, ((v9 as u32) ^ 0x3c6ef372) as u64);
+ store32(v3 + 44, (((((v9 >> 32) as u32) & 0xffff) | 0x20000000) ^ 0xa54ff53a) as u64);
+ v8 = if v8 == 0xffff { 0x2000000000 } else { v8 };
+ v9 = v8.minus(v5 & 0xffffffffffffffe0);
+ v8 = if v9 > v8 { 0 } else { v9 };
+ store32(v3 + 32, (((if v8 < 32 { v8 } else { 32 }) as u32) ^ 0x6a09e667) as u64);
+ compress_compress_blake2s_compress(v3.plus(32), v3.plus(64), 32, 1, 0);
+ store64(v3, load64(v3 + 32));
+ store64(v3 + 8, load64(v3 + 40));
+ store64(v3 + 16, load64(v3 + 48));
+ store64(v3 + 24, load64(v3 + 56));
+ 'l5: loop {
+ v9 = v5 & 31;
+ v5 = 32_u64.minus(v9);
+ v8 = v2.minus(v7);
+ v8 = if v5 < v8 { v5 } else { v8 };
+ if v8 == 0 { break 'l5; }
+ copy(v1.plus(v7), v3.plus(v9), v8);
+ break 'l5; }
+ v5 = v0.plus(288);
+ t0 = v5;
+ v5 = load64(v5).plus(v8);
+ store64(t0, v5);
+ v7 = v8.plus(v7);
+ if v7 < v2 { continue 'l4; }
+ break 'l4; }
+ break 'l3; }
+ return;
+}
+
+// blake2_ffi::blake2xs::write
+#[inline(never)]
+unsafe fn ffi_blake2xs_write(mut v0: u64, mut v1: u64, mut v2: u64, mut v3: u64, mut v4: u64, mut
+        v5: u64) -> u32 {
+ let mut v6: u64;
+ let mut v7: u32;
+ let mut v8: u64;
+ let mut v9: u64;
+ let mut v10: u32;
+ let mut v11: u32;
+ let mut v12: u32;
+ let mut v13: u32;
+ let mut v14: u64;
+ let mut frame = [0_u64; 64];
+ let top = (address!(frame)).plus(512) & !15;
+ v6 = top.minus(496);
+ v7 = 0xffffffff;
+ 'l2: loop {
+ if v1 >= 0xffff { break 'l2; }
+ if v1 == 0 { break 'l2; }
+ if v5 > 32 { break 'l2; }
+ v8 = v1 << 32;
+ v9 = 0;
+ 'l3: loop {
+ 'l4: loop {
+ if v5 != 0 { break 'l4; }
+ fill(v6 + 368, 0, 128);
+ v10 = (v8 as u32) ^ 0x3c6ef372;
+ v11 = (((v8 >> 32) as u32) & 0xffff) ^ 0xa54ff53a;
+ v12 = 0xbb67ae85;
+ v13 = 0x6b08e647;
+ break 'l3;
+ }
+ v9 = 64;
+ 'l5: loop {
+ v14 = 64_u64.minus(v5);
+ if v14 == 0 { break 'l5; }
+ fill(v6.plus(432).plus(v5), 0, v14);
+ break 'l5; }
+ 'l6: loop {
+ if v5 == 0 { break 'l6; }
+ copy(v6.plus(432), v4, v5);
+ break 'l6; }
+ store64(v6 + 424, load64(v6 + 488));
+ store64(v6 + 416, load64(v6 + 480));
+ store64(v6 + 408, load64(v6 + 472));
+ store64(v6 + 400, load64(v6 + 464));
+ store64(v6 + 392, load64(v6 + 456));
+ store64(v6 + 384, load64(v6 + 448));
+ store64(v6 + 376, load64(v6 + 440));
+ store64(v6 + 368, load64(v6 + 432));
+ v10 = (v8 as u32) ^ 0x3c6ef372;
+ v11 = (((v8 >> 32) as u32) & 0xffff) ^ 0xa54ff53a;
+ v13 = (((v5 as u32) << 8) | 0x1010020) ^ 0x6a09e667;
+ v12 = 0xbb67ae85;
+ break 'l3; }
+ store64(v6 + 56, load64(v6 + 424));
+ store64(v6 + 48, load64(v6 + 416));
+ store64(v6 + 40, load64(v6 + 408));
+ store64(v6 + 32, load64(v6 + 400));
+ store64(v6 + 24, load64(v6 + 392));
+ store64(v6 + 16, load64(v6 + 384));
+ store64(v6 + 8, load64(v6 + 376));
+ store64(v6, load64(v6 + 368));
+ store64(v6 + 160, 0);
+ store64(v6 + 152, 32);
+ store64(v6 + 144, v9);
+ store64(v6 + 136, v9);
+ store64(v6 + 128, 0);
+ store64(v6 + 120, 0x5be0cd191f83d9ab);
+ store64(v6 + 112, 0x9b05688c510e527f);
+ store32(v6 + 108, v11 as u64);
+ store32(v6 + 104, v10 as u64);
+ store32(v6 + 100, v12 as u64);
+ store32(v6 + 96, v13 as u64);
+ store64(v6 + 88, 0x5be0cd191f83d9ab);
+ store64(v6 + 80, 0x9b05688c510e527f);
+ store32(v6 + 76, v11 as u64);
+ store32(v6 + 72, v10 as u64);
+ store32(v6 + 68, v12 as u64);
+ store32(v6 + 64, v13 as u64);
+ store64(v6 + 224, load64(v6 + 56));
+ store64(v6 + 216, load64(v6 + 48));
+ store64(v6 + 208, load64(v6 + 40));
+ store64(v6 + 200, load64(v6 + 32));
+ store64(v6 + 192, load64(v6 + 24));
+ store64(v6 + 184, load64(v6 + 16));
+ store64(v6 + 176, load64(v6 + 8));
+ store64(v6 + 168, load64(v6));
+ store64(v6 + 232, load64(v6 + 432));
+ store64(v6 + 240, load64(v6 + 440));
+ store64(v6 + 248, load64(v6 + 448));
+ store64(v6 + 256, load64(v6 + 456));
+ store64(v6 + 264, load64(v6 + 464));
+ store64(v6 + 272, load64(v6 + 472));
+ store64(v6 + 280, load64(v6 + 480));
+ store64(v6 + 288, load64(v6 + 488));
+ fill(v6 + 296, 0, 48);
+ store64(v6 + 360, 0);
+ store64(v6 + 344, v1);
+ store64(v6 + 352, 0);
+ if v3 > (!v9) { break 'l2; }
+ 'l7: loop {
+ 'l8: loop {
+ if v3 == 1 { break 'l8; }
+ state_blake2s_State_take(v6.plus(64), v2, v3);
+ break 'l7;
+ }
+ 'l9: loop {
+ if v5 == 0 { break 'l9; }
+ state_blake2s_State_take(v6.plus(64), v2, 1);
+ break 'l7;
+ }
+ store8(v6.plus(168).plus(v9), load8(v2) as u64);
+ store64(v6 + 136, v9 | 1);
+ break 'l7; }
+ xof_blake2s_State_squeeze(v6.plus(64), v0, v1);
+ v7 = 0;
+ break 'l2; }
+ return v7;
+}
+
+// rattle::export vulfsjor_ffi_blake2xs
+#[inline(never)]
+unsafe fn exported_blake2xs(mut v0: u64, mut v1: u64, mut v2: u64, mut v3: u64, mut v4: u64, mut v5:
+        u64) -> u32 {
+ let mut v7: u32;
+ v7 = ffi_blake2xs_write(v0.plus(if v0 == 0 { 4096_u64 } else { 0 }), v1, v2.plus(if v2 == 0 {
+   4096_u64 } else { 0 }), v3, v4.plus(if v4 == 0 { 4096_u64 } else { 0 }), v5);
+ 'l2: loop {
+ if v5 == 0 { break 'l2; }
+ digest_wiping_scrub_stack_7168();
+ break 'l2; }
+ return v7;
+}
+
+// rattle::export vulfsjor_ffi_blake2xs_derive_key
+#[inline(never)]
+unsafe fn exported_blake2xs_derive_key(mut v0: u64, mut v1: u64, mut v2: u64, mut v3: u64, mut v4:
+        u64, mut v5: u64) -> u32 {
+ let mut v7: u32;
+ 'l1: loop {
+ if !(v3 == 0) { break 'l1; }
+ return 0xffffffff;
+ }
+ v7 = ffi_blake2xs_write(v0.plus(if v0 == 0 { 4096_u64 } else { 0 }), v1, v4.plus(if v4 == 0 {
+   4096_u64 } else { 0 }), v5, v2.plus(if v2 == 0 { 4096_u64 } else { 0 }), v3);
+ digest_wiping_scrub_stack_7168();
+ return v7;
+}
+
+// blake2_ffi::blake2xs::initialize
+#[inline(never)]
+unsafe fn ffi_blake2xs_initialize(mut v0: u64, mut v1: u64, mut v2: u64, mut v3: u64, mut v4: u64,
+        mut v5: u64, mut v6: u64, mut v7: u64) -> u32 {
+ let mut v8: u64;
+ let mut v9: u64;
+ let mut v10: u64;
+ let mut v11: u32;
+ let mut v12: u32;
+ let mut v13: u32;
+ let mut v14: u32;
+ let mut v15: u32;
+ let mut v16: u32;
+ let mut v17: u32;
+ let mut v18: u32;
+ let mut v19: u64;
+ let mut frame = [0_u64; 28];
+ let top = (address!(frame)).plus(224) & !15;
+ v8 = top.minus(208);
+ 'l1: loop {
+ 'l3: loop {
+ if v1.minus(1) > 0xfffe { break 'l3; }
+ if v3 > 32 { break 'l3; }
+ if v5 > 8 { break 'l3; }
+ if v7 > 8 { break 'l3; }
+ v9 = v1 << 32;
+ v10 = 0;
+ 'l4: loop {
+ 'l5: loop {
+ if v3 != 0 { break 'l5; }
+ fill(v8 + 128, 0, 16);
+ 'l6: loop {
+ if v5 == 0 { break 'l6; }
+ copy(v8.plus(128), v4, v5);
+ break 'l6; }
+ 'l7: loop {
+ if v7 == 0 { break 'l7; }
+ copy(v8.plus(128) | 8, v6, v7);
+ break 'l7; }
+ fill(v8 + 64, 0, 64);
+ fill(v8 + 144, 0, 64);
+ v11 = (v9 as u32) ^ 0x3c6ef372;
+ v12 = (((v9 >> 32) as u32) & 0xffff) ^ 0xa54ff53a;
+ v13 = load32(v8 + 140) ^ 0x5be0cd19;
+ v14 = load32(v8 + 136) ^ 0x1f83d9ab;
+ v15 = load32(v8 + 132) ^ 0x9b05688c;
+ v16 = load32(v8 + 128) ^ 0x510e527f;
+ v17 = 0xbb67ae85;
+ v18 = 0x6b08e647;
+ break 'l4;
+ }
+ fill(v8 + 128, 0, 16);
+ 'l8: loop {
+ if v5 == 0 { break 'l8; }
+ copy(v8.plus(128), v4, v5);
+ break 'l8; }
+ 'l9: loop {
+ if v7 == 0 { break 'l9; }
+ copy(v8.plus(128) | 8, v6, v7);
+ break 'l9; }
+ v10 = 64;
+ v16 = load32(v8 + 128);
+ v15 = load32(v8 + 132);
+ v14 = load32(v8 + 136);
+ v13 = load32(v8 + 140);
+ 'l10: loop {
+ v19 = 64_u64.minus(v3);
+ if v19 == 0 { break 'l10; }
+ fill(v8.plus(144).plus(v3), 0, v19);
+ break 'l10; }
+ 'l11: loop {
+ if v3 == 0 { break 'l11; }
+ copy(v8.plus(144), v2, v3);
+ break 'l11; }
+ store64(v8 + 120, load64(v8 + 200));
+ store64(v8 + 112, load64(v8 + 192));
+ store64(v8 + 104, load64(v8 + 184));
+ store64(v8 + 96, load64(v8 + 176));
+ store64(v8 + 88, load64(v8 + 168));
+ store64(v8 + 80, load64(v8 + 160));
+ store64(v8 + 72, load64(v8 + 152));
+ store64(v8 + 64, load64(v8 + 144));
+ v11 = (v9 as u32) ^ 0x3c6ef372;
+ v12 = (((v9 >> 32) as u32) & 0xffff) ^ 0xa54ff53a;
+ v18 = (((v3 as u32) << 8) | 0x1010020) ^ 0x6a09e667;
+ v13 ^= 0x5be0cd19;
+ v14 ^= 0x1f83d9ab;
+ v15 ^= 0x9b05688c;
+ v16 ^= 0x510e527f;
+ v17 = 0xbb67ae85;
+ break 'l4; }
+ store64(v8 + 128, 0);
+ 'l12: loop {
+ if v5 == 0 { break 'l12; }
+ copy(v8.plus(128), v4, v5);
+ break 'l12; }
+ v3 = load64(v8 + 128);
+ store64(v8 + 128, 0);
+ 'l13: loop {
+ if v7 == 0 { break 'l13; }
+ copy(v8.plus(128), v6, v7);
+ break 'l13; }
+ store64(v8, load64(v8 + 64));
+ store64(v8 + 8, load64(v8 + 72));
+ store64(v8 + 16, load64(v8 + 80));
+ store64(v8 + 24, load64(v8 + 88));
+ store64(v8 + 32, load64(v8 + 96));
+ store64(v8 + 40, load64(v8 + 104));
+ store64(v8 + 48, load64(v8 + 112));
+ store64(v8 + 56, load64(v8 + 120));
+ v5 = load64(v8 + 128);
+ store64(v0 + 96, 0);
+ store64(v0 + 88, 32);
+ store64(v0 + 80, v10);
+ store64(v0 + 72, v10);
+ store64(v0 + 64, 0);
+ store32(v0 + 60, v13 as u64);
+ store32(v0 + 56, v14 as u64);
+ store32(v0 + 52, v15 as u64);
+ store32(v0 + 48, v16 as u64);
+ store32(v0 + 44, v12 as u64);
+ store32(v0 + 40, v11 as u64);
+ store32(v0 + 36, v17 as u64);
+ store32(v0 + 32, v18 as u64);
+ store32(v0 + 28, v13 as u64);
+ store32(v0 + 24, v14 as u64);
+ store32(v0 + 20, v15 as u64);
+ store32(v0 + 16, v16 as u64);
+ store32(v0 + 12, v12 as u64);
+ store32(v0 + 8, v11 as u64);
+ store32(v0 + 4, v17 as u64);
+ store32(v0, v18 as u64);
+ store64(v0 + 160, load64(v8 + 56));
+ store64(v0 + 152, load64(v8 + 48));
+ store64(v0 + 144, load64(v8 + 40));
+ store64(v0 + 136, load64(v8 + 32));
+ store64(v0 + 128, load64(v8 + 24));
+ store64(v0 + 120, load64(v8 + 16));
+ store64(v0 + 112, load64(v8 + 8));
+ store64(v0 + 104, load64(v8));
+ store64(v0 + 224, load64(v8 + 200));
+ store64(v0 + 216, load64(v8 + 192));
+ store64(v0 + 208, load64(v8 + 184));
+ store64(v0 + 200, load64(v8 + 176));
+ store64(v0 + 192, load64(v8 + 168));
+ store64(v0 + 184, load64(v8 + 160));
+ store64(v0 + 176, load64(v8 + 152));
+ store64(v0 + 168, load64(v8 + 144));
+ fill(v0 + 232, 0, 32);
+ store64(v0 + 280, v1);
+ store64(v0 + 272, v5);
+ store64(v0 + 264, v3);
+ fill(v0 + 288, 0, 16);
+ v11 = 0;
+ break 'l1;
+ }
+ fill(v0, 0, 304);
+ v11 = 0xffffffff;
+ break 'l1;
+ }
+ return v11;
+}
+
+// rattle::export vulfsjor_ffi_blake2xs_init_salt_personal
+#[inline(never)]
+unsafe fn exported_blake2xs_init_salt_personal(mut v0: u64, mut v1: u64, mut v2: u64, mut v3: u64,
+        mut v4: u64, mut v5: u64, mut v6: u64, mut v7: u64) -> u32 {
+ let mut v9: u32;
+ v9 = ffi_blake2xs_initialize(v0, v1, v2.plus(if v2 == 0 { 4096_u64 } else { 0 }), v3, v4.plus(if v4
+   == 0 { 4096_u64 } else { 0 }), v5, v6.plus(if v6 == 0 { 4096_u64 } else { 0 }), v7);
+ 'l2: loop {
+ if v3 == 0 { break 'l2; }
+ digest_wiping_scrub_stack_2304();
+ break 'l2; }
+ return v9;
+}
+
+// blake2_ffi::blake2xs::absorb
+#[inline(never)]
+unsafe fn ffi_blake2xs_absorb(mut v0: u64, mut v1: u64, mut v2: u64) {
+ let mut v4: u64;
+ let mut v5: u32;
+ 'l2: loop {
+ if v2 == 1 { break 'l2; }
+ state_blake2s_State_take(v0, v1, v2);
+ return;
+ }
+ 'l3: loop {
+ v4 = v0.plus(72);
+ v2 = load64(v4);
+ if v2 < 64 { break 'l3; }
+ state_blake2s_State_take(v0, v1, 1);
+ return;
+ }
+ v5 = load8(v1);
+ store64(v4, v2.plus(1));
+ store8(v0.plus(v2).plus(104), v5 as u64);
+ return;
+}
+
+// rattle::export vulfsjor_ffi_blake2xs_update
+#[inline(never)]
+unsafe fn exported_blake2xs_update(mut v0: u64, mut v1: u64, mut v2: u64) -> u32 {
+ let mut v4: u32;
+ let mut v5: u64;
+ let mut v6: u64;
+ let mut v7: u64;
+ let mut v8: u64;
+ let mut v9: u64;
+ v4 = 0xffffffff;
+ 'l2: loop {
+ v5 = load64(v0.plus(88));
+ if v5.minus(1) > 31 { break 'l2; }
+ v6 = load64(v0.plus(72));
+ if v6 > 64 { break 'l2; }
+ v7 = load64(v0.plus(80));
+ if v7 > 64 { break 'l2; }
+ if v5 != 32 { break 'l2; }
+ v8 = load64(v0.plus(64));
+ if v8 > (!v6) { break 'l2; }
+ v5 = load64(v0.plus(280));
+ if v5.minus(1) > 0xfffe { break 'l2; }
+ v9 = load64(v0.plus(288));
+ if v9 > (if v5 == 0xffff { 0x2000000000 } else { v5 }) { break 'l2; }
+ if (load64(v0.plus(296)) | v9) != 0 { break 'l2; }
+ if v2 > (!v8.plus(v6)) { break 'l2; }
+ v5 = v1.plus(if v1 == 0 { 4096_u64 } else { 0 });
+ 'l3: loop {
+ if v8 == 0 { break 'l3; }
+ ffi_blake2xs_absorb(v0, v5, v2);
+ return 0;
+ }
+ ffi_blake2xs_absorb(v0, v5, v2);
+ v4 = 0;
+ if v7 == 0 { break 'l2; }
+ digest_wiping_scrub_stack_3072();
+ break 'l2; }
+ return v4;
+}
+
+// blake2_ffi::blake2xs::read
+#[inline(never)]
+unsafe fn ffi_blake2xs_read(mut v0: u64, mut v1: u64, mut v2: u64) {
+ xof_blake2s_State_squeeze(v0, v1, v2);
+ return;
+}
+
+// rattle::export vulfsjor_ffi_blake2xs_squeeze
+#[inline(never)]
+unsafe fn exported_blake2xs_squeeze(mut v0: u64, mut v1: u64, mut v2: u64) -> u32 {
+ let mut v4: u32;
+ let mut v5: u64;
+ let mut v6: u64;
+ let mut v7: u64;
+ v4 = 0xffffffff;
+ 'l2: loop {
+ v5 = load64(v0.plus(88));
+ if v5.minus(1) > 31 { break 'l2; }
+ v6 = load64(v0.plus(72));
+ if v6 > 64 { break 'l2; }
+ v7 = load64(v0.plus(80));
+ if v7 > 64 { break 'l2; }
+ if v5 != 32 { break 'l2; }
+ if load64(v0.plus(64)) > (!v6) { break 'l2; }
+ v5 = load64(v0.plus(280));
+ if v5.minus(1) > 0xfffe { break 'l2; }
+ v5 = if v5 == 0xffff { 0x2000000000 } else { v5 };
+ v6 = load64(v0.plus(288));
+ if v5 < v6 { break 'l2; }
+ if v5.minus(v6) < v2 { break 'l2; }
+ ffi_blake2xs_read(v0, v1.plus(if v1 == 0 { 4096_u64 } else { 0 }), v2);
+ v4 = 0;
+ if v7 == 0 { break 'l2; }
+ digest_wiping_scrub_stack_4096();
+ break 'l2; }
+ return v4;
+}
+
+// blake2_ffi::blake2xs::start_again
+#[inline(never)]
+unsafe fn ffi_blake2xs_start_again(mut v0: u64) {
+ store64(v0.plus(64), 0);
+ store64(v0 + 24, load64(v0.plus(56)));
+ store64(v0 + 16, load64(v0.plus(48)));
+ store64(v0 + 8, load64(v0.plus(40)));
+ store64(v0, load64(v0.plus(32)));
+ store64(v0.plus(72), load64(v0.plus(80)));
+ store64(v0.plus(104), load64(v0.plus(168)));
+ store64(v0.plus(112), load64(v0.plus(176)));
+ store64(v0.plus(120), load64(v0.plus(184)));
+ store64(v0.plus(128), load64(v0.plus(192)));
+ store64(v0.plus(136), load64(v0.plus(200)));
+ store64(v0.plus(144), load64(v0.plus(208)));
+ store64(v0.plus(152), load64(v0.plus(216)));
+ store64(v0.plus(160), load64(v0.plus(224)));
+ store64(v0.plus(256), 0);
+ store64(v0.plus(248), 0);
+ store64(v0.plus(240), 0);
+ store64(v0.plus(232), 0);
+ store64(v0.plus(296), 0);
+ store64(v0.plus(288), 0);
+ return;
+}
+
+// rattle::export vulfsjor_ffi_blake2xs_reset
+#[inline(never)]
+unsafe fn exported_blake2xs_reset(mut v0: u64) -> u32 {
+ let mut v2: u32;
+ let mut v3: u64;
+ let mut v4: u64;
+ let mut v5: u64;
+ v2 = 0xffffffff;
+ 'l2: loop {
+ v3 = load64(v0.plus(88));
+ if v3.minus(1) > 31 { break 'l2; }
+ v4 = load64(v0.plus(72));
+ if v4 > 64 { break 'l2; }
+ v5 = load64(v0.plus(80));
+ if v5 > 64 { break 'l2; }
+ if v3 != 32 { break 'l2; }
+ if load64(v0.plus(64)) > (!v4) { break 'l2; }
+ v3 = load64(v0.plus(280));
+ if v3.minus(1) > 0xfffe { break 'l2; }
+ if load64(v0.plus(288)) > (if v3 == 0xffff { 0x2000000000 } else { v3 }) { break 'l2; }
+ ffi_blake2xs_start_again(v0);
+ v2 = 0;
+ if v5 == 0 { break 'l2; }
+ digest_wiping_scrub_stack_1792();
+ break 'l2; }
+ return v2;
+}
+
+// rattle::export vulfsjor_ffi_blake2xs_wipe
+#[inline(never)]
+unsafe fn exported_blake2xs_wipe(mut v0: u64) {
+ 'l1: loop {
+ break 'l1;
+ }
+ fill(v0, 0, 304);
+}
+
+// rattle::export vulfsjor_ffi_blake2xs_left
+#[inline(never)]
+unsafe fn exported_blake2xs_left(mut v0: u64) -> u64 {
+ let mut v1: u64;
+ let mut v2: u64;
+ let mut v3: u64;
+ v1 = 0;
+ 'l2: loop {
+ v2 = load64(v0.plus(88));
+ if v2.minus(1) > 31 { break 'l2; }
+ v3 = load64(v0.plus(72));
+ if v3 > 64 { break 'l2; }
+ if load64(v0.plus(80)) > 64 { break 'l2; }
+ if v2 != 32 { break 'l2; }
+ if load64(v0.plus(64)) > (!v3) { break 'l2; }
+ v2 = load64(v0.plus(280));
+ if v2.minus(1) > 0xfffe { break 'l2; }
+ v1 = if v2 == 0xffff { 0x2000000000 } else { v2 };
+ v0 = v1.minus(load64(v0.plus(288)));
+ v1 = if v0 > v1 { 0 } else { v0 };
+ break 'l2; }
+ return v1;
+}
+
+// rattle::export vulfsjor_ffi_blake2xs_count
+#[inline(never)]
+unsafe fn exported_blake2xs_count(mut v0: u64) -> u64 {
+ let mut v1: u64;
+ let mut v2: u64;
+ let mut v3: u64;
+ let mut v4: u64;
+ let mut v5: u64;
+ v1 = 0;
+ 'l2: loop {
+ v2 = load64(v0.plus(88));
+ if v2.minus(1) > 31 { break 'l2; }
+ v3 = load64(v0.plus(72));
+ if v3 > 64 { break 'l2; }
+ v4 = load64(v0.plus(80));
+ if v4 > 64 { break 'l2; }
+ if v2 != 32 { break 'l2; }
+ v5 = load64(v0.plus(64));
+ if v5 > (!v3) { break 'l2; }
+ v2 = load64(v0.plus(280));
+ if v2.minus(1) > 0xfffe { break 'l2; }
+ if load64(v0.plus(288)) > (if v2 == 0xffff { 0x2000000000 } else { v2 }) { break 'l2; }
+ v0 = v5.plus(v3);
+ v1 = v0.minus(v4);
+ v1 = if v1 > v0 { 0 } else { v1 };
+ break 'l2; }
+ return v1;
+}
+
+// rattle::export vulfsjor_ffi_blake2xs_state_size
+#[inline(never)]
+unsafe fn exported_blake2xs_state_size() {
+ 'l1: loop {
+ break 'l1;
+ }
+}
+
+// vulfsjor_ffi_blake2xs_state_size
+#[inline(never)]
+unsafe fn module_blake2xs_state_size() -> u64 {
+ 'l1: loop {
+ break 'l1;
+ }
+ exported_blake2xs_state_size();
+ return 304;
+}
+
+// blake2_tree::nodes::Nodes::leaf_digest
+#[inline(never)]
+unsafe fn tree_nodes_Nodes_leaf_digest(mut v0: u64, mut v1: u64, mut v2: u64, mut v3: u32, mut v4:
+        u64, mut v5: u64) {
+ let mut v6: u64;
+ let mut v8: u64;
+ let mut v9: u64;
+ let mut v10: u64;
+ let mut t0: u64;
+ let mut frame = [0_u64; 94];
+ let top = (address!(frame)).plus(752) & !15;
+ v6 = top;
+ v6 = v6.minus(704) & 0xffffffffffffffe0;
+ v8 = load32(v1.plus(48)) as u64;
+ v9 = load64(v1.plus(40));
+ v10 = load64(v1.plus(16));
+ fill(v6 + 288, 0, 32);
+ 'l2: loop {
+ if v10 == 0 { break 'l2; }
+ copy(v6.plus(288), v1, v10);
+ break 'l2; }
+ 'l3: loop {
+ if v9 == 0 { break 'l3; }
+ copy(v6.plus(288) | 16, v1.plus(24), v9);
+ break 'l3; }
+ store64(v6 + 96, 0xa54ff53a5f1d36f1);
+ store64(v6 + 88, 0x3c6ef372fe94b82b);
+ v1 = v2 ^ 0xbb67ae8584caa73b;
+ store64(v6 + 80, v1);
+ v9 = ((v8 << 32) | 0x2000040) ^ 0x6a09e667f3bcc908;
+ store64(v6 + 72, v9);
+ store64(v6 + 32, 0xa54ff53a5f1d36f1);
+ store64(v6 + 24, 0x3c6ef372fe94b82b);
+ store64(v6 + 16, v1);
+ store64(v6 + 8, v9);
+ v1 = load64(v6 + 312) ^ 0x5be0cd19137e2179;
+ store64(v6 + 128, v1);
+ v9 = load64(v6 + 304) ^ 0x1f83d9abfb41bd6b;
+ store64(v6 + 120, v9);
+ v10 = load64(v6 + 296) ^ 0x9b05688c2b3e6c1f;
+ store64(v6 + 112, v10);
+ v2 = load64(v6 + 288) ^ 0x510e527fade682d1;
+ store64(v6 + 104, v2);
+ store64(v6 + 64, v1);
+ store64(v6 + 56, v9);
+ store64(v6 + 48, v10);
+ store64(v6 + 40, v2);
+ fill(v6.plus(8).plus(128), 0, 152);
+ store8(v6 + 144, v3 as u64);
+ t0 = digest_buffer_digest_into_33c1e97afcdf8a5d(v6.plus(8).plus(144), 0, v4, v5, v6.plus(8));
+ store64(v6 + 280, t0);
+ copy(v6.plus(288), v6.plus(8), 280);
+ v1 = load64(v6 + 560);
+ v10 = load64(v6 + 416).plus(v1);
+ store64(v6 + 416, v10);
+ fill(v6.plus(576), 0, 128);
+ v9 = v6.plus(288).plus(144);
+ 'l4: loop {
+ if v1 == 0 { break 'l4; }
+ copy(v6.plus(576), v9, v1);
+ break 'l4; }
+ fill(v9, 0, 136);
+ compress_compress_blake2b_compress(v6.plus(288), v6.plus(576), v10, 1, load8(v6 + 424));
+ v1 = load64(v6 + 288);
+ v9 = load64(v6 + 296);
+ v10 = load64(v6 + 304);
+ v5 = load64(v6 + 312);
+ v4 = load64(v6 + 320);
+ v2 = load64(v6 + 328);
+ v8 = load64(v6 + 336);
+ store64(v0 + 56, load64(v6 + 344));
+ store64(v0 + 48, v8);
+ store64(v0 + 40, v2);
+ store64(v0 + 32, v4);
+ store64(v0 + 24, v5);
+ store64(v0 + 16, v10);
+ store64(v0 + 8, v9);
+ store64(v0, v1);
+ return;
+}
+
+// blake2_state::tree::TreeState::close_leaf
+#[inline(never)]
+unsafe fn state_tree_TreeState_close_leaf(mut v0: u64, mut v1: u64, mut v2: u64, mut v3: u64) {
+ let mut v4: u64;
+ let mut v6: u64;
+ let mut v7: u64;
+ let mut v8: u64;
+ let mut v9: u32;
+ let mut v10: u64;
+ let mut v11: u32;
+ let mut v12: u32;
+ let mut v13: u64;
+ let mut v14: u64;
+ let mut v15: u64;
+ let mut v16: u64;
+ let mut t0: u64;
+ let mut frame = [0_u64; 30];
+ let top = (address!(frame)).plus(240) & !15;
+ v4 = top;
+ v4 = v4.minus(192) & 0xffffffffffffffe0;
+ 'l2: loop {
+ 'l3: loop {
+ v6 = v1.plus(128);
+ v7 = load64(v1.plus(136));
+ v8 = load64(v1.plus(856)).minus(load64(v6).plus(v7));
+ if v8 == 1 { break 'l3; }
+ state_blake2b_State_take(v1, v2, v8);
+ break 'l2;
+ }
+ 'l4: loop {
+ if v7 < 128 { break 'l4; }
+ state_blake2b_State_take(v1, v2, 1);
+ break 'l2;
+ }
+ v9 = load8(v2);
+ store64(v1.plus(136), v7.plus(1));
+ store8(v1.plus(v7).plus(168), v9 as u64);
+ break 'l2; }
+ fill(v4 + 64, 0, 16);
+ v9 = load32(v1.plus(856));
+ v7 = load64(v1.plus(872));
+ 'l5: loop {
+ v10 = load64(v1.plus(864));
+ v11 = (v10 == 0) as u32;
+ if v11 != 0 { break 'l5; }
+ copy(v4.plus(64), v1.plus(880), v10);
+ break 'l5; }
+ fill(v4 + 80, 0, 16);
+ 'l6: loop {
+ v12 = (v7 == 0) as u32;
+ if v12 != 0 { break 'l6; }
+ copy(v4.plus(80), v1.plus(896), v7);
+ break 'l6; }
+ v13 = v1.plus(160);
+ store64(v13, 0);
+ store64(v4 + 24, v10);
+ store32(v4 + 60, 0);
+ store32(v4 + 56, v9 as u64);
+ store64(v4 + 48, v7);
+ fill(v4 + 96, 0, 64);
+ store64(v4 + 16, load64(v4 + 72));
+ store64(v4 + 8, load64(v4 + 64));
+ store64(v4 + 32, load64(v4 + 80));
+ store64(v4 + 40, load64(v4 + 88));
+ state_blake2b_State_write_digest(v1, v4.plus(96));
+ state_blake2b_State_take(v1.plus(424), v4.plus(96), 64);
+ v14 = v1.plus(848);
+ t0 = v14;
+ v14 = load64(v14).plus(1);
+ store64(t0, v14);
+ fill(v4 + 160, 0, 32);
+ 'l7: loop {
+ if v11 != 0 { break 'l7; }
+ copy(v4.plus(160), v4.plus(8), v10);
+ break 'l7; }
+ 'l8: loop {
+ if v12 != 0 { break 'l8; }
+ copy(v4.plus(160) | 16, v4.plus(32), v7);
+ break 'l8; }
+ v7 = load64(v4 + 160);
+ v10 = load64(v4 + 168);
+ v15 = load64(v4 + 176);
+ v4 = load64(v4 + 184) ^ 0x5be0cd19137e2179;
+ store64(v1 + 120, v4);
+ v15 ^= 0x1f83d9abfb41bd6b;
+ store64(v1 + 112, v15);
+ v10 ^= 0x9b05688c2b3e6c1f;
+ store64(v1 + 104, v10);
+ v7 ^= 0x510e527fade682d1;
+ store64(v1 + 96, v7);
+ store64(v1 + 88, 0xa54ff53a5f1d36f1);
+ store64(v1 + 80, 0x3c6ef372fe94b82b);
+ v14 ^= 0xbb67ae8584caa73b;
+ store64(v1 + 72, v14);
+ v16 = (((v9 as u64) << 32) | 0x2000040) ^ 0x6a09e667f3bcc908;
+ store64(v1 + 64, v16);
+ store64(v1 + 56, v4);
+ store64(v1 + 48, v15);
+ store64(v1 + 40, v10);
+ store64(v1 + 32, v7);
+ store64(v1 + 24, 0xa54ff53a5f1d36f1);
+ store64(v1 + 16, 0x3c6ef372fe94b82b);
+ store64(v1 + 8, v14);
+ store64(v1, v16);
+ fill(v6, 0, 24);
+ store64(v1 + 152, 64);
+ fill(v13, 0, 264);
+ store64(v0 + 8, v3.minus(v8));
+ store64(v0, v2.plus(v8));
+ return;
+}
+
+// blake2_state::tree::TreeState::update
+#[inline(never)]
+unsafe fn state_tree_TreeState_update(mut v0: u64, mut v1: u64, mut v2: u64) {
+ let mut v3: u64;
+ let mut v5: u64;
+ let mut v6: u64;
+ let mut v7: u64;
+ let mut v8: u32;
+ let mut v9: u64;
+ let mut v10: u64;
+ let mut v11: u64;
+ let mut v12: u64;
+ let mut v13: u64;
+ let mut v14: u64;
+ let mut v15: u64;
+ let mut v16: u64;
+ let mut v17: u64;
+ let mut v18: u64;
+ let mut v19: u64;
+ let mut v20: u32;
+ let mut v21: u64;
+ let mut v22: u64;
+ let mut frame = [0_u64; 102];
+ let top = (address!(frame)).plus(816) & !15;
+ v3 = top;
+ v3 = v3.minus(768) & 0xffffffffffffffe0;
+ 'l2: loop {
+ v5 = v0.plus(856);
+ v6 = v0.plus(128);
+ v7 = load64(v0.plus(136));
+ if v2 > load64(v5).minus(load64(v6).plus(v7)) { break 'l2; }
+ 'l3: loop {
+ if v2 == 1 { break 'l3; }
+ state_blake2b_State_take(v0, v1, v2);
+ return;
+ }
+ 'l4: loop {
+ if v7 < 128 { break 'l4; }
+ state_blake2b_State_take(v0, v1, 1);
+ return;
+ }
+ v8 = load8(v1);
+ store64(v0.plus(136), v7.plus(1));
+ store8(v0.plus(v7).plus(168), v8 as u64);
+ return;
+ }
+ state_tree_TreeState_close_leaf(v3.plus(24), v0, v1, v2);
+ v7 = load64(v3 + 24);
+ 'l5: loop {
+ v1 = load64(v5);
+ v2 = load64(v3 + 32);
+ if v1 >= v2 { break 'l5; }
+ v9 = v0.plus(160);
+ v10 = v0.plus(424);
+ v11 = v0.plus(896);
+ v12 = v0.plus(880);
+ v13 = v3.plus(736) | 16;
+ v14 = v3.plus(640).plus(24);
+ v15 = v3.plus(104);
+ v16 = v3.plus(552).plus(24);
+ 'l6: loop {
+ 'l7: loop {
+ 'l8: loop {
+ if (v1 << 2) >= v2 { break 'l8; }
+ fill(v3 + 608, 0, 16);
+ v17 = v0.plus(872);
+ v5 = load64(v17);
+ 'l9: loop {
+ v18 = v0.plus(864);
+ v19 = load64(v18);
+ if v19 == 0 { break 'l9; }
+ copy(v3.plus(608), v12, v19);
+ break 'l9; }
+ fill(v3 + 624, 0, 16);
+ 'l10: loop {
+ if v5 == 0 { break 'l10; }
+ copy(v3.plus(624), v11, v5);
+ break 'l10; }
+ store64(v16, load64(v3 + 624));
+ store64(v16 + 8, load64(v3 + 632));
+ store64(v3 + 568, v19);
+ store32(v3 + 604, 0);
+ store64(v3 + 592, v5);
+ store64(v3 + 560, load64(v3 + 616));
+ store64(v3 + 552, load64(v3 + 608));
+ v19 = v0.plus(848);
+ v5 = load64(v19);
+ store32(v3 + 600, v1);
+ fill(v3 + 640, 0, 64);
+ tree_nodes_Nodes_leaf_digest(v3.plus(640), v3.plus(552), v5, 0, v7, v1 & 0xffffffff);
+ fill(v15, 0, 448);
+ store64(v3 + 96, load64(v3 + 696));
+ store64(v3 + 88, load64(v3 + 688));
+ store64(v3 + 80, load64(v3 + 680));
+ store64(v3 + 72, load64(v3 + 672));
+ store64(v3 + 64, load64(v3 + 664));
+ store64(v3 + 56, load64(v3 + 656));
+ store64(v3 + 48, load64(v3 + 648));
+ store64(v3 + 40, load64(v3 + 640));
+ v1 = load64(v0.plus(856));
+ fill(v3 + 704, 0, 16);
+ v5 = load64(v17);
+ 'l11: loop {
+ v17 = load64(v18);
+ v8 = (v17 == 0) as u32;
+ if v8 != 0 { break 'l11; }
+ copy(v3.plus(704), v12, v17);
+ break 'l11; }
+ fill(v3 + 720, 0, 16);
+ 'l12: loop {
+ v20 = (v5 == 0) as u32;
+ if v20 != 0 { break 'l12; }
+ copy(v3.plus(720), v11, v5);
+ break 'l12; }
+ store64(v14, load64(v3 + 720));
+ store64(v14 + 8, load64(v3 + 728));
+ store64(v3 + 656, v17);
+ store32(v3 + 692, 0);
+ store32(v3 + 688, v1);
+ store64(v3 + 680, v5);
+ store64(v3 + 648, load64(v3 + 712));
+ store64(v3 + 640, load64(v3 + 704));
+ state_blake2b_State_take(v10, v3.plus(40), 64);
+ v18 = load64(v19).plus(1);
+ store64(v19, v18);
+ fill(v3 + 736, 0, 32);
+ 'l13: loop {
+ if v8 != 0 { break 'l13; }
+ copy(v3.plus(736), v3.plus(640), v17);
+ break 'l13; }
+ 'l14: loop {
+ if v20 != 0 { break 'l14; }
+ copy(v13, v14, v5);
+ break 'l14; }
+ v5 = load64(v3 + 736);
+ v19 = load64(v3 + 744);
+ v17 = load64(v3 + 752);
+ v21 = load64(v3 + 760) ^ 0x5be0cd19137e2179;
+ store64(v0 + 120, v21);
+ v17 ^= 0x1f83d9abfb41bd6b;
+ store64(v0 + 112, v17);
+ v19 ^= 0x9b05688c2b3e6c1f;
+ store64(v0 + 104, v19);
+ v5 ^= 0x510e527fade682d1;
+ store64(v0 + 96, v5);
+ store64(v0 + 88, 0xa54ff53a5f1d36f1);
+ store64(v0 + 80, 0x3c6ef372fe94b82b);
+ v18 ^= 0xbb67ae8584caa73b;
+ store64(v0 + 72, v18);
+ v22 = ((v1 << 32) | 0x2000040) ^ 0x6a09e667f3bcc908;
+ store64(v0 + 64, v22);
+ store64(v0 + 56, v21);
+ store64(v0 + 48, v17);
+ store64(v0 + 40, v19);
+ store64(v0 + 32, v5);
+ store64(v0 + 24, 0xa54ff53a5f1d36f1);
+ store64(v0 + 16, 0x3c6ef372fe94b82b);
+ store64(v0 + 8, v18);
+ store64(v0, v22);
+ fill(v6, 0, 24);
+ store64(v0 + 152, 64);
+ fill(v9, 0, 264);
+ v2 = v2.minus(v1);
+ v7 = v7.plus(v1);
+ break 'l7;
+ }
+ state_tree_TreeState_close_leaf(v3.plus(8), v0, v7, v2);
+ v2 = load64(v3 + 16);
+ v7 = load64(v3 + 8);
+ break 'l7; }
+ v1 = load64(v0.plus(856));
+ if v1 < v2 { continue 'l6; }
+ break 'l6; }
+ break 'l5; }
+ 'l15: loop {
+ if v2 == 1 { break 'l15; }
+ state_blake2b_State_take(v0, v7, v2);
+ return;
+ }
+ 'l16: loop {
+ v2 = v0.plus(136);
+ v3 = load64(v2);
+ if v3 < 128 { break 'l16; }
+ state_blake2b_State_take(v0, v7, 1);
+ return;
+ }
+ v8 = load8(v7);
+ store64(v2, v3.plus(1));
+ store8(v0.plus(v3).plus(168), v8 as u64);
+ return;
+}
+
+// rattle::export vulfsjor_ffi_tree_root
+#[inline(never)]
+unsafe fn exported_tree_root(mut v0: u64, mut v1: u64, mut v2: u64, mut v3: u64, mut v4: u64, mut
+        v5: u64, mut v6: u64, mut v7: u64, mut v8: u32) -> u32 {
+ let mut v9: u64;
+ let mut v11: u32;
+ let mut v12: u64;
+ let mut v13: u64;
+ let mut v14: u64;
+ let mut v15: u32;
+ let mut v16: u64;
+ let mut v17: u64;
+ let mut v18: u64;
+ let mut v19: u64;
+ let mut v20: u64;
+ let mut v21: u64;
+ let mut v22: u64;
+ let mut v23: u64;
+ let mut v24: u64;
+ let mut v25: u32;
+ let mut t2: u64;
+ let mut t4: u64;
+ let mut t8: u64;
+ let mut t10: u64;
+ let mut frame = [0_u64; 270];
+ let top = (address!(frame)).plus(2160) & !15;
+ v9 = top;
+ v9 = v9.minus(2112) & 0xffffffffffffffe0;
+ v11 = 0xffffffff;
+ 'l2: loop {
+ if v3 > 0x3ffffffffffffff { break 'l2; }
+ if v1.minus(1) > 63 { break 'l2; }
+ if v5 > 16 { break 'l2; }
+ if v7 > 16 { break 'l2; }
+ if v8 == 0 { break 'l2; }
+ v12 = v6.plus(if v6 == 0 { 4096_u64 } else { 0 });
+ v13 = v4.plus(if v4 == 0 { 4096_u64 } else { 0 });
+ v6 = v2.plus(if v2 == 0 { 4096_u64 } else { 0 });
+ v14 = v0.plus(if v0 == 0 { 4096_u64 } else { 0 });
+ 'l3: loop {
+ 'l4: loop {
+ if v1 == 64 { break 'l4; }
+ if v1 != 32 { break 'l3; }
+ v4 = 0;
+ fill(v9 + 1632, 0, 16);
+ 'l5: loop {
+ v11 = (v5 == 0) as u32;
+ if v11 != 0 { break 'l5; }
+ copy(v9.plus(1632), v13, v5);
+ break 'l5; }
+ fill(v9 + 1648, 0, 16);
+ 'l6: loop {
+ v15 = (v7 == 0) as u32;
+ if v15 != 0 { break 'l6; }
+ copy(v9.plus(1648), v12, v7);
+ break 'l6; }
+ store64(v9 + 720, v5);
+ store32(v9 + 756, 0);
+ store32(v9 + 752, v8 as u64);
+ store64(v9 + 744, v7);
+ store64(v9 + 712, load64(v9 + 1640));
+ store64(v9 + 704, load64(v9 + 1632));
+ store64(v9 + 728, load64(v9 + 1648));
+ store64(v9 + 736, load64(v9 + 1656));
+ fill(v9, 0, 32);
+ 'l7: loop {
+ if v11 != 0 { break 'l7; }
+ copy(v9, v9.plus(704), v5);
+ break 'l7; }
+ v16 = v9.plus(728);
+ v1 = v9 | 16;
+ 'l8: loop {
+ if v15 != 0 { break 'l8; }
+ copy(v1, v16, v7);
+ break 'l8; }
+ v2 = load64(v9);
+ v0 = load64(v9 + 8);
+ v12 = load64(v9 + 16);
+ v13 = load64(v9 + 24);
+ fill(v9, 0, 32);
+ 'l9: loop {
+ if v11 != 0 { break 'l9; }
+ copy(v9, v9.plus(704), v5);
+ break 'l9; }
+ 'l10: loop {
+ if v15 != 0 { break 'l10; }
+ copy(v1, v16, v7);
+ break 'l10; }
+ v17 = load64(v9);
+ v18 = load64(v9 + 8);
+ v19 = load64(v9 + 16);
+ v20 = load64(v9 + 24);
+ v13 ^= 0x5be0cd19137e2179;
+ store64(v9 + 888, v13);
+ v12 ^= 0x1f83d9abfb41bd6b;
+ store64(v9 + 880, v12);
+ v0 ^= 0x9b05688c2b3e6c1f;
+ store64(v9 + 872, v0);
+ v2 ^= 0x510e527fade682d1;
+ store64(v9 + 864, v2);
+ store64(v9 + 856, 0xa54ff53a5f1d36f1);
+ store64(v9 + 848, 0x3c6ef372fe94b82b);
+ store64(v9 + 840, 0xbb67ae8584caa73b);
+ v1 = v8 as u64;
+ v21 = v1 << 32;
+ v22 = (v21 | 0x2000040) ^ 0x6a09e667f3bcc908;
+ store64(v9 + 832, v22);
+ store64(v9 + 824, v13);
+ store64(v9 + 816, v12);
+ store64(v9 + 808, v0);
+ store64(v9 + 800, v2);
+ store64(v9 + 792, 0xa54ff53a5f1d36f1);
+ store64(v9 + 784, 0x3c6ef372fe94b82b);
+ store64(v9 + 776, 0xbb67ae8584caa73b);
+ store64(v9 + 768, v22);
+ store64(v9 + 712, load64(v9 + 1640));
+ store64(v9 + 704, load64(v9 + 1632));
+ store64(v9 + 720, v5);
+ store64(v9 + 728, load64(v9 + 1648));
+ store64(v9 + 736, load64(v9 + 1656));
+ fill(v9 + 756, 0, 12);
+ store32(v9 + 752, v8 as u64);
+ store64(v9 + 744, v7);
+ v22 = v9.plus(896);
+ fill(v22, 0, 152);
+ v5 = v20 ^ 0x5be0cd19137e2179;
+ store64(v9 + 1168, v5);
+ v7 = v19 ^ 0x1f83d9abfb41bd6b;
+ store64(v9 + 1160, v7);
+ v2 = v18 ^ 0x9b05688c2b3e6c1f;
+ store64(v9 + 1152, v2);
+ v0 = v17 ^ 0x510e527fade682d1;
+ store64(v9 + 1144, v0);
+ store64(v9 + 1136, 0xa54ff53a5f1d36f1);
+ store64(v9 + 1128, 0x3c6ef372fe94b82a);
+ store64(v9 + 1120, 0xbb67ae8584caa73b);
+ v12 = (v21 | 0x2000020) ^ 0x6a09e667f3bcc908;
+ store64(v9 + 1112, v12);
+ store64(v9 + 1104, v5);
+ store64(v9 + 1096, v7);
+ store64(v9 + 1088, v2);
+ store64(v9 + 1080, v0);
+ store64(v9 + 1072, 0xa54ff53a5f1d36f1);
+ store64(v9 + 1064, 0x3c6ef372fe94b82a);
+ store64(v9 + 1056, 0xbb67ae8584caa73b);
+ store64(v9 + 1048, v12);
+ fill(v9.plus(1176), 0, 152);
+ v13 = v9.plus(1048);
+ 'l11: loop {
+ 'l12: loop {
+ if (v1 << 2) < v3 { break 'l12; }
+ v5 = 0;
+ v11 = v8;
+ break 'l11;
+ }
+ v19 = v9.plus(1664) | 16;
+ v17 = v9.plus(1192);
+ v18 = v9.plus(64);
+ v4 = 0;
+ v5 = 0;
+ 'l13: loop {
+ fill(v9 + 1664, 0, 64);
+ tree_nodes_Nodes_leaf_digest(v9.plus(1664), v9.plus(704), v5, 0, v6, v1);
+ fill(v18, 0, 448);
+ store64(v9 + 56, load64(v9 + 1720));
+ store64(v9 + 48, load64(v9 + 1712));
+ store64(v9 + 40, load64(v9 + 1704));
+ store64(v9 + 32, load64(v9 + 1696));
+ store64(v9 + 24, load64(v9 + 1688));
+ store64(v9 + 16, load64(v9 + 1680));
+ store64(v9 + 8, load64(v9 + 1672));
+ store64(v9, load64(v9 + 1664));
+ v4 = digest_buffer_digest_into_33c1e97afcdf8a5d(v17, v4, v9, 64, v13);
+ store64(v9 + 1320, v4);
+ v5 = load64(v9 + 760).plus(1);
+ store64(v9 + 760, v5);
+ v11 = load32(v9 + 752);
+ v1 = load64(v9 + 744);
+ v7 = load64(v9 + 720);
+ fill(v9 + 1664, 0, 32);
+ 'l14: loop {
+ if v7 == 0 { break 'l14; }
+ copy(v9.plus(1664), v9.plus(704), v7);
+ break 'l14; }
+ 'l15: loop {
+ if v1 == 0 { break 'l15; }
+ copy(v19, v16, v1);
+ break 'l15; }
+ store64(v9 + 856, 0xa54ff53a5f1d36f1);
+ store64(v9 + 848, 0x3c6ef372fe94b82b);
+ v7 = v5 ^ 0xbb67ae8584caa73b;
+ store64(v9 + 840, v7);
+ v1 = v11 as u64;
+ v2 = ((v1 << 32) | 0x2000040) ^ 0x6a09e667f3bcc908;
+ store64(v9 + 832, v2);
+ store64(v9 + 792, 0xa54ff53a5f1d36f1);
+ store64(v9 + 784, 0x3c6ef372fe94b82b);
+ store64(v9 + 776, v7);
+ store64(v9 + 768, v2);
+ v7 = load64(v9 + 1688) ^ 0x5be0cd19137e2179;
+ store64(v9 + 888, v7);
+ v2 = load64(v9 + 1680) ^ 0x1f83d9abfb41bd6b;
+ store64(v9 + 880, v2);
+ v0 = load64(v9 + 1672) ^ 0x9b05688c2b3e6c1f;
+ store64(v9 + 872, v0);
+ v12 = load64(v9 + 1664) ^ 0x510e527fade682d1;
+ store64(v9 + 864, v12);
+ store64(v9 + 824, v7);
+ store64(v9 + 816, v2);
+ store64(v9 + 808, v0);
+ store64(v9 + 800, v12);
+ fill(v22, 0, 152);
+ v7 = v8 as u64;
+ v6 = v6.plus(v7);
+ v8 = v11;
+ v3 = v3.minus(v7);
+ if (v1 << 2) < v3 { continue 'l13; }
+ break 'l13; }
+ break 'l11; }
+ v17 = v9.plus(704).plus(64);
+ v7 = 0;
+ 'l16: loop {
+ if v1 >= v3 { break 'l16; }
+ v23 = v9.plus(1664) | 16;
+ v24 = v9 | 16;
+ v20 = v9.plus(64);
+ v18 = v9.plus(1192);
+ v19 = v9.plus(144);
+ v21 = v9.plus(912);
+ v2 = 0;
+ v7 = 0;
+ v12 = v1;
+ 'l17: loop {
+ 'l18: loop {
+ 'l19: loop {
+ if v7 != 0_u64.minus(v2) { break 'l19; }
+ if (v12 << 2) >= v3 { break 'l19; }
+ v7 = 0;
+ fill(v9 + 1664, 0, 64);
+ tree_nodes_Nodes_leaf_digest(v9.plus(1664), v9.plus(704), v5, 0, v6, v12);
+ fill(v20, 0, 448);
+ store64(v9 + 56, load64(v9 + 1720));
+ store64(v9 + 48, load64(v9 + 1712));
+ store64(v9 + 40, load64(v9 + 1704));
+ store64(v9 + 32, load64(v9 + 1696));
+ store64(v9 + 24, load64(v9 + 1688));
+ store64(v9 + 16, load64(v9 + 1680));
+ store64(v9 + 8, load64(v9 + 1672));
+ store64(v9, load64(v9 + 1664));
+ v4 = digest_buffer_digest_into_33c1e97afcdf8a5d(v18, v4, v9, 64, v13);
+ store64(v9 + 1320, v4);
+ v5 = load64(v9 + 760).plus(1);
+ store64(v9 + 760, v5);
+ v8 = load32(v9 + 752);
+ v1 = load64(v9 + 744);
+ v2 = load64(v9 + 720);
+ fill(v9 + 1664, 0, 32);
+ 'l20: loop {
+ if v2 == 0 { break 'l20; }
+ copy(v9.plus(1664), v9.plus(704), v2);
+ break 'l20; }
+ 'l21: loop {
+ if v1 == 0 { break 'l21; }
+ copy(v23, v16, v1);
+ break 'l21; }
+ store64(v9 + 856, 0xa54ff53a5f1d36f1);
+ store64(v9 + 848, 0x3c6ef372fe94b82b);
+ v1 = v5 ^ 0xbb67ae8584caa73b;
+ store64(v9 + 840, v1);
+ v2 = (((v8 as u64) << 32) | 0x2000040) ^ 0x6a09e667f3bcc908;
+ store64(v9 + 832, v2);
+ store64(v9 + 792, 0xa54ff53a5f1d36f1);
+ store64(v9 + 784, 0x3c6ef372fe94b82b);
+ store64(v9 + 776, v1);
+ store64(v9 + 768, v2);
+ v1 = load64(v9 + 1688) ^ 0x5be0cd19137e2179;
+ store64(v9 + 888, v1);
+ v2 = load64(v9 + 1680) ^ 0x1f83d9abfb41bd6b;
+ store64(v9 + 880, v2);
+ v0 = load64(v9 + 1672) ^ 0x9b05688c2b3e6c1f;
+ store64(v9 + 872, v0);
+ v12 = load64(v9 + 1664) ^ 0x510e527fade682d1;
+ store64(v9 + 864, v12);
+ store64(v9 + 824, v1);
+ store64(v9 + 816, v2);
+ store64(v9 + 808, v0);
+ store64(v9 + 800, v12);
+ fill(v22, 0, 152);
+ v0 = v11 as u64;
+ v11 = v8;
+ v2 = 0;
+ break 'l18;
+ }
+ t2 = digest_buffer_digest_into_33c1e97afcdf8a5d(v21, v7, v6, v1, v17);
+ store64(v9 + 1040, t2);
+ v4 = load32(v9 + 752) as u64;
+ v2 = load64(v9 + 760);
+ v5 = load64(v9 + 744);
+ v7 = load64(v9 + 720);
+ fill(v9, 0, 32);
+ 'l22: loop {
+ if v7 == 0 { break 'l22; }
+ copy(v9, v9.plus(704), v7);
+ break 'l22; }
+ 'l23: loop {
+ if v5 == 0 { break 'l23; }
+ copy(v24, v16, v5);
+ break 'l23; }
+ v5 = load64(v9);
+ v7 = load64(v9 + 8);
+ v0 = load64(v9 + 16);
+ v12 = load64(v9 + 24);
+ copy(v9, v17, 280);
+ v12 ^= 0x5be0cd19137e2179;
+ store64(v9 + 888, v12);
+ v0 ^= 0x1f83d9abfb41bd6b;
+ store64(v9 + 880, v0);
+ v7 ^= 0x9b05688c2b3e6c1f;
+ store64(v9 + 872, v7);
+ v5 ^= 0x510e527fade682d1;
+ store64(v9 + 864, v5);
+ store64(v9 + 856, 0xa54ff53a5f1d36f1);
+ store64(v9 + 848, 0x3c6ef372fe94b82b);
+ v2 = v2.plus(1) ^ 0xbb67ae8584caa73b;
+ store64(v9 + 840, v2);
+ v4 = ((v4 << 32) | 0x2000040) ^ 0x6a09e667f3bcc908;
+ store64(v9 + 832, v4);
+ store64(v9 + 824, v12);
+ store64(v9 + 816, v0);
+ store64(v9 + 808, v7);
+ store64(v9 + 800, v5);
+ store64(v9 + 792, 0xa54ff53a5f1d36f1);
+ store64(v9 + 784, 0x3c6ef372fe94b82b);
+ store64(v9 + 776, v2);
+ store64(v9 + 768, v4);
+ fill(v22, 0, 152);
+ v5 = load64(v9 + 272);
+ v7 = load64(v9 + 128).plus(v5);
+ store64(v9 + 128, v7);
+ fill(v9.plus(1664), 0, 128);
+ 'l24: loop {
+ if v5 == 0 { break 'l24; }
+ copy(v9.plus(1664), v19, v5);
+ break 'l24; }
+ fill(v19, 0, 136);
+ compress_compress_blake2b_compress(v9, v9.plus(1664), v7, 1, load8(v9 + 136));
+ store64(v9 + 632, load64(v9 + 56));
+ store64(v9 + 624, load64(v9 + 48));
+ store64(v9 + 616, load64(v9 + 40));
+ store64(v9 + 608, load64(v9 + 32));
+ store64(v9 + 600, load64(v9 + 24));
+ store64(v9 + 592, load64(v9 + 16));
+ store64(v9 + 584, load64(v9 + 8));
+ store64(v9 + 576, load64(v9));
+ v4 = digest_buffer_digest_into_33c1e97afcdf8a5d(v18, load64(v9 + 1320), v9.plus(576), 64, v13);
+ store64(v9 + 1320, v4);
+ v5 = load64(v9 + 760).plus(1);
+ store64(v9 + 760, v5);
+ v7 = load64(v9 + 1040);
+ v2 = load64(v9 + 896);
+ v11 = load32(v9 + 752);
+ v0 = v1;
+ break 'l18; }
+ v6 = v6.plus(v0);
+ v12 = v11 as u64;
+ v1 = v12.minus(v7.plus(v2));
+ v3 = v3.minus(v0);
+ if v1 < v3 { continue 'l17; }
+ break 'l17; }
+ break 'l16; }
+ t4 = digest_buffer_digest_into_33c1e97afcdf8a5d(v9.plus(912), v7, v6, v3, v17);
+ store64(v9 + 1040, t4);
+ copy(v9, v17, 136);
+ copy(v9.plus(137), v9.plus(905), 143);
+ copy(v9.plus(1664), v13, 280);
+ store8(v9 + 136, 1);
+ v3 = load64(v9 + 272);
+ v1 = load64(v9 + 128).plus(v3);
+ store64(v9 + 128, v1);
+ fill(v9.plus(576), 0, 128);
+ v6 = v9.plus(144);
+ 'l25: loop {
+ if v3 == 0 { break 'l25; }
+ copy(v9.plus(576), v6, v3);
+ break 'l25; }
+ fill(v6, 0, 136);
+ compress_compress_blake2b_compress(v9, v9.plus(576), v1, 1, 1);
+ store64(v9 + 568, load64(v9 + 56));
+ store64(v9 + 560, load64(v9 + 48));
+ store64(v9 + 552, load64(v9 + 40));
+ store64(v9 + 544, load64(v9 + 32));
+ store64(v9 + 536, load64(v9 + 24));
+ store64(v9 + 528, load64(v9 + 16));
+ store64(v9 + 520, load64(v9 + 8));
+ store64(v9 + 512, load64(v9));
+ v3 = digest_buffer_digest_into_33c1e97afcdf8a5d(v9.plus(1664).plus(144), load64(v9 + 1936),
+   v9.plus(512), 64, v9.plus(1664));
+ store8(v9 + 1800, 1);
+ store64(v9 + 1936, v3);
+ copy(v9, v9.plus(1664), 280);
+ v3 = load64(v9 + 272);
+ v1 = load64(v9 + 128).plus(v3);
+ store64(v9 + 128, v1);
+ fill(v9.plus(576), 0, 128);
+ 'l26: loop {
+ if v3 == 0 { break 'l26; }
+ copy(v9.plus(576), v6, v3);
+ break 'l26; }
+ fill(v6, 0, 136);
+ compress_compress_blake2b_compress(v9, v9.plus(576), v1, 1, load8(v9 + 136));
+ v6 = load64(v9);
+ v3 = load64(v9 + 8);
+ v1 = load64(v9 + 16);
+ store64(v14 + 24, load64(v9 + 24));
+ store64(v14 + 16, v1);
+ store64(v14 + 8, v3);
+ store64(v14, v6);
+ return 0;
+ }
+ v4 = 0;
+ fill(v9 + 1632, 0, 16);
+ 'l27: loop {
+ v11 = (v5 == 0) as u32;
+ if v11 != 0 { break 'l27; }
+ copy(v9.plus(1632), v13, v5);
+ break 'l27; }
+ fill(v9 + 1648, 0, 16);
+ 'l28: loop {
+ v15 = (v7 == 0) as u32;
+ if v15 != 0 { break 'l28; }
+ copy(v9.plus(1648), v12, v7);
+ break 'l28; }
+ store64(v9 + 720, v5);
+ store32(v9 + 756, 0);
+ store32(v9 + 752, v8 as u64);
+ store64(v9 + 744, v7);
+ store64(v9 + 712, load64(v9 + 1640));
+ store64(v9 + 704, load64(v9 + 1632));
+ store64(v9 + 728, load64(v9 + 1648));
+ store64(v9 + 736, load64(v9 + 1656));
+ fill(v9, 0, 32);
+ 'l29: loop {
+ if v11 != 0 { break 'l29; }
+ copy(v9, v9.plus(704), v5);
+ break 'l29; }
+ v16 = v9.plus(728);
+ v1 = v9 | 16;
+ 'l30: loop {
+ if v15 != 0 { break 'l30; }
+ copy(v1, v16, v7);
+ break 'l30; }
+ v2 = load64(v9);
+ v0 = load64(v9 + 8);
+ v12 = load64(v9 + 16);
+ v13 = load64(v9 + 24);
+ fill(v9, 0, 32);
+ 'l31: loop {
+ if v11 != 0 { break 'l31; }
+ copy(v9, v9.plus(704), v5);
+ break 'l31; }
+ 'l32: loop {
+ if v15 != 0 { break 'l32; }
+ copy(v1, v16, v7);
+ break 'l32; }
+ v17 = load64(v9);
+ v18 = load64(v9 + 8);
+ v19 = load64(v9 + 16);
+ v20 = load64(v9 + 24);
+ v13 ^= 0x5be0cd19137e2179;
+ store64(v9 + 888, v13);
+ v12 ^= 0x1f83d9abfb41bd6b;
+ store64(v9 + 880, v12);
+ v0 ^= 0x9b05688c2b3e6c1f;
+ store64(v9 + 872, v0);
+ v22 = v2 ^ 0x510e527fade682d1;
+ store64(v9 + 864, v22);
+ store64(v9 + 856, 0xa54ff53a5f1d36f1);
+ store64(v9 + 848, 0x3c6ef372fe94b82b);
+ store64(v9 + 840, 0xbb67ae8584caa73b);
+ v1 = v8 as u64;
+ v2 = ((v1 << 32) | 0x2000040) ^ 0x6a09e667f3bcc908;
+ store64(v9 + 832, v2);
+ store64(v9 + 824, v13);
+ store64(v9 + 816, v12);
+ store64(v9 + 808, v0);
+ store64(v9 + 800, v22);
+ store64(v9 + 792, 0xa54ff53a5f1d36f1);
+ store64(v9 + 784, 0x3c6ef372fe94b82b);
+ store64(v9 + 776, 0xbb67ae8584caa73b);
+ store64(v9 + 768, v2);
+ store64(v9 + 712, load64(v9 + 1640));
+ store64(v9 + 704, load64(v9 + 1632));
+ store64(v9 + 720, v5);
+ store64(v9 + 728, load64(v9 + 1648));
+ store64(v9 + 736, load64(v9 + 1656));
+ fill(v9 + 756, 0, 12);
+ store32(v9 + 752, v8 as u64);
+ store64(v9 + 744, v7);
+ v22 = v9.plus(896);
+ fill(v22, 0, 152);
+ v5 = v20 ^ 0x5be0cd19137e2179;
+ store64(v9 + 1168, v5);
+ v7 = v19 ^ 0x1f83d9abfb41bd6b;
+ store64(v9 + 1160, v7);
+ v0 = v18 ^ 0x9b05688c2b3e6c1f;
+ store64(v9 + 1152, v0);
+ v12 = v17 ^ 0x510e527fade682d1;
+ store64(v9 + 1144, v12);
+ store64(v9 + 1136, 0xa54ff53a5f1d36f1);
+ store64(v9 + 1128, 0x3c6ef372fe94b82a);
+ store64(v9 + 1120, 0xbb67ae8584caa73b);
+ store64(v9 + 1112, v2);
+ store64(v9 + 1104, v5);
+ store64(v9 + 1096, v7);
+ store64(v9 + 1088, v0);
+ store64(v9 + 1080, v12);
+ store64(v9 + 1072, 0xa54ff53a5f1d36f1);
+ store64(v9 + 1064, 0x3c6ef372fe94b82a);
+ store64(v9 + 1056, 0xbb67ae8584caa73b);
+ store64(v9 + 1048, v2);
+ fill(v9.plus(1176), 0, 152);
+ v13 = v9.plus(1048);
+ 'l33: loop {
+ 'l34: loop {
+ if (v1 << 2) < v3 { break 'l34; }
+ v5 = 0;
+ v11 = v8;
+ break 'l33;
+ }
+ v19 = v9.plus(1664) | 16;
+ v17 = v9.plus(1192);
+ v18 = v9.plus(64);
+ v4 = 0;
+ v5 = 0;
+ 'l35: loop {
+ fill(v9 + 1664, 0, 64);
+ tree_nodes_Nodes_leaf_digest(v9.plus(1664), v9.plus(704), v5, 0, v6, v1);
+ fill(v18, 0, 448);
+ store64(v9 + 56, load64(v9 + 1720));
+ store64(v9 + 48, load64(v9 + 1712));
+ store64(v9 + 40, load64(v9 + 1704));
+ store64(v9 + 32, load64(v9 + 1696));
+ store64(v9 + 24, load64(v9 + 1688));
+ store64(v9 + 16, load64(v9 + 1680));
+ store64(v9 + 8, load64(v9 + 1672));
+ store64(v9, load64(v9 + 1664));
+ v4 = digest_buffer_digest_into_33c1e97afcdf8a5d(v17, v4, v9, 64, v13);
+ store64(v9 + 1320, v4);
+ v5 = load64(v9 + 760).plus(1);
+ store64(v9 + 760, v5);
+ v11 = load32(v9 + 752);
+ v1 = load64(v9 + 744);
+ v7 = load64(v9 + 720);
+ fill(v9 + 1664, 0, 32);
+ 'l36: loop {
+ if v7 == 0 { break 'l36; }
+ copy(v9.plus(1664), v9.plus(704), v7);
+ break 'l36; }
+ 'l37: loop {
+ if v1 == 0 { break 'l37; }
+ copy(v19, v16, v1);
+ break 'l37; }
+ store64(v9 + 856, 0xa54ff53a5f1d36f1);
+ store64(v9 + 848, 0x3c6ef372fe94b82b);
+ v7 = v5 ^ 0xbb67ae8584caa73b;
+ store64(v9 + 840, v7);
+ v1 = v11 as u64;
+ v2 = ((v1 << 32) | 0x2000040) ^ 0x6a09e667f3bcc908;
+ store64(v9 + 832, v2);
+ store64(v9 + 792, 0xa54ff53a5f1d36f1);
+ store64(v9 + 784, 0x3c6ef372fe94b82b);
+ store64(v9 + 776, v7);
+ store64(v9 + 768, v2);
+ v7 = load64(v9 + 1688) ^ 0x5be0cd19137e2179;
+ store64(v9 + 888, v7);
+ v2 = load64(v9 + 1680) ^ 0x1f83d9abfb41bd6b;
+ store64(v9 + 880, v2);
+ v0 = load64(v9 + 1672) ^ 0x9b05688c2b3e6c1f;
+ store64(v9 + 872, v0);
+ v12 = load64(v9 + 1664) ^ 0x510e527fade682d1;
+ store64(v9 + 864, v12);
+ store64(v9 + 824, v7);
+ store64(v9 + 816, v2);
+ store64(v9 + 808, v0);
+ store64(v9 + 800, v12);
+ fill(v22, 0, 152);
+ v7 = v8 as u64;
+ v6 = v6.plus(v7);
+ v8 = v11;
+ v3 = v3.minus(v7);
+ if (v1 << 2) < v3 { continue 'l35; }
+ break 'l35; }
+ break 'l33; }
+ v17 = v9.plus(704).plus(64);
+ v7 = 0;
+ 'l38: loop {
+ if v1 >= v3 { break 'l38; }
+ v23 = v9.plus(1664) | 16;
+ v24 = v9 | 16;
+ v20 = v9.plus(64);
+ v18 = v9.plus(1192);
+ v19 = v9.plus(144);
+ v21 = v9.plus(912);
+ v2 = 0;
+ v7 = 0;
+ v12 = v1;
+ 'l39: loop {
+ 'l40: loop {
+ 'l41: loop {
+ if v7 != 0_u64.minus(v2) { break 'l41; }
+ if (v12 << 2) >= v3 { break 'l41; }
+ v7 = 0;
+ fill(v9 + 1664, 0, 64);
+ tree_nodes_Nodes_leaf_digest(v9.plus(1664), v9.plus(704), v5, 0, v6, v12);
+ fill(v20, 0, 448);
+ store64(v9 + 56, load64(v9 + 1720));
+ store64(v9 + 48, load64(v9 + 1712));
+ store64(v9 + 40, load64(v9 + 1704));
+ store64(v9 + 32, load64(v9 + 1696));
+ store64(v9 + 24, load64(v9 + 1688));
+ store64(v9 + 16, load64(v9 + 1680));
+ store64(v9 + 8, load64(v9 + 1672));
+ store64(v9, load64(v9 + 1664));
+ v4 = digest_buffer_digest_into_33c1e97afcdf8a5d(v18, v4, v9, 64, v13);
+ store64(v9 + 1320, v4);
+ v5 = load64(v9 + 760).plus(1);
+ store64(v9 + 760, v5);
+ v8 = load32(v9 + 752);
+ v1 = load64(v9 + 744);
+ v2 = load64(v9 + 720);
+ fill(v9 + 1664, 0, 32);
+ 'l42: loop {
+ if v2 == 0 { break 'l42; }
+ copy(v9.plus(1664), v9.plus(704), v2);
+ break 'l42; }
+ 'l43: loop {
+ if v1 == 0 { break 'l43; }
+ copy(v23, v16, v1);
+ break 'l43; }
+ store64(v9 + 856, 0xa54ff53a5f1d36f1);
+ store64(v9 + 848, 0x3c6ef372fe94b82b);
+ v1 = v5 ^ 0xbb67ae8584caa73b;
+ store64(v9 + 840, v1);
+ v2 = (((v8 as u64) << 32) | 0x2000040) ^ 0x6a09e667f3bcc908;
+ store64(v9 + 832, v2);
+ store64(v9 + 792, 0xa54ff53a5f1d36f1);
+ store64(v9 + 784, 0x3c6ef372fe94b82b);
+ store64(v9 + 776, v1);
+ store64(v9 + 768, v2);
+ v1 = load64(v9 + 1688) ^ 0x5be0cd19137e2179;
+ store64(v9 + 888, v1);
+ v2 = load64(v9 + 1680) ^ 0x1f83d9abfb41bd6b;
+ store64(v9 + 880, v2);
+ v0 = load64(v9 + 1672) ^ 0x9b05688c2b3e6c1f;
+ store64(v9 + 872, v0);
+ v12 = load64(v9 + 1664) ^ 0x510e527fade682d1;
+ store64(v9 + 864, v12);
+ store64(v9 + 824, v1);
+ store64(v9 + 816, v2);
+ store64(v9 + 808, v0);
+ store64(v9 + 800, v12);
+ fill(v22, 0, 152);
+ v0 = v11 as u64;
+ v11 = v8;
+ v2 = 0;
+ break 'l40;
+ }
+ t8 = digest_buffer_digest_into_33c1e97afcdf8a5d(v21, v7, v6, v1, v17);
+ store64(v9 + 1040, t8);
+ v4 = load32(v9 + 752) as u64;
+ v2 = load64(v9 + 760);
+ v5 = load64(v9 + 744);
+ v7 = load64(v9 + 720);
+ fill(v9, 0, 32);
+ 'l44: loop {
+ if v7 == 0 { break 'l44; }
+ copy(v9, v9.plus(704), v7);
+ break 'l44; }
+ 'l45: loop {
+ if v5 == 0 { break 'l45; }
+ copy(v24, v16, v5);
+ break 'l45; }
+ v5 = load64(v9);
+ v7 = load64(v9 + 8);
+ v0 = load64(v9 + 16);
+ v12 = load64(v9 + 24);
+ copy(v9, v17, 280);
+ v12 ^= 0x5be0cd19137e2179;
+ store64(v9 + 888, v12);
+ v0 ^= 0x1f83d9abfb41bd6b;
+ store64(v9 + 880, v0);
+ v7 ^= 0x9b05688c2b3e6c1f;
+ store64(v9 + 872, v7);
+ v5 ^= 0x510e527fade682d1;
+ store64(v9 + 864, v5);
+ store64(v9 + 856, 0xa54ff53a5f1d36f1);
+ store64(v9 + 848, 0x3c6ef372fe94b82b);
+ v2 = v2.plus(1) ^ 0xbb67ae8584caa73b;
+ store64(v9 + 840, v2);
+ v4 = ((v4 << 32) | 0x2000040) ^ 0x6a09e667f3bcc908;
+ store64(v9 + 832, v4);
+ store64(v9 + 824, v12);
+ store64(v9 + 816, v0);
+ store64(v9 + 808, v7);
+ store64(v9 + 800, v5);
+ store64(v9 + 792, 0xa54ff53a5f1d36f1);
+ store64(v9 + 784, 0x3c6ef372fe94b82b);
+ store64(v9 + 776, v2);
+ store64(v9 + 768, v4);
+ fill(v22, 0, 152);
+ v5 = load64(v9 + 272);
+ v7 = load64(v9 + 128).plus(v5);
+ store64(v9 + 128, v7);
+ fill(v9.plus(1664), 0, 128);
+ 'l46: loop {
+ if v5 == 0 { break 'l46; }
+ copy(v9.plus(1664), v19, v5);
+ break 'l46; }
+ fill(v19, 0, 136);
+ compress_compress_blake2b_compress(v9, v9.plus(1664), v7, 1, load8(v9 + 136));
+ store64(v9 + 632, load64(v9 + 56));
+ store64(v9 + 624, load64(v9 + 48));
+ store64(v9 + 616, load64(v9 + 40));
+ store64(v9 + 608, load64(v9 + 32));
+ store64(v9 + 600, load64(v9 + 24));
+ store64(v9 + 592, load64(v9 + 16));
+ store64(v9 + 584, load64(v9 + 8));
+ store64(v9 + 576, load64(v9));
+ v4 = digest_buffer_digest_into_33c1e97afcdf8a5d(v18, load64(v9 + 1320), v9.plus(576), 64, v13);
+ store64(v9 + 1320, v4);
+ v5 = load64(v9 + 760).plus(1);
+ store64(v9 + 760, v5);
+ v7 = load64(v9 + 1040);
+ v2 = load64(v9 + 896);
+ v11 = load32(v9 + 752);
+ v0 = v1;
+ break 'l40; }
+ v6 = v6.plus(v0);
+ v12 = v11 as u64;
+ v1 = v12.minus(v7.plus(v2));
+ v3 = v3.minus(v0);
+ if v1 < v3 { continue 'l39; }
+ break 'l39; }
+ break 'l38; }
+ t10 = digest_buffer_digest_into_33c1e97afcdf8a5d(v9.plus(912), v7, v6, v3, v17);
+ store64(v9 + 1040, t10);
+ copy(v9, v17, 136);
+ copy(v9.plus(137), v9.plus(905), 143);
+ copy(v9.plus(1664), v13, 280);
+ store8(v9 + 136, 1);
+ v3 = load64(v9 + 272);
+ v1 = load64(v9 + 128).plus(v3);
+ store64(v9 + 128, v1);
+ fill(v9.plus(576), 0, 128);
+ v6 = v9.plus(144);
+ 'l47: loop {
+ if v3 == 0 { break 'l47; }
+ copy(v9.plus(576), v6, v3);
+ break 'l47; }
+ fill(v6, 0, 136);
+ compress_compress_blake2b_compress(v9, v9.plus(576), v1, 1, 1);
+ store64(v9 + 568, load64(v9 + 56));
+ store64(v9 + 560, load64(v9 + 48));
+ store64(v9 + 552, load64(v9 + 40));
+ store64(v9 + 544, load64(v9 + 32));
+ store64(v9 + 536, load64(v9 + 24));
+ store64(v9 + 528, load64(v9 + 16));
+ store64(v9 + 520, load64(v9 + 8));
+ store64(v9 + 512, load64(v9));
+ v3 = digest_buffer_digest_into_33c1e97afcdf8a5d(v9.plus(1664).plus(144), load64(v9 + 1936),
+   v9.plus(512), 64, v9.plus(1664));
+ store8(v9 + 1800, 1);
+ store64(v9 + 1936, v3);
+ copy(v9, v9.plus(1664), 280);
+ v3 = load64(v9 + 272);
+ v1 = load64(v9 + 128).plus(v3);
+ store64(v9 + 128, v1);
+ fill(v9.plus(576), 0, 128);
+ 'l48: loop {
+ if v3 == 0 { break 'l48; }
+ copy(v9.plus(576), v6, v3);
+ break 'l48; }
+ fill(v6, 0, 136);
+ compress_compress_blake2b_compress(v9, v9.plus(576), v1, 1, load8(v9 + 136));
+ v6 = load64(v9);
+ v3 = load64(v9 + 8);
+ v1 = load64(v9 + 16);
+ v5 = load64(v9 + 24);
+ v7 = load64(v9 + 32);
+ v4 = load64(v9 + 40);
+ v2 = load64(v9 + 48);
+ store64(v14 + 56, load64(v9 + 56));
+ store64(v14 + 48, v2);
+ store64(v14 + 40, v4);
+ store64(v14 + 32, v7);
+ store64(v14 + 24, v5);
+ store64(v14 + 16, v1);
+ store64(v14 + 8, v3);
+ store64(v14, v6);
+ return 0;
+ }
+ fill(v9 + 576, 0, 16);
+ 'l49: loop {
+ v15 = (v5 == 0) as u32;
+ if v15 != 0 { break 'l49; }
+ copy(v9.plus(576), v13, v5);
+ break 'l49; }
+ fill(v9 + 1664, 0, 16);
+ 'l50: loop {
+ v25 = (v7 == 0) as u32;
+ if v25 != 0 { break 'l50; }
+ copy(v9.plus(1664), v12, v7);
+ break 'l50; }
+ store64(v9 + 16, v5);
+ v11 = 0;
+ store32(v9 + 52, 0);
+ store64(v9 + 40, v7);
+ store64(v9 + 8, load64(v9 + 584));
+ store64(v9, load64(v9 + 576));
+ store64(v9 + 24, load64(v9 + 1664));
+ store64(v9 + 32, load64(v9 + 1672));
+ store32(v9 + 48, v8 as u64);
+ fill(v9 + 704, 0, 32);
+ 'l51: loop {
+ if v15 != 0 { break 'l51; }
+ copy(v9.plus(704), v9, v5);
+ break 'l51; }
+ v4 = v9.plus(24);
+ v2 = v9.plus(704) | 16;
+ 'l52: loop {
+ if v25 != 0 { break 'l52; }
+ copy(v2, v4, v7);
+ break 'l52; }
+ v0 = load64(v9 + 704);
+ v22 = load64(v9 + 712);
+ v17 = load64(v9 + 720);
+ v16 = load64(v9 + 728);
+ fill(v9 + 704, 0, 32);
+ 'l53: loop {
+ if v15 != 0 { break 'l53; }
+ copy(v9.plus(704), v9, v5);
+ break 'l53; }
+ 'l54: loop {
+ if v25 != 0 { break 'l54; }
+ copy(v2, v4, v7);
+ break 'l54; }
+ fill(v9 + 1632, 0, 16);
+ v4 = load64(v9 + 704);
+ v2 = load64(v9 + 712);
+ v18 = load64(v9 + 720);
+ v19 = load64(v9 + 728);
+ 'l55: loop {
+ if v15 != 0 { break 'l55; }
+ copy(v9.plus(1632), v13, v5);
+ break 'l55; }
+ fill(v9 + 1648, 0, 16);
+ 'l56: loop {
+ if v25 != 0 { break 'l56; }
+ copy(v9.plus(1648), v12, v7);
+ break 'l56; }
+ v12 = v16 ^ 0x5be0cd19137e2179;
+ store64(v9 + 824, v12);
+ v13 = v17 ^ 0x1f83d9abfb41bd6b;
+ store64(v9 + 816, v13);
+ v22 ^= 0x9b05688c2b3e6c1f;
+ store64(v9 + 808, v22);
+ v0 ^= 0x510e527fade682d1;
+ store64(v9 + 800, v0);
+ store64(v9 + 792, 0xa54ff53a5f1d36f1);
+ store64(v9 + 784, 0x3c6ef372fe94b82b);
+ store64(v9 + 776, 0xbb67ae8584caa73b);
+ v17 = v8 as u64;
+ v16 = v17 << 32;
+ v20 = (v16 | 0x2000040) ^ 0x6a09e667f3bcc908;
+ store64(v9 + 768, v20);
+ store64(v9 + 760, v12);
+ store64(v9 + 752, v13);
+ store64(v9 + 744, v22);
+ store64(v9 + 736, v0);
+ store64(v9 + 728, 0xa54ff53a5f1d36f1);
+ store64(v9 + 720, 0x3c6ef372fe94b82b);
+ store64(v9 + 712, 0xbb67ae8584caa73b);
+ store64(v9 + 704, v20);
+ store64(v9 + 512, load64(v9 + 1632));
+ store64(v9 + 520, load64(v9 + 1640));
+ store64(v9 + 528, load64(v9 + 1648));
+ store64(v9 + 536, load64(v9 + 1656));
+ fill(v9 + 832, 0, 24);
+ store64(v9 + 856, 64);
+ fill(v9.plus(864), 0, 264);
+ store64(v9 + 1256, 0);
+ v0 = v19 ^ 0x5be0cd19137e2179;
+ store64(v9 + 1248, v0);
+ v12 = v18 ^ 0x1f83d9abfb41bd6b;
+ store64(v9 + 1240, v12);
+ v2 ^= 0x9b05688c2b3e6c1f;
+ store64(v9 + 1232, v2);
+ v4 ^= 0x510e527fade682d1;
+ store64(v9 + 1224, v4);
+ store64(v9 + 1216, 0xa54ff53a5f1d36f1);
+ store64(v9 + 1208, 0x3c6ef372fe94b82a);
+ store64(v9 + 1200, 0xbb67ae8584caa73b);
+ v13 = ((((v1 as u32) | 0x2000000) as u64) | v16) ^ 0x6a09e667f3bcc908;
+ store64(v9 + 1192, v13);
+ store64(v9 + 1184, v0);
+ store64(v9 + 1176, v12);
+ store64(v9 + 1168, v2);
+ store64(v9 + 1160, v4);
+ store64(v9 + 1152, 0xa54ff53a5f1d36f1);
+ store64(v9 + 1144, 0x3c6ef372fe94b82a);
+ store64(v9 + 1136, 0xbb67ae8584caa73b);
+ store64(v9 + 1128, v13);
+ fill(v9 + 1264, 0, 16);
+ store64(v9 + 1280, v1);
+ fill(v9.plus(1288), 0, 272);
+ store64(v9 + 1576, v7);
+ store64(v9 + 1568, v5);
+ store64(v9 + 1560, v17);
+ store64(v9 + 1584, load64(v9 + 512));
+ store64(v9 + 1592, load64(v9 + 520));
+ store64(v9 + 1600, load64(v9 + 528));
+ store64(v9 + 1608, load64(v9 + 536));
+ state_tree_TreeState_update(v9.plus(704), v6, v3);
+ store64(v9, load64(v9 + 704));
+ store64(v9 + 8, load64(v9 + 712));
+ store64(v9 + 16, load64(v9 + 720));
+ store64(v9 + 24, load64(v9 + 728));
+ store64(v9 + 32, load64(v9 + 736));
+ store64(v9 + 40, load64(v9 + 744));
+ store64(v9 + 48, load64(v9 + 752));
+ store64(v9 + 56, load64(v9 + 760));
+ store64(v9 + 64, load64(v9 + 768));
+ store64(v9 + 72, load64(v9 + 776));
+ store64(v9 + 80, load64(v9 + 784));
+ store64(v9 + 88, load64(v9 + 792));
+ store64(v9 + 96, load64(v9 + 800));
+ store64(v9 + 104, load64(v9 + 808));
+ store64(v9 + 112, load64(v9 + 816));
+ store64(v9 + 120, load64(v9 + 824));
+ v6 = load64(v9 + 832);
+ v3 = load64(v9 + 840);
+ v1 = load64(v9 + 848);
+ store64(v9 + 152, load64(v9 + 856));
+ store64(v9 + 144, v1);
+ store64(v9 + 136, v3);
+ store64(v9 + 128, v6);
+ copy(v9.plus(168), v9.plus(704).plus(168), 128);
+ copy(v9.plus(296), v9.plus(704).plus(296), 128);
+ store64(v9 + 160, 1);
+ store64(v9 + 1664, load64(v9 + 1128));
+ store64(v9 + 1672, load64(v9 + 1136));
+ store64(v9 + 1680, load64(v9 + 1144));
+ store64(v9 + 1688, load64(v9 + 1152));
+ store64(v9 + 1696, load64(v9 + 1160));
+ store64(v9 + 1704, load64(v9 + 1168));
+ store64(v9 + 1712, load64(v9 + 1176));
+ store64(v9 + 1720, load64(v9 + 1184));
+ store64(v9 + 1728, load64(v9 + 1192));
+ store64(v9 + 1736, load64(v9 + 1200));
+ store64(v9 + 1744, load64(v9 + 1208));
+ store64(v9 + 1752, load64(v9 + 1216));
+ store64(v9 + 1760, load64(v9 + 1224));
+ store64(v9 + 1768, load64(v9 + 1232));
+ store64(v9 + 1776, load64(v9 + 1240));
+ store64(v9 + 1784, load64(v9 + 1248));
+ store64(v9 + 1792, load64(v9 + 1256));
+ store64(v9 + 1800, load64(v9 + 1264));
+ store64(v9 + 1808, load64(v9 + 1272));
+ store64(v9 + 1816, load64(v9 + 1280));
+ store64(v9 + 1824, load64(v9 + 1288));
+ copy(v9.plus(1664).plus(168), v9.plus(1296), 128);
+ copy(v9.plus(1664).plus(296), v9.plus(1424), 128);
+ fill(v9 + 576, 0, 64);
+ state_blake2b_State_write_digest(v9, v9.plus(576));
+ state_blake2b_State_take(v9.plus(1664), v9.plus(576), 64);
+ store64(v9 + 1824, 1);
+ state_blake2b_State_write_digest(v9.plus(1664), v14);
+ break 'l2; }
+ return v11;
+}
+
+// rattle::export vulfsjor_ffi_tree_init
+#[inline(never)]
+unsafe fn exported_tree_init(mut v0: u64, mut v1: u64, mut v2: u64, mut v3: u64, mut v4: u64, mut
+        v5: u64, mut v6: u32) -> u32 {
+ let mut v7: u64;
+ let mut v9: u64;
+ let mut v10: u32;
+ let mut v11: u32;
+ let mut v12: u64;
+ let mut v13: u64;
+ let mut v14: u64;
+ let mut v15: u64;
+ let mut v16: u64;
+ let mut v17: u64;
+ let mut v18: u64;
+ let mut v19: u64;
+ let mut frame = [0_u64; 26];
+ let top = (address!(frame)).plus(208) & !15;
+ v7 = top;
+ v7 = v7.minus(160) & 0xffffffffffffffe0;
+ 'l1: loop {
+ if v1.minus(1) > 63 { break 'l1; }
+ if v3 > 16 { break 'l1; }
+ if v5 > 16 { break 'l1; }
+ if v6 == 0 { break 'l1; }
+ v9 = if v4 == 0 { 4096_u64 } else { 0 };
+ v2 = v2.plus(if v2 == 0 { 4096_u64 } else { 0 });
+ fill(v7 + 64, 0, 16);
+ 'l3: loop {
+ v10 = (v3 == 0) as u32;
+ if v10 != 0 { break 'l3; }
+ copy(v7.plus(64), v2, v3);
+ break 'l3; }
+ v4 = v4.plus(v9);
+ fill(v7 + 80, 0, 16);
+ 'l4: loop {
+ v11 = (v5 == 0) as u32;
+ if v11 != 0 { break 'l4; }
+ copy(v7.plus(80), v4, v5);
+ break 'l4; }
+ store64(v7 + 24, v3);
+ store32(v7 + 60, 0);
+ store64(v7 + 48, v5);
+ store64(v7 + 16, load64(v7 + 72));
+ store64(v7 + 8, load64(v7 + 64));
+ store64(v7 + 32, load64(v7 + 80));
+ store64(v7 + 40, load64(v7 + 88));
+ store32(v7 + 56, v6 as u64);
+ fill(v7 + 96, 0, 32);
+ 'l5: loop {
+ if v10 != 0 { break 'l5; }
+ copy(v7.plus(96), v7.plus(8), v3);
+ break 'l5; }
+ v9 = v7.plus(32);
+ v12 = v7.plus(96) | 16;
+ 'l6: loop {
+ if v11 != 0 { break 'l6; }
+ copy(v12, v9, v5);
+ break 'l6; }
+ v13 = load64(v7 + 96);
+ v14 = load64(v7 + 104);
+ v15 = load64(v7 + 112);
+ v16 = load64(v7 + 120);
+ fill(v7 + 96, 0, 32);
+ 'l7: loop {
+ if v10 != 0 { break 'l7; }
+ copy(v7.plus(96), v7.plus(8), v3);
+ break 'l7; }
+ 'l8: loop {
+ if v11 != 0 { break 'l8; }
+ copy(v12, v9, v5);
+ break 'l8; }
+ fill(v7 + 144, 0, 16);
+ v9 = load64(v7 + 96);
+ v12 = load64(v7 + 104);
+ v17 = load64(v7 + 112);
+ v18 = load64(v7 + 120);
+ 'l9: loop {
+ if v10 != 0 { break 'l9; }
+ copy(v7.plus(144), v2, v3);
+ break 'l9; }
+ fill(v7 + 96, 0, 16);
+ 'l10: loop {
+ if v11 != 0 { break 'l10; }
+ copy(v7.plus(96), v4, v5);
+ break 'l10; }
+ v4 = v16 ^ 0x5be0cd19137e2179;
+ store64(v0 + 120, v4);
+ v2 = v15 ^ 0x1f83d9abfb41bd6b;
+ store64(v0 + 112, v2);
+ v14 ^= 0x9b05688c2b3e6c1f;
+ store64(v0 + 104, v14);
+ v13 ^= 0x510e527fade682d1;
+ store64(v0 + 96, v13);
+ store64(v0 + 88, 0xa54ff53a5f1d36f1);
+ store64(v0 + 80, 0x3c6ef372fe94b82b);
+ store64(v0 + 72, 0xbb67ae8584caa73b);
+ v15 = v6 as u64;
+ v16 = v15 << 32;
+ v19 = (v16 | 0x2000040) ^ 0x6a09e667f3bcc908;
+ store64(v0 + 64, v19);
+ store64(v0 + 56, v4);
+ store64(v0 + 48, v2);
+ store64(v0 + 40, v14);
+ store64(v0 + 32, v13);
+ store64(v0 + 24, 0xa54ff53a5f1d36f1);
+ store64(v0 + 16, 0x3c6ef372fe94b82b);
+ store64(v0 + 8, 0xbb67ae8584caa73b);
+ store64(v0, v19);
+ store64(v7 + 8, load64(v7 + 144));
+ store64(v7 + 16, load64(v7 + 152));
+ store64(v7 + 24, load64(v7 + 96));
+ store64(v7 + 32, load64(v7 + 104));
+ fill(v0 + 128, 0, 24);
+ store64(v0 + 152, 64);
+ fill(v0.plus(160), 0, 264);
+ store64(v0 + 552, 0);
+ v4 = v18 ^ 0x5be0cd19137e2179;
+ store64(v0 + 544, v4);
+ v2 = v17 ^ 0x1f83d9abfb41bd6b;
+ store64(v0 + 536, v2);
+ v12 ^= 0x9b05688c2b3e6c1f;
+ store64(v0 + 528, v12);
+ v9 ^= 0x510e527fade682d1;
+ store64(v0 + 520, v9);
+ store64(v0 + 512, 0xa54ff53a5f1d36f1);
+ store64(v0 + 504, 0x3c6ef372fe94b82a);
+ store64(v0 + 496, 0xbb67ae8584caa73b);
+ v13 = ((((v1 as u32) | 0x2000000) as u64) | v16) ^ 0x6a09e667f3bcc908;
+ store64(v0 + 488, v13);
+ store64(v0 + 480, v4);
+ store64(v0 + 472, v2);
+ store64(v0 + 464, v12);
+ store64(v0 + 456, v9);
+ store64(v0 + 448, 0xa54ff53a5f1d36f1);
+ store64(v0 + 440, 0x3c6ef372fe94b82a);
+ store64(v0 + 432, 0xbb67ae8584caa73b);
+ store64(v0 + 424, v13);
+ fill(v0 + 560, 0, 16);
+ store64(v0 + 576, v1);
+ fill(v0.plus(584), 0, 272);
+ store64(v0 + 872, v5);
+ store64(v0 + 864, v3);
+ store64(v0 + 856, v15);
+ store64(v0 + 880, load64(v7 + 8));
+ store64(v0 + 888, load64(v7 + 16));
+ store64(v0 + 896, load64(v7 + 24));
+ store64(v0 + 904, load64(v7 + 32));
+ return 0;
+ }
+ fill(v0, 0, 912);
+ return 0xffffffff;
+}
+
+// blake2_state::tree::TreeState::is_ready
+#[inline(never)]
+unsafe fn state_tree_TreeState_is_ready(mut v0: u64) -> u32 {
+ let mut v1: u32;
+ let mut v2: u64;
+ let mut v3: u64;
+ let mut v4: u64;
+ let mut v5: u64;
+ let mut v6: u64;
+ let mut t0: u64;
+ v1 = 0;
+ 'l2: loop {
+ v2 = load64(v0.plus(152));
+ if v2.minus(1) > 63 { break 'l2; }
+ v3 = load64(v0.plus(136));
+ if v3 > 128 { break 'l2; }
+ if load64(v0.plus(144)) > 128 { break 'l2; }
+ v4 = load64(v0.plus(128));
+ if v4 > (!v3) { break 'l2; }
+ if load64(v0.plus(576)).minus(1) > 63 { break 'l2; }
+ v5 = load64(v0.plus(560));
+ if v5 > 128 { break 'l2; }
+ if load64(v0.plus(568)) > 128 { break 'l2; }
+ if v2 != 64 { break 'l2; }
+ v2 = load64(v0.plus(552));
+ if v2 > (!v5) { break 'l2; }
+ v6 = load64(v0.plus(856));
+ if v6.minus(1) > 0xfffffffe { break 'l2; }
+ if load64(v0.plus(864)) > 16 { break 'l2; }
+ if load64(v0.plus(872)) > 16 { break 'l2; }
+ v3 = v3.plus(v4);
+ if v3 > v6 { break 'l2; }
+ v0 = load64(v0.plus(848));
+ t0 = div_u64(0x3ffffffffffffff_u64.minus(v3), v6);
+ if v0 > t0 { break 'l2; }
+ if v0 > 0x3fffffffffffffe { break 'l2; }
+ v1 = (v5.plus(v2) == (v0 << 6)) as u32;
+ break 'l2; }
+ return v1;
+}
+
+// rattle::export vulfsjor_ffi_tree_update
+#[inline(never)]
+unsafe fn exported_tree_update(mut v0: u64, mut v1: u64, mut v2: u64) -> u32 {
+ let mut v4: u32;
+ let mut t0: u32;
+ v4 = 0xffffffff;
+ 'l2: loop {
+ t0 = state_tree_TreeState_is_ready(v0);
+ if t0 == 0 { break 'l2; }
+ if
+   0x3ffffffffffffff_u64.minus(load64(v0.plus(128)).plus(load64(v0.plus(856)).times(load64(v0.plus(848)))).plus(load64(v0.plus(136))))
+   < v2 { break 'l2; }
+ state_tree_TreeState_update(v0, v1.plus(if v1 == 0 { 4096_u64 } else { 0 }), v2);
+ v4 = 0;
+ break 'l2; }
+ return v4;
+}
+
+// blake2_state::tree::TreeState::write_root
+#[inline(never)]
+unsafe fn state_tree_TreeState_write_root(mut v0: u64, mut v1: u64) {
+ let mut v2: u64;
+ let mut frame = [0_u64; 116];
+ let top = (address!(frame)).plus(928) & !15;
+ v2 = top.minus(912);
+ store64(v2 + 480, load64(v0 + 56));
+ store64(v2 + 472, load64(v0 + 48));
+ store64(v2 + 464, load64(v0 + 40));
+ store64(v2 + 456, load64(v0 + 32));
+ store64(v2 + 448, load64(v0 + 24));
+ store64(v2 + 440, load64(v0 + 16));
+ store64(v2 + 432, load64(v0 + 8));
+ store64(v2 + 424, load64(v0));
+ store64(v2 + 488, load64(v0.plus(64)));
+ store64(v2 + 496, load64(v0.plus(72)));
+ store64(v2 + 504, load64(v0.plus(80)));
+ store64(v2 + 512, load64(v0.plus(88)));
+ store64(v2 + 520, load64(v0.plus(96)));
+ store64(v2 + 528, load64(v0.plus(104)));
+ store64(v2 + 536, load64(v0.plus(112)));
+ store64(v2 + 544, load64(v0.plus(120)));
+ store64(v2 + 576, load64(v0.plus(152)));
+ store64(v2 + 568, load64(v0.plus(144)));
+ store64(v2 + 560, load64(v0.plus(136)));
+ store64(v2 + 552, load64(v0.plus(128)));
+ copy(v2.plus(424).plus(168), v0.plus(168), 128);
+ copy(v2.plus(424).plus(296), v0.plus(296), 128);
+ store64(v2 + 584, 1);
+ store64(v2, load64(v0.plus(424)));
+ store64(v2 + 8, load64(v0.plus(432)));
+ store64(v2 + 16, load64(v0.plus(440)));
+ store64(v2 + 24, load64(v0.plus(448)));
+ store64(v2 + 32, load64(v0.plus(456)));
+ store64(v2 + 40, load64(v0.plus(464)));
+ store64(v2 + 48, load64(v0.plus(472)));
+ store64(v2 + 56, load64(v0.plus(480)));
+ store64(v2 + 64, load64(v0.plus(488)));
+ store64(v2 + 72, load64(v0.plus(496)));
+ store64(v2 + 80, load64(v0.plus(504)));
+ store64(v2 + 88, load64(v0.plus(512)));
+ store64(v2 + 96, load64(v0.plus(520)));
+ store64(v2 + 104, load64(v0.plus(528)));
+ store64(v2 + 112, load64(v0.plus(536)));
+ store64(v2 + 120, load64(v0.plus(544)));
+ store64(v2 + 160, load64(v0.plus(584)));
+ store64(v2 + 152, load64(v0.plus(576)));
+ store64(v2 + 144, load64(v0.plus(568)));
+ store64(v2 + 136, load64(v0.plus(560)));
+ store64(v2 + 128, load64(v0.plus(552)));
+ copy(v2.plus(168), v0.plus(592), 128);
+ copy(v2.plus(296), v0.plus(720), 128);
+ fill(v2 + 848, 0, 64);
+ state_blake2b_State_write_digest(v2.plus(424), v2.plus(848));
+ state_blake2b_State_take(v2, v2.plus(848), 64);
+ store64(v2 + 160, 1);
+ state_blake2b_State_write_digest(v2, v1);
+ return;
+}
+
+// rattle::export vulfsjor_ffi_tree_final
+#[inline(never)]
+unsafe fn exported_tree_final(mut v0: u64, mut v1: u64, mut v2: u64) -> u32 {
+ let mut v4: u32;
+ let mut t0: u32;
+ v4 = 0xffffffff;
+ 'l2: loop {
+ t0 = state_tree_TreeState_is_ready(v0);
+ if t0 == 0 { break 'l2; }
+ if v2 < load64(v0.plus(576)) { break 'l2; }
+ state_tree_TreeState_write_root(v0, v1.plus(if v1 == 0 { 4096_u64 } else { 0 }));
+ v4 = 0;
+ fill(v0, 0, 912);
+ break 'l2; }
+ return v4;
+}
+
+// rattle::export vulfsjor_ffi_tree_wipe
+#[inline(never)]
+unsafe fn exported_tree_wipe(mut v0: u64) {
+ 'l1: loop {
+ break 'l1;
+ }
+ fill(v0, 0, 912);
+}
+
+// rattle::export vulfsjor_ffi_tree_digest_size
+#[inline(never)]
+unsafe fn exported_tree_digest_size(mut v0: u64) -> u64 {
+ let mut v2: u64;
+ let mut t0: u32;
+ v2 = 0;
+ 'l2: loop {
+ t0 = state_tree_TreeState_is_ready(v0);
+ if t0 == 0 { break 'l2; }
+ v2 = load64(v0.plus(576));
+ break 'l2; }
+ return v2;
+}
+
+// rattle::export vulfsjor_ffi_tree_count
+#[inline(never)]
+unsafe fn exported_tree_count(mut v0: u64) -> u64 {
+ let mut v2: u64;
+ let mut t0: u32;
+ v2 = 0;
+ 'l2: loop {
+ t0 = state_tree_TreeState_is_ready(v0);
+ if t0 == 0 { break 'l2; }
+ v2 =
+   load64(v0.plus(856)).times(load64(v0.plus(848))).plus(load64(v0.plus(128))).plus(load64(v0.plus(136)));
+ break 'l2; }
+ return v2;
+}
+
+// rattle::export vulfsjor_ffi_tree_leaf_length
+#[inline(never)]
+unsafe fn exported_tree_leaf_length(mut v0: u64) -> u32 {
+ let mut v2: u32;
+ let mut t0: u32;
+ v2 = 0;
+ 'l2: loop {
+ t0 = state_tree_TreeState_is_ready(v0);
+ if t0 == 0 { break 'l2; }
+ v2 = load32(v0.plus(856));
+ break 'l2; }
+ return v2;
+}
+
+// rattle::export vulfsjor_ffi_tree_state_size
+#[inline(never)]
+unsafe fn exported_tree_state_size() {
+ 'l1: loop {
+ break 'l1;
+ }
+}
+
+// vulfsjor_ffi_tree_state_size
+#[inline(never)]
+unsafe fn module_tree_state_size() -> u64 {
+ 'l1: loop {
+ break 'l1;
+ }
+ exported_tree_state_size();
+ return 912;
+}
+
+// rattle::export vulfsjor_ffi_tree_leaf_count
+#[inline(never)]
+unsafe fn exported_tree_leaf_count(mut v0: u64, mut v1: u32) -> u64 {
+ let mut v2: u64;
+ let mut v3: u64;
+ 'l1: loop {
+ if v1 != 0 { break 'l1; }
+ return 0;
+ }
+ v2 = v1 as u64;
+ v3 = div_u64(v0, v2);
+ v0 = v3.plus(((v0.minus(v3.times(v2)) != 0) as u32) as u64);
+ return if v0 > 1 { v0 } else { 1 };
+}
+
+// blake2_tree::ranges::hash_leaves
+#[inline(never)]
+unsafe fn tree_ranges_hash_leaves(mut v0: u64, mut v1: u64, mut v2: u64, mut v3: u64, mut v4: u32,
+        mut v5: u64, mut v6: u32, mut v7: u64, mut v8: u64, mut v9: u64) {
+ let mut v10: u64;
+ let mut v11: u64;
+ let mut v12: u64;
+ let mut v13: u64;
+ let mut v14: u64;
+ let mut v15: u64;
+ let mut v16: u64;
+ let mut v17: u64;
+ let mut v18: u64;
+ let mut v19: u64;
+ let mut frame = [0_u64; 94];
+ let top = (address!(frame)).plus(752) & !15;
+ v10 = top.minus(736);
+ v11 = 0;
+ fill(v10 + 64, 0, 16);
+ 'l2: loop {
+ if v1 == 0 { break 'l2; }
+ copy(v10.plus(64), v0, v1);
+ break 'l2; }
+ fill(v10 + 80, 0, 16);
+ 'l3: loop {
+ if v3 == 0 { break 'l3; }
+ copy(v10.plus(80), v2, v3);
+ break 'l3; }
+ store64(v10 + 24, v1);
+ store32(v10 + 60, 0);
+ store64(v10 + 48, v3);
+ store64(v10 + 16, load64(v10 + 72));
+ store64(v10 + 8, load64(v10 + 64));
+ store64(v10 + 32, load64(v10 + 80));
+ store64(v10 + 40, load64(v10 + 88));
+ store32(v10 + 56, v4 as u64);
+ fill(v10.plus(96), 0, 512);
+ 'l4: loop {
+ v1 = v4 as u64;
+ v12 = v1 << 2;
+ if v12 >= v8 { break 'l4; }
+ v13 = v10.plus(96).plus(64);
+ v3 = v9;
+ v11 = 0;
+ 'l5: loop {
+ fill(v10 + 672, 0, 64);
+ tree_nodes_Nodes_leaf_digest(v10.plus(672), v10.plus(8), v5.plus(v11), 0, v7, v1);
+ fill(v13, 0, 448);
+ v2 = load64(v10 + 728);
+ store64(v10 + 152, v2);
+ v0 = load64(v10 + 720);
+ store64(v10 + 144, v0);
+ v14 = load64(v10 + 712);
+ store64(v10 + 136, v14);
+ v15 = load64(v10 + 704);
+ store64(v10 + 128, v15);
+ v16 = load64(v10 + 696);
+ store64(v10 + 120, v16);
+ v17 = load64(v10 + 688);
+ store64(v10 + 112, v17);
+ v18 = load64(v10 + 680);
+ store64(v10 + 104, v18);
+ v19 = load64(v10 + 672);
+ store64(v10 + 96, v19);
+ store64(v3 + 56, v2);
+ store64(v3 + 48, v0);
+ store64(v3 + 40, v14);
+ store64(v3 + 32, v15);
+ store64(v3 + 24, v16);
+ store64(v3 + 16, v17);
+ store64(v3 + 8, v18);
+ store64(v3, v19);
+ v3 = v3.plus(64);
+ v7 = v7.plus(v1);
+ v11 = v11.plus(1);
+ v8 = v8.minus(v1);
+ if v12 < v8 { continue 'l5; }
+ break 'l5; }
+ break 'l4; }
+ v2 = 0;
+ fill(v10 + 608, 0, 128);
+ v0 = v11.plus(v5);
+ v11 = v9.plus(v11 << 6);
+ 'l6: loop {
+ if v8 <= v1 { break 'l6; }
+ v2 = 0;
+ v3 = v11;
+ 'l7: loop {
+ tree_nodes_Nodes_leaf_digest(v10.plus(672), v10.plus(8), v0.plus(v2), 0, v7, v1);
+ store64(v3 + 56, load64(v10 + 728));
+ store64(v3 + 48, load64(v10 + 720));
+ store64(v3 + 40, load64(v10 + 712));
+ store64(v3 + 32, load64(v10 + 704));
+ store64(v3 + 24, load64(v10 + 696));
+ store64(v3 + 16, load64(v10 + 688));
+ store64(v3 + 8, load64(v10 + 680));
+ store64(v3, load64(v10 + 672));
+ v3 = v3.plus(64);
+ v7 = v7.plus(v1);
+ v2 = v2.plus(1);
+ v8 = v8.minus(v1);
+ if v8 > v1 { continue 'l7; }
+ break 'l7; }
+ break 'l6; }
+ tree_nodes_Nodes_leaf_digest(v10.plus(608), v10.plus(8), v2.plus(v0), v6, v7, v8);
+ v3 = v11.plus(v2 << 6);
+ store64(v3 + 56, load64(v10 + 664));
+ store64(v3 + 48, load64(v10 + 656));
+ store64(v3 + 40, load64(v10 + 648));
+ store64(v3 + 32, load64(v10 + 640));
+ store64(v3 + 24, load64(v10 + 632));
+ store64(v3 + 16, load64(v10 + 624));
+ store64(v3 + 8, load64(v10 + 616));
+ store64(v3, load64(v10 + 608));
+ return;
+}
+
+// rattle::export vulfsjor_ffi_tree_leaves
+#[inline(never)]
+unsafe fn exported_tree_leaves(mut v0: u64, mut v1: u64, mut v2: u64, mut v3: u32, mut v4: u64, mut
+        v5: u64, mut v6: u64, mut v7: u64, mut v8: u64, mut v9: u64, mut v10: u32) -> u32 {
+ let mut v12: u32;
+ let mut v13: u64;
+ let mut v14: u32;
+ let mut v15: u64;
+ let mut t0: u64;
+ let mut t1: u64;
+ v12 = 0xffffffff;
+ 'l2: loop {
+ if v7 > 16 { break 'l2; }
+ if v9 > 16 { break 'l2; }
+ if v10 == 0 { break 'l2; }
+ v13 = v10 as u64;
+ v14 = 1;
+ 'l3: loop {
+ if v3 != 0 { break 'l3; }
+ t0 = rem_u64(v5, v13);
+ v14 = (t0 == 0) as u32;
+ break 'l3; }
+ if v5 > 0x3ffffffffffffff { break 'l2; }
+ if (((((v2 == 0) as u32) & ((v3 != 0) as u32)) | ((v5 != 0) as u32)) & v14) == 0 { break 'l2; }
+ t1 = div_u64(0x3ffffffffffffff_u64.minus(v5), v13);
+ if v2 > t1 { break 'l2; }
+ v15 = div_u64(v5, v13);
+ v13 = v15.plus(((v5.minus(v15.times(v13)) != 0) as u32) as u64);
+ v13 = if v13 > 1 { v13 } else { 1 };
+ if (((v13 << 6) ^ v1) | (v13 >> 58)) != 0 { break 'l2; }
+ v12 = 0;
+ tree_ranges_hash_leaves(v6.plus(if v6 == 0 { 4096_u64 } else { 0 }), v7, v8.plus(if v8 == 0 {
+   4096_u64 } else { 0 }), v9, v10, v2, (v3 != 0) as u32, v4.plus(if v4 == 0 { 4096_u64 } else { 0
+   }), v5, v0.plus(if v0 == 0 { 4096_u64 } else { 0 }));
+ break 'l2; }
+ return v12;
+}
+
+// rattle::export vulfsjor_ffi_tree_root_of_leaves
+#[inline(never)]
+unsafe fn exported_tree_root_of_leaves(mut v0: u64, mut v1: u64, mut v2: u64, mut v3: u64, mut v4:
+        u64, mut v5: u64, mut v6: u64, mut v7: u64, mut v8: u32) -> u32 {
+ let mut v9: u64;
+ let mut v11: u32;
+ let mut v12: u32;
+ let mut v13: u32;
+ let mut v14: u32;
+ let mut frame = [0_u64; 74];
+ let top = (address!(frame)).plus(592) & !15;
+ v9 = top;
+ v9 = v9.minus(544) & 0xffffffffffffffe0;
+ v11 = 0xffffffff;
+ 'l2: loop {
+ if v1.minus(1) > 63 { break 'l2; }
+ if v5 > 16 { break 'l2; }
+ if v7 > 16 { break 'l2; }
+ if v8 == 0 { break 'l2; }
+ if v3 == 0 { break 'l2; }
+ if (v3 & 63) != 0 { break 'l2; }
+ fill(v9 + 480, 0, 16);
+ 'l3: loop {
+ v12 = (v5 == 0) as u32;
+ if v12 != 0 { break 'l3; }
+ copy(v9.plus(480), v4.plus(if v4 == 0 { 4096_u64 } else { 0 }), v5);
+ break 'l3; }
+ v11 = (v2 == 0) as u32;
+ v13 = (v0 == 0) as u32;
+ fill(v9 + 496, 0, 16);
+ 'l4: loop {
+ v14 = (v7 == 0) as u32;
+ if v14 != 0 { break 'l4; }
+ copy(v9.plus(496), v6.plus(if v6 == 0 { 4096_u64 } else { 0 }), v7);
+ break 'l4; }
+ v6 = if v11 != 0 { 4096_u64 } else { 0 };
+ v4 = if v13 != 0 { 4096_u64 } else { 0 };
+ store64(v9 + 440, v5);
+ v11 = 0;
+ store32(v9 + 476, 0);
+ store64(v9 + 464, v7);
+ store64(v9 + 432, load64(v9 + 488));
+ store64(v9 + 424, load64(v9 + 480));
+ store64(v9 + 448, load64(v9 + 496));
+ store64(v9 + 456, load64(v9 + 504));
+ store32(v9 + 472, v8 as u64);
+ fill(v9 + 512, 0, 32);
+ 'l5: loop {
+ if v12 != 0 { break 'l5; }
+ copy(v9.plus(512), v9.plus(424), v5);
+ break 'l5; }
+ v5 = v2.plus(v6);
+ v2 = v0.plus(v4);
+ 'l6: loop {
+ if v14 != 0 { break 'l6; }
+ copy(v9.plus(512) | 16, v9.plus(448), v7);
+ break 'l6; }
+ store64(v9 + 88, 0xa54ff53a5f1d36f1);
+ store64(v9 + 80, 0x3c6ef372fe94b82a);
+ store64(v9 + 72, 0xbb67ae8584caa73b);
+ v7 = ((((v1 as u32) | 0x2000000) as u64) | ((v8 as u64) << 32)) ^ 0x6a09e667f3bcc908;
+ store64(v9 + 64, v7);
+ store64(v9 + 24, 0xa54ff53a5f1d36f1);
+ store64(v9 + 16, 0x3c6ef372fe94b82a);
+ store64(v9 + 8, 0xbb67ae8584caa73b);
+ store64(v9, v7);
+ v7 = load64(v9 + 536) ^ 0x5be0cd19137e2179;
+ store64(v9 + 120, v7);
+ v0 = load64(v9 + 528) ^ 0x1f83d9abfb41bd6b;
+ store64(v9 + 112, v0);
+ v6 = load64(v9 + 520) ^ 0x9b05688c2b3e6c1f;
+ store64(v9 + 104, v6);
+ v4 = load64(v9 + 512) ^ 0x510e527fade682d1;
+ store64(v9 + 96, v4);
+ store64(v9 + 56, v7);
+ store64(v9 + 48, v0);
+ store64(v9 + 40, v6);
+ store64(v9 + 32, v4);
+ fill(v9 + 128, 0, 24);
+ store64(v9 + 152, v1);
+ store64(v9 + 160, 1);
+ fill(v9.plus(168), 0, 256);
+ state_blake2b_State_take(v9, v5, v3);
+ state_blake2b_State_write_digest(v9, v2);
+ break 'l2; }
+ return v11;
+}
+
+// rattle::export vulfsjor_ffi_tree_next_leaves
+#[inline(never)]
+unsafe fn exported_tree_next_leaves(mut v0: u64, mut v1: u64, mut v2: u64, mut v3: u64, mut v4: u64,
+        mut v5: u64) -> u32 {
+ let mut v7: u32;
+ let mut v8: u64;
+ let mut v9: u64;
+ let mut v10: u64;
+ let mut v11: u64;
+ let mut v12: u32;
+ let mut t0: u32;
+ let mut t3: u64;
+ 'l1: loop {
+ v7 = 0xffffffff;
+ 'l2: loop {
+ t0 = state_tree_TreeState_is_ready(v0);
+ if t0 == 0 { break 'l2; }
+ v8 = load64(v0.plus(856));
+ if v8 == 0 { break 'l1; }
+ v9 = load64(v0.plus(848)).times(v8).plus(load64(v0.plus(128))).plus(load64(v0.plus(136)));
+ v10 = div_u64(v9, v8);
+ if v3 > 0x3ffffffffffffff { break 'l2; }
+ if v9.minus(v10.times(v8)) != 0 { break 'l2; }
+ v9 = v8 & 0xffffffff;
+ if v9 == 0 { break 'l1; }
+ v11 = div_u64(v5, v9);
+ if v5.minus(1) > 0x3fffffffffffffe { break 'l2; }
+ if !(v5.minus(v11.times(v9)) == 0) { break 'l2; }
+ v3 = v10.plus(v3);
+ t3 = div_u64(0x3ffffffffffffff_u64.minus(v5), v9);
+ if v3 > t3 { break 'l2; }
+ v12 = v8 as u32;
+ if v12 == 0 { break 'l1; }
+ if ((if v11 > 1 { v11 } else { 1 }) << 6) != v2 { break 'l2; }
+ v7 = 0;
+ tree_ranges_hash_leaves(v0.plus(880), load64(v0.plus(864)), v0.plus(896), load64(v0.plus(872)),
+   v12, v3, 0, v4.plus(if v4 == 0 { 4096_u64 } else { 0 }), v5, v1.plus(if v1 == 0 { 4096_u64 } else
+   { 0 }));
+ break 'l2; }
+ return v7;
+ }
+ abort();
+}
+
+// rattle::export vulfsjor_ffi_tree_update_leaves
+#[inline(never)]
+unsafe fn exported_tree_update_leaves(mut v0: u64, mut v1: u64, mut v2: u64, mut v3: u64, mut v4:
+        u64) -> u32 {
+ let mut v5: u64;
+ let mut v7: u32;
+ let mut v8: u32;
+ let mut v9: u64;
+ let mut v10: u64;
+ let mut v11: u64;
+ let mut v12: u64;
+ let mut v13: u64;
+ let mut v14: u64;
+ let mut v15: u32;
+ let mut v16: u64;
+ let mut v17: u64;
+ let mut v18: u64;
+ let mut t0: u32;
+ let mut t1: u64;
+ let mut t2: u64;
+ let mut t3: u64;
+ let mut t4: u64;
+ let mut frame = [0_u64; 34];
+ let top = (address!(frame)).plus(272) & !15;
+ v5 = top;
+ v5 = v5.minus(224) & 0xffffffffffffffe0;
+ 'l1: loop {
+ v7 = 0xffffffff;
+ 'l2: loop {
+ t0 = state_tree_TreeState_is_ready(v0);
+ if t0 == 0 { break 'l2; }
+ 'l3: loop {
+ 'l4: loop {
+ if !(v2 == 0) { break 'l4; }
+ v8 = 1;
+ break 'l3;
+ }
+ if v4 == 0 { break 'l2; }
+ v9 = load64(v0.plus(856));
+ if v9 == 0 { break 'l1; }
+ t1 = rem_u64(load64(v0.plus(848)).times(v9).plus(load64(v0.plus(128))).plus(load64(v0.plus(136))),
+   v9);
+ v8 = (t1 == 0) as u32;
+ break 'l3; }
+ if (v2 & 63) != 0 { break 'l2; }
+ if v8 == 0 { break 'l2; }
+ v10 = v0.plus(128);
+ v11 = load64(v10);
+ v9 = load64(v0.plus(856));
+ v12 = load64(v0.plus(136));
+ v13 = 0x3ffffffffffffff_u64.minus(v11.plus(v9.times(load64(v0.plus(848)))).plus(v12));
+ if v13 < v4 { break 'l2; }
+ if v9 == 0 { break 'l1; }
+ v14 = v2 >> 6;
+ t2 = div_u64(v13.minus(v4), v9);
+ if v14 > t2 { break 'l2; }
+ v13 = v3.plus(if v3 == 0 { 4096_u64 } else { 0 });
+ 'l5: loop {
+ if v2 != 0 { break 'l5; }
+ state_tree_TreeState_update(v0, v13, v4);
+ return 0;
+ }
+ v7 = (v1 == 0) as u32;
+ 'l6: loop {
+ if v12 == 0_u64.minus(v11) { break 'l6; }
+ fill(v5 + 80, 0, 16);
+ v3 = load64(v0.plus(872));
+ 'l7: loop {
+ v11 = load64(v0.plus(864));
+ v8 = (v11 == 0) as u32;
+ if v8 != 0 { break 'l7; }
+ copy(v5.plus(80), v0.plus(880), v11);
+ break 'l7; }
+ fill(v5 + 208, 0, 16);
+ 'l8: loop {
+ v15 = (v3 == 0) as u32;
+ if v15 != 0 { break 'l8; }
+ copy(v5.plus(208), v0.plus(896), v3);
+ break 'l8; }
+ v12 = v0.plus(160);
+ store64(v12, 0);
+ store64(v5 + 16, v11);
+ store32(v5 + 52, 0);
+ store64(v5 + 40, v3);
+ fill(v5 + 96, 0, 64);
+ store64(v5 + 8, load64(v5 + 88));
+ store64(v5, load64(v5 + 80));
+ store64(v5 + 24, load64(v5 + 208));
+ store64(v5 + 32, load64(v5 + 216));
+ store32(v5 + 48, v9);
+ state_blake2b_State_write_digest(v0, v5.plus(96));
+ state_blake2b_State_take(v0.plus(424), v5.plus(96), 64);
+ v16 = v0.plus(848);
+ t3 = v16;
+ v16 = load64(v16).plus(1);
+ store64(t3, v16);
+ fill(v5 + 160, 0, 32);
+ 'l9: loop {
+ if v8 != 0 { break 'l9; }
+ copy(v5.plus(160), v5, v11);
+ break 'l9; }
+ 'l10: loop {
+ if v15 != 0 { break 'l10; }
+ copy(v5.plus(160) | 16, v5.plus(24), v3);
+ break 'l10; }
+ v3 = load64(v5 + 160);
+ v11 = load64(v5 + 168);
+ v17 = load64(v5 + 176);
+ v18 = load64(v5 + 184) ^ 0x5be0cd19137e2179;
+ store64(v0 + 120, v18);
+ v17 ^= 0x1f83d9abfb41bd6b;
+ store64(v0 + 112, v17);
+ v11 ^= 0x9b05688c2b3e6c1f;
+ store64(v0 + 104, v11);
+ v3 ^= 0x510e527fade682d1;
+ store64(v0 + 96, v3);
+ store64(v0 + 88, 0xa54ff53a5f1d36f1);
+ store64(v0 + 80, 0x3c6ef372fe94b82b);
+ v16 ^= 0xbb67ae8584caa73b;
+ store64(v0 + 72, v16);
+ v9 = ((v9 << 32) | 0x2000040) ^ 0x6a09e667f3bcc908;
+ store64(v0 + 64, v9);
+ store64(v0 + 56, v18);
+ store64(v0 + 48, v17);
+ store64(v0 + 40, v11);
+ store64(v0 + 32, v3);
+ store64(v0 + 24, 0xa54ff53a5f1d36f1);
+ store64(v0 + 16, 0x3c6ef372fe94b82b);
+ store64(v0 + 8, v16);
+ store64(v0, v9);
+ fill(v10, 0, 24);
+ store64(v0 + 152, 64);
+ fill(v12, 0, 264);
+ v9 = load64(v0.plus(856));
+ break 'l6; }
+ v12 = if v7 != 0 { 4096_u64 } else { 0 };
+ fill(v5 + 208, 0, 16);
+ v3 = load64(v0.plus(872));
+ 'l11: loop {
+ v11 = load64(v0.plus(864));
+ v8 = (v11 == 0) as u32;
+ if v8 != 0 { break 'l11; }
+ copy(v5.plus(208), v0.plus(880), v11);
+ break 'l11; }
+ v1 = v1.plus(v12);
+ fill(v5 + 160, 0, 16);
+ 'l12: loop {
+ v15 = (v3 == 0) as u32;
+ if v15 != 0 { break 'l12; }
+ copy(v5.plus(160), v0.plus(896), v3);
+ break 'l12; }
+ store64(v5 + 112, v11);
+ v7 = 0;
+ store32(v5 + 148, 0);
+ store64(v5 + 136, v3);
+ store64(v5 + 104, load64(v5 + 216));
+ store64(v5 + 96, load64(v5 + 208));
+ store64(v5 + 120, load64(v5 + 160));
+ store64(v5 + 128, load64(v5 + 168));
+ store32(v5 + 144, v9);
+ state_blake2b_State_take(v0.plus(424), v1, v2);
+ v2 = v0.plus(848);
+ t4 = v2;
+ v2 = load64(v2).plus(v14);
+ store64(t4, v2);
+ fill(v5, 0, 32);
+ 'l13: loop {
+ if v8 != 0 { break 'l13; }
+ copy(v5, v5.plus(96), v11);
+ break 'l13; }
+ 'l14: loop {
+ if v15 != 0 { break 'l14; }
+ copy(v5 | 16, v5.plus(120), v3);
+ break 'l14; }
+ v3 = load64(v5);
+ v1 = load64(v5 + 8);
+ v11 = load64(v5 + 16);
+ v5 = load64(v5 + 24) ^ 0x5be0cd19137e2179;
+ store64(v0 + 120, v5);
+ v11 ^= 0x1f83d9abfb41bd6b;
+ store64(v0 + 112, v11);
+ v1 ^= 0x9b05688c2b3e6c1f;
+ store64(v0 + 104, v1);
+ v3 ^= 0x510e527fade682d1;
+ store64(v0 + 96, v3);
+ store64(v0 + 88, 0xa54ff53a5f1d36f1);
+ store64(v0 + 80, 0x3c6ef372fe94b82b);
+ v2 ^= 0xbb67ae8584caa73b;
+ store64(v0 + 72, v2);
+ v9 = ((v9 << 32) | 0x2000040) ^ 0x6a09e667f3bcc908;
+ store64(v0 + 64, v9);
+ store64(v0 + 56, v5);
+ store64(v0 + 48, v11);
+ store64(v0 + 40, v1);
+ store64(v0 + 32, v3);
+ store64(v0 + 24, 0xa54ff53a5f1d36f1);
+ store64(v0 + 16, 0x3c6ef372fe94b82b);
+ store64(v0 + 8, v2);
+ store64(v0, v9);
+ fill(v10, 0, 24);
+ store64(v0 + 152, 64);
+ fill(v0.plus(160), 0, 264);
+ state_tree_TreeState_update(v0, v13, v4);
+ break 'l2; }
+ return v7;
+ }
+ abort();
+}
+
+// rattle::export vulfsjor_ffi_tree_check
+#[inline(never)]
+unsafe fn exported_tree_check(mut v0: u64, mut v1: u64, mut v2: u64, mut v3: u32) -> u32 {
+ 'l1: loop {
+ break 'l1;
+ }
+ return 0_u32.minus(((v1 > 16) as u32) | ((v2 > 16) as u32) | ((v0.minus(65) < 0xffffffffffffffc0)
+   as u32) | ((v3 == 0) as u32));
+}
+
+// rattle::export vulfsjor_ffi_tree_init_leaf
+#[inline(never)]
+unsafe fn exported_tree_init_leaf(mut v0: u64, mut v1: u64, mut v2: u32, mut v3: u64, mut v4: u64,
+        mut v5: u64, mut v6: u64, mut v7: u32) -> u32 {
+ let mut v8: u64;
+ let mut v9: u32;
+ let mut v10: u32;
+ let mut frame = [0_u64; 22];
+ let top = (address!(frame)).plus(176) & !15;
+ v8 = top;
+ v8 = v8.minus(128) & 0xffffffffffffffe0;
+ 'l2: loop {
+ 'l3: loop {
+ if v4 > 16 { break 'l3; }
+ if v6 > 16 { break 'l3; }
+ if v7 != 0 { break 'l2; }
+ break 'l3; }
+ fill(v0, 0, 424);
+ return 0xffffffff;
+ }
+ fill(v8 + 64, 0, 16);
+ 'l4: loop {
+ v9 = (v4 == 0) as u32;
+ if v9 != 0 { break 'l4; }
+ copy(v8.plus(64), v3.plus(if v3 == 0 { 4096_u64 } else { 0 }), v4);
+ break 'l4; }
+ fill(v8 + 80, 0, 16);
+ 'l5: loop {
+ v10 = (v6 == 0) as u32;
+ if v10 != 0 { break 'l5; }
+ copy(v8.plus(80), v5.plus(if v5 == 0 { 4096_u64 } else { 0 }), v6);
+ break 'l5; }
+ store64(v8 + 24, v4);
+ store32(v8 + 60, 0);
+ store64(v8 + 48, v6);
+ store64(v8 + 16, load64(v8 + 72));
+ store64(v8 + 8, load64(v8 + 64));
+ store64(v8 + 32, load64(v8 + 80));
+ store64(v8 + 40, load64(v8 + 88));
+ store32(v8 + 56, v7 as u64);
+ fill(v8 + 96, 0, 32);
+ 'l6: loop {
+ if v9 != 0 { break 'l6; }
+ copy(v8.plus(96), v8.plus(8), v4);
+ break 'l6; }
+ 'l7: loop {
+ if v10 != 0 { break 'l7; }
+ copy(v8.plus(96) | 16, v8.plus(32), v6);
+ break 'l7; }
+ v4 = load64(v8 + 96);
+ v6 = load64(v8 + 104);
+ v5 = load64(v8 + 112);
+ v8 = load64(v8 + 120);
+ store64(v0 + 128, 0);
+ v8 ^= 0x5be0cd19137e2179;
+ store64(v0 + 120, v8);
+ v5 ^= 0x1f83d9abfb41bd6b;
+ store64(v0 + 112, v5);
+ v6 ^= 0x9b05688c2b3e6c1f;
+ store64(v0 + 104, v6);
+ v4 ^= 0x510e527fade682d1;
+ store64(v0 + 96, v4);
+ store64(v0 + 88, 0xa54ff53a5f1d36f1);
+ store64(v0 + 80, 0x3c6ef372fe94b82b);
+ v3 = v1 ^ 0xbb67ae8584caa73b;
+ store64(v0 + 72, v3);
+ v1 = (((v7 as u64) << 32) | 0x2000040) ^ 0x6a09e667f3bcc908;
+ store64(v0 + 64, v1);
+ store64(v0 + 56, v8);
+ store64(v0 + 48, v5);
+ store64(v0 + 40, v6);
+ store64(v0 + 32, v4);
+ store64(v0 + 24, 0xa54ff53a5f1d36f1);
+ store64(v0 + 16, 0x3c6ef372fe94b82b);
+ store64(v0 + 8, v3);
+ store64(v0, v1);
+ fill(v0 + 136, 0, 16);
+ store64(v0 + 160, ((v2 != 0) as u32) as u64);
+ store64(v0 + 152, 64);
+ fill(v0.plus(168), 0, 256);
+ return 0;
+}
+
+// rattle::export vulfsjor_ffi_tree_init_root
+#[inline(never)]
+unsafe fn exported_tree_init_root(mut v0: u64, mut v1: u64, mut v2: u64, mut v3: u64, mut v4: u64,
+        mut v5: u64, mut v6: u32) -> u32 {
+ let mut v7: u64;
+ let mut v8: u32;
+ let mut v9: u32;
+ let mut frame = [0_u64; 22];
+ let top = (address!(frame)).plus(176) & !15;
+ v7 = top;
+ v7 = v7.minus(128) & 0xffffffffffffffe0;
+ 'l2: loop {
+ 'l3: loop {
+ if v1.minus(1) > 63 { break 'l3; }
+ if v3 > 16 { break 'l3; }
+ if v5 > 16 { break 'l3; }
+ if v6 != 0 { break 'l2; }
+ break 'l3; }
+ fill(v0, 0, 424);
+ return 0xffffffff;
+ }
+ fill(v7 + 64, 0, 16);
+ 'l4: loop {
+ v8 = (v3 == 0) as u32;
+ if v8 != 0 { break 'l4; }
+ copy(v7.plus(64), v2.plus(if v2 == 0 { 4096_u64 } else { 0 }), v3);
+ break 'l4; }
+ fill(v7 + 80, 0, 16);
+ 'l5: loop {
+ v9 = (v5 == 0) as u32;
+ if v9 != 0 { break 'l5; }
+ copy(v7.plus(80), v4.plus(if v4 == 0 { 4096_u64 } else { 0 }), v5);
+ break 'l5; }
+ store64(v7 + 24, v3);
+ store32(v7 + 60, 0);
+ store64(v7 + 48, v5);
+ store64(v7 + 16, load64(v7 + 72));
+ store64(v7 + 8, load64(v7 + 64));
+ store64(v7 + 32, load64(v7 + 80));
+ store64(v7 + 40, load64(v7 + 88));
+ store32(v7 + 56, v6 as u64);
+ fill(v7 + 96, 0, 32);
+ 'l6: loop {
+ if v8 != 0 { break 'l6; }
+ copy(v7.plus(96), v7.plus(8), v3);
+ break 'l6; }
+ 'l7: loop {
+ if v9 != 0 { break 'l7; }
+ copy(v7.plus(96) | 16, v7.plus(32), v5);
+ break 'l7; }
+ v3 = load64(v7 + 96);
+ v5 = load64(v7 + 104);
+ v4 = load64(v7 + 112);
+ v7 = load64(v7 + 120);
+ store64(v0 + 128, 0);
+ v7 ^= 0x5be0cd19137e2179;
+ store64(v0 + 120, v7);
+ v4 ^= 0x1f83d9abfb41bd6b;
+ store64(v0 + 112, v4);
+ v5 ^= 0x9b05688c2b3e6c1f;
+ store64(v0 + 104, v5);
+ v3 ^= 0x510e527fade682d1;
+ store64(v0 + 96, v3);
+ store64(v0 + 88, 0xa54ff53a5f1d36f1);
+ store64(v0 + 80, 0x3c6ef372fe94b82a);
+ store64(v0 + 72, 0xbb67ae8584caa73b);
+ v2 = ((((v1 as u32) | 0x2000000) as u64) | ((v6 as u64) << 32)) ^ 0x6a09e667f3bcc908;
+ store64(v0 + 64, v2);
+ store64(v0 + 56, v7);
+ store64(v0 + 48, v4);
+ store64(v0 + 40, v5);
+ store64(v0 + 32, v3);
+ store64(v0 + 24, 0xa54ff53a5f1d36f1);
+ store64(v0 + 16, 0x3c6ef372fe94b82a);
+ store64(v0 + 8, 0xbb67ae8584caa73b);
+ store64(v0, v2);
+ fill(v0 + 136, 0, 16);
+ store64(v0 + 160, 1);
+ store64(v0 + 152, v1);
+ fill(v0.plus(168), 0, 256);
+ return 0;
+}
+
+// blake2_tree::thread_plan::Plan::of
+#[inline(never)]
+unsafe fn tree_thread_plan_Plan_of(mut v0: u64, mut v1: u64, mut v2: u64, mut v3: u32, mut v4: u64,
+        mut v5: u64, mut v6: u64) {
+ let mut v7: u64;
+ let mut v8: u64;
+ let mut v9: u64;
+ let mut v10: u64;
+ let mut v11: u64;
+ let mut t3: u64;
+ let mut t4: u64;
+ let mut t5: u64;
+ 'l1: loop {
+ if v3 == 0 { break 'l1; }
+ v7 = v3 as u64;
+ v8 = div_u64(v5, v7);
+ v9 = div_u64(load64(v1.plus(16)), v7);
+ if v2 == 0 { break 'l1; }
+ 'l2: loop {
+ v8 = v8.plus(((v5.minus(v8.times(v7)) != 0) as u32) as u64);
+ v10 = if v8 > 1 { v8 } else { 1 };
+ v8 = div_u64(v10, v2);
+ v8 = v8.plus(((v10.minus(v8.times(v2)) != 0) as u32) as u64);
+ if v8 < 4 { break 'l2; }
+ v11 = (if (v8 & 3) == 0 { 0_u64 } else { 4 }).plus(v8) & 0xfffffffffffffffc;
+ if v11 == 0 { break 'l1; }
+ t3 = div_u64(v10, v11);
+ t4 = v8 & 0xfffffffffffffffc;
+ v8 = t3;
+ v8 = if v2 > v8.plus(((v10.minus(v8.times(v11)) != 0) as u32) as u64) { t4 } else { v11 };
+ break 'l2; }
+ 'l3: loop {
+ v9 >>= 2;
+ v9 = (if v9 > 1 { v9 } else { 1 }) << 2;
+ v8 = if v8 < v9 { v8 } else { v9 };
+ v1 = load64(v1.plus(24));
+ if v8.times(v7) <= v1 { break 'l3; }
+ t5 = div_u64(v1, v7);
+ v8 = t5 & 0xfffffffffffffffc;
+ v8 = if v8 > 1 { v8 } else { 1 };
+ break 'l3; }
+ v8 = v8.times(v7);
+ if v8 == 0 { break 'l1; }
+ store64(v0 + 64, v6);
+ store64(v0 + 32, v8);
+ store64(v0 + 24, v7);
+ store64(v0 + 16, 0);
+ store64(v0, v4);
+ store64(v0 + 8, v5.plus(v4));
+ v7 = div_u64(v5, v8);
+ v7 = v7.plus(((v5.minus(v7.times(v8)) != 0) as u32) as u64);
+ v7 = if v6 > v7 { v6 } else { v7 };
+ store64(v0 + 40, v7);
+ store64(v0 + 56, if v7 == 0 { 0 } else { (v10 << 6) });
+ store64(v0 + 48, if v7 < v2 { v7 } else { v2 });
+ return;
+ }
+ abort();
+}
+
+// rattle::export vulfsjor_ffi_tree_plan
+#[inline(never)]
+unsafe fn exported_tree_plan(mut v0: u64, mut v1: u64, mut v2: u64, mut v3: u32, mut v4: u64) -> u32
+        {
+ let mut v5: u64;
+ let mut v6: u32;
+ let mut v7: u64;
+ let mut v8: u64;
+ let mut frame = [0_u64; 12];
+ let top = (address!(frame)).plus(96) & !15;
+ v5 = top.minus(80);
+ v6 = 0xffffffff;
+ 'l2: loop {
+ if v3 == 0 { break 'l2; }
+ v7 = load64(v4);
+ if v7 == 0 { break 'l2; }
+ v8 = load64(v4.plus(8));
+ if v8 == 0 { break 'l2; }
+ if v2 > 0x3ffffffffffffff { break 'l2; }
+ if v2 > (!v1) { break 'l2; }
+ v6 = 0;
+ fill(v5.plus(8), 0, 72);
+ v8 = div_u64(v2, v8);
+ v8 = if v8 > 1 { v8 } else { 1 };
+ tree_thread_plan_Plan_of(v5.plus(8), v4, if v8 < v7 { v8 } else { v7 }, v3, v1, v2, 1);
+ copy(v0, v5.plus(8), 72);
+ break 'l2; }
+ return v6;
+}
+
+// rattle::export vulfsjor_ffi_tree_plan_update
+#[inline(never)]
+unsafe fn exported_tree_plan_update(mut v0: u64, mut v1: u64, mut v2: u64, mut v3: u64) -> u32 {
+ let mut v4: u64;
+ let mut v5: u32;
+ let mut v6: u64;
+ let mut v7: u64;
+ let mut v8: u64;
+ let mut v9: u64;
+ let mut v10: u32;
+ let mut v11: u64;
+ let mut v12: u64;
+ let mut t0: u32;
+ let mut t2: u64;
+ let mut t3: u64;
+ let mut t5: u64;
+ let mut t6: u64;
+ let mut frame = [0_u64; 12];
+ let top = (address!(frame)).plus(96) & !15;
+ v4 = top.minus(80);
+ 'l1: loop {
+ v5 = 0xffffffff;
+ 'l2: loop {
+ v6 = load64(v3);
+ if v6 == 0 { break 'l2; }
+ v7 = load64(v3.plus(8));
+ if v7 == 0 { break 'l2; }
+ t0 = state_tree_TreeState_is_ready(v1);
+ if t0 == 0 { break 'l2; }
+ v8 = load64(v1.plus(856));
+ v9 = v8.times(load64(v1.plus(848))).plus(load64(v1.plus(128))).plus(load64(v1.plus(136)));
+ if 0x3ffffffffffffff_u64.minus(v9) < v2 { break 'l2; }
+ v5 = 0;
+ fill(v4.plus(8), 0, 72);
+ v10 = v8 as u32;
+ if v10 == 0 { break 'l1; }
+ v1 = div_u64(v2, v7);
+ v1 = if v1 > 1 { v1 } else { 1 };
+ t2 = if v1 < v6 { v1 } else { v6 };
+ v1 = v8 & 0xffffffff;
+ t3 = rem_u64(v9, v1);
+ v6 = rem_u64(v1.minus(t3), v1);
+ v6 = if v2 < v6 { v2 } else { v6 };
+ v2 = v2.minus(v6);
+ t5 = v6;
+ v6 = v2.minus(((v2 != 0) as u32) as u64);
+ t6 = rem_u64(v6, v1);
+ v1 = v6.minus(t6);
+ tree_thread_plan_Plan_of(v4.plus(8), v3, t2, v10, t5, v1, 0);
+ v3 = load64(v4 + 8);
+ v6 = load64(v4 + 16);
+ v7 = load64(v4 + 32);
+ v8 = load64(v4 + 40);
+ v9 = load64(v4 + 48);
+ v11 = load64(v4 + 56);
+ v12 = load64(v4 + 64);
+ store64(v0 + 64, load64(v4 + 72));
+ store64(v0 + 56, v12);
+ store64(v0 + 48, v11);
+ store64(v0 + 40, v9);
+ store64(v0 + 32, v8);
+ store64(v0 + 24, v7);
+ store64(v0 + 16, v2.minus(v1));
+ store64(v0 + 8, v6);
+ store64(v0, v3);
+ break 'l2; }
+ return v5;
+ }
+ abort();
+}
+
+// rattle::export vulfsjor_ffi_tree_part
+#[inline(never)]
+unsafe fn exported_tree_part(mut v0: u64, mut v1: u64, mut v2: u64) -> u32 {
+ let mut v3: u32;
+ let mut v4: u64;
+ let mut v5: u64;
+ let mut v6: u64;
+ let mut v7: u64;
+ let mut v8: u64;
+ let mut v9: u64;
+ let mut v10: u64;
+ let mut v11: u64;
+ let mut v12: u64;
+ let mut v13: u64;
+ let mut v14: u32;
+ let mut t2: u64;
+ let mut t3: u64;
+ let mut t4: u64;
+ v3 = 0xffffffff;
+ 'l2: loop {
+ v4 = load64(v1.plus(24));
+ if v4.minus(1) > 0xfffffffe { break 'l2; }
+ v5 = load64(v1.plus(32));
+ if v5 == 0 { break 'l2; }
+ v6 = div_u64(v5, v4);
+ if v5.minus(v6.times(v4)) != 0 { break 'l2; }
+ v7 = load64(v1.plus(8));
+ v8 = load64(v1);
+ if v7 < v8 { break 'l2; }
+ v9 = v7.minus(v8);
+ if v9 > 0x3ffffffffffffff { break 'l2; }
+ v10 = load64(v1.plus(64));
+ if v10 > 1 { break 'l2; }
+ v11 = 0;
+ v12 = load64(v1.plus(40));
+ v13 = div_u64(v9, v5);
+ v13 = v13.plus(((v9.minus(v13.times(v5)) != 0) as u32) as u64);
+ if v12 != (if v10 > v13 { v10 } else { v13 }) { break 'l2; }
+ 'l3: loop {
+ v14 = (v12 == 0) as u32;
+ if v14 != 0 { break 'l3; }
+ t2 = div_u64(v9, v4);
+ t3 = rem_u64(v9, v4);
+ v13 = t2.plus(((t3 != 0) as u32) as u64);
+ v11 = (if v13 > 1 { v13 } else { 1 }) << 6;
+ break 'l3; }
+ if load64(v1.plus(56)) != v11 { break 'l2; }
+ v13 = load64(v1.plus(48));
+ if v12 < v13 { break 'l2; }
+ 'l4: loop {
+ if v14 != 0 { break 'l4; }
+ if v13 == 0 { break 'l2; }
+ break 'l4; }
+ 'l5: loop {
+ 'l6: loop {
+ if v10 != 1 { break 'l6; }
+ if v12 <= v2 { break 'l2; }
+ if load64(v1.plus(16)) == 0 { break 'l5; }
+ break 'l2;
+ }
+ if v8 >= v4 { break 'l2; }
+ t4 = rem_u64(v9, v4);
+ if t4 != 0 { break 'l2; }
+ if v12 <= v2 { break 'l2; }
+ v1 = load64(v1.plus(16));
+ if (((v7 == v8) as u32) | ((v1 != 0) as u32)) == 0 { break 'l2; }
+ if v1 > v4 { break 'l2; }
+ if v1.plus(v7) > 0x3ffffffffffffff { break 'l2; }
+ break 'l5; }
+ v1 = v6.times(v2);
+ store64(v0, v1);
+ store64(v0 + 24, v1 << 6);
+ v1 = v8.plus(v5.times(v2));
+ store64(v0 + 8, v1);
+ store64(v0 + 40, if v2.plus(1) == v12 { v10 } else { 0 });
+ v1 = v7.minus(v1);
+ v1 = if v1 < v5 { v1 } else { v5 };
+ store64(v0 + 16, v1);
+ v5 = div_u64(v1, v4);
+ v1 = v5.plus(((v1.minus(v5.times(v4)) != 0) as u32) as u64);
+ store64(v0 + 32, (if v1 > 1 { v1 } else { 1 }) << 6);
+ v3 = 0;
+ break 'l2; }
+ return v3;
+}
+
+pub(crate) unsafe fn memcmp(a: *const u8, a_length: usize, b: *const u8, b_length: usize) -> i32 {
+    exported_memcmp(a as u64, a_length as u64, b as u64, b_length as u64) as i32
+}
+
+pub(crate) unsafe fn wipe(bytes: *mut u8, length: usize) {
+    exported_wipe(bytes as u64, length as u64);
+}
+
+pub(crate) unsafe fn blake2b(out: *mut u8, out_length: usize, input: *const u8, input_length: usize,
+        key: *const u8, key_length: usize) -> i32 {
+    exported_blake2b(out as u64, out_length as u64, input as u64, input_length as u64, key as u64, key_length as u64) as i32
+}
+
+pub(crate) unsafe fn blake2b_many(out: *mut u8, out_length: usize, output_size: usize, messages:
+        *const Text, count: usize, key: *const u8, key_length: usize, salt: *const u8, salt_length:
+        usize, personal: *const u8, personal_length: usize) -> i32 {
+    // The module's messages are two 64-bit numbers each. The crate passes at most PART.
+    let mut pairs = [0_u64; 2 * crate::family::PART];
+    for (i, message) in core::slice::from_raw_parts(messages, count).iter().enumerate() {
+        pairs[2 * i] = (message.bytes as u64).to_le();
+        pairs[2 * i + 1] = (message.length as u64).to_le();
+    }
+    exported_blake2b_many(out as u64, out_length as u64, output_size as u64, address!(pairs), count as u64,
+        key as u64, key_length as u64, salt as u64, salt_length as u64, personal as u64,
+        personal_length as u64) as i32
+}
+
+pub(crate) unsafe fn blake2b_init_salt_personal<S>(state: &mut S, output_size: usize, key: *const
+        u8, key_length: usize, salt: *const u8, salt_length: usize, personal: *const u8,
+        personal_length: usize) -> i32 {
+    exported_blake2b_init_salt_personal(state as *mut _ as u64, output_size as u64, key as u64, key_length as u64, salt as u64, salt_length as u64, personal as u64, personal_length as u64) as i32
+}
+
+pub(crate) unsafe fn blake2b_init_key<S>(state: &mut S, output_size: usize, key: *const u8,
+        key_length: usize) -> i32 {
+    exported_blake2b_init_key(state as *mut _ as u64, output_size as u64, key as u64, key_length as u64) as i32
+}
+
+pub(crate) unsafe fn blake2b_init_tree<S>(state: &mut S, output_size: usize, key: *const u8,
+        key_length: usize, salt: *const u8, salt_length: usize, personal: *const u8,
+        personal_length: usize, tree: &Tree) -> i32 {
+    let mut tree_ = [0_u64; 2];
+    store64(address!(tree_) + 0, tree.node_offset as u64);
+    store32(address!(tree_) + 8, tree.leaf_length as u64);
+    store8(address!(tree_) + 12, tree.fanout as u64);
+    store8(address!(tree_) + 13, tree.depth as u64);
+    store8(address!(tree_) + 14, tree.node_depth as u64);
+    store8(address!(tree_) + 15, tree.inner_length as u64);
+    exported_blake2b_init_tree(state as *mut _ as u64, output_size as u64, key as u64, key_length as u64, salt as u64, salt_length as u64, personal as u64, personal_length as u64, address!(tree_)) as i32
+}
+
+pub(crate) unsafe fn blake2b_init_param<S>(state: &mut S, block: *const u8, block_length: usize) ->
+        i32 {
+    exported_blake2b_init_param(state as *mut _ as u64, block as u64, block_length as u64) as i32
+}
+
+pub(crate) unsafe fn blake2b_update<S>(state: &mut S, input: *const u8, input_length: usize) -> i32
+        {
+    exported_blake2b_update(state as *mut _ as u64, input as u64, input_length as u64) as i32
+}
+
+pub(crate) unsafe fn blake2b_final<S>(state: &mut S, out: *mut u8, out_length: usize) -> i32 {
+    exported_blake2b_final(state as *mut _ as u64, out as u64, out_length as u64) as i32
+}
+
+pub(crate) unsafe fn blake2b_verify<S>(state: &mut S, tag: *const u8, tag_length: usize) -> i32 {
+    exported_blake2b_verify(state as *mut _ as u64, tag as u64, tag_length as u64) as i32
+}
+
+pub(crate) unsafe fn blake2b_set_last_node<S>(state: &mut S, on: u32) -> i32 {
+    exported_blake2b_set_last_node(state as *mut _ as u64, on) as i32
+}
+
+pub(crate) unsafe fn blake2b_reset<S>(state: &mut S) -> i32 {
+    exported_blake2b_reset(state as *mut _ as u64) as i32
+}
+
+pub(crate) unsafe fn blake2b_wipe<S>(state: &mut S) {
+    exported_blake2b_wipe(state as *mut _ as u64);
+}
+
+pub(crate) unsafe fn blake2b_digest_size<S>(state: &S) -> usize {
+    exported_blake2b_digest_size(state as *const _ as u64) as usize
+}
+
+pub(crate) unsafe fn blake2b_count<S>(state: &S) -> u64 {
+    exported_blake2b_count(state as *const _ as u64)
+}
+
+pub(crate) unsafe fn blake2b_state_size() -> usize {
+    module_blake2b_state_size() as usize
+}
+
+pub(crate) unsafe fn blake2s(out: *mut u8, out_length: usize, input: *const u8, input_length: usize,
+        key: *const u8, key_length: usize) -> i32 {
+    exported_blake2s(out as u64, out_length as u64, input as u64, input_length as u64, key as u64, key_length as u64) as i32
+}
+
+pub(crate) unsafe fn blake2s_many(out: *mut u8, out_length: usize, output_size: usize, messages:
+        *const Text, count: usize, key: *const u8, key_length: usize, salt: *const u8, salt_length:
+        usize, personal: *const u8, personal_length: usize) -> i32 {
+    // The module's messages are two 64-bit numbers each. The crate passes at most PART.
+    let mut pairs = [0_u64; 2 * crate::family::PART];
+    for (i, message) in core::slice::from_raw_parts(messages, count).iter().enumerate() {
+        pairs[2 * i] = (message.bytes as u64).to_le();
+        pairs[2 * i + 1] = (message.length as u64).to_le();
+    }
+    exported_blake2s_many(out as u64, out_length as u64, output_size as u64, address!(pairs), count as u64,
+        key as u64, key_length as u64, salt as u64, salt_length as u64, personal as u64,
+        personal_length as u64) as i32
+}
+
+pub(crate) unsafe fn blake2s_init_salt_personal<S>(state: &mut S, output_size: usize, key: *const
+        u8, key_length: usize, salt: *const u8, salt_length: usize, personal: *const u8,
+        personal_length: usize) -> i32 {
+    exported_blake2s_init_salt_personal(state as *mut _ as u64, output_size as u64, key as u64, key_length as u64, salt as u64, salt_length as u64, personal as u64, personal_length as u64) as i32
+}
+
+pub(crate) unsafe fn blake2s_init_key<S>(state: &mut S, output_size: usize, key: *const u8,
+        key_length: usize) -> i32 {
+    exported_blake2s_init_key(state as *mut _ as u64, output_size as u64, key as u64, key_length as u64) as i32
+}
+
+pub(crate) unsafe fn blake2s_init_tree<S>(state: &mut S, output_size: usize, key: *const u8,
+        key_length: usize, salt: *const u8, salt_length: usize, personal: *const u8,
+        personal_length: usize, tree: &Tree) -> i32 {
+    let mut tree_ = [0_u64; 2];
+    store64(address!(tree_) + 0, tree.node_offset as u64);
+    store32(address!(tree_) + 8, tree.leaf_length as u64);
+    store8(address!(tree_) + 12, tree.fanout as u64);
+    store8(address!(tree_) + 13, tree.depth as u64);
+    store8(address!(tree_) + 14, tree.node_depth as u64);
+    store8(address!(tree_) + 15, tree.inner_length as u64);
+    exported_blake2s_init_tree(state as *mut _ as u64, output_size as u64, key as u64, key_length as u64, salt as u64, salt_length as u64, personal as u64, personal_length as u64, address!(tree_)) as i32
+}
+
+pub(crate) unsafe fn blake2s_init_param<S>(state: &mut S, block: *const u8, block_length: usize) ->
+        i32 {
+    exported_blake2s_init_param(state as *mut _ as u64, block as u64, block_length as u64) as i32
+}
+
+pub(crate) unsafe fn blake2s_update<S>(state: &mut S, input: *const u8, input_length: usize) -> i32
+        {
+    exported_blake2s_update(state as *mut _ as u64, input as u64, input_length as u64) as i32
+}
+
+pub(crate) unsafe fn blake2s_final<S>(state: &mut S, out: *mut u8, out_length: usize) -> i32 {
+    exported_blake2s_final(state as *mut _ as u64, out as u64, out_length as u64) as i32
+}
+
+pub(crate) unsafe fn blake2s_verify<S>(state: &mut S, tag: *const u8, tag_length: usize) -> i32 {
+    exported_blake2s_verify(state as *mut _ as u64, tag as u64, tag_length as u64) as i32
+}
+
+pub(crate) unsafe fn blake2s_set_last_node<S>(state: &mut S, on: u32) -> i32 {
+    exported_blake2s_set_last_node(state as *mut _ as u64, on) as i32
+}
+
+pub(crate) unsafe fn blake2s_reset<S>(state: &mut S) -> i32 {
+    exported_blake2s_reset(state as *mut _ as u64) as i32
+}
+
+pub(crate) unsafe fn blake2s_wipe<S>(state: &mut S) {
+    exported_blake2s_wipe(state as *mut _ as u64);
+}
+
+pub(crate) unsafe fn blake2s_digest_size<S>(state: &S) -> usize {
+    exported_blake2s_digest_size(state as *const _ as u64) as usize
+}
+
+pub(crate) unsafe fn blake2s_count<S>(state: &S) -> u64 {
+    exported_blake2s_count(state as *const _ as u64)
+}
+
+pub(crate) unsafe fn blake2s_state_size() -> usize {
+    module_blake2s_state_size() as usize
+}
+
+pub(crate) unsafe fn blake2bp(out: *mut u8, out_length: usize, input: *const u8, input_length:
+        usize, key: *const u8, key_length: usize) -> i32 {
+    exported_blake2bp(out as u64, out_length as u64, input as u64, input_length as u64, key as u64, key_length as u64) as i32
+}
+
+pub(crate) unsafe fn blake2bp_init_salt_personal<S>(state: &mut S, output_size: usize, key: *const
+        u8, key_length: usize, salt: *const u8, salt_length: usize, personal: *const u8,
+        personal_length: usize) -> i32 {
+    exported_blake2bp_init_salt_personal(state as *mut _ as u64, output_size as u64, key as u64, key_length as u64, salt as u64, salt_length as u64, personal as u64, personal_length as u64) as i32
+}
+
+pub(crate) unsafe fn blake2bp_init_key<S>(state: &mut S, output_size: usize, key: *const u8,
+        key_length: usize) -> i32 {
+    exported_blake2bp_init_key(state as *mut _ as u64, output_size as u64, key as u64, key_length as u64) as i32
+}
+
+pub(crate) unsafe fn blake2bp_update<S>(state: &mut S, input: *const u8, input_length: usize) -> i32
+        {
+    exported_blake2bp_update(state as *mut _ as u64, input as u64, input_length as u64) as i32
+}
+
+pub(crate) unsafe fn blake2bp_final<S>(state: &mut S, out: *mut u8, out_length: usize) -> i32 {
+    exported_blake2bp_final(state as *mut _ as u64, out as u64, out_length as u64) as i32
+}
+
+pub(crate) unsafe fn blake2bp_verify<S>(state: &mut S, tag: *const u8, tag_length: usize) -> i32 {
+    exported_blake2bp_verify(state as *mut _ as u64, tag as u64, tag_length as u64) as i32
+}
+
+pub(crate) unsafe fn blake2bp_reset<S>(state: &mut S) -> i32 {
+    exported_blake2bp_reset(state as *mut _ as u64) as i32
+}
+
+pub(crate) unsafe fn blake2bp_wipe<S>(state: &mut S) {
+    exported_blake2bp_wipe(state as *mut _ as u64);
+}
+
+pub(crate) unsafe fn blake2bp_digest_size<S>(state: &S) -> usize {
+    exported_blake2bp_digest_size(state as *const _ as u64) as usize
+}
+
+pub(crate) unsafe fn blake2bp_count<S>(state: &S) -> u64 {
+    exported_blake2bp_count(state as *const _ as u64)
+}
+
+pub(crate) unsafe fn blake2bp_state_size() -> usize {
+    module_blake2bp_state_size() as usize
+}
+
+pub(crate) unsafe fn blake2sp(out: *mut u8, out_length: usize, input: *const u8, input_length:
+        usize, key: *const u8, key_length: usize) -> i32 {
+    exported_blake2sp(out as u64, out_length as u64, input as u64, input_length as u64, key as u64, key_length as u64) as i32
+}
+
+pub(crate) unsafe fn blake2sp_init_salt_personal<S>(state: &mut S, output_size: usize, key: *const
+        u8, key_length: usize, salt: *const u8, salt_length: usize, personal: *const u8,
+        personal_length: usize) -> i32 {
+    exported_blake2sp_init_salt_personal(state as *mut _ as u64, output_size as u64, key as u64, key_length as u64, salt as u64, salt_length as u64, personal as u64, personal_length as u64) as i32
+}
+
+pub(crate) unsafe fn blake2sp_init_key<S>(state: &mut S, output_size: usize, key: *const u8,
+        key_length: usize) -> i32 {
+    exported_blake2sp_init_key(state as *mut _ as u64, output_size as u64, key as u64, key_length as u64) as i32
+}
+
+pub(crate) unsafe fn blake2sp_update<S>(state: &mut S, input: *const u8, input_length: usize) -> i32
+        {
+    exported_blake2sp_update(state as *mut _ as u64, input as u64, input_length as u64) as i32
+}
+
+pub(crate) unsafe fn blake2sp_final<S>(state: &mut S, out: *mut u8, out_length: usize) -> i32 {
+    exported_blake2sp_final(state as *mut _ as u64, out as u64, out_length as u64) as i32
+}
+
+pub(crate) unsafe fn blake2sp_verify<S>(state: &mut S, tag: *const u8, tag_length: usize) -> i32 {
+    exported_blake2sp_verify(state as *mut _ as u64, tag as u64, tag_length as u64) as i32
+}
+
+pub(crate) unsafe fn blake2sp_reset<S>(state: &mut S) -> i32 {
+    exported_blake2sp_reset(state as *mut _ as u64) as i32
+}
+
+pub(crate) unsafe fn blake2sp_wipe<S>(state: &mut S) {
+    exported_blake2sp_wipe(state as *mut _ as u64);
+}
+
+pub(crate) unsafe fn blake2sp_digest_size<S>(state: &S) -> usize {
+    exported_blake2sp_digest_size(state as *const _ as u64) as usize
+}
+
+pub(crate) unsafe fn blake2sp_count<S>(state: &S) -> u64 {
+    exported_blake2sp_count(state as *const _ as u64)
+}
+
+pub(crate) unsafe fn blake2sp_state_size() -> usize {
+    module_blake2sp_state_size() as usize
+}
+
+pub(crate) unsafe fn blake2xb(out: *mut u8, out_length: usize, input: *const u8, input_length:
+        usize, key: *const u8, key_length: usize) -> i32 {
+    exported_blake2xb(out as u64, out_length as u64, input as u64, input_length as u64, key as u64, key_length as u64) as i32
+}
+
+pub(crate) unsafe fn blake2xb_derive_key(out: *mut u8, out_length: usize, key: *const u8,
+        key_length: usize, context: *const u8, context_length: usize) -> i32 {
+    exported_blake2xb_derive_key(out as u64, out_length as u64, key as u64, key_length as u64, context as u64, context_length as u64) as i32
+}
+
+pub(crate) unsafe fn blake2xb_init_salt_personal<S>(state: &mut S, xof_length: u64, key: *const u8,
+        key_length: usize, salt: *const u8, salt_length: usize, personal: *const u8,
+        personal_length: usize) -> i32 {
+    exported_blake2xb_init_salt_personal(state as *mut _ as u64, xof_length, key as u64, key_length as u64, salt as u64, salt_length as u64, personal as u64, personal_length as u64) as i32
+}
+
+pub(crate) unsafe fn blake2xb_update<S>(state: &mut S, input: *const u8, input_length: usize) -> i32
+        {
+    exported_blake2xb_update(state as *mut _ as u64, input as u64, input_length as u64) as i32
+}
+
+pub(crate) unsafe fn blake2xb_squeeze<S>(state: &mut S, out: *mut u8, out_length: usize) -> i32 {
+    exported_blake2xb_squeeze(state as *mut _ as u64, out as u64, out_length as u64) as i32
+}
+
+pub(crate) unsafe fn blake2xb_reset<S>(state: &mut S) -> i32 {
+    exported_blake2xb_reset(state as *mut _ as u64) as i32
+}
+
+pub(crate) unsafe fn blake2xb_wipe<S>(state: &mut S) {
+    exported_blake2xb_wipe(state as *mut _ as u64);
+}
+
+pub(crate) unsafe fn blake2xb_left<S>(state: &S) -> u64 {
+    exported_blake2xb_left(state as *const _ as u64)
+}
+
+pub(crate) unsafe fn blake2xb_count<S>(state: &S) -> u64 {
+    exported_blake2xb_count(state as *const _ as u64)
+}
+
+pub(crate) unsafe fn blake2xb_state_size() -> usize {
+    module_blake2xb_state_size() as usize
+}
+
+pub(crate) unsafe fn blake2xs(out: *mut u8, out_length: usize, input: *const u8, input_length:
+        usize, key: *const u8, key_length: usize) -> i32 {
+    exported_blake2xs(out as u64, out_length as u64, input as u64, input_length as u64, key as u64, key_length as u64) as i32
+}
+
+pub(crate) unsafe fn blake2xs_derive_key(out: *mut u8, out_length: usize, key: *const u8,
+        key_length: usize, context: *const u8, context_length: usize) -> i32 {
+    exported_blake2xs_derive_key(out as u64, out_length as u64, key as u64, key_length as u64, context as u64, context_length as u64) as i32
+}
+
+pub(crate) unsafe fn blake2xs_init_salt_personal<S>(state: &mut S, xof_length: u64, key: *const u8,
+        key_length: usize, salt: *const u8, salt_length: usize, personal: *const u8,
+        personal_length: usize) -> i32 {
+    exported_blake2xs_init_salt_personal(state as *mut _ as u64, xof_length, key as u64, key_length as u64, salt as u64, salt_length as u64, personal as u64, personal_length as u64) as i32
+}
+
+pub(crate) unsafe fn blake2xs_update<S>(state: &mut S, input: *const u8, input_length: usize) -> i32
+        {
+    exported_blake2xs_update(state as *mut _ as u64, input as u64, input_length as u64) as i32
+}
+
+pub(crate) unsafe fn blake2xs_squeeze<S>(state: &mut S, out: *mut u8, out_length: usize) -> i32 {
+    exported_blake2xs_squeeze(state as *mut _ as u64, out as u64, out_length as u64) as i32
+}
+
+pub(crate) unsafe fn blake2xs_reset<S>(state: &mut S) -> i32 {
+    exported_blake2xs_reset(state as *mut _ as u64) as i32
+}
+
+pub(crate) unsafe fn blake2xs_wipe<S>(state: &mut S) {
+    exported_blake2xs_wipe(state as *mut _ as u64);
+}
+
+pub(crate) unsafe fn blake2xs_left<S>(state: &S) -> u64 {
+    exported_blake2xs_left(state as *const _ as u64)
+}
+
+pub(crate) unsafe fn blake2xs_count<S>(state: &S) -> u64 {
+    exported_blake2xs_count(state as *const _ as u64)
+}
+
+pub(crate) unsafe fn blake2xs_state_size() -> usize {
+    module_blake2xs_state_size() as usize
+}
+
+pub(crate) unsafe fn tree_root(out: *mut u8, out_length: usize, input: *const u8, input_length:
+        usize, salt: *const u8, salt_length: usize, personal: *const u8, personal_length: usize,
+        leaf_length: u32) -> i32 {
+    exported_tree_root(out as u64, out_length as u64, input as u64, input_length as u64, salt as u64, salt_length as u64, personal as u64, personal_length as u64, leaf_length) as i32
+}
+
+pub(crate) unsafe fn tree_init<S>(state: &mut S, output_size: usize, salt: *const u8, salt_length:
+        usize, personal: *const u8, personal_length: usize, leaf_length: u32) -> i32 {
+    exported_tree_init(state as *mut _ as u64, output_size as u64, salt as u64, salt_length as u64, personal as u64, personal_length as u64, leaf_length) as i32
+}
+
+pub(crate) unsafe fn tree_update<S>(state: &mut S, input: *const u8, input_length: usize) -> i32 {
+    exported_tree_update(state as *mut _ as u64, input as u64, input_length as u64) as i32
+}
+
+pub(crate) unsafe fn tree_final<S>(state: &mut S, out: *mut u8, out_length: usize) -> i32 {
+    exported_tree_final(state as *mut _ as u64, out as u64, out_length as u64) as i32
+}
+
+pub(crate) unsafe fn tree_wipe<S>(state: &mut S) {
+    exported_tree_wipe(state as *mut _ as u64);
+}
+
+pub(crate) unsafe fn tree_digest_size<S>(state: &S) -> usize {
+    exported_tree_digest_size(state as *const _ as u64) as usize
+}
+
+pub(crate) unsafe fn tree_count<S>(state: &S) -> u64 {
+    exported_tree_count(state as *const _ as u64)
+}
+
+pub(crate) unsafe fn tree_leaf_length<S>(state: &S) -> u32 {
+    exported_tree_leaf_length(state as *const _ as u64)
+}
+
+pub(crate) unsafe fn tree_state_size() -> usize {
+    module_tree_state_size() as usize
+}
+
+pub(crate) unsafe fn tree_leaf_count(message_length: u64, leaf_length: u32) -> u64 {
+    exported_tree_leaf_count(message_length, leaf_length)
+}
+
+pub(crate) unsafe fn tree_leaves(out: *mut u8, out_length: usize, first: u64, ends: u32, input:
+        *const u8, input_length: usize, salt: *const u8, salt_length: usize, personal: *const u8,
+        personal_length: usize, leaf_length: u32) -> i32 {
+    exported_tree_leaves(out as u64, out_length as u64, first, ends, input as u64, input_length as u64, salt as u64, salt_length as u64, personal as u64, personal_length as u64, leaf_length) as i32
+}
+
+pub(crate) unsafe fn tree_root_of_leaves(out: *mut u8, out_length: usize, digests: *const u8,
+        digests_length: usize, salt: *const u8, salt_length: usize, personal: *const u8,
+        personal_length: usize, leaf_length: u32) -> i32 {
+    exported_tree_root_of_leaves(out as u64, out_length as u64, digests as u64, digests_length as u64, salt as u64, salt_length as u64, personal as u64, personal_length as u64, leaf_length) as i32
+}
+
+pub(crate) unsafe fn tree_next_leaves<S>(state: &S, out: *mut u8, out_length: usize, skip: u64,
+        input: *const u8, input_length: usize) -> i32 {
+    exported_tree_next_leaves(state as *const _ as u64, out as u64, out_length as u64, skip, input as u64, input_length as u64) as i32
+}
+
+pub(crate) unsafe fn tree_update_leaves<S>(state: &mut S, digests: *const u8, digests_length: usize,
+        input: *const u8, input_length: usize) -> i32 {
+    exported_tree_update_leaves(state as *mut _ as u64, digests as u64, digests_length as u64, input as u64, input_length as u64) as i32
+}
+
+pub(crate) unsafe fn tree_check(output_size: usize, salt_length: usize, personal_length: usize,
+        leaf_length: u32) -> i32 {
+    exported_tree_check(output_size as u64, salt_length as u64, personal_length as u64, leaf_length) as i32
+}
+
+pub(crate) unsafe fn tree_init_leaf<S>(state: &mut S, i: u64, last: u32, salt: *const u8,
+        salt_length: usize, personal: *const u8, personal_length: usize, leaf_length: u32) -> i32 {
+    exported_tree_init_leaf(state as *mut _ as u64, i, last, salt as u64, salt_length as u64, personal as u64, personal_length as u64, leaf_length) as i32
+}
+
+pub(crate) unsafe fn tree_init_root<S>(state: &mut S, output_size: usize, salt: *const u8,
+        salt_length: usize, personal: *const u8, personal_length: usize, leaf_length: u32) -> i32 {
+    exported_tree_init_root(state as *mut _ as u64, output_size as u64, salt as u64, salt_length as u64, personal as u64, personal_length as u64, leaf_length) as i32
+}
+
+#[cfg(feature = "std")]
+pub(crate) unsafe fn tree_plan(plan: &mut Plan, start: u64, length: u64, leaf_length: u32, limits:
+        &Limits) -> i32 {
+    let mut plan_ = [0_u64; 9];
+    let mut limits_ = [0_u64; 4];
+    store64(address!(limits_) + 0, limits.threads as u64);
+    store64(address!(limits_) + 8, limits.least_bytes as u64);
+    store64(address!(limits_) + 16, limits.part_bytes as u64);
+    store64(address!(limits_) + 24, limits.most_bytes as u64);
+    if exported_tree_plan(address!(plan_), start, length, leaf_length, address!(limits_)) != 0 { return -1; }
+    plan.start = load64(address!(plan_) + 0) as u64;
+    plan.end = load64(address!(plan_) + 8) as u64;
+    plan.rest_length = load64(address!(plan_) + 16) as u64;
+    plan.leaf_length = load64(address!(plan_) + 24) as u64;
+    plan.part_length = load64(address!(plan_) + 32) as u64;
+    plan.part_count = load64(address!(plan_) + 40) as u64;
+    plan.threads = load64(address!(plan_) + 48) as u64;
+    plan.digests_length = load64(address!(plan_) + 56) as u64;
+    plan.ends = load64(address!(plan_) + 64) as u64;
+    0
+}
+
+#[cfg(feature = "std")]
+pub(crate) unsafe fn tree_plan_update<S>(plan: &mut Plan, state: &S, length: u64, limits: &Limits)
+        -> i32 {
+    let mut plan_ = [0_u64; 9];
+    let mut limits_ = [0_u64; 4];
+    store64(address!(limits_) + 0, limits.threads as u64);
+    store64(address!(limits_) + 8, limits.least_bytes as u64);
+    store64(address!(limits_) + 16, limits.part_bytes as u64);
+    store64(address!(limits_) + 24, limits.most_bytes as u64);
+    if exported_tree_plan_update(address!(plan_), state as *const _ as u64, length, address!(limits_)) != 0 { return -1; }
+    plan.start = load64(address!(plan_) + 0) as u64;
+    plan.end = load64(address!(plan_) + 8) as u64;
+    plan.rest_length = load64(address!(plan_) + 16) as u64;
+    plan.leaf_length = load64(address!(plan_) + 24) as u64;
+    plan.part_length = load64(address!(plan_) + 32) as u64;
+    plan.part_count = load64(address!(plan_) + 40) as u64;
+    plan.threads = load64(address!(plan_) + 48) as u64;
+    plan.digests_length = load64(address!(plan_) + 56) as u64;
+    plan.ends = load64(address!(plan_) + 64) as u64;
+    0
+}
+
+#[cfg(feature = "std")]
+pub(crate) unsafe fn tree_part(part: &mut Part, plan: &Plan, i: u64) -> i32 {
+    let mut part_ = [0_u64; 6];
+    let mut plan_ = [0_u64; 9];
+    store64(address!(plan_) + 0, plan.start as u64);
+    store64(address!(plan_) + 8, plan.end as u64);
+    store64(address!(plan_) + 16, plan.rest_length as u64);
+    store64(address!(plan_) + 24, plan.leaf_length as u64);
+    store64(address!(plan_) + 32, plan.part_length as u64);
+    store64(address!(plan_) + 40, plan.part_count as u64);
+    store64(address!(plan_) + 48, plan.threads as u64);
+    store64(address!(plan_) + 56, plan.digests_length as u64);
+    store64(address!(plan_) + 64, plan.ends as u64);
+    if exported_tree_part(address!(part_), address!(plan_), i) != 0 { return -1; }
+    part.first = load64(address!(part_) + 0) as u64;
+    part.start = load64(address!(part_) + 8) as u64;
+    part.length = load64(address!(part_) + 16) as u64;
+    part.digests_start = load64(address!(part_) + 24) as u64;
+    part.digests_length = load64(address!(part_) + 32) as u64;
+    part.ends = load64(address!(part_) + 40) as u64;
+    0
+}
