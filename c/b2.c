@@ -1,13 +1,12 @@
 /* The C of the program b2, which is linked with an assembly file of dist/: its main, and what the
  * standard library of Rattle needs from C beyond the C library. The toolchain says what each
  * function must do (rattle/libc/src/heap.rt, rattle/os/src/c.rt). None of this is proved.
- * tests/program.c tests each function.
+ * tests/b2.c tests each function.
  *
- * MAIN is the main of the assembly file, such as main_0_1_0_v3. If MAIN_V3 and MAIN_V4 are defined,
- * three files are linked: MAIN is that of the build for x86-64-v2, and the others are for
- * processors on which choose.c finds level 3 or 4. END is a function that gets the status of MAIN
- * and returns that of the process; FREE and REALLOC are then used instead of free and realloc. On
- * Windows the compiler needs -municode. */
+ * MAIN is the main of the assembly file, such as main_1_x86. On x86-64 it calls functions of the
+ * library by the level that choose.c finds first. END is a function that gets the status of MAIN and
+ * returns that of the process; FREE and REALLOC are then used instead of free and realloc. On Windows
+ * the compiler needs -municode. */
 #include <errno.h>
 #include <stdbool.h>
 #include <stddef.h>
@@ -37,18 +36,9 @@
 
 OF_TEXT int MAIN(void);
 
-#ifdef MAIN_V3
-OF_TEXT int MAIN_V3(void);
-OF_TEXT int MAIN_V4(void);
+#if defined(__x86_64__) && !defined(CHOOSE_ONE)
 unsigned char vulfsjor_ffi_find(void);
-
-static int start(void) {
-    switch (vulfsjor_ffi_find()) {
-        case 4: return MAIN_V4();
-        case 3: return MAIN_V3();
-        default: return MAIN();
-    }
-}
+static int start(void) { return vulfsjor_ffi_find() ? MAIN() : 1; }
 #else
 static int start(void) { return MAIN(); }
 #endif
@@ -67,13 +57,16 @@ static size_t count;
 static char **arguments;
 
 #ifdef _WIN32
-/* A copy of the text in UTF-8, in which U+FFFD replaces what is not Unicode. */
+/* A copy of the text in UTF-8, in which U+FFFD replaces what is not Unicode, and / replaces \, which
+ * is only in names of files: so a line of b2sum has the name that other systems have for the file. */
 static char *utf8(const wchar_t *text) {
     const int size = WideCharToMultiByte(CP_UTF8, 0, text, -1, NULL, 0, NULL, NULL);
     char *copy = malloc((size_t)size + 1);
 
     if (!copy) abort();
     WideCharToMultiByte(CP_UTF8, 0, text, -1, copy, size, NULL, NULL);
+    for (char *c = copy; *c; c++)
+        if (*c == '\\') *c = '/';
     return copy;
 }
 
@@ -83,7 +76,7 @@ int wmain(int argc, wchar_t **argv) {
     if (!arguments) abort();
     for (count = 0; count < (size_t)argc; count++) arguments[count] = utf8(argv[count]);
     for (int file = 0; file <= 2; file++) _setmode(file, _O_BINARY);
-    return start();
+    return END(start());
 }
 
 /* At most 2^30 bytes a call, since lengths of Windows have 32 bits. */
@@ -191,7 +184,7 @@ static unsigned saved_registers(void) {
 
 /* What CPUID says in the registers a to d, and what of that can be used here. */
 struct leaf {
-    unsigned told[4], active[4];
+    unsigned reported[4], active[4];
 };
 
 /* The leaves 1, 7 and 0x80000001 by the numbers 0, 1 and 2. */
@@ -199,13 +192,13 @@ OF_TEXT const struct leaf *__x86_get_cpuid_feature_leaf(unsigned number) {
     enum { FMA = 1 << 12, OSXSAVE = 1 << 27, AVX = 1 << 28, F16C = 1 << 29, AVX2 = 1 << 5 };
     static const unsigned numbers[] = {1, 7, 0x80000001u};
     static struct leaf leaf;
-    unsigned *it = leaf.told, a, b, c, d;
+    unsigned *it = leaf.reported, a, b, c, d;
     bool saves_avx;
 
     memset(&leaf, 0, sizeof leaf);
     if (number > 2 || !__get_cpuid_count(numbers[number], 0, it, it + 1, it + 2, it + 3))
         return &leaf;
-    memcpy(leaf.active, leaf.told, sizeof leaf.active);
+    memcpy(leaf.active, leaf.reported, sizeof leaf.active);
     saves_avx = __get_cpuid(1, &a, &b, &c, &d) && c & OSXSAVE && (saved_registers() & 6) == 6;
     if (!saves_avx && number == 0) leaf.active[2] &= ~(unsigned)(FMA | AVX | F16C);
     if (!saves_avx && number == 1) leaf.active[1] &= ~(unsigned)AVX2;

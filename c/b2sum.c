@@ -1,46 +1,44 @@
 /* The C of the program b2sum, together with b2.c: how it opens and reads files, the threads of
  * --tree, what --progress shows, how it keeps keys from others, and how it ends. The assembly file
  * calls b2sum_open, b2sum_read and b2sum_signal instead of open, read and signal of the C library,
- * and the functions here instead of its own absorb_tree and hide_memory. None of this is proved.
- * tests/b2sum.c tests each function.
+ * and the functions here instead of its own absorb_tree, hide_memory and show_progress. None of
+ * this is proved. tests/b2sum.c tests each function.
  *
- * ABSORB_TREE and HIDE_MEMORY are the names of these functions in the assembly file, such as
- * b2sum..disk..hide_memory_0_1_0_v2. If three files are linked, ABSORB_TREE_V3, .._V4 and so on are
- * those of the others. */
-#define _GNU_SOURCE
-#include <errno.h>
-#include <fcntl.h>
-#include <malloc.h>
-#include <signal.h>
-#include <stdbool.h>
-#include <stdint.h>
+ * ABSORB_TREE, HIDE_MEMORY and SHOW_PROGRESS are the names of these functions in the assembly file,
+ * such as b2sum..disk..hide_memory_1_x86. */
+#include "system.h"
+
 #include <stdio.h>
-#include <stdlib.h>
-#include <string.h>
-#include <sys/prctl.h>
-#include <sys/resource.h>
-#include <sys/stat.h>
-#include <sys/uio.h>
-#include <time.h>
-#include <unistd.h>
 
 #include "vulfsjor_threads.h"
 
-ssize_t rattle_arg(size_t i, char *bytes, size_t size);
-
 /* What the assembly and b2.c call. No shared library sees these names. */
+#ifdef _WIN32
+#define HIDDEN
+#else
 #define HIDDEN __attribute__((visibility("hidden")))
+#endif
 
-HIDDEN int b2sum_open(const char *name, int flags, ...);
-HIDDEN ssize_t b2sum_read(int file, void *bytes, size_t size);
-HIDDEN void (*b2sum_signal(int number, void (*handler)(int)))(int);
+/* A function of the assembly, or that the assembly calls: see b2.c. */
+#if defined(_WIN32) && defined(__x86_64__)
+#define OF_TEXT __attribute__((sysv_abi))
+#else
+#define OF_TEXT
+#endif
+
+HIDDEN OF_TEXT int b2sum_open(const char *name, int flags, ...);
+HIDDEN OF_TEXT ssize_t b2sum_read(int file, void *bytes, size_t size);
+HIDDEN OF_TEXT int b2sum_close(int file);
+HIDDEN OF_TEXT int b2sum_strerror(int error, char *text, size_t size);
+HIDDEN OF_TEXT void (*b2sum_signal(int number, void (*handler)(int)))(int);
 HIDDEN void *b2sum_realloc(void *place, size_t size);
 HIDDEN void b2sum_free(void *place);
 HIDDEN int b2sum_end(int status);
 
 /* The name of a function of the assembly file, from a macro. */
-#define TEXT_OF(words) #words
-#define TEXT(words) TEXT_OF(words)
+#define STRING_OF(words) #words
+#define STRING(words) STRING_OF(words)
+#define SYMBOL(words) STRING(__USER_LABEL_PREFIX__) STRING(words)
 
 /* ---- Secrets. */
 
@@ -51,15 +49,6 @@ static bool is_secret;
 /* More than the functions of the program need. */
 enum { STACK_BYTES = 1 << 15 };
 
-/* Keeps the memory of the process from other processes of its user, and from core files. */
-static void hide(void) {
-    const struct rlimit none = {0, 0};
-
-    is_secret = true;
-    prctl(PR_SET_DUMPABLE, 0L, 0L, 0L, 0L);
-    setrlimit(RLIMIT_CORE, &none);
-}
-
 /* Wipes what functions that have returned left on the stack. */
 __attribute__((noinline)) static void wipe_stack(void) {
     unsigned char below[STACK_BYTES];
@@ -69,12 +58,12 @@ __attribute__((noinline)) static void wipe_stack(void) {
 
 /* free and realloc, which leave no secret behind. */
 void b2sum_free(void *place) {
-    if (is_secret) vulfsjor_wipe(place, malloc_usable_size(place));
+    if (is_secret) vulfsjor_wipe(place, size_of_block(place));
     free(place);
 }
 
 void *b2sum_realloc(void *place, size_t size) {
-    const size_t before = malloc_usable_size(place);
+    const size_t before = size_of_block(place);
     void *other;
 
     if (!is_secret) return realloc(place, size);
@@ -85,28 +74,55 @@ void *b2sum_realloc(void *place, size_t size) {
 }
 
 /* The function of this name of the assembly file, which can do nothing. */
-#define HIDE(function, name)                  \
-    HIDDEN void function(void) __asm__(name); \
-    void function(void) { hide(); }
-
-HIDE(b2sum_hide, TEXT(HIDE_MEMORY))
-#ifdef HIDE_MEMORY_V3
-HIDE(b2sum_hide_v3, TEXT(HIDE_MEMORY_V3))
-HIDE(b2sum_hide_v4, TEXT(HIDE_MEMORY_V4))
-#endif
+HIDDEN OF_TEXT void b2sum_hide(void) __asm__(SYMBOL(HIDE_MEMORY));
+OF_TEXT void b2sum_hide(void) {
+    is_secret = true;
+    hide_process();
+}
 
 /* ---- The start and the end. */
 
 /* The runtime would ignore SIGPIPE. This leaves it as it was, so that a closed pipe ends the
  * program as it ends others. */
-void (*b2sum_signal(int number, void (*handler)(int)))(int) {
+OF_TEXT void (*b2sum_signal(int number, void (*handler)(int)))(int) {
     (void)number;
     (void)handler;
-    return SIG_DFL;
+    return NULL;
 }
 
-/* Whether standard input was read, and whether a file was opened with its number. */
-static bool is_input_read, is_input_file;
+/* The rest of what the assembly calls of the C library. */
+OF_TEXT int b2sum_close(int file) { return close(file); }
+
+OF_TEXT int b2sum_strerror(int error, char *text, size_t size) {
+    snprintf(text, size, "%s", strerror(error));
+    return 0;
+}
+
+#ifdef _WIN32
+/* The C library expands * and ? in arguments, as the shells of other systems do. */
+int _dowildcard = -1;
+
+/* A console shows lines in UTF-8, and at the end in the code page that it had. */
+static UINT page;
+
+static void restore_page(void) { SetConsoleOutputCP(page); }
+
+static BOOL WINAPI is_ended(DWORD event) {
+    (void)event;
+    restore_page();
+    return FALSE;
+}
+
+__attribute__((constructor)) static void use_utf8(void) {
+    page = GetConsoleOutputCP();
+    if (!page || !SetConsoleOutputCP(CP_UTF8)) return;
+    atexit(restore_page);
+    SetConsoleCtrlHandler(is_ended, TRUE);
+}
+#endif
+
+/* Whether standard input was read. */
+static bool is_input_read;
 
 /* Prints that something has failed, and why. Returns the status for that. */
 static int complain(const char *what) {
@@ -136,34 +152,13 @@ static struct {
     uint64_t length, count, start, printed;
 } shown = {.file = -1};
 
-/* Whether an argument is --progress, or that cut short, before an argument --. */
-static bool is_wanted(void) {
-    static const char option[] = "--progress";
-    char word[sizeof option];
-    ssize_t length;
+/* Whether progress is shown. */
+static bool is_shown;
 
-    for (size_t i = 1; (length = rattle_arg(i, word, sizeof word)) != -1; i++) {
-        if (length == 2 && !memcmp(word, "--", 2)) return false;
-        if (length >= 4 && length < (ssize_t)sizeof option && !memcmp(word, option, (size_t)length))
-            return true;
-    }
-    return false;
-}
-
-/* Whether progress is to be shown, which does not change. */
-static bool is_shown(void) {
-    static int known = -1;
-
-    if (known < 0) known = isatty(STDERR_FILENO) && is_wanted();
-    return known;
-}
-
-static uint64_t now(void) {
-    struct timespec t;
-
-    clock_gettime(CLOCK_MONOTONIC, &t);
-    return (uint64_t)t.tv_sec * 1000 + (uint64_t)t.tv_nsec / 1000000;
-}
+/* The function of this name of the assembly file, which can do nothing. It is called before a file
+ * is opened, if the options say so. */
+HIDDEN OF_TEXT void b2sum_show(void) __asm__(SYMBOL(SHOW_PROGRESS));
+OF_TEXT void b2sum_show(void) { is_shown = is_terminal(STDERR_FILENO); }
 
 /* Begins with another file. */
 static void begin(int file, const char *name) {
@@ -226,10 +221,25 @@ static void decode(char *name) {
     *to = 0;
 }
 
+/* Moves a file that has the number of a standard stream, which was closed at the start, above those.
+ * The stream stays closed, so that a read of it fails. Returns the descriptor, or -1 and sets
+ * errno. */
+static int move_up(int file) {
+    int low[STDERR_FILENO + 1], count = 0, error;
+
+    while (file >= 0 && file <= STDERR_FILENO) {
+        low[count++] = file;
+        file = dup(file);
+    }
+    error = errno;
+    while (count) close(low[--count]);
+    errno = error;
+    return file;
+}
+
 /* Opens the file for reading, from its start to its end. Returns its descriptor, or -1 and sets
- * errno. No mode is passed, so no file can be made. The path has a frame of its own, so that the
- * stack is wiped below that of b2sum_open. */
-__attribute__((noinline)) static int open_file(const char *name, int flags) {
+ * errno. The path has a frame of its own, so that the stack is wiped below that of b2sum_open. */
+__attribute__((noinline)) static int open_file(const char *name) {
     char path[4096];
     int file;
 
@@ -239,34 +249,34 @@ __attribute__((noinline)) static int open_file(const char *name, int flags) {
     }
     strcpy(path, name);
     decode(path);
-    do file = openat(AT_FDCWD, path, flags & ~O_CREAT);
+    do file = open_path(path);
     while (file < 0 && errno == EINTR);
+    file = move_up(file);
     if (file < 0) return -1;
-    is_input_file |= file == STDIN_FILENO;
-    posix_fadvise(file, 0, 0, POSIX_FADV_SEQUENTIAL);
-    if (is_shown()) begin(file, path);
+    read_ahead(file);
+    if (is_shown) begin(file, path);
     return file;
 }
 
-int b2sum_open(const char *name, int flags, ...) {
+/* The flags, by the numbers of Linux, say that the file is read. */
+OF_TEXT int b2sum_open(const char *name, int flags, ...) {
+    (void)flags;
     if (is_secret) wipe_stack();
-    return open_file(name, flags);
+    return open_file(name);
 }
 
 /* Reads at most size bytes, after a signal again. Returns their number, 0 at the end, or -1 and
  * sets errno. */
-ssize_t b2sum_read(int file, void *bytes, size_t size) {
-    const struct iovec room = {bytes, size};
+OF_TEXT ssize_t b2sum_read(int file, void *bytes, size_t size) {
     ssize_t count;
     int error;
 
     if (is_secret) wipe_stack();
-    do count = readv(file, &room, 1);
+    do count = read_next(file, bytes, size);
     while (count < 0 && errno == EINTR);
     error = errno;
-    if (file == STDIN_FILENO && (!is_input_file || (count < 0 && error == EBADF)))
-        is_input_read = true;
-    if (is_shown()) note(file, count);
+    if (file == STDIN_FILENO) is_input_read = true;
+    if (is_shown) note(file, count);
     errno = error;
     return count;
 }
@@ -286,23 +296,23 @@ static off_t large_from(int file) {
     return about.st_size - from < LEAST_BYTES ? -1 : from;
 }
 
-/* Shows that so many bytes were read after those before. */
+/* Shows that this many bytes were read after those before. */
 static int report(void *before, uint64_t count) {
     shown.count = *(const uint64_t *)before + count;
     show(true);
     return 0;
 }
 
-/* Absorbs a large regular file from its position to its end, by so many threads, and moves the
+/* Absorbs a large regular file from its position to its end, by this many threads, and moves the
  * position. If it is none, or cannot be read so, nothing changes. */
 static void absorb(int file, unsigned threads, vulfsjor_tree_state *state) {
     const off_t from = large_from(file);
     uint64_t before;
 
     if (from < 0) return;
-    if (is_shown()) note(file, 0);
+    if (is_shown) note(file, 0);
     before = shown.count;
-    if (!vulfsjor_tree_update_fd(state, file, threads, is_shown() ? report : NULL, &before)) return;
+    if (!vulfsjor_tree_update_fd(state, file, threads, is_shown ? report : NULL, &before)) return;
     shown.count = before;
     if (lseek(file, from, SEEK_SET) != from) abort();
 }
@@ -314,16 +324,9 @@ static void absorb(int file, unsigned threads, vulfsjor_tree_state *state) {
 /* The function of this name of the assembly file; the proved one, which reads the source to its end
  * in one thread, has the other name. It does that after the threads too: it reads what they could
  * not, or finds the end. */
-#define ABSORB(function, name, proved)                                      \
-    HIDDEN bool function(ARGUMENTS) __asm__(name);                          \
-    HIDDEN bool function##_proved(ARGUMENTS) __asm__(proved);               \
-    bool function(ARGUMENTS) {                                              \
-        absorb(file, threads, state);                                       \
-        return function##_proved(source, file, threads, state, room, size); \
-    }
-
-ABSORB(b2sum_absorb, TEXT(ABSORB_TREE), TEXT(PROVED_TREE))
-#ifdef ABSORB_TREE_V3
-ABSORB(b2sum_absorb_v3, TEXT(ABSORB_TREE_V3), TEXT(PROVED_TREE_V3))
-ABSORB(b2sum_absorb_v4, TEXT(ABSORB_TREE_V4), TEXT(PROVED_TREE_V4))
-#endif
+HIDDEN OF_TEXT bool b2sum_absorb(ARGUMENTS) __asm__(SYMBOL(ABSORB_TREE));
+HIDDEN OF_TEXT bool b2sum_absorb_proved(ARGUMENTS) __asm__(SYMBOL(PROVED_TREE));
+OF_TEXT bool b2sum_absorb(ARGUMENTS) {
+    absorb(file, threads, state);
+    return b2sum_absorb_proved(source, file, threads, state, room, size);
+}

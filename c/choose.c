@@ -18,7 +18,7 @@
  * between the builds of its digits without a rule. CHOOSE_PROCESSOR is a header with a simulated
  * processor, and CHOOSE_FUNCTIONS a header with other functions.
  *
- * macOS and Windows have the functions in C (calls.h). */
+ * macOS and Windows have the functions in C (thunks.h). */
 #include "vulfsjor.h"
 
 #include <stdlib.h>
@@ -39,26 +39,38 @@
 #define HIDDEN __attribute__((visibility("hidden")))
 #endif
 
-#ifdef CHOOSE_SHOWN
-#define VISIBILITY(name) ""
-#else
+/* What the shared library shows. */
+#ifndef CHOOSE_SHOWN
+#define SHOWN HIDDEN
 #define VISIBILITY(name) ".hidden " name "\n"
+#elif defined(_WIN32)
+#define SHOWN __declspec(dllexport)
+#else
+#define SHOWN __attribute__((visibility("default")))
+#define VISIBILITY(name) ""
+#endif
+
+/* Processors with branch protection require this instruction where a function is called through a
+ * pointer or a PLT. Others ignore it. */
+#ifdef __aarch64__
+#define LANDING "hint #34\n" /* bti c */
+#else
+#define LANDING ".byte 0xf3, 0x0f, 0x1e, 0xfa\n" /* endbr64 */
 #endif
 
 /* A function of this name in a separate section, so that a linker can leave it out. */
 #define FUNCTION(name, visibility, body)                                             \
     __asm__(".pushsection .text." name ",\"ax\",%progbits\n"                         \
             ".globl " name "\n" visibility ".type " name ",%function\n.p2align 4\n" \
-            name ":\n.cfi_startproc\n" body ".cfi_endproc\n"                         \
+            name ":\n.cfi_startproc\n" LANDING body ".cfi_endproc\n"                 \
             ".size " name ",.-" name "\n.popsection\n");
 
-/* The name of a function in the text of a build: the version and the build follow it. */
+/* The name of a function in the text of a build: the number of the code and the build follow it.
+ * Versions with the same code have the same number (docs/RELEASING.md). */
+#define CODE "1"
 #define TEXT_OF(words) #words
 #define TEXT(words) TEXT_OF(words)
-#define VERSION_IN_NAMES                                          \
-    TEXT(VULFSJOR_VERSION_MAJOR) "_" TEXT(VULFSJOR_VERSION_MINOR) \
-    "_" TEXT(VULFSJOR_VERSION_PATCH)
-#define IN_BUILD(name, build) name "_" VERSION_IN_NAMES "_" build
+#define IN_BUILD(name, build) name "_" CODE "_" build
 
 #ifdef CHOOSE_ONE
 #ifdef __aarch64__
@@ -174,14 +186,16 @@ __attribute__((used)) HIDDEN unsigned char vulfsjor_ffi_find(void) {
 }
 #endif
 
-/* The functions that vulfsjor.h declares, as tools/exports.py writes them. c/join.sh compares this
+/* The version is that of the header, so the assembly is the same if only the version is another. */
+SHOWN uint32_t vulfsjor_library_version(void) { return VULFSJOR_VERSION_NUMBER; }
+
+/* The functions that vulfsjor.h declares, as tools/exports.py writes them. c/make_libraries.sh compares this
  * list with the header and with the assembly. */
 #ifdef CHOOSE_FUNCTIONS
 #include CHOOSE_FUNCTIONS
 #elif !defined(__ELF__)
-#include "calls.h"
+#include "thunks.h"
 #else
-CALL("vulfsjor_ffi_version")
 CALL("vulfsjor_ffi_memcmp")
 CALL("vulfsjor_ffi_wipe")
 
@@ -240,6 +254,28 @@ CALL("vulfsjor_ffi_blake2sp_wipe")
 CALL("vulfsjor_ffi_blake2sp_digest_size")
 CALL("vulfsjor_ffi_blake2sp_count")
 CALL("vulfsjor_ffi_blake2sp_state_size")
+
+CALL("vulfsjor_ffi_blake2xb")
+CALL("vulfsjor_ffi_blake2xb_derive_key")
+CALL("vulfsjor_ffi_blake2xb_init_salt_personal")
+CALL("vulfsjor_ffi_blake2xb_update")
+CALL("vulfsjor_ffi_blake2xb_squeeze")
+CALL("vulfsjor_ffi_blake2xb_reset")
+CALL("vulfsjor_ffi_blake2xb_wipe")
+CALL("vulfsjor_ffi_blake2xb_left")
+CALL("vulfsjor_ffi_blake2xb_count")
+CALL("vulfsjor_ffi_blake2xb_state_size")
+
+CALL("vulfsjor_ffi_blake2xs")
+CALL("vulfsjor_ffi_blake2xs_derive_key")
+CALL("vulfsjor_ffi_blake2xs_init_salt_personal")
+CALL("vulfsjor_ffi_blake2xs_update")
+CALL("vulfsjor_ffi_blake2xs_squeeze")
+CALL("vulfsjor_ffi_blake2xs_reset")
+CALL("vulfsjor_ffi_blake2xs_wipe")
+CALL("vulfsjor_ffi_blake2xs_left")
+CALL("vulfsjor_ffi_blake2xs_count")
+CALL("vulfsjor_ffi_blake2xs_state_size")
 
 CALL("vulfsjor_ffi_tree_root")
 CALL("vulfsjor_ffi_tree_init")

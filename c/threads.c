@@ -1,18 +1,10 @@
 /* See include/vulfsjor_threads.h. The functions of the library are proved, and so is its plan: the
  * parts of a message are in order, without gap or overlap, and their joined digests have its root.
- * That this file reads each part, stores its digests where the plan says and waits for its threads
- * is tested (tests/threads.c, tests/thread_faults.c). */
-#define _GNU_SOURCE
-#include "vulfsjor_threads.h"
+ * That this file reads each part, absorbs its digests in the order of the parts and waits for its
+ * threads is tested (tests/threads.c, tests/thread_faults.c). */
+#include "system.h"
 
-#include <errno.h>
-#include <fcntl.h>
-#include <pthread.h>
-#include <sched.h>
-#include <signal.h>
-#include <stdlib.h>
-#include <sys/stat.h>
-#include <unistd.h>
+#include "vulfsjor_threads.h"
 
 /* At most one thread hashes for each LEAST_BYTES of a message: for fewer, starting it costs what it
  * saves. A test sets it to 1. */
@@ -22,13 +14,18 @@
 
 enum {
     PART_BYTES = 1 << 20,        /* about what a thread takes at a time; the buffer of a stream */
+    DIGEST_BYTES = 64,
+    PART_LEAVES = 1 << 14,   /* at most, so that the digests of a part are no longer than a part */
+    WAITING_BYTES = 1 << 20, /* of digests that wait for the root, or two parts for each thread */
     MOST_BUFFER_BYTES = 1 << 24, /* a thread reads longer leaves of a file in pieces */
     MOST_THREADS = 256,
     MOST_LEAVES = 1 << 18 /* of a file at a time, when it is absorbed into a state */
 };
 
 /* The leaves of a plan, which several threads hash. Each takes the next part until none is left or
- * one has failed. */
+ * one has failed. The digests of a message are absorbed into its root in the order of the parts, by
+ * the thread that ends the part which is next; so there is room for those of a few parts, which are
+ * used in turn. All digests of an update are kept, since a state absorbs them together. */
 typedef struct job {
     const vulfsjor_tree_state *state; /* whose next leaves they are; null: all of a message */
     const void *salt, *personal;      /* of a message */
@@ -38,10 +35,15 @@ typedef struct job {
     int file;
     uint64_t from; /* where in the file the offsets of the plan begin */
     vulfsjor_plan plan;
-    unsigned char *digests; /* of all parts */
-    uint64_t next;          /* the first part that no thread hashes yet; atomic */
-    uint64_t count;         /* of the bytes that were hashed so far; atomic */
-    int error;              /* the first error, or 0; atomic */
+    vulfsjor_blake2b_state root;
+    gate gate;              /* of all that follows and of the root */
+    unsigned char *digests; /* of `rooms` parts, and then for each of them whether it is there */
+    size_t room;            /* the bytes of the digests of a part */
+    uint64_t rooms;
+    uint64_t next;     /* the first part that no thread hashes yet */
+    uint64_t absorbed; /* the number of parts whose digests are in the root */
+    uint64_t count;    /* of the bytes that were hashed so far */
+    int error;         /* the first error, or 0 */
     vulfsjor_progress progress; /* called in the caller's thread; null: not called */
     void *context;
 } job;
@@ -50,7 +52,7 @@ typedef struct job {
  * the file ends before. */
 static int read_at(int file, unsigned char *to, size_t length, uint64_t from) {
     while (length) {
-        ssize_t n = pread(file, to, length, (off_t)from);
+        ssize_t n = read_from(file, to, length, from);
         if (n < 0 && errno == EINTR) continue;
         if (n < 0) return errno;
         if (!n) return EIO;
@@ -59,16 +61,6 @@ static int read_at(int file, unsigned char *to, size_t length, uint64_t from) {
         length -= (size_t)n;
     }
     return 0;
-}
-
-/* The number of bytes that were hashed so far, with these. */
-static uint64_t counted(job *j, uint64_t length) {
-    return __atomic_add_fetch(&j->count, length, __ATOMIC_RELAXED);
-}
-
-/* Reports this number, in the caller's thread. Returns 0 or an error. */
-static int report(const job *j, uint64_t count) {
-    return j->progress && j->progress(j->context, count) ? ECANCELED : 0;
 }
 
 /* Initializes the state of the first leaf of a part. Returns -1 if its arguments are refused. */
@@ -104,8 +96,8 @@ static int hash_long_leaf(const job *j, const vulfsjor_part *part, unsigned char
 
 /* Writes the digests of a part. The buffer of `room` bytes is for a part of a file. Returns 0 or an
  * error. */
-static int hash_part(const job *j, const vulfsjor_part *part, unsigned char *buffer, size_t room) {
-    unsigned char *out = j->digests + part->digests_start;
+static int hash_part(const job *j, const vulfsjor_part *part, unsigned char *buffer, size_t room,
+                     unsigned char *out) {
     const unsigned char *bytes = buffer;
     int error, status;
 
@@ -125,56 +117,95 @@ static int hash_part(const job *j, const vulfsjor_part *part, unsigned char *buf
     return status ? EINVAL : 0;
 }
 
-/* Hashes the next part, if there is one, and counts its bytes. Returns 0 or an error, which is -1 if
- * no part is left. */
-static int hash_next(job *j, unsigned char *buffer, size_t room, uint64_t *count) {
-    uint64_t i = __atomic_fetch_add(&j->next, 1, __ATOMIC_RELAXED);
-    vulfsjor_part part;
+/* Takes the next part, as soon as there is room for its digests. Returns 0 or an error, which is -1
+ * if no part is left. */
+static int take_part(job *j, uint64_t *i, vulfsjor_part *part) {
     int error;
 
-    if (i >= j->plan.part_count) return -1;
-    if (vulfsjor_tree_part(&part, &j->plan, i)) return EINVAL;
-    if (!(error = hash_part(j, &part, buffer, room))) *count = counted(j, part.length);
+    enter(&j->gate);
+    while (!j->error && j->next < j->plan.part_count && j->next - j->absorbed >= j->rooms)
+        wait_in(&j->gate);
+    error = j->error;
+    if (!error && j->next >= j->plan.part_count) error = -1;
+    *i = j->next;
+    if (!error && vulfsjor_tree_part(part, &j->plan, *i)) error = EINVAL;
+    if (!error) j->next++;
+    leave(&j->gate);
     return error;
+}
+
+/* Absorbs the digests that are there of the next parts. Returns 0 or an error. */
+static int absorb(job *j) {
+    unsigned char *there = j->digests + j->rooms * j->room;
+    vulfsjor_part part;
+
+    while (j->absorbed < j->next && there[j->absorbed % j->rooms]) {
+        const uint64_t place = j->absorbed % j->rooms;
+
+        if (vulfsjor_tree_part(&part, &j->plan, j->absorbed) ||
+            vulfsjor_blake2b_update(&j->root, j->digests + place * j->room, part.digests_length))
+            return EINVAL;
+        there[place] = 0;
+        j->absorbed++;
+    }
+    return 0;
+}
+
+/* Counts part i, whose digests are there, and sets *count to all that was hashed so far. Returns 0
+ * or an error. */
+static int put_part(job *j, uint64_t i, const vulfsjor_part *part, uint64_t *count) {
+    int error = 0;
+
+    enter(&j->gate);
+    *count = j->count += part->length;
+    if (!j->state) {
+        j->digests[j->rooms * j->room + i % j->rooms] = 1;
+        error = absorb(j);
+        wake_all(&j->gate);
+    }
+    leave(&j->gate);
+    return error;
+}
+
+/* Reports this number, in the caller's thread. Returns 0 or an error. */
+static int report(const job *j, uint64_t count) {
+    return j->progress && j->progress(j->context, count) ? ECANCELED : 0;
 }
 
 /* What each thread does. That of the caller reports what all have done. */
 static void hash(job *j, int reports) {
     size_t room = j->bytes ? 0 : j->plan.part_length;
     unsigned char *buffer = NULL;
-    uint64_t count;
-    int error = 0, none = 0;
+    uint64_t count, i;
+    vulfsjor_part part;
+    int error = 0;
 
     if (room > MOST_BUFFER_BYTES) room = PART_BYTES;
     if (room && !(buffer = malloc(room))) error = ENOMEM;
-    while (!error && !__atomic_load_n(&j->error, __ATOMIC_RELAXED)) {
-        error = hash_next(j, buffer, room, &count);
+    while (!error && !(error = take_part(j, &i, &part))) {
+        error = hash_part(j, &part, buffer, room, j->digests + i % j->rooms * j->room);
+        if (!error) error = put_part(j, i, &part, &count);
         if (!error && reports) error = report(j, count);
     }
     free(buffer);
-    if (error > 0)
-        __atomic_compare_exchange_n(&j->error, &none, error, 0, __ATOMIC_RELAXED, __ATOMIC_RELAXED);
+    if (error <= 0) return;
+    enter(&j->gate);
+    if (!j->error) j->error = error;
+    wake_all(&j->gate);
+    leave(&j->gate);
 }
 
-static void *run(void *given) {
+static thread_result THREAD_CALL run(void *given) {
     hash(given, 0);
-    return NULL;
-}
-
-/* The number of processors that the caller's thread may run on. */
-static unsigned processors(void) {
-    cpu_set_t set;
-    long n;
-
-    if (!sched_getaffinity(0, sizeof set, &set)) return (unsigned)CPU_COUNT(&set);
-    n = sysconf(_SC_NPROCESSORS_ONLN); /* the machine has more than the set has room for */
-    return n > 0 ? (unsigned)n : 1;
+    return 0;
 }
 
 /* What a plan of this job depends on. A part of a file has to fit into a buffer. */
 static vulfsjor_limits limits_of(const job *j, unsigned threads) {
     vulfsjor_limits limits = {threads, LEAST_BYTES, PART_BYTES, UINT64_MAX};
+    const uint64_t most = (uint64_t)j->leaf_length * PART_LEAVES;
 
+    if (most < PART_BYTES) limits.part_bytes = most;
     if (!threads) limits.threads = processors();
     if (limits.threads > MOST_THREADS) limits.threads = MOST_THREADS;
     if (!j->bytes) limits.most_bytes = MOST_BUFFER_BYTES;
@@ -188,50 +219,64 @@ static int plan_message(job *j, uint64_t start, uint64_t length, unsigned thread
     return vulfsjor_tree_plan(&j->plan, start, length, j->leaf_length, &limits);
 }
 
-/* Starts up to count threads, and returns how many: the system may have no more. They block all
- * signals except SIGBUS and SIGSEGV, so that a program's handlers run in its own threads. */
-static unsigned start(pthread_t *threads, unsigned count, job *j) {
-    sigset_t blocked, before;
-    unsigned started = 0;
+/* Allocates room for digests: of all parts of an update, or of the parts of a message that are not
+ * absorbed yet. Returns 0 or an error. */
+static int make_room(job *j) {
+    const uint64_t count = j->plan.part_count, two = 2 * j->plan.threads;
+    uint64_t size = j->plan.digests_length;
 
-    sigfillset(&blocked);
-    sigdelset(&blocked, SIGBUS);
-    sigdelset(&blocked, SIGSEGV);
-    pthread_sigmask(SIG_SETMASK, &blocked, &before);
-    while (started < count && !pthread_create(&threads[started], NULL, run, j)) started++;
-    pthread_sigmask(SIG_SETMASK, &before, NULL);
-    return started;
+    j->room = j->plan.part_length / j->leaf_length * DIGEST_BYTES;
+    j->rooms = count;
+    if (!j->state) {
+        if (j->rooms > WAITING_BYTES / j->room) j->rooms = WAITING_BYTES / j->room;
+        if (j->rooms < two) j->rooms = two;
+        if (j->rooms > count) j->rooms = count;
+        size = j->rooms * (j->room + 1);
+    }
+    if ((size_t)size != size || !(j->digests = malloc((size_t)size))) return ENOMEM;
+    if (!j->state) memset(j->digests + j->rooms * j->room, 0, (size_t)j->rooms);
+    return 0;
 }
 
 /* Hashes all parts by the threads of the plan, the caller's among them, and waits for the others.
  * Returns 0, and j->digests are then to be freed, or an error. */
 static int hash_parts(job *j) {
-    pthread_t others[MOST_THREADS];
+    thread others[MOST_THREADS];
     unsigned i, started;
+    int error = make_room(j);
 
-    if (!(j->digests = malloc(j->plan.digests_length))) return ENOMEM;
-    started = start(others, (unsigned)j->plan.threads - 1, j);
+    if (error) return error;
+    started = start_threads(others, (unsigned)j->plan.threads - 1, run, j);
     hash(j, 1);
-    for (i = 0; i < started; i++) pthread_join(others[i], NULL);
+    for (i = 0; i < started; i++) join_thread(others[i]);
     if (j->error) free(j->digests);
     return j->error;
 }
 
-/* Writes the root over all leaves of a message. Returns 0 or an error. */
-static int root_of_parts(job *j, void *out, size_t outlen) {
-    int error = hash_parts(j), status;
+/* Hashes a message, so that its root has absorbed the digests of all leaves. Returns 0 or an
+ * error. */
+static int hash_message(job *j, size_t outlen) {
+    int error;
 
-    if (error) return error;
-    status = vulfsjor_tree_root_of_leaves(out, outlen, j->digests, j->plan.digests_length, j->salt,
-                                          j->saltlen, j->personal, j->personallen, j->leaf_length);
-    free(j->digests);
-    return status ? EINVAL : 0;
+    if (vulfsjor_tree_init_root(&j->root, outlen, j->salt, j->saltlen, j->personal, j->personallen,
+                                j->leaf_length))
+        return EINVAL;
+    if (!(error = hash_parts(j))) free(j->digests);
+    return error;
+}
+
+/* Writes the root of a message that was hashed. Returns 0 or an error. */
+static int write_root(job *j, void *out, size_t outlen) {
+    return vulfsjor_blake2b_final(&j->root, out, outlen) ? EINVAL : 0;
 }
 
 /* Writes the root of the bytes in memory. Returns 0 or an error. */
 static int root_of_bytes(job *j, void *out, size_t outlen, size_t inlen, unsigned threads) {
+    int error;
+
     if (plan_message(j, 0, inlen, threads)) return EINVAL;
-    if (j->plan.threads > 1) return root_of_parts(j, out, outlen);
+    if (j->plan.threads > 1)
+        return (error = hash_message(j, outlen)) ? error : write_root(j, out, outlen);
     return vulfsjor_tree_root(out, outlen, j->bytes, inlen, j->salt, j->saltlen, j->personal,
                               j->personallen, j->leaf_length)
                ? EINVAL
@@ -261,7 +306,7 @@ static int update_by_stream(job *j, vulfsjor_tree_state *S, unsigned char *buffe
     while (!error && length == PART_BYTES) {
         error = fill(j->file, buffer, PART_BYTES, &length);
         if (!error && vulfsjor_tree_update(S, buffer, length)) error = EFBIG;
-        if (!error && length) error = report(j, counted(j, length));
+        if (!error && length) error = report(j, j->count += length);
     }
     return error;
 }
@@ -307,15 +352,16 @@ static int root_of_file(job *j, void *out, size_t outlen, unsigned threads) {
     if (error) return error;
     if (!by_threads) return root_of_stream(j, out, outlen);
     if (plan_message(j, start, length, threads)) return EFBIG;
+    if ((error = hash_message(j, outlen))) return error;
     if (lseek(j->file, (off_t)(start + length), SEEK_SET) < 0) return errno;
-    return root_of_parts(j, out, outlen);
+    return write_root(j, out, outlen);
 }
 
 /* ---- Updates of a state, which is ready. After an error the state is of no use. */
 
 /* Absorbs the input. Returns 0 or an error. */
 static int update(vulfsjor_tree_state *S, const unsigned char *in, size_t inlen, unsigned threads) {
-    job j = {.state = S, .bytes = in};
+    job j = {.state = S, .leaf_length = vulfsjor_tree_leaf_length(S), .bytes = in, .gate = GATE};
     vulfsjor_limits limits = limits_of(&j, threads);
     int error, status;
 
@@ -329,7 +375,7 @@ static int update(vulfsjor_tree_state *S, const unsigned char *in, size_t inlen,
     return status ? EINVAL : 0;
 }
 
-/* Absorbs so many bytes of digests and then these bytes of the file, in this thread. Returns 0 or an
+/* Absorbs this many bytes of digests and then these bytes of the file, in this thread. Returns 0 or an
  * error. */
 static int update_by_one(job *j, vulfsjor_tree_state *S, size_t digests_length, uint64_t at,
                          uint64_t length, unsigned char *buffer) {
@@ -340,7 +386,7 @@ static int update_by_one(job *j, vulfsjor_tree_state *S, size_t digests_length, 
         size_t n = end - at < PART_BYTES ? (size_t)(end - at) : PART_BYTES;
         if ((error = read_at(j->file, buffer, n, j->from + at))) return error;
         if (vulfsjor_tree_update_leaves(S, j->digests, digests_length, buffer, n)) return EINVAL;
-        if ((error = report(j, counted(j, n)))) return error;
+        if ((error = report(j, j->count += n))) return error;
         digests_length = 0;
         at += n;
     }
@@ -369,20 +415,20 @@ static int update_by_threads(job *j, vulfsjor_tree_state *S, uint64_t length,
 static int update_by_file(job *j, vulfsjor_tree_state *S, unsigned threads, unsigned char *buffer) {
     const uint64_t most = (uint64_t)j->leaf_length * MOST_LEAVES;
     const vulfsjor_limits limits = limits_of(j, threads);
-    uint64_t length;
+    uint64_t length, end;
     int by_threads, error = find_rest(j, &by_threads, &j->from, &length);
 
     if (error) return error;
     if (!by_threads) return update_by_stream(j, S, buffer);
     if (vulfsjor_tree_plan_update(&j->plan, S, length, &limits)) return EFBIG;
-    if (lseek(j->file, (off_t)(j->from + length), SEEK_SET) < 0) return errno;
+    end = j->from + length;
     while (!error && length) {
         uint64_t n = length < most ? length : most;
         error = update_by_threads(j, S, n, &limits, buffer);
         j->from += n;
         length -= n;
     }
-    return error;
+    return !error && lseek(j->file, (off_t)end, SEEK_SET) < 0 ? errno : error;
 }
 
 /* Whether a tree accepts the arguments of the job. */
@@ -391,10 +437,10 @@ static int is_accepted(const job *j, size_t outlen) {
                                  j->leaf_length) == VULFSJOR_ARGUMENT_NONE;
 }
 
-/* Ends a call that began with pthread_setcancelstate: a thread that is canceled within one would
- * lose memory, files and threads. */
-static int answer(int error, int cancelable) {
-    pthread_setcancelstate(cancelable, NULL);
+/* Ends a call that began with begin_call: a thread that is canceled within one would lose memory,
+ * files and threads. */
+static int answer(int error, int before) {
+    end_call(before);
     if (error) errno = error;
     return error ? -1 : 0;
 }
@@ -402,10 +448,10 @@ static int answer(int error, int cancelable) {
 int vulfsjor_tree_root_threads(void *out, size_t outlen, const void *in, size_t inlen,
                                const void *salt, size_t saltlen, const void *personal,
                                size_t personallen, uint32_t leaf_length, unsigned threads) {
-    job j = {NULL, salt, personal, saltlen, personallen, leaf_length, .bytes = vulfsjor_text(in)};
-    int before, error = EINVAL;
+    job j = {NULL, salt, personal, saltlen, personallen, leaf_length,
+             .bytes = vulfsjor_text(in), .gate = GATE};
+    int before = begin_call(), error = EINVAL;
 
-    pthread_setcancelstate(PTHREAD_CANCEL_DISABLE, &before);
     if (out && (in || !inlen) && is_accepted(&j, outlen))
         error = root_of_bytes(&j, out, outlen, inlen, threads);
     return answer(error, before);
@@ -414,10 +460,9 @@ int vulfsjor_tree_root_threads(void *out, size_t outlen, const void *in, size_t 
 int vulfsjor_tree_root_fd(void *out, size_t outlen, int fd, const void *salt, size_t saltlen,
                           const void *personal, size_t personallen, uint32_t leaf_length,
                           unsigned threads) {
-    job j = {NULL, salt, personal, saltlen, personallen, leaf_length, .file = fd};
-    int before, error = EINVAL;
+    job j = {NULL, salt, personal, saltlen, personallen, leaf_length, .file = fd, .gate = GATE};
+    int before = begin_call(), error = EINVAL;
 
-    pthread_setcancelstate(PTHREAD_CANCEL_DISABLE, &before);
     if (out && is_accepted(&j, outlen)) error = root_of_file(&j, out, outlen, threads);
     return answer(error, before);
 }
@@ -425,12 +470,11 @@ int vulfsjor_tree_root_fd(void *out, size_t outlen, int fd, const void *salt, si
 int vulfsjor_tree_root_file(void *out, size_t outlen, const char *path, const void *salt,
                             size_t saltlen, const void *personal, size_t personallen,
                             uint32_t leaf_length, unsigned threads) {
-    job j = {NULL, salt, personal, saltlen, personallen, leaf_length, .file = -1};
-    int before, error = EINVAL;
+    job j = {NULL, salt, personal, saltlen, personallen, leaf_length, .file = -1, .gate = GATE};
+    int before = begin_call(), error = EINVAL;
 
-    pthread_setcancelstate(PTHREAD_CANCEL_DISABLE, &before);
     if (out && path && is_accepted(&j, outlen)) {
-        j.file = open(path, O_RDONLY | O_CLOEXEC);
+        j.file = open_path(path);
         error = j.file < 0 ? errno : root_of_file(&j, out, outlen, threads);
         if (j.file >= 0) close(j.file);
     }
@@ -440,9 +484,8 @@ int vulfsjor_tree_root_file(void *out, size_t outlen, const char *path, const vo
 int vulfsjor_tree_update_threads(vulfsjor_tree_state *S, const void *in, size_t inlen,
                                  unsigned threads) {
     vulfsjor_tree_state next;
-    int before, error = EINVAL;
+    int before = begin_call(), error = EINVAL;
 
-    pthread_setcancelstate(PTHREAD_CANCEL_DISABLE, &before);
     if (S && (in || !inlen)) {
         next = *S;
         if (!(error = update(&next, vulfsjor_text(in), inlen, threads))) *S = next;
@@ -453,11 +496,11 @@ int vulfsjor_tree_update_threads(vulfsjor_tree_state *S, const void *in, size_t 
 int vulfsjor_tree_update_fd(vulfsjor_tree_state *S, int fd, unsigned threads,
                             vulfsjor_progress progress, void *context) {
     vulfsjor_tree_state next;
-    job j = {.state = &next, .file = fd, .progress = progress, .context = context};
+    job j = {
+        .state = &next, .file = fd, .gate = GATE, .progress = progress, .context = context};
     unsigned char *buffer;
-    int before, error = EINVAL;
+    int before = begin_call(), error = EINVAL;
 
-    pthread_setcancelstate(PTHREAD_CANCEL_DISABLE, &before);
     if (S && (j.leaf_length = vulfsjor_tree_leaf_length(S))) {
         next = *S;
         buffer = malloc(PART_BYTES);

@@ -1,5 +1,5 @@
-/* BLAKE2b and BLAKE2s (RFC 7693), BLAKE2bp and BLAKE2sp: hashes, message authentication codes and
- * trees of hashes. For C99 and later, and for C++11 and later.
+/* BLAKE2b and BLAKE2s (RFC 7693), BLAKE2bp and BLAKE2sp, BLAKE2Xb and BLAKE2Xs: hashes, message
+ * authentication codes, trees of hashes and outputs of any length. For C99 and later, and for C++11 and later.
  *
  *     unsigned char digest[32];
  *     vulfsjor_blake2b_state state;
@@ -98,6 +98,10 @@ enum {
     VULFSJOR_BLAKE2SP_PERSONALBYTES = 8
 };
 
+/* The lengths of outputs of BLAKE2Xb and BLAKE2Xs that are not known in advance. */
+#define VULFSJOR_BLAKE2XB_UNKNOWN_LENGTH 0xffffffffu
+#define VULFSJOR_BLAKE2XS_UNKNOWN_LENGTH 0xffffu
+
 /* A state of BLAKE2b. Keep it in any memory with the alignment of its type. Copy it by assignment;
  * copies are independent. Do not access its fields. The inits vulfsjor_* accept memory with any
  * contents, initialized or not. All other functions, and all functions vulfsjor_ffi_*, require that
@@ -166,6 +170,36 @@ typedef struct vulfsjor_blake2sp_state {
     uint64_t output_size;          /* the bytes of the digest, 1 to 32; 0 in a wiped state */
     uint8_t key_block[64];         /* the key, followed by zeros */
 } vulfsjor_blake2sp_state;
+
+/* The output in a state of BLAKE2Xb. */
+typedef struct vulfsjor_blake2xb_reader {
+    uint8_t root[64];    /* the root hash, once the output is read */
+    uint8_t texts[32];   /* the salt and the personalization, each followed by zeros */
+    uint64_t xof_length; /* the bytes of the output, or 2^32 - 1 if that is not known in advance */
+    uint64_t position;   /* the bytes that were read */
+} vulfsjor_blake2xb_reader;
+
+/* A state of BLAKE2Xb. What the comment on vulfsjor_blake2b_state says holds for it too. */
+typedef struct vulfsjor_blake2xb_state {
+    vulfsjor_blake2b_state root;     /* the hash of the message */
+    vulfsjor_blake2xb_reader reader; /* the output */
+    uint64_t reading;                /* 0 before the output is read */
+} vulfsjor_blake2xb_state;
+
+/* The output in a state of BLAKE2Xs. */
+typedef struct vulfsjor_blake2xs_reader {
+    uint8_t root[32];    /* the root hash, once the output is read */
+    uint8_t texts[16];   /* the salt and the personalization, each followed by zeros */
+    uint64_t xof_length; /* the bytes of the output, or 2^16 - 1 if that is not known in advance */
+    uint64_t position;   /* the bytes that were read */
+} vulfsjor_blake2xs_reader;
+
+/* A state of BLAKE2Xs. What the comment on vulfsjor_blake2s_state says holds for it too. */
+typedef struct vulfsjor_blake2xs_state {
+    vulfsjor_blake2s_state root;     /* the hash of the message */
+    vulfsjor_blake2xs_reader reader; /* the output */
+    uint64_t reading;                /* 0 before the output is read */
+} vulfsjor_blake2xs_state;
 
 /* The parameter block of BLAKE2b (the BLAKE2 document, 2.8), with the field names of the reference
  * code. Without a tree, fanout and depth are 1, and node_offset, leaf_length, node_depth and
@@ -278,6 +312,8 @@ typedef char vulfsjor_layouts[sizeof(vulfsjor_blake2b_state) == 424 &&
                               sizeof(vulfsjor_blake2s_state) == 232 &&
                               sizeof(vulfsjor_blake2bp_state) == 1632 &&
                               sizeof(vulfsjor_blake2sp_state) == 1600 &&
+                              sizeof(vulfsjor_blake2xb_state) == 544 &&
+                              sizeof(vulfsjor_blake2xs_state) == 304 &&
                               sizeof(vulfsjor_tree) == 16 &&
                               sizeof(vulfsjor_tree_state) == 912 &&
                               sizeof(vulfsjor_message) == 2 * sizeof(size_t) &&
@@ -294,7 +330,6 @@ typedef char vulfsjor_layouts[sizeof(vulfsjor_blake2b_state) == 424 &&
  *   - state_size returns the length of a state.
  *   - tree_check returns 0 if vulfsjor_tree_init accepts these lengths, and -1 otherwise. */
 
-uint32_t vulfsjor_ffi_version(void);
 int32_t vulfsjor_ffi_memcmp(const uint8_t *a, size_t a_length, const uint8_t *b, size_t b_length);
 void vulfsjor_ffi_wipe(uint8_t *bytes, size_t length);
 
@@ -400,6 +435,46 @@ size_t vulfsjor_ffi_blake2sp_digest_size(const vulfsjor_blake2sp_state *state);
 uint64_t vulfsjor_ffi_blake2sp_count(const vulfsjor_blake2sp_state *state);
 size_t vulfsjor_ffi_blake2sp_state_size(void);
 
+int32_t vulfsjor_ffi_blake2xb(uint8_t *out, size_t out_length, const uint8_t *input,
+                              size_t input_length, const uint8_t *key, size_t key_length);
+int32_t vulfsjor_ffi_blake2xb_derive_key(uint8_t *out, size_t out_length, const uint8_t *key,
+                                         size_t key_length, const uint8_t *context,
+                                         size_t context_length);
+int32_t vulfsjor_ffi_blake2xb_init_salt_personal(vulfsjor_blake2xb_state *state,
+                                                 uint64_t xof_length, const uint8_t *key,
+                                                 size_t key_length, const uint8_t *salt,
+                                                 size_t salt_length, const uint8_t *personal,
+                                                 size_t personal_length);
+int32_t vulfsjor_ffi_blake2xb_update(vulfsjor_blake2xb_state *state, const uint8_t *input,
+                                     size_t input_length);
+int32_t vulfsjor_ffi_blake2xb_squeeze(vulfsjor_blake2xb_state *state, uint8_t *out,
+                                      size_t out_length);
+int32_t vulfsjor_ffi_blake2xb_reset(vulfsjor_blake2xb_state *state);
+void vulfsjor_ffi_blake2xb_wipe(vulfsjor_blake2xb_state *state);
+uint64_t vulfsjor_ffi_blake2xb_left(const vulfsjor_blake2xb_state *state);
+uint64_t vulfsjor_ffi_blake2xb_count(const vulfsjor_blake2xb_state *state);
+size_t vulfsjor_ffi_blake2xb_state_size(void);
+
+int32_t vulfsjor_ffi_blake2xs(uint8_t *out, size_t out_length, const uint8_t *input,
+                              size_t input_length, const uint8_t *key, size_t key_length);
+int32_t vulfsjor_ffi_blake2xs_derive_key(uint8_t *out, size_t out_length, const uint8_t *key,
+                                         size_t key_length, const uint8_t *context,
+                                         size_t context_length);
+int32_t vulfsjor_ffi_blake2xs_init_salt_personal(vulfsjor_blake2xs_state *state,
+                                                 uint64_t xof_length, const uint8_t *key,
+                                                 size_t key_length, const uint8_t *salt,
+                                                 size_t salt_length, const uint8_t *personal,
+                                                 size_t personal_length);
+int32_t vulfsjor_ffi_blake2xs_update(vulfsjor_blake2xs_state *state, const uint8_t *input,
+                                     size_t input_length);
+int32_t vulfsjor_ffi_blake2xs_squeeze(vulfsjor_blake2xs_state *state, uint8_t *out,
+                                      size_t out_length);
+int32_t vulfsjor_ffi_blake2xs_reset(vulfsjor_blake2xs_state *state);
+void vulfsjor_ffi_blake2xs_wipe(vulfsjor_blake2xs_state *state);
+uint64_t vulfsjor_ffi_blake2xs_left(const vulfsjor_blake2xs_state *state);
+uint64_t vulfsjor_ffi_blake2xs_count(const vulfsjor_blake2xs_state *state);
+size_t vulfsjor_ffi_blake2xs_state_size(void);
+
 int32_t vulfsjor_ffi_tree_root(uint8_t *out, size_t out_length, const uint8_t *input,
                                size_t input_length, const uint8_t *salt, size_t salt_length,
                                const uint8_t *personal, size_t personal_length,
@@ -448,7 +523,7 @@ int32_t vulfsjor_ffi_tree_part(vulfsjor_part *part, const vulfsjor_plan *plan, u
 
 /* ---- For C and C++ */
 
-/* Internal: a conversion that C makes by itself and that C++ has to be told. */
+/* Internal: a conversion that is implicit in C and explicit in C++. */
 #ifdef __cplusplus
 #define VULFSJOR_CAST(type, value) static_cast<type>(value)
 #else
@@ -466,9 +541,12 @@ static inline uint8_t *vulfsjor_bytes(void *out) {
     return VULFSJOR_CAST(uint8_t *, out);
 }
 
+/* Internal: returns VULFSJOR_VERSION_NUMBER of the header that the library was compiled with. */
+uint32_t vulfsjor_library_version(void);
+
 /* Returns the version of the library, to compare with VULFSJOR_VERSION_NUMBER of this header. */
 static inline uint32_t vulfsjor_version(void) {
-    return vulfsjor_ffi_version();
+    return vulfsjor_library_version();
 }
 
 /* Returns 0 if the first length bytes of a and b are equal, and -1 otherwise. So the result is no
@@ -1072,6 +1150,218 @@ VULFSJOR_MUST_USE static inline int vulfsjor_blake2sp(void *out, size_t outlen, 
     if (!out || (!in && inlen) || (!key && keylen)) return -1;
     return vulfsjor_ffi_blake2sp(vulfsjor_bytes(out), outlen, vulfsjor_text(in), inlen,
                                  vulfsjor_text(key), keylen);
+}
+
+/* -- BLAKE2Xb (the BLAKE2X document): an output of any length, which is read in pieces. A root hash
+ * of BLAKE2b absorbs the message, and each 64 bytes of the output are a hash of its digest. The
+ * output depends on its length: a shorter output is no beginning of a longer one. */
+
+/* Initializes a state for an output of xoflen bytes, 1 to 2^32 - 2, or of
+ * VULFSJOR_BLAKE2XB_UNKNOWN_LENGTH if the length is not known in advance: then 256 GiB can be read.
+ * The key has 0 to 64 bytes; without a key keylen is 0. The salt and the personalization have 0 to
+ * 16 bytes each, and trailing zeros in them change nothing. Returns -1 and sets the state to zero if
+ * a length is out of range. */
+static inline int vulfsjor_blake2xb_init_salt_personal(
+    vulfsjor_blake2xb_state *S, size_t xoflen, const void *key, size_t keylen, const void *salt,
+    size_t saltlen, const void *personal, size_t personallen) {
+    if (!S) return -1;
+    memset(S, 0, sizeof *S);
+    if ((!key && keylen) || (!salt && saltlen) || (!personal && personallen)) return -1;
+    return vulfsjor_ffi_blake2xb_init_salt_personal(S, xoflen, vulfsjor_text(key), keylen,
+                                                    vulfsjor_text(salt), saltlen,
+                                                    vulfsjor_text(personal), personallen);
+}
+
+/* Initializes a state for an output of xoflen bytes, as vulfsjor_blake2xb_init_salt_personal does,
+ * without key, salt and personalization. Returns -1 and sets the state to zero if xoflen is out of
+ * range. */
+static inline int vulfsjor_blake2xb_init(vulfsjor_blake2xb_state *S, size_t xoflen) {
+    return vulfsjor_blake2xb_init_salt_personal(S, xoflen, "", 0, "", 0, "", 0);
+}
+
+/* Initializes a state for an output of xoflen bytes, as vulfsjor_blake2xb_init_salt_personal does,
+ * under a key of 1 to 64 bytes, without salt and personalization. Returns -1 and sets the state to
+ * zero if a length is out of range. A key of 0 bytes is refused here. */
+static inline int vulfsjor_blake2xb_init_key(vulfsjor_blake2xb_state *S, size_t xoflen,
+                                             const void *key, size_t keylen) {
+    if (!S) return -1;
+    memset(S, 0, sizeof *S);
+    if (!key || !keylen) return -1;
+    return vulfsjor_blake2xb_init_salt_personal(S, xoflen, key, keylen, "", 0, "", 0);
+}
+
+/* Absorbs inlen bytes of input. The output does not depend on how the input is split into calls.
+ * Returns -1 if the state is not ready, if its output is already being read, or if the bytes
+ * absorbed since the init or the last reset, with 128 bytes for a key, would be 2^64 or more. The
+ * state is then unchanged. */
+VULFSJOR_MUST_USE static inline int vulfsjor_blake2xb_update(vulfsjor_blake2xb_state *S,
+                                                             const void *in, size_t inlen) {
+    if (!S || (!in && inlen)) return -1;
+    return vulfsjor_ffi_blake2xb_update(S, vulfsjor_text(in), inlen);
+}
+
+/* Writes the next outlen bytes of the output to out. The output does not depend on how it is split
+ * into calls. The first call ends the input. Returns -1 and writes nothing if the state is not
+ * ready, or if fewer than outlen bytes of the output are left. The state is then unchanged. */
+VULFSJOR_MUST_USE static inline int vulfsjor_blake2xb_squeeze(vulfsjor_blake2xb_state *S, void *out,
+                                                              size_t outlen) {
+    uint8_t none;
+    if (!S || (!out && outlen)) return -1;
+    return vulfsjor_ffi_blake2xb_squeeze(S, out ? vulfsjor_bytes(out) : &none, outlen);
+}
+
+/* Discards all input, and what was read. Output length, key, salt and personalization are kept.
+ * Returns -1 if the state is not ready. */
+static inline int vulfsjor_blake2xb_reset(vulfsjor_blake2xb_state *S) {
+    if (!S) return -1;
+    return vulfsjor_ffi_blake2xb_reset(S);
+}
+
+/* Sets every byte of the state to zero, whether it is ready or not. Does nothing if S is null. */
+static inline void vulfsjor_blake2xb_wipe(vulfsjor_blake2xb_state *S) {
+    if (S) vulfsjor_ffi_blake2xb_wipe(S);
+}
+
+/* Returns how many bytes of the output are left to read; 0 if the state is null or not ready. */
+static inline uint64_t vulfsjor_blake2xb_left(const vulfsjor_blake2xb_state *S) {
+    return S ? vulfsjor_ffi_blake2xb_left(S) : 0;
+}
+
+/* Returns the number of bytes of input absorbed since the init or the last reset; 0 if the state is
+ * null or not ready. */
+static inline uint64_t vulfsjor_blake2xb_count(const vulfsjor_blake2xb_state *S) {
+    return S ? vulfsjor_ffi_blake2xb_count(S) : 0;
+}
+
+/* Writes the BLAKE2Xb output of the input to out: outlen bytes, 1 to 2^32 - 2, under a key of 0 to
+ * 64 bytes; without a key keylen is 0. Returns -1 and writes nothing if a length is out of range, or
+ * if the input and 128 bytes for a key have 2^64 bytes or more. */
+VULFSJOR_MUST_USE static inline int vulfsjor_blake2xb(void *out, size_t outlen, const void *in,
+                                                      size_t inlen, const void *key,
+                                                      size_t keylen) {
+    if (!out || (!in && inlen) || (!key && keylen)) return -1;
+    return vulfsjor_ffi_blake2xb(vulfsjor_bytes(out), outlen, vulfsjor_text(in), inlen,
+                                 vulfsjor_text(key), keylen);
+}
+
+/* Derives a key of outlen bytes, 1 to 2^32 - 2, from a key of 1 to 64 bytes, for a context: the
+ * BLAKE2Xb output of the context under the key. Each purpose has a context of its own. Keys for
+ * different contexts, and keys of different lengths, are outputs of different inputs. Returns -1 and
+ * writes nothing if a length is out of range, or if the context and 128 bytes have 2^64 bytes or
+ * more. */
+VULFSJOR_MUST_USE static inline int vulfsjor_blake2xb_derive_key(void *out, size_t outlen,
+                                                                 const void *key, size_t keylen,
+                                                                 const void *context,
+                                                                 size_t contextlen) {
+    if (!out || !key || (!context && contextlen)) return -1;
+    return vulfsjor_ffi_blake2xb_derive_key(vulfsjor_bytes(out), outlen, vulfsjor_text(key), keylen,
+                                            vulfsjor_text(context), contextlen);
+}
+
+/* -- BLAKE2Xs (the BLAKE2X document): an output of any length, which is read in pieces. A root hash
+ * of BLAKE2s absorbs the message, and each 32 bytes of the output are a hash of its digest. The
+ * output depends on its length: a shorter output is no beginning of a longer one. */
+
+/* Initializes a state for an output of xoflen bytes, 1 to 2^16 - 2, or of
+ * VULFSJOR_BLAKE2XS_UNKNOWN_LENGTH if the length is not known in advance: then 128 GiB can be read.
+ * The key has 0 to 32 bytes; without a key keylen is 0. The salt and the personalization have 0 to
+ * 16 bytes each, and trailing zeros in them change nothing. Returns -1 and sets the state to zero if
+ * a length is out of range. */
+static inline int vulfsjor_blake2xs_init_salt_personal(
+    vulfsjor_blake2xs_state *S, size_t xoflen, const void *key, size_t keylen, const void *salt,
+    size_t saltlen, const void *personal, size_t personallen) {
+    if (!S) return -1;
+    memset(S, 0, sizeof *S);
+    if ((!key && keylen) || (!salt && saltlen) || (!personal && personallen)) return -1;
+    return vulfsjor_ffi_blake2xs_init_salt_personal(S, xoflen, vulfsjor_text(key), keylen,
+                                                    vulfsjor_text(salt), saltlen,
+                                                    vulfsjor_text(personal), personallen);
+}
+
+/* Initializes a state for an output of xoflen bytes, as vulfsjor_blake2xs_init_salt_personal does,
+ * without key, salt and personalization. Returns -1 and sets the state to zero if xoflen is out of
+ * range. */
+static inline int vulfsjor_blake2xs_init(vulfsjor_blake2xs_state *S, size_t xoflen) {
+    return vulfsjor_blake2xs_init_salt_personal(S, xoflen, "", 0, "", 0, "", 0);
+}
+
+/* Initializes a state for an output of xoflen bytes, as vulfsjor_blake2xs_init_salt_personal does,
+ * under a key of 1 to 32 bytes, without salt and personalization. Returns -1 and sets the state to
+ * zero if a length is out of range. A key of 0 bytes is refused here. */
+static inline int vulfsjor_blake2xs_init_key(vulfsjor_blake2xs_state *S, size_t xoflen,
+                                             const void *key, size_t keylen) {
+    if (!S) return -1;
+    memset(S, 0, sizeof *S);
+    if (!key || !keylen) return -1;
+    return vulfsjor_blake2xs_init_salt_personal(S, xoflen, key, keylen, "", 0, "", 0);
+}
+
+/* Absorbs inlen bytes of input. The output does not depend on how the input is split into calls.
+ * Returns -1 if the state is not ready, if its output is already being read, or if the bytes
+ * absorbed since the init or the last reset, with 64 bytes for a key, would be 2^64 or more. The
+ * state is then unchanged. */
+VULFSJOR_MUST_USE static inline int vulfsjor_blake2xs_update(vulfsjor_blake2xs_state *S,
+                                                             const void *in, size_t inlen) {
+    if (!S || (!in && inlen)) return -1;
+    return vulfsjor_ffi_blake2xs_update(S, vulfsjor_text(in), inlen);
+}
+
+/* Writes the next outlen bytes of the output to out. The output does not depend on how it is split
+ * into calls. The first call ends the input. Returns -1 and writes nothing if the state is not
+ * ready, or if fewer than outlen bytes of the output are left. The state is then unchanged. */
+VULFSJOR_MUST_USE static inline int vulfsjor_blake2xs_squeeze(vulfsjor_blake2xs_state *S, void *out,
+                                                              size_t outlen) {
+    uint8_t none;
+    if (!S || (!out && outlen)) return -1;
+    return vulfsjor_ffi_blake2xs_squeeze(S, out ? vulfsjor_bytes(out) : &none, outlen);
+}
+
+/* Discards all input, and what was read. Output length, key, salt and personalization are kept.
+ * Returns -1 if the state is not ready. */
+static inline int vulfsjor_blake2xs_reset(vulfsjor_blake2xs_state *S) {
+    if (!S) return -1;
+    return vulfsjor_ffi_blake2xs_reset(S);
+}
+
+/* Sets every byte of the state to zero, whether it is ready or not. Does nothing if S is null. */
+static inline void vulfsjor_blake2xs_wipe(vulfsjor_blake2xs_state *S) {
+    if (S) vulfsjor_ffi_blake2xs_wipe(S);
+}
+
+/* Returns how many bytes of the output are left to read; 0 if the state is null or not ready. */
+static inline uint64_t vulfsjor_blake2xs_left(const vulfsjor_blake2xs_state *S) {
+    return S ? vulfsjor_ffi_blake2xs_left(S) : 0;
+}
+
+/* Returns the number of bytes of input absorbed since the init or the last reset; 0 if the state is
+ * null or not ready. */
+static inline uint64_t vulfsjor_blake2xs_count(const vulfsjor_blake2xs_state *S) {
+    return S ? vulfsjor_ffi_blake2xs_count(S) : 0;
+}
+
+/* Writes the BLAKE2Xs output of the input to out: outlen bytes, 1 to 2^16 - 2, under a key of 0 to
+ * 64 bytes; without a key keylen is 0. Returns -1 and writes nothing if a length is out of range, or
+ * if the input and 64 bytes for a key have 2^64 bytes or more. */
+VULFSJOR_MUST_USE static inline int vulfsjor_blake2xs(void *out, size_t outlen, const void *in,
+                                                      size_t inlen, const void *key,
+                                                      size_t keylen) {
+    if (!out || (!in && inlen) || (!key && keylen)) return -1;
+    return vulfsjor_ffi_blake2xs(vulfsjor_bytes(out), outlen, vulfsjor_text(in), inlen,
+                                 vulfsjor_text(key), keylen);
+}
+
+/* Derives a key of outlen bytes, 1 to 2^16 - 2, from a key of 1 to 32 bytes, for a context: the
+ * BLAKE2Xs output of the context under the key. Each purpose has a context of its own. Keys for
+ * different contexts, and keys of different lengths, are outputs of different inputs. Returns -1 and
+ * writes nothing if a length is out of range, or if the context and 64 bytes have 2^64 bytes or
+ * more. */
+VULFSJOR_MUST_USE static inline int vulfsjor_blake2xs_derive_key(void *out, size_t outlen,
+                                                                 const void *key, size_t keylen,
+                                                                 const void *context,
+                                                                 size_t contextlen) {
+    if (!out || !key || (!context && contextlen)) return -1;
+    return vulfsjor_ffi_blake2xs_derive_key(vulfsjor_bytes(out), outlen, vulfsjor_text(key), keylen,
+                                            vulfsjor_text(context), contextlen);
 }
 
 /* -- The tree of two levels over BLAKE2b (the BLAKE2 document, 2.10). The message is cut into

@@ -8,8 +8,8 @@
  * library, and are tested, not proved.
  *
  * The root depends on the leaf length, and never on the number of threads. Each thread hashes
- * ranges of leaves (vulfsjor_tree_leaves). The caller's thread is one of them, and hashes the
- * digests of the leaves at the end. All threads have ended when a call returns.
+ * ranges of leaves (vulfsjor_tree_leaves), and the digests of the leaves are hashed meanwhile, in
+ * their order. The caller's thread is one of them. All threads have ended when a call returns.
  *
  * threads is the number of threads that hash, with the caller's: at most 256, and 0 is one for each
  * processor that the caller's thread may run on. A call uses at most one thread for each 256 KiB of
@@ -27,10 +27,11 @@
  * and those of open, fstat, lseek, read and pread. EINTR comes only from open: an interrupted read
  * is repeated.
  *
- * A call allocates 64 bytes for each leaf, except with one thread in memory and for files that one
- * thread reads to the end. For a file each thread also allocates a buffer: up to 1 MiB or four
- * leaves, whichever is more, and at most 16 MiB. vulfsjor_tree_update_fd needs at most 16 MiB for
- * digests, however long the file is, and one buffer of 1 MiB more.
+ * For digests of leaves a root needs about 2 MiB for each thread at most, however long the message
+ * is. vulfsjor_tree_update_threads allocates 64 bytes for each leaf of its input, and
+ * vulfsjor_tree_update_fd at most 16 MiB for digests. For a file each thread also allocates a
+ * buffer: up to 1 MiB or four leaves, whichever is more, and at most 16 MiB. vulfsjor_tree_update_fd
+ * has one buffer of 1 MiB more. With one thread a message in memory needs nothing.
  *
  * The threads that a call starts block all signals except SIGBUS and SIGSEGV. A call is not a
  * cancellation point. Several threads may call at the same time, as long as none writes to the

@@ -1,6 +1,6 @@
 /* libb2's functions under their own names, over vulfsjor.h: for programs that look for libb2 by
  * linking with it (configure scripts), and for objects that were compiled with libb2's own header.
- * c/join.sh puts them and the library into libvulfsjor-libb2.a. They are those of
+ * c/make_libraries.sh puts them and the library into libvulfsjor-libb2.a. They are those of
  * ../include/libb2/blake2.h, for linking, and have the same states.
  *
  * c/LIBB2.md lists the differences from libb2. */

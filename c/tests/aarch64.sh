@@ -1,15 +1,16 @@
 #!/usr/bin/env bash
 # Tests the library and the program for aarch64, by a compiler for it and on an emulated processor.
-source "$(dirname "$(readlink -f "$0")")/installed.sh"
-. "$tests/languages.sh"
+source "$(dirname "$(readlink -f "$0")")/common.sh"
+. "$tests/library.sh"
 . "$tests/threads.sh"
 . "$tests/installing.sh"
 arm=aarch64-linux-gnu-gcc
 
-# That compiler in the place of cc. What it links is run by a script of its name.
+# That compiler in the place of cc. What it links is run by a script of its name; an object stays one.
 cc() {
     local program libraries
     "$arm" "$@" || return
+    [[ " $* " != *" -c "* ]] || return 0
     while [ $# -gt 2 ] && [ "$1" != -o ]; do shift; done
     program=$2
     libraries=$(dirname "$(dirname "$("$arm" -print-file-name=ld-linux-aarch64.so.1)")")
@@ -19,10 +20,10 @@ cc() {
         chmod +x "$program"
 }
 
-linked_for_arm() {
-    cc -std=c99 -O2 "${warnings[@]}" -I"$include" "$tests/linked.c" "$1" -o "$work/linked" \
+first_calls_for_arm() {
+    cc -std=c99 -O2 "${warnings[@]}" -I"$include" "$tests/first_calls.c" "$1" -o "$work/first_calls" \
         -pthread &&
-        LD_LIBRARY_PATH=$prefix/lib "$work/linked"
+        LD_LIBRARY_PATH=$prefix/lib "$work/first_calls"
 }
 
 libb2_for_arm() {
@@ -30,10 +31,31 @@ libb2_for_arm() {
         "$prefix/lib/libvulfsjor-libb2.a" && "$work/libb2" "$cases/$family"
 }
 
-# The program of dist/ for aarch64, by so many cases of each command.
+# Branch protection: each object is marked, so a program is without a demand, and a linker that demands
+# marks takes them. On a processor that enforces it, calls through pointers return.
+protected_by_bti() {
+    local words=(-O1 -mbranch-protection=bti -ffreestanding -fno-stack-protector -nostdlib -static -I"$include")
+    are_marked "AArch64 feature: BTI" aarch64-linux-gnu- "$prefix"/lib/libvulfsjor{,-libb2,-threads}.a &&
+        "$arm" "${words[@]}" "${warnings[@]}" -Wl,-z,force-bti -Wl,--fatal-warnings -Wl,--gc-sections \
+            "$tests/bti.c" "$archive" -o "$work/forced" && qemu-aarch64 -cpu max "$work/forced" &&
+        "$arm" "${words[@]}" -Wl,--gc-sections "$tests/bti.c" "$archive" -o "$work/marked" &&
+        aarch64-linux-gnu-readelf -nW "$work/marked" | grep -q 'feature: BTI$' &&
+        qemu-aarch64 -cpu max "$work/marked"
+}
+
+# The programs, whose objects are marked too, except those of the C library.
+programs_are_marked() {
+    local name
+    for name in b2 b2sum; do
+        CC=$arm LDFLAGS=-Wl,-z,force-bti "$top/$name" --build "$work/bti_$name" 2>"$work/said" || return 1
+        ! grep -i "bti" "$work/said" | grep "warning" | grep -vE ': /usr/' || return 1
+    done
+}
+
+# The program of dist/ for aarch64, by this many cases of each command.
 program_for_arm() {
     assemble "$dist/aarch64/b2.s" "$work/b2" "${warnings[@]}" &&
-        python3 "$top/tests/specification.py" --program "$work/b2" --cases "$1"
+        python3 "$top/tests/compare_model.py" --program "$work/b2" --cases "$1"
 }
 
 # The program b2sum of dist/ for aarch64: a digest, a check and a root by several threads.
@@ -55,7 +77,7 @@ test_aarch64() {
     all=$cases cases=$work/cases
     mkdir "$cases"
     for family in b s; do awk 'NR % 11 == 1' "$all/$family" >"$cases/$family"; done
-    cp "$all"/[bs]p "$cases/"
+    cp "$all"/[bs]p "$all"/x[bs] "$cases/"
     prefix=$work/prefix include=$work/prefix/include libb2=$work/prefix/include/vulfsjor-libb2
     archive=$prefix/lib/libvulfsjor.a shared=$prefix/lib/libvulfsjor.so
     check "install.sh with CC=$arm" env "CC=$arm" "$here/install.sh" --from "$dist" "$prefix" ||
@@ -63,25 +85,31 @@ test_aarch64() {
     for family in b s; do
         check "test.c, blake2$family, for aarch64" compile_and_run "$work/test" -O2 \
             $(family_words $family) "$archive"
-        check "test.c, blake2$family, for aarch64, with the shared library" with_shared_library
-        check "edges.c, blake2$family, for aarch64" compare_lines edges -O2 -I"$include"
+        check_once "test.c, blake2$family, for aarch64, with the shared library" with_shared_library
+        check "edge_cases.c, blake2$family, for aarch64" compare_lines edge_cases -O2 -I"$include"
         check "key_scan.c, blake2$family, for aarch64" scan_for_keys
-        check "libb2_header.c, blake2$family, for aarch64" compare_lines libb2_header -O2 \
+        check_once "libb2_header.c, blake2$family, for aarch64" compare_lines libb2_header -O2 \
             -I"$libb2"
-        check "libb2's names, blake2$family, for aarch64" libb2_for_arm
+        check_once "libb2's names, blake2$family, for aarch64" libb2_for_arm
     done
     for family in bp sp; do
         check "parallel.c, blake2$family, for aarch64" parallel_cases -O2 "$archive"
         check "key_scan.c, blake2$family, for aarch64" scan_for_keys
     done
+    for family in xb xs; do
+        check "xof.c, blake2$family, for aarch64" output_cases "$cases/$family" -O2 "$archive"
+        check "key_scan.c, blake2$family, for aarch64" scan_for_keys
+    done
     for library in "$archive" "$shared"; do
-        check "calls of a constructor and of threads, for aarch64, ${library##*.}" linked_for_arm \
+        check "calls of a constructor and of threads, for aarch64, ${library##*.}" first_calls_for_arm \
             "$library"
     done
-    check "parts.c, for aarch64" parts_with 500 -O2
-    check "the program c/examples/tree_sum.c, for aarch64" tree_sum_example
-    check "a project with the files by hand, for aarch64" vendored_by_hand
-    check "b2 for aarch64" program_for_arm $([ -n "${VULFSJOR_TEST_HUGE-}" ] && echo 40 || echo 15)
+    check "branch protection, for aarch64" protected_by_bti
+    check "marks of the programs, for aarch64" programs_are_marked
+    check "tree_parts.c, for aarch64" parts_with "$(turns 500)" -O2
+    check_huge "the program c/examples/tree_sum.c, for aarch64" tree_sum_example
+    check_huge "a project with the files by hand, for aarch64" vendored_by_hand
+    check "b2 for aarch64" program_for_arm $([ -n "${VULFSJOR_TEST_HUGE-}" ] && echo 40 || echo 8)
     check "b2sum for aarch64" sums_for_arm
 }
 

@@ -10,7 +10,7 @@
 #define OWN_HEADER
 #include "check.h"
 #include "family.h"
-#include "libb2_names.h"
+#include "libb2_family.h"
 #include "texts.h"
 
 enum { STRIPE = 512, LONGEST = 12 * STRIPE };

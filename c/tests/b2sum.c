@@ -1,8 +1,9 @@
 /* Calls each function of ../b2sum.c, with the functions of the system and of the library that it
- * calls replaced. program.sh has the command.
+ * calls replaced. programs.sh has the command.
  *
- * It prints each check that does not hold, and its status is 7 if all hold. With the argument
- * --progress, or that cut short, it checks what is shown; with other arguments, that nothing is. */
+ * It prints each check that does not hold, and its status is 7 if all hold. With SHOWS in the
+ * environment it checks what is shown of progress, if NO_TERMINAL is not there; otherwise that
+ * nothing is. */
 #define _GNU_SOURCE
 #include <errno.h>
 #include <fcntl.h>
@@ -23,6 +24,8 @@
 
 int b2sum_open(const char *name, int flags, ...);
 ssize_t b2sum_read(int file, void *bytes, size_t size);
+int b2sum_close(int file);
+int b2sum_strerror(int error, char *text, size_t size);
 void (*b2sum_signal(int number, void (*handler)(int)))(int);
 int b2sum_end(int status);
 
@@ -52,7 +55,7 @@ int __wrap_openat(int folder, const char *name, int flags, ...) {
     return fault() ? -1 : opened_as;
 }
 
-/* The file that is read from its start to its end, as the system is told. */
+/* The file that is read from its start to its end, as the system is advised. */
 static int advised;
 int __wrap_posix_fadvise(int file, off_t from, off_t length, int advice) {
     CHECK(from == 0 && length == 0 && advice == POSIX_FADV_SEQUENTIAL);
@@ -85,7 +88,7 @@ int __wrap_dprintf(int file, const char *format, ...) {
     return -1;
 }
 
-/* A read returns up to so many bytes. */
+/* A read returns up to this many bytes. */
 static ssize_t next_count;
 static int read_from;
 ssize_t __wrap_readv(int file, const struct iovec *room, int count) {
@@ -158,7 +161,7 @@ static void check_open(void) {
     error_of_calls = 0;
     advised = 0;
     CHECK(opens_as("a", "a") && advised == 9);
-    CHECK(b2sum_open("a", O_RDONLY | O_CREAT) == 9 && opened_flags == O_RDONLY);
+    CHECK(b2sum_open("a", O_RDWR | O_CREAT) == 9 && opened_flags == (O_RDONLY | O_CLOEXEC));
 }
 
 /* What the end with this status returns if the closing of the outputs fails by these errors, and
@@ -183,19 +186,20 @@ static int ends_after_input(int status, int input) {
     return status;
 }
 
-/* A file may have the number of standard input, if that was closed at the start. */
+/* A file that gets the number of a stream, since that was closed at the start, moves above those, and
+ * the stream stays closed. What is read from number 0 is standard input. */
 static void check_input(void) {
     char byte[1];
+    int file;
 
     next_count = 0;
-    opened_as = 0;
-    CHECK(b2sum_open("a", O_RDONLY) == 0 && b2sum_read(0, byte, 1) == 0);
-    error_of_calls = EIO;
-    CHECK(b2sum_read(0, byte, 1) == -1 && ends_with(0, 0, 0) == 0);
-    error_of_calls = EBADF;
-    CHECK(b2sum_read(9, byte, 1) == -1 && ends_with(0, 0, 0) == 0);
-    CHECK(b2sum_read(0, byte, 1) == -1);
-    error_of_calls = 0;
+    for (opened_as = 0; opened_as <= 2; opened_as++) {
+        closed_count = 0;
+        file = b2sum_open("a", O_RDONLY);
+        CHECK(file > 2 && closed_count == 1 && closed[0] == opened_as && advised == file);
+        __real_close(file);
+    }
+    CHECK(b2sum_read(9, byte, 1) == 0 && ends_with(0, 0, 0) == 0 && b2sum_read(0, byte, 1) == 0);
     opened_as = 9;
     CHECK(ends_after_input(0, EBADF) == 1);
     CHECK(!strcmp(said, "b2sum: standard input: Bad file descriptor\n"));
@@ -216,10 +220,23 @@ static void check_end(void) {
 
 /* The runtime's wish to ignore SIGPIPE changes nothing. */
 static void check_signal(void) {
-    CHECK(signal(SIGPIPE, SIG_DFL) != SIG_ERR && b2sum_signal(SIGPIPE, SIG_IGN) == SIG_DFL);
+    CHECK(signal(SIGPIPE, SIG_DFL) != SIG_ERR && !b2sum_signal(SIGPIPE, SIG_IGN));
     CHECK(signal(SIGPIPE, SIG_IGN) == SIG_DFL);
     b2sum_signal(SIGPIPE, SIG_DFL);
     CHECK(signal(SIGPIPE, SIG_DFL) == SIG_IGN);
+}
+
+/* What a file is closed by, and the text of an error, as much of it as there is room for. */
+static void check_rest(void) {
+    char text[16] = "###############";
+
+    closed_count = 0;
+    error_of_close[2] = EIO;
+    CHECK(b2sum_close(2) == -1 && errno == EIO && closed_count == 1 && closed[0] == 2);
+    error_of_close[2] = 0;
+    CHECK(b2sum_close(2) == 0 && closed_count == 2 && b2sum_close(dup(2)) == 0);
+    CHECK(b2sum_strerror(EISDIR, text, 15) == 0 && !strcmp(text, "Is a directory"));
+    CHECK(b2sum_strerror(EISDIR, text, 6) == 0 && !memcmp(text, "Is a \0irectory", 15));
 }
 
 static void check_read(void) {
@@ -239,7 +256,7 @@ static void check_read(void) {
 
 /* ---- Trees. */
 
-/* What the update by threads was called with, by which name; its status, after so many reports. */
+/* What the update by threads was called with, by which name; its status, after this many reports. */
 static struct {
     int count, file, status, reports;
     unsigned threads;
@@ -264,9 +281,9 @@ int vulfsjor_tree_update_fd(vulfsjor_tree_state *S, int fd, unsigned threads,
     return update.status;
 }
 
-/* What a proved function was called with, and returns. */
+/* What the proved function was called with, and returns. */
 static struct {
-    int build, file;
+    int file;
     unsigned threads;
     void *source, *buffer;
     size_t room;
@@ -274,46 +291,39 @@ static struct {
     bool result;
 } proved;
 
-/* The function of a build, and the proved one of its assembly. */
-#define ABSORB(n)                                                                              \
-    bool absorb_##n(void *source, int file, unsigned threads, vulfsjor_tree_state *state,      \
-                    void *buffer, size_t room) __asm__("absorb." #n);                                        \
-    bool proved_##n(void *source, int file, unsigned threads, vulfsjor_tree_state *state,      \
-                    void *buffer, size_t room) __asm__("proved." #n);                                        \
-    bool proved_##n(void *source, int file, unsigned threads, vulfsjor_tree_state *state,      \
-                    void *buffer, size_t room) {                                                             \
-        absorbed++;                                                                            \
-        proved.build = n;                                                                      \
-        proved.source = source;                                                                \
-        proved.file = file;                                                                    \
-        proved.threads = threads;                                                              \
-        proved.state = state;                                                                  \
-        proved.buffer = buffer;                                                                \
-        proved.room = room;                                                                    \
-        return proved.result;                                                                  \
-    }
-ABSORB(2)
-ABSORB(3)
-ABSORB(4)
+/* The function that the assembly calls, and its proved one. */
+#define ARGUMENTS \
+    void *source, int file, unsigned threads, vulfsjor_tree_state *state, void *buffer, size_t room
+bool absorb_tree(ARGUMENTS) __asm__("absorb.tree");
+bool proved_tree(ARGUMENTS) __asm__("proved.tree");
+bool proved_tree(ARGUMENTS) {
+    absorbed++;
+    proved.source = source;
+    proved.file = file;
+    proved.threads = threads;
+    proved.state = state;
+    proved.buffer = buffer;
+    proved.room = room;
+    return proved.result;
+}
 
-/* Whether the function of a build calls the proved one once, with its arguments, and returns what
- * that returns; and, before that, so many updates by threads, of the same file. */
-static int absorbs(int build, int file, int updates) {
+/* Whether the function calls the proved one once, with its arguments, and returns what that
+ * returns; and, before that, this many updates by threads, of the same file. */
+static int absorbs(int file, int updates) {
     static vulfsjor_tree_state state;
     static char source, buffer[7];
     bool result;
 
     memset(&update.count, 0, sizeof update.count);
     absorbed = 0;
-    result = (build == 2 ? absorb_2 : build == 3 ? absorb_3 : absorb_4)(&source, file, 7, &state,
-                                                                        buffer, sizeof buffer);
-    return absorbed == 1 && proved.build == build && proved.source == &source &&
-           proved.file == file && proved.threads == 7 && proved.state == &state && proved.buffer == buffer &&
+    result = absorb_tree(&source, file, 7, &state, buffer, sizeof buffer);
+    return absorbed == 1 && proved.source == &source && proved.file == file &&
+           proved.threads == 7 && proved.state == &state && proved.buffer == buffer &&
            proved.room == sizeof buffer && result == proved.result && update.count == updates &&
            (!updates || (update.file == file && update.state == &state && update.threads == 7));
 }
 
-/* A file of so many bytes, at this position. */
+/* A file of this many bytes, at this position. */
 static int file_of(off_t length, off_t from) {
     FILE *stream = tmpfile();
     const int file = dup(fileno(stream));
@@ -326,17 +336,17 @@ static void check_trees(void) {
     const int large = file_of(LEAST + 7, 7), small = file_of(LEAST + 7, 8), none = file_of(0, 9);
     int ends[2];
 
-    for (int build = 2; build <= 4; build++) {
-        proved.result = build == 3;
-        CHECK(lseek(large, 7, SEEK_SET) == 7 && absorbs(build, large, 1));
+    for (int result = 0; result < 2; result++) {
+        proved.result = result;
+        CHECK(lseek(large, 7, SEEK_SET) == 7 && absorbs(large, 1));
         CHECK(lseek(large, 0, SEEK_CUR) == 8); /* the update is where it stopped */
     }
-    CHECK(absorbs(2, large, 0) && absorbs(2, small, 0) && absorbs(2, none, 0));
+    CHECK(absorbs(large, 0) && absorbs(small, 0) && absorbs(none, 0));
     CHECK(lseek(small, 0, SEEK_CUR) == 8 && lseek(none, 0, SEEK_CUR) == 9);
-    CHECK(!pipe(ends) && absorbs(2, ends[0], 0) && absorbs(2, -1, 0));
+    CHECK(!pipe(ends) && absorbs(ends[0], 0) && absorbs(-1, 0));
     proved.result = true;
     update.status = -1;
-    CHECK(lseek(large, 7, SEEK_SET) == 7 && absorbs(3, large, 1));
+    CHECK(lseek(large, 7, SEEK_SET) == 7 && absorbs(large, 1));
     CHECK(lseek(large, 0, SEEK_CUR) == 7); /* nothing was read */
     update.status = 0;
     __real_close(large);
@@ -346,9 +356,7 @@ static void check_trees(void) {
 
 /* ---- Secrets. */
 
-void hide_2(void) __asm__("hide.2");
-void hide_3(void) __asm__("hide.3");
-void hide_4(void) __asm__("hide.4");
+void hide_memory(void) __asm__("hide.memory");
 void *b2sum_realloc(void *place, size_t size);
 void b2sum_free(void *place);
 
@@ -452,12 +460,9 @@ static void check_secrets(void) {
     error_of_close[1] = error_of_close[2] = 0;
     memset(freed, 's', SOME);
     CHECK(frees_as('s') && wipes_stack(0) && !hidden && !limited);
-    hide_2();
+    hide_memory();
     CHECK(hidden == 1 && limited == 1);
     CHECK(frees_as(0) && wipes_stack(1));
-    hide_3();
-    hide_4();
-    CHECK(hidden == 3 && limited == 3);
     block = block_of('s');
     has_no_memory = 1;
     CHECK(!b2sum_realloc(block, 1) && are_all(block, SOME, 's'));
@@ -467,7 +472,7 @@ static void check_secrets(void) {
 
 /* ---- Progress. */
 
-/* Reads so many bytes at this time, and returns whether that writes these. Of many bytes only the
+/* Reads this many bytes at this time, and returns whether that writes these. Of many bytes only the
  * number is known. */
 static int shows(long long at, ssize_t count, const char *wanted) {
     static char bytes[1 << 20];
@@ -481,6 +486,8 @@ static int shows(long long at, ssize_t count, const char *wanted) {
     written[0] = 0;
     return is_same;
 }
+
+void show_progress(void) __asm__("show.progress");
 
 static void check_progress(void) {
     char name[50];
@@ -531,13 +538,14 @@ static void check_length(void) {
 }
 
 int checks(void) {
-    const char *wanted = getenv("SHOWS");
+    const bool is_wanted = getenv("SHOWS");
 
     is_terminal = !getenv("NO_TERMINAL");
-    is_shown = is_terminal && wanted;
+    is_shown = is_terminal && is_wanted;
     check_end();
-    if (!wanted) check_input();
-    if (wanted) {
+    if (!is_wanted) check_input();
+    if (is_wanted) show_progress();
+    if (is_shown) {
         check_progress();
         check_length();
     } else {
@@ -546,6 +554,7 @@ int checks(void) {
     }
     check_open();
     check_signal();
+    check_rest();
     check_read();
     check_trees();
     CHECK(!strcmp(written, ""));

@@ -7,10 +7,10 @@
  *                    first call has ended the program
  *   choose compiler  also prints the level that the compiler's own test of the processor finds
  *
- * With PROCESSOR the processor is made up (processor.h), and each bit that a level needs is cleared
- * separately. */
+ * With PROCESSOR the processor is made up (fake_cpuid.h), and each bit that a level needs is
+ * cleared separately. */
 #ifdef PROCESSOR
-#define CHOOSE_PROCESSOR "processor.h"
+#define CHOOSE_PROCESSOR "fake_cpuid.h"
 #endif
 #define CHOOSE_FUNCTIONS "functions.h"
 #include "../choose.c"
@@ -30,7 +30,7 @@ typedef uint32_t half;
 #define PARAMETERS                                                                            \
     number a, number b, number c, number d, number e, number f, uint8_t g, uint8_t h, half i, \
         number j, uint8_t k, uint8_t l, number m, number n, number o, number p
-static number told(PARAMETERS) {
+static number weighed(PARAMETERS) {
     return 2 * a + 3 * b + 5 * c + 7 * d + 11 * e + 13 * f + 17 * g + 19 * h + 23 * i + 29 * j +
            31 * k + 37 * l + 41 * m + 43 * n + 47 * o + 53 * p;
 }
@@ -38,9 +38,9 @@ static number told(PARAMETERS) {
 number probe_arguments_v2(PARAMETERS) __asm__(IN_BUILD("probe_arguments", "v2"));
 number probe_arguments_v3(PARAMETERS) __asm__(IN_BUILD("probe_arguments", "v3"));
 number probe_arguments_v4(PARAMETERS) __asm__(IN_BUILD("probe_arguments", "v4"));
-__attribute__((noinline)) number probe_arguments_v2(PARAMETERS) { return told(GIVEN) + 2; }
-__attribute__((noinline)) number probe_arguments_v3(PARAMETERS) { return told(GIVEN) + 3; }
-__attribute__((noinline)) number probe_arguments_v4(PARAMETERS) { return told(GIVEN) + 4; }
+__attribute__((noinline)) number probe_arguments_v2(PARAMETERS) { return weighed(GIVEN) + 2; }
+__attribute__((noinline)) number probe_arguments_v3(PARAMETERS) { return weighed(GIVEN) + 3; }
+__attribute__((noinline)) number probe_arguments_v4(PARAMETERS) { return weighed(GIVEN) + 4; }
 number probe_arguments(PARAMETERS);
 
 /* Whether the stack is as a function may take it to be: 8 beyond a multiple of 16. */
@@ -62,7 +62,7 @@ int probe(void);
 /* The arguments arrive, by a call that asks and by one that does not. */
 static void check_arguments(int level) {
     const number big = ~0ull - 6,
-                 wanted = told(big, 2, 3, 4, 5, big, 7, 8, 9, 10, 11, 12, big, 14, 15, 16) + level;
+                 wanted = weighed(big, 2, 3, 4, 5, big, 7, 8, 9, 10, 11, 12, big, 14, 15, 16) + level;
 
     for (int asked = 0; asked < 2; asked++) {
         if (!asked) vulfsjor_ffi_level = 0;

@@ -1,6 +1,6 @@
 #!/usr/bin/env bash
 # Tests the choice between the builds, and what the libraries show.
-source "$(dirname "$(readlink -f "$0")")/installed.sh"
+source "$(dirname "$(readlink -f "$0")")/common.sh"
 
 # The texts of the builds.
 texts=("$dist"/x86_64/vulfsjor-v{2,3,4}.s)
@@ -9,7 +9,7 @@ is_x86 || here_texts=("$dist/aarch64/vulfsjor.s")
 
 # The functions that vulfsjor.h declares, by the compiler's reading of it.
 names_of_header() {
-    echo '#include <vulfsjor.h>' | cc -E -I"$include" - | grep -o '\bvulfsjor_ffi_[a-z0-9_]* *(' |
+    echo '#include <vulfsjor.h>' | cc -E -I"$include" - | grep -oE '\bvulfsjor_(ffi_[a-z0-9_]*|library_version) *\(' |
         tr -d ' (' |
         LC_ALL=C sort -u
 }
@@ -18,15 +18,15 @@ names_of_object() {
     nm "$@" | awk 'NF == 3 && $2 ~ /[A-Z]/ { print $3 }' | sed 's/@.*//' | LC_ALL=C sort -u
 }
 
-# Names that an archive has for itself: those of the builds, which have the version in them, and
-# those of choose.c.
-without_own() { sed "/_$(version _)_[a-z0-9]*\$/d;/^vulfsjor_ffi_\(ask\|find\|level\)\$/d"; }
+# Names that an archive has for itself: those of the builds, which have the number of the code in
+# them, and those of choose.c.
+without_own() { sed "/_$(code_number)_[a-z0-9]*\$/d;/^vulfsjor_ffi_\(ask\|find\|level\)\$/d"; }
 
 # Header, archive and shared library have the same functions, and show nothing else.
 names_are_one() {
     names_of_header >"$work/names" && [ "$(wc -l <"$work/names")" -ge 29 ] || return 1
     names_of_object -g --defined-only "$archive" | without_own | diff "$work/names" - || return 1
-    names_of_object -D --defined-only "$shared" | sed '/^VULFSJOR_0$/d' | diff "$work/names" -
+    names_of_object -D --defined-only "$shared" | sed '/^VULFSJOR_0[.]1$/d' | diff "$work/names" -
 }
 
 # One function more or one less in a file is refused before anything is made.
@@ -34,25 +34,27 @@ join_refuses_a_difference() {
     local copy=$work/copy file edit wanted given
     mkdir -p "$copy" && cp "${texts[@]}" "$dist/c/vulfsjor.c" "$copy" || return 1
     while read -r file wanted edit; do
-        cp -R "$here"/{choose.c,calls.h,threads.c,join.sh,include,libb2} "$copy" &&
+        cp -R "$here"/{choose.c,thunks.h,vulfsjor.map,threads.c,system.h,make_libraries.sh,include,libb2} "$copy" &&
             cp "$copy/$file" "$work/kept" && sed -i "$edit" "$copy/$file" &&
             ! cmp -s "$copy/$file" "$work/kept" || return 1
         given=("${texts[@]/#*\//$copy/}")
         [ "$file" != vulfsjor.c ] || given=("$copy/$file")
-        ! "$copy/join.sh" "$work/refused" "${given[@]}" 2>"$work/said" &&
+        ! "$copy/make_libraries.sh" "$work/refused" "${given[@]}" 2>"$work/said" &&
             grep -qxF -- "${wanted/_/ }" "$work/said" && [ ! -e "$work/refused/libvulfsjor.a" ] &&
             cp "$work/kept" "$copy/$file" || { echo "$file: $edit"; return 1; }
     done < <(
         echo 'include/vulfsjor.h <_vulfsjor_ffi_forgotten $a void vulfsjor_ffi_forgotten(void);'
         echo 'choose.c <_vulfsjor_ffi_tree_part /^CALL("vulfsjor_ffi_tree_part")/d'
         echo 'choose.c >_vulfsjor_ffi_more $a CALL("vulfsjor_ffi_more")'
-        echo 'calls.h <_vulfsjor_ffi_tree_part /^CALL(vulfsjor_ffi_tree_part,/d'
-        echo 'calls.h >_vulfsjor_ffi_more $a CALL(vulfsjor_ffi_more, int, (void), ())'
+        echo 'thunks.h <_vulfsjor_ffi_tree_part /^CALL(vulfsjor_ffi_tree_part,/d'
+        echo 'vulfsjor.map <_vulfsjor_ffi_tree_part /vulfsjor_ffi_tree_part;/d'
+        echo 'vulfsjor.map >_vulfsjor_ffi_more $i vulfsjor_ffi_more;'
+        echo 'thunks.h >_vulfsjor_ffi_more $a CALL(vulfsjor_ffi_more, int, (void), ())'
         echo 'vulfsjor.c <_vulfsjor_ffi_tree_part /^int32_t NAME(tree_part)(/d'
         echo 'vulfsjor.c >_vulfsjor_ffi_more $a int NAME(more)(void);'
         for file in "${texts[@]##*/}"; do
             echo "$file <_vulfsjor_ffi_tree_part /^\tvj_export\tvulfsjor_ffi_tree_part_/d"
-            echo "$file >_vulfsjor_ffi_more \$a \\\tvj_export\tvulfsjor_ffi_more_$(version _)_v2"
+            echo "$file >_vulfsjor_ffi_more \$a \\\tvj_export\tvulfsjor_ffi_more_$(code_number)_v2"
         done
     )
 }
@@ -68,7 +70,7 @@ shared_library_is_right() {
         grep -q BIND_NOW "$work/dynamic" && ! grep NEEDED "$work/dynamic" | grep -v 'libc\.' &&
         grep -q GNU_RELRO "$work/segments" && grep -q 'GNU_STACK .* RW ' "$work/segments" &&
         ! grep -q 'LOAD.*RWE' "$work/segments" || return 1
-    [ "$(readelf --dyn-syms -W "$file" | grep -c ' FUNC  *GLOBAL .*@@VULFSJOR_0$')" -eq \
+    [ "$(readelf --dyn-syms -W "$file" | grep -c ' FUNC  *GLOBAL .*@@VULFSJOR_0[.]1$')" -eq \
         "$(names_of_header | wc -l)" ] &&
         [ "$(readlink "$shared")" = libvulfsjor.so.0 ] &&
         [ "$(readlink "$prefix/lib/libvulfsjor.so.0")" = "libvulfsjor.so.$(version)" ] &&
@@ -76,13 +78,24 @@ shared_library_is_right() {
         grep -vE ' (w|U) (_ITM_|__cxa_finalize|__gmon|abort|write|mem(cpy|move|set))'
 }
 
-# The texts one by one, and those of another version, in one shared library and in one run of the
+# Branch protection: each object is marked, so a linker that demands the marks takes them, and marks what
+# it makes of them. Each function of choose.c begins with a landing pad.
+objects_are_marked() {
+    are_marked "x86 feature: IBT, SHSTK" "" "$prefix"/lib/libvulfsjor{,-libb2,-threads}.a &&
+        cc -shared -nostdlib -Wl,-z,cet-report=error -Wl,--whole-archive "$prefix"/lib/libvulfsjor{-threads,-libb2}.a \
+            -Wl,--no-whole-archive -o "$work/marked.so" && readelf -nW "$work/marked.so" | grep -q "IBT, SHSTK" &&
+        objdump -d --no-show-raw-insn "$shared" |
+        awk '/^[0-9a-f]+ <vulfsjor_ffi_[a-z0-9_]*>:$/ && !/_v[234]>/ { n++; getline; if (!/endbr64/) bad++ }
+            END { exit !(n > 60) || bad }'
+}
+
+# The texts one by one, and those with another number, in one shared library and in one run of the
 # assembler: no name of one is that of another, and none is exported.
 texts_stand_together() {
     local text count=0 objects=()
     echo "#include \"$dist/macros.h\"" >"$work/all.S"
     for text; do
-        sed "s/$(version _)/7_8_9/g" "$text" >"$work/other.s" &&
+        sed -E "s/(_|\.L)$(code_number)_(v[234]|arm)/\1789_\2/g" "$text" >"$work/other.s" &&
             cc -c "$(with_macros "$text")" -o "$work/text_$count.o" &&
             cc -c "$(with_macros "$work/other.s")" -o "$work/other_$count.o" &&
             cat "$text" "$work/other.s" >>"$work/all.S" || return 1
@@ -110,7 +123,7 @@ archives_for_shared_library() {
     local folder=$work/no_pie
     mkdir -p "$folder" && printf '#!/bin/sh\nexec cc -fno-pie "$@"\n' >"$folder/cc" &&
         chmod +x "$folder/cc" &&
-        CC=$folder/cc "$here/join.sh" "$folder/lib" "${here_texts[@]}" &&
+        CC=$folder/cc "$here/make_libraries.sh" "$folder/lib" "${here_texts[@]}" &&
         cc -shared -Wl,-z,text -Wl,--whole-archive "$folder/lib"/libvulfsjor-{libb2,threads}.a \
             -Wl,--no-whole-archive -pthread -o "$folder/all.so"
 }
@@ -148,11 +161,11 @@ compiler_knows() {
 
 # The library joined by another compiler, and what it makes of choose.c.
 joined_by() {
-    CC=$1 "$here/join.sh" "$work/by_$1" "${texts[@]}" &&
+    CC=$1 "$here/make_libraries.sh" "$work/by_$1" "${texts[@]}" &&
         "$1" -std=gnu99 "${warnings[@]}" -O1 -DPROCESSOR -I"$work" -I"$include" -I"$tests" \
             -o "$work/made_up_by" "$tests/choose.c" &&
-        "$work/made_up_by" && "$1" -std=c99 -I"$include" "$tests/linked.c" \
-            "$work/by_$1/libvulfsjor.a" -o "$work/linked_by" -pthread && "$work/linked_by"
+        "$work/made_up_by" && "$1" -std=c99 -I"$include" "$tests/first_calls.c" \
+            "$work/by_$1/libvulfsjor.a" -o "$work/first_calls_by" -pthread && "$work/first_calls_by"
 }
 
 # What the choice says on this processor or an emulated one: the level, 2 to 4, or 0 for an end with
@@ -221,7 +234,7 @@ test_emulated() {
     block_of c/README.md c >"$work/hello.c"
     cc -static -I"$include" "$work/hello.c" "$archive" -o "$work/hello_static"
     for level in 0 2 3; do
-        for name in $(emulated $level); do
+        for name in $(some $(emulated $level)); do
             if qemu-x86_64 -cpu help | grep -qw "${name%%,*}"; then
                 check "the choice on $name" chooses_level $level qemu-x86_64 -cpu "$name"
             else
@@ -236,22 +249,14 @@ test_emulated() {
     needs
 }
 
-# A library for tests, which takes one build or alternates (c/join.sh).
-make_build() { "$here/join.sh" --test "$1" "$work/build_$1" "${texts[@]}"; }
+# A library for tests, which takes one build or alternates (c/make_libraries.sh).
+make_build() { "$here/make_libraries.sh" --test "$1" "$work/build_$1" "${texts[@]}"; }
 
-test_of_build() {
-    cc -std=c99 -O2 -I"$include" -o "$work/test_build" "$tests/test.c" \
-        "$work/build_$1/libvulfsjor.a" $(family_words "$2") && "$work/test_build" "$cases/$2"
-}
-
-parallel_of_build() {
-    cc -std=c99 -O2 -I"$include" -o "$work/parallel_build" "$tests/parallel.c" \
-        "$work/build_$1/libvulfsjor.a" $(family_words "$2") && "$work/parallel_build" "$cases/$2"
-}
-
-keys_of_build() {
-    cc -std=gnu99 -O2 -Wl,-z,now -I"$include" -o "$work/keys_build" "$tests/key_scan.c" \
-        "$work/build_$1/libvulfsjor.a" $(family_words "$2") && "$work/keys_build"
+# A test program for a family over such a library, compiled once for all of them: NAME BUILD FAMILY [ARGUMENTS..]
+run_of_build() {
+    local name=$1 build=$2 object=$work/$1_$3.o
+    [ -e "$object" ] || cc -std=gnu99 -O2 -I"$include" $(family_words "$3") -c "$tests/$name.c" -o "$object" || return
+    cc -Wl,-z,now "$object" "$work/build_$build/libvulfsjor.a" -o "$work/of_build" && "$work/of_build" "${@:4}"
 }
 
 # Two modules, each with one of these builds, and a program whose runs cross between them.
@@ -259,49 +264,56 @@ runs_cross() {
     local build
     for build; do
         cc -std=c99 -O2 "${warnings[@]}" -fPIC -shared -fvisibility=hidden -DMODULE -I"$include" \
-            "$tests/cross.c" "$work/build_$build/libvulfsjor.a" -o "$work/cross_$build.so" ||
+            "$tests/between_builds.c" "$work/build_$build/libvulfsjor.a" -o "$work/between_builds_$build.so" ||
             return 1
     done
-    cc -std=c99 -O2 "${warnings[@]}" -I"$include" "$tests/cross.c" -o "$work/cross" -ldl &&
-        "$work/cross" "$work/cross_$1.so" "$work/cross_$2.so"
+    cc -std=c99 -O2 "${warnings[@]}" -I"$include" "$tests/between_builds.c" -o "$work/between_builds" -ldl &&
+        "$work/between_builds" "$work/between_builds_$1.so" "$work/between_builds_$2.so"
 }
 
 test_builds() {
-    local build family builds=2
+    local build family builds=2 alternating=
     case $level in
-        4) builds="2 3 4 234" ;;
-        3) builds="2 3 23" ;;
+        4) builds="2 3 4" alternating=234 ;;
+        3) builds="2 3" alternating=23 ;;
         *) skip "the build for x86-64-v3" "the processor is below x86-64-v3" ;;
     esac
     [ "$level" = 4 ] || skip "the build for x86-64-v4" "the processor is below x86-64-v4"
+    [ -z "${VULFSJOR_TEST_HUGE-}" ] || builds+=" $alternating" # else runs that cross between builds stand for it
     for build in $builds; do
         check "a test library with build $build (several: alternating)" make_build $build || return
         for family in b s; do
             if has python3; then
-                check "test.c, blake2$family, by build $build" test_of_build $build $family
+                check "test.c, blake2$family, by build $build" run_of_build test $build $family "$cases/$family"
             fi
-            check "key_scan.c, blake2$family, by build $build" keys_of_build $build $family
+            check "key_scan.c, blake2$family, by build $build" run_of_build key_scan $build $family
         done
         for family in bp sp; do
             if has python3; then
-                check "parallel.c, blake2$family, by build $build" parallel_of_build $build $family
+                check "parallel.c, blake2$family, by build $build" \
+                    run_of_build parallel $build $family "$cases/$family"
             fi
-            check "key_scan.c, blake2$family, by build $build" keys_of_build $build $family
+            check "key_scan.c, blake2$family, by build $build" run_of_build key_scan $build $family
+        done
+        for family in xb xs; do
+            ! has python3 ||
+                check "xof.c, blake2$family, by build $build" run_of_build xof $build $family "$cases/$family"
+            check "key_scan.c, blake2$family, by build $build" run_of_build key_scan $build $family
         done
     done
-    for build in $(seq 3 "$level"); do
+    for build in $(some $(seq "$level" -1 3)); do
         check "runs that cross between the builds 2 and $build" runs_cross 2 "$build"
     done
-    [ "$level" -lt 4 ] || check "runs that cross between the builds 3 and 4" runs_cross 3 4
+    [ "$level" -lt 4 ] || check_huge "runs that cross between the builds 3 and 4" runs_cross 3 4
 }
 
 # Calls from a constructor and from threads, static and shared.
-linked_program() {
+first_calls() {
     local library
     for library in "$archive" "$shared"; do
-        cc -std=c99 -O2 "${warnings[@]}" -I"$include" "${@}" "$tests/linked.c" "$library" \
-            -o "$work/linked_one" -pthread &&
-            LD_LIBRARY_PATH=$prefix/lib "$work/linked_one" || return 1
+        cc -std=c99 -O2 "${warnings[@]}" -I"$include" "${@}" "$tests/first_calls.c" "$library" \
+            -o "$work/first_calls" -pthread &&
+            LD_LIBRARY_PATH=$prefix/lib "$work/first_calls" || return 1
     done
 }
 
@@ -310,21 +322,21 @@ instructions() {
         sed -n 's/.*Collected : \([0-9]*\)$/\1/p'
 }
 
-# count.c over the library, and over one with only the build for this processor, which takes one
-# jump where the first one chooses: the other build has other counts.
-compile_count() {
+# repeat_call.c over the library, and over one with only the build for this processor, which takes
+# one jump where the first one chooses: the other build has other counts.
+compile_repeat_call() {
     local level
     level=$(valgrind -q "$work/choose" | sed -n '2s/ .*//p')
-    cc -O2 -I"$include" "$tests/count.c" "$archive" -o "$work/count_chosen" &&
-        "$here/join.sh" "$work/direct" "$dist/x86_64/vulfsjor-v$level.s" &&
-        cc -O2 -I"$include" "$tests/count.c" "$work/direct/libvulfsjor.a" -o "$work/count_direct"
+    cc -O2 -I"$include" "$tests/repeat_call.c" "$archive" -o "$work/repeat_call_chosen" &&
+        "$here/make_libraries.sh" "$work/direct" "$dist/x86_64/vulfsjor-v$level.s" &&
+        cc -O2 -I"$include" "$tests/repeat_call.c" "$work/direct/libvulfsjor.a" -o "$work/repeat_call_direct"
 }
 
-# A task of count.c takes as many instructions a call for dispatch as c/README.md says.
+# A task of repeat_call.c takes as many instructions a call for dispatch as c/README.md says.
 costs_little() {
     local task=$1 chosen direct
-    chosen=$(instructions "$work/count_chosen" "$task" 1000) &&
-        direct=$(instructions "$work/count_direct" "$task" 1000) || return 1
+    chosen=$(instructions "$work/repeat_call_chosen" "$task" 1000) &&
+        direct=$(instructions "$work/repeat_call_direct" "$task" 1000) || return 1
     echo "$chosen instructions chosen, $direct directly"
     [[ $(<"$here/README.md") =~ Dispatch\ costs\ ([0-9]+)\ to\ ([0-9]+)\ instructions ]] &&
         [ $(((chosen - direct) / 1000 + 1)) -ge "${BASH_REMATCH[1]}" ] &&
@@ -338,8 +350,8 @@ test_cost() {
         return
     fi
     check "choose.c for valgrind" compile_choose choose -O2 $(compiler_knows) &&
-        check "count.c" compile_count || return
-    for task in 0 1 4 7 10 11; do
+        check "repeat_call.c" compile_repeat_call || return
+    for task in $(some 0 1 4 7 10 11); do
         check "what dispatch costs, task $task" costs_little $task
     done
 }
@@ -348,19 +360,23 @@ test_choosing() {
     needs nm readelf
     check "one list of functions" names_are_one
     check "the shared library's form" shared_library_is_right
-    check "the assembly with that of another version" texts_stand_together "${here_texts[@]}"
+    missing=
+    is_x86 || missing="the processor is not x86-64"
+    check "marks for branch protection" objects_are_marked
+    missing=
+    check "the assembly with that of another number" texts_stand_together "${here_texts[@]}"
     check "the archives in a shared library" archives_for_shared_library
     check "what a program takes of the library" programs_take_what_they_call
     check "hidden names, libvulfsjor.a" names_are_hidden "$archive"
     check "hidden names, libvulfsjor-libb2.a" names_are_hidden "$prefix/lib/libvulfsjor-libb2.a"
     needs
-    check "calls of a constructor, and of threads" linked_program
-    check "first calls of many threads" linked_program -DFIRST_BY_THREADS
+    check "calls of a constructor, and of threads" first_calls
+    check "first calls of many threads" first_calls -DFIRST_BY_THREADS
     if ! chooses; then
         skip "the choice" "the library holds one build"
         return
     fi
-    check "join.sh refuses another list of functions" join_refuses_a_difference
+    check "make_libraries.sh refuses another list of functions" join_refuses_a_difference
     check "made-up processors" made_up_processors 0
     check "made-up processors, optimized" made_up_processors 2
     needs clang

@@ -1,6 +1,6 @@
 /* The names and numbers of the family that a test program tests: BLAKE2s if TEST_S is defined, and
- * otherwise BLAKE2b; with TEST_P too, BLAKE2sp or BLAKE2bp. LANES is how many messages are hashed in
- * parallel at most. */
+ * otherwise BLAKE2b; with TEST_P too, BLAKE2sp or BLAKE2bp, and with TEST_X BLAKE2Xs or BLAKE2Xb.
+ * LANES is how many messages are hashed in parallel at most. ROOT is the hash of BLAKE2X's root. */
 #include <vulfsjor.h>
 
 #ifdef TEST_S
@@ -17,7 +17,19 @@ typedef uint32_t word;
 typedef uint64_t word;
 #endif
 
-#if defined(TEST_S) && defined(TEST_P)
+#if defined(TEST_S) && defined(TEST_X)
+#define FAMILY "xs"
+#define ONE_CALL vulfsjor_blake2xs
+#define LIBRARY(name) vulfsjor_ffi_blake2xs_##name
+#define CONSTANT(name) VULFSJOR_BLAKE2XS_##name
+#define BLAKE(name) vulfsjor_blake2xs_##name
+#elif defined(TEST_X)
+#define FAMILY "xb"
+#define ONE_CALL vulfsjor_blake2xb
+#define LIBRARY(name) vulfsjor_ffi_blake2xb_##name
+#define CONSTANT(name) VULFSJOR_BLAKE2XB_##name
+#define BLAKE(name) vulfsjor_blake2xb_##name
+#elif defined(TEST_S) && defined(TEST_P)
 #define FAMILY "sp"
 #define ONE_CALL vulfsjor_blake2sp
 #define LIBRARY(name) vulfsjor_ffi_blake2sp_##name
@@ -44,6 +56,12 @@ typedef uint64_t word;
 #endif
 
 typedef BLAKE(state) state_t;
-#ifndef TEST_P
+#if !defined(TEST_P) && !defined(TEST_X)
 typedef BLAKE(param) param_t;
+#endif
+
+#ifdef TEST_S
+#define SEQUENTIAL(name) vulfsjor_blake2s_##name
+#else
+#define SEQUENTIAL(name) vulfsjor_blake2b_##name
 #endif

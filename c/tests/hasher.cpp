@@ -1,9 +1,9 @@
 /* Tests vulfsjor.hpp: each argument at its edges and wrong, copies, moves, and what stays
- * unchanged. Prints a line for digests that Python's hashlib has to have, as check_lines.py reads
- * them; returns 0 if all else is as it should be.
+ * unchanged. Prints a line for digests that Python's hashlib has to have, as check_with_hashlib.py
+ * reads them; returns 0 if all else is as it should be.
  *
  *   c++ -std=c++17 -I FOLDER/include hasher.cpp ARCHIVE -o hasher
- *   ./hasher | python3 check_lines.py        the same with -std=c++20, and with -fno-exceptions */
+ *   ./hasher | python3 check_with_hashlib.py  the same with -std=c++20, and with -fno-exceptions */
 #include <vulfsjor.hpp>
 
 #include "check.h"
@@ -21,7 +21,7 @@ using vulfsjor::parameters;
 
 namespace {
 
-/* As those of check_lines.py. */
+/* As those of check_with_hashlib.py. */
 std::vector<unsigned char> filled(std::size_t count, std::size_t first) {
     std::vector<unsigned char> made(count);
     for (std::size_t i = 0; i < count; i++)

@@ -1,8 +1,16 @@
 #!/usr/bin/env bash
 # Tests what c/install.sh puts where.
-source "$(dirname "$(readlink -f "$0")")/installed.sh"
+source "$(dirname "$(readlink -f "$0")")/common.sh"
 
 install_into() { "$here/install.sh" "${cpu[@]}" --from "$dist" "$@"; }
+
+# The same with one build for x86-64, which is made once for all of these installations.
+install_one() {
+    local one=()
+    ! chooses || one=(--cpu x86-64-v2)
+    [ -e "$work/built" ] || install_into "${one[@]}" --build "$work/built" || return
+    "$here/install.sh" --built "$work/built" "$@"
+}
 
 # All files and links below a folder, by their paths in it.
 files_below() { (cd "$1" && find . -type f -o -type l | sed 's/^\.\///' | LC_ALL=C sort); }
@@ -65,7 +73,7 @@ words_work() {
 # A folder with a space; then moved as a whole; then uninstalled, where other files stay.
 folder_with_a_space() {
     local folder="$work/a folder"
-    install_into "$folder" && files_below "$folder" | diff <(wanted_files lib/) - &&
+    install_one "$folder" && files_below "$folder" | diff <(wanted_files lib/) - &&
         words_work "$folder/lib" &&
         mv "$folder" "$work/another folder" && words_work "$work/another folder/lib" || return 1
     folder="$work/another folder"
@@ -79,18 +87,18 @@ folder_with_a_space() {
 # DESTDIR and LIBDIR, as a package is made: nothing outside of DESTDIR, and no word of it in a file.
 package() {
     local root="$work/the root"
-    DESTDIR=$root LIBDIR=lib/x86_64-linux-gnu install_into "$work/usr" && [ ! -e "$work/usr" ] &&
+    DESTDIR=$root LIBDIR=lib/x86_64-linux-gnu install_one "$work/usr" && [ ! -e "$work/usr" ] &&
         files_below "$root$work/usr" | diff <(wanted_files lib/x86_64-linux-gnu/) - &&
         ! grep -rlF "$root" "$root" && ! grep -rlF "$work" "$root" &&
         words_work "$root$work/usr/lib/x86_64-linux-gnu" || return 1
-    DESTDIR=$root LIBDIR=$work/lib64 install_into "$work/usr" && words_work "$root$work/lib64" &&
+    DESTDIR=$root LIBDIR=$work/lib64 install_one "$work/usr" && words_work "$root$work/lib64" &&
         [ "$(files_below "$root$work/lib64" | wc -l)" -eq 14 ] || return 1
     DESTDIR=$root LIBDIR=$work/lib64 "$here/install.sh" --uninstall "$work/usr" &&
         DESTDIR=$root LIBDIR=lib/x86_64-linux-gnu "$here/install.sh" --uninstall "$work/usr" &&
         [ -z "$(files_below "$root")" ]
 }
 
-# One build alone, without the choice, and with the same functions.
+# Only one build, without the choice, and with the same functions.
 one_build() {
     local folder=$work/one
     "$here/install.sh" --cpu x86-64-v2 --from "$dist" "$folder" &&
@@ -104,9 +112,9 @@ one_build() {
 # A second installation takes the place of the first, and of what another left there.
 installs_again() {
     local folder=$work/again
-    install_into "$folder" && echo old >"$folder/lib/libvulfsjor.a" &&
+    install_one "$folder" && echo old >"$folder/lib/libvulfsjor.a" &&
         ln -sf nowhere "$folder/lib/libvulfsjor.so" &&
-        install_into "$folder" && words_work "$folder/lib" &&
+        install_one "$folder" && words_work "$folder/lib" &&
         files_below "$folder" | diff <(wanted_files lib/) -
 }
 
@@ -180,7 +188,7 @@ $add" vulfsjor::vulfsjor vulfsjor::threads && needs_shared
 # and in no other version than these; and moved, shared by BUILD_SHARED_LIBS.
 installed_for_cmake() {
     local found=$work/found find="find_package(vulfsjor"
-    LIBDIR=$found/other/lib install_into "$work/found by libdir" &&
+    LIBDIR=$found/other/lib install_one "$work/found by libdir" &&
         project_by_cmake "list(APPEND CMAKE_PREFIX_PATH \"$found/other\")
 foreach(request 0.1.99 0.0 0.2 1.1)
   $find \${request} QUIET)
@@ -190,34 +198,28 @@ foreach(request 0.1.99 0.0 0.2 1.1)
 endforeach()
 $find $(version) EXACT REQUIRED)
 $find REQUIRED)" vulfsjor::vulfsjor vulfsjor::threads CXX && needs_nothing &&
-        install_into "$work/found here" && mv "$work/found here" "$found/here" &&
+        install_one "$work/found here" && mv "$work/found here" "$found/here" &&
         project_by_cmake "list(APPEND CMAKE_PREFIX_PATH \"$found/here\")
 $shared_is_on
 $find 0.1 REQUIRED)" vulfsjor::vulfsjor vulfsjor::threads && needs_shared
 }
 
-# `cmake --install`, of the static library and of the shared one, which has only its functions.
+# `cmake --install`, which installs the same files as the Makefile. The package for CMake may be moved
+# within the installation, and has the static library and the shared one.
 installed_by_cmake() {
-    local shared folder find wanted
-    for shared in OFF ON; do
-        folder=$work/cmake_$shared
-        cmake -S "$here" -B "$folder.build" -DBUILD_SHARED_LIBS=$shared \
-            -DCMAKE_INSTALL_LIBDIR=lib &&
-            cmake --build "$folder.build" && cmake --install "$folder.build" --prefix "$folder" &&
-            find="list(APPEND CMAKE_PREFIX_PATH \"$folder\")
-find_package(vulfsjor 0.1 REQUIRED)" &&
-            project_by_cmake "$find" vulfsjor::vulfsjor vulfsjor::threads || return 1
-        wanted=libvulfsjor.a
-        [ $shared = OFF ] || wanted="libvulfsjor.so libvulfsjor.so.0 libvulfsjor.so.$(version)"
-        # shellcheck disable=SC2086
-        { printf 'lib/%s\n' $wanted && wanted_files lib/ |
-            grep -E 'include/vulfsjor(_threads)?[.]h(pp)?$|cmake|threads.a'; } | LC_ALL=C sort |
-            diff <(files_below "$folder") - || return 1
-    done
-    needs_shared && diff <(shown_functions "$folder") <(shown_functions "$prefix")
-}
-shown_functions() {
-    nm -D --defined-only "$1/lib/libvulfsjor.so" | cut -d ' ' -f 2- | LC_ALL=C sort
+    local folder=$work/by\ cmake find
+    cmake -S "$here" -B "$folder.build" -DCMAKE_INSTALL_LIBDIR=lib -DCMAKE_C_COMPILER=cc \
+        -DCMAKE_C_FLAGS=-DASKED &&
+        cmake --build "$folder.build" && cmake --install "$folder.build" --prefix "$folder" &&
+        files_below "$folder" | diff <(files_of_all) - &&
+        diff -r "$prefix/lib" "$folder/lib" && diff -r "$prefix/include" "$folder/include" &&
+        mv "$folder/lib/cmake/vulfsjor" "$folder/share/" || return 1
+    find="list(APPEND CMAKE_PREFIX_PATH \"$folder\")
+find_package(vulfsjor 0.1 REQUIRED)"
+    project_by_cmake "$find" vulfsjor::vulfsjor vulfsjor::threads && needs_nothing &&
+        project_by_cmake "$shared_is_on
+$find" vulfsjor::vulfsjor vulfsjor::threads && needs_shared && rm -r "$folder/include" &&
+        refuses 1 'no folder above' project_by_cmake "$find" vulfsjor::vulfsjor vulfsjor::threads
 }
 
 # The modules for pkg-config in CMake and in meson.
@@ -312,40 +314,142 @@ are_copies() {
     done
 }
 
+# make, which builds in a folder of its own.
+make_here() { make -C "$top" built="$work/made" "$@"; }
+
+# All files of an installation of programs and library, with this before their names: PREFIX
+files_of_all() {
+    { files_of_program "${1-}b2" && files_of_program "${1-}b2sum" && wanted_files lib/; } | LC_ALL=C sort
+}
+
 # `make install` and `make uninstall`, below DESTDIR.
 made_by_make() {
     local root="$work/made here" place="$work/made here/opt/a b"
-    (umask 077 && make -C "$top" install PREFIX="/opt/a b" DESTDIR="$root" CC="cc -O1") &&
-        files_below "$place" | diff <({ files_of_program b2 && files_of_program b2sum &&
-            wanted_files lib/; } | LC_ALL=C sort) - &&
+    (umask 077 && make_here install PREFIX="/opt/a b" DESTDIR="$root" CC="cc -O1") &&
+        files_below "$place" | diff <(files_of_all) - &&
         [ "$(cd "$place" && find . -type f -perm 755 | sort | paste -sd ' ')" = \
             "./bin/b2 ./bin/b2sum ./lib/libvulfsjor.so.$(version)" ] &&
         [ -z "$(find "$root" ! -type l ! -perm 755 ! -perm 644)" ] &&
         [ "$(printf abc | "$place/bin/b2" sum b512)" = "$(printf abc | b2sum | cut -c-128)" ] &&
         [ "$(printf abc | "$place/bin/b2sum")" = "$(printf abc | b2sum)" ] &&
         are_copies "$place" && touch "$place/bin/other" &&
-        make -C "$top" uninstall PREFIX="/opt/a b" DESTDIR="$root" &&
+        make_here uninstall PREFIX="/opt/a b" DESTDIR="$root" &&
         [ "$(files_below "$root")" = "opt/a b/bin/other" ] &&
-        refuses 2 "PREFIX must be an absolute path" make -C "$top" install PREFIX=opt &&
-        make -C "$top" -n install | grep -qxF 'c/install.sh "/usr/local"' &&
-        ! make -C "$top" -n install PROGRAMS=b2 | grep -q b2sum
+        refuses 2 "PREFIX must be an absolute path" make_here install PREFIX=opt &&
+        ! make_here -n install PROGRAMS=b2 | grep -q b2sum
+}
+
+# The variables of the GNU standards: each reaches the compiler, the archiver or its folder. What was
+# built is installed without a compiler.
+variables_of_make() {
+    local folder=$work/variables root=$work/variables/root tool line more=
+    ! is_x86 || more=" -Wl,-z,cet-report=warning"
+    mkdir -p "$folder" && for tool in cc ar; do
+        printf '#!/bin/sh\necho "$*" >>"%s/%s.calls"\nexec %s "$@"\n' "$folder" $tool $tool >"$folder/$tool" &&
+            chmod +x "$folder/$tool" || return 1
+    done
+    make_here built="$folder/made" all CC="$folder/cc" AR="$folder/ar" CPPFLAGS=-DASKED=1 \
+        CFLAGS="-g -flto" LDFLAGS="-Wl,-z,separate-code -L/asked$more" 2>"$folder/said" || return 1
+    # Debug information names no temporary file, so that another build is the same.
+    ! grep -rlaF -e "$folder" -e /text.s "$folder/made" || return 1
+    # Only objects of the system have no marks.
+    ! grep "missing IBT" "$folder/said" | grep -v "ld: /usr/" || return 1
+    while read -r line; do
+        case " $line" in
+            " -dumpmachine" | " -print-"*) ;;
+            *" -E "*"/macros.h "* | *" -c "*.s\ *) [[ " $line" == *" -DASKED=1 -g -flto "* ]] || return 1 ;;
+            *" -c "*) [[ $line == *" -DASKED=1 -g -flto "*" -fno-lto "* ]] || return 1 ;;
+            *) [[ " $line" == *" -DASKED=1 -g -flto -Wl,-z,separate-code -L/asked$more "*"-fno-lto "* ]] ||
+                { echo "$line" && return 1; } ;;
+        esac
+    done <"$folder/cc.calls"
+    [ "$(grep -vc -e ' -c ' -e ' -E ' -e -dumpmachine "$folder/cc.calls")" -eq 3 ] &&
+        [ "$(grep -c -e ' -E ' "$folder/cc.calls")" -eq 1 ] &&
+        [ "$(wc -l <"$folder/ar.calls")" -eq 3 ] &&
+        make_here built="$folder/made" -s install CC=false DESTDIR="$root" prefix=/p bindir=/b \
+            libdir=/l includedir=/i mandir=/m &&
+        files_below "$root" | diff <(files_of_all |
+            sed 's|^bin/|b/|;s|^include/|i/|;s|^lib/|l/|;s|^share/man/|m/|;s|^share/|p/&|' | LC_ALL=C sort) - &&
+        [ "$(printf abc | "$root/b/b2sum")" = "$(printf abc | b2sum)" ] &&
+        make_here uninstall DESTDIR="$root" prefix=/p bindir=/b libdir=/l includedir=/i mandir=/m &&
+        [ -z "$(files_below "$root")" ] || return 1
+    make_here -n install exec_prefix=/e | grep -qF ' LIBDIR="/e/lib" ' &&
+        make_here -n install LIBDIR=lib/x PREFIX=/p | grep -qF ' LIBDIR="/p/lib/x" ' &&
+        ! make_here -n clean | grep -v '^make\|^rm -rf out$' && make_here -n check | grep -qx ./test
+}
+
+# Next to files of others, in the folders of the system: nothing is installed, unless by another name or
+# if that is asked for; and then the others stay, also when ours go.
+made_next_to_others() {
+    local root=$work/others place=$work/others/usr name
+    mkdir -p "$place/bin" "$place/share/man/man1" && echo coreutils >"$place/bin/b2sum" &&
+        echo Boost >"$place/bin/b2" && echo coreutils >"$place/share/man/man1/b2sum.1" || return 1
+    for name in "" PROGRAMS=b2sum PROGRAMS=b2; do
+        refuses 2 'is not ours' make_here install PREFIX=/usr DESTDIR="$root" $name &&
+            [ "$(files_below "$root" | wc -l)" -eq 3 ] || return 1
+    done
+    make_here install PREFIX=/usr DESTDIR="$root" PROGRAM_PREFIX=vulfsjor- &&
+        files_below "$place" | diff <({ printf '%s\n' bin/b2 bin/b2sum share/man/man1/b2sum.1 &&
+            files_of_all vulfsjor-; } | LC_ALL=C sort) - &&
+        [ "$(cat "$place"/bin/b2{,sum} "$place/share/man/man1/b2sum.1" | paste -sd ' ')" = \
+            "Boost coreutils coreutils" ] && follows_the_prefix "$place" &&
+            is_plain "$place/lib/pkgconfig" || return 1
+    make_here install PREFIX=/usr DESTDIR="$root" PROGRAM_PREFIX=vulfsjor- &&
+        make_here uninstall PREFIX=/usr DESTDIR="$root" && [ "$(cat "$place/bin/b2")" = Boost ] &&
+        make_here uninstall PREFIX=/usr DESTDIR="$root" PROGRAM_PREFIX=vulfsjor- &&
+        [ "$(files_below "$root" | wc -l)" -eq 3 ] &&
+        make_here install PREFIX=/usr DESTDIR="$root" OVERWRITE=yes &&
+        [ "$(printf abc | "$place/bin/b2" sum b512)" = "$(printf abc | b2sum | cut -c-128)" ] &&
+        are_copies "$place"
+}
+
+# In the folders of the system pkg-config leaves them out.
+is_plain() {
+    grep -qx prefix=/usr "$1/vulfsjor.pc" && grep -q '^URL: https://' "$1/vulfsjor.pc" || return 1
+    ! has pkg-config ||
+        [ "$(PKG_CONFIG_PATH=$1 pkg-config --cflags --libs vulfsjor | sed 's/ *$//')" = -lvulfsjor ]
+}
+
+# The man pages and completions have the name of the program with the prefix, and no other line differs.
+follows_the_prefix() {
+    local name share=$1/share
+    for name in b2 b2sum; do
+        head -4 "$share/man/man1/vulfsjor-$name.1" |
+            grep -q "^\.TH VULFSJOR-$(tr '[:lower:]' '[:upper:]' <<<$name) 1 " &&
+            sed -n '4p;7p' "$share/man/man1/vulfsjor-$name.1" | grep -c "^vulfsjor-$name " | grep -qx 2 &&
+            ! grep -E "(^|\\fB)$name( |\\)" "$share/man/man1/vulfsjor-$name.1" &&
+            grep -qx "complete -.* vulfsjor-$name" "$share/bash-completion/completions/vulfsjor-$name" &&
+            ! grep -q "^complete .* $name$" "$share/bash-completion/completions/vulfsjor-$name" &&
+            [ "$(head -1 "$share/zsh/site-functions/_vulfsjor-$name")" = "#compdef vulfsjor-$name" ] &&
+            grep -q "^complete -c vulfsjor-$name " "$share/fish/vendor_completions.d/vulfsjor-$name.fish" &&
+            ! grep "^complete -c $name " "$share/fish/vendor_completions.d/vulfsjor-$name.fish" || return 1
+    done
+}
+
+# No rule takes a word that is not listed, such as one that is the name of somebody's program.
+unknown_targets() {
+    local word
+    for word in install-strip install-gcc uninstall-gcc out/make/gcc; do
+        refuses 2 "No rule to make target '$word'" make -C "$top" -n $word || return 1
+    done
 }
 
 # What the other names of the Makefile run, and the list of all.
 run_by_make() {
-    diff <(make -C "$top" -n --no-print-directory test prove dist bench docs) - <<'END' &&
+    diff <(make -C "$top" -n --no-print-directory test release prove dist bench docs) - <<'END' &&
 ./test
+tools/release.sh
 ./test --prove
 tools/dist.sh make
 js/tools/build.mjs
 bench/speed.py
 tools/reference.py
 tools/manual.py
-tools/pictures.py
 tests/pages.py
 END
-        [ "$(make -C "$top" --no-print-directory | cut -f 1 | cut -d ' ' -f 2 | paste -sd ' ')" = \
-            "help install uninstall test prove dist bench docs" ]
+        [ "$(make -C "$top" --no-print-directory help | cut -f 1 | cut -d ' ' -f 2 | paste -sd ' ')" = \
+            "all help install uninstall check test clean release prove dist bench docs" ] &&
+        [ "$(make_here -n)" = "$(make_here -n all)" ]
 }
 
 # Has CMake configure the library for a system and a processor, and prints the name of its text.
@@ -364,14 +468,19 @@ choose_by_cmake() {
 # What CMake chooses for each system and name of a processor: portable C where there is no assembly,
 # or if it is asked for.
 chosen_by_cmake() {
-    local name system
-    for name in x86_64 AMD64 amd64 aarch64 arm64 ARM64; do
-        for system in Linux Darwin Windows FreeBSD; do
-            choose_by_cmake $system $name | diff <(echo dist/vulfsjor.S) - || return 1
-        done
+    local name
+    # Without VULFSJOR_TEST_HUGE each name and each system once.
+    local chosen=({Linux,Darwin,Windows,FreeBSD}" "{x86_64,AMD64,amd64,aarch64,arm64,ARM64})
+    local portable=("Linux riscv64" "Haiku x86_64" "Linux x86_64 -DVULFSJOR_PORTABLE=ON")
+    if [ -n "${VULFSJOR_TEST_HUGE-}" ]; then
+        portable+=("Linux aarch64_be" "Linux armv7l")
+    else
+        chosen=("Linux x86_64" "Windows AMD64" "FreeBSD amd64" "Linux aarch64" "Darwin arm64" "Windows ARM64")
+    fi
+    for name in "${chosen[@]}"; do
+        choose_by_cmake $name | diff <(echo dist/vulfsjor.S) - || return 1
     done
-    for name in "Linux aarch64_be" "Linux riscv64" "Linux armv7l" "Haiku x86_64" \
-        "Linux x86_64 -DVULFSJOR_PORTABLE=ON"; do
+    for name in "${portable[@]}"; do
         choose_by_cmake $name | diff <(echo dist/c/vulfsjor.c) - || return 1
     done
     ! is_x86 ||
@@ -390,7 +499,7 @@ write_threads() {
 # A folder that is named from the current one, with the words of c/README.md, from elsewhere
 # afterwards.
 relative_folder() {
-    mkdir -p "$work/here" && cd "$work/here" && install_into ./some/folder &&
+    mkdir -p "$work/here" && cd "$work/here" && install_one ./some/folder &&
         files_below some/folder |
         diff <(wanted_files lib/) - && write_program program.c &&
         cc -O2 program.c -Isome/folder/include some/folder/lib/libvulfsjor.a -o program && cd / &&
@@ -434,14 +543,23 @@ refuses() {
         { echo "status or words of: $*"; cat "$work/said"; return 1; }
 }
 
-# A compiler for the machine that is its first word: the one here, which notes its other words.
+# A compiler for the machine that is its first word: the one here, which notes its other words and which texts
+# end its assembly, and optimizes nothing. With the file `noting` it fails then, unless it only preprocesses.
 compiler_for() {
     cat >"$work/for" <<END && chmod +x "$work/for"
 #!/bin/sh
 [ "\$2" != -dumpmachine ] || { echo "\$1"; exit; }
 shift
 echo "\$*" >>"$work/compiled"
-exec cc "\$@"
+case " \$* " in *" -E "*) exec cc "\$@" ;; esac
+for file; do
+    case \$file in *.s) ;; *) continue ;; esac
+    for text in "$dist"/*/vulfsjor*.s; do
+        tail -c "\$(wc -c <"\$text")" "\$file" | cmp -s - "\$text" && echo "\$text " >>"$work/compiled"
+    done
+done
+[ ! -e "$work/noting" ] || exit 1
+exec cc "\$@" -O0
 END
 }
 
@@ -452,23 +570,37 @@ texts_for() {
     grep -ohE 'dist/[^ ]*/vulfsjor[v0-9-]*\.[sc] ' "$work/compiled" | sort -u | sed 's|.*dist/||;s/ $//'
 }
 
+# What is installed for a machine works, says what it is, and has all functions.
+is_portable() {
+    local lib=$work/for_$1/lib
+    words_work "$lib" &&
+        grep -qx 'Description: BLAKE2b, BLAKE2s, BLAKE2bp and BLAKE2sp, translated from proved code' \
+            "$lib/pkgconfig/vulfsjor.pc" &&
+        [ "$(nm -D --defined-only "$lib/libvulfsjor.so" | wc -l)" -eq \
+            "$(nm -D --defined-only "$shared" | wc -l)" ]
+}
+
 # Every machine without assembly has portable C, which works, and others have it by a word. Systems
 # with ELF have the assembly for Linux.
 machines_without_assembly() {
     local machine
     compiler_for || return 1
-    for machine in riscv64-linux-gnu x86_64-linux-gnux32 aarch64_be-linux-gnu i386-unknown-haiku; do
-        texts_for $machine | diff <(echo c/vulfsjor.c) - && words_work "$work/for_$machine/lib" || return 1
+    texts_for riscv64-linux-gnu | diff <(echo c/vulfsjor.c) - && is_portable riscv64-linux-gnu || return 1
+    [ -n "${VULFSJOR_TEST_HUGE-}" ] || touch "$work/noting" # it is the same build
+    texts_for x86_64-pc-linux-gnu --portable | diff <(echo c/vulfsjor.c) - || return 1
+    [ -e "$work/noting" ] || is_portable x86_64-pc-linux-gnu || return 1
+    touch "$work/noting"
+    for machine in x86_64-linux-gnux32 aarch64_be-linux-gnu i386-unknown-haiku; do
+        texts_for $machine | diff <(echo c/vulfsjor.c) - || return 1
     done
-    texts_for x86_64-pc-linux-gnu --portable | diff <(echo c/vulfsjor.c) - &&
-        words_work "$work/for_x86_64-pc-linux-gnu/lib" &&
-        grep -qx 'Description: BLAKE2b and BLAKE2s, translated from proved code' \
-            "$work/for_x86_64-pc-linux-gnu/lib/pkgconfig/vulfsjor.pc" &&
-        [ "$(nm -D --defined-only "$work/for_x86_64-pc-linux-gnu/lib/libvulfsjor.so" | wc -l)" -eq \
-            "$(nm -D --defined-only "$shared" | wc -l)" ] || return 1
-    ! is_x86 || for machine in x86_64-unknown-freebsd14.0 x86_64-unknown-openbsd x86_64-linux-android; do
-        texts_for $machine | diff <(printf 'x86_64/vulfsjor-v%s.s\n' 2 3 4) - || return 1
+    rm "$work/noting"
+    ! is_x86 || texts_for x86_64-unknown-freebsd14.0 |
+        diff <(printf 'x86_64/vulfsjor-v%s.s\n' 2 3 4) - || return 1
+    touch "$work/noting"
+    ! is_x86 || for machine in x86_64-unknown-openbsd x86_64-linux-android; do
+        texts_for $machine | diff <(echo x86_64/vulfsjor-v2.s) - || return 1
     done
+    rm "$work/noting"
 }
 
 refusals() {
@@ -510,6 +642,9 @@ test_installing() {
     check "find_package after cmake --install" installed_by_cmake
     needs make
     check "make install and make uninstall" made_by_make
+    check "the variables of make" variables_of_make
+    check "make install next to files of others" made_next_to_others
+    check "targets that are not there" unknown_targets
     check "the other names of the Makefile" run_by_make
     needs
     is_x86 || missing="the processor is not x86-64"

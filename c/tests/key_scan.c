@@ -2,12 +2,14 @@
  * of it, in 64 KiB of the dead stack below the caller, and if the library chooses its build for
  * x86-64-v4 also in the vector registers zmm16 to zmm31, which that build clears. Prints for each
  * call how many were found, the largest number over messages of several lengths. A call that leaves
- * one fails. So does a state that is not zero, byte by byte, after final, verify and wipe, and a
- * search that misses a copy which is put there for it to find. Returns 0 if none failed.
+ * one fails. So does a state that is not zero, byte by byte, after final, verify, wipe and an init
+ * that is refused, and a search that misses a copy which is put there for it to find. For BLAKE2X
+ * it looks for the root hash and the first block of the output too. Returns 0 if none failed.
  *
  *   cc -std=gnu99 -O2 -Wl,-z,now -I FOLDER/include key_scan.c ARCHIVE -o key_scan
  *   cc the same with -DTEST_S       the same of BLAKE2s
  *   cc the same with -DTEST_P       the same of BLAKE2bp, or of BLAKE2sp with both
+ *   cc the same with -DTEST_X       the same of BLAKE2Xb, or of BLAKE2Xs with TEST_S
  *   cc the same with -DLIBB2_NAMES and ARCHIVE-libb2        the calls by libb2's names
  *
  * With -z now no call goes by the dynamic linker, which would save vector registers on the
@@ -18,16 +20,24 @@
 #include <string.h>
 
 #ifdef LIBB2_NAMES
-#include "libb2_names.h"
+#include "libb2_family.h"
 #undef BLAKE
 #define BLAKE(name) X(_##name)
 #define state_t X(_state)
 #endif
 
-enum { DEPTH = 64 * 1024, PIECE = 8, LONGEST = 1000 };
+enum { DEPTH = 64 * 1024, PIECE = 8, LONGEST = 1000, ROOM = (LANES + 1) * MAX };
+
+/* The length of a digest or of an output, and of what is looked for: the key, and behind it for
+ * BLAKE2X the root hash and the first block of the output. */
+#ifdef TEST_X
+enum { SIZE = ROOM, NO_SIZE = 0, SECRETS = 3 * MAX };
+#else
+enum { SIZE = MAX, NO_SIZE = MAX + 1, SECRETS = MAX };
+#endif
 
 /* What the calls are given, none of it on the stack. */
-static uint8_t key[MAX], message[LONGEST], tag[MAX], wrong[MAX], out[(LANES + 1) * MAX];
+static uint8_t key[SECRETS], message[LONGEST], tag[MAX], wrong[MAX], out[ROOM];
 static state_t state;
 static vulfsjor_message messages[LANES + 1];
 static size_t length;
@@ -46,7 +56,7 @@ static void fail(const char *name) {
 static void nothing(void) {}
 
 static void start(void) {
-    if (BLAKE(init_key)(&state, MAX, key, MAX)) fail("an init");
+    if (BLAKE(init_key)(&state, SIZE, key, MAX)) fail("an init");
 }
 
 static void start_and_take(void) {
@@ -56,13 +66,15 @@ static void start_and_take(void) {
 
 /* ---- The calls. Each returns 0 if its status is the expected one. */
 
-static int call_init_key(void) { return BLAKE(init_key)(&state, MAX, key, MAX); }
+static int call_init_key(void) { return BLAKE(init_key)(&state, SIZE, key, MAX); }
 
-static int call_refused_size(void) { return !BLAKE(init_key)(&state, MAX + 1, key, MAX); }
+static int call_refused_size(void) { return !BLAKE(init_key)(&state, NO_SIZE, key, MAX); }
 
 static int call_update(void) { return BLAKE(update)(&state, message, length); }
 
+#ifndef TEST_X
 static int call_final(void) { return BLAKE(final)(&state, out, MAX); }
+#endif
 
 #ifdef LIBB2_NAMES
 static int call_one_call(void) { return BLAKE2(out, message, key, MAX, length, MAX); }
@@ -70,16 +82,55 @@ static int call_one_call(void) { return BLAKE2(out, message, key, MAX, length, M
 static uint8_t salt[2 * MAX];
 
 static int call_init_salt(void) {
-    return BLAKE(init_salt_personal)(&state, MAX, key, MAX, salt, MAX / 4, salt, MAX / 4);
+    return BLAKE(init_salt_personal)(&state, SIZE, key, MAX, salt, MAX / 4, salt, MAX / 4);
 }
 
+/* Not by the header, which sets the state to zero before. */
 static int call_refused_salt(void) {
-    return !BLAKE(init_salt_personal)(&state, MAX, key, MAX, salt, MAX / 4 + 1, salt, 0);
+    return !LIBRARY(init_salt_personal)(&state, SIZE, key, MAX, salt, MAX / 4 + 1, salt, 0);
 }
 
-static int call_one_call(void) { return ONE_CALL(out, MAX, message, length, key, MAX); }
+static int call_one_call(void) { return ONE_CALL(out, SIZE, message, length, key, MAX); }
 
-#ifdef TEST_P
+static int call_reset(void) { return BLAKE(reset)(&state); }
+
+static int call_wipe(void) {
+    BLAKE(wipe)(&state);
+    return 0;
+}
+
+#ifdef TEST_X
+static void start_and_read(void) {
+    start_and_take();
+    if (BLAKE(squeeze)(&state, out, MAX)) fail("a squeeze");
+}
+
+static void start_and_read_part(void) {
+    start_and_take();
+    if (BLAKE(squeeze)(&state, out, 7)) fail("a squeeze");
+}
+
+static void start_read_and_reset(void) {
+    start_and_read();
+    if (BLAKE(reset)(&state)) fail("a reset");
+}
+
+static int call_derive_key(void) {
+    return BLAKE(derive_key)(out, SIZE, key, MAX, message, length);
+}
+
+static int call_squeeze_none(void) { return BLAKE(squeeze)(&state, NULL, 0); }
+
+static int call_squeeze_part(void) { return BLAKE(squeeze)(&state, out, 7); }
+
+static int call_squeeze_block(void) { return BLAKE(squeeze)(&state, out, MAX); }
+
+static int call_squeeze_blocks(void) { return BLAKE(squeeze)(&state, out, LANES * MAX); }
+
+static int call_refused_squeeze(void) { return !BLAKE(squeeze)(&state, out, SIZE); }
+
+static int call_refused_update(void) { return !BLAKE(update)(&state, message, length); }
+#elif defined(TEST_P)
 static int call_refused(void) {
     return BLAKE(refused)(MAX, key, MAX, salt, MAX / 4, salt, MAX) != VULFSJOR_ARGUMENT_PERSONAL;
 }
@@ -122,18 +173,12 @@ static int call_many_more(void) {
 static int call_set_last_node(void) { return BLAKE(set_last_node)(&state, 1); }
 #endif
 
+#ifndef TEST_X
 static int call_verify_right(void) { return BLAKE(verify)(&state, tag, MAX); }
 
 static int call_verify_wrong(void) { return !BLAKE(verify)(&state, wrong, MAX); }
 
 static int call_verify_short(void) { return !BLAKE(verify)(&state, tag, MAX - 1); }
-
-static int call_reset(void) { return BLAKE(reset)(&state); }
-
-static int call_wipe(void) {
-    BLAKE(wipe)(&state);
-    return 0;
-}
 
 /* A copy of the key in a frame that is then dead. */
 static int call_wipe_bytes(void) {
@@ -155,6 +200,7 @@ static int call_hexadecimal(void) {
     vulfsjor_wipe(copy, MAX);
     return status;
 }
+#endif
 #endif
 
 /* ---- The search. */
@@ -214,13 +260,23 @@ static __attribute__((noinline)) int call_and_keep(int (*call)(void)) {
     return status;
 }
 
-/* Counts the copies of pieces of the key in `stack`. */
-static int pieces_on_stack(void) {
+/* How many pieces of the key, and of what is behind it, are the bytes here. */
+static int pieces_here(const uint8_t *here) {
     int found = 0;
 
-    for (size_t piece = 0; piece < MAX; piece += PIECE)
-        for (size_t at = 0; at + PIECE <= sizeof stack; at++)
-            found += !memcmp(stack + at, key + piece, PIECE);
+    for (size_t piece = 0; piece < SECRETS; piece += PIECE)
+        found += !memcmp(here, key + piece, PIECE);
+    return found;
+}
+
+/* Counts the copies of pieces in `stack`. Most bytes there begin none. */
+static int pieces_on_stack(void) {
+    uint8_t begins[256] = {0};
+    int found = 0;
+
+    for (size_t piece = 0; piece < SECRETS; piece += PIECE) begins[key[piece]] = 1;
+    for (size_t at = 0; at + PIECE <= sizeof stack; at++)
+        if (begins[stack[at]]) found += pieces_here(stack + at);
     return found;
 }
 
@@ -253,10 +309,10 @@ static __attribute__((noinline)) int leave_a_copy(void) {
 }
 
 static void finds_copies(void) {
-    static const size_t places[] = {0, 1, 7, 4096, 32 * 1024, DEPTH - 256 - MAX};
+    static const size_t places[] = {0, 1, 7, 4096, 32 * 1024, DEPTH - 256 - SECRETS};
 
     for (size_t i = 0; i < sizeof places / sizeof *places; i++) {
-        for (copied = 0; copied <= MAX; copied++) {
+        for (copied = 0; copied <= SECRETS; copied++) {
             int found;
 
             place = places[i];
@@ -292,14 +348,34 @@ static const struct {
     const char *name;
 } CALLED[] = {
     {call_init_key, nothing, 0, "init_key"},
-    {call_refused_size, start, 1, "init_key, refused for its digest's length"},
+    {call_refused_size, start, 1, "init_key, refused for its length"},
     {call_one_call, nothing, 0, "the hash in one call"},
     {call_update, start, 0, "update"},
     {call_update, start_and_take, 0, "update, after an update"},
+#ifndef TEST_X
     {call_final, start_and_take, 1, "final"},
+#endif
 #ifndef LIBB2_NAMES
     {call_init_salt, nothing, 0, "init_salt_personal with a key"},
     {call_refused_salt, start, 1, "init_salt_personal, refused for its salt"},
+    {call_reset, start_and_take, 0, "reset"},
+    {call_wipe, start_and_take, 1, "wipe"},
+#ifdef TEST_X
+    {call_derive_key, nothing, 0, "derive_key"},
+    {call_squeeze_none, start_and_take, 0, "squeeze, the first, of no bytes"},
+    {call_squeeze_part, start_and_take, 0, "squeeze, the first, a part of a block"},
+    {call_squeeze_block, start_and_take, 0, "squeeze, the first, a block"},
+    {call_squeeze_blocks, start_and_take, 0, "squeeze, the first, several blocks"},
+    {call_squeeze_part, start_and_read_part, 0, "squeeze, a later one, of the same block"},
+    {call_squeeze_block, start_and_read_part, 0, "squeeze, a later one, of two blocks"},
+    {call_squeeze_block, start_and_read, 0, "squeeze, a later one, a block"},
+    {call_squeeze_blocks, start_and_read_part, 0, "squeeze, a later one, several blocks"},
+    {call_refused_squeeze, start_and_read, 0, "squeeze, refused for its length"},
+    {call_refused_update, start_and_read, 0, "update, refused after a squeeze"},
+    {call_reset, start_and_read, 0, "reset, after a squeeze"},
+    {call_update, start_read_and_reset, 0, "update, after a squeeze and a reset"},
+    {call_wipe, start_and_read, 1, "wipe, after a squeeze"},
+#else
     {call_refused, nothing, 0, "which argument of a keyed call is refused, its last"},
     {call_refused_null, nothing, 0, "which argument of a keyed call is refused, a null salt"},
 #ifndef TEST_P
@@ -314,16 +390,35 @@ static const struct {
     {call_verify_right, start_and_take, 1, "verify, a right tag"},
     {call_verify_wrong, start_and_take, 1, "verify, a wrong tag"},
     {call_verify_short, start_and_take, 1, "verify, a tag of another length"},
-    {call_reset, start_and_take, 0, "reset"},
-    {call_wipe, start_and_take, 1, "wipe"},
     {call_wipe_bytes, nothing, 0, "vulfsjor_wipe of a copy of the key"},
     {call_hexadecimal, nothing, 0, "vulfsjor_bin2hex and vulfsjor_hex2bin of the key"},
 #endif
+#endif
 };
+
+#ifdef TEST_X
+/* Sets what is looked for besides the key: the root hash, which is a digest under the key at the
+ * node offset that has the length of the output in its upper bits, and a block of the output. */
+static void take_secrets(void) {
+    static const vulfsjor_tree root_place = {(uint64_t)SIZE << 32, 0, 1, 1, 0, 0};
+    SEQUENTIAL(state) root;
+
+    if (SEQUENTIAL(init_tree)(&root, MAX, key, MAX, NULL, 0, NULL, 0, &root_place) ||
+        SEQUENTIAL(update)(&root, message, length) || SEQUENTIAL(final)(&root, key + MAX, MAX) ||
+        call_one_call())
+        fail("the secrets");
+    memcpy(key + 2 * MAX, out, MAX);
+    start_and_read();
+    if (memcmp(state.reader.root, key + MAX, MAX)) fail("another root hash");
+}
+#endif
 
 /* Sets the length of the message of all calls. */
 static void take_length(size_t bytes) {
     length = bytes;
+#ifdef TEST_X
+    take_secrets();
+#endif
     for (size_t i = 0; i < LANES; i++) messages[i] = (vulfsjor_message){message, length};
     messages[LANES] = (vulfsjor_message){message, length / 2};
     if (ONE_CALL(tag, MAX, message, length, key, MAX)) fail("a tag");
@@ -331,8 +426,8 @@ static void take_length(size_t bytes) {
     wrong[MAX - 1] ^= 1;
 }
 
-/* Copies in the registers, of which each call clears those that it uses. It is a call itself: inside
- * main it would leave the key in registers that calls save on Windows. */
+/* Copies in the registers, of which each call clears those that it uses. It is a call itself:
+ * inside main it would leave the key in registers that calls save on Windows. */
 static __attribute__((noinline)) void finds_registers(void) {
 #ifdef __x86_64__
     int (*const set[])(void) = {set_16, set_31};
@@ -373,8 +468,10 @@ static void try_call(size_t index) {
 }
 
 int main(void) {
-    for (size_t i = 0; i < MAX; i++) key[i] = (uint8_t)(0xA5 ^ (i * 37) ^ (i * i));
+    /* No piece begins with 0x55, of which the stack is full. */
+    for (size_t i = 0; i < MAX; i++) key[i] = (uint8_t)(0xA6 ^ (i * 37) ^ (i * i));
     for (size_t i = 0; i < LONGEST; i++) message[i] = (uint8_t)(i * 11 + 3 + (i >> 4) * 5);
+    take_length(0);
     finds_copies();
     finds_registers();
     sees_bytes();

@@ -5,11 +5,11 @@
  *
  *   libb2 CASES
  *
- * TEST_S is for BLAKE2s. libb2_names.h declares the functions. VULFSJOR_TEST_HUGE in the
+ * TEST_S is for BLAKE2s. libb2_family.h declares the functions. VULFSJOR_TEST_HUGE in the
  * environment adds a message of more than 2^32 bytes. */
 #define _POSIX_C_SOURCE 200112L
 #include "check.h"
-#include "libb2_names.h"
+#include "libb2_family.h"
 
 #include <signal.h>
 #include <stdlib.h>

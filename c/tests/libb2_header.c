@@ -1,11 +1,11 @@
 /* Tests each function and constant of libb2/blake2.h at its edges: null pointers, every size from 0
  * to 65, outputs that overlap inputs, and what is stricter than libb2. Prints the lines that
- * check_lines.py compares with Python's hashlib. Returns 0 if every other check passes.
+ * check_with_hashlib.py compares with Python's hashlib. Returns 0 if every other check passes.
  *
  *   cc -std=c99 -Wall -Wextra -Wpedantic -Werror -I FOLDER/include/vulfsjor-libb2 libb2_header.c
- *       ARCHIVE -o header
+ *       ARCHIVE -o libb2_header
  *   cc the same with -DTEST_S                        the same for BLAKE2s
- *   ./header | python3 check_lines.py                status 0 if every digest is that of hashlib */
+ *   ./libb2_header | python3 check_with_hashlib.py   status 0 if every digest is that of hashlib */
 #include "check.h"
 
 #include <blake2.h>

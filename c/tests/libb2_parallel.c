@@ -5,11 +5,11 @@
  *
  *   libb2_parallel CASES
  *
- * It is compiled with TEST_P, and for BLAKE2sp with TEST_S too. libb2_names.h declares the
+ * It is compiled with TEST_P, and for BLAKE2sp with TEST_S too. libb2_family.h declares the
  * functions. */
 #define _POSIX_C_SOURCE 200112L
 #include "check.h"
-#include "libb2_names.h"
+#include "libb2_family.h"
 #include "texts.h"
 
 #include <sys/wait.h>

@@ -1,35 +1,77 @@
 #!/usr/bin/env bash
 # Tests the library and the program for macOS as far as no Mac is needed: clang compiles and LLVM's
 # linker links them for both processors, over headers and a list of functions that stand in for
-# Apple's. The functions in C of calls.h run on an emulated ARM by Apple's calling convention.
-# tests/formats.py compares the code.
-source "$(dirname "$(readlink -f "$0")")/installed.sh"
+# Apple's. The functions in C of thunks.h run on an emulated ARM by Apple's calling convention.
+# tests/object_formats.py compares the code.
+source "$(dirname "$(readlink -f "$0")")/common.sh"
 sdk=$work/sdk
 linker=$(command -v ld64.lld || command -v ld64.lld-14)
 lipo=$(command -v llvm-lipo || command -v llvm-lipo-14)
 
-# What the library and the program need of the C library of macOS.
+# What the library and the programs need of the C library of macOS.
 write_sdk() {
-    local names=(memcpy memmove memset memcmp strlen abort write read malloc realloc free signal
-        __error __bzero __stack_chk_fail __stack_chk_guard)
-    mkdir -p "$sdk"/usr/{include/sys,lib}
+    local names=(memcpy memmove memset memcmp strlen strcpy strerror abort write read readv pread openat
+        close dup fstat lseek isatty malloc realloc free malloc_size signal setrlimit sysconf clock_gettime
+        snprintf dprintf pthread_create pthread_join pthread_sigmask pthread_setcancelstate
+        pthread_mutex_lock pthread_mutex_unlock pthread_cond_wait pthread_cond_broadcast
+        __error bzero __bzero __stack_chk_fail __stack_chk_guard)
+    mkdir -p "$sdk"/usr/{include/{sys,malloc},lib}
     printf '%s\n' '#include <stddef.h>' 'void abort(void);' 'void *malloc(size_t);' \
         'void *realloc(void *, size_t);' 'void free(void *);' >"$sdk/usr/include/stdlib.h"
     printf '%s\n' '#include <stddef.h>' 'void *memcpy(void *, const void *, size_t);' \
         'void *memmove(void *, const void *, size_t);' 'void *memset(void *, int, size_t);' \
         'int memcmp(const void *, const void *, size_t);' \
-        'size_t strlen(const char *);' >"$sdk/usr/include/string.h"
-    echo 'typedef long ssize_t;' >"$sdk/usr/include/sys/types.h"
+        'size_t strlen(const char *);' 'char *strcpy(char *, const char *);' \
+        'char *strerror(int);' >"$sdk/usr/include/string.h"
+    printf 'typedef %s;\n' 'long ssize_t' 'long long off_t' >"$sdk/usr/include/sys/types.h"
     printf '%s\n' '#include <stddef.h>' '#include <sys/types.h>' \
         'ssize_t write(int, const void *, size_t);' 'ssize_t read(int, void *, size_t);' \
+        'ssize_t pread(int, void *, size_t, off_t);' 'off_t lseek(int, off_t, int);' \
+        'int close(int), dup(int), isatty(int);' 'long sysconf(int);' '#define _SC_NPROCESSORS_ONLN 58' \
+        'enum { SEEK_SET, SEEK_CUR, STDIN_FILENO = 0, STDOUT_FILENO, STDERR_FILENO };' \
         >"$sdk/usr/include/unistd.h"
+    printf '%s\n' 'int openat(int, const char *, int, ...);' \
+        'enum { O_RDONLY = 0, O_CLOEXEC = 0x1000000, AT_FDCWD = -2 };' >"$sdk/usr/include/fcntl.h"
+    printf '%s\n' '#include <sys/types.h>' \
+        'struct stat { int st_mode; off_t st_size; char more[128]; };' \
+        'int fstat(int, struct stat *);' '#define S_ISREG(m) (((m) & 0170000) == 0100000)' \
+        >"$sdk/usr/include/sys/stat.h"
+    printf '%s\n' '#include <stddef.h>' '#include <sys/types.h>' \
+        'struct iovec { void *iov_base; size_t iov_len; };' \
+        'ssize_t readv(int, const struct iovec *, int);' >"$sdk/usr/include/sys/uio.h"
+    printf '%s\n' 'struct rlimit { unsigned long long rlim_cur, rlim_max; };' \
+        'int setrlimit(int, const struct rlimit *);' '#define RLIMIT_CORE 4' \
+        >"$sdk/usr/include/sys/resource.h"
+    printf '%s\n' 'struct timespec { long tv_sec, tv_nsec; };' \
+        'int clock_gettime(int, struct timespec *);' 'enum { CLOCK_MONOTONIC = 6 };' \
+        >"$sdk/usr/include/time.h"
+    printf '%s\n' '#include <stddef.h>' 'int snprintf(char *, size_t, const char *, ...);' \
+        'int dprintf(int, const char *, ...);' >"$sdk/usr/include/stdio.h"
+    printf '%s\n' '#include <stddef.h>' 'size_t malloc_size(const void *);' \
+        >"$sdk/usr/include/malloc/malloc.h"
+    touch "$sdk/usr/include/sched.h"
+    printf '%s\n' '#include <signal.h>' 'typedef struct thread *pthread_t;' \
+        'int pthread_create(pthread_t *, const void *, void *(*)(void *), void *);' \
+        'int pthread_join(pthread_t, void **);' 'int pthread_setcancelstate(int, int *);' \
+        'typedef struct { long signature; char more[56]; } pthread_mutex_t, pthread_cond_t;' \
+        'int pthread_mutex_lock(pthread_mutex_t *), pthread_mutex_unlock(pthread_mutex_t *);' \
+        'int pthread_cond_wait(pthread_cond_t *, pthread_mutex_t *);' \
+        'int pthread_cond_broadcast(pthread_cond_t *);' '#define PTHREAD_CANCEL_DISABLE 0' \
+        '#define PTHREAD_MUTEX_INITIALIZER {0, {0}}' '#define PTHREAD_COND_INITIALIZER {0, {0}}' \
+        >"$sdk/usr/include/pthread.h"
     printf 'typedef %s;\n' 'signed char int8_t' 'int int32_t' 'unsigned char uint8_t' \
         'unsigned short uint16_t' 'unsigned uint32_t' 'unsigned long long uint64_t' \
         'unsigned long uintptr_t' >"$sdk/usr/include/stdint.h"
     printf '#define %s\n' 'UINT32_C(n) n##U' 'UINT64_C(n) n##ULL' \
         'UINT64_MAX 0xffffffffffffffffULL' >>"$sdk/usr/include/stdint.h"
-    printf '%s\n' 'int *__error(void);' '#define errno (*__error())' >"$sdk/usr/include/errno.h"
-    echo 'void (*signal(int, void (*)(int)))(int);' >"$sdk/usr/include/signal.h"
+    printf '%s\n' 'int *__error(void);' '#define errno (*__error())' \
+        'enum { EINTR = 4, EIO, EBADF = 9, ENOMEM = 12, EINVAL = 22, EFBIG = 27, ENAMETOOLONG = 63,' \
+        'ECANCELED = 89 };' >"$sdk/usr/include/errno.h"
+    printf '%s\n' 'void (*signal(int, void (*)(int)))(int);' 'typedef unsigned sigset_t;' \
+        'int pthread_sigmask(int, const sigset_t *, sigset_t *);' \
+        '#define sigfillset(set) (*(set) = ~0u, 0)' '#define sigdelset(set, n) (*(set) &= ~(1u << ((n) - 1)), 0)' \
+        'enum { SIG_SETMASK = 3, SIGBUS = 10, SIGSEGV };' >"$sdk/usr/include/signal.h"
+    sed -i '1i #pragma once' "$sdk"/usr/include/{,sys/,malloc/}*.h
     printf '%s\n' '--- !tapi-tbd' 'tbd-version: 4' 'targets: [ x86_64-macos, arm64-macos ]' \
         "install-name: '/usr/lib/libSystem.B.dylib'" 'exports:' \
         '  - targets: [ x86_64-macos, arm64-macos ]' \
@@ -49,12 +91,12 @@ installs() {
     local folder=$work/installed_$1 names=$work/names
     CC=$work/$1 "$here/install.sh" --from "$dist" "$folder" &&
         (cd "$folder" && find . -type f -o -type l) | sed 's|^\./||' | LC_ALL=C sort |
-        diff - <(printf '%s\n' include/vulfsjor-libb2/blake2.h include/vulfsjor.h{,pp} \
+        diff - <(printf '%s\n' include/vulfsjor-libb2/blake2.h include/vulfsjor{.h,.hpp,_threads.h} \
             lib/cmake/vulfsjor/vulfsjor-config{,-version}.cmake \
-            lib/libvulfsjor{-libb2,-static,}.a lib/libvulfsjor{.0,}.dylib \
-            lib/pkgconfig/vulfsjor{,-static}.pc lib/vulfsjor-libb2/libb2.a \
+            lib/libvulfsjor{-libb2,-static,-threads,}.a lib/libvulfsjor{.0,}.dylib \
+            lib/pkgconfig/vulfsjor{,-static,-threads}.pc lib/vulfsjor-libb2/libb2.a \
             lib/vulfsjor-libb2/pkgconfig/libb2.pc | LC_ALL=C sort) &&
-        sed -n 's/^CALL("\(.*\)")$/_\1/p' "$here/choose.c" | LC_ALL=C sort >"$names" &&
+        sed -n 's/^ *\(vulfsjor_.*\);$/_\1/p' "$here/vulfsjor.map" | LC_ALL=C sort >"$names" &&
         llvm-nm -gU "$folder/lib/libvulfsjor.0.dylib" | awk '{ print $3 }' | LC_ALL=C sort |
         diff - "$names" &&
         llvm-objdump --macho --dylib-id "$folder/lib/libvulfsjor.0.dylib" |
@@ -88,15 +130,40 @@ makes_universal() {
         ! grep -q "vulfsjor\.S" "$build/other/CMakeFiles/vulfsjor.dir/build.make"
 }
 
-# The program is linked, and calls what the list above has.
+# A program is linked, and calls what the list above has.
 builds_program() {
-    CC=$work/$1 "$top/b2" --build "$work/b2_$1" && llvm-objdump --macho --private-header \
-        "$work/b2_$1" | grep -q EXECUTE
+    CC=$work/$1 "$top/$2" --build "$work/$2_$1" && llvm-objdump --macho --private-header \
+        "$work/$2_$1" | grep -q EXECUTE
 }
 
-# packed.c by Apple's convention: as assembly for macOS, whose names are then written as ELF has
-# them.
-packed_runs() {
+# In the linked program the assembly calls the functions of C that are in the place of three of its own, and
+# C the proved one. If they were weak in the text, as ELF has it, the text would call its own.
+calls_are_of_c() {
+    llvm-objdump --macho -d --no-show-raw-insn "$work/b2sum_$1" |
+        awk '/^_.*:$/ { own = substr($1, 1, length($1) - 1); print "has", own }
+            /\t(callq|bl)\t/ { print own, $NF }' |
+        sed -E 's/_b2sum\.\.(disk|hashes)\.\.([a-z_]*)(\.\.[0-9a-f]*)?(\.\.?proved)?_[0-9_]*_[a-z0-9]*/\2\4/g' |
+        sed -E 's/^_\S* (hide_memory|show_progress|absorb_tree)/text \1/' | LC_ALL=C sort | uniq -c | sed 's/^ *//' |
+        grep -xE -e '.* (has|text) (hide_memory|show_progress|absorb_tree.*)' -e '.* hide_memory _setrlimit' \
+            -e '.* show_progress _isatty' -e '.* absorb_tree absorb_tree.*' |
+        diff - <(cat <<'END'
+1 absorb_tree absorb_tree.proved
+1 has absorb_tree
+1 has absorb_tree.proved
+1 has hide_memory
+1 has show_progress
+1 hide_memory _setrlimit
+1 show_progress _isatty
+1 text absorb_tree
+1 text hide_memory
+1 text show_progress
+END
+        )
+}
+
+# apple_arguments.c by Apple's convention: as assembly for macOS, whose names are then written as ELF
+# has them.
+apple_arguments_run() {
     local wanted
     mapfile -t wanted < <(python3 -c 'import hashlib
 for name, function, size in ("B", hashlib.blake2b, 64), ("S", hashlib.blake2s, 32):
@@ -104,7 +171,7 @@ for name, function, size in ("B", hashlib.blake2b, 64), ("S", hashlib.blake2s, 3
                       fanout=3, depth=200, leaf_size=0x89abcdef, node_offset=0x123456789abc,
                       node_depth=17, inner_size=29).digest()
     print("-DWANTED_%s=%s" % (name, ",".join(map(str, digest))))') &&
-        printf '#include "%s"\n' "$tests/packed.c" "$here/choose.c" >"$work/both.c" &&
+        printf '#include "%s"\n' "$tests/apple_arguments.c" "$here/choose.c" >"$work/both.c" &&
         "$work/arm64" -O1 -std=c99 -fno-stack-protector -fno-asynchronous-unwind-tables -mllvm \
             -aarch64-neon-syntax=generic -I"$here/include" "${wanted[@]}" -S "$work/both.c" \
             -o "$work/macho.s" &&
@@ -113,8 +180,8 @@ for name, function, size in ("B", hashlib.blake2b, 64), ("S", hashlib.blake2s, 3
             /^\t?\.(build_version|subsections|private_extern|no_dead|loh|zerofill)/d
             s/\b(l?_[a-zA-Z_.0-9]+)@PAGEOFF/:lo12:\1/;s/@PAGE\b//
             s/([ \t,:[])_([a-z])/\1\2/g;s/^_([a-z])/\1/' "$work/macho.s" >"$work/elf.s" &&
-        aarch64-linux-gnu-gcc "$work/elf.s" "$dist/vulfsjor.S" -static -o "$work/packed" &&
-        qemu-aarch64 "$work/packed"
+        aarch64-linux-gnu-gcc "$work/elf.s" "$dist/vulfsjor.S" -static -o "$work/apple_arguments" &&
+        qemu-aarch64 "$work/apple_arguments"
 }
 
 test_macos() {
@@ -128,15 +195,17 @@ test_macos() {
     for processor in arm64 x86_64; do
         write_compiler $processor
         check "install.sh for macOS on $processor" installs $processor
-        check "b2 for macOS on $processor" builds_program $processor
+        check "b2 for macOS on $processor" builds_program $processor b2
+        check "b2sum for macOS on $processor" builds_program $processor b2sum &&
+            check "and the functions of C that it calls" calls_are_of_c $processor
     done
     [ -n "$lipo" ] || missing="no llvm-lipo"
     check "an object for both processors, and a library by CMake" makes_universal
     needs
     if has qemu-aarch64 && has aarch64-linux-gnu-gcc && has python3; then
-        check "packed.c by the convention of macOS on ARM" packed_runs
+        check "apple_arguments.c by the convention of macOS on ARM" apple_arguments_run
     else
-        skip "packed.c" "no qemu-aarch64, no aarch64-linux-gnu-gcc or no python3"
+        skip "apple_arguments.c" "no qemu-aarch64, no aarch64-linux-gnu-gcc or no python3"
     fi
 }
 

@@ -1,7 +1,7 @@
 #!/bin/sh
-# Tests the library and the program on macOS, by the C compiler, python3 and a plain sh: two test
-# programs of the library over the test vectors and next to hashlib, and a digest of b2. Prints the
-# system, a line for each test, and what a failed one said. The status is 0 if none failed. It runs
+# Tests the library and the programs on macOS, by the C compiler, python3 and a plain sh: two test
+# programs of the library over the test vectors and next to hashlib, one of its threads, a digest of b2,
+# and digests, roots, a check and messages of b2sum. Prints the system, a line for each test, and what a failed one said. The status is 0 if none failed. It runs
 # on Linux too. docs/PLATFORMS.md says what to do with the lines.
 cd "$(dirname "$0")/../.." || exit 1
 work=$(mktemp -d) || exit 1
@@ -18,26 +18,50 @@ try() {
         echo "not ok - $name" && tail -n 20 "$work/log"
     fi
 }
-compile() { cc -std=c99 -O2 $define -Ic/include "c/tests/$1.c" c/choose.c dist/vulfsjor.S -o "$work/$1"; }
+compile() { cc -std=c99 -O2 $define -Ic/include "c/tests/$1.c" c/choose.c "$work/library.o" -o "$work/$1"; }
 vectors() { python3 tests/vectors.py --lines $family >"$work/lines" &&
     grep '^[hnrt] ' "$work/lines" >"$work/cases"; }
-edges() { "$work/edges" >"$work/lines" && python3 c/tests/check_lines.py <"$work/lines"; }
+edge_cases() { "$work/edge_cases" >"$work/lines" && python3 c/tests/check_with_hashlib.py <"$work/lines"; }
+threads() {
+    processors=$(nproc 2>/dev/null || getconf _NPROCESSORS_ONLN)
+    cc -std=gnu99 -O2 -Ic/include c/tests/system.c c/threads.c c/choose.c "$work/library.o" -pthread \
+        -o "$work/system" && (cd "$work" && ./system "$processors")
+}
 digest() {
     [ "$(printf abc | ./b2 sum b512)" = "$(printf abc | python3 -c 'import hashlib, sys
 print(hashlib.blake2b(sys.stdin.buffer.read()).hexdigest())')" ]
 }
 
+sums() {
+    b2sum=$PWD/b2sum
+    cd "$work" && mkdir -p names && printf abc >'names/café' && head -c 3000000 /dev/zero >zeros &&
+        python3 -c 'import hashlib, sys
+for name in sys.argv[1:]:
+    print(hashlib.blake2b(open(name, "rb").read()).hexdigest(), "", name)' names/* zeros >wanted &&
+        "$b2sum" names/* zeros >said && diff wanted said &&
+        "$b2sum" --check --strict said >checked && [ "$(wc -l <checked)" -eq 2 ] &&
+        "$b2sum" --tree 65536 zeros >roots && "$b2sum" --tree 65536 --threads 1 zeros | diff roots - &&
+        "$b2sum" --tree 65536 <zeros | sed 's/(-)/(zeros)/' | diff roots - && printf key >key &&
+        "$b2sum" --key-file key zeros >/dev/null && ! "$b2sum" names none >said 2>errors &&
+        printf 'b2sum: %s\n' 'names: Is a directory' 'none: No such file or directory' |
+        diff errors - && echo x >>zeros && ! "$b2sum" --check wanted >said 2>errors &&
+        grep -x 'zeros: FAILED' said
+}
+
 uname -srm
 [ "$(uname -s)" != Darwin ] || sw_vers
 cc --version
+try "the library is assembled" cc -c dist/vulfsjor.S -o "$work/library.o"
 for family in b s; do
     define=
     [ $family = b ] || define=-DTEST_S
     try "the test vectors, blake2$family" vectors
     try "test.c is compiled, blake2$family" compile test
     try "test.c, blake2$family" "$work/test" "$work/cases"
-    try "edges.c is compiled, blake2$family" compile edges
-    try "edges.c, blake2$family" edges
+    try "edge_cases.c is compiled, blake2$family" compile edge_cases
+    try "edge_cases.c, blake2$family" edge_cases
 done
+try "trees by threads" threads
 try "b2 sum" digest
+try "b2sum" sums
 exit $failed

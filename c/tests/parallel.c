@@ -165,7 +165,8 @@ static void argument(size_t length, const void *at) {
 }
 
 static void arguments(void) {
-    static const size_t huge[] = {255, 256, (size_t)1 << 32, ((size_t)1 << 32) + 1, ~(size_t)0};
+    enum { HALF = 4 * sizeof(size_t) }; /* of the bits of a length */
+    static const size_t huge[] = {255, 256, TWO_TO(HALF), TWO_TO(HALF) + 1, ~(size_t)0};
     uint8_t out[MAX + 2];
     state_t state;
     for (size_t i = 0; i < MAX + 7; i++) {
@@ -218,9 +219,9 @@ static void stays(state_t state) {
 }
 
 static void unready_states(void) {
-    static const size_t sizes[] = {0, MAX + 1, ~(size_t)0};
-    static const size_t lengths[] = {HELD + 1, (size_t)1 << 32, ~(size_t)0};
-    static const size_t starts[] = {KEY_BLOCKS + 1, (size_t)1 << 32, ~(size_t)0};
+    static const uint64_t sizes[] = {0, MAX + 1, ~(uint64_t)0};
+    static const uint64_t lengths[] = {HELD + 1, (uint64_t)1 << 32, ~(uint64_t)0};
+    static const uint64_t starts[] = {KEY_BLOCKS + 1, (uint64_t)1 << 32, ~(uint64_t)0};
     state_t made, state;
     CHECK(BLAKE(init_key)(&made, MAX, bytes, MAX) == 0 && BLAKE(update)(&made, bytes, 700) == 0);
     memset(&state, 0, sizeof state);
@@ -228,15 +229,15 @@ static void unready_states(void) {
     memset(&state, 0xff, sizeof state);
     stays(state);
     for (size_t i = 0; i < 3; i++) {
-        state = made, state.output_size = sizes[i];
+        state = made, state.output_size = IN_STATE(sizes[i]);
         stays(state);
-        state = made, state.lanes.length = lengths[i];
+        state = made, state.lanes.length = IN_STATE(lengths[i]);
         stays(state);
-        state = made, state.start_length = starts[i];
+        state = made, state.start_length = IN_STATE(starts[i]);
         stays(state);
     }
     state = made;
-    state.lanes.counter = (~(uint64_t)0 - state.lanes.length) / LEAVES + 1;
+    state.lanes.counter = IN_STATE((~(uint64_t)0 - IN_STATE(state.lanes.length)) / LEAVES + 1);
     stays(state);
 }
 
@@ -245,12 +246,13 @@ static void unready_states(void) {
 static void long_counts(void) {
     state_t made, state;
     CHECK(BLAKE(init_key)(&made, MAX, bytes, MAX) == 0 && BLAKE(update)(&made, bytes, 1000) == 0);
-    CHECK(made.lanes.length < STRIPE + BLOCK && made.lanes.counter >= BLOCK);
+    CHECK(IN_STATE(made.lanes.length) < STRIPE + BLOCK && IN_STATE(made.lanes.counter) >= BLOCK);
     for (size_t room = 0; room <= sizeof bytes; room += 13) {
         state = made;
-        state.lanes.length = STRIPE - 1;
-        state.lanes.counter = (~(uint64_t)0 - room - state.lanes.length) / LEAVES;
-        uint64_t left = ~(uint64_t)0 - LEAVES * state.lanes.counter - state.lanes.length;
+        uint64_t counter = (~(uint64_t)0 - room - (STRIPE - 1)) / LEAVES;
+        uint64_t left = ~(uint64_t)0 - LEAVES * counter - (STRIPE - 1);
+        state.lanes.length = IN_STATE(STRIPE - 1);
+        state.lanes.counter = IN_STATE(counter);
         state_t before = state;
         CHECK(BLAKE(count)(&state) == ~(uint64_t)0 - left - KEY_BLOCKS);
         CHECK(BLAKE(update)(&state, bytes, left + 1) == -1 && SAME(state, before));
@@ -269,11 +271,12 @@ static void random_states(void) {
     for (int i = 0; i < 4000; i++) {
         for (size_t j = 0; j < sizeof state; j++) ((uint8_t *)&state)[j] = (uint8_t)random_number();
         if (i % 2) {
-            state.output_size %= MAX + 6;
-            state.lanes.length %= HELD + 12;
-            state.start_length %= KEY_BLOCKS + 12;
-            state.lanes.counter /= 2 * LEAVES;
-            if (i % 4 == 1) state.lanes.counter = ~(uint64_t)0 / LEAVES - random_number() % STRIPE;
+            uint64_t counter = IN_STATE(state.lanes.counter) / (2 * LEAVES);
+            if (i % 4 == 1) counter = ~(uint64_t)0 / LEAVES - random_number() % STRIPE;
+            state.output_size = IN_STATE(IN_STATE(state.output_size) % (MAX + 6));
+            state.lanes.length = IN_STATE(IN_STATE(state.lanes.length) % (HELD + 12));
+            state.start_length = IN_STATE(IN_STATE(state.start_length) % (KEY_BLOCKS + 12));
+            state.lanes.counter = IN_STATE(counter);
         }
         int updated = BLAKE(update)(&state, bytes, i % sizeof bytes);
         int reset = i % 3 ? 0 : BLAKE(reset)(&state);

@@ -1,9 +1,11 @@
 #!/usr/bin/env bash
 # Tests dist/c/vulfsjor.c, the library for processors without assembly: by the compiler here, and by
-# compilers for other processors, whose programs run on an emulator.
-source "$(dirname "$(readlink -f "$0")")/installed.sh"
+# compilers for other processors, whose programs run on an emulator. Without VULFSJOR_TEST_HUGE all tests run on one of
+# 32 bits and one with the other order of bytes, and some on the others; and compilers optimize less, which takes half
+# as long.
+source "$(dirname "$(readlink -f "$0")")/common.sh"
 source_file=$dist/c/vulfsjor.c
-words=(-std=c99 -O2 "${warnings[@]}" "-I$here/include")
+words=(-std=c99 "${warnings[@]}" "-I$here/include")
 
 # The processors, each with its compiler and emulator, and words for the compiler.
 declare -A compilers=([riscv64]=riscv64-linux-gnu-gcc [s390x]=s390x-linux-gnu-gcc
@@ -16,12 +18,12 @@ run_there() {
     local program=$work/$processor-$1 given=()
     shift
     while [ "$1" != -- ]; do given+=("$1") && shift; done
-    "${compiler[@]}" "${words[@]}" "${given[@]}" "$work/$processor.o" -o "$program" &&
+    "${compiler[@]}" -O1 "${words[@]}" "${given[@]}" "$work/$processor.o" -o "$program" &&
         "${emulator[@]}" "$program" "${@:2}"
 }
 
 library_there() {
-    "${compiler[@]}" "${words[@]}" -fstack-usage -c "$source_file" -o "$work/$processor.o"
+    "${compiler[@]}" "$1" "${words[@]}" "${@:2}" -fstack-usage -c "$source_file" -o "$work/$processor.o"
 }
 
 # What a call with a key leaves on the stack is overwritten, by the compiler's own account of it.
@@ -31,25 +33,40 @@ vectors_there() {
     run_there test $(family_words "$family") "$tests/test.c" -- "$some/$family"
 }
 
-edges_there() {
-    run_there edges $(family_words "$family") "$tests/edges.c" -- >"$work/lines" &&
-        python3 "$tests/check_lines.py" <"$work/lines"
+# BLAKE2bp and BLAKE2sp.
+parallel_there() {
+    run_there parallel $(family_words "$family") "$tests/parallel.c" -- "$some/$family"
+}
+
+outputs_there() {
+    run_there xof $(family_words "$family") "$tests/xof.c" -- "$some/$family"
+}
+
+# Whether the lines of a program are right: those of another processor, which were, or each by
+# hashlib.
+lines_are_right() {
+    cmp -s "$work/lines" "$work/right-$1" ||
+        { python3 "$tests/check_with_hashlib.py" <"$work/lines" && cp "$work/lines" "$work/right-$1"; }
+}
+
+edge_cases_there() {
+    run_there edge_cases $(family_words "$family") "$tests/edge_cases.c" -- >"$work/lines" &&
+        lines_are_right "edge_cases-$family"
 }
 
 # libb2's names, which copy states of libb2.
 libb2_there() {
     run_there libb2 $(family_words "$family") "-I$here/include/libb2" "$tests/libb2_header.c" -- \
-        >"$work/lines" && python3 "$tests/check_lines.py" <"$work/lines"
+        >"$work/lines" && lines_are_right "libb2-$family"
 }
 
-parts_there() {
-    run_there parts "$tests/parts.c" -- "$1" >"$work/lines" &&
-        python3 "$tests/check_lines.py" <"$work/lines"
+tree_parts_there() {
+    run_there tree_parts "$tests/tree_parts.c" -- "$1" >"$work/lines" && lines_are_right tree_parts
 }
 
 random_cases_there() {
-    "$top/tests/random_cases.py" 66 "$1" >"$work/random" &&
-        run_there cases "$tests/cases.c" -- <"$work/random"
+    { [ -e "$work/random-$1" ] || "$top/tests/random_cases.py" 66 "$1" >"$work/random-$1"; } &&
+        run_there random_cases "$tests/random_cases.c" -- <"$work/random-$1"
 }
 
 # The digests of files, as b2sum prints them, and roots of trees.
@@ -62,31 +79,53 @@ files_there() {
     run_there sum "$here/examples/sum.c" -- "${names[@]}" | diff - <(sums_by_hashlib "${names[@]}")
 }
 
-# The tests of the library for a processor: of every eleventh test vector on an emulator.
+# Every eleventh test vector, and all of the fewer ones of BLAKE2bp, BLAKE2sp and BLAKE2X.
+some_of_them() {
+    local family
+    some=$work/some
+    mkdir -p "$some"
+    for family in b s bp sp xb xs; do awk '/^[px]/ || NR % 11 == 1' "$cases/$family" >"$some/$family"; done
+}
+
+# The tests of the library for a processor: of some of the test vectors on an emulator.
 test_there() {
+    local level=-O2 turns=100 more=yes
     processor=$1 some=$cases
-    check "the file in C, for $processor, without a warning" library_there || return
     if [ ${#emulator[@]} -gt 0 ]; then
-        some=$work/some
-        mkdir -p "$some"
-        for family in b s; do awk 'NR % 11 == 1' "$cases/$family" >"$some/$family"; done
+        some_of_them
+        if [ -z "${VULFSJOR_TEST_HUGE-}" ]; then
+            level=-O1 turns=20
+            [[ $processor =~ ^(s390x|i386)$ ]] || more=
+        fi
     fi
+    check "the file in C, for $processor, without a warning" library_there $level || return
     for family in b s; do
         check "test.c, blake2$family, for $processor" vectors_there
-        check "edges.c, blake2$family, for $processor" edges_there
-        check "libb2_header.c, blake2$family, for $processor" libb2_there
+        check "edge_cases.c, blake2$family, for $processor" edge_cases_there
     done
+    check "tree_parts.c, for $processor" tree_parts_there $turns
+    if [ -z "$more" ]; then
+        skip "other tests for $processor, which is like others" "VULFSJOR_TEST_HUGE is not set"
+        return
+    fi
+    for family in b s; do check "libb2_header.c, blake2$family, for $processor" libb2_there; done
+    for family in bp sp; do check "parallel.c, blake2$family, for $processor" parallel_there; done
+    for family in xb xs; do check "xof.c, blake2$family, for $processor" outputs_there; done
     check "the stack that is wiped, for $processor" stack_there
-    check "parts.c, for $processor" parts_there 100
     check "files, for $processor" files_there
     check "300 random cases, for $processor" random_cases_there 300
     check_huge "10,000 random cases, for $processor" random_cases_there 10000
 }
 
-# The same tests where neither the compiler nor the header knows the order of bytes.
+# The tests where neither the compiler nor the header knows the order of bytes, not optimized.
 unknown_order() {
-    words+=(-U__BYTE_ORDER__)
-    processor=unknown && library_there && vectors_there && edges_there
+    local words=("${words[@]}" -U__BYTE_ORDER__) processor=unknown family
+    library_there -O0 || return
+    for family in b s; do vectors_there || return; done
+    [ -n "${VULFSJOR_TEST_HUGE-}" ] || return 0 # not optimized, they take long
+    for family in b s; do edge_cases_there || return; done
+    for family in bp sp; do parallel_there || return; done
+    for family in xb xs; do outputs_there || return; done
 }
 
 # The dialect of MSVC, by clang, over headers that stand in for the C library's.
@@ -110,9 +149,10 @@ keys_here() {
         "$tests/key_scan.c" "$work/here.o" -o "$work/key_scan" && "$work/key_scan"
 }
 
-# Branches and addresses by a key or a message, with this compiler, of every hundredth test vector.
+# Branches and addresses by a key or a message, with this compiler, of some of the test vectors:
+# memcheck is slow.
 secrets_here() {
-    awk 'NR % 100 == 1 && length($0) < 8900' "$cases/$family" >"$work/secret_cases" &&
+    awk 'NR % (/^p/ ? 15 : 100) == 1 && length($0) < 8900' "$cases/$family" >"$work/secret_cases" &&
         cc -std=c99 -O2 "${warnings[@]}" $(family_words "$family") "-I$here/include" \
             "$tests/secrets.c" "$work/here.o" -o "$work/secrets" &&
         valgrind -q --error-limit=no "$work/secrets" "$work/secret_cases"
@@ -123,13 +163,13 @@ test_portable() {
     needs python3
     compiler=(cc) emulator=()
     test_there here
-    some=$cases
-    for family in b s; do
+    for family in b s bp sp xb xs; do
         check "key_scan.c, blake2$family, over the file in C" keys_here
-        check "an unknown order of bytes, blake2$family" unknown_order
     done
+    some_of_them
+    check "an unknown order of bytes, with cc -O0" unknown_order
     needs valgrind
-    for family in b s; do
+    for family in b s bp sp; do
         check "no branch or address by a secret, blake2$family, with cc -O2" secrets_here
     done
     needs clang
@@ -137,9 +177,7 @@ test_portable() {
     needs python3
     for name in riscv64 s390x i386 armhf ppc64el; do
         compiler=("${compilers[$name]}" -static) emulator=("${emulators[$name]}")
-        if [[ $name == riscv64 || $name == ppc64el ]] && [ -z "${VULFSJOR_TEST_HUGE-}" ]; then
-            skip "the library for $name, which takes a minute to compile" "VULFSJOR_TEST_HUGE is not set"
-        elif has "${compiler[0]}" && has "${emulator[0]}"; then
+        if has "${compiler[0]}" && has "${emulator[0]}"; then
             test_there "$name"
         else
             skip "the library for $name" "no ${compiler[0]} or no ${emulator[0]}"

@@ -10,7 +10,8 @@
  *   secrets address   an address from a byte of a key: each has to be reported
  *
  * It has to run under valgrind with --error-limit=no, and returns 0 if all is as expected. TEST_S
- * is defined for BLAKE2s, and TEST_P for BLAKE2bp, or with it for BLAKE2sp. */
+ * is defined for BLAKE2s, TEST_P for BLAKE2bp, and TEST_X for BLAKE2Xb, whose root hash is a secret
+ * too, or with it for BLAKE2sp and BLAKE2Xs. */
 #include "family.h"
 
 #include <stdio.h>
@@ -24,7 +25,7 @@ typedef struct text {
 
 /* A hash of a case, as the calls take it. */
 static text key, salt, persona, message, wanted;
-static uint8_t out[16 * 64];
+static uint8_t out[4096];
 static unsigned long calls;
 
 static void require(int holds, const char *what) {
@@ -44,33 +45,96 @@ static void read_text(text *read, const char *digits) {
 
 static void hide(text *secret) { (void)VALGRIND_MAKE_MEM_UNDEFINED(secret->bytes, secret->length); }
 
-/* Whether the output is the expected digest, and memcheck knows it for a secret, as any of a key or
- * a message is. */
-static int is_wanted(const uint8_t *given) {
-    uint8_t bits = 0;
-    if (VALGRIND_GET_VBITS(given, &bits, 1) != 1 || !bits != !(key.length + message.length))
+/* Whether these bytes are the expected ones, the first and the last of which memcheck knows for a
+ * secret, or not. */
+static int is_wanted_secret(const uint8_t *given, int is_secret) {
+    uint8_t bits[2] = {0};
+    if (VALGRIND_GET_VBITS(given, bits, 1) != 1 ||
+        VALGRIND_GET_VBITS(given + wanted.length - 1, bits + 1, 1) != 1)
         return 0;
+    if ((bits[0] != 0) != is_secret || (bits[1] != 0) != is_secret) return 0;
     (void)VALGRIND_MAKE_MEM_DEFINED(given, wanted.length);
     return !memcmp(given, wanted.bytes, wanted.length);
 }
 
-/* The length of the piece after `from` bytes: a few bytes, around a block, or all. */
-static size_t next_piece(size_t from, unsigned cut) {
+/* The same of a digest, which is a secret as any of a key or a message is. */
+static int is_wanted(const uint8_t *given) {
+    return is_wanted_secret(given, key.length + message.length > 0);
+}
+
+/* The length of the next piece of what is left: a few bytes, around a block, or all. */
+static size_t next_piece(size_t left, unsigned cut) {
     static const size_t lengths[] = {1, 7, BLOCK - 1, BLOCK, BLOCK + 1, 3 * BLOCK + 5, 4096};
-    size_t left = message.length - from, piece = lengths[cut % (sizeof lengths / sizeof *lengths)];
+    size_t piece = lengths[cut % (sizeof lengths / sizeof *lengths)];
     return piece < left ? piece : left;
 }
 
 static void absorb(state_t *state, unsigned cut) {
     for (size_t from = 0, piece; from < message.length; from += piece, cut += 3) {
-        piece = next_piece(from, cut);
+        piece = next_piece(message.length - from, cut);
         require(!BLAKE(update)(state, message.bytes + from, piece), "update is refused");
     }
+}
+
+static void one_call(void) {
+    require(!ONE_CALL(out, wanted.length, message.bytes, message.length, key.bytes, key.length) &&
+                is_wanted(out),
+            "another digest in one call");
 }
 
 /* Reports that are those of a comparison's result. */
 static unsigned long allowed;
 
+#ifdef TEST_X
+static void squeeze(state_t *state, unsigned cut) {
+    for (size_t from = 0, piece; from < wanted.length; from += piece, cut += 3) {
+        piece = next_piece(wanted.length - from, cut);
+        require(!BLAKE(squeeze)(state, out + from, piece), "squeeze is refused");
+    }
+}
+
+/* An output in pieces, and again after a reset, with a root hash that is a secret by itself. */
+static void in_pieces(const state_t *made, unsigned cut) {
+    state_t state = *made;
+    absorb(&state, cut);
+    squeeze(&state, cut);
+    require(is_wanted(out), "another output in pieces");
+    require(!BLAKE(reset)(&state), "reset is refused");
+    absorb(&state, cut + 1);
+    require(!BLAKE(squeeze)(&state, NULL, 0), "a squeeze of nothing is refused");
+    (void)VALGRIND_MAKE_MEM_UNDEFINED(state.reader.root, sizeof state.reader.root);
+    squeeze(&state, cut + 1);
+    require(is_wanted_secret(out, 1), "another output of a secret root hash");
+    BLAKE(wipe)(&state);
+}
+
+static void of_state(const state_t *made) {
+    for (unsigned cut = 0; cut < 7; cut++) in_pieces(made, cut);
+}
+
+/* An output of this length, or of an unknown one. */
+static void output_case(size_t size) {
+    const size_t length = size ? size : (size_t)CONSTANT(UNKNOWN_LENGTH);
+    state_t made;
+    hide(&key);
+    hide(&message);
+    require(!BLAKE(init_salt_personal)(&made, length, key.bytes, key.length, salt.bytes,
+                                       salt.length, persona.bytes, persona.length),
+            "init_salt_personal is refused");
+    of_state(&made);
+    if (salt.length + persona.length) return;
+    require(key.length ? !BLAKE(init_key)(&made, length, key.bytes, key.length)
+                       : !BLAKE(init)(&made, length),
+            "an init is refused");
+    of_state(&made);
+    if (!size) return;
+    one_call();
+    require(!key.length || (!BLAKE(derive_key)(out, size, key.bytes, key.length, message.bytes,
+                                               message.length) &&
+                            is_wanted(out)),
+            "another derived key");
+}
+#else
 /* Checks the result of a comparison. `before` is the number of reports before it. */
 static void compared(unsigned long before, int result, int is_right) {
     unsigned long reports = VALGRIND_COUNT_ERRORS - before;
@@ -115,12 +179,6 @@ static void of_state(const state_t *made) {
         absorb(&state, 6);
         verify(&state, wrong);
     }
-}
-
-static void one_call(void) {
-    require(!ONE_CALL(out, wanted.length, message.bytes, message.length, key.bytes, key.length) &&
-                is_wanted(out),
-            "another digest in one call");
 }
 
 #ifndef TEST_P
@@ -173,8 +231,9 @@ static void hash_case(void) {
                 "init_key is refused");
     of_state(&made);
 }
+#endif
 
-#ifndef TEST_P
+#if !defined(TEST_P) && !defined(TEST_X)
 static void node_case(const char *numbers) {
     unsigned fanout, depth, node_depth, inner_length, last_node;
     unsigned long leaf_length;
@@ -213,7 +272,7 @@ static void block_case(const char *digits, int last_node) {
 }
 #endif
 
-#if !defined(TEST_S) && !defined(TEST_P)
+#if !defined(TEST_S) && !defined(TEST_P) && !defined(TEST_X)
 /* A root in one call, in pieces, and in parts: the digests of leaves are secrets too. */
 static void root_case(uint32_t leaf) {
     static uint8_t digests[4096 * 64];
@@ -229,7 +288,7 @@ static void root_case(uint32_t leaf) {
         vulfsjor_tree_init(&state, wanted.length, salt.bytes, salt.length, persona.bytes,
                            persona.length, leaf);
         for (size_t from = 0, piece; from < message.length; from += piece) {
-            piece = next_piece(from, cut);
+            piece = next_piece(message.length - from, cut);
             require(!vulfsjor_tree_update(&state, message.bytes + from, piece),
                     "tree_update is refused");
         }
@@ -267,17 +326,21 @@ static void one_case(char kind) {
     if (strlen(field[first]) > 2 * sizeof message.bytes) return;
     read_text(&message, field[first]);
     read_text(&wanted, field[first + 1]);
-    if (kind == 'h' || kind == 'n' || kind == 'p') {
+    if (strchr("hnpx", kind)) {
         read_text(&key, field[1]);
         read_text(&salt, field[2]);
         read_text(&persona, field[3]);
     }
+#ifdef TEST_X
+    if (kind == 'x') output_case((size_t)strtoul(field[0], NULL, 10));
+#else
     if (kind == 'h' || kind == 'p') hash_case();
-#ifndef TEST_P
+#endif
+#if !defined(TEST_P) && !defined(TEST_X)
     if (kind == 'n') node_case(field[4]);
     if (kind == 't') block_case(field[0], atoi(field[1]));
 #endif
-#if !defined(TEST_S) && !defined(TEST_P)
+#if !defined(TEST_S) && !defined(TEST_P) && !defined(TEST_X)
     if (kind == 'r') {
         read_text(&salt, field[1]);
         read_text(&persona, field[2]);

@@ -10,7 +10,7 @@
  *   cc the same without -DLEAST_BYTES=1       tests only what depends on that length */
 #define _GNU_SOURCE
 #include "vulfsjor_threads.h"
-#include "limit.h"
+#include "time_limit.h"
 
 #include <dirent.h>
 #include <errno.h>
@@ -73,11 +73,19 @@ static struct {
     int interrupted, waits, resized_at;
     off_t size;
     int file, calls, resized, ended;
+    int least; /* the read of the first byte waits until there are as many reads; 0: it does not */
     int inherited; /* whether a program that is started meanwhile would have a file that was read */
 } reads;
 
 static void wait_for(int *counter, int n) {
     while (value(counter) < n) usleep(100);
+}
+
+/* Waits for reads.least reads, which come before that of the first byte ends, and no more do. */
+static void wait_for_reads(void) {
+    wait_for(&reads.calls, reads.least);
+    usleep(20000);
+    CHECK(value(&reads.calls) == reads.least);
 }
 
 /* Whether this read is interrupted. */
@@ -134,10 +142,10 @@ WRAP(int32_t, vulfsjor_ffi_tree_leaves, -1,
      (uint8_t * o, size_t on, uint64_t f, uint32_t e, const uint8_t *i, size_t n, const uint8_t *s,
       size_t sn, const uint8_t *p, size_t pn, uint32_t l),
      (o, on, f, e, i, n, s, sn, p, pn, l))
-WRAP(int32_t, vulfsjor_ffi_tree_root_of_leaves, -1,
-     (uint8_t * o, size_t on, const uint8_t *d, size_t n, const uint8_t *s, size_t sn,
-      const uint8_t *p, size_t pn, uint32_t l),
-     (o, on, d, n, s, sn, p, pn, l))
+WRAP(int32_t, vulfsjor_ffi_tree_init_root, -1,
+     (vulfsjor_blake2b_state * r, size_t on, const uint8_t *s, size_t sn, const uint8_t *p,
+      size_t pn, uint32_t l),
+     (r, on, s, sn, p, pn, l))
 WRAP(int32_t, vulfsjor_ffi_tree_root, -1,
      (uint8_t * o, size_t on, const uint8_t *i, size_t n, const uint8_t *s, size_t sn,
       const uint8_t *p, size_t pn, uint32_t l),
@@ -253,6 +261,11 @@ WRAP(long, sysconf, (int name)) {
 
 WRAP(ssize_t, pread, (int f, void *to, size_t n, off_t from)) {
     if (seen) return note_read(n, from);
+    if (reads.least && !from) {
+        add(&reads.calls, 1);
+        wait_for_reads();
+        return fails_now("first pread") ? -1 : __real_pread(f, to, n, from);
+    }
     return is_interrupted(f) || fails_now("pread") ? -1 : __real_pread(f, to, shortened(n), from);
 }
 
@@ -467,9 +480,9 @@ static void memory_is_refused(void) {
     each_fails(root_of_bytes, "malloc", 0, ENOMEM, 1);
     each_fails(root_of_updates, "malloc", 0, ENOMEM, 1);
     wish("malloc", 2, 0);
-    expect(root_of_bytes, 0); /* the digests only, since the bytes are in memory */
+    expect(root_of_bytes, 0); /* one for digests, since the bytes are in memory */
     CHECK(!is_hit());
-    each_fails(root_of_file, "malloc", 0, ENOMEM, 2); /* the digests, and a buffer or more */
+    each_fails(root_of_file, "malloc", 0, ENOMEM, 2); /* that, and a buffer or more */
     each_fails(root_of_pipe, "malloc", 0, ENOMEM, 1);
     each_fails(root_of_rest, "malloc", 0, ENOMEM, 3); /* and one for what one thread reads */
     each_fails(root_of_piped_rest, "malloc", 0, ENOMEM, 1);
@@ -499,9 +512,12 @@ static void threads_do_not_start(void) {
 static void library_refuses(void) {
     take(FEW, 4096, 4);
     each_fails(root_of_bytes, "vulfsjor_ffi_tree_leaves", 0, EINVAL, 4);
-    each_fails(root_of_bytes, "vulfsjor_ffi_tree_root_of_leaves", 0, EINVAL, 1);
+    each_fails(root_of_bytes, "vulfsjor_ffi_tree_init_root", 0, EINVAL, 1);
+    each_fails(root_of_bytes, "vulfsjor_ffi_blake2b_update", 0, EINVAL, 4);
+    each_fails(root_of_bytes, "vulfsjor_ffi_blake2b_final", 0, EINVAL, 1);
     each_fails(root_of_file, "vulfsjor_ffi_tree_leaves", 0, EINVAL, 4);
-    each_fails(root_of_file, "vulfsjor_ffi_tree_root_of_leaves", 0, EINVAL, 1);
+    each_fails(root_of_file, "vulfsjor_ffi_tree_init_root", 0, EINVAL, 1);
+    each_fails(root_of_file, "vulfsjor_ffi_blake2b_update", 0, EINVAL, 4);
     each_fails(root_of_bytes, "vulfsjor_ffi_tree_plan", 0, EINVAL, 1);
     each_fails(root_of_file, "vulfsjor_ffi_tree_plan", 0, EFBIG, 1);
     each_fails(root_of_updates, "vulfsjor_ffi_tree_plan_update", 0, EINVAL, 1);
@@ -578,6 +594,17 @@ static void reads_are_short(void) {
     reads.most = 300001;
     expect(root_of_file, 0);
     expect(root_of_rest, 0);
+    memset(&reads, 0, sizeof reads);
+}
+
+/* While the first part is read, the others are hashed, as far as there is room for their digests:
+ * for those of eight parts. Then the first read fails. */
+static void threads_wait_for_the_first_part(void) {
+    take(BYTES, 100, 4);
+    reads.least = 8;
+    expect(root_of_file, 0);
+    wish("first pread", 1, ENXIO);
+    expect(root_of_file, ENXIO);
     memset(&reads, 0, sizeof reads);
 }
 
@@ -698,19 +725,32 @@ static void least_bytes(void) {
     resize(1, 1 << 17, 0);
 }
 
-/* What vulfsjor_threads.h says of memory: 64 bytes for each leaf, and for each thread that reads a
- * file a buffer of 1 MiB or four leaves, whichever is more, or of 16 MiB at most. An update by a
- * file needs no more digests than 16 MiB. */
+/* What vulfsjor_threads.h says of memory: 1 MiB of digests or those of two parts for each thread,
+ * whichever is more, and those of a part have 1 MiB or less; and for each thread that reads a file
+ * a buffer of 1 MiB or four leaves, whichever is more, or of 16 MiB at most. With each part's
+ * digests there is one more byte. An update needs 64 bytes for each leaf, and by a file 16 MiB. */
 static void memory_is_as_said(void) {
-    enum { MIB = 1 << 20 };
+    enum { MIB = 1 << 20, ROOM = (MIB / 400) * 256 };
+    static const struct {
+        size_t length, leaf, digests;
+    } messages[] = {{2 * MIB, 16, 4 * (MIB + 1)},   {8 * MIB, 16, 4 * (MIB + 1)},
+                    {10 * MIB, 100, 4 * (ROOM + 1)}, {BYTES, 100, 4 * (ROOM + 1)},
+                    {2 * MIB, 4096, 2 * 16385},     {BYTES, 65536, 40 * 1025}};
     static const size_t rows[][2] = {{65536, MIB},        {MIB / 4, MIB},        {MIB, 4 * MIB},
                                      {4 * MIB, 16 * MIB}, {4 * MIB + 1, 4 * MIB + 1},
                                      {16 * MIB, 16 * MIB}, {16 * MIB + 1, MIB}};
 
+    for (size_t i = 0; i < sizeof messages / sizeof *messages; i++) {
+        take(messages[i].length, (uint32_t)messages[i].leaf, 2);
+        wish("malloc", 0, 0);
+        largest = 0;
+        expect(root_of_bytes, 0);
+        CHECK(largest == messages[i].digests && fault.counted == 1);
+    }
     take(FEW * 6, 100, 2);
     largest = 0;
-    expect(root_of_bytes, 0);
-    CHECK(largest == 64 * (FEW * 6 / 100));
+    expect(root_of_updates, 0);
+    CHECK(largest == 64 * ((FEW * 6 - 1000) / 100 - 1)); /* all but the last leaf */
     for (size_t i = 0; i < sizeof rows / sizeof *rows; i++) {
         take(BYTES, (uint32_t)rows[i][0], 2);
         largest = 0;
@@ -741,7 +781,9 @@ static void long_files(void) {
         for (size_t k = 0; k < sizeof calls / sizeof *calls; k++) {
             memset(seen, 0, size);
             leaf = leaves[i];
+            largest = 0;
             CHECK(!calls[k]());
+            if (!k && leaf < 1 << 18) CHECK(largest == (1 << 20) + leaf / 64);
             for (once = 0; once + 1 < MIBS && seen[once] == 1 << 20; once++) continue;
             CHECK(once == MIBS - 1 && seen[once] == 1);
         }
@@ -760,6 +802,7 @@ int main(int count, char **words) {
         RUN(library_refuses());
         RUN(reads_fail());
         RUN(reads_are_short());
+        RUN(threads_wait_for_the_first_part());
         RUN(files_change());
         RUN(progress_ends_calls());
         RUN(numbers_of_threads());

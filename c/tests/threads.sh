@@ -1,9 +1,9 @@
 #!/usr/bin/env bash
 # Tests a tree in parts, by threads, and the programs of c/examples that hash trees.
-source "$(dirname "$(readlink -f "$0")")/installed.sh"
+source "$(dirname "$(readlink -f "$0")")/common.sh"
 
-# A number of random turns: of those of the full test a third.
-turns() { [ -n "${VULFSJOR_TEST_HUGE-}" ] && echo "$1" || echo $(($1 / 3)); }
+# A number of random turns: of those of the full test a twelfth.
+turns() { [ -n "${VULFSJOR_TEST_HUGE-}" ] && echo "$1" || echo $(($1 / 12)); }
 
 # The words of the linker by which the calls that thread_faults.c replaces go to it.
 replaced_calls() {
@@ -18,13 +18,13 @@ compile_threads() {
         -pthread
 }
 
-# The edges of a tree in parts, whose digests hashlib has too, and so many random messages.
+# The edges of a tree in parts, whose digests hashlib has too, and this many random messages.
 parts_with() {
     local turns=$1
     shift
-    cc -std=c99 -g "${warnings[@]}" -I"$include" "$@" -o "$work/parts" "$tests/parts.c" \
+    cc -std=c99 -g "${warnings[@]}" -I"$include" "$@" -o "$work/parts" "$tests/tree_parts.c" \
         "$archive" &&
-        "$work/parts" "$turns" >"$work/lines" && python3 "$tests/check_lines.py" <"$work/lines"
+        "$work/parts" "$turns" >"$work/lines" && python3 "$tests/check_with_hashlib.py" <"$work/lines"
 }
 
 # threads.c with these words, over the installed archive.
@@ -33,35 +33,37 @@ threads_installed() {
         "$work/threads" "$work/files" "$(turns 200)"
 }
 
-# threads.c and thread_faults.c with these words, where each few bytes have a thread of their own.
+# threads.c with these words, where each few bytes have a thread of their own.
 threads_with() {
     compile_threads "$work/threads" -DLEAST_BYTES=1 "$@" "$tests/threads.c" "$here/threads.c" &&
-        compile_threads "$work/faults" -DLEAST_BYTES=1 "$@" "$tests/thread_faults.c" \
-            "$here/threads.c" $(replaced_calls) &&
-        "$work/threads" "$work/files" "$(turns 60)" && "$work/faults" "$work/files"
+        "$work/threads" "$work/files" "$(turns 60)"
 }
 
-# thread_faults.c with these words, and as many threads as in the library.
+# thread_faults.c with these words, and as many threads as in the library or as the words say.
 faults_with() {
     compile_threads "$work/faults" "$@" "$tests/thread_faults.c" "$here/threads.c" \
         $(replaced_calls) && "$work/faults" "$work/files"
 }
-threads_and_faults() { threads_with "$@" && faults_with "$@"; }
+
+# Both, with each number of threads.
+threads_and_faults() { threads_with "$@" && faults_with -DLEAST_BYTES=1 "$@" && faults_with "$@"; }
 
 # The numbers in the comment of vulfsjor_threads.h are those of threads.c.
 numbers_of_header() {
-    local text least part buffer threads leaves said
+    local text least part buffer threads leaves most said
     text=$(tr -s ' *\n' ' ' <"$here/include/vulfsjor_threads.h")
     least=$(sed -n 's/^#define LEAST_BYTES (1 << \([0-9]*\))$/\1/p' "$here/threads.c")
     part=$(sed -n 's/^ *PART_BYTES = 1 << \([0-9]*\),.*/\1/p' "$here/threads.c")
     buffer=$(sed -n 's/^ *MOST_BUFFER_BYTES = 1 << \([0-9]*\),.*/\1/p' "$here/threads.c")
     threads=$(sed -n 's/^ *MOST_THREADS = \([0-9]*\),$/\1/p' "$here/threads.c")
     leaves=$(sed -n 's/^ *MOST_LEAVES = 1 << \([0-9]*\) .*/\1/p' "$here/threads.c")
+    most=$(sed -n 's/^ *PART_LEAVES = 1 << \([0-9]*\),.*/\1/p' "$here/threads.c")
     for said in "with the caller's: at most $threads, and 0 is" \
         "at most one thread for each $((1 << (least - 10))) KiB of input" \
         "A regular file of at least $((1 << (least - 10))) KiB is read by all threads" \
         "a buffer: up to $((1 << (part - 20))) MiB or four leaves, whichever is more," \
         "and at most $((1 << (buffer - 20))) MiB." \
+        "about $((2 << (most - 14))) MiB for each thread at most, however" \
         "at most $((1 << (leaves - 14))) MiB for digests" \
         "one buffer of $((1 << (part - 20))) MiB more" \
         "about $((1 << (part - 20))) MiB or four leaves, and at the end"; do
@@ -69,13 +71,10 @@ numbers_of_header() {
     done
 }
 
-# The same with a sanitizer, where memory that is not there is refused as without one. Only the full
-# test has faults in as many threads as in the library.
+# The same by a function with a sanitizer, where memory that is not there is refused as without one.
 sanitized() {
-    local test=threads_with
-    [ -z "${VULFSJOR_TEST_HUGE-}" ] || test=threads_and_faults
     TSAN_OPTIONS=allocator_may_return_null=1 ASAN_OPTIONS=allocator_may_return_null=1 \
-        $test -O1 "-fsanitize=$1" -fno-sanitize-recover=all
+        "$1" -O1 "-fsanitize=$2" -fno-sanitize-recover=all "${@:3}"
 }
 
 # Compiles a program of c/examples with the words of this name for pkg-config.
@@ -130,7 +129,7 @@ tree_sum_example() {
         refuses_with 2 "$sum" --leaf
 }
 
-# A file in parts of so many leaves, by xargs, which keeps the order of one process.
+# A file in parts of this many leaves, by xargs, which keeps the order of one process.
 in_parts() {
     local length
     length=$(stat -c %s "$1")
@@ -174,7 +173,7 @@ tree_parts_example() {
         refuses_with 2 "$parts" root && refuses_with 2 "$parts" what file_1
 }
 
-# The line of tree_parts.c with GNU parallel.
+# The line of c/examples/tree_parts.c with GNU parallel.
 parallel_example() {
     local line
     line=$(sed -n '/^ \*   seq 0/,/root FILE$/s/^ \*  *//p' "$here/examples/tree_parts.c")
@@ -183,28 +182,32 @@ parallel_example() {
 }
 
 test_threads() {
-    local kind
+    local kind program
     mkdir "$work/files"
     if ! has python3; then
         skip "a tree in parts, and by threads" "no python3"
         return
     fi
-    check "parts.c" parts_with "$(turns 20000)" -O2
+    check "tree_parts.c" parts_with "$(turns 20000)" -O2
     check "threads.c, with the installed library" threads_installed
-    check "threads.c and thread_faults.c" threads_and_faults -O2
+    check "thread_faults.c" faults_with -O2
+    check_huge "threads.c and thread_faults.c" threads_and_faults -O2
     check "the numbers in vulfsjor_threads.h" numbers_of_header
+    # What shows races looks at threads, and what shows wrong accesses at faults; in the full test both at both.
     for kind in thread address,undefined; do
+        [ "$kind" = thread ] && program=threads || program=faults
         needs
         links "-fsanitize=$kind" && "$work/linked" || missing="cc has none"
-        check "threads.c and thread_faults.c, with the sanitizer $kind" sanitized "$kind"
+        check "$program with the sanitizer $kind" sanitized ${program}_with "$kind" -DLEAST_BYTES=1
+        check_huge "threads.c and thread_faults.c, with the sanitizer $kind" sanitized threads_and_faults "$kind"
     done
     needs_sanitizers
-    check "parts.c, with sanitizers" parts_with "$(turns 20000)" -O1 "${sanitizers[@]}"
+    check "tree_parts.c, with sanitizers" parts_with "$(turns 20000)" -O1 "${sanitizers[@]}"
     needs
     check "the program c/examples/tree_sum.c" tree_sum_example
     check "the program c/examples/tree_parts.c" tree_parts_example
     needs parallel
-    check "tree_parts.c with GNU parallel" parallel_example
+    check "c/examples/tree_parts.c with GNU parallel" parallel_example
 }
 
 part test_threads

@@ -1,8 +1,8 @@
 #!/usr/bin/env bash
-# Tests the library, the program and the crate for Rust on Windows for x86-64: built by MinGW-w64,
-# and run by wine. For the other systems tests/formats.py compares the code.
-source "$(dirname "$(readlink -f "$0")")/installed.sh"
-. "$tests/languages.sh"
+# Tests the library, the programs and the crate for Rust on Windows for x86-64: built by MinGW-w64,
+# and run by wine. For the other systems tests/object_formats.py compares the code.
+source "$(dirname "$(readlink -f "$0")")/common.sh"
+. "$tests/library.sh"
 . "$tests/threads.sh"
 mingw=x86_64-w64-mingw32-gcc
 wine=$(command -v wine64 || ls /usr/lib/wine/wine64 2>/dev/null)
@@ -23,11 +23,14 @@ trap '[ ! -d "$WINEPREFIX" ] || { "$server" -k && "$server" -w; } &>/dev/null; r
 check_by_wine() {
     local status
     : >"$WINE_LOG"
-    check "$@"
+    "${checking-check}" "$@"
     status=$?
     sed 's/^/# wine itself failed, so the program was run again: /' "$WINE_LOG"
     return $status
 }
+
+check_once_by_wine() { checking=check_once check_by_wine "$@"; }
+check_huge_by_wine() { checking=check_huge check_by_wine "$@"; }
 
 # A stand-in for wine, which fails as wine does, or prints what a program may print. It counts its
 # runs.
@@ -78,8 +81,8 @@ cc() {
 
 wanted_for_windows() {
     printf '%s\n' bin/libvulfsjor-0.dll include/vulfsjor-libb2/blake2.h include/vulfsjor.h{,pp} \
-        lib/cmake/vulfsjor/vulfsjor-config{,-version}.cmake lib/libvulfsjor-libb2.a \
-        lib/libvulfsjor{,-static,.dll}.a lib/pkgconfig/vulfsjor{,-static}.pc \
+        include/vulfsjor_threads.h lib/cmake/vulfsjor/vulfsjor-config{,-version}.cmake \
+        lib/libvulfsjor{,-static,-libb2,-threads,.dll}.a lib/pkgconfig/vulfsjor{,-static,-threads}.pc \
         lib/vulfsjor-libb2/libb2.a lib/vulfsjor-libb2/pkgconfig/libb2.pc | LC_ALL=C sort
 }
 
@@ -94,7 +97,7 @@ installs() {
 dll_is_right() {
     x86_64-w64-mingw32-objdump -p "$prefix/bin/libvulfsjor-0.dll" >"$work/dll" &&
         sed -n 's/^\t\[ *[0-9]*\].* \(vulfsjor_[a-z0-9_]*\)$/\1/p' "$work/dll" | LC_ALL=C sort |
-        diff - <(sed -n 's/^CALL("\(.*\)")$/\1/p' "$here/choose.c" | LC_ALL=C sort) &&
+        diff - <(sed -n 's/^ *\(vulfsjor_.*\);$/\1/p' "$here/vulfsjor.map" | LC_ALL=C sort) &&
         ! grep 'DLL Name' "$work/dll" | grep -v 'KERNEL32\|msvcrt\|ucrt'
 }
 
@@ -109,14 +112,14 @@ one_build_for_windows() {
 
 # Over a library for tests that goes from one build to the others, which the first family makes.
 all_builds_for_windows() {
-    [ -e "$work/both" ] || CC=$mingw "$here/join.sh" --test "$(seq -s '' 2 "$level")" "$work/both" \
+    [ -e "$work/both" ] || CC=$mingw "$here/make_libraries.sh" --test "$(seq -s '' 2 "$level")" "$work/both" \
         "$dist"/x86_64/vulfsjor-v[234].s || return 1
     archive=$work/both/libvulfsjor.a family=$1 &&
         compile_and_run "$work/test_both" -O2 $(family_words "$1") "$archive"
 }
 
 # The example of c/README.md over a library that has a trap in each function of one build, with
-# these arguments for join.sh.
+# these arguments for make_libraries.sh.
 example_with_traps() {
     local trapped=$1 texts=() build
     for build in v2 v3 v4; do
@@ -127,13 +130,12 @@ example_with_traps() {
         }
     done
     block_of c/README.md c >"$work/hello.c"
-    CC=$mingw "$here/join.sh" "${@:2}" "$work/traps" "${texts[@]}" && cc -O2 -I"$include" \
+    CC=$mingw "$here/make_libraries.sh" "${@:2}" "$work/traps" "${texts[@]}" && cc -O2 -I"$include" \
         "$work/hello.c" "$work/traps/libvulfsjor.a" -o "$work/hello" &&
         "$work/hello" >"$work/said" && diff "$work/said" <(wanted_of_readme)
 }
 chooses_the_build() {
-    example_with_traps v2 && example_with_traps v3 --test 2 &&
-        ! example_with_traps "v$level"
+    example_with_traps v2 && ! example_with_traps "v$level"
 }
 
 # CMake, with the static library and with the shared one, as a part of a project.
@@ -151,23 +153,85 @@ project_for_windows() {
         diff - <(wanted_of_readme)
 }
 
-# The program, built as README.md says, by so many cases of each command, and an input with each
+# The program, built as README.md says, by this many cases of each command, and an input with each
 # byte.
 program_for_windows() {
     CC=$mingw "$top/b2" --build "$work/b2.exe" && write_script "$work/b2" &&
-        python3 "$top/tests/specification.py" --program "$work/b2" --unicode --cases "$1" &&
+        python3 "$top/tests/compare_model.py" --program "$work/b2" --unicode --cases "$1" &&
         printf 'a\r\n\032\r\r\n\0b' >"$work/binary" &&
         [ "$("$work/b2" sum b512 <"$work/binary")" = "$(b2sum <"$work/binary" | cut -c-128)" ]
 }
 
-# One build of the program alone.
-one_program_for_windows() {
-    local text=$dist/x86_64/b2-$1.s
-    "$mingw" -O2 -municode "${warnings[@]}" "-DMAIN=$(main_of "$text")" "$here/b2.c" \
-        "$(with_macros "$text")" -o "$work/b2_one.exe" && write_script "$work/b2_one" &&
-        [ "$(printf abc | "$work/b2_one" sum s256)" = \
+# The program with this build of the library.
+program_with_build() {
+    local text=$dist/x86_64/b2.s object=$work/b2_text.o
+    [ -e "$object" ] || "$mingw" -c "$(with_macros "$text" "$dist"/x86_64/vulfsjor-v[234].s)" \
+        -o "$object" || return
+    "$mingw" -O2 -municode "${warnings[@]}" "-DMAIN=$(main_of "$text")" "-DCHOOSE_TEST=${1#v}" \
+        "-I$here/include" "$here"/{b2,choose}.c "$object" -o "$work/b2_one.exe" &&
+        write_script "$work/b2_one" && [ "$(printf abc | "$work/b2_one" sum s256)" = \
             "$(printf abc | python3 -c 'import hashlib, sys
 print(hashlib.blake2s(sys.stdin.buffer.read()).hexdigest())')" ]
+}
+
+# The threads of the library, and what they call of the system.
+threads_for_windows() {
+    "$mingw" -std=gnu99 -O2 "${warnings[@]}" -I"$include" "$tests/system.c" \
+        "$prefix/lib/libvulfsjor-threads.a" "$archive" -o "$work/system.exe" && cd "$work" &&
+        timeout 60 "$by_wine" "$work/system.exe" "$(nproc)"
+}
+
+# The program b2sum, and a folder with names that are not ASCII, bytes that a stream of text would
+# change, and a path that Windows opens by its prefix only.
+build_sums() {
+    local name
+    CC=$mingw "$top/b2sum" --build "$work/b2sum.exe" && write_script "$work/b2sum" &&
+        mkdir -p "$work/sums/dir" && cd "$work/sums" || return
+    long=$(printf 'long%0100d/' 1 2 3)
+    mkdir -p "$long" && printf long >"${long}file" && printf 'a\r\n\032\r\r\n\0b' >binary &&
+        : >empty && printf name >$'dir/caf\xc3\xa9 \xf0\x9f\x98\x80' && head -c 3000000 /dev/zero >dir/zeros &&
+        head -c 64 /dev/urandom >key
+}
+# The lines are those of Linux, also for names with `\`, which become names with `/`.
+sums_of_files() {
+    local name=$'dir/caf\xc3\xa9 \xf0\x9f\x98\x80' long
+    cd "$work/sums" && long=$(echo long*/long*/long*/file) && [ ${#long} -gt 300 ] &&
+        sums_by_hashlib binary empty "$name" "$long" >../wanted &&
+        "$work/b2sum" binary empty "${name//\//\\}" "$long" | diff ../wanted - &&
+        "$work/b2sum" <binary | diff - <(sums_by_hashlib binary | sed 's/binary/-/') &&
+        "$work/b2sum" '\\?\Z:'"${PWD//\//\\}\\${long//\//\\}" |
+        diff - <(sums_by_hashlib "$long" | sed "s|long.*|//?/Z:$PWD/&|") &&
+        "$work/b2sum" 'bin*' 'dir\*' 'e?pty' 'none*' 2>../said | diff - \
+            <(sums_by_hashlib binary "$name" dir/zeros empty) &&
+        diff ../said - <<<"b2sum: 'none*': No such file or directory"
+}
+# What was written on Linux is checked, and a manifest that was written here on Linux.
+sums_are_checked() {
+    cd "$work/sums" && sums_by_hashlib binary empty dir/* >../SUMS &&
+        "$work/b2sum" --check --strict ../SUMS | diff - \
+            <(printf '%s: OK\n' binary empty dir/*) &&
+        "$work/b2sum" --tag 'dir\*' empty >../SUMS && /usr/bin/b2sum --check --strict ../SUMS &&
+        echo >>empty && ! "$work/b2sum" --check ../SUMS >../said 2>../errors &&
+        grep -qx 'empty: FAILED' ../said &&
+        diff ../errors - <<<'b2sum: WARNING: 1 computed checksum did NOT match' && : >empty
+}
+# Folders, devices, keys, trees by threads, and progress, which nobody sees here.
+sums_of_others() {
+    cd "$work/sums" && ! "$work/b2sum" dir dir/none NUL >../said 2>../errors &&
+        diff ../errors <(printf 'b2sum: %s\n' "dir: Is a directory" \
+            "dir/none: No such file or directory") &&
+        diff ../said <(sums_by_hashlib empty | sed 's/empty/NUL/') &&
+        [ "$("$work/b2sum" --key-file key --no-names binary)" = "$(python3 -c 'import hashlib
+print(hashlib.blake2b(open("binary", "rb").read(), key=open("key", "rb").read()).hexdigest())')" ] &&
+        for threads in 0 1 3; do
+            "$work/b2sum" --tree 65536 --threads $threads --progress 'dir\zeros' 2>../errors |
+                sed 's/.* = //' | diff - <(roots_by_hashlib 65536 dir/zeros | cut -c -128) &&
+                [ ! -s ../errors ] || return
+        done
+}
+# Command lines and manifests next to coreutils.
+sums_next_to_coreutils() {
+    python3 "$top/tests/compare_coreutils.py" --by "$by_wine" --every "$1" "$work/b2sum.exe"
 }
 
 # The tests of the crate, from a copy, by a compiler that has the standard library for Windows.
@@ -179,9 +243,9 @@ crate_for_windows() {
         export CARGO_TARGET_X86_64_PC_WINDOWS_GNU_RUNNER=$by_wine &&
         export CARGO_TARGET_X86_64_PC_WINDOWS_GNU_LINKER=$mingw &&
         cargo=$(dirname "$rustc")/cargo &&
-        "$cargo" test --offline --target $target --lib --test glue &&
-        RUSTFLAGS='--cfg vulfsjor_build="v2"' CARGO_TARGET_DIR=$work/target_v2 \
-            "$cargo" test --offline --target $target --lib --test glue &&
+        "$cargo" test --offline --target $target --lib --test bindings &&
+        { [ -z "${VULFSJOR_TEST_HUGE-}" ] || RUSTFLAGS='--cfg vulfsjor_build="v2"' CARGO_TARGET_DIR=$work/target_v2 \
+            "$cargo" test --offline --target $target --lib --test bindings; } &&
         "$cargo" test --offline --target $target --test files progress &&
         "$cargo" build --offline --target $target --example sum && printf abc >"$work/abc" &&
         "$by_wine" "$CARGO_TARGET_DIR/$target/debug/examples/sum.exe" "$work/abc" | tr -d '\r' |
@@ -217,31 +281,47 @@ test_windows() {
     for family in b s; do
         check_by_wine "test.c, blake2$family, for Windows" compile_and_run "$work/test" -O2 \
             $(family_words $family) "$archive"
-        check_by_wine "test.c, blake2$family, for Windows, with the DLL" with_shared_library
-        check_by_wine "test.c, blake2$family, from one build to the others" \
+        check_once_by_wine "test.c, blake2$family, for Windows, with the DLL" with_shared_library
+        check_once_by_wine "test.c, blake2$family, from one build to the others" \
             all_builds_for_windows $family
-        check_by_wine "edges.c, blake2$family, for Windows" compare_lines edges -O2 -I"$include"
-        check_by_wine "passes.c, blake2$family, for Windows, through calls.h" \
+        check_by_wine "edge_cases.c, blake2$family, for Windows" compare_lines edge_cases -O2 -I"$include"
+        check_by_wine "passed_arguments.c, blake2$family, for Windows, through thunks.h" \
             passes_by_calls $family
         check_by_wine "key_scan.c, blake2$family, for Windows" scan_for_keys
-        check_by_wine "libb2_header.c, blake2$family, for Windows" compare_lines libb2_header -O2 \
+        check_once_by_wine "libb2_header.c, blake2$family, for Windows" compare_lines libb2_header -O2 \
             -I"$libb2" "$prefix/lib/libvulfsjor-libb2.a"
     done
     for family in bp sp; do
         check_by_wine "parallel.c, blake2$family, for Windows" parallel_cases -O2 "$archive"
-        check_by_wine "passes.c, blake2$family, for Windows, through calls.h" \
+        check_by_wine "passed_arguments.c, blake2$family, for Windows, through thunks.h" \
             passes_by_calls $family
     done
-    check "passes.c calls each function through calls.h" all_are_passed
-    check_by_wine "parts.c, for Windows" parts_with 500 -O2
-    for build in $(seq -f v%g 2 "$level"); do
+    for family in xb xs; do
+        check_by_wine "xof.c, blake2$family, for Windows" output_cases "$cases/$family" -O2 \
+            "$archive"
+        check_by_wine "passed_arguments.c, blake2$family, for Windows, through thunks.h" \
+            passes_by_calls $family
+    done
+    check "passed_arguments.c calls each function through thunks.h" all_are_passed
+    check_by_wine "tree_parts.c, for Windows" parts_with "$(turns 500)" -O2
+    for build in $(some $(seq -f v%g 2 "$level")); do
         check_by_wine "only the build $build for Windows" one_build_for_windows $build
-        check_by_wine "b2.exe of only the build $build" one_program_for_windows $build
+        check_by_wine "b2.exe with the build $build" program_with_build $build
     done
     check_by_wine "the build that this processor supports is chosen" chooses_the_build
-    check_by_wine "b2.exe next to the specification" program_for_windows 40
+    check_huge_by_wine "an older build is chosen if it is asked for" example_with_traps v3 --test 2
+    check_by_wine "b2.exe next to the specification" \
+        program_for_windows "$([ -n "${VULFSJOR_TEST_HUGE-}" ] && echo 40 || echo 10)"
+    check_by_wine "trees by threads on Windows" threads_for_windows
+    if check "b2sum.exe" build_sums; then
+        check_by_wine "b2sum.exe over files" sums_of_files
+        check_by_wine "b2sum.exe --check" sums_are_checked
+        check_by_wine "b2sum.exe over folders, devices and with a key" sums_of_others
+        check_by_wine "b2sum.exe next to coreutils" sums_next_to_coreutils \
+            "$([ -n "${VULFSJOR_TEST_HUGE-}" ] && echo 1 || echo 120)"
+    fi
     if has cmake; then
-        check_by_wine "a project by CMake for Windows" project_for_windows OFF
+        check_huge_by_wine "a project by CMake for Windows" project_for_windows OFF
         check_by_wine "a project by CMake for Windows, with a DLL" project_for_windows ON
     else
         skip "a project by CMake for Windows" "no cmake"

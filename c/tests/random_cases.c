@@ -6,6 +6,8 @@
  *   r b SIZE SALT PERSONA LEAF MESSAGE ROOT                   a tree of two levels
  *   m FAMILY SIZE KEY SALT PERSONA MESSAGE,.. DIGEST          BLAKE2b-256 of the joined digests
  *   p FAMILY SIZE KEY SALT PERSONA MESSAGE DIGEST             BLAKE2bp or BLAKE2sp
+ *   x FAMILY SIZE KEY SALT PERSONA MESSAGE OUTPUT             BLAKE2Xb or BLAKE2Xs, of a length that
+ *                                                             is not known if SIZE is 0
  *
  * Bytes are hexadecimal digits, and - is none. Prints how many cases there were; the status is 0 if
  * all digests are right. */
@@ -95,6 +97,30 @@ HASH(s)
 PARALLEL(bp)
 PARALLEL(sp)
 
+/* An output of this length, in one call or in three pieces. */
+#define OUTPUT(x, UNKNOWN)                                                                         \
+    static int output_##x(uint8_t *out, size_t length, size_t size, text key, text salt,           \
+                          text persona, text message) {                                            \
+        vulfsjor_blake2##x##_state state;                                                          \
+        size_t a = message.length / 3, b = length / 3, c = length - length / 5;                    \
+        if (size && !salt.length && !persona.length && message.length % 2)                         \
+            return vulfsjor_blake2##x(out, size, message.bytes, message.length, key.bytes,         \
+                                      key.length);                                                 \
+        if (vulfsjor_blake2##x##_init_salt_personal(&state, size ? size : UNKNOWN, key.bytes,      \
+                                                    key.length, salt.bytes, salt.length,           \
+                                                    persona.bytes, persona.length) ||              \
+            vulfsjor_blake2##x##_update(&state, message.bytes, a) ||                               \
+            vulfsjor_blake2##x##_update(&state, message.bytes + a, message.length - a))            \
+            return -1;                                                                             \
+        return vulfsjor_blake2##x##_squeeze(&state, out, b) ||                                     \
+                       vulfsjor_blake2##x##_squeeze(&state, out + b, c - b) ||                     \
+                       vulfsjor_blake2##x##_squeeze(&state, out + c, length - c)                   \
+                   ? -1                                                                            \
+                   : 0;                                                                            \
+    }
+OUTPUT(xb, VULFSJOR_BLAKE2XB_UNKNOWN_LENGTH)
+OUTPUT(xs, VULFSJOR_BLAKE2XS_UNKNOWN_LENGTH)
+
 /* The digest of the joined digests of messages between commas. */
 static int hash_many(uint8_t *out, int is_b, size_t size, text key, text salt, text persona,
                      char *words) {
@@ -117,11 +143,12 @@ static int hash_many(uint8_t *out, int is_b, size_t size, text key, text salt, t
 
 /* Whether the digest of a case is right. */
 static int is_right(char **field, int count) {
-    uint8_t out[64] = {0};
+    uint8_t out[5 * 64] = {0};
     char kind = field[0][0];
     int is_b = field[1][0] == 'b', status;
     size_t size = (size_t)atoi(field[2]);
     text wanted = from_hex(field[count - 1]);
+    if (wanted.length > sizeof out) return 0;
     if (kind == 'r') {
         text salt = from_hex(field[3]), persona = from_hex(field[4]), message = from_hex(field[6]);
         status = vulfsjor_tree_root(out, size, message.bytes, message.length, salt.bytes,
@@ -133,12 +160,15 @@ static int is_right(char **field, int count) {
             status = hash_many(out, is_b, size, key, salt, persona, field[6]);
         else if (kind == 'p')
             status = (is_b ? hash_bp : hash_sp)(out, size, key, salt, persona, from_hex(field[6]));
+        else if (kind == 'x')
+            status = (is_b ? output_xb : output_xs)(out, wanted.length, size, key, salt, persona,
+                                                    from_hex(field[6]));
         else
             status = (is_b ? hash_b : hash_s)(out, size, key, salt, persona,
                                               kind == 'n' ? field[6] : NULL,
                                               from_hex(field[count - 2]));
     }
-    return !status && wanted.length <= sizeof out && !memcmp(out, wanted.bytes, wanted.length);
+    return !status && !memcmp(out, wanted.bytes, wanted.length);
 }
 
 int main(void) {

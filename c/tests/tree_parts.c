@@ -1,11 +1,13 @@
 /* The edges of the functions of vulfsjor.h that hash a tree in parts, and of counts: each pointer
  * null with length 0 and 1, wrong lengths, leaves of no bytes, every kind of flag, places at the
  * limits, what stays unchanged, and random cuts, plans, orders and changes. Prints a line for digests that
- * Python's hashlib has to have, as check_lines.py reads them; returns 0 if all else is as it should
- * be.
+ * Python's hashlib has to have, as check_with_hashlib.py reads them; returns 0 if all else is as it
+ * should be.
  *
- *   cc -std=c99 -Wall -Wextra -Wpedantic -Werror -I FOLDER/include parts.c ARCHIVE -o parts
- *   ./parts [TURNS] | python3 check_lines.py    status 0 if every digest is hashlib's; TURNS is how
+ *   cc -std=c99 -Wall -Wextra -Wpedantic -Werror -I FOLDER/include tree_parts.c ARCHIVE
+ *       -o tree_parts
+ *   ./tree_parts [TURNS] | python3 check_with_hashlib.py
+ *                                               status 0 if every digest is hashlib's; TURNS is how
  *                                               many random messages are cut, 20,000 without it */
 #include "vulfsjor.h"
 #include "check.h"
@@ -15,7 +17,7 @@
 
 enum { MAX = 64, SALT = 16, MOST_BYTES = 3000 };
 
-/* As those of check_lines.py. */
+/* As those of check_with_hashlib.py. */
 static uint8_t bytes[8 * 128 + 64], salt[SALT + 2], persona[SALT + 2];
 /* Digests of leaves, and the bytes that `out` has before a call writes to it. */
 static uint8_t out[64 * (MOST_BYTES + 1)], blank[sizeof out];

@@ -1,13 +1,13 @@
-/* Calls functions of the C library, for instructions.sh, which runs this under valgrind
+/* Calls functions of the C library, for instruction_counts.sh, which runs this under valgrind
  * and counts in the function of its own that the first word names:
  *
  *   compare_memcmp LENGTH      two texts of this length that differ at one place, then at the next
- *   compare_blake2b LENGTH      the digest of a keyed run, in so many bytes, and such a tag
+ *   compare_blake2b LENGTH      the digest of a keyed run, in this many bytes, and such a tag
  *   compare_blake2s LENGTH      the same of BLAKE2s
- *   hash_root LENGTH            the root of a tree with leaves of 64 KiB over so many bytes
- *   hash_leaves_at_once COUNT   so many leaves and one byte, given to a tree's state in one update
+ *   hash_root LENGTH            the root of a tree with leaves of 64 KiB over this many bytes
+ *   hash_leaves_at_once COUNT   this many leaves and one byte, given to a tree's state in one update
  *   hash_leaves_in_turn COUNT   the same bytes, given leaf by leaf
- *   hash_many_blake2b COUNT     so many messages of 4,096 bytes, in one call
+ *   hash_many_blake2b COUNT     this many messages of 4,096 bytes, in one call
  *   hash_each_blake2b COUNT     the same messages, each in a call
  *   hash_many_blake2s COUNT     the same of BLAKE2s
  *   hash_each_blake2s COUNT

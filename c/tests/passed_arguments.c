@@ -4,11 +4,12 @@
  * that is called, and returns 0 if all checks pass.
  *
  *   cc -std=c99 -Wall -Wextra -Wpedantic -Werror -I FOLDER/include
- *       -I FOLDER/include/vulfsjor-libb2 passes.c -o passes
+ *       -I FOLDER/include/vulfsjor-libb2 passed_arguments.c -o passed_arguments
  *   cc the same with -DTEST_S                the same for BLAKE2s, without the tree
  *   cc the same with -DTEST_P                the same for BLAKE2bp, or BLAKE2sp with both
- *   cc the same with -DCHOOSE_ONE=passes -DCHOOSE_FUNCTIONS='"calls.h"'
- *                                            the same through calls.h, as on Windows and macOS: the
+ *   cc the same with -DTEST_X                the same for BLAKE2Xb, or BLAKE2Xs with -DTEST_S
+ *   cc the same with -DCHOOSE_ONE=passes -DCHOOSE_FUNCTIONS='"thunks.h"'
+ *                                            the same through thunks.h, as on Windows and macOS: the
  *                                            functions of this file stand for the assembly */
 #ifdef CHOOSE_ONE
 #include "../choose.c"
@@ -106,6 +107,27 @@ FAMILY_NOTES(blake2bp)
 FAMILY_NOTES(blake2sp)
 MORE_NOTES(blake2b)
 MORE_NOTES(blake2s)
+/* The functions of BLAKE2Xb and BLAKE2Xs. */
+#define OUTPUT_NOTES(x)                                                                            \
+    NOTE(int32_t, vulfsjor_ffi_##x, 6, (OUT, BYTES(i), BYTES(k)),                                  \
+         (o, n, i, i_length, k, k_length))                                                         \
+    NOTE(int32_t, vulfsjor_ffi_##x##_derive_key, 6, (OUT, BYTES(k), BYTES(c)),                     \
+         (o, n, k, k_length, c, c_length))                                                         \
+    NOTE(int32_t, vulfsjor_ffi_##x##_init_salt_personal, 8,                                        \
+         (vulfsjor_##x##_state * S, uint64_t n, BYTES(k), MORE),                                   \
+         (S, n, k, k_length, s, s_length, p, p_length))                                            \
+    NOTE(int32_t, vulfsjor_ffi_##x##_update, 3, (vulfsjor_##x##_state * S, BYTES(i)),              \
+         (S, i, i_length))                                                                         \
+    NOTE(int32_t, vulfsjor_ffi_##x##_squeeze, 3, (vulfsjor_##x##_state * S, OUT), (S, o, n))       \
+    NOTE(int32_t, vulfsjor_ffi_##x##_reset, 1, (vulfsjor_##x##_state * S), (S))                    \
+    NOTE(uint64_t, vulfsjor_ffi_##x##_left, 1, (const vulfsjor_##x##_state *S), (S))               \
+    NOTE(uint64_t, vulfsjor_ffi_##x##_count, 1, (const vulfsjor_##x##_state *S), (S))              \
+    NOTE(size_t, vulfsjor_ffi_##x##_state_size, 0, (void), ())                                     \
+    DEFINED(void, vulfsjor_ffi_##x##_wipe)(vulfsjor_##x##_state * S) {                             \
+        note("vulfsjor_ffi_" #x "_wipe", 1, (const uint64_t[]){Z(S)});                             \
+    }
+OUTPUT_NOTES(blake2xb)
+OUTPUT_NOTES(blake2xs)
 
 NOTE(int32_t, vulfsjor_ffi_memcmp, 4, (BYTES(a), BYTES(b)), (a, a_length, b, b_length))
 NOTE(int32_t, vulfsjor_ffi_tree_root, 9, (OUT, BYTES(i), MORE, uint32_t l),
@@ -144,7 +166,9 @@ NOTE(int32_t, vulfsjor_ffi_tree_plan_update, 4,
 NOTE(int32_t, vulfsjor_ffi_tree_part, 3, (vulfsjor_part *p, const vulfsjor_plan *P, uint64_t i),
      (p, P, i))
 NOTE(size_t, vulfsjor_ffi_tree_state_size, 0, (void), ())
-NOTE(uint32_t, vulfsjor_ffi_version, 0, (void), ())
+#ifndef CHOOSE_ONE
+NOTE(uint32_t, vulfsjor_library_version, 0, (void), ())
+#endif
 DEFINED(void, vulfsjor_ffi_tree_wipe)(vulfsjor_tree_state *S) {
     note("vulfsjor_ffi_tree_wipe", 1, (const uint64_t[]){Z(S)});
 }
@@ -193,7 +217,8 @@ static int is_call(const char *name, size_t count, const uint64_t *wanted) {
 #endif
 #define WHOLE "vulfsjor_ffi_blake2" FAMILY
 #define NAME(name) WHOLE "_" #name
-#if defined(TEST_S) && defined(TEST_P)
+#if defined(TEST_X)
+#elif defined(TEST_S) && defined(TEST_P)
 #define B(name) blake2sp_##name
 #define HASH blake2sp
 #elif defined(TEST_P)
@@ -215,6 +240,33 @@ static int is_call(const char *name, size_t count, const uint64_t *wanted) {
 static uint8_t in[1], out[1], key[1], salt[1], persona[1];
 static state_t state;
 
+#ifdef TEST_X
+static void outputs(void) {
+    PASSES(BLAKE(init)(&state, L1), NAME(init_salt_personal), 8,
+           (&state, L1, ANY, 0, ANY, 0, ANY, 0));
+    PASSES(BLAKE(init_key)(&state, L1, key, L2), NAME(init_salt_personal), 8,
+           (&state, L1, key, L2, ANY, 0, ANY, 0));
+    PASSES(BLAKE(init_salt_personal)(&state, L1, key, L2, salt, L3, persona, L4),
+           NAME(init_salt_personal), 8, (&state, L1, key, L2, salt, L3, persona, L4));
+    PASSES(BLAKE(init_salt_personal)(&state, L1, 0, 0, 0, 0, 0, 0), NAME(init_salt_personal), 8,
+           (&state, L1, ANY, 0, ANY, 0, ANY, 0));
+    PASSES(BLAKE(update)(&state, in, L1), NAME(update), 3, (&state, in, L1));
+    PASSES(BLAKE(update)(&state, NULL, 0), NAME(update), 3, (&state, ANY, 0));
+    PASSES(BLAKE(squeeze)(&state, out, L1), NAME(squeeze), 3, (&state, out, L1));
+    PASSES(BLAKE(squeeze)(&state, NULL, 0), NAME(squeeze), 3, (&state, ANY, 0));
+    PASSES(BLAKE(reset)(&state), NAME(reset), 1, (&state));
+    COUNTS(uint64_t, BLAKE(left)(&state), NAME(left), 1, (&state));
+    COUNTS(uint64_t, BLAKE(count)(&state), NAME(count), 1, (&state));
+    COUNTS(size_t, LIBRARY(state_size)(), NAME(state_size), 0, ());
+    BLAKE(wipe)(&state);
+    CHECK(is_call(NAME(wipe), 1, (const uint64_t[]){Z(&state)}));
+    PASSES(ONE_CALL(out, L1, in, L2, key, L3), WHOLE, 6, (out, L1, in, L2, key, L3));
+    PASSES(BLAKE(derive_key)(out, L1, key, L2, in, L3), NAME(derive_key), 6,
+           (out, L1, key, L2, in, L3));
+    PASSES(BLAKE(derive_key)(out, L1, key, L2, NULL, 0), NAME(derive_key), 6,
+           (out, L1, key, L2, ANY, 0));
+}
+#else
 static void inits(void) {
     PASSES(BLAKE(init)(&state, L1), NAME(init_salt_personal), 8,
            (&state, L1, ANY, 0, ANY, 0, ANY, 0));
@@ -292,7 +344,9 @@ static void names_of_libb2(void) {
 #endif
 }
 
-#if !defined(TEST_S) && !defined(TEST_P)
+#endif
+
+#if !defined(TEST_S) && !defined(TEST_P) && !defined(TEST_X)
 static void trees(void) {
     vulfsjor_tree_state tree;
     const uint32_t leaf = ~(uint32_t)6;
@@ -301,7 +355,12 @@ static void trees(void) {
     vulfsjor_part part;
 
     PASSES(vulfsjor_memcmp(in, key, L2), "vulfsjor_ffi_memcmp", 4, (in, L2, key, L2));
-    COUNTS(uint32_t, vulfsjor_version(), "vulfsjor_ffi_version", 0, ());
+#ifdef CHOOSE_ONE
+    /* choose.c has the version itself, and the assembly has none */
+    CHECK(vulfsjor_version() == VULFSJOR_VERSION_NUMBER && !last.name);
+#else
+    COUNTS(uint32_t, vulfsjor_version(), "vulfsjor_library_version", 0, ());
+#endif
     COUNTS(size_t, vulfsjor_ffi_tree_state_size(), "vulfsjor_ffi_tree_state_size", 0, ());
     SAME(tree_root, 9, (out, L1, in, L2, salt, L3, persona, L4, leaf));
     SAME(tree_init, 7, (&tree, L1, salt, L2, persona, L3, leaf));
@@ -345,6 +404,9 @@ static void trees(void) {
 #endif
 
 int main(void) {
+#ifdef TEST_X
+    outputs();
+#else
     inits();
 #ifndef TEST_P
     nodes_and_messages();
@@ -353,6 +415,7 @@ int main(void) {
     names_of_libb2();
 #if !defined(TEST_S) && !defined(TEST_P)
     trees();
+#endif
 #endif
     fprintf(stderr, "%d checks, %d failures\n", checks, fails);
     return fails != 0;

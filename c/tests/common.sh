@@ -53,10 +53,25 @@ needs_sanitizers() {
     links "${sanitizers[@]}" && "$work/linked" || missing="cc has none"
 }
 
-# The words of a test program for a family: b, s, bp or sp.
+# Whether each object of these archives has a mark for branch protection, by the binutils of this
+# prefix: MARK PREFIX ARCHIVE..
+are_marked() {
+    local mark=$1 binutils=$2 archive object folder=$work/objects
+    shift 2
+    for archive; do
+        rm -rf "$folder" && mkdir "$folder" && (cd "$folder" && "${binutils}ar" x "$archive") || return 1
+        for object in "$folder"/*.o; do
+            "${binutils}readelf" -nW "$object" | grep -q "Properties: $mark\$" ||
+                { echo "no $mark: $archive, $object" && return 1; }
+        done
+    done
+}
+
+# The words of a test program for a family: b, s, bp, sp, xb or xs.
 family_words() {
-    [[ $1 != s* ]] || echo -DTEST_S
+    [[ $1 != *s* ]] || echo -DTEST_S
     [[ $1 != *p ]] || echo -DTEST_P
+    [[ $1 != x* ]] || echo -DTEST_X
 }
 
 # The words for a program over a library of this name.
@@ -81,7 +96,8 @@ write_cases() {
     for family in b s; do
         python3 "$top/tests/vectors.py" --lines $family >"$work/lines" &&
             grep '^[hnrt] ' "$work/lines" >"$cases/$family" &&
-            grep '^p ' "$work/lines" >"$cases/${family}p" || return 1
+            grep '^p ' "$work/lines" >"$cases/${family}p" &&
+            grep '^x ' "$work/lines" >"$cases/x$family" || return 1
     done
 }
 

@@ -1,15 +1,17 @@
 /* Tests the edges of each function of vulfsjor.h: each pointer null with length 0 and 1, every size
  * from 0 to 65, counts near 2^64 and 2^58, flags, parameter blocks, states that are not ready, what
  * is left of a key, several messages, constants, and the state's fields. Prints a line for each
- * digest that check_lines.py compares with Python's hashlib. Returns 0 if every other check passes.
+ * digest that check_with_hashlib.py compares with Python's hashlib. Returns 0 if every other check
+ * passes.
  *
- *   cc -std=c99 -Wall -Wextra -Wpedantic -Werror -I FOLDER/include edges.c ARCHIVE -o edges
- *   cc the same with -DTEST_S                   the same for BLAKE2s, without the tree
- *   ./edges | python3 check_lines.py            status 0 if every digest is that of hashlib */
+ *   cc -std=c99 -Wall -Wextra -Wpedantic -Werror -I FOLDER/include edge_cases.c ARCHIVE
+ *       -o edge_cases
+ *   cc the same with -DTEST_S                       the same for BLAKE2s, without the tree
+ *   ./edge_cases | python3 check_with_hashlib.py    status 0 if every digest is that of hashlib */
 #include "check.h"
 #include "family.h"
 
-/* Bytes that count up from a start, which check_lines.py makes in the same way. */
+/* Bytes that count up from a start, which check_with_hashlib.py makes in the same way. */
 static uint8_t bytes[8 * BLOCK + 64];
 static uint8_t key[MAX + 2], salt[SALT + 2], persona[SALT + 2];
 
@@ -669,6 +671,18 @@ static void refused_messages(void) {
           is_untouched(out, 0, sizeof out));
 }
 
+/* The last of many messages is too long to count with the key's block: nothing is written. */
+static void refused_last_message(void) {
+    enum { COUNT = 65 };
+    static uint8_t out[COUNT * MAX];
+    vulfsjor_message messages[COUNT];
+    fresh(out, sizeof out);
+    for (size_t i = 0; i < COUNT; i++) messages[i].bytes = bytes, messages[i].length = i;
+    messages[COUNT - 1].length = ~(size_t)0 - BLOCK + 1;
+    CHECK_64(BLAKE(many)(out, MAX, messages, COUNT, key, 1, 0, 0, 0, 0) == -1);
+    CHECK(is_untouched(out, 0, sizeof out));
+}
+
 /* ---- constants, fields and sizes */
 
 static void constants(void) {
@@ -889,6 +903,7 @@ int main(void) {
     keyed_states();
     many_messages();
     refused_messages();
+    refused_last_message();
     constants();
 #ifndef TEST_S
     every_root();

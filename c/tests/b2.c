@@ -1,7 +1,7 @@
 /* Calls each function of ../b2.c, which has the main, with malloc, realloc and free that count and
  * can refuse:
  *
- *   cc -DMAIN=checks -Wl,--wrap=malloc,--wrap=realloc,--wrap=free b2.c tests/program.c -o program
+ *   cc -DMAIN=checks -Wl,--wrap=malloc,--wrap=realloc,--wrap=free b2.c tests/b2.c -o program
  *   program one "two words" ""
  *
  * It prints each check that does not hold, and its status is 7 if all hold. */
@@ -30,7 +30,7 @@ static int fails;
     do {                                                            \
         if (!(condition)) {                                         \
             fails++;                                                \
-            printf("program.c:%d: not %s\n", __LINE__, #condition); \
+            printf("b2.c:%d: not %s\n", __LINE__, #condition); \
         }                                                           \
     } while (0)
 
@@ -143,7 +143,7 @@ static void check_write(void) {}
 
 #ifdef HAS_LEAVES
 struct leaf {
-    unsigned told[4], active[4];
+    unsigned reported[4], active[4];
 };
 const struct leaf *__x86_get_cpuid_feature_leaf(unsigned number);
 #endif
@@ -152,14 +152,14 @@ const struct leaf *__x86_get_cpuid_feature_leaf(unsigned number);
 /* The leaves of a processor that is made up. */
 void make_up(unsigned first, unsigned seventh, unsigned extended, unsigned saved);
 
-static bool is_leaf(unsigned number, unsigned at, unsigned told, unsigned active) {
+static bool is_leaf(unsigned number, unsigned at, unsigned reported, unsigned active) {
     const struct leaf *leaf = __x86_get_cpuid_feature_leaf(number);
-    return leaf->told[at] == told && leaf->active[at] == active;
+    return leaf->reported[at] == reported && leaf->active[at] == active;
 }
 
 static void check_leaves(void) {
     const unsigned all = ~0u, first = 1u << 12 | 1u << 28 | 1u << 29, avx2 = 1u << 5;
-    const unsigned no_xsave = ~(1u << 27), other = 0xdeadbeef; /* as processor.h has it */
+    const unsigned no_xsave = ~(1u << 27), other = 0xdeadbeef; /* as fake_cpuid.h has it */
 
     for (unsigned saved = 0; saved < 16; saved++) {
         const bool saves = saved == 6 || saved == 7 || saved >= 14;

@@ -36,13 +36,6 @@ static unsigned char level(void) {
                    : name##_v2 arguments)
 #endif
 
-#ifndef CHOOSE_SHOWN
-#define SHOWN HIDDEN
-#elif defined(_WIN32)
-#define SHOWN __declspec(dllexport)
-#else
-#define SHOWN __attribute__((visibility("default")))
-#endif
 #define CALL(name, type, parameters, arguments) \
     DECLARE(name, type, parameters)             \
     SHOWN type name parameters { return CHOSEN(name, arguments); }
@@ -51,7 +44,6 @@ static unsigned char level(void) {
     SHOWN void name parameters { CHOSEN(name, arguments); }
 
 /* The functions that vulfsjor.h declares, as tools/exports.py writes them. */
-CALL(vulfsjor_ffi_version, uint32_t, (void), ())
 CALL(vulfsjor_ffi_memcmp, int32_t, (const uint8_t *a, size_t a_length, const uint8_t *b,
      size_t b_length), (a, a_length, b, b_length))
 CALL_VOID(vulfsjor_ffi_wipe, (uint8_t *bytes, size_t length), (bytes, length))
@@ -165,6 +157,46 @@ CALL_VOID(vulfsjor_ffi_blake2sp_wipe, (vulfsjor_blake2sp_state *state), (state))
 CALL(vulfsjor_ffi_blake2sp_digest_size, size_t, (const vulfsjor_blake2sp_state *state), (state))
 CALL(vulfsjor_ffi_blake2sp_count, uint64_t, (const vulfsjor_blake2sp_state *state), (state))
 CALL(vulfsjor_ffi_blake2sp_state_size, size_t, (void), ())
+
+CALL(vulfsjor_ffi_blake2xb, int32_t, (uint8_t *out, size_t out_length, const uint8_t *input,
+     size_t input_length, const uint8_t *key, size_t key_length), (out, out_length, input,
+     input_length, key, key_length))
+CALL(vulfsjor_ffi_blake2xb_derive_key, int32_t, (uint8_t *out, size_t out_length,
+     const uint8_t *key, size_t key_length, const uint8_t *context, size_t context_length), (out,
+     out_length, key, key_length, context, context_length))
+CALL(vulfsjor_ffi_blake2xb_init_salt_personal, int32_t, (vulfsjor_blake2xb_state *state,
+     uint64_t xof_length, const uint8_t *key, size_t key_length, const uint8_t *salt,
+     size_t salt_length, const uint8_t *personal, size_t personal_length), (state, xof_length, key,
+     key_length, salt, salt_length, personal, personal_length))
+CALL(vulfsjor_ffi_blake2xb_update, int32_t, (vulfsjor_blake2xb_state *state, const uint8_t *input,
+     size_t input_length), (state, input, input_length))
+CALL(vulfsjor_ffi_blake2xb_squeeze, int32_t, (vulfsjor_blake2xb_state *state, uint8_t *out,
+     size_t out_length), (state, out, out_length))
+CALL(vulfsjor_ffi_blake2xb_reset, int32_t, (vulfsjor_blake2xb_state *state), (state))
+CALL_VOID(vulfsjor_ffi_blake2xb_wipe, (vulfsjor_blake2xb_state *state), (state))
+CALL(vulfsjor_ffi_blake2xb_left, uint64_t, (const vulfsjor_blake2xb_state *state), (state))
+CALL(vulfsjor_ffi_blake2xb_count, uint64_t, (const vulfsjor_blake2xb_state *state), (state))
+CALL(vulfsjor_ffi_blake2xb_state_size, size_t, (void), ())
+
+CALL(vulfsjor_ffi_blake2xs, int32_t, (uint8_t *out, size_t out_length, const uint8_t *input,
+     size_t input_length, const uint8_t *key, size_t key_length), (out, out_length, input,
+     input_length, key, key_length))
+CALL(vulfsjor_ffi_blake2xs_derive_key, int32_t, (uint8_t *out, size_t out_length,
+     const uint8_t *key, size_t key_length, const uint8_t *context, size_t context_length), (out,
+     out_length, key, key_length, context, context_length))
+CALL(vulfsjor_ffi_blake2xs_init_salt_personal, int32_t, (vulfsjor_blake2xs_state *state,
+     uint64_t xof_length, const uint8_t *key, size_t key_length, const uint8_t *salt,
+     size_t salt_length, const uint8_t *personal, size_t personal_length), (state, xof_length, key,
+     key_length, salt, salt_length, personal, personal_length))
+CALL(vulfsjor_ffi_blake2xs_update, int32_t, (vulfsjor_blake2xs_state *state, const uint8_t *input,
+     size_t input_length), (state, input, input_length))
+CALL(vulfsjor_ffi_blake2xs_squeeze, int32_t, (vulfsjor_blake2xs_state *state, uint8_t *out,
+     size_t out_length), (state, out, out_length))
+CALL(vulfsjor_ffi_blake2xs_reset, int32_t, (vulfsjor_blake2xs_state *state), (state))
+CALL_VOID(vulfsjor_ffi_blake2xs_wipe, (vulfsjor_blake2xs_state *state), (state))
+CALL(vulfsjor_ffi_blake2xs_left, uint64_t, (const vulfsjor_blake2xs_state *state), (state))
+CALL(vulfsjor_ffi_blake2xs_count, uint64_t, (const vulfsjor_blake2xs_state *state), (state))
+CALL(vulfsjor_ffi_blake2xs_state_size, size_t, (void), ())
 
 CALL(vulfsjor_ffi_tree_root, int32_t, (uint8_t *out, size_t out_length, const uint8_t *input,
      size_t input_length, const uint8_t *salt, size_t salt_length, const uint8_t *personal,

@@ -1,6 +1,9 @@
 #!/usr/bin/env bash
 # Tests the library from C and C++, and the examples of c/README.md.
-source "$(dirname "$(readlink -f "$0")")/installed.sh"
+source "$(dirname "$(readlink -f "$0")")/common.sh"
+
+# A test of code that all families share: of BLAKE2s and its kin, which repeat BLAKE2b, only in the full test.
+check_once() { if [[ $family == *s* ]]; then check_huge "$@"; else check "$@"; fi; }
 
 # Compiles test.c to this program with these words.
 compile() {
@@ -72,35 +75,36 @@ compare_lines() {
     shift
     cc -std=c99 -g "${warnings[@]}" $(family_words "$family") -o "$work/$source" \
         "$tests/$source.c" "$@" "$archive" &&
-        "$work/$source" >"$work/lines" && python3 "$tests/check_lines.py" <"$work/lines"
+        "$work/$source" >"$work/lines" && python3 "$tests/check_with_hashlib.py" <"$work/lines"
 }
 
 # What the inline functions pass to the library, which is a part of the test; and what those of
-# calls.h pass to the assembly on Windows and macOS. With both conventions of calls in one file the
+# thunks.h pass to the assembly on Windows and macOS. With both conventions of calls in one file the
 # compiler of MinGW fails above -O0.
 passes() {
     cc -std=c99 -O1 "${warnings[@]}" $(family_words "$1") -I"$include" -I"$libb2" "${@:2}" \
-        "$tests/passes.c" -o "$work/passes" && "$work/passes" >"$work/passed_$1"
+        "$tests/passed_arguments.c" -o "$work/passed_arguments" &&
+        "$work/passed_arguments" >"$work/passed_$1"
 }
-passes_by_calls() { passes "$1" -O0 -DCHOOSE_ONE=passes '-DCHOOSE_FUNCTIONS="calls.h"'; }
+passes_by_calls() { passes "$1" -O0 -DCHOOSE_ONE=passes '-DCHOOSE_FUNCTIONS="thunks.h"'; }
 
-# Whether passes.c has called each function of the library, with all families.
+# Whether passed_arguments.c has called each function of the library, with all families.
 all_are_passed() {
-    LC_ALL=C sort -u "$work"/passed_{b,s,bp,sp} |
+    LC_ALL=C sort -u "$work"/passed_{b,s,bp,sp,xb,xs} |
         diff - <(sed -n 's/^CALL("\(.*\)")$/\1/p' "$here/choose.c" | LC_ALL=C sort)
 }
 
 # Which argument is refused.
 refused_arguments() {
-    cc -std=c99 -O1 "${warnings[@]}" $(family_words "$1") -I"$include" "$tests/refused.c" \
+    cc -std=c99 -O1 "${warnings[@]}" $(family_words "$1") -I"$include" "$tests/refused_argument.c" \
         "$archive" -o "$work/refused" && "$work/refused"
 }
 
 # Buffers of more than 2^32 bytes. VULFSJOR_TEST_HUGE in the environment adds those that take long.
 long_buffers() {
-    cc -std=gnu99 -O2 "${warnings[@]}" $(family_words "$1") -I"$include" "$tests/lengths.c" \
-        "$prefix/lib/libvulfsjor-threads.a" "$archive" -pthread -o "$work/lengths" &&
-        "$work/lengths"
+    cc -std=gnu99 -O2 "${warnings[@]}" $(family_words "$1") -I"$include" "$tests/huge.c" \
+        "$prefix/lib/libvulfsjor-threads.a" "$archive" -pthread -o "$work/huge" &&
+        "$work/huge"
 }
 
 # A program in C++ over all headers.
@@ -117,7 +121,7 @@ compile_hasher() {
 }
 hasher_of_cpp() {
     compile_hasher "$@" "$archive" -o "$work/hasher" &&
-        "$work/hasher" >"$work/lines" && python3 "$tests/check_lines.py" <"$work/lines"
+        "$work/hasher" >"$work/lines" && python3 "$tests/check_with_hashlib.py" <"$work/lines"
 }
 
 # The example in C by a compiler, with the library of this name.
@@ -186,19 +190,19 @@ test_family() {
     family=$1
     check "test.c, blake2$family" compile_and_run "$work/test_$family" -O2 $(family_words $family) \
         "$archive"
-    check "test.c, blake2$family, with the shared library" with_shared_library
-    check "edges.c, blake2$family" compare_lines edges -O2 -I"$include"
-    for level in 0 2; do
+    check_once "test.c, blake2$family, with the shared library" with_shared_library
+    check "edge_cases.c, blake2$family" compare_lines edge_cases -O2 -I"$include"
+    for level in $(some 2 0); do
         check "libb2_header.c, blake2$family, -O$level" compare_lines libb2_header -O$level \
             -I"$libb2"
     done
     needs_sanitizers
-    check "test.c, blake2$family, with sanitizers" compile_and_run "$work/test_san_$family" -O1 \
+    check_once "test.c, blake2$family, with sanitizers" compile_and_run "$work/test_san_$family" -O1 \
         "${sanitizers[@]}" $(family_words $family) "$archive"
-    check "edges.c, blake2$family, with sanitizers" compare_lines edges -O1 -I"$include" \
+    check_once "edge_cases.c, blake2$family, with sanitizers" compare_lines edge_cases -O1 -I"$include" \
         "${sanitizers[@]}"
     needs valgrind
-    check "test.c, blake2$family, in valgrind" run_in_valgrind
+    check_once "test.c, blake2$family, in valgrind" run_in_valgrind
     needs
 }
 
@@ -213,11 +217,34 @@ parallel_cases() {
 test_parallel() {
     family=$1
     check "parallel.c, blake2$family" parallel_cases -O2 "$archive"
-    check "parallel.c, blake2$family, with the shared library" parallel_cases -O2 "$shared"
+    check_once "parallel.c, blake2$family, with the shared library" parallel_cases -O2 "$shared"
     needs_sanitizers
-    check "parallel.c, blake2$family, with sanitizers" parallel_cases -O1 "${sanitizers[@]}" \
+    check_once "parallel.c, blake2$family, with sanitizers" parallel_cases -O1 "${sanitizers[@]}" \
         "$archive"
     needs
+}
+
+# xof.c of a family over test vectors, with these words.
+output_cases() {
+    cc -std=c99 -g "${warnings[@]}" -I"$include" $(family_words "$family") -o "$work/xof" \
+        "$tests/xof.c" "${@:2}" && LD_LIBRARY_PATH=$prefix/lib "$work/xof" "$1"
+}
+
+# BLAKE2Xb or BLAKE2Xs.
+test_outputs() {
+    family=$1
+    check "xof.c, blake2$family" output_cases "$cases/$family" -O2 "$archive"
+    check_once "xof.c, blake2$family, with the shared library" output_cases "$cases/$family" -O2 "$shared"
+    needs_sanitizers
+    check_once "xof.c, blake2$family, with sanitizers" output_cases "$cases/$family" -O1 \
+        "${sanitizers[@]}" "$archive"
+    needs
+    if python3 "$top/tests/vectors.py" --authors "${family#x}" >"$work/authors_$family"; then
+        check "the authors' vectors of BLAKE2X in C, blake2$family" output_cases \
+            "$work/authors_$family" -O2 "$archive"
+    else
+        skip "the authors' vectors of BLAKE2X in C, blake2$family" "no golang-golang-x-crypto-dev"
+    fi
 }
 
 # What calls leave of a key on the dead stack, and in a state.
@@ -227,7 +254,7 @@ scan_for_keys() {
 }
 
 test_keys() {
-    for family in b s bp sp; do
+    for family in b s bp sp xb xs; do
         check "key_scan.c, blake2$family" scan_for_keys
     done
 }
@@ -240,7 +267,7 @@ test_examples() {
     needs
     check "the program c/examples/sum.c" sum_example
     check "the program c/examples/duplicates.c" duplicates_example
-    check "the benchmark bench/calls.c" bench_runs
+    check_huge "the benchmark bench/calls.c" bench_runs
     check "the example c/examples/ctypes_hash.py" python_example
 }
 
@@ -255,27 +282,28 @@ test_languages() {
     needs c++ python3
     # Each standard with exceptions and without, and each compiler with all of these.
     check "hasher.cpp in C++17" hasher_of_cpp c++ c++17 -O1
-    check "hasher.cpp in C++20, compiled" compile_hasher c++ c++20 -fsyntax-only
+    check_huge "hasher.cpp in C++20, compiled" compile_hasher c++ c++20 -fsyntax-only
     needs clang++ python3
-    check "hasher.cpp in C++17, by clang++, without exceptions, compiled" compile_hasher clang++ \
+    check_huge "hasher.cpp in C++17, by clang++, without exceptions, compiled" compile_hasher clang++ \
         c++17 -fno-exceptions -fsyntax-only
     check "hasher.cpp in C++20, by clang++, without exceptions" hasher_of_cpp clang++ c++20 \
         -fno-exceptions
     needs
     test_keys
-    for family in b s bp sp; do
-        check "passes.c, blake2$family" passes $family
-        check "passes.c, blake2$family, through calls.h" passes_by_calls $family
+    for family in b s bp sp xb xs; do
+        check "passed_arguments.c, blake2$family" passes $family
+        check "passed_arguments.c, blake2$family, through thunks.h" passes_by_calls $family
     done
     for family in b s; do
-        check "refused.c, blake2$family" refused_arguments $family
-        check "lengths.c, blake2$family" long_buffers $family
+        check "refused_argument.c, blake2$family" refused_arguments $family
+        check "huge.c, blake2$family" long_buffers $family
     done
-    check "passes.c calls each function" all_are_passed
-    [ -n "${VULFSJOR_TEST_HUGE-}" ] || skip "lengths.c, every call" "VULFSJOR_TEST_HUGE is not set"
+    check "passed_arguments.c calls each function" all_are_passed
+    [ -n "${VULFSJOR_TEST_HUGE-}" ] || skip "huge.c, every call" "VULFSJOR_TEST_HUGE is not set"
     if has python3; then
         for family in b s; do test_family $family; done
         for family in bp sp; do test_parallel $family; done
+        for family in xb xs; do test_outputs $family; done
         check "a status that is ignored" ignored_statuses_warn
         test_examples
     else

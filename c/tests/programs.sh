@@ -1,43 +1,39 @@
 #!/usr/bin/env bash
 # Tests the C of the programs b2 and b2sum, function by function. The whole programs are run by
-# tests/program.sh and tests/b2sum.py.
-source "$(dirname "$(readlink -f "$0")")/installed.sh"
+# tests/b2_program.sh and tests/compare_coreutils.py.
+source "$(dirname "$(readlink -f "$0")")/common.sh"
 
 # ../b2.c over tests in the place of a text of dist/, with these arguments for the compiler.
 functions_of_program() {
     cc -O2 -g "${warnings[@]}" -DMAIN=checks -Wl,--wrap=malloc,--wrap=realloc,--wrap=free \
-        "$here/b2.c" "$tests/program.c" -o "$work/program" "$@" || return
+        "$here/b2.c" "$tests/b2.c" -DCHOOSE_ONE=v2 -o "$work/program" "$@" || return
     timeout 60 "$work/program" one "two words" "" || [ $? -eq 7 ]
 }
 
-# ../b2sum.c over its tests, with progress that is to be shown, and with progress that is not.
+# ../b2sum.c over its tests, with progress that is not wanted, with progress that is shown, and with
+# progress that is wanted without a terminal.
 functions_of_b2sum() {
-    local words names build=v2 text=$dist/x86_64/vulfsjor-v2.s
+    local names build=v2 text=$dist/x86_64/vulfsjor-v2.s
     local calls=openat,readv,isatty,clock_gettime,write,posix_fadvise,close,dprintf
     calls+=,prctl,setrlimit,malloc,free
     is_x86 || build=arm text=$dist/aarch64/vulfsjor.s
-    names=(-D{ABSORB_TREE=absorb,PROVED_TREE=proved,HIDE_MEMORY=hide}.2
-        -D{ABSORB_TREE_V3=absorb,PROVED_TREE_V3=proved,HIDE_MEMORY_V3=hide}.3
-        -D{ABSORB_TREE_V4=absorb,PROVED_TREE_V4=proved,HIDE_MEMORY_V4=hide}.4)
+    names=(-D{ABSORB_TREE=absorb,PROVED_TREE=proved}.tree -DHIDE_MEMORY=hide.memory
+        -DSHOW_PROGRESS=show.progress)
     cc -O2 -g "${warnings[@]}" -DMAIN=checks "${names[@]}" "-Wl,--wrap=${calls//,/,--wrap=}" \
         "-I$here/include" "-DCHOOSE_ONE=$build" "$here"/{b2,b2sum,choose}.c \
         "$(with_macros "$text")" "$tests/b2sum.c" -o "$work/sums" "$@" || return
-    for words in --progress "a-longer-word --prog" "--pr --"; do
-        SHOWS=1 timeout 60 "$work/sums" $words
-        [ $? -eq 7 ] || return
-    done
-    for words in "" "-- --progress" --progressx --p --; do
-        timeout 60 bash -c 'exec -a --progress "$@"' - "$work/sums" $words
-        [ $? -eq 7 ] || return
-    done
-    NO_TERMINAL=1 timeout 60 "$work/sums" --progress
+    timeout 60 "$work/sums" --progress
+    [ $? -eq 7 ] || return
+    SHOWS=1 timeout 60 "$work/sums"
+    [ $? -eq 7 ] || return
+    NO_TERMINAL=1 SHOWS=1 timeout 60 "$work/sums"
     [ $? -eq 7 ]
 }
 
 # Whether b2sum has no function that the rest of its process would get instead of one of the C
 # library, even if it exports all that it can.
 b2sum_replaces_nothing() {
-    local text=$dist/x86_64/b2sum-v2.s
+    local text=$dist/x86_64/b2sum.s
     is_x86 || text=$dist/aarch64/b2sum.s
     assemble "$text" "$work/b2sum" -rdynamic && nm -D --defined-only "$work/b2sum" >"$work/names" &&
         grep -q ' T main$' "$work/names" &&
@@ -46,7 +42,7 @@ b2sum_replaces_nothing() {
 
 # The C of the program where the C library tells nothing of the processor, which is made up.
 leaves_of_program() {
-    printf '%s\n' '#include <stdlib.h>' '#include <processor.h>' \
+    printf '%s\n' '#include <stdlib.h>' '#include <fake_cpuid.h>' \
         'void make_up(unsigned first, unsigned seventh, unsigned extended, unsigned saved) {' \
         '    made_up = (struct made_up){7, 0x80000008u, first, seventh, extended, saved};' '}' \
         >"$work/made_up.h"
@@ -63,20 +59,20 @@ leaves_are_there_once() {
 
 # The same functions, and the programs, with another C library than glibc.
 program_by_musl() {
-    local text=$dist/x86_64/b2-v2.s
+    local text=$dist/x86_64/b2.s
     cc() { musl-gcc -static "$@"; }
     functions_of_program && functions_of_b2sum &&
         assemble "$text" "$work/b2_musl" &&
         printf abc >"$work/abc" &&
         "$work/b2_musl" sum b512 <"$work/abc" |
         diff - <(sums_by_hashlib "$work/abc" | sed 's/ .*//') &&
-        assemble "$dist/x86_64/b2sum-v2.s" "$work/b2sum_musl" &&
+        assemble "$dist/x86_64/b2sum.s" "$work/b2sum_musl" &&
         "$work/b2sum_musl" "$work/abc" | diff - <(sums_by_hashlib "$work/abc")
 }
 
 # The program, at most ten seconds, over an input whose first read fails.
 program_reads() {
-    local text=$dist/x86_64/b2-v2.s
+    local text=$dist/x86_64/b2.s
     is_x86 || text=$dist/aarch64/b2.s
     printf '%s\n' '#define _GNU_SOURCE' '#include <dlfcn.h>' '#include <errno.h>' \
         '#include <stdlib.h>' '#include <unistd.h>' \

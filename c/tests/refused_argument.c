@@ -2,7 +2,7 @@
  * null and huge, and for several wrong ones. They have to agree with the inits. Returns 0 if all is
  * as it should be.
  *
- *   cc -std=c99 -Wall -Wextra -Wpedantic -Werror -I FOLDER/include refused.c ARCHIVE -o refused
+ *   cc -std=c99 -Wall -Wextra -Wpedantic -Werror -I FOLDER/include refused_argument.c ARCHIVE -o refused
  *   cc the same with -DTEST_S                the same for BLAKE2s, without the tree */
 #include "check.h"
 #include "family.h"

@@ -2,10 +2,10 @@
  * messages, over memory that is two MiB mapped many times. Each digest is compared with one that
  * Python's hashlib computed. Returns 0 if all are as they should be.
  *
- *   cc -std=gnu99 -I FOLDER/include lengths.c ARCHIVE-threads.a ARCHIVE.a -pthread -o lengths
+ *   cc -std=gnu99 -I FOLDER/include huge.c ARCHIVE-threads.a ARCHIVE.a -pthread -o huge
  *   cc the same with -DTEST_S                the same for BLAKE2s, without the tree
- *   ./lengths                                calls that take seconds
- *   VULFSJOR_TEST_HUGE=1 ./lengths           every call
+ *   ./huge                                   calls that take seconds
+ *   VULFSJOR_TEST_HUGE=1 ./huge              every call
  *
  * Byte i of the message is i % PERIOD % 251. The file has zeros, except the bytes that sparse_file
  * sets. These lines print the digests below, in their order, with 9 GB of memory:

@@ -38,13 +38,13 @@ int main(void) {
     pthread_t threads[THREADS];
     int right[THREADS] = {0}, all = before_main;
 
-    if (!before_main) puts("linked.c: a constructor's call was answered wrong");
+    if (!before_main) puts("first_calls.c: a constructor's call was answered wrong");
     if (pthread_barrier_init(&begin, NULL, THREADS)) return 2;
     for (int i = 0; i < THREADS; i++)
         if (pthread_create(&threads[i], NULL, call, &right[i])) return 2;
     for (int i = 0; i < THREADS; i++) {
         pthread_join(threads[i], NULL);
-        if (!right[i]) printf("linked.c: thread %d had another digest\n", i);
+        if (!right[i]) printf("first_calls.c: thread %d had another digest\n", i);
         all &= right[i];
     }
     return !all;

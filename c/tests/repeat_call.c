@@ -1,5 +1,5 @@
 /* Makes the call of a task TIMES times, so that its instructions can be counted:
- * count TASK TIMES. */
+ * repeat_call TASK TIMES. */
 #include "vulfsjor.h"
 
 #include <stdlib.h>

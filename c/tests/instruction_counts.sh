@@ -9,7 +9,7 @@
 #
 # The compared buffers have one length, and the test passes if all its counts are the same. valgrind
 # counts them: if it is absent, all are skipped.
-source "$(dirname "$(readlink -f "$0")")/installed.sh"
+source "$(dirname "$(readlink -f "$0")")/common.sh"
 
 # Runs the program's function of this name, and writes the count of each call, one in a line.
 counts() {
@@ -41,7 +41,7 @@ count_of() {
     count=$(counts "$@") && [[ $count =~ ^[1-9][0-9]*$ ]] && echo "$count"
 }
 
-# Checks that a function takes at most so many hundredths of an instruction for each of its bytes.
+# Checks that a function takes at most this many hundredths of an instruction for each of its bytes.
 check_bytes() {
     local function=$1 length=$2 most=$3 name=$4 count
     if ! count=$(count_of "$function" "$length"); then
@@ -53,7 +53,7 @@ check_bytes() {
     fi
 }
 
-# Checks that a function takes at most so many hundredths of the instructions that another takes.
+# Checks that a function takes at most this many hundredths of the instructions that another takes.
 check_share() {
     local function=$1 other=$2 count=$3 most=$4 name=$5 at_once in_turn
     if ! at_once=$(count_of "$function" "$count") || ! in_turn=$(count_of "$other" "$count"); then
@@ -100,7 +100,7 @@ check_at_once() {
     done
 }
 
-test_instructions() {
+test_instruction_counts() {
     local length
     if ! has valgrind; then
         skip "the counts of instructions" "no valgrind"
@@ -110,15 +110,15 @@ test_instructions() {
         skip "the counts of instructions" "valgrind has no AVX-512"
         return
     fi
-    check "instructions.c" cc -O0 -I"$include" -o "$work/calls" "$tests/instructions.c" "$archive" \
+    check "instruction_counts.c" cc -O0 -I"$include" -o "$work/calls" "$tests/instruction_counts.c" "$archive" \
         -Wl,-z,now || return
-    for length in 1 8 15 16 17 31 32 33 63 64 65 200; do
+    for length in $(some 33 1 8 15 16 17 31 32 63 64 65 200); do
         check_same compare_memcmp "$length" "vulfsjor_ffi_memcmp of $length bytes"
     done
-    for length in 1 16 20 32 48 64; do
+    for length in $(some 64 1 16 20 32 48); do
         check_same compare_blake2b "$length" "vulfsjor_ffi_blake2b_verify of $length bytes"
     done
-    for length in 1 8 16 20 28 32; do
+    for length in $(some 32 1 8 16 20 28); do
         check_same compare_blake2s "$length" "vulfsjor_ffi_blake2s_verify of $length bytes"
     done
     case $(build_here) in
@@ -130,4 +130,4 @@ test_instructions() {
     esac
 }
 
-part test_instructions
+part test_instruction_counts

@@ -1,6 +1,6 @@
 /* Checks that a run which moves from one build to the other between its calls has the same states
  * and digests as a run in one build. It loads two modules, each of which is this file compiled with
- * MODULE and linked with a library of one build: cross V2.so V3.so. */
+ * MODULE and linked with a library of one build: between_builds V2.so V3.so. */
 #define _GNU_SOURCE /* for RTLD_LOCAL in C99 */
 #include "vulfsjor.h"
 
@@ -69,7 +69,7 @@ static void check(int holds, const char *what, int kind, int operation) {
     checks++;
     if (holds) return;
     fails++;
-    printf("cross.c: kind %d, operation %d: %s\n", kind, operation, what);
+    printf("between_builds.c: kind %d, operation %d: %s\n", kind, operation, what);
 }
 
 static uint32_t seed = 1;
@@ -116,7 +116,7 @@ int main(int count, char **names) {
         void *module = i + 1 < count ? dlopen(names[i + 1], RTLD_NOW | RTLD_LOCAL) : NULL;
         void *found = module ? dlsym(module, "call") : NULL;
         if (!found) {
-            printf("cross.c: %s\n", i + 1 < count ? dlerror() : "two modules are to be named");
+            printf("between_builds.c: %s\n", i + 1 < count ? dlerror() : "two modules are to be named");
             return 2;
         }
         memcpy(&builds[i], &found, sizeof found);

@@ -1,15 +1,16 @@
 #!/usr/bin/env python3
-"""Reads the lines of edges.c, parts.c and libb2_header.c from standard input and compares each digest with Python's hashlib.
+"""Reads the lines of edge_cases.c, tree_parts.c and libb2_header.c from standard input and compares each digest with
+Python's hashlib.
 
-Answers 0 where all agree, the line `end` came, and there were 20 others. A parameter block that hashlib can't say (a
-depth of 0, reserved bytes) is hashed by tests/from_specification.py, which is first compared with hashlib.
+Returns 0 if all agree, the line `end` came, and there were 20 others. A parameter block that hashlib can't say (a
+depth of 0, reserved bytes) is hashed by tests/b2_model.py, which is first compared with hashlib.
 """
 import os
 import sys
 
 sys.path.append(os.path.join(os.path.dirname(os.path.abspath(__file__)), "..", "..", "tests"))
-from blake2_kinds import FAMILIES  # noqa: E402
-from from_specification import bytes_of, compress, words_of  # noqa: E402
+from b2_model import bytes_of, compress, words_of  # noqa: E402
+from common import FAMILIES  # noqa: E402
 from oracle import SCALAR, tree_node, tree_root  # noqa: E402
 
 BYTES = bytes(i % 251 for i in range(8 * 128 + 64))

@@ -1,0 +1,319 @@
+/* What threads.c and b2sum.c call of a system, where Linux, macOS and Windows differ. Files have
+ * descriptors of the C library. What returns -1 has set errno, to the number that POSIX has for the
+ * error. It is included before all other headers. tests/threads.c, tests/thread_faults.c and
+ * tests/b2sum.c test it, and tests/windows.sh what is for Windows. */
+#ifndef VULFSJOR_SYSTEM_H
+#define VULFSJOR_SYSTEM_H
+#define _GNU_SOURCE
+#ifdef _WIN32
+#define _FILE_OFFSET_BITS 64
+#endif
+#include <errno.h>
+#include <fcntl.h>
+#include <stdbool.h>
+#include <stdint.h>
+#include <stdlib.h>
+#include <string.h>
+#include <sys/stat.h>
+#include <sys/types.h>
+#include <unistd.h>
+
+#ifndef _WIN32
+#include <pthread.h>
+#include <sched.h>
+#include <signal.h>
+#include <sys/resource.h>
+#include <sys/uio.h>
+#include <time.h>
+#ifdef __APPLE__
+#include <malloc/malloc.h>
+#else
+#include <malloc.h>
+#endif
+#ifdef __linux__
+#include <sys/prctl.h>
+#endif
+
+typedef pthread_t thread;
+typedef void *thread_result;
+#define THREAD_CALL
+
+/* A lock, and a condition to wait for under it. */
+typedef struct gate {
+    pthread_mutex_t lock;
+    pthread_cond_t changed;
+} gate;
+#define GATE {PTHREAD_MUTEX_INITIALIZER, PTHREAD_COND_INITIALIZER}
+
+static inline void enter(gate *it) { pthread_mutex_lock(&it->lock); }
+static inline void leave(gate *it) { pthread_mutex_unlock(&it->lock); }
+static inline void wait_in(gate *it) { pthread_cond_wait(&it->changed, &it->lock); }
+static inline void wake_all(gate *it) { pthread_cond_broadcast(&it->changed); }
+
+/* Starts up to count threads, and returns how many: the system may have no more. They block all
+ * signals except SIGBUS and SIGSEGV, so that a program's handlers run in its own threads. */
+static inline unsigned start_threads(thread *threads, unsigned count, void *(*function)(void *),
+                                     void *given) {
+    sigset_t blocked, before;
+    unsigned started = 0;
+
+    sigfillset(&blocked);
+    sigdelset(&blocked, SIGBUS);
+    sigdelset(&blocked, SIGSEGV);
+    pthread_sigmask(SIG_SETMASK, &blocked, &before);
+    while (started < count && !pthread_create(&threads[started], NULL, function, given)) started++;
+    pthread_sigmask(SIG_SETMASK, &before, NULL);
+    return started;
+}
+
+static inline void join_thread(thread it) { pthread_join(it, NULL); }
+
+/* Keeps the caller's thread from being canceled. Returns what ends that. */
+static inline int begin_call(void) {
+    int before;
+
+    pthread_setcancelstate(PTHREAD_CANCEL_DISABLE, &before);
+    return before;
+}
+
+static inline void end_call(int before) { pthread_setcancelstate(before, NULL); }
+
+/* The number of processors that the caller's thread may run on. */
+static inline unsigned processors(void) {
+    long n;
+#ifdef CPU_COUNT
+    cpu_set_t set;
+
+    if (!sched_getaffinity(0, sizeof set, &set)) return (unsigned)CPU_COUNT(&set);
+#endif
+    n = sysconf(_SC_NPROCESSORS_ONLN); /* the machine has more than the set has room for */
+    return n > 0 ? (unsigned)n : 1;
+}
+
+/* Opens a file for reading. */
+static inline int open_path(const char *path) {
+    return openat(AT_FDCWD, path, O_RDONLY | O_CLOEXEC);
+}
+
+/* Reads at most size bytes, from this byte of the file on. */
+static inline ssize_t read_from(int file, void *bytes, size_t size, uint64_t from) {
+    return pread(file, bytes, size, (off_t)from);
+}
+
+/* ---- What only b2sum.c calls. */
+
+/* Reads at most size bytes. */
+static inline ssize_t read_next(int file, void *bytes, size_t size) {
+    const struct iovec room = {bytes, size};
+
+    return readv(file, &room, 1);
+}
+
+/* Tells the system that a file is read from its start to its end. */
+static inline void read_ahead(int file) {
+#ifdef POSIX_FADV_SEQUENTIAL
+    posix_fadvise(file, 0, 0, POSIX_FADV_SEQUENTIAL);
+#else
+    (void)file;
+#endif
+}
+
+static inline bool is_terminal(int file) { return isatty(file); }
+
+/* A time in milliseconds. */
+static inline uint64_t now(void) {
+    struct timespec t;
+
+    clock_gettime(CLOCK_MONOTONIC, &t);
+    return (uint64_t)t.tv_sec * 1000 + (uint64_t)t.tv_nsec / 1000000;
+}
+
+/* The number of bytes of a block of memory, or 0 for null. */
+static inline size_t size_of_block(void *place) {
+#ifdef __APPLE__
+    return malloc_size(place);
+#else
+    return malloc_usable_size(place);
+#endif
+}
+
+/* Keeps the memory of the process from core files, and on Linux from other processes of its user. */
+static inline void hide_process(void) {
+    const struct rlimit none = {0, 0};
+
+#ifdef __linux__
+    prctl(PR_SET_DUMPABLE, 0L, 0L, 0L, 0L);
+#endif
+    setrlimit(RLIMIT_CORE, &none);
+}
+#else
+#include <io.h>
+#include <process.h>
+#include <stdarg.h>
+#include <stdio.h>
+#include <wchar.h>
+#include <windows.h>
+
+typedef HANDLE thread;
+typedef unsigned thread_result;
+#define THREAD_CALL __stdcall
+
+typedef struct gate {
+    SRWLOCK lock;
+    CONDITION_VARIABLE changed;
+} gate;
+#define GATE {SRWLOCK_INIT, CONDITION_VARIABLE_INIT}
+
+static inline void enter(gate *it) { AcquireSRWLockExclusive(&it->lock); }
+static inline void leave(gate *it) { ReleaseSRWLockExclusive(&it->lock); }
+static inline void wait_in(gate *it) {
+    SleepConditionVariableSRW(&it->changed, &it->lock, INFINITE, 0);
+}
+static inline void wake_all(gate *it) { WakeAllConditionVariable(&it->changed); }
+
+static inline unsigned start_threads(thread *threads, unsigned count,
+                                     thread_result(THREAD_CALL *function)(void *), void *given) {
+    unsigned started = 0;
+
+    while (started < count &&
+           (threads[started] = (HANDLE)_beginthreadex(NULL, 0, function, given, 0, NULL)))
+        started++;
+    return started;
+}
+
+static inline void join_thread(thread it) {
+    WaitForSingleObject(it, INFINITE);
+    CloseHandle(it);
+}
+
+static inline int begin_call(void) { return 0; }
+
+static inline void end_call(int before) { (void)before; }
+
+static inline unsigned processors(void) {
+    DWORD_PTR own, all;
+
+    if (!GetProcessAffinityMask(GetCurrentProcess(), &own, &all) || !own) return 1;
+    return (unsigned)__builtin_popcountll(own);
+}
+
+/* The number that POSIX has for an error of Windows. */
+static inline int number_of(DWORD error) {
+    switch (error) {
+        case ERROR_FILE_NOT_FOUND:
+        case ERROR_PATH_NOT_FOUND:
+        case ERROR_INVALID_NAME:
+        case ERROR_BAD_PATHNAME:
+        case ERROR_BAD_NETPATH:
+        case ERROR_BAD_NET_NAME:
+        case ERROR_INVALID_DRIVE: return ENOENT;
+        case ERROR_ACCESS_DENIED:
+        case ERROR_SHARING_VIOLATION:
+        case ERROR_LOCK_VIOLATION: return EACCES;
+        case ERROR_INVALID_HANDLE: return EBADF;
+        case ERROR_TOO_MANY_OPEN_FILES: return EMFILE;
+        case ERROR_NOT_ENOUGH_MEMORY:
+        case ERROR_OUTOFMEMORY: return ENOMEM;
+        case ERROR_FILENAME_EXCED_RANGE: return ENAMETOOLONG;
+        default: return EIO;
+    }
+}
+
+enum { LONGEST_PATH = 1 << 15, SHORT_PATH = 240, PREFIX_ROOM = 8 };
+
+/* Writes a path in UTF-8 as Windows has it to this room, which is twice the longest. A long one gets
+ * the prefix by which Windows opens it. Returns where it begins, or null and sets errno. */
+static inline const wchar_t *wide_path(const char *name, wchar_t *room) {
+    wchar_t *whole = room + LONGEST_PATH + PREFIX_ROOM;
+    const DWORD left = LONGEST_PATH - PREFIX_ROOM;
+    DWORD length;
+
+    if (!MultiByteToWideChar(CP_UTF8, MB_ERR_INVALID_CHARS, name, -1, room, LONGEST_PATH)) {
+        errno = GetLastError() == ERROR_INSUFFICIENT_BUFFER ? ENAMETOOLONG : ENOENT;
+        return NULL;
+    }
+    for (wchar_t *c = room; *c; c++)
+        if (*c == L'/') *c = L'\\';
+    if (wcslen(room) < SHORT_PATH || !wcsncmp(room, L"\\\\?\\", 4) || !wcsncmp(room, L"\\\\.\\", 4))
+        return room;
+    length = GetFullPathNameW(room, left, whole, NULL);
+    if (!length || length >= left) {
+        errno = ENAMETOOLONG;
+        return NULL;
+    }
+    if (whole[0] != L'\\') return memcpy(whole - 4, L"\\\\?\\", 4 * sizeof *whole);
+    return memcpy(whole - 6, L"\\\\?\\UNC", 7 * sizeof *whole);
+}
+
+/* Opens a file for reading, by its path in UTF-8. Others may write, rename and remove it. */
+static inline int open_path(const char *name) {
+    wchar_t *const room = malloc(2 * LONGEST_PATH * sizeof *room);
+    const wchar_t *const path = room ? wide_path(name, room) : NULL;
+    HANDLE handle;
+    int file = -1;
+
+    if (path) {
+        handle = CreateFileW(path, GENERIC_READ,
+                             FILE_SHARE_READ | FILE_SHARE_WRITE | FILE_SHARE_DELETE, NULL,
+                             OPEN_EXISTING, FILE_FLAG_SEQUENTIAL_SCAN, NULL);
+        if (handle == INVALID_HANDLE_VALUE) {
+            const DWORD error = GetLastError(), about = GetFileAttributesW(path);
+            const bool is_folder = about != INVALID_FILE_ATTRIBUTES &&
+                                   about & FILE_ATTRIBUTE_DIRECTORY;
+            errno = is_folder ? EISDIR : number_of(error);
+        } else {
+            file = _open_osfhandle((intptr_t)handle, _O_RDONLY | _O_BINARY | _O_NOINHERIT);
+            if (file < 0) CloseHandle(handle);
+        }
+    }
+    free(room);
+    return file;
+}
+
+/* At most 2^30 bytes. The position of the file moves. */
+static inline ssize_t read_from(int file, void *bytes, size_t size, uint64_t from) {
+    OVERLAPPED place = {.Offset = (DWORD)from, .OffsetHigh = (DWORD)(from >> 32)};
+    const DWORD most = size < 1u << 30 ? (DWORD)size : 1u << 30;
+    DWORD count;
+
+    if (ReadFile((HANDLE)_get_osfhandle(file), bytes, most, &count, &place)) return (ssize_t)count;
+    if (GetLastError() == ERROR_HANDLE_EOF) return 0;
+    errno = number_of(GetLastError());
+    return -1;
+}
+
+/* ---- What only b2sum.c calls. */
+
+static inline ssize_t read_next(int file, void *bytes, size_t size) {
+    return _read(file, bytes, size < 1u << 30 ? (unsigned)size : 1u << 30);
+}
+
+static inline void read_ahead(int file) { (void)file; }
+
+/* Whether it is a console, which then obeys escape sequences. */
+static inline bool is_terminal(int file) {
+    const HANDLE handle = (HANDLE)_get_osfhandle(file);
+    DWORD mode;
+
+    return GetConsoleMode(handle, &mode) &&
+           SetConsoleMode(handle, mode | ENABLE_VIRTUAL_TERMINAL_PROCESSING);
+}
+
+static inline uint64_t now(void) { return GetTickCount64(); }
+
+static inline size_t size_of_block(void *place) { return place ? _msize(place) : 0; }
+
+static inline void hide_process(void) {}
+
+static inline int dprintf(int file, const char *format, ...) {
+    char line[256];
+    va_list arguments;
+    int length;
+
+    va_start(arguments, format);
+    length = vsnprintf(line, sizeof line, format, arguments);
+    va_end(arguments);
+    return length < 0 ? -1 : _write(file, line, (unsigned)strlen(line));
+}
+#endif
+#endif

@@ -1,0 +1,168 @@
+/* Tests what threads.c calls of a system (system.h), on Linux, macOS and Windows: compares what each
+ * function of vulfsjor_threads.h writes with vulfsjor_tree_root of the same bytes, from a file with a
+ * name that is not ASCII, with several numbers of threads, and tries files that cannot be read.
+ *
+ *   cc -std=gnu99 -I FOLDER/include system.c ARCHIVE-threads.a ARCHIVE.a -pthread -o system
+ *   ./system PROCESSORS      makes its file in the current folder, on a machine with this many
+ *                            processors; the status is 0 if all is as it should be */
+#include "../system.h"
+
+#include <stdio.h>
+
+#include "check.h"
+#include "vulfsjor_threads.h"
+
+
+enum { BYTES = (3 << 20) + 17, LEAF = 4096, FROM = 1000, ROOT = 64 };
+
+static const char name[] = "caf\xc3\xa9 \xf0\x9f\x98\x80";
+static unsigned char message[BYTES], root[ROOT], wanted[ROOT], wanted_rest[ROOT];
+
+/* Whether the root is this one, which it then is no longer. */
+static int is_root(const unsigned char *it) {
+    const int is_same = !memcmp(root, it, ROOT);
+
+    memset(root, 0, ROOT);
+    return is_same;
+}
+
+/* The file, open from this byte on. */
+static int open_at(long from) {
+    const int file = open_path(name);
+
+    CHECK(file >= 0 && lseek(file, from, SEEK_SET) == from);
+    return file;
+}
+
+static uint64_t reported;
+static int report(void *answer, uint64_t count) {
+    CHECK(count > reported);
+    reported = count;
+    return *(int *)answer;
+}
+
+/* An update of a state, which has absorbed the first bytes, from the file. */
+static void update_from(unsigned threads, int answer) {
+    vulfsjor_tree_state state;
+    const int file = open_at(FROM);
+    int status;
+
+    reported = 0;
+    CHECK(!vulfsjor_tree_init(&state, ROOT, NULL, 0, NULL, 0, LEAF) &&
+          !vulfsjor_tree_update(&state, message, FROM));
+    status = vulfsjor_tree_update_fd(&state, file, threads, report, &answer);
+    if (answer) {
+        CHECK(status == -1 && errno == ECANCELED && vulfsjor_tree_count(&state) == FROM);
+    } else {
+        CHECK(!status && reported == BYTES - FROM && lseek(file, 0, SEEK_CUR) == BYTES);
+        CHECK(!vulfsjor_tree_final(&state, root, ROOT) && is_root(wanted));
+    }
+    close(file);
+}
+
+static void try_threads(unsigned threads) {
+    vulfsjor_tree_state state;
+    int file;
+
+    CHECK(!vulfsjor_tree_root_threads(root, ROOT, message, BYTES, NULL, 0, NULL, 0, LEAF, threads));
+    CHECK(is_root(wanted));
+    CHECK(!vulfsjor_tree_root_file(root, ROOT, name, NULL, 0, NULL, 0, LEAF, threads));
+    CHECK(is_root(wanted));
+    file = open_at(FROM);
+    CHECK(!vulfsjor_tree_root_fd(root, ROOT, file, NULL, 0, NULL, 0, LEAF, threads));
+    CHECK(is_root(wanted_rest) && lseek(file, 0, SEEK_CUR) == BYTES);
+    close(file);
+    CHECK(!vulfsjor_tree_init(&state, ROOT, NULL, 0, NULL, 0, LEAF) &&
+          !vulfsjor_tree_update_threads(&state, message, FROM, threads) &&
+          !vulfsjor_tree_update_threads(&state, message + FROM, BYTES - FROM, threads) &&
+          !vulfsjor_tree_final(&state, root, ROOT));
+    CHECK(is_root(wanted));
+    update_from(threads, 0);
+    update_from(threads, 1);
+}
+
+static void try_errors(void) {
+#define FAILS(error, call)                          \
+    errno = 0;                                      \
+    CHECK((call) == -1 && errno == (error));        \
+    CHECK(is_root((const unsigned char[ROOT]){0}));
+    FAILS(ENOENT, vulfsjor_tree_root_file(root, ROOT, "none", NULL, 0, NULL, 0, LEAF, 2))
+    FAILS(ENOENT, vulfsjor_tree_root_file(root, ROOT, "none/none", NULL, 0, NULL, 0, LEAF, 2))
+    FAILS(EISDIR, vulfsjor_tree_root_file(root, ROOT, ".", NULL, 0, NULL, 0, LEAF, 2))
+    FAILS(EBADF, vulfsjor_tree_root_fd(root, ROOT, -1, NULL, 0, NULL, 0, LEAF, 2))
+    FAILS(EINVAL, vulfsjor_tree_root_file(root, ROOT, NULL, NULL, 0, NULL, 0, LEAF, 2))
+    FAILS(EINVAL, vulfsjor_tree_root_file(root, ROOT, name, NULL, 0, NULL, 0, 0, 2))
+}
+
+#ifdef _WIN32
+/* Whether the path of Windows for one in UTF-8 begins so, and is longer by this many letters. */
+static int is_path(const char *path, const wchar_t *start, size_t more) {
+    static wchar_t room[2 * LONGEST_PATH];
+    const wchar_t *const it = wide_path(path, room);
+
+    return it && !wcsncmp(it, start, wcslen(start)) && wcslen(it) == strlen(path) + more;
+}
+
+/* wine opens a long path without its prefix too. */
+static void try_paths(void) {
+    static wchar_t room[2 * LONGEST_PATH];
+    static char longest[LONGEST_PATH + 1];
+    char path[400] = "C:/";
+
+    CHECK(!wcscmp(wide_path("a/caf\xc3\xa9\\b", room), L"a\\caf\u00e9\\b"));
+    memset(path + 3, 'n', 300);
+    CHECK(is_path(path, L"\\\\?\\C:\\n", 4));
+    memcpy(path, "//host/share/", 13);
+    CHECK(is_path(path, L"\\\\?\\UNC\\host\\share\\n", 6));
+    memcpy(path, "//?/C:/nnnnnn", 13);
+    CHECK(is_path(path, L"\\\\?\\C:\\n", 0));
+    CHECK(!wide_path("\xff", room) && errno == ENOENT);
+    memset(longest, 'n', LONGEST_PATH);
+    CHECK(!wide_path(longest, room) && errno == ENAMETOOLONG);
+}
+#else
+static void try_paths(void) {}
+#endif
+
+/* Threads that wait until all run at the same time. */
+enum { COUNT = 3 };
+static int running;
+static thread_result THREAD_CALL run_with_others(void *given) {
+    __atomic_add_fetch((int *)given, 1, __ATOMIC_SEQ_CST);
+    while (__atomic_load_n((int *)given, __ATOMIC_SEQ_CST) < COUNT) continue;
+    return 0;
+}
+
+static void try_start(unsigned wanted_processors) {
+    thread threads[COUNT];
+
+    CHECK(processors() == wanted_processors);
+    CHECK(start_threads(threads, COUNT, run_with_others, &running) == COUNT);
+    for (int i = 0; i < COUNT; i++) join_thread(threads[i]);
+    CHECK(running == COUNT);
+}
+
+int main(int count, char **words) {
+    static const unsigned threads[] = {0, 1, 2, 7};
+    uint64_t word = 88172645463325252u;
+    int file;
+
+    for (int i = 0; i < BYTES; i++) {
+        word ^= word << 13, word ^= word >> 7, word ^= word << 17;
+        message[i] = (unsigned char)(i % 7 ? word : '\n');
+    }
+#ifdef _WIN32
+    file = _wopen(L"caf\u00e9 \U0001f600", _O_WRONLY | _O_CREAT | _O_TRUNC | _O_BINARY, 0600);
+#else
+    file = open(name, O_WRONLY | O_CREAT | O_TRUNC, 0600);
+#endif
+    CHECK(file >= 0 && write(file, message, BYTES) == BYTES && !close(file));
+    CHECK(!vulfsjor_tree_root(wanted, ROOT, message, BYTES, NULL, 0, NULL, 0, LEAF));
+    CHECK(!vulfsjor_tree_root(wanted_rest, ROOT, message + FROM, BYTES - FROM, NULL, 0, NULL, 0,
+                              LEAF));
+    for (size_t i = 0; i < sizeof threads / sizeof *threads; i++) try_threads(threads[i]);
+    try_errors();
+    try_paths();
+    try_start(count == 2 ? (unsigned)atoi(words[1]) : 0);
+    return fails != 0;
+}
