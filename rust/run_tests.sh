@@ -3,7 +3,8 @@
 #
 #   rust/run_tests.sh
 #
-# VULFSJOR_TEST_HUGE=1 adds the tests that hash more than 4 GiB, and those of the optimized crate.
+# VULFSJOR_TEST_HUGE=1 adds the tests that hash more than 4 GiB, those of the optimized crate and of
+# the build for x86-64-v3, clippy, the pages of cargo doc and the examples in them, and builds that take long.
 # Nothing comes from the network: rust-digest and the example for rayon use Debian's packages
 # librust-digest-dev, librust-hmac-dev, librust-hkdf-dev, librust-pbkdf2-dev, librust-rayon-dev,
 # librust-serde-dev, librust-serde-json-dev and librust-bincode-dev.
@@ -14,7 +15,7 @@ export CARGO_TARGET_DIR=$work/target CARGO_NET_OFFLINE=true
 # What only later builds or a debugger would use.
 export CARGO_INCREMENTAL=0 CARGO_PROFILE_DEV_DEBUG=0
 arm=aarch64-unknown-linux-gnu
-short=(--lib --test glue --test known_answers)
+short=(--lib --test bindings --test known_answers)
 
 cargo_here() { cargo "$1" --manifest-path "$top/Cargo.toml" "${@:2}"; }
 
@@ -36,8 +37,9 @@ check_debian() {
     while shift && [ "$1" != -- ]; do
         ls -d "$debian/${1%=*}-${1#*=}".* >/dev/null 2>&1 || absent+=" librust-${1%=*}-dev"
     done
-    if [ -n "$absent" ]; then skip "$name" "not installed:$absent"; else check "$name" "${@:2}"; fi
+    if [ -n "$absent" ]; then skip "$name" "not installed:$absent"; else "${checking-check}" "$name" "${@:2}"; fi
 }
+check_debian_huge() { checking=check_huge check_debian "$@"; }
 
 # The digests of a build that this processor would not choose by itself.
 cargo_build() {
@@ -76,14 +78,18 @@ for hash in (blake2b(b"hello world"), blake2s(b"hello world"), ten, blake2s(blak
 for tool in cargo cc python3; do
     has $tool || { skip "the crates for Rust" "no $tool"; finish; }
 done
-check "the crate vulfsjor" cargo_here test || finish
+check "the crate vulfsjor" cargo_here test --tests || finish
+check_huge "the examples in the documentation of vulfsjor" cargo_here test --doc
+check_huge "the crate vulfsjor in a shared library of Rust" cargo_here test --test programs -- --ignored shared_library
 check_huge "the crate vulfsjor, optimized" cargo_here test --release "${short[@]}"
-check "the crate vulfsjor without std" cargo_here test --no-default-features --lib --test glue
+check "the crate vulfsjor without std" cargo_here test --no-default-features --lib --test bindings
+# Optimizing takes longer than the few tests without VULFSJOR_TEST_HUGE save by it.
+CARGO_PROFILE_DEV_OPT_LEVEL=$([ -n "${VULFSJOR_TEST_HUGE-}" ] && echo 1 || echo 0) check "the crate vulfsjor in portable Rust" cargo_build portable
 check_huge "all tests of the crate vulfsjor without std" cargo_here test --no-default-features
 if [ "$(uname -m)" = x86_64 ]; then
     check "the crate vulfsjor over the build for x86-64-v2" cargo_build v2
     if [ "$("$top/tools/processor.sh")" = x86-64-v4 ]; then
-        check "the crate vulfsjor over the build for x86-64-v3" cargo_build v3
+        check_huge "the crate vulfsjor over the build for x86-64-v3" cargo_build v3
     else
         skip "the crate vulfsjor over the build for x86-64-v3" "the choice is that build, or none"
     fi
@@ -96,20 +102,22 @@ ls "$(rustc --print sysroot)/lib/rustlib/$arm/lib" >/dev/null 2>&1 ||
     missing="no standard library of Rust for $arm"
 check "the crate vulfsjor on 64-bit ARM" cargo_arm
 needs valgrind
-check "a comparison takes equal time" cargo_here test --test programs -- --ignored equal_time
+check_huge "a comparison takes equal time" cargo_here test --test programs -- --ignored equal_time
 needs cargo-clippy
-check "clippy has nothing to say" cargo_here clippy --all-targets -- -D warnings
+check_huge "clippy has nothing to say" cargo_here clippy --all-targets -- -D warnings
 needs
 check_huge "each call with more than 4 GiB" cargo_here test --test huge -- --ignored
-check "the pages of cargo doc have no broken link" env RUSTDOCFLAGS="-D warnings" \
+check_huge "the pages of cargo doc have no broken link" env RUSTDOCFLAGS="-D warnings" \
     cargo doc --no-deps --manifest-path "$top/Cargo.toml"
 check_debian "the crate vulfsjor-digest" digest=0.10 serde=1 hmac=0.12 hkdf=0.12 pbkdf2=0.11 -- \
-    cargo_debian rust-digest test
-check_debian "vulfsjor-digest without std" digest=0.10 serde=1 hmac=0.12 hkdf=0.12 pbkdf2=0.11 -- \
+    cargo_debian rust-digest test --tests
+check_debian_huge "the examples in the documentation of vulfsjor-digest" digest=0.10 serde=1 hmac=0.12 \
+    hkdf=0.12 pbkdf2=0.11 -- cargo_debian rust-digest test --doc
+check_debian_huge "vulfsjor-digest without std" digest=0.10 serde=1 hmac=0.12 hkdf=0.12 pbkdf2=0.11 -- \
     cargo_debian rust-digest check --no-default-features
 serde=(digest=0.10 hmac=0.12 hkdf=0.12 pbkdf2=0.11 serde=1 serde_derive=1 serde_json=1 bincode=1)
 check_debian "vulfsjor-digest under the name blake2" "${serde[@]}" -- renamed_program
-[ -z "${VULFSJOR_TEST_HUGE-}" ] || check_debian "digests by serde" "${serde[@]}" -- \
+check_debian_huge "digests by serde" "${serde[@]}" -- \
     cargo_debian rust-digest/tests/renamed test
-check_debian "the program rust/examples/rayon" rayon=1 -- rayon_example
+check_debian_huge "the program rust/examples/rayon" rayon=1 -- rayon_example
 finish

@@ -1,7 +1,7 @@
 //! The hashers and MACs of the crate `vulfsjor` under the traits of the crate `digest` 0.10, for
-//! generic code that requires a `Digest`, a `Mac` or a `VariableOutput`. Names, key lengths and
+//! generic code that requires a `Digest`, a `Mac`, a `VariableOutput` or an `ExtendableOutput`. Names, key lengths and
 //! results are those of the crate `blake2` 0.10, except that an empty key is refused. BLAKE2bp and
-//! BLAKE2sp, which `blake2` does not have, are here too. This code is not proved; it calls
+//! BLAKE2sp, BLAKE2Xb and BLAKE2Xs, which `blake2` does not have, are here too. This code is not proved; it calls
 //! `vulfsjor`, which calls the proved functions. A value is wiped when it is dropped.
 //!
 //! `hmac::SimpleHmac`, `hkdf::SimpleHkdf` and `pbkdf2` accept these hash functions. `hmac::Hmac`
@@ -37,8 +37,9 @@ use digest::crypto_common::{
 use digest::generic_array::ArrayLength;
 use digest::typenum::{IsLessOrEqual, NonZero, Unsigned};
 use digest::{
-    FixedOutput, FixedOutputReset, HashMarker, InvalidBufferSize, InvalidOutputSize, MacMarker,
-    Output, OutputSizeUser, Reset, Update, VariableOutput, VariableOutputReset,
+    ExtendableOutput, ExtendableOutputReset, FixedOutput, FixedOutputReset, HashMarker,
+    InvalidBufferSize, InvalidOutputSize, MacMarker, Output, OutputSizeUser, Reset, Update,
+    VariableOutput, VariableOutputReset, XofReader,
 };
 use vulfsjor::Params;
 
@@ -250,6 +251,104 @@ family!("Blake2b", Blake2b, Blake2bMac, Blake2bVar, U64, U128, blake2b);
 family!("Blake2s", Blake2s, Blake2sMac, Blake2sVar, U32, U64, blake2s);
 family!("Blake2bp", Blake2bp, Blake2bpMac, Blake2bpVar, U64, U128, blake2bp);
 family!("Blake2sp", Blake2sp, Blake2spMac, Blake2spVar, U32, U64, blake2sp);
+
+macro_rules! xof {
+    ($name:literal, $hasher:ident, $reader:ident, $max:ty, $block:ty, $build:ident) => {
+        #[doc = concat!("The extendable output function ", $name, ". `default` has an output whose")]
+        /// length is not known in advance.
+        #[derive(Clone, Default)]
+        pub struct $hasher(vulfsjor::$hasher);
+
+        impl $hasher {
+            /// Returns a hasher with these parameters, whose `output_size` is the length of the
+            /// output. The error is `InvalidLength`, exactly if `vulfsjor` refuses them.
+            pub fn with_params(params: &Params<'_>) -> Result<Self, InvalidLength> {
+                params.$build().map($hasher).map_err(|_| InvalidLength)
+            }
+        }
+
+        impl HashMarker for $hasher {}
+
+        impl KeySizeUser for $hasher {
+            type KeySize = $max;
+        }
+
+        /// `new_from_slice` accepts a key of 1 to that number of bytes. The length of the output is
+        /// not known in advance.
+        impl KeyInit for $hasher {
+            fn new(key: &Key<Self>) -> Self {
+                Self::new_from_slice(key).expect("a key of the family")
+            }
+
+            fn new_from_slice(key: &[u8]) -> Result<Self, InvalidLength> {
+                Self::with_params(&Params::new().key(key))
+            }
+        }
+
+        impl BlockSizeUser for $hasher {
+            type BlockSize = $block;
+        }
+
+        impl AlgorithmName for $hasher {
+            fn write_alg_name(f: &mut fmt::Formatter<'_>) -> fmt::Result {
+                f.write_str($name)
+            }
+        }
+
+        impl Update for $hasher {
+            fn update(&mut self, data: &[u8]) {
+                self.0.update(data);
+            }
+        }
+
+        impl Reset for $hasher {
+            fn reset(&mut self) {
+                self.0.reset();
+            }
+        }
+
+        impl ExtendableOutput for $hasher {
+            type Reader = $reader;
+
+            fn finalize_xof(self) -> Self::Reader {
+                $reader(self.0.finalize_xof())
+            }
+        }
+
+        impl ExtendableOutputReset for $hasher {
+            fn finalize_xof_reset(&mut self) -> Self::Reader {
+                let reader = self.0.finalize_xof();
+                self.0.reset();
+                $reader(reader)
+            }
+        }
+
+        impl fmt::Debug for $hasher {
+            fn fmt(&self, f: &mut fmt::Formatter<'_>) -> fmt::Result {
+                f.write_str(concat!(stringify!($hasher), " { .. }"))
+            }
+        }
+
+        #[doc = concat!("The output of ", $name, ". `read` panics past the end.")]
+        #[derive(Clone)]
+        pub struct $reader(vulfsjor::$reader);
+
+        impl XofReader for $reader {
+            fn read(&mut self, buffer: &mut [u8]) {
+                self.0.read(buffer).expect("bytes that are left");
+            }
+        }
+
+        impl fmt::Debug for $reader {
+            fn fmt(&self, f: &mut fmt::Formatter<'_>) -> fmt::Result {
+                f.write_str(concat!(stringify!($reader), " { .. }"))
+            }
+        }
+    };
+}
+
+xof!("Blake2xb", Blake2xb, Blake2xbReader, U64, U128, blake2xb);
+xof!("Blake2xs", Blake2xs, Blake2xsReader, U32, U64, blake2xs);
 
 /// BLAKE2b with digests of 64 bytes.
 pub type Blake2b512 = Blake2b<U64>;

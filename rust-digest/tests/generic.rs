@@ -8,8 +8,9 @@ use digest::consts::{U1, U16, U20, U28, U32, U48, U63, U64};
 use digest::crypto_common::{AlgorithmName, BlockSizeUser, KeySizeUser};
 use digest::generic_array::GenericArray;
 use digest::{
-    Digest, DynDigest, FixedOutput, FixedOutputReset, KeyInit, Mac, Output, OutputSizeUser, Reset,
-    Update, VariableOutput, VariableOutputReset,
+    Digest, DynDigest, ExtendableOutput, ExtendableOutputReset, FixedOutput, FixedOutputReset,
+    KeyInit, Mac, Output, OutputSizeUser, Reset, Update, VariableOutput, VariableOutputReset,
+    XofReader,
 };
 use vulfsjor::Tree;
 use vulfsjor_digest::*;
@@ -315,4 +316,69 @@ fn types_with_names() {
     assert_eq!(<Blake2spMac256 as OutputSizeUser>::output_size(), 32);
     assert_eq!(<Blake2bMac512 as OutputSizeUser>::output_size(), 64);
     assert_eq!(<Blake2sMac256 as OutputSizeUser>::output_size(), 32);
+}
+
+// The output of a message, read in two pieces, by each of the ways that generic code has.
+fn output_by_all_ways<X>(start: X, message: &[u8], wanted: &[u8])
+where
+    X: ExtendableOutputReset + Update + Reset + Clone,
+{
+    let mut hasher = start.clone();
+    hasher.update(message);
+    let (mut reader, mut out) = (hasher.clone().finalize_xof(), vec![0; wanted.len()]);
+    let (first, second) = out.split_at_mut(wanted.len() / 3);
+    reader.read(first);
+    reader.read(second);
+    assert_eq!(out, wanted);
+    hasher.finalize_xof_reset_into(&mut out);
+    assert_eq!(out, wanted);
+    hasher.update(b"other");
+    Reset::reset(&mut hasher);
+    hasher.update(message);
+    out.fill(0);
+    hasher.finalize_xof_into(&mut out);
+    assert_eq!(out, wanted);
+}
+
+#[test]
+fn outputs() {
+    for (i, line) in lines("b", "x").iter().enumerate() {
+        let [key, message, wanted] = [1, 4, 5].map(|field| bytes(&line[field]));
+        if line[0] != "0" || line[2] != "-" || line[3] != "-" {
+            continue;
+        }
+        if key.is_empty() {
+            output_by_all_ways(Blake2xb::default(), &message, &wanted);
+        } else {
+            let hasher = <Blake2xb as KeyInit>::new_from_slice(&key).unwrap();
+            output_by_all_ways(hasher, &message, &wanted);
+        }
+        assert!(i < 132);
+    }
+    for line in &lines("s", "x") {
+        let [key, salt, persona, message, wanted] =
+            [1, 2, 3, 4, 5].map(|field| bytes(&line[field]));
+        let mut params = vulfsjor::Params::new().salt(&salt).persona(&persona);
+        if line[0] != "0" {
+            params = params.output_size(wanted.len());
+        }
+        if !key.is_empty() {
+            params = params.key(&key);
+        }
+        output_by_all_ways(Blake2xs::with_params(&params).unwrap(), &message, &wanted);
+    }
+    assert!(Blake2xs::with_params(&vulfsjor::Params::new().output_size(0)).is_err());
+    assert!(<Blake2xb as KeyInit>::new_from_slice(&[0; 65]).is_err());
+    let _hasher = <Blake2xb as KeyInit>::new(&GenericArray::default());
+    assert_eq!(<Blake2xs as BlockSizeUser>::block_size(), 64);
+    assert_eq!(<Blake2xb as KeySizeUser>::key_size(), 64);
+    let text = format!("{:?} {:?}", Blake2xb::default(), Blake2xs::default().finalize_xof());
+    assert_eq!(text, "Blake2xb { .. } Blake2xsReader { .. }");
+}
+
+#[test]
+#[should_panic(expected = "bytes that are left")]
+fn no_output_past_the_end() {
+    let hasher = Blake2xb::with_params(&vulfsjor::Params::new().output_size(9)).unwrap();
+    hasher.finalize_xof().read(&mut [0; 10]);
 }

@@ -33,6 +33,7 @@ pub struct Digest {
 
 impl Digest {
     // A digest of this number of zeros.
+    #[inline]
     pub(crate) fn zeros(size: usize) -> Self {
         Digest {
             bytes: [0; 64],
@@ -41,6 +42,7 @@ impl Digest {
     }
 
     /// Returns the bytes.
+    #[inline]
     pub fn as_bytes(&self) -> &[u8] {
         &self.bytes[..self.size]
     }
@@ -82,6 +84,7 @@ impl Digest {
     /// let hex = vulfsjor::Blake2s::digest(b"abc").to_hex();
     /// assert!(hex.starts_with("508c5e8c") && hex.len() == 64);
     /// ```
+    #[inline]
     pub fn to_hex(&self) -> HexString {
         self.hex(b"0123456789abcdef")
     }
@@ -109,6 +112,7 @@ pub struct HexString {
 
 impl HexString {
     /// Returns the digits.
+    #[inline]
     pub fn as_str(&self) -> &str {
         core::str::from_utf8(&self.text[..self.length]).expect("digits are ASCII")
     }
@@ -117,48 +121,56 @@ impl HexString {
 impl ops::Deref for HexString {
     type Target = str;
 
+    #[inline]
     fn deref(&self) -> &str {
         self.as_str()
     }
 }
 
 impl AsRef<str> for HexString {
+    #[inline]
     fn as_ref(&self) -> &str {
         self.as_str()
     }
 }
 
 impl PartialEq<str> for HexString {
+    #[inline]
     fn eq(&self, other: &str) -> bool {
         self.as_str() == other
     }
 }
 
 impl PartialEq<&str> for HexString {
+    #[inline]
     fn eq(&self, other: &&str) -> bool {
         self.as_str() == *other
     }
 }
 
 impl fmt::Display for HexString {
+    #[inline]
     fn fmt(&self, f: &mut fmt::Formatter<'_>) -> fmt::Result {
         f.pad(self)
     }
 }
 
 impl fmt::Debug for HexString {
+    #[inline]
     fn fmt(&self, f: &mut fmt::Formatter<'_>) -> fmt::Result {
         fmt::Debug::fmt(self.as_str(), f)
     }
 }
 
 impl AsRef<[u8]> for Digest {
+    #[inline]
     fn as_ref(&self) -> &[u8] {
         self.as_bytes()
     }
 }
 
 impl PartialEq<[u8]> for Digest {
+    #[inline]
     fn eq(&self, other: &[u8]) -> bool {
         let bytes = self.as_bytes();
         // Safety: both pointers come from slices of these lengths, and nothing is written.
@@ -170,12 +182,14 @@ impl PartialEq<[u8]> for Digest {
 macro_rules! equal_to {
     ([$($of:tt)*] $type:ty) => {
         impl<$($of)*> PartialEq<$type> for Digest {
+            #[inline]
             fn eq(&self, other: &$type) -> bool {
                 *self == other[..]
             }
         }
 
         impl<$($of)*> PartialEq<Digest> for $type {
+            #[inline]
             fn eq(&self, other: &Digest) -> bool {
                 *other == self[..]
             }
@@ -190,12 +204,14 @@ equal_to!([const N: usize] &[u8; N]);
 equal_to!([] std::vec::Vec<u8>);
 
 impl PartialEq<Digest> for [u8] {
+    #[inline]
     fn eq(&self, other: &Digest) -> bool {
         *other == *self
     }
 }
 
 impl PartialEq for Digest {
+    #[inline]
     fn eq(&self, other: &Digest) -> bool {
         *self == *other.as_bytes()
     }
@@ -205,12 +221,14 @@ impl Eq for Digest {}
 
 /// The order of the bytes. It stops at the first difference: compare tags with `==`.
 impl Ord for Digest {
+    #[inline]
     fn cmp(&self, other: &Digest) -> Ordering {
         self.as_bytes().cmp(other.as_bytes())
     }
 }
 
 impl PartialOrd for Digest {
+    #[inline]
     fn partial_cmp(&self, other: &Digest) -> Option<Ordering> {
         Some(self.cmp(other))
     }
@@ -235,6 +253,7 @@ impl FromStr for Digest {
 impl TryFrom<&[u8]> for Digest {
     type Error = InvalidArgument;
 
+    #[inline]
     fn try_from(bytes: &[u8]) -> Result<Self, InvalidArgument> {
         check_range("the slice's length", bytes.len() as u64, 1, 64)?;
         let mut digest = Digest::zeros(bytes.len());
@@ -261,6 +280,7 @@ impl<const N: usize> Length<N> {
 /// vulfsjor::Digest::from([0; 0]);
 /// ```
 impl<const N: usize> From<[u8; N]> for Digest {
+    #[inline]
     fn from(bytes: [u8; N]) -> Self {
         let () = Length::<N>::IS_OF_A_DIGEST;
         let mut digest = Digest::zeros(N);
@@ -272,6 +292,7 @@ impl<const N: usize> From<[u8; N]> for Digest {
 /// The bytes, which have the same [`Eq`], [`Ord`] and [`Hash`]: a map with digests as keys can be
 /// searched by a slice.
 impl Borrow<[u8]> for Digest {
+    #[inline]
     fn borrow(&self) -> &[u8] {
         self.as_bytes()
     }
@@ -282,6 +303,7 @@ impl Borrow<[u8]> for Digest {
 impl<const N: usize> TryFrom<Digest> for [u8; N] {
     type Error = InvalidArgument;
 
+    #[inline]
     fn try_from(digest: Digest) -> Result<Self, InvalidArgument> {
         check_equal("the array's length", N as u64, digest.size as u64)?;
         let mut array = [0; N];
@@ -293,6 +315,7 @@ impl<const N: usize> TryFrom<Digest> for [u8; N] {
 /// Lower-case hexadecimal digits, as with `{:x}`. A precision truncates them: `{:.8}` shows the
 /// first 8.
 impl fmt::Display for Digest {
+    #[inline]
     fn fmt(&self, f: &mut fmt::Formatter<'_>) -> fmt::Result {
         f.pad(&self.to_hex())
     }
@@ -300,6 +323,7 @@ impl fmt::Display for Digest {
 
 /// Lower-case hexadecimal digits, two for each byte; `{:#x}` begins with 0x.
 impl fmt::LowerHex for Digest {
+    #[inline]
     fn fmt(&self, f: &mut fmt::Formatter<'_>) -> fmt::Result {
         f.pad_integral(true, "0x", &self.to_hex())
     }
@@ -307,12 +331,14 @@ impl fmt::LowerHex for Digest {
 
 /// Upper-case hexadecimal digits, two for each byte; `{:#X}` begins with 0x.
 impl fmt::UpperHex for Digest {
+    #[inline]
     fn fmt(&self, f: &mut fmt::Formatter<'_>) -> fmt::Result {
         f.pad_integral(true, "0x", &self.hex(b"0123456789ABCDEF"))
     }
 }
 
 impl fmt::Debug for Digest {
+    #[inline]
     fn fmt(&self, f: &mut fmt::Formatter<'_>) -> fmt::Result {
         write!(f, "Digest({self})")
     }

@@ -8,7 +8,7 @@ pub enum Bounds {
     Range {
         /// The least number.
         min: u64,
-        /// The greatest number.
+        /// The largest number.
         max: u64,
     },
     /// A multiple of this number, or 0.
@@ -61,16 +61,19 @@ pub struct InvalidArgument {
 impl InvalidArgument {
     /// Returns the name of the argument: `output_size`, `key.len()`, `salt.len()`,
     /// `persona.len()`, `leaf_length`, `tree.depth` and so on.
+    #[inline]
     pub fn argument(&self) -> &'static str {
         self.argument
     }
 
     /// Returns the number that was passed. A flag is 1 if it was set.
+    #[inline]
     pub fn value(&self) -> u64 {
         self.value
     }
 
     /// Returns the numbers that the call accepts, given its other arguments.
+    #[inline]
     pub fn bounds(&self) -> Bounds {
         self.bounds
     }
@@ -104,6 +107,7 @@ impl std::error::Error for InvalidArgument {}
 
 #[cfg(feature = "std")]
 impl From<InvalidArgument> for std::io::Error {
+    #[inline]
     fn from(error: InvalidArgument) -> Self {
         std::io::Error::new(std::io::ErrorKind::InvalidInput, error)
     }

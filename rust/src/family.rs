@@ -6,7 +6,7 @@ use crate::{InvalidArgument, MacError, Params};
 
 // The number of messages that one call of the library gets in `digest_many`. Their pointers are on
 // the stack.
-const PART: usize = 16;
+pub(crate) const PART: usize = 16;
 
 // What all families have, on top of the states and the functions of `library`.
 macro_rules! family {
@@ -25,6 +25,7 @@ macro_rules! family {
         impl $hasher {
             #[doc = concat!("Returns a hasher with digests of ", stringify!($max), " bytes and")]
             /// no key.
+            #[inline]
             pub fn new() -> Self {
                 Self::with_params(&Params::new()).expect("lengths of the family")
             }
@@ -35,6 +36,7 @@ macro_rules! family {
             }
 
             // The digest under a key, or without one if that is empty.
+            #[inline]
             fn one_call(message: &[u8], key: &[u8]) -> Result<Digest, InvalidArgument> {
                 let mut digest = Digest::zeros($max);
                 // Safety: the pointers come from slices of these lengths. The output overlaps none
@@ -80,6 +82,7 @@ macro_rules! family {
                 "assert_eq!(", stringify!($hasher), "::new().update(b\"abc\").finalize(), digest);"
             )]
             /// ```
+            #[inline]
             pub fn finalize(&self) -> Digest {
                 let mut copy = $hasher { state: $state::ZEROS };
                 copy.state.0.copy_from_slice(&self.state.0);
@@ -93,6 +96,7 @@ macro_rules! family {
             }
 
             /// Returns the digest of all input, and [resets](Self::reset) the hasher.
+            #[inline]
             pub fn finalize_reset(&mut self) -> Digest {
                 let digest = self.finalize();
                 self.reset();
@@ -100,6 +104,7 @@ macro_rules! family {
             }
 
             /// Discards all input. The parameters stay, and so does a last-node flag.
+            #[inline]
             pub fn reset(&mut self) {
                 // Safety: the state has initialized bytes.
                 let status = unsafe { library::$reset(&mut self.state) };
@@ -107,6 +112,7 @@ macro_rules! family {
             }
 
             /// Returns the number of bytes of input since the last reset, without the key.
+            #[inline]
             pub fn count(&self) -> u64 {
                 // Safety: the state has initialized bytes.
                 unsafe { library::$count(&self.state) }
@@ -114,6 +120,7 @@ macro_rules! family {
         }
 
         impl Clone for $hasher {
+            #[inline]
             fn clone(&self) -> Self {
                 let mut copy = $hasher { state: $state::ZEROS };
                 copy.state.0.copy_from_slice(&self.state.0);
@@ -122,12 +129,14 @@ macro_rules! family {
         }
 
         impl Default for $hasher {
+            #[inline]
             fn default() -> Self {
                 Self::new()
             }
         }
 
         impl Drop for $hasher {
+            #[inline]
             fn drop(&mut self) {
                 // Safety: the state has initialized bytes.
                 unsafe { library::$wipe(&mut self.state) }
@@ -151,6 +160,7 @@ macro_rules! family {
             ///
             /// [`InvalidArgument`] exactly if the key does not have
             #[doc = concat!("1 to ", stringify!($max), " bytes.")]
+            #[inline]
             pub fn new(key: &[u8]) -> Result<Self, InvalidArgument> {
                 Self::with_params(&Params::new().key(key))
             }
@@ -161,6 +171,7 @@ macro_rules! family {
             ///
             /// [`InvalidArgument`] exactly if there is no key, or a hasher with these parameters
             /// is refused.
+            #[inline]
             pub fn with_params(params: &Params<'_>) -> Result<Self, InvalidArgument> {
                 check_range("key.len()", params.key_or_none().len() as u64, 1, $max)?;
                 $hasher::with_params(params).map($mac)
@@ -190,11 +201,13 @@ macro_rules! family {
 
             /// Returns the tag of all input since the last reset. The MAC is unchanged, and can
             /// absorb more input.
+            #[inline]
             pub fn finalize(&self) -> Digest {
                 self.0.finalize()
             }
 
             /// Returns the tag of all input, and [resets](Self::reset) the MAC.
+            #[inline]
             pub fn finalize_reset(&mut self) -> Digest {
                 self.0.finalize_reset()
             }
@@ -205,6 +218,7 @@ macro_rules! family {
             /// # Errors
             ///
             /// [`MacError`] for any other tag.
+            #[inline]
             pub fn verify(&self, tag: &[u8]) -> Result<(), MacError> {
                 let mut copy = $hasher { state: $state::ZEROS };
                 copy.state.0.copy_from_slice(&self.0.state.0);
@@ -216,11 +230,13 @@ macro_rules! family {
             }
 
             /// Discards all input. The key and the other parameters stay.
+            #[inline]
             pub fn reset(&mut self) {
                 self.0.reset();
             }
 
             /// Returns the number of bytes of input since the last reset, without the key.
+            #[inline]
             pub fn count(&self) -> u64 {
                 self.0.count()
             }
@@ -243,6 +259,7 @@ macro_rules! sequential {
             ///
             /// [`InvalidArgument`] exactly if a length or a tree parameter is out of the family's
             /// range.
+            #[inline]
             pub fn with_params(params: &Params<'_>) -> Result<Self, InvalidArgument> {
                 params.check_key($max)?;
                 let Params { output_size, salt, persona, tree, last_node, .. } = *params;
@@ -357,6 +374,7 @@ macro_rules! sequential {
 
             /// Sets or clears the last-node flag (the BLAKE2 document, section 2.10), at any time
             /// before the digest.
+            #[inline]
             pub fn set_last_node(&mut self, on: bool) {
                 // Safety: the state has initialized bytes.
                 let status = unsafe { library::$set_last_node(&mut self.state, u32::from(on)) };
@@ -379,6 +397,7 @@ macro_rules! parallel {
             ///
             /// [`InvalidArgument`] exactly if a length is out of the family's range, or the
             /// parameters set tree parameters or the last-node flag.
+            #[inline]
             pub fn with_params(params: &Params<'_>) -> Result<Self, InvalidArgument> {
                 params.check_sequential()?;
                 params.check_key($max)?;

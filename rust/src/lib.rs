@@ -1,11 +1,12 @@
-//! BLAKE2b and BLAKE2s (RFC 7693), BLAKE2bp and BLAKE2sp: safe bindings to formally verified
-//! functions. The crate contains the assembly that the proved source compiles to. It has no
+//! BLAKE2b and BLAKE2s (RFC 7693), BLAKE2bp and BLAKE2sp, BLAKE2Xb and BLAKE2Xs: safe bindings to
+//! formally verified functions. The crate contains the assembly that the proved source compiles to. It has no
 //! dependencies, and allocates memory only in the calls that use several threads or read. The Rust
 //! code of the crate is tested, not proved.
 //!
-//! It runs on Linux, macOS and Windows, on 64-bit ARM and on x86-64 from x86-64-v2 on (SSE4.2 and
-//! POPCNT), and uses AVX2 and AVX-512 if the processor has them. On an older x86-64 processor the
-//! first call panics.
+//! The assembly is for Linux, macOS and Windows, on 64-bit ARM and on x86-64 from x86-64-v2 on
+//! (SSE4.2 and POPCNT), and uses AVX2 and AVX-512 if the processor has them. On an older x86-64
+//! processor the first call panics. On all other targets the crate is a translation of the proved
+//! code to Rust, which is not proved.
 //!
 //! A digest of a message, in one call or in pieces:
 //!
@@ -99,6 +100,21 @@
 //! assert_ne!(Blake2b::digest(b"hello world"), digest);
 //! ```
 //!
+//! An output of any length, in pieces, and keys that are derived from a key, by BLAKE2Xb and
+//! BLAKE2Xs:
+//!
+//! ```
+//! use vulfsjor::{Blake2xb, Params};
+//!
+//! let mut mask = [0; 1000];
+//! let params = Params::new().output_size(mask.len());
+//! params.blake2xb()?.update(b"seed").finalize_xof().read(&mut mask)?;
+//! # let key = [7; 32];
+//! let mut file_key = [0; 32];
+//! Blake2xb::derive_key(&key, "encrypt files", &mut file_key)?;
+//! # Ok::<(), vulfsjor::InvalidArgument>(())
+//! ```
+//!
 //! A stream, with the feature `std`: a hasher reads from an `io::Read`, and is an `io::Write`.
 //!
 //! ```
@@ -135,16 +151,36 @@
 #![no_std]
 #![deny(missing_docs, unsafe_op_in_unsafe_fn)]
 
-#[cfg(not(all(
-    any(target_arch = "x86_64", target_arch = "aarch64"),
-    any(target_os = "linux", target_os = "macos", windows),
-    target_pointer_width = "64",
-    target_endian = "little",
-)))]
-compile_error!(
-    "vulfsjor is assembly for Linux, macOS and Windows on x86-64 and on little-endian 64-bit ARM, \
-     and has none for this target"
-);
+// Items for targets whose assembly `dist/` has, and items for all others, which get the library in
+// portable Rust.
+macro_rules! with_assembly {
+    ($($item:item)*) => {
+        $(
+            #[cfg(all(
+                not(vulfsjor_build = "portable"),
+                any(target_arch = "x86_64", target_arch = "aarch64"),
+                any(target_os = "linux", target_os = "macos", windows),
+                target_pointer_width = "64",
+                target_endian = "little",
+            ))]
+            $item
+        )*
+    };
+}
+macro_rules! without_assembly {
+    ($($item:item)*) => {
+        $(
+            #[cfg(any(
+                vulfsjor_build = "portable",
+                not(any(target_arch = "x86_64", target_arch = "aarch64")),
+                not(any(target_os = "linux", target_os = "macos", windows)),
+                not(target_pointer_width = "64"),
+                not(target_endian = "little"),
+            ))]
+            $item
+        )*
+    };
+}
 
 #[cfg(any(feature = "std", test))]
 extern crate std;
@@ -155,6 +191,7 @@ macro_rules! of_stream {
     ($type:ident) => {
         /// Shows no byte of the state, since that may hold a key.
         impl core::fmt::Debug for $type {
+            #[inline]
             fn fmt(&self, f: &mut core::fmt::Formatter<'_>) -> core::fmt::Result {
                 f.write_str(concat!(stringify!($type), " { .. }"))
             }
@@ -177,7 +214,7 @@ macro_rules! of_stream {
                 &mut self,
                 reader: impl std::io::Read,
             ) -> std::io::Result<&mut Self> {
-                crate::stream::read_all(reader, |bytes| {
+                crate::read_all::read_all(reader, |bytes| {
                     self.update(bytes);
                     Ok(())
                 })?;
@@ -188,11 +225,13 @@ macro_rules! of_stream {
         /// Absorbs all that is written. A write never fails.
         #[cfg(feature = "std")]
         impl std::io::Write for $type {
+            #[inline]
             fn write(&mut self, bytes: &[u8]) -> std::io::Result<usize> {
                 self.update(bytes);
                 Ok(bytes.len())
             }
 
+            #[inline]
             fn flush(&mut self) -> std::io::Result<()> {
                 Ok(())
             }
@@ -203,26 +242,24 @@ macro_rules! of_stream {
 mod digest;
 mod error;
 mod family;
-#[cfg(feature = "std")]
-mod file;
-#[cfg(all(
-    any(target_arch = "x86_64", target_arch = "aarch64"),
-    any(target_os = "linux", target_os = "macos", windows),
-    target_pointer_width = "64",
-    target_endian = "little",
-))]
+#[allow(unused_macros)] // those for assembly
 mod library;
 mod params;
-#[cfg(target_arch = "x86_64")]
-mod processor;
+with_assembly! {
+    #[cfg(target_arch = "x86_64")]
+    mod processor;
+}
 #[cfg(feature = "std")]
-mod stream;
+mod read_all;
 #[cfg(test)]
 mod tests;
 #[cfg(feature = "std")]
 mod threads;
 mod tree;
+#[cfg(feature = "std")]
+mod tree_file;
 mod tree_params;
+mod xof;
 
 pub use digest::{Digest, HexString};
 pub use error::{Bounds, HexError, InvalidArgument, MacError};
@@ -232,3 +269,4 @@ pub use family::{
 pub use params::{Params, Tree};
 pub use tree::TreeHasher;
 pub use tree_params::TreeParams;
+pub use xof::{Blake2xb, Blake2xbReader, Blake2xs, Blake2xsReader};

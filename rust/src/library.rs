@@ -1,19 +1,29 @@
 //! The states and the functions of the proved library, as `c/include/vulfsjor.h` declares them.
-//! The functions are the assembly text in `dist/`, which becomes a part of this crate. Only the
-//! other modules call what is here.
+//! The functions are the assembly text in `dist/`, which becomes a part of this crate, or for other
+//! targets what is translated there to Rust. Only the other modules call what is here.
 
-use core::arch::global_asm;
+with_assembly! {
+    use core::arch::global_asm;
 
-#[cfg(target_arch = "x86_64")]
-use crate::processor::{ask, level};
-
-// Panics if the processor can run none of the builds. A hasher is made after this call, since a
-// later panic would drop it, and the wipe of the drop would be a second panic.
-pub(crate) fn need_a_build() {
     #[cfg(target_arch = "x86_64")]
-    if level() == 0 {
-        ask();
+    use crate::processor::{ask, level};
+
+    // Panics if the processor can run none of the builds. A hasher is made after this call, since a
+    // later panic would drop it, and the wipe of the drop would be a second panic.
+    #[inline(never)]
+    pub(crate) fn need_a_build() {
+        #[cfg(target_arch = "x86_64")]
+        if level() == 0 {
+            ask();
+        }
     }
+}
+without_assembly! {
+    #[path = "../../dist/rust/vulfsjor.rs"]
+    mod portable;
+
+    // Every processor can run it.
+    pub(crate) fn need_a_build() {}
 }
 
 // A state of this many words, which only the library reads and writes. All functions below accept
@@ -34,6 +44,8 @@ state!(Blake2bState, 53);
 state!(Blake2sState, 29);
 state!(Blake2bpState, 204);
 state!(Blake2spState, 200);
+state!(Blake2xbState, 68);
+state!(Blake2xsState, 38);
 state!(TreeState, 114);
 
 // One of several messages: `vulfsjor_message` of the header.
@@ -45,6 +57,7 @@ pub(crate) struct Text {
 }
 
 impl Text {
+    #[inline]
     pub(crate) fn of(bytes: &[u8]) -> Self {
         Text {
             bytes: bytes.as_ptr(),
@@ -84,9 +97,9 @@ pub(crate) struct Plan {
     pub(crate) start: u64,
     pub(crate) end: u64,
     rest_length: u64,
-    leaf_length: u64,
-    part_length: u64,
-    part_count: u64,
+    pub(crate) leaf_length: u64,
+    pub(crate) part_length: u64,
+    pub(crate) part_count: u64,
     pub(crate) threads: u64,
     pub(crate) digests_length: u64,
     ends: u64,
@@ -105,36 +118,12 @@ pub(crate) struct Part {
 }
 
 // The name of a function of a build within a program. The version keeps two versions of the crate
-// apart, and the first word keeps the crate apart from the library for C.
+// apart, and the first word keeps the crate apart from the library for C. The name in the assembly
+// of `dist/` follows. It includes the number of the code (`CODE` in c/choose.c), as all names and
+// labels there do, since lto = "fat" makes one assembly of those of two versions.
 macro_rules! symbol {
-    ($name:ident, $build:ident) => {
-        concat!(
-            "vulfsjor_",
-            env!("CARGO_PKG_VERSION"),
-            "_",
-            stringify!($name),
-            "_",
-            stringify!($build)
-        )
-    };
-}
-
-// The name of the same function in the assembly of `dist/`. It includes the version, as all names
-// and labels there do, since lto = "fat" makes one assembly of those of two versions.
-macro_rules! text_symbol {
-    ($name:ident, $build:ident) => {
-        concat!(
-            "vulfsjor_ffi_",
-            stringify!($name),
-            "_",
-            env!("CARGO_PKG_VERSION_MAJOR"),
-            "_",
-            env!("CARGO_PKG_VERSION_MINOR"),
-            "_",
-            env!("CARGO_PKG_VERSION_PATCH"),
-            "_",
-            stringify!($build)
-        )
+    ($text_name:expr) => {
+        concat!("vulfsjor_", env!("CARGO_PKG_VERSION"), "_", $text_name)
     };
 }
 
@@ -185,10 +174,15 @@ macro_rules! of_text { ($($function:tt)+) => { extern "C" { $($function)+ } }; }
 #[rustfmt::skip]
 macro_rules! of_text { ($($function:tt)+) => { extern "sysv64" { $($function)+ } }; }
 
-// A module with the functions of one build. While the assembler reads the text, `vj_export` is
-// another macro, so all names of the text stay local to the object file. The names of `symbol!`
-// follow the text. They are hidden: only the program, or the shared library, that the crate is
-// linked into sees them. No macro stays: other texts may follow in the same assembly.
+// The text of one build, and a module with its functions. While the assembler reads the text,
+// `vj_export` is another macro: the name of an exported function stays local to the object file,
+// and the function gets one of `symbol!` too. That is hidden: only the program, or the shared
+// library, that the crate is linked into sees it. No macro stays: other texts may follow in the
+// same assembly.
+//
+// The text is in this module, as the functions of `calls!` are, so rustc compiles it together with
+// them. They are `#[inline(never)]`: LLVM reads the text again for each part of the crate into
+// which it may inline a function that was compiled together with the text.
 macro_rules! build {
     (
         $build:ident, $processor:literal, $file:literal, ($($option:ident),+),
@@ -197,34 +191,31 @@ macro_rules! build {
             fn $name:ident($($argument:ident: $type:ty),* $(,)?) $(-> $answer:ty)?;
         )+
     ) => {
+        global_asm!(
+            object!(begin),
+            dist!($processor, object!(macros)),
+            ".purgem vj_export",
+            ".macro vj_export name",
+            concat!(".globl \"", object!(name), symbol!("\\name"), "\""),
+            concat!(object!(hidden), "\"", object!(name), symbol!("\\name"), "\""),
+            concat!(".set \"", object!(name), symbol!("\\name"), "\", ", object!(name), "\\name"),
+            concat!("vj_function ", object!(name), "\\name"),
+            ".endm",
+            dist!($processor, $file),
+            dist!($processor, "purge_macros.inc"),
+            object!(end),
+            options($($option),+)
+        );
+
         pub(crate) mod $build {
             use super::*;
-
-            global_asm!(
-                object!(begin),
-                dist!($processor, object!(macros)),
-                ".purgem vj_export",
-                ".macro vj_export name",
-                "vj_function \\name",
-                ".endm",
-                dist!($processor, $file),
-                dist!($processor, "purge.inc"),
-                $(
-                    concat!(".globl \"", object!(name), symbol!($name, $build), "\""),
-                    concat!(object!(hidden), "\"", object!(name), symbol!($name, $build), "\""),
-                    concat!(
-                        ".set \"", object!(name), symbol!($name, $build), "\", ",
-                        text_symbol!($name, $build)
-                    ),
-                )+
-                object!(end),
-                options($($option),+)
-            );
 
             of_text! {
                 $(
                     $(#[$attribute])*
-                    #[link_name = symbol!($name, $build)]
+                    #[link_name = symbol!(concat!(
+                        "vulfsjor_ffi_", stringify!($name), "_1_", stringify!($build)
+                    ))]
                     pub(crate) fn $name($($argument: $type),*) $(-> $answer)?;
                 )+
             }
@@ -233,8 +224,8 @@ macro_rules! build {
 }
 
 // The functions by which the crate calls the build that the processor runs. All builds have the
-// same states. These functions are not `#[inline]`: a program that links a Rust `dylib` with this
-// crate would inline them into its own objects, and the hidden names are not visible there.
+// same states. These functions are never inlined: a program that links a Rust `dylib` with this
+// crate would have them in its own objects, and the hidden names are not visible there.
 macro_rules! calls {
     ($(
         $(#[$attribute:meta])*
@@ -242,6 +233,7 @@ macro_rules! calls {
     )+) => {
         $(
             $(#[$attribute])*
+            #[inline(never)]
             #[allow(clippy::too_many_arguments)] // those of the header
             pub(crate) unsafe fn $name($($argument: $type),*) $(-> $answer)? {
                 // The first call, in a separate function: later calls then need not save their
@@ -274,18 +266,33 @@ macro_rules! calls {
     };
 }
 
-macro_rules! functions {
-    ($($function:tt)+) => {
-        #[cfg(target_arch = "x86_64")]
-        build!(v2, "x86_64", "vulfsjor-v2.s", (att_syntax, raw), $($function)+);
-        #[cfg(target_arch = "x86_64")]
-        build!(v3, "x86_64", "vulfsjor-v3.s", (att_syntax, raw), $($function)+);
-        #[cfg(target_arch = "x86_64")]
-        build!(v4, "x86_64", "vulfsjor-v4.s", (att_syntax, raw), $($function)+);
-        #[cfg(target_arch = "aarch64")]
-        build!(arm, "aarch64", "vulfsjor.s", (raw), $($function)+);
-        calls!($($function)+);
-    };
+with_assembly! {
+    macro_rules! functions {
+        ($($function:tt)+) => {
+            #[cfg(target_arch = "x86_64")]
+            build!(v2, "x86_64", "vulfsjor-v2.s", (att_syntax, raw), $($function)+);
+            #[cfg(target_arch = "x86_64")]
+            build!(v3, "x86_64", "vulfsjor-v3.s", (att_syntax, raw), $($function)+);
+            #[cfg(target_arch = "x86_64")]
+            build!(v4, "x86_64", "vulfsjor-v4.s", (att_syntax, raw), $($function)+);
+            #[cfg(target_arch = "aarch64")]
+            build!(arm, "aarch64", "vulfsjor.s", (raw), $($function)+);
+            calls!($($function)+);
+        };
+    }
+}
+without_assembly! {
+    macro_rules! functions {
+        ($(
+            $(#[$attribute:meta])*
+            fn $name:ident($($argument:ident: $type:ty),* $(,)?) $(-> $answer:ty)?;
+        )+) => {
+            $(
+                $(#[$attribute])*
+                pub(crate) use portable::$name;
+            )+
+        };
+    }
 }
 
 // The functions of the header. tools/exports.py compares them with it, and the structs above.
@@ -432,6 +439,60 @@ functions! {
     #[cfg(test)]
     fn blake2sp_state_size() -> usize;
 
+    fn blake2xb_derive_key(
+        out: *mut u8,
+        out_length: usize,
+        key: *const u8,
+        key_length: usize,
+        context: *const u8,
+        context_length: usize,
+    ) -> i32;
+    fn blake2xb_init_salt_personal(
+        state: &mut Blake2xbState,
+        xof_length: u64,
+        key: *const u8,
+        key_length: usize,
+        salt: *const u8,
+        salt_length: usize,
+        persona: *const u8,
+        persona_length: usize,
+    ) -> i32;
+    fn blake2xb_update(state: &mut Blake2xbState, input: *const u8, input_length: usize) -> i32;
+    fn blake2xb_squeeze(state: &mut Blake2xbState, out: *mut u8, out_length: usize) -> i32;
+    fn blake2xb_reset(state: &mut Blake2xbState) -> i32;
+    fn blake2xb_wipe(state: &mut Blake2xbState);
+    fn blake2xb_left(state: &Blake2xbState) -> u64;
+    fn blake2xb_count(state: &Blake2xbState) -> u64;
+    #[cfg(test)]
+    fn blake2xb_state_size() -> usize;
+
+    fn blake2xs_derive_key(
+        out: *mut u8,
+        out_length: usize,
+        key: *const u8,
+        key_length: usize,
+        context: *const u8,
+        context_length: usize,
+    ) -> i32;
+    fn blake2xs_init_salt_personal(
+        state: &mut Blake2xsState,
+        xof_length: u64,
+        key: *const u8,
+        key_length: usize,
+        salt: *const u8,
+        salt_length: usize,
+        persona: *const u8,
+        persona_length: usize,
+    ) -> i32;
+    fn blake2xs_update(state: &mut Blake2xsState, input: *const u8, input_length: usize) -> i32;
+    fn blake2xs_squeeze(state: &mut Blake2xsState, out: *mut u8, out_length: usize) -> i32;
+    fn blake2xs_reset(state: &mut Blake2xsState) -> i32;
+    fn blake2xs_wipe(state: &mut Blake2xsState);
+    fn blake2xs_left(state: &Blake2xsState) -> u64;
+    fn blake2xs_count(state: &Blake2xsState) -> u64;
+    #[cfg(test)]
+    fn blake2xs_state_size() -> usize;
+
     fn memcmp(a: *const u8, a_length: usize, b: *const u8, b_length: usize) -> i32;
 
     fn tree_root(
@@ -521,6 +582,16 @@ functions! {
         leaf_length: u32,
     ) -> i32;
     #[cfg(feature = "std")]
+    fn tree_init_root(
+        state: &mut Blake2bState,
+        output_size: usize,
+        salt: *const u8,
+        salt_length: usize,
+        persona: *const u8,
+        persona_length: usize,
+        leaf_length: u32,
+    ) -> i32;
+    #[cfg(feature = "std")]
     fn tree_plan(
         plan: &mut Plan,
         start: u64,
@@ -537,7 +608,4 @@ functions! {
     ) -> i32;
     #[cfg(feature = "std")]
     fn tree_part(part: &mut Part, plan: &Plan, i: u64) -> i32;
-
-    #[cfg(test)]
-    fn version() -> u32;
 }

@@ -1,7 +1,7 @@
 use core::fmt;
 
 use crate::error::{check_equal, check_range};
-use crate::{Blake2b, Blake2bp, Blake2s, Blake2sp, Digest, InvalidArgument};
+use crate::{Blake2b, Blake2bp, Blake2s, Blake2sp, Blake2xb, Blake2xs, Digest, InvalidArgument};
 
 // The largest lengths of a family, in bytes, and its last node offset.
 pub(crate) struct FamilyLimits {
@@ -85,6 +85,7 @@ pub struct Params<'a> {
 
 impl<'a> Params<'a> {
     /// Returns parameters for the longest digest of the family, without key, salt and persona.
+    #[inline]
     pub const fn new() -> Self {
         Params {
             output_size: None,
@@ -98,6 +99,7 @@ impl<'a> Params<'a> {
 
     /// Sets the number of bytes in the digest: 1 to 64 for BLAKE2b, 1 to 32 for BLAKE2s. The limits
     /// of BLAKE2bp and BLAKE2sp are here and below those of BLAKE2b and BLAKE2s.
+    #[inline]
     pub fn output_size(self, bytes: usize) -> Self {
         Params {
             output_size: Some(bytes),
@@ -108,6 +110,7 @@ impl<'a> Params<'a> {
     /// Sets the key: 1 to 64 bytes for BLAKE2b, 1 to 32 for BLAKE2s. A key of no bytes is refused, so
     /// that a missing key never leaves a hash without one. For a hash without a key, do not call
     /// this.
+    #[inline]
     pub fn key(self, key: &'a [u8]) -> Self {
         Params {
             key: Some(key),
@@ -117,23 +120,27 @@ impl<'a> Params<'a> {
 
     /// Sets the salt: up to 16 bytes for BLAKE2b, up to 8 for BLAKE2s. Trailing zeros change
     /// nothing.
+    #[inline]
     pub fn salt(self, salt: &'a [u8]) -> Self {
         Params { salt, ..self }
     }
 
     /// Sets the persona: up to 16 bytes for BLAKE2b, up to 8 for BLAKE2s. Trailing zeros change
     /// nothing. Use a different persona for each purpose.
+    #[inline]
     pub fn persona(self, persona: &'a [u8]) -> Self {
         Params { persona, ..self }
     }
 
     /// Sets the tree parameters, within the limits that [`Tree`] states.
+    #[inline]
     pub fn tree(self, tree: Tree) -> Self {
         Params { tree, ..self }
     }
 
     /// Sets whether the hash is the last node on its level of a tree of hashes (the BLAKE2
     /// document, 2.10).
+    #[inline]
     pub fn last_node(self, last_node: bool) -> Self {
         Params { last_node, ..self }
     }
@@ -143,6 +150,7 @@ impl<'a> Params<'a> {
     /// # Errors
     ///
     /// [`InvalidArgument`] exactly if a length or a tree parameter is out of BLAKE2b's range.
+    #[inline]
     pub fn blake2b(&self) -> Result<Blake2b, InvalidArgument> {
         Blake2b::with_params(self)
     }
@@ -169,6 +177,7 @@ impl<'a> Params<'a> {
     /// # Errors
     ///
     /// [`InvalidArgument`] exactly if a length or a tree parameter is out of BLAKE2s's range.
+    #[inline]
     pub fn blake2s(&self) -> Result<Blake2s, InvalidArgument> {
         Blake2s::with_params(self)
     }
@@ -196,6 +205,7 @@ impl<'a> Params<'a> {
     ///
     /// [`InvalidArgument`] exactly if a length is out of BLAKE2bp's range, or tree parameters or
     /// the last-node flag are set.
+    #[inline]
     pub fn blake2bp(&self) -> Result<Blake2bp, InvalidArgument> {
         Blake2bp::with_params(self)
     }
@@ -224,6 +234,7 @@ impl<'a> Params<'a> {
     ///
     /// [`InvalidArgument`] exactly if a length is out of BLAKE2sp's range, or tree parameters or
     /// the last-node flag are set.
+    #[inline]
     pub fn blake2sp(&self) -> Result<Blake2sp, InvalidArgument> {
         Blake2sp::with_params(self)
     }
@@ -246,7 +257,32 @@ impl<'a> Params<'a> {
         Ok(self.blake2sp()?.update(message).finalize())
     }
 
+    /// Returns a BLAKE2Xb hasher with these parameters. `output_size` is the length of its output,
+    /// 1 to 2^32 - 2; without one that is not known in advance.
+    ///
+    /// # Errors
+    ///
+    /// [`InvalidArgument`] exactly if a length is out of BLAKE2Xb's range, or tree parameters or
+    /// the last-node flag are set.
+    #[inline]
+    pub fn blake2xb(&self) -> Result<Blake2xb, InvalidArgument> {
+        Blake2xb::with_params(self)
+    }
+
+    /// Returns a BLAKE2Xs hasher with these parameters. `output_size` is the length of its output,
+    /// 1 to 65,534; without one that is not known in advance.
+    ///
+    /// # Errors
+    ///
+    /// [`InvalidArgument`] exactly if a length is out of BLAKE2Xs's range, or tree parameters or
+    /// the last-node flag are set.
+    #[inline]
+    pub fn blake2xs(&self) -> Result<Blake2xs, InvalidArgument> {
+        Blake2xs::with_params(self)
+    }
+
     // The key, or no bytes if there is none.
+    #[inline]
     pub(crate) fn key_or_none(&self) -> &'a [u8] {
         self.key.unwrap_or(b"")
     }

@@ -6,7 +6,8 @@ use std::panic::{catch_unwind, AssertUnwindSafe};
 use std::string::{String, ToString};
 
 use crate::library::{
-    self, Blake2bState, Blake2bpState, Blake2sState, Blake2spState, TreeState,
+    self, Blake2bState, Blake2bpState, Blake2sState, Blake2spState, Blake2xbState, Blake2xsState,
+    TreeState,
 };
 use crate::*;
 
@@ -20,13 +21,15 @@ fn panic_of<R>(call: impl FnOnce() -> R) -> String {
 }
 
 #[test]
-fn layouts_and_version_are_those_of_the_library() {
+fn layouts_are_those_of_the_library() {
     // Safety: these calls have no arguments.
     unsafe {
         assert_eq!(library::blake2b_state_size(), size_of::<Blake2bState>());
         assert_eq!(library::blake2s_state_size(), size_of::<Blake2sState>());
         assert_eq!(library::blake2bp_state_size(), size_of::<Blake2bpState>());
         assert_eq!(library::blake2sp_state_size(), size_of::<Blake2spState>());
+        assert_eq!(library::blake2xb_state_size(), size_of::<Blake2xbState>());
+        assert_eq!(library::blake2xs_state_size(), size_of::<Blake2xsState>());
         assert_eq!(library::tree_state_size(), size_of::<TreeState>());
         // A plan and its parts are as large as vulfsjor.h says: its test compares.
         #[cfg(feature = "std")]
@@ -37,12 +40,6 @@ fn layouts_and_version_are_those_of_the_library() {
                 size_of::<library::Part>()
             ],
             [32, 72, 48]
-        );
-        let version = library::version();
-        let parts = [version >> 16, version >> 8 & 255, version & 255];
-        assert_eq!(
-            format!("{}.{}.{}", parts[0], parts[1], parts[2]),
-            env!("CARGO_PKG_VERSION")
         );
     }
 }
@@ -57,7 +54,7 @@ macro_rules! family {
             // pending bytes.
             fn near_the_end(hasher: $hasher, blocks: u64) -> $hasher {
                 let mut hasher = hasher;
-                hasher.state.0[$counter] = 0u64.wrapping_sub($block * blocks);
+                hasher.state.0[$counter] = 0u64.wrapping_sub($block * blocks).to_le();
                 hasher.state.0[$counter + 1] = 0;
                 hasher
             }
@@ -115,7 +112,7 @@ macro_rules! parallel {
             // the next, the number of pending bytes.
             fn near_the_end(hasher: $hasher, bytes: u64) -> $hasher {
                 let mut hasher = hasher;
-                hasher.state.0[32] = 0u64.wrapping_sub(bytes) / $leaves;
+                hasher.state.0[32] = (0u64.wrapping_sub(bytes) / $leaves).to_le();
                 hasher.state.0[33] = 0;
                 hasher
             }
@@ -193,9 +190,10 @@ fn tree_near_the_end(leaves: u64) -> TreeHasher {
     const ROOT_COUNTER: usize = 53 + 16;
     let mut hasher = TreeParams::new(1 << 10).hasher().unwrap();
     hasher.update([7; 1 << 10]).update([7; 1]);
-    assert_eq!((hasher.state.0[CLOSED], hasher.count()), (1, 1025));
-    hasher.state.0[CLOSED] = (1 << 48) - leaves;
-    hasher.state.0[ROOT_COUNTER] = ((1 << 48) - leaves) * 64;
+    let closed = u64::from_le(hasher.state.0[CLOSED]);
+    assert_eq!((closed, hasher.count()), (1, 1025));
+    hasher.state.0[CLOSED] = ((1 << 48) - leaves).to_le();
+    hasher.state.0[ROOT_COUNTER] = (((1 << 48) - leaves) * 64).to_le();
     hasher.state.0[ROOT_COUNTER + 1] = 0;
     assert_eq!(hasher.count(), (1 << 58) - leaves * 1024 + 1);
     hasher
@@ -241,11 +239,12 @@ fn leaves_by_their_digests_end_before_2_to_the_58() {
 #[cfg(feature = "std")]
 mod threads {
     use super::*;
-    use crate::file::MOST_BUFFER_BYTES;
+    use crate::tree_file::MOST_BUFFER_BYTES;
     use crate::library::{Limits, Part, Plan};
-    use crate::stream::BUFFER_BYTES;
+    use crate::read_all::BUFFER_BYTES;
     use crate::threads::{LEAST_BYTES, PART_BYTES};
     use std::collections::HashSet;
+    use std::sync::atomic::{AtomicUsize, Ordering::SeqCst};
     use std::sync::Mutex;
     use std::time::{Duration, Instant};
     use std::vec::Vec;
@@ -325,17 +324,18 @@ mod threads {
     fn parts_of(length: usize, leaf_length: u32, threads: usize) -> Vec<(u64, usize, usize, u64)> {
         let (bytes, parts) = (vec![0; length], Mutex::new(Vec::new()));
         let plan = plan_of(length as u64, leaf_length, threads, u64::MAX);
-        let mut digests = vec![0; plan.digests_length as usize];
-        plan.hash_bytes(&bytes, &mut digests, |part, bytes_of_part, out| {
+        let mut absorbed = Vec::new();
+        let hash = |part: &Part, bytes_of_part: &[u8], out: &mut [u8]| {
             let start = bytes_of_part.as_ptr() as usize - bytes.as_ptr() as usize;
             assert_eq!(start as u64, part.first * u64::from(leaf_length));
             assert_eq!(out.len() as u64, part.digests_length);
-            assert!(out.iter().all(|byte| *byte == 0));
-            out.fill(1);
+            out.fill(part.first as u8);
             let part = (part.first, bytes_of_part.len(), out.len(), part.ends);
             parts.lock().unwrap().push(part);
-        });
-        assert!(digests.iter().all(|byte| *byte == 1));
+        };
+        plan.hash_bytes(&bytes, hash, |digests| absorbed.extend_from_slice(digests));
+        assert_eq!(absorbed.len() as u64, plan.digests_length);
+        assert!(absorbed.windows(2).all(|two| two[0] <= two[1]));
         let mut parts = parts.into_inner().unwrap();
         parts.sort_unstable();
         parts
@@ -367,7 +367,7 @@ mod threads {
                     Ok(())
                 }
             };
-            plan.hash(&mut vec![0; 64 << 14], hash, |_| report())
+            plan.hash(&mut vec![0; plan.room()], hash, |_| (), |_| report())
         };
         assert_eq!(run(20, &|| Ok(())), Err("a part"));
         assert!(*begun.lock().unwrap() < 4096);
@@ -377,21 +377,68 @@ mod threads {
         assert!(*begun.lock().unwrap() < 4096);
     }
 
+    // While the first part is hashed, the others are, as far as there is room for their digests.
+    // Then it fails, and no thread waits for it.
+    #[test]
+    fn threads_wait_for_the_first_part() {
+        let plan = plan_of(1 << 34, 1 << 10, 3, u64::MAX);
+        let rooms = plan.room() >> 16; // of 1,024 digests each
+        assert_eq!((rooms, plan.part_count), (16, 1 << 14));
+        let begun = AtomicUsize::new(0);
+        let start = Instant::now();
+        let hash = |part: &Part, out: &mut [u8], _: &mut Vec<u8>| {
+            out.fill((part.first >> 10) as u8);
+            begun.fetch_add(1, SeqCst);
+            if part.first == 0 {
+                while begun.load(SeqCst) < rooms && start.elapsed() < Duration::from_secs(20) {
+                    thread::yield_now();
+                }
+                thread::sleep(Duration::from_millis(20));
+                assert_eq!(begun.load(SeqCst), rooms);
+            }
+            if part.first >> 10 == 100 {
+                return Err("part 100");
+            }
+            Ok(())
+        };
+        let mut next = 0u8;
+        let absorb = |digests: &[u8]| {
+            assert_eq!(digests.len(), 1 << 16);
+            assert!(digests.iter().all(|byte| *byte == next));
+            next += 1;
+        };
+        let result = plan.hash(&mut vec![0; plan.room()], hash, absorb, |_| Ok(()));
+        assert_eq!(result, Err("part 100"));
+        assert!(next <= 100 && next as usize + rooms > 100, "{next}");
+    }
+
+    // A message that is longer needs no more room for digests.
+    #[test]
+    fn room_is_bounded() {
+        let room = |length, leaf| plan_of(length, leaf, 4, u64::MAX).room();
+        for leaf in [1, 64, 100, 1 << 10, 1 << 16, 1 << 20] {
+            let most = room(1 << 40, leaf);
+            assert_eq!(room(1 << 57, leaf), most);
+            assert!((64..=8 << 20).contains(&most), "{leaf}");
+            assert!(most > 1 << 19, "{leaf}");
+        }
+    }
+
     // Whether this number of threads hash at the same time: each part waits for the others.
     fn meet(threads: usize) -> bool {
         let least = LEAST_BYTES as u32;
         let bytes = vec![0; threads * least as usize];
         let plan = plan_of(bytes.len() as u64, least, threads, u64::MAX);
-        let mut digests = vec![0; 64 * threads];
         let seen = Mutex::new(HashSet::new());
         let start = Instant::now();
-        plan.hash_bytes(&bytes, &mut digests, |_, _, _| {
+        let hash = |_: &Part, _: &[u8], _: &mut [u8]| {
             seen.lock().unwrap().insert(thread::current().id());
             while seen.lock().unwrap().len() < threads && start.elapsed() < Duration::from_secs(20)
             {
                 thread::yield_now();
             }
-        });
+        };
+        plan.hash_bytes(&bytes, hash, |_| ());
         let seen = seen.into_inner().unwrap();
         assert!(seen.contains(&thread::current().id()));
         seen.len() == threads
@@ -405,7 +452,7 @@ mod threads {
 
 #[cfg(feature = "std")]
 mod files {
-    use crate::file::fill;
+    use crate::tree_file::fill;
     use std::io::{Error, ErrorKind, Result};
 
     // Fills ten bytes from the offset 5 of these, three at a time. The second read is interrupted.
@@ -439,7 +486,11 @@ mod files {
 
 #[cfg(all(
     target_arch = "x86_64",
-    not(any(vulfsjor_build = "v2", vulfsjor_build = "v3"))
+    not(any(
+        vulfsjor_build = "v2",
+        vulfsjor_build = "v3",
+        vulfsjor_build = "portable"
+    ))
 ))]
 mod choice {
     use super::*;

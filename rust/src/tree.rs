@@ -49,6 +49,7 @@ impl TreeHasher {
     /// [`InvalidArgument`] exactly if the hasher is not at a leaf boundary, `leaves` is empty or
     /// not whole leaves, `digests` does not have 64 bytes for each leaf, or the leaves do not end
     /// within the first 2^58 - 1 bytes of the message. Nothing is then written.
+    #[inline]
     pub fn next_leaves(
         &self,
         skip: u64,
@@ -85,6 +86,7 @@ impl TreeHasher {
     /// [`InvalidArgument`] exactly if the length of `digests` is not a multiple of 64, if there are
     /// digests but the hasher is not at a leaf boundary or the input is empty, or if all input
     /// would have 2^58 bytes or more. The hasher is then unchanged.
+    #[inline]
     pub fn update_leaves(
         &mut self,
         digests: &[u8],
@@ -108,6 +110,7 @@ impl TreeHasher {
     }
 
     /// Returns the root of all input. The hasher is unchanged, and can absorb more input.
+    #[inline]
     pub fn finalize(&self) -> Digest {
         let mut copy = self.clone();
         // Safety: the state has initialized bytes.
@@ -119,12 +122,14 @@ impl TreeHasher {
     }
 
     /// Returns the number of bytes of all input.
+    #[inline]
     pub fn count(&self) -> u64 {
         // Safety: the state has initialized bytes.
         unsafe { library::tree_count(&self.state) }
     }
 
     /// Returns the number of bytes in a leaf.
+    #[inline]
     pub fn leaf_length(&self) -> u32 {
         // Safety: the state has initialized bytes.
         unsafe { library::tree_leaf_length(&self.state) }
@@ -132,6 +137,7 @@ impl TreeHasher {
 
     // An error unless the hasher is at a leaf boundary. Otherwise the number of bytes that more
     // input may have.
+    #[inline]
     fn check_boundary(&self) -> Result<u64, InvalidArgument> {
         let leaf_length = u64::from(self.leaf_length());
         check_range("leaf_length()", leaf_length, 1, u32::MAX.into())?;
@@ -140,6 +146,7 @@ impl TreeHasher {
     }
 
     // Why `next_leaves` refuses this.
+    #[inline]
     fn check_next(&self, skip: u64, length: u64, room: u64) -> Result<(), InvalidArgument> {
         let leaf_length = u64::from(self.leaf_length());
         let rest = self.check_boundary()?;
@@ -154,6 +161,7 @@ impl TreeHasher {
     }
 
     // Why `update_leaves` refuses this.
+    #[inline]
     fn check_update(&self, digests: u64, length: u64) -> Result<(), InvalidArgument> {
         check("digests.len()", digests, Bounds::Multiple(64))?;
         if digests == 0 {
@@ -168,6 +176,7 @@ impl TreeHasher {
 }
 
 impl Clone for TreeHasher {
+    #[inline]
     fn clone(&self) -> Self {
         let mut copy = TreeHasher {
             state: TreeState::ZEROS,
@@ -178,6 +187,7 @@ impl Clone for TreeHasher {
 }
 
 impl Drop for TreeHasher {
+    #[inline]
     fn drop(&mut self) {
         // Safety: the state has initialized bytes.
         unsafe { library::tree_wipe(&mut self.state) }

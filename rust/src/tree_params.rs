@@ -28,7 +28,7 @@ pub(crate) const MOST_BYTES: u64 = (1 << 58) - 1;
 #[derive(Clone, Copy, Debug)]
 pub struct TreeParams<'a> {
     pub(crate) leaf_length: u32,
-    output_size: usize,
+    pub(crate) output_size: usize,
     pub(crate) salt: &'a [u8],
     pub(crate) persona: &'a [u8],
 }
@@ -36,6 +36,7 @@ pub struct TreeParams<'a> {
 impl<'a> TreeParams<'a> {
     /// Returns parameters for a root of 64 bytes over leaves of this number of bytes, at least 1,
     /// without salt and persona.
+    #[inline]
     pub fn new(leaf_length: u32) -> Self {
         TreeParams {
             leaf_length,
@@ -46,6 +47,7 @@ impl<'a> TreeParams<'a> {
     }
 
     /// Sets the number of bytes in the root, 1 to 64.
+    #[inline]
     pub fn output_size(self, bytes: usize) -> Self {
         TreeParams {
             output_size: bytes,
@@ -54,12 +56,14 @@ impl<'a> TreeParams<'a> {
     }
 
     /// Sets the salt, of up to 16 bytes. Trailing zeros change nothing.
+    #[inline]
     pub fn salt(self, salt: &'a [u8]) -> Self {
         TreeParams { salt, ..self }
     }
 
     /// Sets the persona, of up to 16 bytes. Trailing zeros change nothing. Use a different persona
     /// for each purpose.
+    #[inline]
     pub fn persona(self, persona: &'a [u8]) -> Self {
         TreeParams { persona, ..self }
     }
@@ -97,6 +101,7 @@ impl<'a> TreeParams<'a> {
     }
 
     // The root that a call of the library writes into its room, or the argument that it refused.
+    #[inline]
     fn root_by(
         &self,
         write: impl FnOnce(&mut [u8]) -> i32,
@@ -112,6 +117,7 @@ impl<'a> TreeParams<'a> {
     /// # Errors
     ///
     /// As [`root`](Self::root).
+    #[inline]
     pub fn hasher(&self) -> Result<TreeHasher, InvalidArgument> {
         let mut hasher = TreeHasher::of_no_tree();
         let TreeParams {
@@ -138,6 +144,7 @@ impl<'a> TreeParams<'a> {
 
     /// Returns the number of leaves of a message of this number of bytes, which is at least 1; 0 if
     /// the leaf length is 0. The other parameters change nothing.
+    #[inline]
     pub fn leaf_count(&self, message_length: u64) -> u64 {
         // Safety: the call accepts any two numbers.
         unsafe { library::tree_leaf_count(message_length, self.leaf_length) }
@@ -174,6 +181,7 @@ impl<'a> TreeParams<'a> {
     /// bytes for each of the [`leaf_count`](Self::leaf_count) leaves, or the bytes are not whole
     /// leaves although the range does not end the message. An empty range is an error too, unless
     /// it is all of an empty message (`first` is 0 and `ends` is true). Nothing is then written.
+    #[inline]
     pub fn leaves(
         &self,
         bytes: &[u8],
@@ -216,6 +224,7 @@ impl<'a> TreeParams<'a> {
     ///
     /// As [`root`](Self::root), and [`InvalidArgument`] if `digests` is empty or not a multiple of
     /// 64 bytes.
+    #[inline]
     pub fn root_of_leaves(&self, digests: &[u8]) -> Result<Digest, InvalidArgument> {
         let TreeParams {
             leaf_length,
@@ -250,6 +259,7 @@ impl<'a> TreeParams<'a> {
 
     // An error unless a tree accepts the parameters.
     #[cfg(feature = "std")]
+    #[inline]
     pub(crate) fn accept(&self) -> Result<(), InvalidArgument> {
         let (salt, persona) = (self.salt.len(), self.persona.len());
         // Safety: the call accepts any numbers.
@@ -259,12 +269,14 @@ impl<'a> TreeParams<'a> {
     }
 
     // Why the parameters are refused.
+    #[inline]
     fn check(&self) -> Result<(), InvalidArgument> {
         check_range("output_size", self.output_size as u64, 1, 64)?;
         self.check_leaves()
     }
 
     // The same for those that the leaves have.
+    #[inline]
     fn check_leaves(&self) -> Result<(), InvalidArgument> {
         check_range("salt.len()", self.salt.len() as u64, 0, 16)?;
         check_range("persona.len()", self.persona.len() as u64, 0, 16)?;
@@ -272,6 +284,7 @@ impl<'a> TreeParams<'a> {
     }
 
     // Why a range of leaves is refused.
+    #[inline]
     fn check_range(
         &self,
         length: u64,

@@ -1,5 +1,6 @@
 //! Compares digests, tags and roots with those of hashlib, in one call and in pieces.
 #![cfg(feature = "std")]
+#[allow(dead_code)]
 mod common;
 
 use common::{bytes, cases, lines, with_key, Case};

@@ -12,7 +12,17 @@ const ABC: &str = "ba80a53f981c4d0d6a2797b69f12f6e94c212f14685ac4b74b12bb6fdbffa
 const PRINT_ABC: &str = r#"println!("{}", a::Blake2b::digest(b"abc"));"#;
 const TOP: &str = env!("CARGO_MANIFEST_DIR");
 const VERSION: &str = env!("CARGO_PKG_VERSION");
-const PROFILES: [&str; 4] = ["dev", "fat", "release", "thin"];
+
+// These builds, or without VULFSJOR_TEST_HUGE only the first of them: others take seconds.
+fn some<T>(builds: &[T]) -> &[T] {
+    let all = env::var_os("VULFSJOR_TEST_HUGE").is_some();
+    &builds[..if all { builds.len() } else { 1 }]
+}
+
+// The profile of a program that is built in one only.
+fn profile() -> &'static str {
+    some(&["dev", "release"]).last().unwrap()
+}
 
 // A new folder for the test of this name.
 fn folder(name: &str) -> PathBuf {
@@ -119,23 +129,34 @@ fn package(name: &str) -> String {
     format!("[package]\nname = \"{name}\"\nversion = \"0.1.0\"\nedition = \"2021\"\n")
 }
 
-// The functions of a build of a version of the crate in a program. All names are local: those of
-// the texts are labels, and those by which the crate calls them are hidden.
-fn held(program: &Path, version: &str, build: &str) -> Vec<String> {
+// The number of the code.
+fn code() -> String {
+    let text = fs::read_to_string(Path::new(TOP).join("c/choose.c")).unwrap();
+    let (_, rest) = text.split_once("\n#define CODE \"").unwrap();
+    rest.split_once('"').unwrap().0.into()
+}
+
+// The functions of a build in a program, of the crate of this version with the code of this number.
+// Each has the name of its text, which ends in the number, and the one by which the crate of that
+// version calls it. All names are local: those of the texts are labels, and the others are hidden.
+fn held(program: &Path, version: &str, code: &str, build: &str) -> Vec<String> {
     let names = run("nm", &[&program]);
-    let end = format!("_{}_{build}", version.replace('.', "_"));
-    let mut held = Vec::new();
+    let end = format!("_{code}_{build}");
+    let start = format!("vulfsjor_{version}_vulfsjor_ffi_");
+    let (mut held, mut called) = (Vec::new(), Vec::new());
     for line in names.lines() {
         let words: Vec<&str> = line.split_whitespace().rev().collect();
         let (name, letter) = (words[0], words[1]);
-        if name.starts_with("vulfsjor_") || name.starts_with("vulfsjor_ffi_") {
+        if name.starts_with("vulfsjor_") || name.ends_with(&end) {
             assert_eq!(letter, "t", "{line}");
         }
-        let function = name
-            .strip_prefix("vulfsjor_ffi_")
-            .and_then(|name| name.strip_suffix(&end));
-        held.extend(function.map(String::from));
+        let after = |start| name.strip_prefix(start)?.strip_suffix(&end[..]);
+        held.extend(after("vulfsjor_ffi_").map(String::from));
+        called.extend(after(&start[..]).map(String::from));
     }
+    held.sort();
+    called.sort();
+    assert_eq!(held, called, "{version} {code} {build}");
     held
 }
 
@@ -149,10 +170,14 @@ const BUILDS: &[&str] = &["arm"];
 #[test]
 fn a_program_holds_what_it_calls() {
     let program = Program::new("holds", PRINT_ABC, &[TOP.as_ref()]);
-    for profile in ["dev", "release"] {
+    for profile in some(&["dev", "release"]) {
         let built = program.prints(profile, ABC);
         for build in BUILDS {
-            assert_eq!(held(&built, VERSION, build), ["blake2b"], "{profile}");
+            assert_eq!(
+                held(&built, VERSION, &code(), build),
+                ["blake2b"],
+                "{profile}"
+            );
         }
     }
 }
@@ -186,16 +211,16 @@ fn a_library_without_std() {
 #[test]
 #[cfg(target_arch = "x86_64")]
 fn one_build_if_the_target_has_its_features() {
-    for (cpu, last) in [("v3", "\"movbe\""), ("v4", "\"avx512vl\"")] {
+    for (cpu, last) in some(&[("v3", "\"movbe\""), ("v4", "\"avx512vl\"")]) {
         let flag = format!("-Ctarget-cpu=x86-64-{cpu}");
-        if !run("rustc", &[&"--print", &"cfg", &flag]).contains(last) {
+        if !run("rustc", &[&"--print", &"cfg", &flag]).contains(*last) {
             continue;
         }
         let program = Program::new(&format!("only_{cpu}"), PRINT_ABC, &[TOP.as_ref()]);
         let built = program.build_for("release", &flag);
         for build in BUILDS {
-            let wanted: &[&str] = if *build == cpu { &["blake2b"] } else { &[] };
-            assert_eq!(held(&built, VERSION, build), wanted, "{flag}");
+            let wanted: &[&str] = if build == cpu { &["blake2b"] } else { &[] };
+            assert_eq!(held(&built, VERSION, &code(), build), wanted, "{flag}");
         }
     }
 }
@@ -259,7 +284,8 @@ fn the_first_call_on_other_processors() {
 #[test]
 fn the_package() {
     let folder = folder("package");
-    let mut package = cargo(&["package", "--allow-dirty"], TOP.as_ref());
+    // Without a build of cargo's: one of what is in the package follows.
+    let mut package = cargo(&["package", "--allow-dirty", "--no-verify"], TOP.as_ref());
     printed(package.env("CARGO_HOME", folder.join("home")));
     let file = target().join(format!("package/vulfsjor-{VERSION}.crate"));
     run("tar", &[&"-C", &folder, &"-xzf", &file]);
@@ -275,9 +301,14 @@ fn the_package() {
         files
     };
     let mut wanted = files(TOP.as_ref(), &["rust/src"]);
-    let others = ["rust/README.md", "rust/examples/sum.rs", "dist/MANIFEST"];
+    let others = [
+        "rust/README.md",
+        "rust/examples/sum.rs",
+        "dist/MANIFEST",
+        "dist/rust/vulfsjor.rs",
+    ];
     wanted.extend(others.map(String::from));
-    let macros = ["coff.inc", "elf.inc", "macho.inc", "purge.inc"];
+    let macros = ["coff.inc", "elf.inc", "macho.inc", "purge_macros.inc"];
     let x86_64 = ["vulfsjor-v2.s", "vulfsjor-v3.s", "vulfsjor-v4.s"];
     for (processor, texts) in [("aarch64", &["vulfsjor.s"][..]), ("x86_64", &x86_64)] {
         let names = macros.iter().chain(texts);
@@ -285,12 +316,11 @@ fn the_package() {
     }
     wanted.sort();
     assert_eq!(files(&root, &["rust", "dist"]), wanted);
-    Program::new("packaged", PRINT_ABC, &[&root]).prints("release", ABC);
+    Program::new("packaged", PRINT_ABC, &[&root]).prints(profile(), ABC);
 }
 
-// Another version of the crate in the same program, in each profile; without VULFSJOR_TEST_HUGE only
-// in those with the least optimization and the most. The names in its texts include its version, as
-// in those of dist/.
+// Another version of the crate in the same program, in each profile. The code is another too, and so is
+// its number in the names of its texts, as in those of dist/.
 #[test]
 fn two_versions() {
     let other = folder("other");
@@ -306,26 +336,30 @@ fn two_versions() {
     };
     let version = |version: &str| format!("version = \"{version}\"");
     replace(&version(VERSION), &version("99.8.7"), &["Cargo.toml"]);
-    let texts = [
-        "dist/x86_64/vulfsjor-v2.s",
-        "dist/x86_64/vulfsjor-v3.s",
-        "dist/x86_64/vulfsjor-v4.s",
-        "dist/aarch64/vulfsjor.s",
-    ];
+    let code = code();
     replace(
-        &format!("{}_", VERSION.replace('.', "_")),
-        "99_8_7_",
-        &texts,
+        &format!("\"_{code}_\""),
+        "\"_789_\"",
+        &["rust/src/library.rs"],
     );
+    for build in ["v2", "v3", "v4", "arm"] {
+        let text = match build {
+            "arm" => "dist/aarch64/vulfsjor.s".into(),
+            _ => format!("dist/x86_64/vulfsjor-{build}.s"),
+        };
+        for before in ["_", ".L"] {
+            let name = |code: &str| format!("{before}{code}_{build}");
+            replace(&name(&code), &name("789"), &[&text]);
+        }
+    }
     let same = ["a", "b"].map(|name| format!("{name}::Blake2b::digest(b\"abc\").as_bytes()"));
     let lines = format!("{PRINT_ABC} assert_eq!({});", same.join(", "));
     let program = Program::new("two_versions", &lines, &[TOP.as_ref(), &other]);
-    let all = env::var_os("VULFSJOR_TEST_HUGE").is_some();
-    for profile in &PROFILES[..if all { 4 } else { 2 }] {
+    for profile in some(&["dev", "release", "thin", "fat"]) {
         let built = program.prints(profile, ABC);
         for build in BUILDS {
-            for version in [VERSION, "99.8.7"] {
-                assert_eq!(held(&built, version, build), ["blake2b"], "{profile}");
+            for (version, code) in [(VERSION, &code[..]), ("99.8.7", "789")] {
+                assert_eq!(held(&built, version, code, build), ["blake2b"], "{profile}");
             }
         }
     }
@@ -335,8 +369,8 @@ fn two_versions() {
 #[test]
 fn next_to_the_library_for_c() {
     let lines = format!(
-        "{PRINT_ABC} extern \"C\" {{ fn vulfsjor_ffi_version() -> u32; }}
-        assert!(unsafe {{ vulfsjor_ffi_version() }} > 0);"
+        "{PRINT_ABC} extern \"C\" {{ fn vulfsjor_library_version() -> u32; }}
+        assert!(unsafe {{ vulfsjor_library_version() }} > 0);"
     );
     let program = Program::new("next_to_c", &lines, &[TOP.as_ref()]);
     let installed = program.folder.join("installed");
@@ -347,7 +381,7 @@ fn next_to_the_library_for_c() {
         installed.display()
     );
     fs::write(program.folder.join("build.rs"), script).unwrap();
-    for profile in ["dev", "release"] {
+    for profile in some(&["dev", "release"]) {
         let built = program.build(profile);
         assert_eq!(printed(&mut Command::new(built)), ABC);
     }
@@ -355,6 +389,7 @@ fn next_to_the_library_for_c() {
 
 // A shared library of Rust contains the crate, and a program calls it through that.
 #[test]
+#[ignore = "another build, for the full test"]
 fn through_a_shared_library_of_rust() {
     let middle = folder("middle");
     let text = "[lib]\ncrate-type = [\"dylib\"]\n[dependencies]\nvulfsjor = { path = \"TOP\" }\n";

@@ -1,6 +1,6 @@
 //! The cases of tests/vectors.json.
 use std::path::Path;
-use std::process::Command;
+use std::process::{Command, Output};
 use vulfsjor::{Params, Tree};
 
 /// The bytes of these digits.
@@ -85,18 +85,34 @@ fn case(mut fields: Vec<String>) -> Case {
     }
 }
 
+// What tests/vectors.py prints.
+fn vectors(arguments: [&str; 2]) -> Output {
+    let folders = Path::new(env!("CARGO_MANIFEST_DIR")).ancestors();
+    let mut scripts = folders.map(|folder| folder.join("tests/vectors.py"));
+    Command::new("python3")
+        .arg(scripts.find(|script| script.exists()).unwrap())
+        .args(arguments)
+        .output()
+        .expect("python3")
+}
+
 /// The fields of a family's lines of tests/vectors.json, as tests/vectors.py prints them, without
 /// their kind, which is this.
 pub fn lines(family: &str, kind: &str) -> Vec<Vec<String>> {
-    let folders = Path::new(env!("CARGO_MANIFEST_DIR")).ancestors();
-    let mut scripts = folders.map(|folder| folder.join("tests/vectors.py"));
-    let output = Command::new("python3")
-        .arg(scripts.find(|script| script.exists()).unwrap())
-        .args(["--lines", family])
-        .output()
-        .expect("python3");
+    let output = vectors(["--lines", family]);
     assert!(output.status.success(), "{output:?}");
     let text = String::from_utf8(output.stdout).unwrap();
+    fields_of(&text, kind)
+}
+
+/// The same of the authors' vectors of BLAKE2X, if they are on this machine.
+pub fn authors_lines(family: &str) -> Option<Vec<Vec<String>>> {
+    let output = vectors(["--authors", family]);
+    let text = String::from_utf8(output.stdout).unwrap();
+    output.status.success().then(|| fields_of(&text, "x"))
+}
+
+fn fields_of(text: &str, kind: &str) -> Vec<Vec<String>> {
     let lines = text
         .lines()
         .filter_map(|line| line.strip_prefix(kind)?.strip_prefix(' '));

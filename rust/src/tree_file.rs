@@ -10,7 +10,7 @@ use std::vec::Vec;
 
 use crate::error::check_range;
 use crate::library::{self, Blake2bState, Limits, Part, Plan};
-use crate::stream::{read_all, BUFFER_BYTES};
+use crate::read_all::{read_all, BUFFER_BYTES};
 use crate::tree_params::MOST_BYTES;
 use crate::{Blake2b, Digest, TreeParams};
 
@@ -57,7 +57,7 @@ impl TreeParams<'_> {
     /// [`root_threads`](Self::root_threads). Its length is the one that it had when the call began:
     /// bytes that are appended meanwhile are not hashed. Any other file, such as a pipe, a device
     /// or a file of `/proc`, is read to its end by the caller's thread. Each thread has a buffer of
-    /// at most 16 MiB, and the call allocates 64 bytes for each leaf if it uses several threads.
+    /// at most 16 MiB, and at most 2 MiB for digests, however long the file is.
     ///
     /// ```
     /// use vulfsjor::TreeParams;
@@ -134,17 +134,19 @@ impl TreeParams<'_> {
         plan: &Plan,
         progress: impl FnMut(u64) -> Result<()>,
     ) -> Result<Digest> {
-        let room = plan.digests_length as usize;
-        let mut digests = Vec::new();
-        digests
-            .try_reserve_exact(room)
+        let mut room = Vec::new();
+        room.try_reserve_exact(plan.room())
             .map_err(|_| Error::from(ErrorKind::OutOfMemory))?;
-        digests.resize(room, 0);
+        room.resize(plan.room(), 0);
         let hash = |part: &Part, out: &mut [u8], buffer: &mut Vec<u8>| {
             self.hash_part(file, part, out, buffer)
         };
-        plan.hash(&mut digests, hash, progress)?;
-        Ok(self.root_of_leaves(&digests)?)
+        let mut root = self.root_hasher();
+        let absorb = |digests: &[u8]| {
+            root.update(digests);
+        };
+        plan.hash(&mut room, hash, absorb, progress)?;
+        Ok(root.finalize())
     }
 
     // Writes the digests of the leaves of a part, which is one leaf if it is longer than a buffer.
