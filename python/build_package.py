@@ -5,7 +5,8 @@ usage: build_package.py wheel|sdist FOLDER      makes one in FOLDER and prints i
 
 It writes to FOLDER and to a temporary folder. What the package shares with the repository it reads
 from c/ and dist/. A source distribution, which has a file PKG-INFO, holds all of it in src/. CC,
-CFLAGS and LDFLAGS are used as by make.
+CFLAGS and LDFLAGS are used as by make, and VULFSJOR_WHEEL_PLATFORM is the platform in the name of a
+wheel, such as manylinux_2_17_x86_64.
 """
 import base64
 import gzip
@@ -32,22 +33,22 @@ PROJECT = tomllib.loads((HERE / "pyproject.toml").read_text(encoding="utf-8"))["
 RELEASE = f"{PROJECT['name']}-{PROJECT['version']}"
 ABOUT = f"{RELEASE}.dist-info"
 
-# The texts of the library, which vulfsjor.S includes for the processor and the system. choose.c has
-# its functions by their own names; on x86-64 a call goes to the build that the processor runs.
-TEXTS = ["vulfsjor.S", "macros.h", "aarch64/vulfsjor.s",
-         *(f"x86_64/vulfsjor-{level}.s" for level in ("v2", "v3", "v4")),
-         *(f"{processor}/{macros}.inc" for processor in ("aarch64", "x86_64")
-           for macros in ("coff", "elf", "macho"))]
+# The texts of the library by processor, and their macros by system. choose.c has its functions by
+# their own names; on x86-64 a call goes to the build that the processor runs.
+TEXTS = {"aarch64": ["aarch64/vulfsjor.s"],
+         "x86_64": [f"x86_64/vulfsjor-{level}.s" for level in ("v2", "v3", "v4")]}
+MACROS = {"linux": "elf.inc", "macosx": "macho.inc", "windows": "coff.inc"}
 
 # The files of a source distribution: those of this folder, and those of the repository.
-OWN = ("README.md", "build_package.py", "pyproject.toml", "src/library.[ch]", "src/trees.c",
+OWN = ("README.md", "build_package.py", "pyproject.toml", "src/library.[ch]", "src/trees.c", "src/xof.c",
        "tests/*.py", "vulfsjor/*.py", "vulfsjor/*.pyi", "vulfsjor/py.typed")
 SHARED = {
     "src/vulfsjor.h": "c/include/vulfsjor.h",
     "src/choose.c": "c/choose.c",
-    "src/calls.h": "c/calls.h",
+    "src/thunks.h": "c/thunks.h",
     "src/portable.c": "dist/c/vulfsjor.c",
-    **{f"src/{name}": f"dist/{name}" for name in TEXTS},
+    **{f"src/{name}": f"dist/{name}" for processor, texts in TEXTS.items()
+       for name in [*texts, *(f"{processor}/{macros}" for macros in MACROS.values())]},
 }
 
 # Clang warns of each option that means nothing for assembly. LTO loses the assembly of choose.c.
@@ -80,13 +81,13 @@ def source_files():
 # ---- The module
 
 def target():
-    """The system that the module is for, the sources of the library, and the compiler's options. The source is portable
-    C on Linux and other systems with ELF for other processors, and there if VULFSJOR_PORTABLE is set."""
+    """The system that the module is for, its processor if dist/ has a text for that, and the compiler's options.
+    Linux and other systems with ELF get portable C on other processors, and if VULFSJOR_PORTABLE is set."""
     platform = sysconfig.get_platform()  # such as macosx-11.0-arm64 or mingw_x86_64_ucrt
     found = re.fullmatch(r"(linux|macosx|mingw|win)[-_](?:([\d.]+)-)?"
                          r"(?:(x86_64|amd64)|(aarch64|arm64))(?:_\w+)?", platform)
     if not re.match("macosx|mingw|win", platform) and (not found or os.environ.get("VULFSJOR_PORTABLE")):
-        return "linux", ["-DVULFSJOR_PORTABLE", "src/portable.c"], LINKING["linux"]
+        return "linux", None, LINKING["linux"]
     if not found or sys.maxsize < 2**32:
         refuse("vulfsjor is assembly for Linux, macOS and Windows on x86-64 and on 64-bit ARM, and "
                f"has none for {platform}")
@@ -96,7 +97,18 @@ def target():
     options = list(LINKING[system])
     if system == "macosx":
         options += ["-arch", x86 or arm, f"-mmacosx-version-min={version}"]
-    return system, ["src/choose.c", "src/vulfsjor.S"], options
+    return system, "x86_64" if x86 else "aarch64", options
+
+
+def library(system, processor, work):
+    """The words of the compiler for the sources of the library in a folder. The texts become one, which is marked for
+    branch protection and needs no preprocessor: that would take as long as the assembler."""
+    if not processor:
+        return ["-DVULFSJOR_PORTABLE", "src/portable.c"]
+    macros, *texts = (pathlib.Path(work, "src", name).read_bytes()
+                      for name in [f"{processor}/{MACROS[system]}", *TEXTS[processor]])
+    pathlib.Path(work, "src", "vulfsjor.s").write_bytes(b"".join([macros, b"\tvj_marks\n", *texts]))
+    return ["src/choose.c", "src/vulfsjor.s"]
 
 
 def compiler(system):
@@ -121,7 +133,7 @@ def module_name():
 
 def compiled():
     """The bytes of the module."""
-    system, library, options = target()
+    system, processor, options = target()
     includes = {sysconfig.get_path("include"), sysconfig.get_path("platinclude")}
     with tempfile.TemporaryDirectory() as work:
         for name, path in source_files().items():
@@ -133,7 +145,8 @@ def compiled():
             [*compiler(system), *COMPILING, *(f"-I{folder}" for folder in sorted(includes)),
              *(["-DPy_GIL_DISABLED=1"] if WITHOUT_GIL else []),
              *shlex.split(os.environ.get("CFLAGS", "")), *options, "-o", made, "src/library.c",
-             "src/trees.c", *library, *shlex.split(os.environ.get("LDFLAGS", "")),
+             "src/trees.c", "src/xof.c", *library(system, processor, work),
+             *shlex.split(os.environ.get("LDFLAGS", "")),
              *(["-lpython3"] if system == "windows" else [])], cwd=work, check=False)
         if done.returncode:
             has_headers = any(os.path.exists(f"{folder}/Python.h") for folder in includes)
@@ -159,7 +172,7 @@ def metadata():
 def tag():
     """The versions, the interface and the platform that a wheel is for."""
     here = f"cp{sys.version_info.major}{sys.version_info.minor}"
-    platform = re.sub(r"\W", "_", sysconfig.get_platform())
+    platform = re.sub(r"\W", "_", os.environ.get("VULFSJOR_WHEEL_PLATFORM") or sysconfig.get_platform())
     return f"{f'{here}-{here}t' if WITHOUT_GIL else 'cp311-abi3'}-{platform}"
 
 

@@ -645,7 +645,7 @@ static int fill(PyObject *module) {
         Py_XDECREF(other);
     }
     failed = failed || add_version(module) || PyModule_AddFunctions(module, tree_functions) ||
-             add_tree_types(module);
+             add_tree_types(module) || add_output_types(module, types);
     Py_DECREF(types);
     return failed ? -1 : 0;
 }

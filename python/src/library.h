@@ -1,4 +1,4 @@
-/* What library.c and trees.c share. Both are C, which no proof covers. They keep to the limited API
+/* What library.c, trees.c and xof.c share. They are C, which no proof covers. They keep to the limited API
  * of Python 3.11, so that one compiled module serves every later version of CPython. Builds without
  * the GIL have no such API: for them the package is compiled with Py_GIL_DISABLED, for one version.
  *
@@ -67,5 +67,8 @@ PyObject *digits_of(const uint8_t *bytes, Py_ssize_t length);
 /* ---- trees.c: the functions of the tree of two levels, for the module, and its classes. */
 extern PyMethodDef tree_functions[];
 int add_tree_types(PyObject *module);
+
+/* ---- xof.c: the classes of BLAKE2X, whose class this is, and derive_key, for the module. */
+int add_output_types(PyObject *module, PyObject *type_of_types);
 
 #endif

@@ -22,6 +22,9 @@ HERE = os.path.dirname(os.path.abspath(__file__))
 TOP = os.path.dirname(os.path.dirname(HERE))
 WITHOUT_GIL = bool(sysconfig.get_config_var("Py_GIL_DISABLED"))
 BACKEND = os.path.join(TOP, "python", "build_package.py")
+HUGE = os.environ.get("VULFSJOR_TEST_HUGE") == "1"
+# A test that takes seconds of processor time, and whose subject shorter ones have too.
+long = unittest.skipUnless(HUGE, "VULFSJOR_TEST_HUGE is not 1")
 
 
 def absent(*modules, tools=()):

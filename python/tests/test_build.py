@@ -6,6 +6,7 @@ import email
 import glob
 import hashlib
 import os
+import pathlib
 import platform
 import re
 import resource
@@ -20,7 +21,7 @@ import unittest
 import zipfile
 
 import support
-from support import FOLDER, HERE, TOP, absent, run
+from support import FOLDER, HERE, HUGE, TOP, absent, long, run
 
 MODULE = os.path.join(FOLDER, "vulfsjor", "_library.abi3.so")
 PACKAGE = {"__init__.py", "_library.abi3.so", "_library.pyi", "_threads.py", "py.typed"}
@@ -30,16 +31,16 @@ with open(os.path.join(TOP, "CHANGELOG.md"), encoding="utf-8") as PAGE:
 ABOUT = f"vulfsjor-{VERSION}.dist-info"
 # The files that the package shares with the repository, by their names in a source distribution.
 SHARED = {"src/vulfsjor.h": "c/include/vulfsjor.h", "src/choose.c": "c/choose.c",
-          "src/calls.h": "c/calls.h", "src/portable.c": "dist/c/vulfsjor.c",
+          "src/thunks.h": "c/thunks.h", "src/portable.c": "dist/c/vulfsjor.c",
           **{f"src/{name}": f"dist/{name}" for name in (
-              "macros.h", "vulfsjor.S", "aarch64/vulfsjor.s", "x86_64/vulfsjor-v2.s",
+              "aarch64/vulfsjor.s", "x86_64/vulfsjor-v2.s",
               "x86_64/vulfsjor-v3.s", "x86_64/vulfsjor-v4.s", "aarch64/coff.inc",
               "aarch64/elf.inc", "aarch64/macho.inc", "x86_64/coff.inc", "x86_64/elf.inc",
               "x86_64/macho.inc")}}
-# A compiler that writes its words to the file that it should make.
+# A compiler that writes to the file that it should make what a command prints.
 FAKE = """#!/bin/sh
 for word; do [ "$last" = -o ] && made=$word; last=$word; done
-printf '%s\\n' "$@" >"$made"
+{} >"$made"
 """
 
 
@@ -59,8 +60,8 @@ class Test(unittest.TestCase):
 
     def compares(self, folder, *prefix, calls):
         """The package in a folder returns what hashlib does."""
-        self.succeeds(*prefix, sys.executable, "-m", "unittest", "test_compare",
-                      "test_package.KnownAnswers", cwd=HERE,
+        self.succeeds(*prefix, sys.executable, "-m", "unittest", "test_against_hashlib",
+                      "test_api.KnownAnswers", cwd=HERE,
                       env={**os.environ, "VULFSJOR_PACKAGE": folder,
                            "VULFSJOR_TEST_CALLS": str(calls)})
 
@@ -116,11 +117,11 @@ class Build(Test):
         self.assertEqual(done.returncode, 1, done.stdout)
         return done.stdout.splitlines()[-1]
 
-    def fake(self, name="fake compiler"):
-        """The path of a compiler that writes its words to the file that it should make."""
+    def fake(self, name="fake compiler", printing="""printf '%s\\n' "$@\""""):
+        """The path of a compiler that writes its words, or what another command prints."""
         path = os.path.join(self.folder, name)
         with open(path, "w", encoding="utf-8", opener=lambda *at: os.open(*at, 0o755)) as file:
-            file.write(FAKE)
+            file.write(FAKE.format(printing))
         return path
 
     def test_other_platforms(self):
@@ -140,8 +141,9 @@ class Build(Test):
                 names = [name for name in wheel.namelist() if name.startswith("vulfsjor/_library")]
                 words = wheel.read(names[0]).decode().splitlines()
             self.assertEqual([word for word in words if word.endswith((".c", ".s"))],
-                             ["src/library.c", "src/trees.c", "src/portable.c"])
-        with zipfile.ZipFile(self.made("wheel", os.path.join(TOP, "python"), VULFSJOR_PORTABLE="1")) as wheel:
+                             ["src/library.c", "src/trees.c", "src/xof.c", "src/portable.c"])
+        with zipfile.ZipFile(self.made("wheel", os.path.join(TOP, "python"), VULFSJOR_PORTABLE="1",
+                                       CFLAGS="-O0")) as wheel:
             wheel.extractall(os.path.join(self.folder, "portable"))
         code = "import vulfsjor; print(vulfsjor.blake2b(b'abc', key=b'k').hexdigest())"
         emulators = [[]] + [["qemu-x86_64", "-cpu", "core2duo"]] * (X86 and not absent(tools=["qemu-x86_64"]))
@@ -189,12 +191,27 @@ class Build(Test):
             self.assertEqual(os.path.basename(wheel),
                              f"vulfsjor-{VERSION}-cp311-abi3-{platform_name}.whl")
             self.assertEqual([word for word in words if word.endswith((".c", ".s", ".S"))],
-                             ["src/library.c", "src/trees.c", "src/choose.c", "src/vulfsjor.S"])
+                             ["src/library.c", "src/trees.c", "src/xof.c", "src/choose.c",
+                              "src/vulfsjor.s"])
             self.assertEqual((words[0], words[-1]),
                              ("-x", "-lpython3" if options == windows else "-lz"))
             self.assertEqual(words[words.index("-g"):words.index("-o")],
                              ["-g", "-D A", *options.split()])
             self.assertIn(f"-I{sysconfig.get_path('include')}", words)
+
+    def test_the_text_of_a_platform(self):
+        """What the assembler gets: the macros of the system, the marks, and the texts."""
+        keep = f"'{self.fake(printing='cat src/vulfsjor.s')}'"
+        for name, macros, texts in (
+                ("linux-x86_64", "x86_64/elf", ["x86_64/vulfsjor-v2", "x86_64/vulfsjor-v3", "x86_64/vulfsjor-v4"]),
+                ("macosx-11.0-arm64", "aarch64/macho", ["aarch64/vulfsjor"]),
+                ("win-arm64", "aarch64/coff", ["aarch64/vulfsjor"])):
+            wheel = self.made("wheel", os.path.join(TOP, "python"), CC=keep, _PYTHON_HOST_PLATFORM=name)
+            with zipfile.ZipFile(wheel) as file:
+                text = file.read(f"vulfsjor/_library.{'pyd' if 'win' in name else 'abi3.so'}")
+            head, *parts = (pathlib.Path(TOP, "dist", it).read_bytes()
+                            for it in (f"{macros}.inc", *(f"{it}.s" for it in texts)))
+            self.assertTrue(text == b"".join([head, b"\tvj_marks\n", *parts]), name)
 
     def test_a_copy_of_the_folder_alone(self):
         shutil.move(self.copied("clone"), os.path.join(self.folder, "alone"))
@@ -205,7 +222,7 @@ class Build(Test):
             "distribution")
 
     def test_wheel(self):
-        """What is in a wheel, beside a module of the fake compiler."""
+        """What is in a wheel, next to a module of the fake compiler."""
         wheel = self.made("wheel", os.path.join(TOP, "python"), CC=self.fake().replace(" ", "\\ "))
         with open(os.path.join(TOP, "python", "pyproject.toml"), "rb") as file:
             project = tomllib.load(file)["project"]
@@ -262,6 +279,14 @@ class Build(Test):
         self.succeeds(sys.executable, "-m", "pip", "--disable-pip-version-check", word,
                       "--no-index", *more, cwd=self.folder)
 
+    @staticmethod
+    def time_of(act):
+        """The processor time of the programs that are run meanwhile."""
+        used = lambda: sum(resource.getrusage(resource.RUSAGE_CHILDREN)[:2])
+        before = used()
+        act()
+        return used() - before
+
     def is_installed(self, folder):
         names = set(os.listdir(os.path.join(folder, "vulfsjor")))
         self.assertEqual(names - {"__pycache__"}, PACKAGE)
@@ -284,7 +309,7 @@ class Build(Test):
                              {(0o644, 0, 315532800)})
             file.extractall(self.folder)
         own = {"README.md", "build_package.py", "pyproject.toml", "src/library.c", "src/library.h",
-               "src/trees.c", *glob.glob("tests/*.py", root_dir=os.path.join(TOP, "python")),
+               "src/trees.c", "src/xof.c", *glob.glob("tests/*.py", root_dir=os.path.join(TOP, "python")),
                *(f"vulfsjor/{name}" for name in PACKAGE if name != "_library.abi3.so")}
         found = {os.path.relpath(os.path.join(place, name), folder)
                  for place, _, names in os.walk(folder) for name in names}
@@ -300,12 +325,13 @@ class Build(Test):
         os.remove(os.path.join(folder, "src", "choose.c"))
         self.assertIn("build_package.py: src/choose.c is missing", self.refused(folder))
 
+    @long
     @unittest.skipIf(absent("pip"), absent("pip"))
     def test_wheels_are_the_same(self):
         """From a clone, whose old copies are not used and which stays as it is, and by pip from a
         source distribution. The wheel is installed, and compared with hashlib."""
         folder, installed = self.copied("a clone"), os.path.join(self.folder, "installed")
-        for name in ("src/vulfsjor.h", "src/choose.c", "src/calls.h", "vulfsjor/_library.abi3.so"):
+        for name in ("src/vulfsjor.h", "src/choose.c", "src/thunks.h", "vulfsjor/_library.abi3.so"):
             with open(os.path.join(folder, name), "w", encoding="utf-8") as file:
                 file.write("#error old\n")
 
@@ -326,10 +352,11 @@ class Build(Test):
         self.pip("install", "--target", installed, wheel)
         self.is_installed(installed)
 
+    @long
     @unittest.skipIf(absent("ensurepip"), absent("ensurepip"))
     def test_pip_installs_the_folder(self):
-        """As the README says, in a new clone without a network, and in less than 5 seconds of
-        processor time."""
+        """As the README says, in a new clone without a network, and in less than five times the
+        processor time of a build without pip."""
         with open(os.path.join(self.copied("a clone"), "README.md"), encoding="utf-8") as file:
             said = re.search("virtual environment:\\n((?:\\n    .*)+)\\n\\n", file.read())[1]
         first, last = said.strip().split("\n    ")
@@ -338,10 +365,8 @@ class Build(Test):
         named = dict(cwd=os.path.join(self.folder, "a clone"), env={
             **os.environ, "PATH": f"{self.folder}:{os.environ['PATH']}", "PIP_NO_INDEX": "1"})
         self.succeeds("sh", "-ec", first, **named)
-        before = resource.getrusage(resource.RUSAGE_CHILDREN)
-        self.succeeds("sh", "-ec", last, **named)
-        after = resource.getrusage(resource.RUSAGE_CHILDREN)
-        self.assertLess(after.ru_utime + after.ru_stime - before.ru_utime - before.ru_stime, 5)
+        build = self.time_of(lambda: self.made("wheel", os.path.join(TOP, "python")))
+        self.assertLess(self.time_of(lambda: self.succeeds("sh", "-ec", last, **named)), 5 * build)
         self.is_installed(*glob.glob(f"{self.folder}/a clone/venv/lib/python*/site-packages"))
 
     @unittest.skipIf(absent(tools=["aarch64-linux-gnu-gcc"]), "no aarch64-linux-gnu-gcc")
@@ -372,18 +397,21 @@ class Build(Test):
 class Processors(Test):
     """Processors that qemu emulates."""
 
+    @long
     def test_processor_without_avx2(self):
         self.compares(FOLDER, "qemu-x86_64", "-cpu", "Nehalem", calls=200)
 
     def test_processors_below_x86_64_v2(self):
-        """Each that has all but one feature, and one that has fewer. With other ones Python itself
-        does not start."""
+        """One that has fewer features, and in the full test each that has all but one. With other
+        ones Python itself does not start."""
         def said(processor):
             program = f"import sys\nsys.path.insert(0, {FOLDER!r})\nimport vulfsjor"
             return run("qemu-x86_64", "-cpu", processor, sys.executable, "-S", "-E", "-c", program)
 
         features = ("sse3", "ssse3", "cx16", "sse4.2", "popcnt", "lahf-lm")
-        below = ["core2duo", "Nehalem,-sse4.1", *(f"Haswell,-{feature}" for feature in features)]
+        below = ["core2duo"]
+        if HUGE:
+            below += ["Nehalem,-sse4.1", *(f"Haswell,-{feature}" for feature in features)]
         with concurrent.futures.ThreadPoolExecutor(os.cpu_count()) as pool:
             done = dict(zip(below, pool.map(said, below)))
         for name, each in done.items():
@@ -397,6 +425,7 @@ class Processors(Test):
 class Time(Test):
     """What a call takes."""
 
+    @long
     @unittest.skipIf(absent(tools=["valgrind"]), "no valgrind")
     def test_verify_takes_equal_time(self):
         """The least instructions of a comparison do not depend on the place where a tag differs.
@@ -404,7 +433,7 @@ class Time(Test):
         self.succeeds(
             "valgrind", "--tool=callgrind", f"--callgrind-out-file={self.folder}/count",
             "--toggle-collect=verify", "--dump-after=verify", sys.executable, "-S",
-            os.path.join(HERE, "verify_at.py"), MODULE,
+            os.path.join(HERE, "count_verify.py"), MODULE,
             env={**os.environ, "PYTHONHASHSEED": "0", "PYTHONMALLOC": "malloc"})
         counts = []
         for number in range(1, 31):

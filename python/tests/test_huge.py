@@ -10,13 +10,12 @@ import tempfile
 import unittest
 from functools import partial
 
-import support  # noqa: F401
+from support import long
 from test_parallel import parallel
 import oracle
 import vulfsjor
 
 MIB = 1 << 20
-HUGE = os.environ.get("VULFSJOR_TEST_HUGE") == "1"
 LENGTH = (1 << 32) + 5 * MIB + 5
 # Bytes that are not zero: at each end, around 2^31 and 2^32, and at edges of leaves.
 MARKS = (0, 4 * MIB - 1, 64 * MIB, 2**31 - 1, 2**31, 2**32 - 1, 2**32, 2**32 + 4 * MIB, LENGTH - 1)
@@ -111,7 +110,7 @@ def tree(data, leaf_size):
             enumerate(leaves)))
 
 
-@unittest.skipUnless(HUGE, "VULFSJOR_TEST_HUGE is not 1")
+@long
 class Slow(unittest.TestCase):
     """Calls that hash more than 2^32 bytes, against hashlib."""
 

@@ -1,6 +1,6 @@
 """Tests in each CPython that is found here, from 3.11 on: the module in subinterpreters, one module
 in all versions, and builds without the GIL. Interpreters are those on the PATH, such as python3.13t,
-those of pyenv, and those that PYTHONS names."""
+those of pyenv, and those that PYTHONS names; without VULFSJOR_TEST_HUGE=1 only the running one."""
 import functools
 import glob
 import os
@@ -11,7 +11,7 @@ import tempfile
 import unittest
 
 import support
-from support import FOLDER, HERE, run
+from support import FOLDER, HERE, HUGE, long, run
 
 ABOUT = """import sys, sysconfig
 print(sys.executable, *sys.version_info[:2], bool(sysconfig.get_config_var("Py_GIL_DISABLED")),
@@ -25,7 +25,7 @@ def interpreters():
              *(f"python3.{minor}{end}" for minor in range(11, 20) for end in ("", "t")),
              *sorted(glob.glob(os.path.expanduser("~/.pyenv/versions/3.*/bin/python3")))]
     found = {}
-    for path in filter(None, map(shutil.which, names)):
+    for path in filter(None, map(shutil.which, names if HUGE else names[:1])):
         try:  # one of pyenv that is not installed fails
             said = subprocess.run([path, "-c", ABOUT], capture_output=True, text=True, check=True)
         except (OSError, subprocess.CalledProcessError):
@@ -53,11 +53,12 @@ class Interpreters(unittest.TestCase):
         if max(interpreters()) < (3, 12):
             self.skipTest("no CPython 3.12 or later, whose subinterpreters have a GIL each")
 
+    @long
     def test_other_versions(self):
         """The same module returns what hashlib does in each version."""
         for version, python in interpreters().items():
             if not version[2] and version[:2] != sys.version_info[:2]:
-                for file in ("test_compare.py", "test_parallel.py"):
+                for file in ("test_against_hashlib.py", "test_parallel.py"):
                     with self.subTest(python=python, file=file):
                         self.succeeds(python, "-m", "unittest", "discover", HERE, file,
                                       VULFSJOR_PACKAGE=FOLDER, VULFSJOR_TEST_CALLS="500")
@@ -75,7 +76,7 @@ class Interpreters(unittest.TestCase):
                 self.succeeds(python, "-c", f"import sys; sys.path.insert(0, {folder!r}); "
                               "import vulfsjor; assert not sys._is_gil_enabled()")
                 self.succeeds(python, os.path.join(HERE, "in_subinterpreters.py"), folder)
-                for file in ("test_compare.py", "test_package.py", "test_parallel.py",
+                for file in ("test_against_hashlib.py", "test_api.py", "test_parallel.py",
                              "test_trees.py"):
                     self.succeeds(python, "-m", "unittest", "discover", HERE, file,
                                   VULFSJOR_PACKAGE=folder, VULFSJOR_TEST_CALLS="500")

@@ -1,6 +1,6 @@
 """Compares BLAKE2bp and BLAKE2sp with the program written from the specification, over random
 cases, and their exceptions with those of Python's own BLAKE2b and BLAKE2s. VULFSJOR_TEST_CALLS is
-the number of random cases. test_package.py has the known answers, and what all families share.
+the number of random cases. test_api.py has the known answers, and what all families share.
 """
 import inspect
 import operator
@@ -10,8 +10,8 @@ import types
 import unittest
 
 import _blake2
-import support  # noqa: F401
-from test_compare import edge_parameters, edges_of_objects, inputs, outcome
+from support import HUGE
+from test_against_hashlib import edge_parameters, edges_of_objects, inputs, outcome
 import oracle
 import vectors
 import vulfsjor
@@ -73,7 +73,7 @@ class Digests(unittest.TestCase):
     """Digests and tags."""
 
     def test_random_cases(self):
-        for _ in range(int(os.environ.get("VULFSJOR_TEST_CALLS", 1000))):
+        for _ in range(int(os.environ.get("VULFSJOR_TEST_CALLS", 1000 if HUGE else 300))):
             name, _, wanted, longest, block = DICE.choice(FAMILIES)
             make, words = getattr(vulfsjor, name), random_words(longest)
             message = DICE.randbytes(random_length(block))

@@ -15,6 +15,7 @@ import sys
 import tempfile
 import threading
 import time
+import tracemalloc
 import unittest
 from unittest import mock
 
@@ -831,6 +832,20 @@ class Files(Test):
                 file.write(b"more")
 
         self.assertEqual(vulfsjor.tree_root_file(path, 1 << 16, threads=4, progress=grow), wanted)
+
+    def test_a_longer_file_needs_no_more_memory(self):
+        peaks = []
+        for length in (MIB, 8 * MIB):  # in leaves of 16 bytes, whose digests have four times as many
+            path = self.file(bytes(length))
+            with mock.patch.multiple(_threads, _LEAST_BYTES=1, _PART_LEAVES=1 << 10):
+                tracemalloc.start()
+                try:
+                    vulfsjor.tree_root_file(path, 16, threads=2)
+                    peaks.append(tracemalloc.get_traced_memory()[1])
+                finally:
+                    tracemalloc.stop()
+        self.assertLess(peaks[1], peaks[0] + (1 << 17))
+        self.assertLess(peaks[1], MIB)
 
     @unittest.skipUnless(os.path.isdir("/dev/shm"), "no /dev/shm")
     def test_a_file_of_2_to_the_58(self):

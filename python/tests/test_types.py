@@ -6,7 +6,7 @@ import re
 import tempfile
 import unittest
 
-from support import FOLDER, absent, run
+from support import FOLDER, absent, long, run
 import vulfsjor
 
 STUB = os.path.join(FOLDER, "vulfsjor", "_library.pyi")
@@ -33,6 +33,13 @@ RESULTS = {
        "list[bytes]" for family in "bs"},
     **{f"vulfsjor.BLAKE2{family}_{name}": "int" for family in ("B", "S", "BP", "SP")
        for name in ("MAX_DIGEST_SIZE", "MAX_KEY_SIZE", "PERSON_SIZE", "SALT_SIZE")},
+    **{f"vulfsjor.blake2x{family}{rest}": kind for family in "bs" for rest, kind in {
+        "(b'', length=9, key=b'', salt=b'', person=b'')": f"vulfsjor.blake2x{family}",
+        "(length=None).copy()": f"vulfsjor.blake2x{family}", "().update(b'x')": "None",
+        "().digest(5)": "bytes", "().hexdigest(5)": "str", "().name": "str", "().block_size": "int",
+    }.items()},
+    "vulfsjor.derive_key(b'key', b'context', 96)": "bytes",
+    "vulfsjor.derive_key(key=b'key', context=b'context', length=96)": "bytes",
     "vulfsjor.__version__": "str",
     "vulfsjor.tree_leaf_count(5, leaf_size=2)": "int",
     "vulfsjor.tree_leaves(b'', 2, first=0, ends=True, salt=b'', person=b'')": "bytes",
@@ -63,6 +70,8 @@ REFUSED = (
     "vulfsjor.blake2b(key='text')", "vulfsjor.blake2b(digest_size=1.5)",
     "vulfsjor.blake2b(leaf_size=b'')", "vulfsjor.blake2s(data=b'')", "vulfsjor.blake2s(salt=1)",
     "vulfsjor.blake2s().update('text')", "vulfsjor.blake2b().verify('00')",
+    "vulfsjor.blake2xb('text')", "vulfsjor.blake2xb(digest_size=5)", "vulfsjor.blake2xs().digest()",
+    "vulfsjor.derive_key('key', b'', 9)", "vulfsjor.derive_key(b'key', b'')",
     "vulfsjor.blake2bp('text')", "vulfsjor.blake2bp(b'', fanout=1)",
     "vulfsjor.blake2sp(key=1)", "vulfsjor.blake2sp(last_node=True)",
     "vulfsjor.blake2b_many([b'', 'text'])", "vulfsjor.blake2b_many(5)",
@@ -75,7 +84,7 @@ REFUSED = (
 )
 # The types of arguments by their names.
 NAMED = {
-    **dict.fromkeys(("data", "digests", "key", "person", "salt", "tag"), "_Bytes"),
+    **dict.fromkeys(("context", "data", "digests", "key", "person", "salt", "tag"), "_Bytes"),
     **dict.fromkeys(("digest_size", "fanout", "depth", "node_depth", "inner_size"),
                     "SupportsIndex"),
     **dict.fromkeys(("leaf_size", "node_offset", "length", "first", "skip", "count", "threads",
@@ -120,7 +129,10 @@ class Results(unittest.TestCase):
                     continue
                 for each in ast.walk(node.args):
                     if isinstance(each, ast.arg) and each.arg not in ("self", "cls"):
-                        self.assertEqual(ast.unparse(each.annotation), NAMED[each.arg], node.name)
+                        wanted = NAMED[each.arg]
+                        if (each.arg, node.name) == ("length", "__new__"):
+                            wanted += " | None"
+                        self.assertEqual(ast.unparse(each.annotation), wanted, node.name)
                 if node.name in ("plain_bytes", "_replace"):
                     continue
                 name = prefix if node.name == "__new__" else f"{prefix}.{node.name}"
@@ -156,12 +168,13 @@ class Mypy(unittest.TestCase):
 
     def test_stub(self):
         """The stub next to the module. The class of the classes is not declared."""
-        allowed = self.write("allowed", "vulfsjor._library.blake2[bs]p?\n")
+        allowed = self.write("allowed", "vulfsjor._library.blake2x?[bs]p?\n")
         self.assertEqual(self.said("stubtest", "vulfsjor._library", "--allowlist", allowed,
                                    "--mypy-config-file", self.write("config", "[mypy]\n"),
                                    PYTHONPATH=FOLDER),
                          ("Success: no issues found in 1 module", []))
 
+    @long
     def test_programs(self):
         """A program's right and wrong lines. The package, which it imports, is checked too."""
         lines = ["from typing import assert_type", "import vulfsjor"]

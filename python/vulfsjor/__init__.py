@@ -1,5 +1,5 @@
-"""BLAKE2b and BLAKE2s (RFC 7693), BLAKE2bp and BLAKE2sp by formally verified functions, with the
-interface of hashlib.
+"""BLAKE2b and BLAKE2s (RFC 7693), BLAKE2bp and BLAKE2sp, BLAKE2Xb and BLAKE2Xs by formally verified
+functions, with the interface of hashlib.
 
     >>> import vulfsjor
     >>> vulfsjor.blake2b(b"hello world", digest_size=16).hexdigest()
@@ -16,6 +16,13 @@ BLAKE2bp and BLAKE2sp hash long messages faster than BLAKE2b and BLAKE2s, to oth
 
     >>> vulfsjor.blake2bp(b"hello world", digest_size=8).hexdigest()
     '9c84350dd8a3243f'
+
+An output of any length, and keys that are derived from a key:
+
+    >>> vulfsjor.blake2xb(b"hello world").hexdigest(8)
+    '98214fc7e75bfd9e'
+    >>> len(vulfsjor.derive_key(bytes(32), b"files 2026", 96))
+    96
 
 Several messages in one call, and the root of a tree of two levels:
 
@@ -49,6 +56,9 @@ from vulfsjor._library import (
     blake2s,
     blake2s_many,
     blake2sp,
+    blake2xb,
+    blake2xs,
+    derive_key,
     tree_leaf_count,
     tree_leaves,
     tree_root_of_leaves,
@@ -57,5 +67,5 @@ from vulfsjor._threads import TreeHasher, tree_root, tree_root_file
 
 __all__ = [
     "TreeHasher", "blake2b", "blake2b_many", "blake2bp", "blake2s", "blake2s_many", "blake2sp",
-    "tree_leaf_count", "tree_leaves", "tree_root", "tree_root_file", "tree_root_of_leaves",
+    "blake2xb", "blake2xs", "derive_key", "tree_leaf_count", "tree_leaves", "tree_root", "tree_root_file", "tree_root_of_leaves",
 ]

@@ -27,10 +27,17 @@ if TYPE_CHECKING:
 _LEAST_BYTES = 1 << 20
 # A thread hashes about this number of bytes by one call, which runs without the GIL.
 _PART_BYTES = 4 << 20
+# The most leaves of a part, whose digests of 64 bytes are then no longer than a part.
+_PART_LEAVES = _PART_BYTES // 64
 # The most bytes that a thread hashes by one call, of data in memory and of a file, which it reads
 # into a buffer.
 _MOST_BYTES = 1 << 28
 _MOST_BUFFER_BYTES = 1 << 24
+
+
+def _part_bytes(leaf_size: SupportsIndex) -> int:
+    """About how many bytes of leaves of this size a thread hashes by one call."""
+    return min(_PART_BYTES, operator.index(leaf_size) * _PART_LEAVES)
 
 
 def _thread_count(threads: SupportsIndex) -> int:
@@ -112,7 +119,7 @@ class _Tree:
     def plan(self, length: int, threads: int, most: int) -> "_Plan":
         """The plan of a message of this length."""
         return _Plan(*_library.tree_plan(length, self.leaf_size, threads, _LEAST_BYTES,
-                                         _PART_BYTES, most))
+                                         _part_bytes(self.leaf_size), most))
 
     def digests(self, read: Callable[[int, int], "Buffer"], plan: "_Plan", stopped: Event,
                 most: int, place: int) -> bytes:
@@ -199,7 +206,8 @@ class TreeHasher(_library.TreeHasher):
         # The count is that of the copy: self may absorb more at any time.
         fresh = self.copy()
         count = fresh.count
-        plan = _Plan(*fresh._plan(len(view), threads, _LEAST_BYTES, _PART_BYTES, _MOST_BYTES))
+        plan = _Plan(*fresh._plan(len(view), threads, _LEAST_BYTES,
+                                  _part_bytes(self.leaf_size), _MOST_BYTES))
         if plan.threads <= 1:
             return super().update(data)
         super(TreeHasher, fresh).update(view[:plan.start])

@@ -1,5 +1,6 @@
-"""Tests of what test_compare.py can't compare: verify, several messages, the tree root, what is
-left of a key, threads, views that are let go, and the names and signatures of the package."""
+"""Tests of what test_against_hashlib.py can't compare: verify, several messages, the tree root,
+what is left of a key, threads, views that are let go, and the names and signatures of the
+package."""
 import array
 import ast
 import collections
@@ -405,8 +406,8 @@ class Threads(unittest.TestCase):
             self.assert_lets_others_run(call)
 
     def test_others_wait_for_a_long_update(self):
-        """A call of an object sees all of an update that is under way, at least once in ten tries:
-        in a single try the update may not have started."""
+        """A call of an object sees all of an update that is under way, at least once in a hundred
+        tries: in a single try the update may not have started."""
         for _, make, theirs, _, _ in FAMILIES:
             wanted = theirs(LONG).digest()
             for call in (
@@ -414,7 +415,7 @@ class Threads(unittest.TestCase):
                 lambda hasher: hasher.digest() == wanted,
                 lambda hasher: hasher.verify(wanted),
             ):
-                self.assertTrue(any(self.is_met(call, make()) for _ in range(10)))
+                self.assertTrue(any(self.is_met(call, make()) for _ in range(100)))
 
     def is_met(self, call, hasher):
         """The result of a call while another thread updates the object."""
@@ -616,10 +617,10 @@ class Words(unittest.TestCase):
             self.assertFalse({"persona", "personal", "personalization"} & set(parameters))
             self.assertEqual("person" in parameters, "salt" in parameters)
             for parameter in ("salt", "person", "key", "digest_size"):
-                if parameter in parameters:
+                if parameter in parameters and name != "derive_key":
                     self.assertIs(parameters[parameter].kind, inspect.Parameter.KEYWORD_ONLY, name)
                     met += 1
-        self.assertEqual(met, 41)
+        self.assertEqual(met, 47)
 
     def test_all_is_documented(self):
         self.assertTrue(vulfsjor.__doc__)

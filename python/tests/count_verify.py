@@ -1,4 +1,4 @@
-"""Compares tags that differ at one byte each, to count instructions: verify_at.py MODULE, where
+"""Compares tags that differ at one byte each, to count instructions: count_verify.py MODULE, where
 MODULE is the file of vulfsjor._library, which is loaded by itself."""
 import importlib.util
 import sys

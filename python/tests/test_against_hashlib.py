@@ -237,7 +237,8 @@ class Compare(unittest.TestCase):
     """All comparisons."""
 
     def test_random_calls(self):
-        count = int(os.environ.get("VULFSJOR_TEST_CALLS", 20000))
+        most = 20000 if os.environ.get("VULFSJOR_TEST_HUGE") else 5000
+        count = int(os.environ.get("VULFSJOR_TEST_CALLS", most))
         self.assertGreater(compare_random_calls(count), count // 50)
 
     def test_edges(self):

@@ -1,0 +1,142 @@
+"""BLAKE2Xb, BLAKE2Xs and derived keys: the test vectors and the authors' vectors in pieces, copies, threads, and what is
+refused."""
+import random
+import threading
+import unittest
+
+import support  # noqa: F401
+import vectors
+import vulfsjor
+
+FAMILIES = (("blake2xb", vulfsjor.blake2xb, "b", 64, 16, 2**32 - 2, 64 << 32),
+            ("blake2xs", vulfsjor.blake2xs, "s", 32, 8, 2**16 - 2, 32 << 32))
+
+
+def in_pieces(make, data, dice, **words):
+    """An object that absorbs the data in random pieces."""
+    found, at = make(**words), 0
+    while at < len(data):
+        count = dice.choice([1, 64, 128, dice.randint(1, 200)])
+        found.update(data[at:at + count])
+        at += count
+    return found
+
+
+class Outputs(unittest.TestCase):
+    def outputs(self, make, data, wanted, dice, **words):
+        """All of an output and its beginnings, of an object, of a copy, and in one call."""
+        found = in_pieces(make, data, dice, **words)
+        self.assertEqual(found.digest(len(wanted)), wanted)
+        for count in (0, 1, len(wanted) // 2, len(wanted) - 1):
+            self.assertEqual(found.digest(count), wanted[:count])
+            self.assertEqual(found.hexdigest(count), wanted[:count].hex())
+        other = found.copy()
+        found.update(b"other")
+        self.assertNotEqual(found.digest(len(wanted) + 16 if "length" not in words else len(wanted)), wanted)
+        self.assertEqual(other.digest(len(wanted)), wanted)
+        self.assertEqual(make(data, **words).hexdigest(len(wanted)), wanted.hex())
+
+    def test_vectors(self):
+        dice, count, derived = random.Random(1), 0, 0
+        for case in vectors.cases():
+            if case["kind"] != "output":
+                continue
+            count += 1
+            words = vectors.arguments(case)
+            if case["is_known"]:
+                words["length"] = case["size"]
+            make = getattr(vulfsjor, "blake2x" + case["hash"][-1])
+            data, wanted = vectors.message(case), bytes.fromhex(case["digest"])
+            self.outputs(make, data, wanted, dice, **words)
+            if case["hash"] == "blake2b" and case["is_known"] and case["key"] and not case["salt"]:
+                derived += 1
+                self.assertEqual(vulfsjor.derive_key(words["key"], data, case["size"]), wanted)
+        self.assertEqual((count, derived), (264, 22))
+
+    def test_the_authors_vectors(self):
+        for name, make, letter, *_ in FAMILIES:
+            try:
+                found = list(vectors.authors_cases(letter))
+            except FileNotFoundError:
+                self.skipTest("no golang-golang-x-crypto-dev")
+            self.assertEqual(len(found), 256)
+            for key, data, wanted in found:
+                self.assertEqual(make(data, key=key, length=len(wanted)).digest(len(wanted)), wanted, name)
+
+    def test_derived_keys(self):
+        key = bytes(range(32))
+        found = {vulfsjor.derive_key(key, context, length)
+                 for context in (b"", b"\0", b"files", b"cookies") for length in (32, 33, 64, 96)}
+        self.assertEqual(len({each[:16] for each in found}), 16)
+        wanted = vulfsjor.blake2xb(b"files", key=key, length=96).digest(96)
+        self.assertEqual(vulfsjor.derive_key(key=key, context=b"files", length=96), wanted)
+        for wrong in (b"", bytes(65)):
+            with self.assertRaisesRegex(ValueError, "key must have between 1 and 64 bytes"):
+                vulfsjor.derive_key(wrong, b"", 1)
+        for wrong in (0, 2**32 - 1, 2**64 - 1):
+            with self.assertRaisesRegex(ValueError, "length must be between 1 and 4294967294 bytes"):
+                vulfsjor.derive_key(key, b"", wrong)
+        with self.assertRaisesRegex(ValueError, "length must be positive"):
+            vulfsjor.derive_key(key, b"", -1)
+        for words in ((key, b"", None), (key, b"", 1.0), (key, "text", 1), ("text", b"", 1), (key, b"")):
+            self.assertRaises(TypeError, vulfsjor.derive_key, *words)
+        self.assertRaises(OverflowError, vulfsjor.derive_key, key, b"", 2**64)
+
+    def test_ends(self):
+        for _, make, _, _, _, _, whole in FAMILIES:
+            self.assertEqual(len(make(length=9).digest(9)), 9)
+            for wrong in (10, 2**63, 2**64 - 1):
+                with self.assertRaisesRegex(ValueError, "the output has only 9 bytes"):
+                    make(length=9).digest(wrong)
+            with self.assertRaisesRegex(ValueError, f"the output has only {whole} bytes"):
+                make().digest(whole + 1)
+            with self.assertRaisesRegex(ValueError, "value must be positive"):
+                make().digest(-1)
+            self.assertRaises(OverflowError, make().digest, 2**64)
+            self.assertRaises(TypeError, make().digest)
+            self.assertRaises(TypeError, make().hexdigest, 1.0)
+
+    def test_what_is_refused(self):
+        for name, make, letter, longest, salt, most, _ in FAMILIES:
+            self.assertEqual((make().name, make().block_size), (name, 2 * longest))
+            for word, limit in (("key", longest), ("salt", salt), ("person", salt)):
+                make(**{word: bytes(limit)})
+                with self.assertRaisesRegex(ValueError, f"maximum {word} length is {limit} bytes"):
+                    make(**{word: bytes(limit + 1)})
+            make(length=most)
+            for wrong in (0, most + 1, most + 2):
+                with self.assertRaisesRegex(ValueError, f"length must be between 1 and {most} bytes"):
+                    make(length=wrong)
+            with self.assertRaisesRegex(ValueError, "length must be positive"):
+                make(length=-1)
+            with self.assertRaisesRegex(TypeError, "length must be an integer"):
+                make(length=1.0)
+            for wrong in ("text", [b""], 1):
+                self.assertRaises(TypeError, make, wrong)
+                self.assertRaises(TypeError, make().update, wrong)
+            self.assertRaises(TypeError, make, b"", digest_size=5)
+            self.assertRaises(TypeError, make, b"", 5)
+            with self.assertRaisesRegex(TypeError, "immutable type"):
+                make.name = "other"
+            self.assertRaises(TypeError, type, "Sub", (make,), {})
+
+    def test_threads(self):
+        """One object, which several threads read while another absorbs."""
+        data = bytes(1 << 20)
+        found, seen = vulfsjor.blake2xb(), set()
+
+        def look():
+            for _ in range(20):
+                seen.add(found.digest(5000))
+        threads = [threading.Thread(target=look) for _ in range(3)]
+        for thread in threads:
+            thread.start()
+        for _ in range(4):
+            found.update(data)
+        for thread in threads:
+            thread.join()
+        self.assertLessEqual(seen, {vulfsjor.blake2xb(data * n).digest(5000) for n in range(5)})
+
+
+if __name__ == "__main__":
+    unittest.main()
