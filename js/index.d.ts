@@ -230,7 +230,7 @@ export function blake2spStream(
  * Returns the `treeRoot` of everything that a source contains, which is read as by `blake2bStream`.
  * If `threads` is not 1, workers hash the leaves, and the promise rejects if one of them fails
  * after it has started.
- * The digests of all leaves are in memory until the end, 64 bytes each.
+ * A long message needs no more memory than a short one.
  */
 export function treeRootStream(
   source: Source,
@@ -286,6 +286,55 @@ export class Blake2bp extends Hasher {
 export class Blake2sp extends Hasher {
   constructor(options?: ParallelOptions);
 }
+
+/** Options of BLAKE2Xb and BLAKE2Xs. */
+export interface OutputOptions {
+  /**
+   * The bytes of the output, 1 to 2^32 - 2 (BLAKE2Xb) or 65,534 (BLAKE2Xs); without it the length is
+   * not known in advance. The output depends on it.
+   */
+  outputLength?: number;
+  /** A key of 1 to 64 bytes (BLAKE2Xb) or 32 (BLAKE2Xs). */
+  key?: Bytes;
+  /** A salt of up to 16 bytes (BLAKE2Xb) or 8 (BLAKE2Xs). */
+  salt?: Bytes;
+  /** A personalization of up to 16 bytes (BLAKE2Xb) or 8 (BLAKE2Xs). */
+  personalization?: Bytes;
+}
+
+declare abstract class Output {
+  /** The bytes of a block of input. */
+  readonly blockLength: number;
+  /** How many bytes of the output are left to read. */
+  readonly left: bigint;
+  /** Absorbs the message after all earlier ones. Throws after the first `read`. */
+  update(message: Bytes): this;
+  /**
+   * Returns the next bytes of the output, at most 2^31 - 1. Throws a `RangeError` if fewer are left;
+   * then nothing is read. The first call ends the message.
+   */
+  read(length: number): Uint8Array;
+  /** Returns an independent copy. */
+  copy(): this;
+  /** Overwrites the state. All later calls throw. */
+  wipe(): void;
+}
+
+/** BLAKE2Xb, an output of any length that is read in pieces. */
+export class Blake2xb extends Output {
+  constructor(options?: OutputOptions);
+}
+
+/** BLAKE2Xs, an output of any length that is read in pieces. */
+export class Blake2xs extends Output {
+  constructor(options?: OutputOptions);
+}
+
+/**
+ * Returns a key of this many bytes, 1 to 2^31 - 1, that is derived from a key of 1 to 64 bytes for a
+ * context: the BLAKE2Xb output of the context under the key. Each purpose has a context of its own.
+ */
+export function deriveKey(key: Bytes, context: Bytes, length: number): Uint8Array;
 
 /** The root of `treeRoot`, incrementally. */
 export class TreeHash extends Hasher {

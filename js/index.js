@@ -1,5 +1,5 @@
-// BLAKE2b, BLAKE2s (RFC 7693), BLAKE2bp and BLAKE2sp by proved functions. index.d.ts documents the
-// interface.
+// BLAKE2b, BLAKE2s (RFC 7693), BLAKE2bp, BLAKE2sp, BLAKE2Xb and BLAKE2Xs by proved functions.
+// index.d.ts documents the interface.
 
 import {
   OPTIONS, bytesOf, flagOf, isBytes, kindOf, lengthOf, offsetOf, refuseMore, settingsOf,
@@ -9,11 +9,13 @@ import {
   rootOfLeaves,
 } from "./src/engine.js";
 import { Blake2b, Blake2bp, Blake2s, Blake2sp, TreeHash, hex } from "./src/hashers.js";
+import { Blake2xb, Blake2xs, deriveKey } from "./src/xof.js";
 import { hashTransform, hashWritable } from "./src/pipes.js";
 import { hashStream } from "./src/streams.js";
 
 export {
-  Blake2b, Blake2bp, Blake2s, Blake2sp, TreeHash, hashTransform, hashWritable, hex, load,
+  Blake2b, Blake2bp, Blake2s, Blake2sp, Blake2xb, Blake2xs, TreeHash, deriveKey, hashTransform,
+  hashWritable, hex, load,
 };
 
 function one(kind, caller, message, options, rest) {

@@ -202,6 +202,7 @@ function positionOf(tree, kind, caller) {
 export const OPTIONS = Object.freeze({
   basic: ["digestLength", "key", "salt", "personalization"],
   hash: ["digestLength", "key", "salt", "personalization", "tree"],
+  output: ["outputLength", "key", "salt", "personalization"],
   tree: ["leafLength", "digestLength", "salt", "personalization"],
   leaves: ["leafLength", "first", "ends", "salt", "personalization"],
 });

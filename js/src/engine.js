@@ -65,6 +65,29 @@ export const BLAKE2SP = Object.freeze({
   options: "basic",
   isTree: false,
 });
+// The length of an output that is not known in advance is digestLength.
+export const BLAKE2XB = Object.freeze({
+  name: "blake2xb",
+  digestLength: 2 ** 32 - 1,
+  keyLength: 64,
+  saltLength: 16,
+  blockLength: 128,
+  stateLength: 544,
+  stackLength: DEEP,
+  options: "output",
+  isTree: false,
+});
+export const BLAKE2XS = Object.freeze({
+  name: "blake2xs",
+  digestLength: 2 ** 16 - 1,
+  keyLength: 32,
+  saltLength: 8,
+  blockLength: 64,
+  stateLength: 304,
+  stackLength: DEEP,
+  options: "output",
+  isTree: false,
+});
 export const TREE = Object.freeze({
   name: "tree",
   digestLength: 64,
@@ -126,9 +149,12 @@ class Engine {
     for (const { name } of [BLAKE2B, BLAKE2S, BLAKE2BP, BLAKE2SP]) {
       this.calls[name] = { ...functionsOf(name, calls), one: exports[`vulfsjor_ffi_${name}`] };
     }
+    for (const { name } of [BLAKE2XB, BLAKE2XS]) {
+      this.calls[name] = functionsOf(name, ["init_salt_personal", "update", "squeeze", "left"]);
+    }
     this.slots = {};
     const slot = this.base + STATE;
-    for (const kind of [BLAKE2B, BLAKE2S, BLAKE2BP, BLAKE2SP, TREE]) {
+    for (const kind of [BLAKE2B, BLAKE2S, BLAKE2BP, BLAKE2SP, BLAKE2XB, BLAKE2XS, TREE]) {
       this.slots[kind.name] = this.bytes.subarray(slot, slot + kind.stateLength);
     }
     this.at = {}; // the places as the library's pointers
@@ -324,6 +350,37 @@ export function verify(kind, state, digestLength, tag) {
   });
 }
 
+/** The next bytes of the output of a state, or undefined if fewer are left, which changes nothing. */
+export function squeeze(kind, state, length) {
+  return withEngine((engine) => {
+    const slot = engine.slots[kind.name];
+    slot.set(state);
+    const { squeeze: read, left } = engine.calls[kind.name];
+    let output;
+    if (BigInt(length) <= left(engine.at.state)) {
+      output = new Uint8Array(length);
+      for (let at = 0; at < length; at += PIECE) {
+        const size = Math.min(PIECE, length - at);
+        granted(read(engine.at.state, engine.at.window, BigInt(size)));
+        output.set(engine.read(WINDOW, size), at);
+      }
+      state.set(slot);
+    }
+    engine.clean(kind, length);
+    return output;
+  });
+}
+
+/** How many bytes of the output of a state are left, as a bigint. */
+export function left(kind, state) {
+  return withEngine((engine) => {
+    engine.slots[kind.name].set(state);
+    const count = engine.calls[kind.name].left(engine.at.state);
+    engine.clean(kind, 0);
+    return count;
+  });
+}
+
 /** Resets a state to its start. */
 export function reset(kind, state) {
   withEngine((engine) => {
@@ -498,6 +555,24 @@ export function rootOfLeaves(settings, digests) {
     engine.clean(TREE, lengthOf(digests));
     return root;
   });
+}
+
+/**
+ * A state of a message's root, which absorbs the digests of all leaves in order. The settings are
+ * those of the tree.
+ */
+export function beginRoot(settings) {
+  return begin(BLAKE2B, { ...settings, key: new Uint8Array(0), node: "root" });
+}
+
+/** Absorbs the joined digests of the next leaves. */
+export function updateRoot(state, digests) {
+  update(BLAKE2B, state, digests);
+}
+
+/** The root, of digestLength bytes. It ends the state. */
+export function endRoot(state, digestLength) {
+  return final(BLAKE2B, state, digestLength);
 }
 
 /** Whether two arrays are equal, by a comparison that reads all bytes of equal lengths. */

@@ -27,7 +27,7 @@ export function hashWritable(hasher, ...rest) {
   return new WritableStream({ write: absorb, abort: () => hasher.wipe() });
 }
 
-// The two ends of a TransformStream, which is not told when its readable end is canceled or, while
+// The two ends of a TransformStream, which is not notified when its readable end is canceled or, while
 // a chunk waits to be read, when the other is aborted.
 export function hashTransform(hasher, ...rest) {
   const absorb = absorber(hasher, "hashTransform", rest);

@@ -1,19 +1,24 @@
 // The root of a tree by several workers, each of which hashes ranges of leaves.
 
 import { copyOf, lengthOf, partOf } from "./arguments.js";
-import { partOfPlan, planOf, rootOfLeaves } from "./engine.js";
+import { LEAF_DIGEST, beginRoot, endRoot, partOfPlan, planOf, updateRoot } from "./engine.js";
 import { RangeWorker } from "./workers.js";
 
 // A range has about this number of bytes, in fours of leaves, unless four leaves are longer than the
 // second. Then it is one leaf.
 const RANGE = 4 * 1024 * 1024;
+// The most leaves of a range, so that its digests are no longer than a range.
+const RANGE_LEAVES = RANGE / LEAF_DIGEST;
+// How many ranges for each worker may be ahead of the first whose digests the root lacks.
+const AHEAD = 2;
 const LONGEST_RANGE = 16 * 1024 * 1024;
 // A plan is made before the length of the message is known: for the longest.
 const LONGEST_MESSAGE = 2n ** 58n - 1n;
 /** Leaves longer than this are hashed on the calling thread, since a range is held in memory. */
 export const LONGEST_LEAF = 64 * 1024 * 1024;
 /**
- * The root of a message that comes in pieces, or that the workers read. report is called with the
+ * The root of a message that comes in pieces, or that the workers read. It absorbs the digests of
+ * the ranges in their order, and keeps only those that came too early. report is called with the
  * number of bytes of each range that was hashed, and onFallback once, with the error, if a worker
  * cannot be started. What a worker or one of these throws aborts control.
  */
@@ -27,7 +32,10 @@ export class TreeThreads {
   #control;
   #workers = [];
   #idle = [];
-  #digests = []; // by range
+  #root; // absorbs the digests of the ranges in order
+  #digests = new Map(); // those of later ranges, by range
+  #sent = 0; // the number of ranges that workers hash or have hashed
+  #absorbed = 0; // of those, the number in the root
   #plan;
   #range; // the bytes of the range that is being filled
   #filled = 0;
@@ -44,13 +52,19 @@ export class TreeThreads {
     this.#report = report;
     this.#onFallback = onFallback;
     this.#control = control;
-    this.#plan = planOf(LONGEST_MESSAGE, leafLength, RANGE, LONGEST_RANGE);
+    this.#root = beginRoot({ ...this.#settings, digestLength });
+    this.#plan = this.#planOf(LONGEST_MESSAGE);
     control.signal.addEventListener("abort", () => this.#wake());
+  }
+
+  #planOf(length) {
+    const { leafLength } = this.#settings;
+    return planOf(length, leafLength, Math.min(RANGE, leafLength * RANGE_LEAVES), LONGEST_RANGE);
   }
 
   // Begins the next range.
   #begin() {
-    const { first, length } = partOfPlan(this.#plan, this.#digests.length);
+    const { first, length } = partOfPlan(this.#plan, this.#sent);
     this.#leaf = first;
     this.#range = new Uint8Array(length);
     this.#filled = 0;
@@ -76,7 +90,8 @@ export class TreeThreads {
     const entry = {};
     entry.worker = new RangeWorker(this.#caller, {
       onDigests: (digests) => {
-        this.#digests[entry.range] = digests;
+        this.#digests.set(entry.range, digests);
+        this.#absorb();
         this.#idle.push(entry);
         this.#tell(this.#report, entry.length);
         this.#wake();
@@ -91,12 +106,26 @@ export class TreeThreads {
     return entry;
   }
 
+  // Absorbs the digests of the next ranges, as far as they are there.
+  #absorb() {
+    for (let digests; (digests = this.#digests.get(this.#absorbed)); this.#absorbed++) {
+      updateRoot(this.#root, digests);
+      this.#digests.delete(this.#absorbed);
+    }
+  }
+
+  // Whether a range can be passed to a worker.
+  #hasRoom() {
+    return (this.#idle.length > 0 || this.#workers.length < this.#count) &&
+      this.#sent - this.#absorbed < AHEAD * this.#count;
+  }
+
   // Passes a range to a worker: its bytes, or where the worker reads them.
   async #send(source, { first, length, ends }) {
-    while (this.#idle.length === 0 && this.#workers.length === this.#count) await this.#result();
+    while (!this.#hasRoom()) await this.#result();
     this.#control.signal.throwIfAborted();
     const entry = this.#idle.pop() ?? this.#start();
-    entry.range = this.#digests.push(undefined) - 1;
+    entry.range = this.#sent++;
     entry.length = length;
     entry.worker.post({ settings: this.#settings, range: { first, ends }, ...source });
   }
@@ -126,28 +155,22 @@ export class TreeThreads {
   async digest() {
     if (this.#range === undefined) this.#begin();
     await this.#sendFilled(true);
-    return this.#root();
+    return this.#end();
   }
 
   /** The root of a source of this length, where sourceOf(at, length) is what a worker reads. */
   async digestOf(total, sourceOf) {
-    const plan = planOf(total, this.#settings.leafLength, RANGE, LONGEST_RANGE);
+    const plan = this.#planOf(total);
     for (let i = 0; i < plan.count; i++) {
       const part = partOfPlan(plan, i);
       await this.#send(sourceOf(part.start, part.length), part);
     }
-    return this.#root();
+    return this.#end();
   }
 
-  async #root() {
+  async #end() {
     while (this.#idle.length < this.#workers.length) await this.#result();
-    const joined = new Uint8Array(this.#digests.reduce((sum, { length }) => sum + length, 0));
-    let at = 0;
-    for (const digests of this.#digests) {
-      joined.set(digests, at);
-      at += digests.length;
-    }
-    return rootOfLeaves({ ...this.#settings, digestLength: this.#digestLength }, joined);
+    return endRoot(this.#root, this.#digestLength);
   }
 
   /** Stops the workers. */

@@ -1,11 +1,11 @@
 // Makes the same random calls of the module that the proved source compiles to, whose memory has
-// 64-bit addresses, and of the lowered one, and compares results and whole memories after each:
+// 64-bit addresses, and of the lowered one, and compares results and whole memories after each. They
+// are the same in each run:
 //
 //   node --experimental-wasm-memory64 tests/both_memories.mjs MODULE COUNT
 import assert from "node:assert/strict";
-import { randomBytes, randomInt } from "node:crypto";
 import { readFileSync } from "node:fs";
-import { lower } from "../tools/lower.mjs";
+import { lower } from "../tools/memory32.mjs";
 
 const module = readFileSync(process.argv[2]);
 const count = Number(process.argv[3]);
@@ -24,17 +24,67 @@ narrow.memory.grow(PAGES);
 assert.throws(
   () => new WebAssembly.Instance(new WebAssembly.Module(lower(lower(module)))), /not 64 bits wide/);
 
+let random = 7693;
+function randomWord() { // of 32 bits, by xorshift
+  for (const shift of [13, -17, 5]) random ^= shift > 0 ? random << shift : random >>> -shift;
+  return random >>> 0;
+}
+function randomInt(first, end) { // below the first number, or from it on
+  if (end === undefined) return randomInt(0, first);
+  return first + Math.floor((randomWord() + randomWord() / 2 ** 32) / 2 ** 32 * (end - first));
+}
+const randomBytes = (length) => Uint8Array.from({ length }, () => randomInt(256));
+
 const top = base + PAGES * 65536;
 const PLACES = [0, 2048, 6144, 6272, 6400, 7168, 8192];
 const [STATE, OUT, KEY, SALT, NODE, RECORDS, MESSAGES] = PLACES.map((place) => base + place);
 const both = [wide, narrow].map(({ memory }) => new Uint8Array(memory.buffer));
+// The states of BLAKE2Xb and BLAKE2Xs, which no other call changes.
+const OUTPUTS = { blake2xb: base + 7552, blake2xs: base + 6784 };
 const put = (bytes, at) => both.forEach((memory) => memory.set(bytes, at));
 const text = (at, most) => [BigInt(at), BigInt(randomInt(most + 1))];
 
 const NOT_PARALLEL = ["_init_tree", "_init_param", "_set_last_node", "_many"];
 
+const SIZES = ["blake2b", "blake2s", "blake2bp", "blake2sp", "blake2xb", "blake2xs", "tree"];
+
+// A random call of BLAKE2X, or rarely one that needs no rate of its own.
+function someOutputCall() {
+  const [family, most, unknown] =
+    randomInt(2) === 0 ? ["blake2xb", 64, 2 ** 32 - 1] : ["blake2xs", 32, 2 ** 16 - 1];
+  const state = BigInt(OUTPUTS[family]);
+  const key = text(KEY, most);
+  const salts = [...text(SALT, most / 4), ...text(SALT + 16, most / 4)];
+  const out = [BigInt(OUT), BigInt(randomInt(8) === 0 ? 0 : 1 + randomInt(1000))];
+  const message = text(MESSAGES, 1000);
+  const length = [0, unknown, unknown + 1][randomInt(12)] ?? 1 + randomInt(2000);
+  const call = (name, ...words) => [`vulfsjor_ffi_${family}${name}`, words];
+  const init = () => call("_init_salt_personal", state, BigInt(length), ...key, ...salts);
+  const calls = [
+    init,
+    init,
+    () => call("_update", state, ...message),
+    () => call("_update", state, ...message),
+    () => call("_squeeze", state, ...out),
+    () => call("_squeeze", state, ...out),
+    () => call("_reset", state),
+    () => call("_left", state),
+    () => call("_count", state),
+    () => call("_wipe", state),
+    () => call("", ...out, ...message, ...key),
+    () => call("_derive_key", ...out, ...key, ...message),
+    () => {
+      const other = SIZES[randomInt(SIZES.length + 1)];
+      return other === undefined
+        ? ["vulfsjor_ffi_tree_wipe", [BigInt(STATE)]] : [`vulfsjor_ffi_${other}_state_size`, []];
+    },
+  ];
+  return calls[randomInt(calls.length)]();
+}
+
 // A random call: its name and its arguments, most of which are granted.
 function someCall() {
+  if (randomInt(5) === 0) return someOutputCall();
   const isB = randomInt(2) === 0;
   const family = isB ? "blake2b" : "blake2s";
   const isParallel = randomInt(3) === 0;
@@ -110,8 +160,7 @@ function someCall() {
     () => tree("_part", BigInt(OUT + 128), BigInt(OUT), BigInt(randomInt(3))),
     () => ["vulfsjor_ffi_memcmp", [...message, BigInt(MESSAGES + randomInt(2)), message[1]]],
     () => ["vulfsjor_ffi_wipe", text(MESSAGES, 1000)],
-    () => ["vulfsjor_ffi_version", []],
-  ][randomInt(37)]();
+  ][randomInt(36)]();
 }
 
 put(randomBytes(top - base), base);

@@ -8,7 +8,8 @@ import { tmpdir } from "node:os";
 import { extname, join } from "node:path";
 import test from "node:test";
 import { fileURLToPath } from "node:url";
-import { randomCases } from "./common.mjs";
+import { endBrowser } from "./chromium.mjs";
+import { HUGE, randomCases } from "./common.mjs";
 
 const top = fileURLToPath(new URL("..", import.meta.url));
 const TYPES = {
@@ -56,8 +57,9 @@ try {
 }
 </script>`;
 
+const COUNT = HUGE ? "800" : "200";
 const shortCases = () =>
-  randomCases("2", "800").filter(({ length, lengths = [length] }) => Math.max(...lengths) <= 6000);
+  randomCases("2", COUNT).filter(({ length, lengths = [length] }) => Math.max(...lengths) <= 6000);
 
 // Serves the package, opens the page in a browser, and returns what the page sends back.
 async function answerOf(command, wordsOf, cases) {
@@ -90,18 +92,16 @@ async function answerOf(command, wordsOf, cases) {
   });
   await new Promise((resolve) => server.listen(0, "127.0.0.1", resolve));
   const child = spawn(
-    command, wordsOf(folder, `http://127.0.0.1:${server.address().port}/`), { stdio: "ignore" });
+    command, wordsOf(folder, `http://127.0.0.1:${server.address().port}/`),
+    { stdio: "ignore", detached: true });
   const timer = setTimeout(() => answered({ fault: "no answer within ten minutes" }), 600_000);
   try {
     return await answer;
   } finally {
     clearTimeout(timer);
-    const exited = new Promise((resolve) => child.on("exit", resolve));
-    child.kill();
-    await exited;
+    await endBrowser(child, folder);
     server.closeAllConnections();
     server.close();
-    rmSync(folder, { recursive: true, force: true, maxRetries: 10, retryDelay: 200 });
   }
 }
 
@@ -115,7 +115,7 @@ const BROWSERS = {
 const has = (command) => spawnSync(command, ["--version"]).error === undefined;
 
 for (const [command, wordsOf] of Object.entries(BROWSERS)) {
-  test(`800 cases of hashlib and a tree by workers in ${command}`, async (t) => {
+  test(`${COUNT} cases of hashlib and a tree by workers in ${command}`, async (t) => {
     if (!has(command) || !has("python3")) {
       return t.skip(`no ${has("python3") ? command : "python3"}`);
     }
@@ -135,7 +135,7 @@ for (const [command, wordsOf] of Object.entries(BROWSERS)) {
   });
 }
 
-test("800 cases of hashlib in jsc, the engine of Safari", (t) => {
+test(`${COUNT} cases of hashlib in jsc, the engine of Safari`, (t) => {
   // jsc does not know --version, and then ends with another status
   if (!has("jsc") || !has("python3")) return t.skip(`no ${has("python3") ? "jsc" : "python3"}`);
   const folder = mkdtempSync(join(tmpdir(), "vulfsjor-jsc-"));

@@ -4,17 +4,38 @@ import { spawn } from "node:child_process";
 import { mkdtempSync, rmSync } from "node:fs";
 import { tmpdir } from "node:os";
 import { join } from "node:path";
+import { setTimeout as sleep } from "node:timers/promises";
 
 const WORDS = [
   "--headless=new", "--no-sandbox", "--disable-gpu", "--remote-debugging-pipe", "--no-first-run",
   "--disable-dev-shm-usage", "--disable-background-networking",
 ];
 
+/** Kills all processes of the group that a browser leads, then removes its folder. A process that
+ * was killed while it made a file can still put it there: then the folder is removed again. */
+export async function endBrowser(browser, folder) {
+  const exited = new Promise((resolve) => browser.on("exit", resolve));
+  try {
+    process.kill(-browser.pid, "SIGKILL");
+  } catch (fault) {
+    if (fault.code !== "ESRCH") throw fault;
+  }
+  if (browser.exitCode === null && browser.signalCode === null) await exited;
+  for (let left = 50; ; left--) {
+    try {
+      return rmSync(folder, { recursive: true, force: true });
+    } catch (fault) {
+      if (!left) throw fault;
+      await sleep(100);
+    }
+  }
+}
+
 /** Starts Chromium. Rejects if there is none. */
 export async function startChromium(command = process.env.CHROMIUM ?? "chromium", more = []) {
   const profile = mkdtempSync(join(tmpdir(), "vulfsjor-chromium-"));
   const child = spawn(command, [...WORDS, ...more, `--user-data-dir=${profile}`],
-    { stdio: ["ignore", "ignore", "ignore", "pipe", "pipe"] });
+    { stdio: ["ignore", "ignore", "ignore", "pipe", "pipe"], detached: true });
   const [, , , input, output] = child.stdio;
   const exited = new Promise((resolve) => child.on("exit", resolve));
   await new Promise((resolve, reject) => child.on("spawn", resolve).on("error", reject));
@@ -38,12 +59,11 @@ export async function startChromium(command = process.env.CHROMIUM ?? "chromium"
     });
 
   /** Opens a page. Its faults are the errors that it and the browser have logged. */
-  async function open(url, { width = 1000, height = 900, scheme = "light" } = {}) {
+  async function open(url, { width = 1000 } = {}) {
     const { targetId } = await send("Target.createTarget", { url: "about:blank" });
     const { sessionId } = await send("Target.attachToTarget", { targetId, flatten: true });
     const faults = [];
     const requests = [];
-    const choosers = []; // how files are chosen, each time that the page asks for some
     listeners.add(({ method, params, sessionId: from }) => {
       if (from !== sessionId) return;
       if (method === "Runtime.exceptionThrown") {
@@ -56,17 +76,14 @@ export async function startChromium(command = process.env.CHROMIUM ?? "chromium"
         faults.push(params.args.map((a) => a.value).join(" "));
       }
       if (method === "Network.requestWillBeSent") requests.push(params.request.url);
-      if (method === "Page.fileChooserOpened") choosers.push(params.mode);
     });
     const call = (method, params) => send(method, params, sessionId);
     for (const domain of ["Page", "Runtime", "Log", "Network", "DOM"]) {
       await call(`${domain}.enable`);
     }
     await call(
-      "Emulation.setDeviceMetricsOverride", { width, height, deviceScaleFactor: 1, mobile: false });
-    await call(
-      "Emulation.setEmulatedMedia",
-      { features: [{ name: "prefers-color-scheme", value: scheme }] });
+      "Emulation.setDeviceMetricsOverride",
+      { width, height: 900, deviceScaleFactor: 1, mobile: false });
     await call("Page.navigate", { url });
     const evaluate = async (expression) => {
       const { result, exceptionDetails } = await call(
@@ -89,18 +106,13 @@ export async function startChromium(command = process.env.CHROMIUM ?? "chromium"
         "Runtime.evaluate", { expression: `document.querySelector(${JSON.stringify(selector)})` });
       await call("DOM.setFileInputFiles", { files, objectId: result.objectId });
     };
-    const screenshot = async (whole = true) => {
-      const { data } = await call(
-        "Page.captureScreenshot", { format: "png", captureBeyondViewport: whole });
-      return Buffer.from(data, "base64");
-    };
-    return { call, evaluate, until, setFiles, screenshot, faults, requests, choosers };
+    return { call, evaluate, until, setFiles, faults, requests };
   }
 
   async function close() {
     await send("Browser.close").catch(() => {});
     await exited;
-    rmSync(profile, { recursive: true, force: true, maxRetries: 5 });
+    await endBrowser(child, profile);
   }
   return { open, close, version: (await send("Browser.getVersion")).product };
 }

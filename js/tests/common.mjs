@@ -4,6 +4,10 @@ import { execFileSync } from "node:child_process";
 import { fileURLToPath } from "node:url";
 import { memory } from "../src/engine.js";
 
+/** Whether this is the full test, and the options of a test that only it has. */
+export const HUGE = Boolean(process.env.VULFSJOR_TEST_HUGE);
+export const LONG = { skip: HUGE ? false : "VULFSJOR_TEST_HUGE is not set" };
+
 export const bytesOf = (text) => Uint8Array.from(Buffer.from(text, "hex"));
 export const hexOf = (bytes) =>
   Buffer.from(bytes.buffer, bytes.byteOffset, bytes.length).toString("hex");

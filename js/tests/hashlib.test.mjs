@@ -6,9 +6,9 @@ import { readFileSync } from "node:fs";
 import test from "node:test";
 import * as vulfsjor from "../index.js";
 import { digestOf, leavesOf, messagesOf, namesOf, optionsOf } from "./check_cases.mjs";
-import { assertClean, bytesOf, hexOf, randomCases } from "./common.mjs";
+import { assertClean, bytesOf, HUGE, hexOf, randomCases } from "./common.mjs";
 
-const COUNT = process.env.VULFSJOR_CASES ?? (process.env.VULFSJOR_TEST_HUGE ? "10000" : "4000");
+const COUNT = process.env.VULFSJOR_CASES ?? (HUGE ? "10000" : "200");
 const SEED = process.env.VULFSJOR_SEED ?? "7693";
 
 // A message in one of the types that hold bytes.
@@ -119,8 +119,8 @@ test("all lengths from 0 to 600, and around the pieces, compared with node:crypt
   assertClean();
 });
 
-test("10,000 messages in random pieces, compared with node:crypto", () => {
-  for (let i = 0; i < 10000; i++) {
+test("messages in random pieces, compared with node:crypto", () => {
+  for (let i = 0; i < (HUGE ? 10000 : 300); i++) {
     const message = randomBytes(randomInt(i % 100 === 0 ? 300000 : 2000));
     const runs = [new vulfsjor.Blake2b(), new vulfsjor.Blake2s()];
     for (let at = 0; at < message.length; ) {
@@ -132,14 +132,15 @@ test("10,000 messages in random pieces, compared with node:crypto", () => {
   }
 });
 
-test("a message of 256 MiB, in one call and in pieces", () => {
-  const message = Buffer.alloc(2 ** 28, "all work and no play ");
+const MIB = HUGE ? 256 : 16;
+
+test(`a message of ${MIB} MiB, in one call and in pieces`, () => {
+  const message = Buffer.alloc(MIB * 2 ** 20, "all work and no play ");
   const wanted = native("blake2b512", message);
   assert.equal(hexOf(vulfsjor.blake2b(message)), wanted);
   assertClean();
   const run = new vulfsjor.Blake2b();
-  for (let at = 0; at < message.length; at += 50_000_017) {
-    run.update(message.subarray(at, at + 50_000_017));
-  }
+  const piece = MIB * 200_003;
+  for (let at = 0; at < message.length; at += piece) run.update(message.subarray(at, at + piece));
   assert.equal(run.hex(), wanted);
 });

@@ -9,7 +9,7 @@ import {
   treeRoot, utf8,
 } from "../index.js";
 import { memory } from "../src/engine.js";
-import { assertClean, hexOf } from "./common.mjs";
+import { assertClean, HUGE, hexOf } from "./common.mjs";
 
 const M = utf8("message");
 const KEY = new Uint8Array(32).fill(0xa5);
@@ -185,7 +185,7 @@ function callOnFullStack(call) {
   };
   // frames before it shift the places where calls are cut
   const shift = (count) => (count === 0 ? dive() : shift(count - 1));
-  for (let count = 0; count < 16; count++) {
+  for (let count = 0; count < (HUGE ? 16 : 4); count++) {
     passed = 0;
     shift(count);
   }

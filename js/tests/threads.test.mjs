@@ -305,6 +305,33 @@ test("workers read an open file of node", async (t) => {
   }
 });
 
+const AHEAD = "two ranges for each worker are ahead of the first, and the root has all in order";
+for (const [leafLength, leaves, ranges] of [[65536, 64, 40], [16, 65536, 8]]) test(AHEAD, async () => {
+  const count = 3;
+  const digestsOf = (i) => new Uint8Array(64 * leaves).fill(i);
+  let sent = 0;
+  const Class = class extends EventEmitter {
+    constructor() {
+      super();
+      setImmediate(() => this.emit("message", "ready"));
+    }
+    async postMessage({ file, range }) {
+      const i = Number(range.first) / leaves;
+      assert.equal(file.length, leafLength * leaves);
+      sent++;
+      while (i === 0 && sent < 2 * count) await new Promise((resolve) => setTimeout(resolve, 1));
+      await new Promise((resolve) => setTimeout(resolve, i === 0 ? 20 : (7 * i) % 4));
+      if (i === 0) assert.equal(sent, 2 * count);
+      this.emit("message", digestsOf(i));
+    }
+    terminate() {}
+  };
+  const handle = { fd: 3, stat: async () => ({ isFile: () => true, size: ranges * leaves * leafLength }) };
+  const root = await withWorkers(Class, () => byThreads(handle, { leafLength, threads: count }));
+  const all = Buffer.concat(Array.from({ length: ranges }, (_, i) => digestsOf(i)));
+  assert.equal(root, hex(treeRootOfLeaves(all, { leafLength })));
+});
+
 test("past 4 GiB each part of a file is read where it is", async () => {
   const size = 2 ** 32 + 3 * RANGE + 5;
   // by workers, which answer with zeros

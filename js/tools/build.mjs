@@ -1,7 +1,7 @@
 #!/usr/bin/env node
 // Writes what is made from dist/wasm/vulfsjor.wasm, the module that the proved source compiles to:
 //
-//   tools/build.mjs                writes src/wasm.js: the module with a 32-bit memory (lower.mjs)
+//   tools/build.mjs                writes src/wasm.js: the module with a 32-bit memory (memory32.mjs)
 //                                  in base64, and the hashes of both; and src/worker_text.js:
 //                                  the script of a worker, from src/vulfsjor_worker.js
 //   tools/build.mjs --check        compares these files with that instead
@@ -10,7 +10,7 @@ import { createHash } from "node:crypto";
 import { readFileSync, writeFileSync } from "node:fs";
 import { fileURLToPath } from "node:url";
 import { bundle, shorten } from "./bundle.mjs";
-import { lower } from "./lower.mjs";
+import { lower } from "./memory32.mjs";
 
 const here = (path) => fileURLToPath(new URL(path, import.meta.url));
 const MODULE = here("../../dist/wasm/vulfsjor.wasm");

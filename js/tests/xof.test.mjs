@@ -1,0 +1,135 @@
+// BLAKE2Xb, BLAKE2Xs and derived keys: the test vectors and the authors' vectors in pieces, copies,
+// and what is refused.
+
+import assert from "node:assert/strict";
+import { execFileSync } from "node:child_process";
+import { test } from "node:test";
+import { fileURLToPath } from "node:url";
+
+import { Blake2xb, Blake2xs, deriveKey, fromHex, hex, utf8 } from "../index.js";
+
+const SCRIPT = fileURLToPath(new URL("../../tests/vectors.py", import.meta.url));
+const FAMILIES = [
+  ["b", Blake2xb, 64, 16, 2 ** 32 - 2, 64n << 32n],
+  ["s", Blake2xs, 32, 8, 2 ** 16 - 2, 32n << 32n],
+];
+
+// The lines of BLAKE2X that tests/vectors.py prints: size (0 is unknown), texts, message, output.
+function lines(...words) {
+  const text = execFileSync("python3", [SCRIPT, ...words], {
+    encoding: "utf8", maxBuffer: 1 << 26, stdio: "pipe",
+  });
+  return text.split("\n").filter((line) => line.startsWith("x ")).map((line) => {
+    const [, size, ...fields] = line.split(" ");
+    const bytes = fields.map((field) => fromHex(field === "-" ? "" : field));
+    return [Number(size), ...bytes];
+  });
+}
+
+function check(Output, [size, key, salt, personalization, message, wanted], i) {
+  const options = { salt, personalization };
+  if (size) options.outputLength = size;
+  if (key.length) options.key = key;
+  const output = new Output(options);
+  for (let at = 0, n = 1 + ((i * 31) % 200); at < message.length; at += n) {
+    output.update(message.subarray(at, at + n));
+  }
+  const copy = output.copy();
+  const joined = new Uint8Array(wanted.length);
+  for (let at = 0, n = 1 + ((i * 57) % 700); at < wanted.length; at += n) {
+    joined.set(output.read(Math.min(n, wanted.length - at)), at);
+  }
+  assert.equal(hex(joined), hex(wanted));
+  assert.equal(hex(copy.read(wanted.length)), hex(wanted));
+  assert.equal(output.left, copy.left);
+  if (size) assert.equal(output.left, 0n);
+  if (Output === Blake2xb && size && key.length && !salt.length && !personalization.length) {
+    assert.equal(hex(deriveKey(key, message, size)), hex(wanted));
+  }
+}
+
+for (const [family, Output, longest, salt, most, whole] of FAMILIES) {
+  test(`the test vectors of ${Output.name}`, () => {
+    const found = lines("--lines", family);
+    assert.equal(found.length, 132);
+    found.forEach((line, i) => check(Output, line, i));
+  });
+
+  test(`the authors' vectors of ${Output.name}`, (t) => {
+    let found;
+    try {
+      found = lines("--authors", family);
+    } catch {
+      t.skip("no golang-golang-x-crypto-dev");
+      return;
+    }
+    assert.equal(found.length, 256);
+    found.forEach((line, i) => check(Output, line, i));
+  });
+
+  test(`what ${Output.name} refuses`, () => {
+    for (const [what, limit] of [["key", longest], ["salt", salt], ["personalization", salt]]) {
+      new Output({ [what]: new Uint8Array(limit) });
+      assert.throws(() => new Output({ [what]: new Uint8Array(limit + 1) }), RangeError);
+      assert.throws(() => new Output({ [what]: "text" }), TypeError);
+    }
+    assert.throws(() => new Output({ key: new Uint8Array(0) }), RangeError);
+    for (const outputLength of [0, most + 1, most + 2, -1, 1.5, NaN, 2 ** 53]) {
+      assert.throws(() => new Output({ outputLength }), RangeError);
+    }
+    assert.equal(new Output({ outputLength: most }).left, BigInt(most));
+    assert.equal(new Output().left, whole);
+    assert.throws(() => new Output({ digestLength: 3 }), TypeError);
+    assert.throws(() => new Output({}, 3), TypeError);
+    const output = new Output({ outputLength: 9 }).update(utf8("abc"));
+    const start = output.copy();
+    assert.equal(output.read(5).length, 5);
+    assert.throws(() => output.read(5), { name: "RangeError", message: /only 4 bytes/ });
+    assert.throws(() => output.update(utf8("a")), { name: "TypeError", message: /being read/ });
+    assert.throws(() => output.copy().update(utf8("a")), TypeError);
+    assert.equal(output.read(4).length + output.read(0).length, 4);
+    assert.throws(() => output.read(1), RangeError);
+    for (const length of [undefined, "1", 1n]) {
+      assert.throws(() => start.read(length), TypeError);
+    }
+    for (const length of [-1, 1.5, 2 ** 31]) assert.throws(() => start.read(length), RangeError);
+    assert.throws(() => start.read(1, 2), TypeError);
+    assert.throws(() => start.update("text"), TypeError);
+    start.wipe();
+    for (const call of [() => start.read(1), () => start.update(utf8("a")), () => start.copy(),
+      () => start.left]) {
+      assert.throws(call, { name: "TypeError", message: /was wiped/ });
+    }
+    start.wipe();
+    assert.equal(output.blockLength, 2 * longest);
+  });
+}
+
+test("a long output, in pieces of the memory", () => {
+  const whole = new Blake2xb().update(utf8("abc")).read(200000);
+  const output = new Blake2xb().update(utf8("abc"));
+  for (const [at, n] of [[0, 65536], [65536, 65537], [131073, 68927]]) {
+    assert.equal(hex(output.read(n)), hex(whole.subarray(at, at + n)));
+  }
+});
+
+test("derived keys", () => {
+  const key = new Uint8Array(32).fill(7);
+  const found = new Set();
+  for (const context of ["", "files", "cookies"]) {
+    for (const length of [32, 33, 96]) {
+      const derived = deriveKey(key, utf8(context), length);
+      assert.equal(derived.length, length);
+      found.add(hex(derived.subarray(0, 16)));
+    }
+  }
+  assert.equal(found.size, 9);
+  assert.throws(() => deriveKey(new Uint8Array(0), key, 1), RangeError);
+  assert.throws(() => deriveKey(new Uint8Array(65), key, 1), RangeError);
+  assert.throws(() => deriveKey(undefined, key, 1), TypeError);
+  assert.throws(() => deriveKey(key, "text", 1), TypeError);
+  assert.throws(() => deriveKey(key, key), TypeError);
+  assert.throws(() => deriveKey(key, key, 0), RangeError);
+  assert.throws(() => deriveKey(key, key, 2 ** 31), RangeError);
+  assert.throws(() => deriveKey(key, key, 1, 1), TypeError);
+});
