@@ -1,6 +1,10 @@
 /* Times calls from C of this library, of libb2 and of OpenSSL's EVP in one run, in turns; the best
  * time of each counts. Prints a table in Markdown: nanoseconds a call, and in brackets how many
- * times as fast this library is. WITH_LIBB2 and WITH_OPENSSL are defined where these are there. */
+ * times as fast this library is. WITH_LIBB2 and WITH_OPENSSL are defined where these are there:
+ *
+ *   cc -O2 -DWITH_LIBB2 -DWITH_OPENSSL bench/calls.c \
+ *       $(pkg-config --cflags --libs vulfsjor-static) -lb2 -lcrypto
+ */
 #define _POSIX_C_SOURCE 199309L
 #include "vulfsjor.h"
 #ifdef WITH_LIBB2

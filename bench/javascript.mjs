@@ -3,23 +3,21 @@
 //
 //   node bench/javascript.mjs [TURNS] [--write]
 //
-// It prints two tables; --write also puts them into docs/SPEED.md. What a row compares runs in
-// turns, and each figure is the best of all turns: of TURNS (30 if not given) in processor time
-// for the digests of the first table, of a sixth of that by the clock for the roots of the second.
-// Each root is that of a file in the page cache, and includes the start of its workers.
+// It prints two tables; --write also writes them to bench/results/javascript.txt. What a row
+// compares runs in turns, and each figure is the best of all turns: of TURNS (30 if not given) in
+// processor time for the digests of the first table, of a sixth of that by the clock for the roots
+// of the second. Each root is that of a file in the page cache, and includes the start of its
+// workers.
 import assert from "node:assert/strict";
 import { createHash, randomBytes } from "node:crypto";
-import { mkdtempSync, readFileSync, rmSync, writeFileSync } from "node:fs";
+import { mkdtempSync, rmSync, writeFileSync } from "node:fs";
 import { open } from "node:fs/promises";
 import { cpus, loadavg, tmpdir } from "node:os";
 import { join } from "node:path";
 import { pathToFileURL } from "node:url";
 import { blake2b, blake2s, hex, treeRoot, treeRootStream } from "../js/index.js";
 
-const PAGE = new URL("../docs/SPEED.md", import.meta.url);
-const MARKS = [
-  "<!-- measured by bench/javascript.mjs -->\n", "<!-- end of what bench/javascript.mjs measured -->\n",
-];
+const RESULTS = new URL("results/javascript.txt", import.meta.url);
 const LEAF = 65536;
 const LENGTHS = [64, 1024, 65536, 2 ** 24];
 const MEBIBYTES = [64, 256, 1024];
@@ -119,11 +117,7 @@ async function main(words) {
     parts.push(await table());
     console.log(parts.at(-1));
   }
-  if (words.includes("--write")) {
-    const [before, rest] = readFileSync(PAGE, "utf8").split(MARKS[0]);
-    const after = rest.split(MARKS[1])[1];
-    writeFileSync(PAGE, `${before}${MARKS[0]}\n${parts.join("\n")}\n${MARKS[1]}${after}`);
-  }
+  if (words.includes("--write")) writeFileSync(RESULTS, parts.join("\n"));
 }
 
 const [, program = "", ...words] = process.argv;

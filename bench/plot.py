@@ -1,6 +1,6 @@
 #!/usr/bin/python3
-"""Draws a plot of speed by lengths as SVG on standard output, by Debian's python3-matplotlib. bench/speed.py and
-bench/callers.py run it. Standard input has, as JSON, for each title of a panel the speeds in GB/s by the names of
+"""Draws a plot of speed by lengths as SVG on standard output, by Debian's python3-matplotlib. bench/speed.py runs
+it. Standard input has, as JSON, for each title of a panel the speeds in GB/s by the names of
 candidates and by lengths in bytes.
 
 usage: bench/plot.py TEXT      TEXT is below the axes, and says what has these lengths
@@ -17,8 +17,6 @@ STYLES = {
     "ours: `vulfsjor`, x86-64-v4": ("#d55e00", 3, "-"),
     "ours: `vulfsjor`, x86-64-v3": ("#d55e00", 3, "--"),
     "ours: `vulfsjor`, x86-64-v2": ("#d55e00", 3, ":"),
-    "ours from C": ("#d55e00", 3, "-"),
-    "ours from Rust": ("#d55e00", 3, "--"),
     "blake2b/s_simd": ("#0072b2", 2, "-"),
     "libb2": ("#009e73", 2, "-"),
     "OpenSSL's EVP": ("#cc79a7", 2, "-"),

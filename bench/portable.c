@@ -1,16 +1,16 @@
-/* Measures the library in portable C next to plain C by the same compiler, one message at a time:
+/* Measures the library in portable C next to plain C by the same compiler, one message at a time, and
+ * with -DSODIUM next to the portable code of libsodium. bench/portable.py compiles it.
  *
- *   cc -O2 -c -DWIDE bench/aarch64/plain.c -o wide.o && cc -O2 -c bench/aarch64/plain.c -o plain.o
- *   cc -O2 -Ic/include -Ibench/aarch64 bench/portable.c dist/c/vulfsjor.c wide.o plain.o -o timed
- *   ./timed [MIB]       so many MiB of messages of 1 MiB, and an eighth of it of 64 bytes; 64 MiB
+ *   ./portable [MIB]    this many MiB of messages of 1 MiB, and an eighth of it of 64 bytes; 64 MiB
  *
- * Prints the best of seven runs, by the processor's time: MB/s of a long message, and nanoseconds
- * for a short one, of the library and of plain C, and how fast the library is in relation. */
-#include "digests.h"
+ * Prints a line for each function, its family, length and best of seven runs by the processor's time:
+ * MB/s of a long message, and nanoseconds for a short one. */
+#include "plain.h"
 #include "vulfsjor.h"
 
 #include <stdio.h>
 #include <stdlib.h>
+#include <string.h>
 #include <time.h>
 
 typedef void hash(const uint8_t *message, size_t length, uint8_t *digest);
@@ -23,15 +23,35 @@ static void ours_s(const uint8_t *message, size_t length, uint8_t *digest) {
     if (vulfsjor_blake2s(digest, 32, message, length, NULL, 0)) abort();
 }
 
+#ifdef SODIUM
+/* In blake2b-ref.c of libsodium, and what that calls. */
+int crypto_generichash_blake2b__blake2b(uint8_t *out, const void *in, const void *key,
+        uint8_t out_length, uint64_t in_length, uint8_t key_length);
+void sodium_misuse(void);
+void sodium_memzero(void *bytes, size_t length);
+
+void sodium_misuse(void) { abort(); }
+
+void sodium_memzero(void *bytes, size_t length) {
+    volatile uint8_t *place = bytes;
+    while (length--) *place++ = 0;
+}
+
+static void sodium_b(const uint8_t *message, size_t length, uint8_t *digest) {
+    if (crypto_generichash_blake2b__blake2b(digest, message, NULL, 64, length, 0)) abort();
+}
+#endif
+
 static double seconds(void) {
     struct timespec now;
     clock_gettime(CLOCK_PROCESS_CPUTIME_ID, &now);
     return (double)now.tv_sec + 1e-9 * (double)now.tv_nsec;
 }
 
-/* The seconds for the hashes of so many bytes in messages of a length. */
+static uint8_t message[1 << 20];
+
+/* The seconds for the hashes of this many bytes in messages of a length. */
 static double measured(hash *f, size_t length, size_t total) {
-    static uint8_t message[1 << 20];
     uint8_t digest[64];
     double begin = seconds();
     for (size_t done = 0; done < total; done += length) {
@@ -41,27 +61,39 @@ static double measured(hash *f, size_t length, size_t total) {
     return seconds() - begin;
 }
 
-static void compare(const char *name, hash *ours, hash *plain, size_t length, size_t total) {
-    double best[2] = {1e9, 1e9};
+static void compare(const char *family, size_t length, size_t total, hash *functions[3]) {
+    static const char *const names[3] = {"ours", "plain", "sodium"};
+    uint8_t digests[3][64] = {{0}};
+    double best[3] = {1e9, 1e9, 1e9};
+
+    for (int k = 0; k < 3; k++) {
+        if (!functions[k]) continue;
+        functions[k](message, length, digests[k]);
+        if (memcmp(digests[0], digests[k], sizeof digests[0])) abort();
+    }
     for (int turn = 0; turn < 7; turn++)
-        for (int k = 0; k < 2; k++) {
-            double time = measured(k ? plain : ours, length, total);
+        for (int k = 0; k < 3; k++) {
+            double time = functions[k] ? measured(functions[k], length, total) : 1e9;
             if (time < best[k]) best[k] = time;
         }
-    printf("%s, %zu bytes: ", name, length);
-    for (int k = 0; k < 2; k++) {
+    for (int k = 0; k < 3; k++) {
         double per_second = (double)total / best[k];
-        if (length > 1000) printf("%.0f MB/s%s", per_second / 1e6, k ? "" : ", plain ");
-        else printf("%.0f ns%s", 1e9 * (double)length / per_second, k ? "" : ", plain ");
+        if (!functions[k]) continue;
+        printf("%s %s %zu ", names[k], family, length);
+        printf("%.1f\n", length > 1000 ? per_second / 1e6 : 1e9 * (double)length / per_second);
     }
-    printf(", %.2f\n", best[1] / best[0]);
 }
 
 int main(int count, char **words) {
     size_t total = (count > 1 ? strtoul(words[1], NULL, 10) : 64) << 20;
-    compare("BLAKE2b", ours_b, plain_blake2b512, 1 << 20, total);
-    compare("BLAKE2s", ours_s, plain_blake2s256, 1 << 20, total);
-    compare("BLAKE2b", ours_b, plain_blake2b512, 64, total / 8);
-    compare("BLAKE2s", ours_s, plain_blake2s256, 64, total / 8);
+    hash *wide[3] = {ours_b, plain_blake2b512, NULL}, *narrow[3] = {ours_s, plain_blake2s256, NULL};
+
+#ifdef SODIUM
+    wide[2] = sodium_b;
+#endif
+    compare("b", 1 << 20, total, wide);
+    compare("s", 1 << 20, total, narrow);
+    compare("b", 64, total / 8, wide);
+    compare("s", 64, total / 8, narrow);
     return 0;
 }

@@ -8,16 +8,18 @@ Tables, as Markdown on standard output:
 - kernel: one message of 1 MiB in memory.
 - short: messages of 0, 64 and 1,024 bytes in memory.
 - several: four and eight messages of BLAKE2b-512 and eight of BLAKE2s-256, digested one after another and in parallel.
+- parallel: one message of BLAKE2bp-512 and of BLAKE2sp-256 in memory, of 0 bytes to 1 MiB.
+- xof: 32 KiB of output of BLAKE2Xb and of BLAKE2Xs, by one call and by a call for each block.
 - tree: the roots of trees over one message of 16 MiB in memory, next to one stream over it.
 
-With --write all of them go into docs/SPEED.md, between two marks, and a plot of messages of 64 bytes to 1 MiB goes into
-docs/speed.svg. That page says how each candidate is timed, and which packages have the peers. A peer that is absent is
-named on standard error and left out.
+With --write all of them go into bench/results/speed.txt, and a plot of messages of 64 bytes to 1 MiB goes into
+docs/speed.svg. bench/README.md says how each candidate is timed, and which packages have the peers. A peer that is absent
+is named on standard error and left out.
 
 Each digest is first compared with hashlib's. Then the candidates of a column are timed in turns, and the best time of
 each counts. A ratio is the candidate's speed over that of the column's best peer.
 
-usage: bench/speed.py [--mebibytes N] [--turns N] [--only long|kernel|short|several|tree | --write]
+usage: bench/speed.py [--mebibytes N] [--turns N] [--only long|kernel|short|several|parallel|xof|tree | --write]
 """
 import ctypes
 import functools
@@ -36,12 +38,11 @@ from typing import Callable, NamedTuple
 
 TOP = os.path.dirname(os.path.dirname(os.path.abspath(__file__)))
 sys.path.insert(0, os.path.join(TOP, "tests"))
-from blake2_kinds import Parser, at_least  # noqa: E402
-from oracle import tree_root  # noqa: E402
+from common import Parser, at_least  # noqa: E402
+from oracle import output, parallel_by_hashlib, tree_root  # noqa: E402
 
-PAGE = os.path.join(TOP, "docs", "SPEED.md")
+RESULTS = os.path.join(TOP, "bench", "results")
 PICTURE = os.path.join(TOP, "docs", "speed.svg")
-MARKS = ("<!-- measured by bench/speed.py -->\n", "<!-- end of what was measured -->\n")
 PEERS = os.path.join(TOP, "bench", "peers")
 OUT = os.path.join(TOP, "bench", "out")
 NEWEST = subprocess.run([os.path.join(TOP, "tools", "processor.sh")], stdout=subprocess.PIPE, text=True,
@@ -51,6 +52,8 @@ CPUS = CPUS[:CPUS.index(NEWEST) + 1] if NEWEST in CPUS else ()
 KERNEL_BYTES = 1 << 20
 SHORT_BYTES = (0, 64, 1024)
 SEVERAL_BYTES = (64, 1024, 4096)
+PARALLEL_BYTES = (0, 1024, 4096, 1 << 16, 1 << 20)
+OUTPUT_BYTES = 1 << 15  # of BLAKE2X, as bench/peers/xof.c and xof.go have it
 SEVERAL = {"b512": 4, "s256": 8}  # how many messages in parallel
 MORE = {"b512": 8}  # and how many with AVX-512
 TREE_MEBIBYTES = 16  # of the message
@@ -73,6 +76,10 @@ class Timed(NamedTuple):
 
 
 TIMED = (Timed("b512", "blake2b", "BLAKE2b-512", "blake2b512"), Timed("s256", "blake2s", "BLAKE2s-256", "blake2s256"))
+PARALLEL = (Timed("bp512", "blake2bp", "BLAKE2bp-512", "blake2bp512"),
+            Timed("sp256", "blake2sp", "BLAKE2sp-256", "blake2sp256"))
+OUTPUTS = (("b", "BLAKE2Xb"), ("s", "BLAKE2Xs"))
+CRATES = "blake2b/s_simd"  # the peers whose functions use one thread
 
 
 @dataclass
@@ -112,14 +119,17 @@ def text_of(name, cpu):
 
 
 def program_of(cpu):
-    """The program b2 for the processor, linked from dist/."""
-    with open(text_of("b2", cpu)) as text:
+    """The program b2 with the library's build for the processor, linked from dist/."""
+    texts = [os.path.join(TOP, "dist", "x86_64", "b2.s"), *(text_of("vulfsjor", level) for level in ("v2", "v3", "v4"))]
+    with open(texts[0]) as text:
         main = re.search(r"^\tvj_export\t(main\w*)$", text.read(), re.MULTILINE)[1]
-    assembly = os.path.join(OUT, cpu + "-b2.S")
-    with open(assembly, "w") as both:
-        for name in (os.path.join(TOP, "dist", "macros.h"), text_of("b2", cpu)):
-            both.write(f'#include "{name}"\n')
-    path = compiled(cpu + "-b2", ["-DMAIN=" + main, os.path.join(TOP, "c", "b2.c"), assembly])
+    assembly = os.path.join(OUT, "b2.S")
+    with open(assembly, "w") as all_texts:
+        for name in (os.path.join(TOP, "dist", "macros.h"), *texts):
+            all_texts.write(f'#include "{name}"\n')
+    sources = [os.path.join(TOP, "c", name) for name in ("b2.c", "choose.c")]
+    path = compiled(cpu + "-b2", ["-DMAIN=" + main, "-DCHOOSE_TEST=" + cpu[-1], "-I" + os.path.join(TOP, "c", "include"),
+                                  *sources, assembly])
     if path is None:
         sys.exit("speed: the program needs a C compiler (cc)")
     return path
@@ -129,10 +139,10 @@ def program_of(cpu):
 def library_of(cpu):
     """The shared library over vulfsjor for the processor, linked from dist/."""
     folder = os.path.join(OUT, cpu)
-    good, output = outcome([os.path.join(TOP, "c", "join.sh"), folder, text_of("vulfsjor", cpu)])
+    good, output = outcome([os.path.join(TOP, "c", "make_libraries.sh"), folder, text_of("vulfsjor", cpu)])
     if not good:
         sys.exit("speed: vulfsjor was not linked: " + output)
-    sources = [os.path.join(PEERS, name) for name in ("ours.c", "several.c", "tree.c")]
+    sources = [os.path.join(PEERS, name) for name in ("ours.c", "several.c", "tree.c", "xof.c")]
     return shared(cpu + "-vulfsjor.so", [*sources, os.path.join(folder, "libvulfsjor.a")])
 
 
@@ -181,12 +191,25 @@ def openssl():
     return library
 
 
+@functools.cache
+def golang():
+    """The shared library over Go's golang.org/x/crypto; None if it is absent."""
+    path = os.path.join(OUT, "golang.so")
+    settings = ["GO111MODULE=off", "GOPATH=/usr/share/gocode", "GOCACHE=" + os.path.join(OUT, "go")]
+    command = ["go", "build", "-buildmode=c-shared", "-o", path, os.path.join(PEERS, "xof.go")]
+    good, _ = outcome(["env"] + settings + command)
+    if not good:
+        say("golang.org/x/crypto is absent (golang-go and golang-golang-x-crypto-dev)")
+    return path if good else None
+
+
 def versions():
     """The versions of the peers, as they tell them."""
     found = []
     for name, command, pattern in (("b2sum", ["b2sum", "--version"], r"^b2sum .* (\S+)$"),
                                    ("OpenSSL", ["openssl", "version"], r"^OpenSSL (\S+)"),
-                                   ("libb2", ["pkg-config", "--modversion", "libb2"], r"^([\d.]+)$")):
+                                   ("libb2", ["pkg-config", "--modversion", "libb2"], r"^([\d.]+)$"),
+                                   ("Go", ["go", "version"], r"^go version go(\S+)")):
         match = re.search(pattern, outcome(command)[1], re.MULTILINE)
         found += [f"{name} {match[1]}"] if match else []
     if blake2_simd()[0]:
@@ -480,7 +503,7 @@ def several_functions():
 
 
 def several_table(kind, count, functions, turns):
-    """The table of so many messages in parallel."""
+    """The table of this many messages in parallel."""
     function = kind.function if count == SEVERAL[kind.word] else f"{kind.function}_{count}"
     columns = []
     for length in SEVERAL_BYTES:
@@ -494,6 +517,45 @@ def several_table(kind, count, functions, turns):
         best = best_of(turns * MEMORY_TURNS, timers)
         columns.append(Column(f"{length:,} bytes, ns", best, "{:.0f}".format))
     return table(f"{count} messages of {kind.title}", columns)
+
+
+def parallel_table(kind, turns):
+    """The table of BLAKE2bp or BLAKE2sp. libb2 starts a thread for each leaf, so its time is that of all of them by the
+    clock; ratios are to the crates, which have one."""
+    found = {f"ours: `vulfsjor`, {cpu}": (library_of(cpu), "ours_") for cpu in CPUS}
+    found |= {name: (path, "") for name, path in (("libb2, with its threads", libb2()[1]), (CRATES, blake2_simd()[1]))
+              if path}
+    columns = []
+    for length in PARALLEL_BYTES:
+        say(f"timing {kind.title} of {length:,} bytes")
+        message = bytearray(os.urandom(max(length, 1)))
+        wanted = parallel_by_hashlib(kind.word[0], bytes(message[:length]))
+        timers = {name: loop_timer(checked_loop(name, getattr(ctypes.CDLL(path), prefix + kind.function), message,
+                                                length, wanted)) for name, (path, prefix) in found.items()}
+        best = best_of(turns * MEMORY_TURNS, timers)
+        base = (CRATES, best[CRATES]) if CRATES in best else None
+        if length < 1 << 16:
+            columns.append(Column(f"{length:,} bytes, ns", best, "{:.0f}".format, base))
+        else:
+            columns.append(Column(f"{length:,} bytes, GB/s", best, rate(length), base))
+    return table(f"one {kind.title} digest", columns)
+
+
+def xof_table(turns):
+    """The table of outputs of BLAKE2X."""
+    found = {f"ours: {title}, {cpu}": (library_of(cpu), prefix) for cpu in CPUS
+             for prefix, title in (("each_", "one block after another"), ("whole_", "blocks in parallel"))}
+    found |= {"golang.org/x/crypto": (golang(), "go_")} if golang() else {}
+    message, columns = bytearray(os.urandom(64)), []
+    for letter, title in OUTPUTS:
+        say(f"timing outputs of {title}")
+        wanted = output(letter, bytes(message), OUTPUT_BYTES)
+        timers = {name: loop_timer(checked_loop(name, getattr(ctypes.CDLL(path), f"{prefix}blake2x{letter}"), message,
+                                                len(message), wanted)) for name, (path, prefix) in found.items()}
+        best = best_of(turns * MEMORY_TURNS, timers)
+        base = next(iter(found))
+        columns.append(Column(title + ", GB/s", best, rate(OUTPUT_BYTES), None if golang() else (base, best[base])))
+    return table(f"{OUTPUT_BYTES:,} bytes of output", columns)
 
 
 def tree_functions():
@@ -548,13 +610,10 @@ def picture(places, label, bytes_at, best_at):
     return subprocess.run(command, input=json.dumps(panels), stdout=subprocess.PIPE, text=True, check=True).stdout
 
 
-def write_page(parts, marks):
-    """Puts the parts between these marks of docs/SPEED.md."""
-    with open(PAGE) as file:
-        before, rest = file.read().split(marks[0])
-        _, after = rest.split(marks[1])
-    with open(PAGE, "w") as file:
-        file.write(before + marks[0] + "\n" + "\n".join(parts) + "\n" + marks[1] + after)
+def write_results(parts, name):
+    """Writes the parts to bench/results/, to the text of this name."""
+    with open(os.path.join(RESULTS, name + ".txt"), "w") as file:
+        file.write("\n".join(parts))
 
 
 def machine():
@@ -583,7 +642,7 @@ def options_of(text, mebibytes, turns, only=()):
     which = parser.add_mutually_exclusive_group()
     if only:
         which.add_argument("--only", choices=only, help="only this part")
-    which.add_argument("--write", action="store_true", help="put all into docs/SPEED.md, and the plots into docs/")
+    which.add_argument("--write", action="store_true", help="write it to bench/results/, and the plot to docs/")
     return parser.parse_args()
 
 
@@ -602,6 +661,10 @@ def parts_of(options):
         functions = several_functions()
         yield from (with_load(several_table(kind, counts[kind.word], functions, options.turns))
                     for kind in TIMED for counts in (SEVERAL, MORE) if kind.word in counts)
+    if options.only in (None, "parallel"):
+        yield from (with_load(parallel_table(kind, options.turns)) for kind in PARALLEL)
+    if options.only in (None, "xof"):
+        yield with_load(xof_table(options.turns))
     if options.only in (None, "tree"):
         yield with_load(tree_table(options.turns * TREE_TURNS))
     if options.write:
@@ -609,8 +672,8 @@ def parts_of(options):
             file.write(picture(PLOT_BYTES, "bytes of the message", lambda length: length, memory.best))
 
 
-def run(options, parts_of, marks):
-    """Measures the parts, prints each, and with --write puts them into the page."""
+def run(options, parts_of, name):
+    """Measures the parts, prints each, and with --write writes them to the results of this name."""
     if not outcome([os.path.join(TOP, "tools", "dist.sh"), "current"])[0]:
         sys.exit("speed: dist/ was not made from these sources (tools/dist.sh make)")
     if sys.version_info < (3, 11):
@@ -621,11 +684,12 @@ def run(options, parts_of, marks):
         print(part, flush=True)
         parts.append(part)
     if options.write:
-        write_page(parts, marks)
+        write_results(parts, name)
 
 
 def main():
-    run(options_of(__doc__, 512, 6, ("long", "kernel", "short", "several", "tree")), parts_of, MARKS)
+    run(options_of(__doc__, 512, 6, ("long", "kernel", "short", "several", "parallel", "xof", "tree")), parts_of,
+        "speed")
 
 
 if __name__ == "__main__":

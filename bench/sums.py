@@ -9,7 +9,7 @@ coreutils' `b2sum` over the same files (more than 1 is faster):
 - tree: that file by `--tree 65536`, on one processor and on all. b3sum is another hash, made for this. It maps the file
   into memory, and with --no-mmap reads it and hashes in one thread.
 
-With --write it goes into docs/SPEED.md, between the two marks for sums. The program is the one that ./b2sum builds from
+With --write it goes into bench/results/sums.txt. The program is the one that ./b2sum builds from
 dist/, so nothing is proved here. The digests are first compared with those of coreutils. Then the candidates are timed
 in turns, and the best time of each counts. A program that is absent is left out.
 
@@ -25,13 +25,12 @@ import speed
 from speed import OUT, TOP, Parser, at_least
 from threads import clocked
 
-MARKS = ("<!-- measured by bench/sums.py -->\n", "<!-- end of what bench/sums.py measured -->\n")
 PEER = "/usr/bin/b2sum"
 ALL = len(os.sched_getaffinity(0))
 
 
 def printed(folder, words, processors=ALL):
-    """What a command prints in this folder, on so many processors."""
+    """What a command prints in this folder, on this many processors."""
     allowed = sorted(os.sched_getaffinity(0))[:processors]
     return subprocess.run(words, cwd=folder, check=True, stdout=subprocess.PIPE,
                           preexec_fn=lambda: os.sched_setaffinity(0, allowed)).stdout
@@ -85,7 +84,7 @@ def main():
     parser.add_argument("--files", type=at_least(1), default=10000)
     parser.add_argument("--turns", type=at_least(1), default=10)
     parser.add_argument("--program", help="instead of the one that ./b2sum builds")
-    parser.add_argument("--write", action="store_true", help="put the table into docs/SPEED.md")
+    parser.add_argument("--write", action="store_true", help="write it to bench/results/")
     options = parser.parse_args()
     os.makedirs(OUT, exist_ok=True)
     program = options.program and os.path.abspath(options.program) or os.path.join(OUT, "b2sum")
@@ -97,7 +96,7 @@ def main():
     parts = [f"{speed.machine()}; best of {options.turns}, by the clock.\n", speed.with_load(table)]
     print("\n".join(parts), flush=True)
     if options.write:
-        speed.write_page(parts, MARKS)
+        speed.write_results(parts, "sums")
 
 
 main()

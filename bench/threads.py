@@ -7,8 +7,8 @@ Two tables, as Markdown on standard output, in 10^9 bytes a second by the clock,
 - file: vulfsjor_tree_root_file next to `b2sum --tree` and `b3sum`, and, with one thread, `b2 tree` and `b2sum`. A
   program is timed with its start.
 
-With --write both go into docs/SPEED.md, between the two marks for threads. Each root is first compared with hashlib's.
-Then the candidates of a table are timed in turns, and the best time of each counts. Leaves have 64 KiB.
+With --write both go into bench/results/threads.txt. Each root is first compared with hashlib's. Then the candidates of a
+table are timed in turns, and the best time of each counts. Leaves have 64 KiB.
 
 usage: bench/threads.py [--mebibytes N] [--turns N] [--write]
 """
@@ -22,13 +22,11 @@ import sys
 import time
 
 import speed
-from callers import installed
 from speed import OUT, TOP, Column, say
 
 sys.path.insert(0, os.path.join(TOP, "tests"))
 from oracle import tree_root  # noqa: E402
 
-MARKS = ("<!-- measured by bench/threads.py -->\n", "<!-- end of what bench/threads.py measured -->\n")
 THREADS = (1, 2, 4)
 LEAF = 65536
 SIZE = 64  # bytes of a root
@@ -47,6 +45,15 @@ def function_of(library, name, *types):
             sys.exit(f"threads: {name} failed")
         return out.raw
     return root
+
+
+def installed():
+    """The folder where c/install.sh has put the library."""
+    folder = os.path.join(OUT, "installed")
+    good, output = speed.outcome([os.path.join(TOP, "c", "install.sh"), folder])
+    if not good:
+        sys.exit("threads: the library was not installed: " + output)
+    return folder
 
 
 def functions(folder):
@@ -139,7 +146,7 @@ def heading(options):
 
 def parts_of(options):
     """The heading and the tables, each once it is measured."""
-    found = functions(installed("installed"))
+    found = functions(installed())
     with speed.random_file(options.mebibytes) as file:
         length = options.mebibytes << 20
         message = bytearray(length)
@@ -154,7 +161,7 @@ def parts_of(options):
 
 
 def main():
-    speed.run(speed.options_of(__doc__, 1024, 10), parts_of, MARKS)
+    speed.run(speed.options_of(__doc__, 1024, 10), parts_of, "threads")
 
 
 if __name__ == "__main__":

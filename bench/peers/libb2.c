@@ -1,4 +1,4 @@
-// libb2's digests: in memory as a library, in one call and in pieces, and of standard input as a program.
+// libb2's digests: in memory as a library, and of standard input as a program.
 #include <blake2.h>
 #include <stddef.h>
 #include <stdint.h>
@@ -6,7 +6,6 @@
 #include <string.h>
 
 static uint8_t piece[1 << 16];
-static size_t piece_length;
 
 void blake2b512(const uint8_t *message, size_t length, uint8_t *out)
 {
@@ -18,33 +17,14 @@ void blake2s256(const uint8_t *message, size_t length, uint8_t *out)
     blake2s(out, message, NULL, 32, length, 0);
 }
 
-// The bytes of each piece but the last, of the messages in pieces.
-void set_piece(size_t length)
+void blake2bp512(const uint8_t *message, size_t length, uint8_t *out)
 {
-    piece_length = length;
+    blake2bp(out, message, NULL, 64, length, 0);
 }
 
-static size_t least(size_t a, size_t b)
+void blake2sp256(const uint8_t *message, size_t length, uint8_t *out)
 {
-    return a < b ? a : b;
-}
-
-void blake2b512_in_pieces(const uint8_t *message, size_t length, uint8_t *out)
-{
-    blake2b_state state;
-    blake2b_init(&state, 64);
-    for (size_t i = 0; i < length; i += piece_length)
-        blake2b_update(&state, message + i, least(piece_length, length - i));
-    blake2b_final(&state, out, 64);
-}
-
-void blake2s256_in_pieces(const uint8_t *message, size_t length, uint8_t *out)
-{
-    blake2s_state state;
-    blake2s_init(&state, 32);
-    for (size_t i = 0; i < length; i += piece_length)
-        blake2s_update(&state, message + i, least(piece_length, length - i));
-    blake2s_final(&state, out, 32);
+    blake2sp(out, message, NULL, 32, length, 0);
 }
 
 static void read_blake2b512(uint8_t *out)

@@ -1,4 +1,4 @@
-// The root of the tree of vulfsjor with leaves of so many bytes, as a digest of a message.
+// The root of the tree of vulfsjor with leaves of this many bytes, as a digest of a message.
 #include "../../c/include/vulfsjor.h"
 
 static uint32_t leaf_length = 1;

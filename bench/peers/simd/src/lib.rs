@@ -1,15 +1,6 @@
-//! The digests of the crates `blake2b_simd` and `blake2s_simd` in memory, for C: of one message, in one
-//! call and in pieces, and of several of one length, which stand one behind the other, one after another
-//! and at once.
+//! The digests of the crates `blake2b_simd` and `blake2s_simd` in memory, for C: of one message, and of several
+//! of one length, which stand one behind the other, one after another and at once.
 use std::sync::atomic::{AtomicUsize, Ordering::Relaxed};
-
-static PIECE: AtomicUsize = AtomicUsize::new(0);
-
-/// Sets the bytes of each piece but the last, of the messages in pieces.
-#[no_mangle]
-pub extern "C" fn set_piece(length: usize) {
-    PIECE.store(length, Relaxed);
-}
 
 /// # Safety
 /// `message` has `length` bytes, and `out` has room for 64.
@@ -25,6 +16,22 @@ pub unsafe extern "C" fn blake2b512(message: *const u8, length: usize, out: *mut
 pub unsafe extern "C" fn blake2s256(message: *const u8, length: usize, out: *mut [u8; 32]) {
     let message = std::slice::from_raw_parts(message, length);
     *out = *blake2s_simd::blake2s(message).as_array();
+}
+
+/// # Safety
+/// `message` has `length` bytes, and `out` has room for 64.
+#[no_mangle]
+pub unsafe extern "C" fn blake2bp512(message: *const u8, length: usize, out: *mut [u8; 64]) {
+    let message = std::slice::from_raw_parts(message, length);
+    *out = *blake2b_simd::blake2bp::blake2bp(message).as_array();
+}
+
+/// # Safety
+/// `message` has `length` bytes, and `out` has room for 32.
+#[no_mangle]
+pub unsafe extern "C" fn blake2sp256(message: *const u8, length: usize, out: *mut [u8; 32]) {
+    let message = std::slice::from_raw_parts(message, length);
+    *out = *blake2s_simd::blake2sp::blake2sp(message).as_array();
 }
 
 unsafe fn each_blake2b<const N: usize>(messages: *const u8, length: usize, out: *mut [[u8; 64]; N]) {
@@ -99,28 +106,6 @@ pub unsafe extern "C" fn several_blake2s256(messages: *const u8, length: usize, 
     }
 }
 
-/// # Safety
-/// `message` has `length` bytes, and `out` has room for 64.
-#[no_mangle]
-pub unsafe extern "C" fn blake2b512_in_pieces(message: *const u8, length: usize, out: *mut [u8; 64]) {
-    let mut state = blake2b_simd::State::new();
-    for piece in std::slice::from_raw_parts(message, length).chunks(PIECE.load(Relaxed)) {
-        state.update(piece);
-    }
-    *out = *state.finalize().as_array();
-}
-
-/// # Safety
-/// `message` has `length` bytes, and `out` has room for 32.
-#[no_mangle]
-pub unsafe extern "C" fn blake2s256_in_pieces(message: *const u8, length: usize, out: *mut [u8; 32]) {
-    let mut state = blake2s_simd::State::new();
-    for piece in std::slice::from_raw_parts(message, length).chunks(PIECE.load(Relaxed)) {
-        state.update(piece);
-    }
-    *out = *state.finalize().as_array();
-}
-
 static LEAF: AtomicUsize = AtomicUsize::new(1);
 
 /// Sets the bytes of a leaf, at least 1.
@@ -129,7 +114,7 @@ pub extern "C" fn set_leaf(length: usize) {
     LEAF.store(length, Relaxed);
 }
 
-/// The root of a tree of two levels with leaves of so many bytes, which `hash_many` hashes.
+/// The root of a tree of two levels with leaves of this many bytes, which `hash_many` hashes.
 ///
 /// # Safety
 /// `message` has `length` bytes, at least 1, and `out` has room for 64.

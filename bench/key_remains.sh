@@ -1,7 +1,7 @@
 #!/usr/bin/env bash
-# Prints the table of docs/WIPING.md on what keyed calls leave on the stack, in Markdown: for each
-# call the pieces of the key that bench/stack.c finds, and the instructions that callgrind counts,
-# first without the zeros of `scrub_stack`, then with them. Other numbers of that page go to standard
+# Prints what keyed calls leave on the stack, as a table, from which docs/WIPING.md quotes: for each
+# call the pieces of the key that bench/key_remains.c finds, and the instructions that callgrind
+# counts, first without the zeros of `scrub_stack`, then with them. Other numbers go to standard
 # error. Needs valgrind and a processor that runs x86-64-v3, and takes about a minute.
 #
 # Callgrind counts an instruction that repeats once for each byte. So the C library sets memory by a
@@ -14,24 +14,27 @@ export GLIBC_TUNABLES=glibc.cpu.x86_rep_stosb_threshold=100000000
 
 # The text of dist/ with a return at the beginning of each scrub_stack.
 cp -r "$top/dist" "$work/dist"
-sed -i '/^blake2_digest\.\.wiping\.\.scrub_stack\.\.[^:]*:$/a\	retq' "$work"/dist/x86_64/vulfsjor-v[23].s
+for text in x86_64/vulfsjor-v{2,3}.s; do
+    sed -i '/^\tvj_function\tblake2_digest\.\.wiping\.\.scrub_stack\.\./a\	retq' "$work/dist/$text"
+    ! cmp -s "$top/dist/$text" "$work/dist/$text" || { echo "$0: no scrub_stack in dist/$text" >&2; exit 1; }
+done
 
 # The program of a family, for a level, without the zeros or with them: FAMILY LEVEL FROM.
 build() {
     local words=(-std=gnu99 -O2 -Wl,-z,now)
     [ "$1" = b ] || words+=(-DTEST_S)
     "$top/c/install.sh" --cpu "x86-64-$2" --from "$3" "$work/installed" >/dev/null
-    cc "${words[@]}" -I"$work/installed/include" "$top/bench/stack.c" \
-        "$work/installed/lib/libvulfsjor.a" -o "$work/stack"
+    cc "${words[@]}" -I"$work/installed/include" "$top/bench/key_remains.c" \
+        "$work/installed/lib/libvulfsjor.a" -o "$work/key_remains"
 }
 
 # Prints for each call: its number, its name, its pieces and its instructions.
 measure() {
     local number name pieces
-    "$work/stack" | while IFS='|' read -r number name pieces; do
+    "$work/key_remains" | while IFS='|' read -r number name pieces; do
         rm -f "$work"/count*
         valgrind --tool=callgrind --toggle-collect=counted --callgrind-out-file="$work/count" \
-            "$work/stack" "$number" >"$work/log" 2>&1
+            "$work/key_remains" "$number" >"$work/log" 2>&1
         printf '%s|%s|%s|%s\n' "$number" "$name" "$pieces" "$(sed -n 's/^totals: //p' "$work/count")"
     done
 }
@@ -42,7 +45,7 @@ for family in b s; do
             build $family $level "$from"
             measure >"$work/$family-$level-$([ "$from" = "$work/dist" ] && echo without || echo with)"
             [ "$from" = "$top/dist" ] || echo "BLAKE2$family, $level, most pieces without the zeros," \
-                "a hash in one call and .._many: $("$work/stack" most)" >&2
+                "a hash in one call and .._many: $("$work/key_remains" most)" >&2
         done
     done
 done

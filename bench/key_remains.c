@@ -1,10 +1,11 @@
-/* Makes keyed calls of vulfsjor.h, for bench/stack.sh, over the search of c/tests/key_scan.c:
+/* Makes keyed calls of vulfsjor.h, for bench/key_remains.sh, over the search of c/tests/key_scan.c:
  *
- *   stack             for each call a line: its number, its name, and how many pieces of the key
- *                     it leaves
- *   stack NUMBER      that call, in the function `counted`
- *   stack most        the largest number of pieces after a hash in one call, and after `.._many`
- *                     with one to nine messages, each over messages of 0 to 1,000 bytes */
+ *   key_remains           for each call a line: its number, its name, and how many pieces of the
+ *                         key it leaves
+ *   key_remains NUMBER    that call, in the function `counted`
+ *   key_remains most      the largest number of pieces after a hash in one call, and after
+ *                         `.._many` with one to nine messages, each over messages of 0 to 1,000
+ *                         bytes */
 #define main key_scan
 #include "../c/tests/key_scan.c"
 #undef main

@@ -1,6 +1,6 @@
 // BLAKE2b and BLAKE2s in plain C, as RFC 7693, section 3, writes them: the digest of a whole message without a key.
 // WIDE is defined for BLAKE2b. The compiler is asked to write out the rounds, so that the schedule costs nothing.
-#include "digests.h"
+#include "plain.h"
 
 #include <string.h>
 
