@@ -20,11 +20,10 @@ manifest=$top/dist/MANIFEST
 crates=(blake2_ffi b2 b2sum)
 # Its files, except those by which they are assembled: dist/*.S, dist/macros.h and dist/*/*.inc are
 # written by hand.
-files=(aarch64/b2.s aarch64/b2sum.s aarch64/vulfsjor.s c/vulfsjor.c wasm/vulfsjor.wasm
-    x86_64/b2-v2.s x86_64/b2-v3.s x86_64/b2-v4.s
-    x86_64/b2sum-v2.s x86_64/b2sum-v3.s x86_64/b2sum-v4.s
+files=(aarch64/b2.s aarch64/b2sum.s aarch64/vulfsjor.s c/vulfsjor.c rust/vulfsjor.rs
+    wasm/vulfsjor.wasm x86_64/b2.s x86_64/b2sum.s
     x86_64/vulfsjor-v2.s x86_64/vulfsjor-v3.s x86_64/vulfsjor-v4.s)
-source "$top/tools/kit.sh"
+source "$top/tools/toolchain.sh"
 
 stop() {
     echo "dist.sh: $1" >&2
@@ -39,11 +38,29 @@ crate_of() {
 }
 
 # The functions of a crate that C has instead, by c/b2sum.c.
-theirs_of() { [ "$1" != b2sum ] || printf 'b2sum::%s\n' hashes::absorb_tree disk::hide_memory; }
+theirs_of() {
+    [ "$1" != b2sum ] ||
+        printf 'b2sum::%s\n' hashes::absorb_tree disk::hide_memory disk::show_progress
+}
 
 # The functions of the C library that a crate gets from C of ours instead: those of c/b2sum.c. They
 # have names of their own, so nothing else in the program gets them.
-ours_of() { [ "$1" != b2sum ] || printf '%s=b2sum_%s\n' open open read read __sysv_signal signal; }
+ours_of() { [ "$1" != b2sum ] || printf "%s=b2sum_%s\n" open open read read close close \
+    __sysv_signal signal __xpg_strerror_r strerror; }
+
+# Writes an edit of LLVM's text of a crate, by which its programs hash by the functions of the library
+# that shared_functions.txt names: the library exports them, so LLVM keeps their arguments as they are, and a
+# program has only calls of them, so LLVM draws no conclusion from their bodies.
+write_hashing() {
+    local names
+    names=$(paste -sd '|' "$top/tools/shared_functions.txt" | sed 's/|/\\|/g')
+    if [ "$1" = blake2_ffi ]; then
+        echo "s/^define internal \(.*@\"\($names\)\"(\)/define \1/"
+    else
+        printf '%s\n' "/^define internal .*@\"\($names\)\"(/,/^}/{" '/^define /!d' \
+            's/^define internal \(.*)\)[^)]*{$/declare \1/' '}'
+    fi
+}
 
 # Whether a crate has BLAKE2bp and BLAKE2sp.
 has_parallel() { crates_of "$1" | grep -x blake2_parallel >/dev/null; }
@@ -63,12 +80,13 @@ sources() {
     cd "$top" && {
         find "${folders[@]}" -name '*.rt' | LC_ALL=C sort |
             xargs awk 'FNR == 1 { print "== " FILENAME } !/^[ \t]*\/\//' &&
-            version _ &&
+            code_number &&
             cat tools/plain_names.py tools/aarch64_attributes.csv tools/parallel_attributes.csv \
                 tools/x86_64_v2.sed tools/x86_64_v4.sed tools/b2sum.sed tools/clear_registers.py \
-                tools/one_text.py tools/scalar.sed tools/wasm_to_c.{py,c} \
+                tools/object_formats.py tools/shared_functions.txt tools/scalar.sed \
+                tools/wasm_to_c.{py,c} tools/wasm_to_rust.{py,rs} \
                 tests/machine/wasm_format.py &&
-            sed '/^ \*/d;/^\/\*/d;s/\/\*.*\*\///' c/include/vulfsjor.h
+            sed '/^ \*/d;/^\/\*/d;s/\/\*.*\*\///;/^#define VULFSJOR_VERSION/d' c/include/vulfsjor.h
     } | sha256sum | cut -d ' ' -f 1
 }
 
@@ -93,7 +111,7 @@ has_same_tools() { [ "$(said tools)" = "$(hash_of_tools)" ]; }
 # ---- building
 
 # Builds a file of dist/ in this folder, over the proved libraries. It is compiled for Linux, and
-# tools/one_text.py makes it a text for every system.
+# tools/object_formats.py makes it a text for every system.
 #
 # No file uses the red zone, which Windows overwrites, or x18, which macOS and Windows reserve.
 #
@@ -109,25 +127,31 @@ has_same_tools() { [ "$(said tools)" = "$(hash_of_tools)" ]; }
 # A name in a list of attributes that is not in the code makes clang print a line, and then the build
 # fails.
 #
-# Rattle has no x86-64-v4, so clang gets it after x86-64-v3 (make_v4_toolchain in kit.sh).
+# Rattle has no x86-64-v4, so clang gets it after x86-64-v3 (make_v4_toolchain in toolchain.sh).
 #
-# The file in C is translated from a WebAssembly module without vectors (make_scalar_toolchain).
+# The programs for x86-64 are compiled for x86-64-v2.
+#
+# The files in C and in Rust are translated from one WebAssembly module without vectors
+# (make_scalar_toolchain).
 build() {
     local to=$1/$2 file=$2 crate kind=(--crate-type staticlib) more=() room target cpu end
     local make=make_toolchain
     crate=$(crate_of "$file") room=$work/$crate
     case $file in
+        x86_64/b2*.s) target=x86_64-unknown-linux-gnu cpu=x86-64-v2 end=x86 \
+            more=(-mllvm -force-attribute=noredzone) ;;
         x86_64/*-v2.s) target=x86_64-unknown-linux-gnu cpu=x86-64-v2 end=v2 \
             make=make_v2_toolchain more=(-mllvm -force-attribute=noredzone) ;;
         x86_64/*-v3.s) target=x86_64-unknown-linux-gnu cpu=x86-64-v3 end=v3 \
             more=(-mllvm -force-attribute=noredzone) ;;
         x86_64/*-v4.s) target=x86_64-unknown-linux-gnu cpu=x86-64-v3 end=v4 \
             make=make_v4_toolchain more=(-mllvm -force-attribute=noredzone) ;;
+        aarch64/b2*.s) target=aarch64-unknown-linux-gnu cpu=generic end=a64 more=(-ffixed-x18) ;;
         aarch64/*.s) target=aarch64-unknown-linux-gnu cpu=generic end=arm more=(-ffixed-x18) ;;
         wasm/*.wasm) target=wasm64-unknown-unknown cpu=lime1 more=(-msimd128) ;;
-        c/*.c) target=wasm64-unknown-unknown cpu=lime1 make=make_scalar_toolchain ;;
+        c/*.c | rust/*.rs) target=wasm64-unknown-unknown cpu=lime1 make=make_scalar_toolchain ;;
     esac
-    if [[ $file != c/* ]]; then # whose kernels, without vectors, are long as they are
+    if [ "$crate" = blake2_ffi ] && [[ $file != c/* && $file != rust/* ]]; then # the others have no kernels
         attributes_of "$crate" "$target" >"$room.csv"
         [ ! -s "$room.csv" ] || more+=(-mllvm "-forceattrs-csv-path=$room.csv")
         ! has_parallel "$crate" || more+=(-mllvm -inline-cost-full)
@@ -135,7 +159,8 @@ build() {
     [ "$crate" = blake2_ffi ] || kind=()
     [ "$crate" != b2sum ] || cp "$top/tools/b2sum.sed" "$room/toolchain-b2sum.sed"
     echo "dist.sh: building $file" >&2
-    rm -rf "$room"/toolchain{,.sed,.py}
+    rm -rf "$room"/toolchain{,.sed,.py,-hashing.sed}
+    [[ $file != *.s ]] || write_hashing "$crate" >"$room/toolchain-hashing.sed"
     $make "$room/toolchain" "${more[@]}"
     mkdir -p "$(dirname "$to")"
     build_crate "$top/crates/$crate" "$crate" "$(libraries_of "$crate")" "$room" "${kind[@]}" \
@@ -146,17 +171,17 @@ build() {
     }
     if [ "${file##*.}" = wasm ]; then
         link_module "$room/built" "$to" 2>>"$room/log"
-    elif [ "${file##*.}" = c ]; then
+    elif [[ $file == c/* || $file == rust/* ]]; then
         link_module "$room/built" "$room/module.wasm" 2>>"$room/log"
-        "$top/tools/wasm_to_c.py" "$room/module.wasm" "$top/c/include/vulfsjor.h" >"$to"
+        "$top/tools/wasm_to_${file%%/*}.py" "$room/module.wasm" "$top/c/include/vulfsjor.h" >"$to"
     else
         {
             echo "/* Made by tools/dist.sh from the proved crate $crate." \
                 "dist/README.md says how. */"
-            "$top/tools/plain_names.py" "_$(version _)_$end" \
+            "$top/tools/plain_names.py" "_$(code_number)_$end" \
                 $(theirs_of "$crate") $(ours_of "$crate") \
                 <"$room/toolchain/module.s" >"$room/module.s"
-            "$top/tools/one_text.py" <"$room/module.s"
+            "$top/tools/object_formats.py" $(sed 's/::/../g' "$top/tools/shared_functions.txt") <"$room/module.s"
         } >"$to"
     fi
 }
@@ -219,7 +244,7 @@ case ${1-},$# in
     --help,1 | -h,1) usage && exit ;;
     current,1)
         # The tools of the two, before one that is absent makes a difference.
-        for tool in awk cat cut diff find sed sha256sum sort tr xargs; do
+        for tool in awk cat cut diff find sed sha256sum sort xargs; do
             has "$tool" || { echo "dist.sh: there is no $tool on the PATH" >&2 && exit 2; }
         done
         is_whole && is_current

@@ -1,7 +1,10 @@
 #!/usr/bin/env python3
-"""Writes the lists of functions in c/choose.c and c/calls.h from the prototypes of c/include/vulfsjor.h, and compares
-those prototypes and structs with the exports of crates/blake2_ffi and with rust/src/library.rs: names, types and order.
-With --check it also compares the two lists, and writes nothing.
+"""Writes the lists of functions in c/choose.c and c/thunks.h from the prototypes of c/include/vulfsjor.h, and c/abi.txt and
+c/vulfsjor.map, and compares those prototypes and structs with the exports of crates/blake2_ffi and with
+rust/src/library.rs: names, types and order. With --check it also compares the four files, and writes nothing.
+
+A function that is new in c/abi.txt gets the node of this version. If a line of an earlier version has changed or is gone,
+the library needs another soname, and nothing is written.
 
 usage: tools/exports.py [--check]
 """
@@ -10,9 +13,12 @@ import re
 import sys
 import textwrap
 
-from sources import TOP, items, modules, read
+from read_sources import TOP, items, modules, read, version
 
-HEADER, CHOOSE, CALLS, LIBRARY = "c/include/vulfsjor.h", "c/choose.c", "c/calls.h", "rust/src/library.rs"
+HEADER, CHOOSE, CALLS, LIBRARY = "c/include/vulfsjor.h", "c/choose.c", "c/thunks.h", "rust/src/library.rs"
+ABI, MAP = "c/abi.txt", "c/vulfsjor.map"
+# The function of the shared library that is not in the assembly.
+IN_C = "uint32_t vulfsjor_library_version(void)"
 NUMBERS = {"uint8_t": "u8", "uint32_t": "u32", "uint64_t": "u64", "int32_t": "i32", "size_t": "usize", "void": ""}
 # The structs of the header, by their names without vulfsjor_: the file of Rattle that has each, its name there, and its
 # name in Rust if its fields are there too.
@@ -23,17 +29,22 @@ STRUCTS = {
     "blake2bp_state": ("crates/blake2_parallel/src/blake2b.rt", "State", None),
     "blake2sp_lanes": ("crates/blake2_parallel/src/lanes/blake2s.rt", "Lanes", None),
     "blake2sp_state": ("crates/blake2_parallel/src/blake2s.rt", "State", None),
+    "blake2xb_reader": ("crates/blake2_xof/src/reader/blake2b.rt", "Reader", None),
+    "blake2xb_state": ("crates/blake2_xof/src/blake2b.rt", "State", None),
+    "blake2xs_reader": ("crates/blake2_xof/src/reader/blake2s.rt", "Reader", None),
+    "blake2xs_state": ("crates/blake2_xof/src/blake2s.rt", "State", None),
     "tree_state": ("crates/blake2_state/src/tree.rt", "TreeState", None),
     "tree": ("crates/blake2_ffi/src/lib.rt", "NodeParameters", "Tree"),
     "message": ("crates/blake2_ffi/src/lib.rt", "Text", "Text"),
-    "limits": ("crates/blake2_tree/src/plan.rt", "Limits", "Limits"),
-    "plan": ("crates/blake2_tree/src/plan.rt", "Plan", "Plan"),
-    "part": ("crates/blake2_tree/src/plan.rt", "Part", "Part"),
+    "limits": ("crates/blake2_tree/src/thread_plan.rt", "Limits", "Limits"),
+    "plan": ("crates/blake2_tree/src/thread_plan.rt", "Plan", "Plan"),
+    "part": ("crates/blake2_tree/src/thread_plan.rt", "Part", "Part"),
 }
 # What the types are called in the header, besides those.
 NAMES = {"NodeParameters": "tree", "Text": "message", "Tree": "tree", "TreeState": "tree_state",
          "Blake2bState": "blake2b_state", "Blake2sState": "blake2s_state", "Blake2bpState": "blake2bp_state",
-         "Blake2spState": "blake2sp_state", "Limits": "limits", "Plan": "plan", "Part": "part"}
+         "Blake2spState": "blake2sp_state", "Blake2xbState": "blake2xb_state", "Blake2xsState": "blake2xs_state",
+         "Limits": "limits", "Plan": "plan", "Part": "part"}
 # Names that differ: C's are those of the BLAKE2 document.
 SAME = {"persona": "personal", "persona_length": "personal_length", "messages_length": "count",
         "bytes_length": "length"}
@@ -54,7 +65,7 @@ def of_c(words):
 
 def state_of(name):
     """What State is called in C in a module of this name, or in a struct that C calls so: blake2b_state in others."""
-    family = re.search("blake2[bs]p?", name)
+    family = re.search("blake2x?[bs]p?", name)
     return (family[0] if family else "blake2b") + "_state"
 
 
@@ -64,7 +75,9 @@ def of_rust(words, state):
     type_ = re.sub(r"<'\w+>|'\w+ ", "", type_).replace("LABEL_BYTES", "16")
     type_ = re.sub(r"\[\[(\w+); (\d+)\]; (\d+)\]", r"\1[\3][\2]", type_)
     type_ = re.sub(r"\[(\w+); (\d+)\]", r"\1[\2]", type_)
-    names = {"State": state, "Lanes": state.replace("_state", "_lanes"), **NAMES}
+    type_ = type_.replace("root::State", state.replace("x", ""))
+    names = {"State": state, "Lanes": state.replace("_state", "_lanes"), "Reader": state.replace("_state", "_reader"),
+             **NAMES}
     type_ = re.sub(r"[A-Z]\w*", lambda m: names.get(m[0], m[0]), type_)
     slice_ = re.fullmatch(r"(&|&mut )\[(\w+)\]", type_)
     if slice_:
@@ -137,7 +150,7 @@ def differences():
         for place, type_ in ((file, rattle), (LIBRARY, rust)):
             if type_:
                 given = [each for one in fields(read(place), type_) or () for each in of_rust(one, state_of(name))]
-                if re.search("_(state|lanes)$", name):  # whose layout in C is that of 64 bits on every platform
+                if re.search("_(state|lanes|reader)$", name):  # whose layout in C is that of 64 bits on every platform
                     given = [(field, "u64" if each == "usize" else each) for field, each in given]
                 if given != fields_of_c:
                     yield f"{place}: {type_} is not as vulfsjor_{name} of {HEADER}"
@@ -161,12 +174,53 @@ def blocks(line_of):
 
 
 def in_calls(name, result, given):
-    """The lines of calls.h, of at most 100 columns, which no declaration is cut by."""
+    """The lines of thunks.h, of at most 100 columns, which no declaration is cut by."""
     names = ", ".join(of_c(one)[0] for one in given)
     kind, type_ = ("CALL_VOID", "") if result == "void" else ("CALL", f" {result},")
     words = ", ".join(one.replace(" ", "~") for one in given) or "void"
     lines = textwrap.wrap(f"{kind}({name},{type_} ({words}), ({names}))", 100, subsequent_indent="     ")
     return "\n".join(lines).replace("~", " ")
+
+
+def layouts():
+    """The structs of the header: a line of c/abi.txt for each."""
+    header = without_comments(read(HEADER))
+    sizes = dict(re.findall(r"sizeof\((\w+)\) == (\d+)(?! \*)\b", header))
+    for name, body in re.findall(r"typedef struct (\w+) \{(.*?)\}", header, re.DOTALL):
+        size = f" of {sizes[name]} bytes" if name in sizes else ""
+        yield f"{name}{size}", "; ".join(" ".join(one.split()) for one in body.split(";") if one.strip())
+
+
+def interface():
+    """The lines of c/abi.txt for functions and structs, in the order of the versions that added them."""
+    of_functions = [(f"{result} {name}", ", ".join(re.sub(r" ?\w+$", "", one) for one in given) or "void") for name, (result, given, _) in prototypes().items()]
+    words = [IN_C, *(f"{head}({given})" for head, given in of_functions),
+             *(f"struct {head}: {fields_}" for head, fields_ in layouts())]
+    added = {line.partition(" ")[2]: line.partition(" ")[0] for line in read(ABI).split("\n")}
+    here = f"VULFSJOR_{version().rpartition('.')[0]}"
+    return sorted((f"{added.get(one, here)} {one}" for one in words),
+                  key=lambda line: [int(each) for each in re.findall(r"\d+", line.split()[0])])
+
+
+def changed():
+    """What is not in the interface any more, of earlier versions than this one."""
+    lines, here = interface(), f"VULFSJOR_{version().rpartition('.')[0]} "
+    return [line for line in read(ABI).split("\n") if line.startswith("VULFSJOR_") and not line.startswith(here)
+            and line not in lines]
+
+
+def nodes():
+    """The script of versions for the linker, one node for each version that added functions."""
+    found: dict = {}
+    for line in interface():
+        if function := re.search(r"(\w+)\(", line):
+            found.setdefault(line.split()[0], []).append(function[1])
+    text, above = "/* The functions of the shared library, as tools/exports.py writes them from abi.txt. */\n", ""
+    for node, names in found.items():
+        text += "".join([f"{node} {{\n    global:\n", *(f"        {name};\n" for name in names),
+                         "" if above else "    local:\n        *;\n", f"}}{above};\n"])
+        above = f" {node}"
+    return text
 
 
 def lists():
@@ -175,16 +229,21 @@ def lists():
     yield CHOOSE, re.sub(r'^CALL\("[^.]*"\)\n(?=#endif)', lambda _: lines, read(CHOOSE), flags=re.MULTILINE)
     yield CALLS, re.sub(r"^CALL(_VOID)?\(vulfsjor.*\Z", lambda _: blocks(in_calls), read(CALLS),
                         flags=re.MULTILINE | re.DOTALL)
+    head = re.match(r"(?:#.*\n|\n)*", read(ABI))[0]
+    yield ABI, head + "\n".join(interface()) + "\n"
+    yield MAP, nodes()
 
 
 def main():
     """Runs the program."""
     if sys.argv[1:] not in ([], ["--check"]):
         sys.exit("usage: tools/exports.py [--check]")
-    wrong = list(differences())
+    wrong = [*differences(), *(f"{ABI}: the soname has to change, since this did: {line}" for line in changed())]
+    if wrong and not sys.argv[1:]:
+        sys.exit("\n".join(wrong))
     for path, text in lists():
         if sys.argv[1:]:
-            wrong += [f"{path}: the functions are not those of {HEADER}: run tools/exports.py"] * (text != read(path))
+            wrong += [f"{path} is not as {HEADER}: run tools/exports.py"] * (text != read(path))
         else:
             with open(os.path.join(TOP, path), "w", encoding="utf-8") as file:
                 file.write(text)

@@ -1,5 +1,5 @@
 #!/usr/bin/env python3
-"""Makes the man pages docs/b2.1 and docs/b2sum.1 from docs/PROGRAM.md and docs/B2SUM.md, without the sections on this
+"""Makes the man pages docs/b2.1 and docs/b2sum.1 from docs/B2.md and docs/B2SUM.md, without the sections on this
 repository.
 
     tools/manual.py            writes them
@@ -11,12 +11,12 @@ import shutil
 import subprocess
 import sys
 
-from sources import TOP, Unreadable, read, version
+from read_sources import TOP, Unreadable, read, version
 
 DATE = "2026-11-26"
 # For each program its page, what it does, and what to see also.
 PROGRAMS = {
-    "b2": ("docs/PROGRAM.md", "BLAKE2 digests, tags, transcripts and hash trees of standard input",
+    "b2": ("docs/B2.md", "BLAKE2 digests, tags, transcripts and hash trees of standard input",
            "b2sum openssl\\-dgst"),
     "b2sum": ("docs/B2SUM.md", "print and check BLAKE2 digests of files", "b2 cksum b3sum"),
 }
@@ -44,7 +44,7 @@ def block(part):
         return ".PP\n" + inline(part.replace("./b2", "b2"))
     rows = [[cell.strip() for cell in line.strip("|").split(" | ")] for line in lines[2:]]
     if not all(len(row) in (2, 3) for row in rows):
-        raise Unreadable(f"docs/PROGRAM.md: a row of the table {lines[0]!r} does not have two or three cells")
+        raise Unreadable(f"docs/B2.md: a row of the table {lines[0]!r} does not have two or three cells")
     last = [row if len(row) == 2 else [f"{row[1]} (status {row[0].strip()})", row[2]] for row in rows]
     return "\n".join(f".TP\n{inline(head)}\n{inline(text)}" for head, text in last)
 

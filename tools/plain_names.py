@@ -1,10 +1,10 @@
 #!/usr/bin/env python3
-"""Gives the symbols of an assembly text plain names that end in the version and the build:
+"""Gives the symbols of an assembly text plain names that end in the number of the code and the build:
 
-    tools/plain_names.py _0_1_0_v3 [THEIRS..] [NAME=OURS..] <module.s >file.s
+    tools/plain_names.py _1_v3 [THEIRS..] [NAME=OURS..] <module.s >file.s
 
 Rattle's names stand in quotes, as "blake2_compress::many::blake2b::outputs::<=64>", which not every assembler takes. This one
-becomes blake2_compress..many..blake2b..outputs..64_0_1_0_v3. Exported names and local labels get the end too, so that several
+becomes blake2_compress..many..blake2b..outputs..64_1_v3. Exported names and local labels get the end too, so that several
 such texts can stand in one program, and in one run of an assembler. Exported names are hidden: a program's objects see
 them, and a shared library that is linked from them does not export them. Of each function THEIRS, by its name in Rattle,
 which C has instead, the text calls one that it has not, and exports the proved one as NAME::proved. A call of the function

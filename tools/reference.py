@@ -13,7 +13,7 @@ import shutil
 import sys
 from itertools import groupby, takewhile
 
-from sources import TOP, Unreadable, anchor, exported, modules, read, words_of
+from read_sources import TOP, Unreadable, anchor, exported, modules, read, words_of
 
 FOLDER = "docs/reference"
 NOTE = "<!-- Written by tools/reference.py from the sources: do not edit. -->"

@@ -2,7 +2,8 @@
  * in this order. A word such as @FAMILY@ stands for what it knows. This file is not compiled. */
 
 /* ---- head */
-/* BLAKE2b and BLAKE2s for processors without assembly in dist/: the functions of vulfsjor.h, in C99.
+/* BLAKE2b, BLAKE2s, BLAKE2bp and BLAKE2sp for processors without assembly in dist/: the functions of
+ * vulfsjor.h, in C99.
  *
  * Do not edit. tools/wasm_to_c.py translates the WebAssembly module that the proved crate blake2_ffi
  * compiles to, instruction by instruction. The translator and your C compiler are tested, not
@@ -25,6 +26,12 @@
 #endif
 
 #define NAME(name) vulfsjor_ffi_##name
+
+typedef uint32_t u32;
+typedef uint64_t u64;
+
+/* The library's version is that of the header. */
+uint32_t vulfsjor_library_version(void) { return VULFSJOR_VERSION_NUMBER; }
 
 /* A function that no other contains, so that SCRUB reaches what it leaves on the stack. */
 #if defined(__GNUC__)
@@ -54,16 +61,17 @@
 #endif
 #define ORDER(n) \
     static inline uint##n##_t in_order##n(uint##n##_t x) { IN_ORDER(n) }
-#define LOAD(n)                                           \
-    static inline uint##n##_t load##n(uint64_t a) {       \
-        uint##n##_t x;                                    \
-        memcpy(&x, POINTER(a), sizeof x);                 \
-        return in_order##n(x);                            \
+#define LOAD(n, result)                        \
+    static inline result load##n(uint64_t a) { \
+        uint##n##_t x;                         \
+        memcpy(&x, POINTER(a), sizeof x);      \
+        return in_order##n(x);                 \
     }
-#define STORE(n)                                              \
-    static inline void store##n(uint64_t a, uint##n##_t x) {  \
-        x = in_order##n(x);                                   \
-        memcpy(POINTER(a), &x, sizeof x);                     \
+/* The lowest n bits of a number. */
+#define STORE(n)                                               \
+    static inline void store##n(uint64_t a, uint64_t number) { \
+        const uint##n##_t x = in_order##n((uint##n##_t)number); \
+        memcpy(POINTER(a), &x, sizeof x);                      \
     }
 
 /* Instructions that C has no operator for. */
@@ -101,19 +109,19 @@ ORDER(32)
 ORDER(64)
 
 /* ---- load8 */
-static inline uint8_t load8(uint64_t a) { return *POINTER(a); }
+static inline uint32_t load8(uint64_t a) { return *POINTER(a); }
 
 /* ---- load16 */
-LOAD(16)
+LOAD(16, uint32_t)
 
 /* ---- load32 */
-LOAD(32)
+LOAD(32, uint32_t)
 
 /* ---- load64 */
-LOAD(64)
+LOAD(64, uint64_t)
 
 /* ---- store8 */
-static inline void store8(uint64_t a, uint8_t x) { *POINTER(a) = x; }
+static inline void store8(uint64_t a, uint64_t number) { *POINTER(a) = (uint8_t)number; }
 
 /* ---- store16 */
 STORE(16)
@@ -130,7 +138,8 @@ static inline void copy(uint64_t to, uint64_t from, uint64_t length) {
 }
 
 /* ---- fill */
-static inline void fill(uint64_t to, uint32_t byte, uint64_t length) {
+/* Apart, since GCC fills some lengths more slowly where it knows them. */
+APART void fill(uint64_t to, uint32_t byte, uint64_t length) {
     if (length) memset(POINTER(to), (unsigned char)byte, (size_t)length);
 }
 
@@ -171,13 +180,24 @@ DIVIDE(rem_u, 32, %)
 DIVIDE(rem_u, 64, %)
 
 /* ---- scrub */
-/* Overwrites the stack below the caller. */
-#define SCRUB(name, length)                                                    \
-    APART void name(void) {                                                    \
-        volatile uint64_t room[(length) / 8];                                  \
-        size_t i;                                                              \
-        for (i = 0; i < sizeof room / sizeof *room; i++) room[i] = 0;          \
+/* Overwrites the stack below the caller, by as much at once as the compiler can. */
+#if defined(__GNUC__)
+typedef u64 wide __attribute__((vector_size(32), aligned(8)));
+#else
+typedef u64 wide;
+#endif
+#define SCRUB(name, length)                                                           \
+    APART void name(void) {                                                           \
+        volatile wide room[(length) / sizeof(wide)];                                  \
+        size_t i;                                                                     \
+        for (i = 0; i < sizeof room / sizeof *room; i++) room[i] = (wide){0};         \
     }
+
+/* ---- frame */
+/* The part of the stack of a function, and its end, as aligned as the module's. */
+#define FRAME(words)       \
+    uint64_t frame[words]; \
+    const uint64_t top = (ADDRESS(frame) + sizeof frame) & ~UINT64_C(15)
 
 /* ---- many */
 @HEAD@ {

@@ -16,8 +16,7 @@ Three things are more than a translation, and each is refused in any other form:
     the array. Whether the stack has room is not asked (C cannot know).
   - The flag that a call is under way (Rattle's global 1) is left out, because threads would share it.
   - scrub_stack::<=N>, which does nothing in WebAssembly, becomes a function that overwrites N bytes of the C stack, and
-    MARGIN more, or MARGIN_OF_LEAVES in calls of BLAKE2bp and BLAKE2sp: without vector registers, several leaves at once
-    need more of the stack.
+    MARGIN more.
 """
 import os
 import re
@@ -31,7 +30,7 @@ from wasm_format import Module, Reader  # noqa: E402
 
 BITS = {"i32": 32, "i64": 64}
 LONGEST = 200  # characters of an expression, about
-MARGIN, MARGIN_OF_LEAVES = 1024, 6144  # bytes of the stack
+MARGIN = 1024  # bytes of the stack
 COMPARISONS = {"eq": "==", "ne": "!=", "lt": "<", "gt": ">", "le": "<=", "ge": ">="}
 OPERATORS = {"add": "+", "sub": "-", "mul": "*", "and": "&", "or": "|", "xor": "^"}
 TOP, FRAME = "top", "frame"  # what an address on the stack is counted from
@@ -41,6 +40,7 @@ RUNTIME = {
     "__rattle_leave": "i32.const 0; global.set 1; end",
     "__rattle_trap": "unreachable; end",
 }
+ENTER = "block; call __rattle_enter; i32.eqz; br_if 0; call __rattle_trap; unreachable; end"
 SETTLE = "block; global.get 0; i64.const 16; i64.lt_s; br_if 0; return; end; unreachable; end"
 SCRUB = ("block; global.get 0; local.tee 0; i64.const 16; i64.lt_s; br_if 0; call SETTLE; local.get 0; global.set 0; "
          "return; end; unreachable; end")
@@ -56,15 +56,9 @@ def refuse_unless(condition, why):
         raise Refused(why)
 
 
-def c_type(type_):
-    """C's type for one of WebAssembly."""
-    refuse_unless(type_ in BITS, f"the type {type_}")
-    return f"uint{BITS[type_]}_t"
-
-
-def constant(type_, n):
-    """A number of this type in C."""
-    return f"UINT{BITS[type_]}_C({n if n < 1 << 16 else hex(n)})"
+def literal(n):
+    """A number without a type."""
+    return str(n) if n < 1 << 15 else hex(n)
 
 
 def bare(text):
@@ -78,18 +72,33 @@ def bare(text):
 
 
 class Value:
-    """An operand: its type and its expression in C, and what is known of it: the variables that it reads, whether it
-    reads memory, a number if it is one, its condition if it is the result of a comparison, and its place if it is an
-    address on the stack: what that is counted from, and how many bytes."""
+    """An operand: its type and its expression, and what is known of it: the variables that it reads, whether it reads
+    memory, a number if it is one, its condition if it is the result of a comparison, its operator if it has one, what
+    is shifted right and by how many bits, and its place if it is an address on the stack: what that is counted from,
+    and how many bytes."""
 
     def __init__(self, type_, text, of=(), reads=(), loads=False):
         self.type, self.text, self.number, self.condition, self.place = type_, text, None, None, None
+        self.operator, self.part = "", (text, 0)
         self.reads = {*reads}.union(*(value.reads for value in of))
         self.loads = loads or any(value.loads for value in of)
 
-    def right(self):
-        """As an operand on the right, where a small number needs no type."""
-        return str(self.number) if self.number is not None and self.number < 1 << 15 else self.text
+    def plain(self):
+        """Its expression where its type is known."""
+        return bare(self.text) if self.number is None else literal(self.number)
+
+    def before(self, operator):
+        """Its expression before an operator and another operand that is not a number: a + b in a + b - c."""
+        is_one_of_a_row = self.operator and (self.operator == operator or self.operator + operator in ("+-", "-+"))
+        return self.plain() if is_one_of_a_row else self.text
+
+    def beside(self, other):
+        """Its expression next to another operand, whose type it gets if it is a number and the other is not."""
+        return self.text if other.number is not None else self.typeless()
+
+    def typeless(self):
+        """Its expression where another operand has its type."""
+        return self.text if self.number is None else literal(self.number)
 
     def signed(self):
         """Its number, from -2^63 on."""
@@ -97,20 +106,86 @@ class Value:
         return self.number - (self.number >> w - 1 << w)
 
 
-def number(type_, n):
-    """An operand that is a number."""
-    value = Value(type_, constant(type_, n))
-    value.number = n
-    return value
+class C:
+    """How a function is written in C."""
 
+    @staticmethod
+    def type(type_):
+        """The type for one of WebAssembly."""
+        refuse_unless(type_ in BITS, f"the type {type_}")
+        return f"u{BITS[type_]}"
 
-def comparison(condition, of):
-    """The result of a comparison."""
-    value = Value("i32", f"(uint32_t)({condition})", of)
-    value.condition = condition
-    return value
+    @staticmethod
+    def number(type_, n):
+        """A number of a type."""
+        return f"UINT{BITS[type_]}_C({literal(n)})"
 
+    @staticmethod
+    def cast(type_, text):
+        """An expression of another type."""
+        return f"({C.type(type_)}){text}"
 
+    @staticmethod
+    def argument(_, value):
+        """An operand as an argument of another type."""
+        return value.plain()
+
+    @staticmethod
+    def choice(c, a, b):
+        """One of two."""
+        return f"({c.condition or c.text} ? {a} : {b})"
+
+    @staticmethod
+    def opposite(text):
+        """All bits changed."""
+        return f"(~{text})"
+
+    @staticmethod
+    def operation(a, operator, b):
+        """An operator between two operands."""
+        first = a.beside(b) if a.number is not None else a.before(operator)
+        return f"({first} {operator} {b.beside(a)})"
+
+    @staticmethod
+    def condition(c):
+        """An operand as a condition."""
+        return c.condition or c.plain()
+
+    @staticmethod
+    def declarations(variables):
+        """The declarations of variables, of which each has a name, a type, and whether it is 0 at first."""
+        names = {type_: [name + " = 0" * is_zero for name, each, is_zero in variables if each == type_]
+                 for type_ in BITS}
+        return [f"{C.type(type_)} {', '.join(names[type_])};" for type_ in BITS if names[type_]]
+
+    @staticmethod
+    def frame(words):
+        """The part of the stack, of so many numbers, and its end."""
+        return [f"FRAME({words});"]
+
+    @staticmethod
+    def unused(name):
+        """What says that a parameter is not used."""
+        return f"(void){name};"
+
+    @staticmethod
+    def statements(lines):
+        """The statements of lines: each sets a variable, or None, to an expression, or is a branch or a mark."""
+        texts = []
+        for sets, text in lines:
+            if isinstance(text, Branch):
+                where = f"goto {text.block.label};" if text.block else "return;"
+                texts.append(f"if ({text.condition}) {where}" if text.condition else where)
+            elif isinstance(text, Mark):
+                texts += [f"{text.block.label}:;"] * (text.block.is_loop == text.is_begin)
+            elif sets:
+                text = re.sub(rf"^({sets}) = \1 ([+*&|^]|<<|>>|-(?!.* [-+] )) ", r"\1 \2= ", f"{sets} = {text};")
+                texts.append(re.sub(rf"^({sets}) = (.+) ([+*&|^]) \1;$", r"\1 \3= \2;", text))
+            else:
+                texts.append(str(text).rstrip(";") + ";")
+        texts = [text for text, after in zip(texts, [*texts[1:], ""]) if text != f"goto {after[:-2]};"]
+        used = {word for text in texts for word in re.findall(r"goto (l\d+);", text)}
+        return [text for text in texts if not text.endswith(":;") or text[:-2] in used]
 class Block:
     """A block or a loop that is open: its label, the operands below it, and the places of locals where its label is,
     if anything has gone there."""
@@ -119,22 +194,70 @@ class Block:
         self.is_loop, self.label, self.height, self.places = is_loop, label, height, places
 
 
+class Branch:
+    """A branch to a block, or to the end of the function, with a condition or without."""
+
+    def __init__(self, block, condition=""):
+        self.block, self.condition = block, condition
+
+
+class Mark:
+    """The begin or the end of a block, and whether that is reached."""
+
+    def __init__(self, block, is_begin, is_reached=True):
+        self.block, self.is_begin, self.is_reached = block, is_begin, is_reached
+
+
+class Write:
+    """A statement that writes a number to memory, or zeros: the address, the number and how many bytes of it; what the
+    address is counted from, and how many bytes; the text of the number of which it is a part, and how many bits that is
+    shifted by, or None if memory is read; and the statements that it is made of."""
+
+    def __init__(self, address, argument, size, place, part, of=()):
+        self.address, self.argument, self.size, self.place, self.part = address, argument, size, place, part
+        self.function = f"store{8 * size}" if size in (1, 2, 4, 8) else "fill"
+        self.of = of or [self]
+
+    def __str__(self):
+        last = f", {self.size}" if self.function == "fill" else ""
+        return f"{self.function}({self.address}, {self.argument}{last})"
+
+    def joined(self, other):
+        """What writes what this and another after it do, if their places touch and they write zeros, or parts of a
+        number that touch there too. Nothing for others."""
+        low, high = sorted((self, other), key=lambda write: write.place)
+        (base, begin), bits = low.place, 8 * low.size
+        if not low.part or not high.part or high.place != (base, begin + low.size):
+            return None
+        if not low.argument == high.argument == "0" and high.part != (low.part[0], low.part[1] + bits):
+            return None
+        return Write(low.address, low.argument, low.size + high.size, low.place, low.part, self.of + other.of)
+
+    def statements(self):
+        """This, if there is such a statement, or those that it is made of."""
+        return [self] if self.function != "fill" or self.argument == "0" else self.of
+
+
 def common(a, b):
-    """What two sets of places agree in. None is that of code that is not reached."""
+    """The places of locals that are set in both of two sets, if these agree in them. None is that of code that is not
+    reached."""
     if a is None or b is None:
         return b if a is None else a
-    return {k: place for k, place in a.items() if b.get(k) == place}
+    return {k: place if b[k] == place else None for k, place in a.items() if k in b}
 
 
 class Body:
-    """The text of a function in C."""
+    """The text of a function."""
 
     def __init__(self, program, function):
-        self.program, self.function = program, function
+        self.program, self.function, self.language = program, function, program.language
         self.stack, self.blocks = [], []
-        self.lines = []             # texts, each with the variable that it sets, or None, and those that it reads
+        # The variable that a statement sets, or None, its text (or a branch or a mark), the variables that it reads,
+        # and whether it is needed if that variable is not read.
+        self.lines = []
         self.temporaries, self.labels = {}, 0
-        self.places = {}            # of locals here, or None where nothing comes
+        self.places = {}            # of the locals that are set here, or None where nothing comes
+        self.zeros = set()          # the locals that are read where they may not be set, when they are 0
         self.frame, self.align = 0, 0
         for self.at, line in enumerate(function.lines[:-1]):
             self.step(line)
@@ -145,9 +268,9 @@ class Body:
 
     # ---- statements and operands
 
-    def emit(self, text, of=(), sets=None):
-        """Writes a statement that reads these operands, and sets this variable."""
-        self.lines.append((text, sets, set().union(*(value.reads for value in of))))
+    def emit(self, text, of=(), sets=None, is_needed=True):
+        """Writes a statement of these operands, or the expression to which one sets a variable."""
+        self.lines.append((sets, text, set().union(*(value.reads for value in of)), is_needed))
 
     def push(self, value):
         """Puts an operand on the stack."""
@@ -162,12 +285,12 @@ class Body:
         refuse_unless(type_ in (None, value.type), f"an operand of another type than {type_}")
         return value
 
-    def evaluate(self, k):
+    def evaluate(self, k, is_needed=False):
         """Evaluates an operand of the stack now."""
         value = self.stack[k]
         name = f"t{len(self.temporaries)}"
         self.temporaries[name] = value.type
-        self.emit(f"{name} = {bare(value.text)};", [value])
+        self.emit(value.plain(), [value], name, is_needed)
         self.stack[k] = Value(value.type, name, reads=[name])
         self.stack[k].place = value.place
 
@@ -201,36 +324,36 @@ class Body:
         self.labels += 1
         places = None
         if is_loop:
-            self.emit(f"l{self.labels}:")
-            for k in self.assigned_below():
-                self.places.pop(k, None)
+            for k in self.assigned_below() & {*self.places}:
+                self.places[k] = None
             places = self.places
         self.blocks.append(Block(is_loop, f"l{self.labels}", len(self.stack), places))
+        self.emit(Mark(self.blocks[-1], True))
 
     def close(self):
         """Ends a block or a loop."""
         refuse_unless(self.blocks, "an end of no block")
         block = self.blocks.pop()
         refuse_unless(self.places is None or len(self.stack) == block.height, "a block with a result")
+        self.emit(Mark(block, False, self.places is not None))
         if not block.is_loop:
-            self.emit(f"{block.label}:")
             self.places = common(self.places, block.places)
 
-    def branch(self, depth):
-        """The statement that goes to a label."""
+    def branch(self, depth, condition=""):
+        """The branch that leaves so many blocks."""
         if depth == len(self.blocks):
             refuse_unless(not self.function.results, "a branch with a result")
-            return "return;"
+            return Branch(None, condition)
         refuse_unless(depth < len(self.blocks), "a branch to no block")
         block = self.blocks[-1 - depth]
         if not block.is_loop:
             block.places = common(block.places, {**self.places})
-        return f"goto {block.label};"
+        return Branch(block, condition)
 
     def leave(self):
         """Returns from the function."""
         value = [self.pop(type_) for type_ in self.function.results]
-        self.emit(f"return {bare(value[0].text)};" if value else "return;", value)
+        self.emit(f"return {value[0].plain()};" if value else "return;", value)
 
     def end_here(self):
         """Nothing comes to what follows, up to the end of the block."""
@@ -266,7 +389,7 @@ class Body:
     def number_step(self, kind, what, words):
         """Translates an instruction of a type of numbers."""
         if what == "const":
-            self.push(number(kind, int(words[0]) % (1 << BITS[kind])))
+            self.push(self.number(kind, int(words[0]) % (1 << BITS[kind])))
         elif what.startswith("load"):
             self.load(kind, what[len("load"):], int(words[0]))
         elif what.startswith("store"):
@@ -294,7 +417,7 @@ class Body:
         """A branch on a condition."""
         c = self.pop("i32")
         if c.number is None:
-            self.emit(f"if ({c.condition or bare(c.text)}) {self.branch(depth)}", [c])
+            self.emit(self.branch(depth, self.language.condition(c)), [c])
         elif c.number:
             self.do_br(depth)
 
@@ -319,25 +442,25 @@ class Body:
         """One of two operands."""
         c, b, a = self.pop("i32"), self.pop(), self.pop()
         refuse_unless(a.type == b.type, "select of two types")
-        self.push(Value(a.type, f"({c.condition or c.text} ? {a.text} : {b.text})", (a, b, c)))
+        self.push(Value(a.type, self.language.choice(c, a.beside(b), b.typeless()), (a, b, c)))
 
     def do_call(self, k):
         """A call."""
         program, name = self.program, self.program.names[k]
         if name in RUNTIME:  # no call is under way
             if name == "__rattle_enter":
-                self.push(number("i32", 0))
+                self.push(self.number("i32", 0))
             elif name == "__rattle_trap":
                 self.emit("abort();")
             return
         callee = program.functions[k]
         arguments = [self.pop(type_) for type_ in reversed(callee.parameters)][::-1]
         self.before_write()
-        text = f"{program.callee(k)}({', '.join(bare(value.text) for value in arguments)})"
+        text = f"{program.c_name(k)}({', '.join(value.plain() for value in arguments)})"
         program.calls.setdefault(self.function, set()).add(k)
         if callee.results:
-            self.push(Value(callee.results[0], text, arguments))
-            self.evaluate(-1)
+            self.stack.append(Value(callee.results[0], text, arguments))
+            self.evaluate(-1, is_needed=True)
         else:
             self.emit(f"{text};", arguments)
 
@@ -347,8 +470,10 @@ class Body:
         if what != "get":
             value = self.pop(self.function.locals[k])
             self.evaluate_if(lambda other: name in other.reads)
-            if value.text != name:
-                self.emit(f"{name} = {bare(value.text)};", [value], name)
+            if value.text in self.temporaries and self.lines[-1][0] == value.text:
+                self.lines[-1] = name, *self.lines[-1][1:]
+            elif value.text != name:
+                self.emit(value.plain(), [value], name, is_needed=False)
             self.places[k] = value.place
             if what == "set":
                 return
@@ -357,6 +482,8 @@ class Body:
                 return
         value = Value(self.function.locals[k], name, reads=[name])
         value.place = self.places.get(k)
+        if k not in self.places:
+            self.zeros.add(k)
         self.push(value)
 
     def memory(self, what):
@@ -365,7 +492,7 @@ class Body:
         length, source, to = self.pop("i64"), self.pop("i64" if what == "copy" else "i32"), self.pop("i64")
         self.before_write()
         self.program.needs(what)
-        self.emit(f"{what}({bare(to.text)}, {bare(source.text)}, {length.right()});", [to, source, length])
+        self.emit(f"{what}({to.plain()}, {source.plain()}, {length.plain()});", [to, source, length])
 
     # ---- the stack
 
@@ -410,7 +537,7 @@ class Body:
         if value.place:
             end = 0 if value.place[0] == TOP else self.frame
             refuse_unless(value.place[1] + offset + size <= end, "an access above the function's part of the stack")
-        return bare(value.text) + (f" + {offset}" if offset else "")
+        return f"{value.before('+')} + {offset}" if offset else bare(value.text)
 
     # ---- numbers
 
@@ -421,143 +548,165 @@ class Body:
         n, a = int(bits or BITS[type_]), self.pop("i64")
         self.program.needs(f"load{n}")
         text = f"load{n}({self.address(a, offset, n // 8)})"
-        if n < BITS[type_]:
-            text = f"({c_type(type_)}){text}"
+        value = Value(type_ if n == 64 else "i32", text, [a], loads=True)
         if sign == "s":
-            text = self.sign(type_, text, n)
-        self.push(Value(type_, text, [a], loads=True))
+            value = Value(type_, self.sign(type_, value, n), [value])
+        elif value.type != type_:
+            value = Value(type_, self.language.cast(type_, text), [value])
+        self.push(value)
 
     def store(self, type_, bits, offset):
         """Writes memory."""
         refuse_unless(bits in ("", "8", "16", "32"), f"{type_}.store{bits}")
         n, value, a = int(bits or BITS[type_]), self.pop(type_), self.pop("i64")
         self.before_write()
-        self.program.needs(f"store{n}")
-        cast = f"(uint{n}_t)" if n < BITS[type_] else ""
-        text = value.text if cast else bare(value.text)
-        self.emit(f"store{n}({self.address(a, offset, n // 8)}, {cast}{text});", [a, value])
+        address, argument = self.address(a, offset, n // 8), self.language.argument("i64", value)
+        part = None if a.loads or value.loads else value.part
+        self.emit(Write(address, argument, n // 8, (a.text, offset), part), [a, value])
 
-    def sign(self, type_, text, n):
+    def sign(self, type_, value, n):
         """A number whose upper bits are that of the highest of n."""
         self.program.needs(f"sign{BITS[type_]}")
-        return f"sign{BITS[type_]}({bare(text)}, {constant(type_, 1 << n - 1)})"
+        return f"sign{BITS[type_]}({self.language.argument(type_, value)}, {literal(1 << n - 1)})"
+
+    def number(self, type_, n):
+        """An operand that is a number."""
+        value = Value(type_, self.language.number(type_, n))
+        value.number = n
+        return value
+
+    def comparison(self, condition, of):
+        """The result of a comparison."""
+        value = Value("i32", self.language.cast("i32", f"({condition})"), of)
+        value.condition = condition
+        return value
 
     def unary(self, type_, what):
         """An operator with one operand."""
         if what == "wrap_i64":
             a = self.pop("i64")
-            self.push(Value("i32", f"(uint32_t){a.text}", [a]))
+            self.push(Value("i32", self.language.cast("i32", a.text), [a]))
         elif what == "extend_i32_u":
             a = self.pop("i32")
-            self.push(Value("i64", f"(uint64_t){a.text}", [a]))
+            self.push(Value("i64", self.language.cast("i64", a.text), [a]))
         elif what == "eqz":
             a = self.pop(type_)
             if a.number is not None:
-                self.push(number("i32", int(not a.number)))
+                self.push(self.number("i32", int(not a.number)))
             else:
-                self.push(comparison(f"!({a.condition})" if a.condition else f"{a.text} == 0", [a]))
+                self.push(self.comparison(f"!({a.condition})" if a.condition else f"{a.text} == 0", [a]))
         else:
             match = re.fullmatch("extend(_i)?(8|16|32)_s", what)
             refuse_unless(match and int(match[2]) < BITS[type_] and (not match[1] or match[2] == "32"),
                           f"{type_}.{what}")
             a = self.pop("i32" if match[1] else type_)
-            text = f"(uint64_t){a.text}" if match[1] else a.text
-            self.push(Value(type_, self.sign(type_, text, int(match[2])), [a]))
+            self.push(Value(type_, self.sign(type_, a, int(match[2])), [a]))
 
     def compare(self, a, op, sign, b):
         """A comparison. Signed numbers are compared as unsigned ones, with their highest bits changed. Whether the
         stack has room is not asked: it has."""
-        sides = a.text, b.right()
         if sign == "s":
             if a.place and op in ("lt", "gt") and b.number is not None and b.number < 1 << 16:
-                self.push(number("i32", int(op == "gt")))
+                self.push(self.number("i32", int(op == "gt")))
                 return
             top = 1 << BITS[a.type] - 1
-            sides = [constant(v.type, v.number ^ top) if v.number is not None else
-                     f"({v.text} ^ {constant(v.type, top)})" for v in (a, b)]
-        self.push(comparison(f"{sides[0]} {COMPARISONS[op]} {sides[1]}", [a, b]))
+            a, b = (self.number(v.type, v.number ^ top) if v.number is not None else
+                    Value(v.type, f"({v.text} ^ {literal(top)})", [v]) for v in (a, b))
+        self.push(self.comparison(f"{a.beside(b)} {COMPARISONS[op]} {b.beside(a)}", [a, b]))
 
     def arithmetic(self, a, what, b):
         """An operator with two operands."""
         type_, w = a.type, BITS[a.type]
-        place = None
+        place, operator = None, ""
         if a.place and b.number is not None:
             if what in ("add", "sub"):
                 place = self.moved(a.place, b.signed() if what == "add" else -b.signed())
             elif what == "and":
                 place = self.aligned(a.place, b.number)
         if what == "xor" and b.number == (1 << w) - 1:
-            text = f"(~{a.text})"
-        elif what == "add" and b.number is not None and b.signed() < 0:
-            text = f"({a.text} - {number(type_, -b.signed()).right()})"
+            text = self.language.opposite(a.text)
         elif what in OPERATORS:
-            text = f"({a.text} {OPERATORS[what]} {b.right()})"
+            operator = OPERATORS[what]
+            if what == "add" and b.number is not None and -1 << 15 < b.signed() < 0:
+                operator, b = "-", self.number(type_, -b.signed())
+            text = self.language.operation(a, operator, b)
         elif what in ("shl", "shr_u"):
             by = f"({b.text} & {w - 1})" if b.number is None else b.number % w
             text = f"({a.text} {'<<' if what == 'shl' else '>>'} {by})"
         elif what in ("rotl", "rotr", "shr_s"):
             self.program.needs(f"{what}{w}")
-            text = f"{what}{w}({bare(a.text)}, {b.right()})"
+            text = f"{what}{w}({a.plain()}, {b.plain()})"
         elif what in ("div_u", "rem_u"):
             self.divide(a, what, b)
             return
         else:
             raise Refused(f"{type_}.{what}")
         value = Value(type_, text, [a, b])
-        value.place = place
+        value.place, value.operator = place, operator
+        if what == "shr_u" and b.number is not None:
+            value.part = a.text, by
         self.push(value)
 
     def divide(self, a, what, b):
         """A quotient or a rest. It may trap, so it is evaluated now, unless the divisor is a number."""
         self.program.needs(f"{what}{BITS[a.type]}")
         if b.number:
-            self.push(Value(a.type, f"({a.text} {'/' if what == 'div_u' else '%'} {b.right()})", [a, b]))
+            self.push(Value(a.type, f"({a.text} {'/' if what == 'div_u' else '%'} {b.beside(a)})", [a, b]))
             return
-        self.push(Value(a.type, f"{what}{BITS[a.type]}({bare(a.text)}, {b.right()})", [a, b]))
-        self.evaluate(-1)
+        self.stack.append(Value(a.type, f"{what}{BITS[a.type]}({a.plain()}, {b.plain()})", [a, b]))
+        self.evaluate(-1, is_needed=True)
 
     # ---- the text
 
     def kept(self):
-        """The statements that have an effect, and what they read. A local that is not read need not be set."""
+        """The lines that have an effect, and what they read. A variable that is not read need not be set."""
         lines = self.lines
         while True:
-            read = set().union(*(reads for _, _, reads in lines))
-            left = [line for line in lines if line[1] is None or line[1] in read]
+            read = set().union(*(reads for _, _, reads, _ in lines))
+            left = [line for line in lines if line[0] in read or line[3]]
             if len(left) == len(lines):
-                break
+                return self.joined([(sets if sets in read else None, text) for sets, text, _, _ in lines]), read
             lines = left
-        texts = [text for text, _, _ in lines] + [""]
-        lines = [line for k, line in enumerate(lines) if line[0] != f"goto {texts[k + 1][:-1]};"]
-        used = {word for text, _, _ in lines for word in re.findall(r"goto (l\d+);", text)}
-        return [line for line in lines if not re.fullmatch(r"l\d+:", line[0]) or line[0][:-1] in used], read
+
+    def joined(self, lines):
+        """The lines, with one for writes that touch."""
+        found = []
+        for line in lines:
+            found.append(line)
+            while len(found) > 1 and isinstance(found[-1][1], Write) and isinstance(found[-2][1], Write):
+                both = found[-2][1].joined(found[-1][1])
+                if not both:
+                    break
+                found[-2:] = [(None, both)]
+        return [(sets, each) for sets, text in found
+                for each in (text.statements() if isinstance(text, Write) else [text])]
 
     def __str__(self):
         lines, read = self.kept()
-        declared = []
-        for type_ in BITS:
-            count = len(self.function.parameters)
-            names = [f"v{k} = 0" for k, each in enumerate(self.function.locals) if k >= count and each == type_ and
-                     (f"v{k}" in read or any(sets == f"v{k}" for _, sets, _ in lines))]
-            names += [name for name, each in self.temporaries.items() if each == type_]
-            declared += [f"{c_type(type_)} {', '.join(names)};"] if names else []
         refuse_unless(self.frame or TOP not in read, "a stack pointer without a part of the stack")
+        count = len(self.function.parameters)
+        variables = [(f"v{k}", type_, k in self.zeros) for k, type_ in enumerate(self.function.locals) if k >= count]
+        variables += [(name, type_, False) for name, type_ in self.temporaries.items()]
+        texts = self.language.declarations([each for each in variables if each[0] in read])
         if TOP in read:
-            declared.append(f"uint64_t frame[{(self.frame + self.align) // 8 + 2}];")
-            declared.append("const uint64_t top = (ADDRESS(frame) + sizeof frame) & ~UINT64_C(15);")
-        declared += [f"(void)v{k};" for k in range(len(self.function.parameters)) if f"v{k}" not in read]
-        texts = declared + [text + ";" if text.endswith(":") else text for text, _, _ in lines]
-        return "\n".join(textwrap.fill(text, 100, initial_indent="" if re.match(r"l\d+:", text) else "    ",
-                                       subsequent_indent="        ", break_long_words=False, break_on_hyphens=False)
+            self.program.needs("frame")
+            texts += self.language.frame((self.frame + self.align) // 8 + 2)
+        texts += [self.language.unused(f"v{k}") for k in range(count) if f"v{k}" not in read]
+        texts += self.language.statements(lines)
+        for _, text in lines:
+            if isinstance(text, Write):
+                self.program.needs(text.function)
+        return "\n".join(textwrap.fill(text, 100, initial_indent="" if text.endswith(":;") else " ",
+                                       subsequent_indent="   ", break_long_words=False, break_on_hyphens=False)
                          for text in texts)
 
 
 class Parts:
-    """The text in C that no module has: tools/wasm_to_c.c. A part begins with a line that names it."""
+    """The text that no module has: tools/wasm_to_c.c, for example. A part begins with a line that names it."""
 
-    def __init__(self):
-        with open(os.path.join(HERE, "wasm_to_c.c"), encoding="utf-8") as file:
-            found = re.split(r"^/\* ---- (\w+) \*/\n", file.read(), flags=re.MULTILINE)
+    def __init__(self, name):
+        with open(os.path.join(HERE, name), encoding="utf-8") as file:
+            found = re.split(r"^(?:/\*|//) ---- (\w+)(?: \*/)?\n", file.read(), flags=re.MULTILINE)
         self.texts = dict(zip(found[1::2], (text.strip("\n") for text in found[2::2])))
 
     def fill(self, name, **words):
@@ -582,14 +731,16 @@ class Header:
 class Program:
     """The file in C."""
 
+    language, parts_file = C, "wasm_to_c.c"
+
     def __init__(self, data, header):
         self.exports = checked(data)
         module = Module(data)
         refuse_unless(module.width == 64, "a memory of 32 bits")
         self.functions, self.names = module.functions, module.names
         refuse_unless(sorted(self.names) == list(range(len(self.functions))), "functions without names")
-        self.parts, self.header = Parts(), Header(header)
-        self.used, self.calls, self.margins, self.caller = {"head"}, {}, {}, ""
+        self.parts, self.header = Parts(self.parts_file), Header(header)
+        self.used, self.calls = {"head"}, {}
         self.check_runtime()
         wanted = set(self.header.functions)
         refuse_unless(set(self.exports) == wanted, f"other functions than the header's: "
@@ -617,6 +768,14 @@ class Program:
                 settle = name.replace("scrub_stack", "settle")
                 refuse_unless(self.lines_of(k) == SCRUB.replace("SETTLE", settle), f"another {name}")
 
+    def wrapped(self, k):
+        """What an exported function calls between __rattle_enter and __rattle_leave, if nothing else, or itself."""
+        arguments = "".join(f"local.get {n}; " for n in range(len(self.functions[k].parameters)))
+        match = re.fullmatch(f"{ENTER}; {arguments}call (.*?); (local.set (\\d+); )?call __rattle_leave; "
+                             "(local.get \\3; )?end", self.lines_of(k))
+        callees = [callee for callee, name in self.names.items() if match and name == match[1]]
+        return callees[0] if callees and bool(match[2]) == bool(self.functions[k].results) else k
+
     def scrubbed(self, k):
         """The bytes of the stack that a function is to overwrite, or 0."""
         match = re.search(r"\bscrub_stack::<=(\d+)>$", self.names[k])
@@ -625,28 +784,20 @@ class Program:
     def c_name(self, k):
         """The name of a function in C."""
         name = re.sub("^vulfsjor_ffi_", "module::", self.names[k]).replace("rattle::export vulfsjor_ffi_", "exported::")
+        name = name.removeprefix("blake2_")
         return re.sub("[^A-Za-z0-9_]+", "_", name).strip("_")
 
-    def callee(self, k):
-        """The name of a function that the one being translated calls."""
-        if not self.scrubbed(k):
-            return self.c_name(k)
-        is_of_leaves = bool(re.search("blake2[bs]p", self.caller))
-        self.margins.setdefault(k, {})[is_of_leaves] = MARGIN_OF_LEAVES if is_of_leaves else MARGIN
-        return self.c_name(k) + "_of_leaves" * is_of_leaves
-
     def wiping(self, k):
-        """The functions that overwrite the stack in the place of one of the module."""
+        """The function that overwrites the stack in the place of one of the module."""
         self.needs("scrub")
-        return "\n".join(f"SCRUB({self.c_name(k)}{'_of_leaves' * is_of_leaves}, {self.scrubbed(k) + margin})"
-                         for is_of_leaves, margin in sorted(self.margins[k].items()))
+        return f"SCRUB({self.c_name(k)}, {self.scrubbed(k) + MARGIN})"
 
     def function(self, k):
         """A function of the module."""
-        function, self.caller = self.functions[k], self.names[k]
+        function = self.functions[k]
         refuse_unless(len(function.results) <= 1, "several results")
-        result = c_type(function.results[0]) if function.results else "void"
-        words = ", ".join(f"{c_type(type_)} v{k}" for k, type_ in enumerate(function.parameters))
+        result = C.type(function.results[0]) if function.results else "void"
+        words = ", ".join(f"{C.type(type_)} v{k}" for k, type_ in enumerate(function.parameters))
         head = textwrap.fill(f"APART {result} {self.c_name(k)}({words or 'void'}) {{", 100, subsequent_indent=" " * 8)
         return f"/* {self.names[k]} */\n{head}\n{Body(self, function)}\n}}"
 
@@ -662,6 +813,7 @@ class Program:
                 order.append(k)
 
         for name in self.header.functions:
+            self.exports[name] = self.wrapped(self.exports[name])
             visit(self.exports[name])
         names = [self.c_name(k) for k in order]
         refuse_unless(len({*names}) == len(names), "two functions whose names are one in C")
@@ -735,18 +887,19 @@ def checked(data):
     return exports
 
 
-def main():
+def main(program=Program):
     """Runs the program."""
+    name = os.path.basename(sys.argv[0])
     if len(sys.argv) != 3:
-        sys.exit("usage: tools/wasm_to_c.py MODULE c/include/vulfsjor.h >vulfsjor.c")
+        sys.exit(f"usage: tools/{name} MODULE c/include/vulfsjor.h")
     with open(sys.argv[1], "rb") as file:
         data = file.read()
     with open(sys.argv[2], encoding="utf-8") as file:
         header = file.read()
     try:
-        print(Program(data, header), end="")
+        print(program(data, header), end="")
     except (Refused, CannotShow) as why:
-        sys.exit(f"wasm_to_c.py: {sys.argv[1]} has what is not translated: {why}")
+        sys.exit(f"{name}: {sys.argv[1]} has what is not translated: {why}")
 
 
 if __name__ == "__main__":

@@ -2,17 +2,14 @@
 # folder of the repository and `name` to the name of the program.
 #
 # The program is in out/ or, if that cannot be written, in the folder vulfsjor of XDG_CACHE_HOME
-# (otherwise of ~/.cache), one for each clone. On x86-64 it contains all builds and chooses one at
-# run time, so machines with other processors may share the folder.
+# (otherwise of ~/.cache), one for each clone. It is linked with the library, whose functions hash. On
+# x86-64 that contains all builds and chooses one at run time, so machines with other processors may
+# share the folder.
 machine=${BASH_VERSINFO[5]%%-*}
-x86_64=("dist/x86_64/$name-"v{2,3,4}.s) aarch64=("dist/aarch64/$name.s")
+x86_64=("dist/x86_64/$name.s" dist/x86_64/vulfsjor-v{2,3,4}.s)
+aarch64=("dist/aarch64/$name.s" dist/aarch64/vulfsjor.s)
 sources=(c/b2.c c/choose.c c/include/vulfsjor.h)
-# b2sum is linked with the library too, whose functions hash trees by threads.
-if [ "$name" = b2sum ]; then
-    sources+=(c/b2sum.c c/threads.c c/include/vulfsjor_threads.h)
-    x86_64+=(dist/x86_64/vulfsjor-v{2,3,4}.s)
-    aarch64+=(dist/aarch64/vulfsjor.s)
-fi
+[ "$name" = b2 ] || sources+=(c/b2sum.c c/threads.c c/system.h c/include/vulfsjor_threads.h)
 
 fail() {
     echo "$name: $1" >&2
@@ -24,7 +21,7 @@ fail() {
 is_current() {
     local file
     [ -x "$1" ] || return
-    for file in "$name" tools/program.sh dist/MANIFEST dist/{x86_64,aarch64}/{elf,macho,coff}.inc \
+    for file in "$name" tools/launcher.sh dist/MANIFEST dist/{x86_64,aarch64}/{elf,macho,coff}.inc \
         "${x86_64[@]}" "${aarch64[@]}" "${sources[@]}"; do
         [ "$1" -nt "$top/$file" ] || return
     done
@@ -35,24 +32,19 @@ is_current() {
 main_of() { sed -n $'s/^\tvj_export\t\\(main_.*\\)/\\1/p' "$top/$1"; }
 name_in() { sed -n $'/^\tvj_'"$2"$'\t.*\\.'"$3"$'[._]/{s/.*\t//p;q;}' "$top/$1"; }
 
-# Adds to `words` the names of these functions for c/b2sum.c: FILE END.
-add_names() {
-    words+=("-DABSORB_TREE$2=$(name_in "$1" call absorb_tree)"
-        "-DPROVED_TREE$2=$(name_in "$1" export absorb_tree)"
-        "-DHIDE_MEMORY$2=$(name_in "$1" call hide_memory)")
-}
-
-# Adds to `words` what the compiler gets for a program of these files: FILE, or FILE V3 V4.
+# Adds to `words` what the compiler gets for the program of this file.
 add_words() {
-    words+=("-DMAIN=$(main_of "$1")" "-I$top/c/include")
-    [ $# -eq 1 ] || words+=("-DMAIN_V3=$(main_of "$2")" "-DMAIN_V4=$(main_of "$3")")
-    if [ "$name" = b2sum ]; then
-        words+=(-DEND=b2sum_end -DFREE=b2sum_free -DREALLOC=b2sum_realloc
-            "$top"/c/{b2sum,threads,choose}.c -pthread)
-        add_names "$1" ''
-        [ $# -eq 1 ] || { add_names "$2" _V3 && add_names "$3" _V4; }
-    elif [ $# -eq 3 ]; then
-        words+=('-DCHOOSE_FUNCTIONS=<stddef.h>' "$top/c/choose.c")
+    words+=("-DMAIN=$(main_of "$1")" "-I$top/c/include" "$top"/c/{b2,choose}.c)
+    if [ "$name" = b2 ]; then
+        words+=('-DCHOOSE_FUNCTIONS=<stddef.h>')
+    else
+        words+=("-DABSORB_TREE=$(name_in "$1" call absorb_tree)"
+            "-DPROVED_TREE=$(name_in "$1" export absorb_tree)"
+            "-DHIDE_MEMORY=$(name_in "$1" call hide_memory)"
+            "-DSHOW_PROGRESS=$(name_in "$1" call show_progress)"
+            -DEND=b2sum_end -DFREE=b2sum_free -DREALLOC=b2sum_realloc
+            "$top"/c/{b2sum,threads}.c)
+        [ $format = coff ] || words+=(-pthread)
     fi
 }
 
@@ -72,54 +64,48 @@ check_dist() {
     esac
 }
 
-# Writes the macros for the object format, and after them those of `texts` with this name.
-write_assembly() {
-    local file own=()
-    for file in "${texts[@]}"; do
-        case $file in */"$1"[.-]*) own+=("$top/$file") ;; esac
-    done
-    cat "${own[0]%/*}/$format.inc" "${own[@]}" >"$begun.$1.s"
-}
-
 # Builds the program as this file, for the machine that the compiler compiles for, which has to be
-# this one if it is named: FILE [MACHINE]. It is then as old as the beginning of its build.
+# this one if it is named: FILE [MACHINE]. It is then as old as the beginning of its build. CFLAGS,
+# CPPFLAGS and LDFLAGS are used as by make. For ELF it is marked for branch protection.
 build() {
-    local cc target texts format words
+    local cc target texts format words flags branches
     read -ra cc <<<"${CC:-cc}"
     command -v "${cc[0]-}" >/dev/null || fail "a C compiler is needed: cc, or the one that CC names"
     target=$("${cc[@]}" -dumpmachine)
     case $target in
         *x32 | *ilp32) format=none ;;
         *-linux*) format=elf words=(-Wl,--gc-sections -Wl,-z,relro -Wl,-z,now) ;;
-        *-mingw32 | *-windows-gnu) format=coff words=(-Wl,--gc-sections -municode) ;;
+        *-mingw32 | *-windows-gnu) format=coff words=(-Wl,--gc-sections -Wl,--no-insert-timestamp -municode) ;;
         *-apple-*) format=macho words=(-Wl,-dead_strip) ;;
         *) format=none ;;
     esac
-    [ "$name" = b2 ] || [ $format = elf ] || format=none
     case $target,$format in
         *,none) fail "there is no build for $target" ;;
-        x86_64-*)
-            texts=("${x86_64[@]}")
-            add_words "${texts[@]:0:3}"
-            ;;
-        aarch64-* | arm64-*)
-            texts=("${aarch64[@]}")
-            add_words "${texts[0]}"
-            ;;
+        x86_64-*) texts=("${x86_64[@]}") ;;
+        aarch64-* | arm64-*) texts=("${aarch64[@]}") ;;
         *) fail "there is no build for $target" ;;
+    esac
+    branches=()
+    case $target,$format in
+        x86_64-*,elf) branches=(-fcf-protection=full) ;;
+        aarch64-*,elf) branches=(-mbranch-protection=bti) ;;
     esac
     [[ $target == "${2-}"* ]] || fail "CC compiles for $target, and this machine is $2"
     check_dist
     echo "$name: assembling ${texts[*]}, which is done once" >&2
     begun=$(mktemp -- "$1.XXXXXX")
     trap 'rm -f -- "$begun" "$begun".*' EXIT
-    write_assembly "$name"
-    [ "$name" = b2 ] || write_assembly vulfsjor
-    "${cc[@]}" -O2 -fno-lto "${words[@]}" -o "$begun.new" "$top/c/b2.c" "$begun"*.s
+    # With -g this name is written, and not that of the temporary file.
+    (cd "$top" && echo "# 1 \"$name.s\"" && cat "${texts[0]%/*}/$format.inc" &&
+        printf '\tvj_marks\n' && cat "${texts[@]}") >"$begun.s"
+    add_words "${texts[0]}"
+    read -ra flags <<<"${CPPFLAGS-} ${CFLAGS-} ${LDFLAGS-}"
+    "${cc[@]}" -O2 "${branches[@]}" "${flags[@]}" -fno-lto -ffunction-sections "${words[@]}" \
+        -o "$begun.new" "$begun.s"
     chmod 755 "$begun.new"
     touch -r "$begun" "$begun.new"
     mv -f -- "$begun.new" "$1"
-    rm -f -- "$begun" "$begun"*.s
+    rm -f -- "$begun" "$begun.s"
     trap - EXIT
     echo "$name: built $1" >&2
 }

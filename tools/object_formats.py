@@ -1,12 +1,16 @@
 #!/usr/bin/env python3
 """Writes an assembly text for ELF, as tools/plain_names.py leaves it, as one for every object format:
 
-    tools/one_text.py <elf.s >file.s
+    tools/object_formats.py [SHARED..] <elf.s >file.s
 
-Every instruction stays. Directives and operands that differ between ELF, Mach-O and COFF become macros of the assembler,
+Every instruction stays, except that a jump by a table of a program needs no landing pad for branch protection: it gets
+the prefix notrack, or on ARM is a ret by its register. Directives and operands that differ between ELF, Mach-O and COFF become macros of the assembler,
 whose names begin with vj_: dist/README.md lists them, and dist/x86_64/*.inc and dist/aarch64/*.inc define them. Labels of
 code become numbers, which are local in every format: 12f is the next 12, and 12b the last one. Each function counts from
 1. The names of constants stay. A line that is not known here is refused.
+
+SHARED are functions of the library that hash for the programs. A program calls those of the library's build; for x86-64
+those of the build that the processor runs.
 """
 import re
 import sys
@@ -16,7 +20,7 @@ NAME = r"[A-Za-z_][\w.]*"
 HEAD = re.compile(rf"\t\.section\t\.text\.(unlikely\.)?({NAME}),\"ax\",@progbits\n(\t\.globl\t\2\n\t\.hidden\t\2\n)?"
                   r"\t\.p2align\t(\d)\n\t\.type\t\2,@function\n\2:\n")
 END = re.compile(rf"(\.L\w*func_end\d+):\n\t\.size\t({NAME}), \1-\2\n\n?")
-STARTS = re.compile(r"\tvj_(?:function|cold|export)\t")
+STARTS = re.compile(r"\tvj_(?:function|cold|export|shared)\t")
 DATA = re.compile(r"\t\.section\t\.(rodata|data\.rel\.ro)\.([\w.]+),\"aM?w?\",@progbits(?:,(\d+))?")
 NUMBERS = {".hword": ".short", ".word": ".long", ".xword": ".quad"}
 KEPT = {".p2align", ".byte", ".short", ".long", ".quad", ".zero", *NUMBERS}
@@ -29,10 +33,12 @@ OF_SYSTEM = {"read": "b2_read", "write": "b2_write", "__write": "b2_write", "__s
 LOCAL = re.compile(r"(?<![\w.])\.L[\w.]+")
 # What a preprocessor changes: its own lines, comments, and names that GCC defines.
 PREPROCESSED = re.compile(r"^\s*#|//|/\*|\b(?:linux|unix|i386)\b")
+# The ends of the names of programs, and of those of the library's builds for the processor.
+BUILDS = {"_x86": ("_v2", "_v3", "_v4"), "_a64": ("_arm",)}
 
 
 def refuse(line):
-    sys.exit(f"one_text.py: what is {line.strip()}?")
+    sys.exit(f"object_formats.py: what is {line.strip()}?")
 
 
 def place_of(line):
@@ -43,14 +49,15 @@ def place_of(line):
 class Text:
     """A text whose functions have macros as heads and ends."""
 
-    def __init__(self, text):
+    def __init__(self, text, shared):
         self.alignment = "2" if "\n\tret\n" in text else "4"
-        self.ending = re.search(r"(?m)^\t\.globl\t\w+?(_\d+_\d+_\d+_\w+)$", text)[1]
+        self.ending = re.search(r"(?m)^\t\.globl\t\w+?(_\d+_[a-z0-9]+)$", text)[1]
+        self.shared, self.called = {name + self.ending for name in shared}, set()
         text = END.sub(r"\tvj_end\t\2\n", HEAD.sub(self.head, text))
         self.defined = set(re.findall(rf"(?m)^\tvj_(?:function|cold)\t({NAME})$", text))
-        self.exported = set(re.findall(rf"(?m)^\tvj_export\t({NAME})$", text))
+        self.exported = set(re.findall(rf"(?m)^\tvj_(?:export|shared)\t({NAME})$", text))
         if any(re.match("[lL]", name) for name in self.defined):
-            sys.exit("one_text.py: in Mach-O a name with l or L is a label")
+            sys.exit("object_formats.py: in Mach-O a name with l or L is a label")
         self.pieces, self.constants = [[]], set()
         for line in text.rstrip("\n").split("\n"):
             if STARTS.match(line):
@@ -64,7 +71,8 @@ class Text:
         cold, name, exported, alignment = found.groups()
         if alignment != self.alignment or (cold and exported):
             refuse(found[0])
-        return f"\tvj_{'export' if exported else 'cold' if cold else 'function'}\t{name}\n"
+        kind = "shared" if name in self.shared else "export"
+        return f"\tvj_{kind if exported else 'cold' if cold else 'function'}\t{name}\n"
 
     @staticmethod
     def end_of(piece):
@@ -115,24 +123,43 @@ class Text:
 
     def instruction(self, line):
         call = CALL.fullmatch(line)
-        if call and call[2] not in self.defined | self.exported:
+        if call and call[2] not in self.defined | self.exported - self.shared:
             word, name = "call" if call[1] in ("callq", "bl") else "jump", call[2]
+            if name in self.shared:
+                self.called.add(name)
+                name = name if len(self.names_in_library(name)) > 1 else self.names_in_library(name)[0]
             if name in C_LIBRARY:
                 return f"\tvj_c_{word}\t{name}"
             return f"\tvj_system_{word}\t{name}, {OF_SYSTEM[name]}" if name in OF_SYSTEM else f"\tvj_{word}\t{name}"
+        # A jump by a table needs no landing pad.
+        line = re.sub(r"^\tjmpq\t\*(%\w+)$", r"\tnotrack\tjmpq\t*\1", line)
+        line = re.sub(r"^\tbr\t(x\d+)$", r"\tret\t\1", line)
         line = re.sub(rf"^\tadrp\t(\w+), (\.?{NAME})$", r"\tvj_page\t\1, \2", line)
         line = re.sub(rf"^\tldr\t(\w+), \[(\w+), :lo12:(\.?{NAME})\]$", r"\tvj_load\t\1, \2, \3", line)
         line = re.sub(rf"^\tadd\t(\w+), (\w+), :lo12:(\.?{NAME})$", r"\tvj_address\t\1, \2, \3", line)
         of_elf = re.search(r"@|:lo12:|:got|\tadrp\t", line) or not re.match(r"\t[a-z]", line)
         return refuse(line) if of_elf or self.exported & set(re.findall(NAME, line)) else line
 
+    @staticmethod
+    def names_in_library(name):
+        """What the library's builds call a function that a text calls."""
+        end = "_" + name.rpartition("_")[2]
+        return [name.removesuffix(end) + build for build in BUILDS.get(end, (end,))]
+
+    def chosen(self):
+        """The functions that jump to those of the library's build."""
+        for name in sorted(self.called):
+            names = self.names_in_library(name)
+            if len(names) > 1:
+                yield f"\tvj_choose\t{', '.join((name, *names))}"
+
     def written(self):
-        lines = [line for piece in self.pieces for line in self.piece(piece)]
+        lines = [line for piece in self.pieces for line in self.piece(piece)] + [*self.chosen()]
         return [it for line in lines for it in ([line, ""] if line.startswith("\tvj_end\t") else [line])]
 
 
 def main():
-    sys.stdout.write("\n".join(Text(sys.stdin.read()).written()) + "\n")
+    sys.stdout.write("\n".join(Text(sys.stdin.read(), sys.argv[1:]).written()) + "\n")
 
 
 main()

@@ -47,7 +47,7 @@ class Item:
     def __post_init__(self):
         match = ITEM.match(self.lines[0])
         if not match:
-            raise Unreadable(f"line {self.number}: tools/sources.py finds no item in {self.lines[0]!r}")
+            raise Unreadable(f"line {self.number}: tools/read_sources.py finds no item in {self.lines[0]!r}")
         self.kind, self.name = match.groups()
         self.doc = [line[4:] for line in self.above if line.startswith("///")]
         self.is_public = self.lines[0].startswith("pub ")
@@ -160,7 +160,7 @@ def words_of(crate):
             if lines and not re.match(r"(?:unfoldable |pub )*use ", lines[0]):
                 match = DEFINITION.match(lines[0])
                 if not match:
-                    raise Unreadable(f"crates/{crate}/specs/{file}.antt: tools/sources.py finds no definition in "
+                    raise Unreadable(f"crates/{crate}/specs/{file}.antt: tools/read_sources.py finds no definition in "
                                      f"{lines[0]!r}")
                 public, kind, name = match.groups("")
                 yield Word(file, bool(public), kind, name, comment, lines)
