@@ -3,8 +3,9 @@
 print is known from hashlib and from the system's texts of errors. Then it makes single calls of the system fail, one
 after the other (tests/b2sum_faults.c), and checks that no line is wrong, and that the status shows it.
 
-Without VULFSJOR_TEST_HUGE only the first program has all tests, and the others those of what they compute: all are
-built from the same sources. tests/b2sum.py compares the program with that of coreutils.
+Only the first program has all tests, and the others those of what they compute: they are the same program, with older
+builds of the library. Without VULFSJOR_TEST_HUGE they have those that call each function of the library for them.
+tests/compare_coreutils.py compares the program with that of coreutils.
 
 usage: tests/b2sum_files.py [PROGRAM..]
 """
@@ -15,6 +16,7 @@ import itertools
 import os
 import random
 import resource
+import select
 import shutil
 import signal
 import socket
@@ -23,9 +25,9 @@ import sys
 import tempfile
 
 import tap
-from blake2_kinds import TOP
-from b2sum_program import programs
-from oracle import tree_root
+from common import TOP
+from b2sum_support import programs
+from oracle import parallel_by_hashlib, parallel_digest, tree_root
 
 HUGE = bool(os.environ.get("VULFSJOR_TEST_HUGE"))
 CALLS = {"readv": errno.EIO, "openat": errno.EACCES, "write": errno.ENOSPC, "malloc": errno.ENOMEM,
@@ -34,11 +36,15 @@ CALLS = {"readv": errno.EIO, "openat": errno.EACCES, "write": errno.ENOSPC, "mal
 WRONG = {
     "--salt 0": "invalid salt: '0'\nthe value is not hexadecimal digits, two for each byte",
     "--personal zz": "invalid personalization: 'zz'\nthe value is not hexadecimal digits, two for each byte",
-    "--salt " + "00" * 17: "the salt is too long: at most 16 bytes, 8 for BLAKE2s",
-    "--personal " + "00" * 17: "the personalization is too long: at most 16 bytes, 8 for BLAKE2s",
-    "-a blake2s --salt " + "00" * 9: "the salt is too long: at most 16 bytes, 8 for BLAKE2s",
-    "-a blake2s --personal " + "00" * 9: "the personalization is too long: at most 16 bytes, 8 for BLAKE2s",
+    "--salt " + "00" * 17: "the salt is too long: at most 16 bytes, 8 for BLAKE2s and BLAKE2sp",
+    "--personal " + "00" * 17: "the personalization is too long: at most 16 bytes, 8 for BLAKE2s and BLAKE2sp",
+    "-a blake2s --salt " + "00" * 9: "the salt is too long: at most 16 bytes, 8 for BLAKE2s and BLAKE2sp",
+    "-a blake2s --personal " + "00" * 9: "the personalization is too long: "
+                                         "at most 16 bytes, 8 for BLAKE2s and BLAKE2sp",
     "-a blake2s -l 264": "invalid length: '264'\nmaximum digest length for 'BLAKE2s' is 256 bits",
+    "-a blake2sp -l 264": "invalid length: '264'\nmaximum digest length for 'BLAKE2sp' is 256 bits",
+    "-a blake2bp -l 520": "invalid length: '520'\nmaximum digest length for 'BLAKE2bp' is 512 bits",
+    "-a blake2sp --salt " + "00" * 9: "the salt is too long: at most 16 bytes, 8 for BLAKE2s and BLAKE2sp",
     "--tree 0": "invalid leaf length: '0'\na leaf has 1 to 4294967295 bytes",
     "--tree 4294967296": "invalid leaf length: '4294967296'\na leaf has 1 to 4294967295 bytes",
     "--tree 4k": "invalid leaf length: '4k'\na leaf has 1 to 4294967295 bytes",
@@ -52,11 +58,14 @@ WRONG = {
     "--raw a": "the --raw option needs one file",
     "--key-file - a -": "standard input is the key, and cannot be a file too",
     "--tree 4 -a blake2s": "the --tree option supports blake2b only",
+    "-a blake2bp --tree 4": "the --tree option supports blake2b only",
+    "-a blake2sp --tree 4": "the --tree option supports blake2b only",
     "--tree 4 --key-file b": "the --tree option does not support --key-file",
     "--tree 4 --text": "--tree does not support --text mode",
 }
-# A key is in the options and, while a file is read, in the state: in its pending block and in that of a reset.
-MOST_COPIES = 3
+# A key is in the options and, while a file is read, in the state: in its pending block, or in one for each leaf, and in
+# that of a reset.
+MOST_COPIES = {"b": 3, "s": 3, "bp": 6, "sp": 10}
 FILES = {"a": b"", "b": b"abc", "with\nline": b"x" * 1000, "caf\udcff": bytes(range(256)) * 5}
 
 
@@ -64,7 +73,7 @@ zeros = functools.cache(bytes)
 
 
 class Marked:
-    """So many zero bytes, but for a one at some offsets. Slices of zeros of one length are one object."""
+    """This many zero bytes, except for a one at some offsets. Slices of zeros of one length are one object."""
 
     def __init__(self, size, marks):
         self.size, self.marks = size, marks
@@ -135,14 +144,32 @@ def escaped(name):
     return name
 
 
+def digest(family, data, size, **parameters):
+    """The digest of a family, such as "b" of BLAKE2b and "bp" of BLAKE2bp."""
+    if family in ("bp", "sp"):
+        return parallel_digest(family[0], data, size, **parameters)
+    return getattr(hashlib, "blake2" + family)(data, digest_size=size, **parameters).digest()
+
+
+def needs(key=b"", salt=b"", person=b""):
+    """What a tag says of the parameters of a digest."""
+    return ("-key" if key else "") + ("-salt" if salt else "") + ("-personal" if person else "")
+
+
 def line(name, data, bits=512, family="b", mark=" ", tag=False, **parameters):
     """The line of a file."""
-    digits = getattr(hashlib, "blake2" + family)(data, digest_size=bits // 8, **parameters).hexdigest()
+    digits = digest(family, data, bits // 8, **parameters).hex()
     start = "\\" if escaped(name) != name else ""
     if tag:
-        longest = 512 if family == "b" else 256
-        return f"{start}BLAKE2{family}{'' if bits == longest else f'-{bits}'} ({escaped(name)}) = {digits}\n"
+        longest = 512 if family[0] == "b" else 256
+        tag = f"BLAKE2{family}{needs(**parameters)}{'' if bits == longest else f'-{bits}'}"
+        return f"{start}{tag} ({escaped(name)}) = {digits}\n"
     return f"{start}{digits} {mark}{escaped(name)}\n"
+
+
+def checked(name):
+    """The line of a file that has its digest."""
+    return ("\\" if "\n" in name else "") + (escaped(name) if "\n" in name else name) + ": OK\n"
 
 
 def lines(**more):
@@ -158,7 +185,7 @@ def test_lengths(runs):
             runs.wants([*words, "-"], line("-", b"some bytes", bits, family), data=b"some bytes")
             tagged = lines(bits=bits, family=family, tag=True)
             runs.wants([*words, "--tag", *FILES], tagged)
-            oks = "".join(("\\" if "\n" in name else "") + escaped(name) + ": OK\n" for name in FILES)
+            oks = "".join(map(checked, FILES))
             runs.wants(["-a", f"blake2{family}", "-c"], oks, data=os.fsencode(tagged))
             runs.wants(["-a", f"blake2{family}", "-c"], oks, data=os.fsencode(lines(bits=bits, family=family)))
     runs.wants([*FILES], lines())
@@ -194,11 +221,12 @@ def test_parameters(runs):
     runs.write("key", key)
     runs.write("key32", key[:32])
     runs.write("key1", key[:1])
-    for family, name, size in (("b", "key", 64), ("b", "key1", 1), ("s", "key32", 32), ("b", "key32", 32)):
+    for family, name, size in (("b", "key", 64), ("b", "key1", 1), ("s", "key32", 32), ("b", "key32", 32),
+                               ("bp", "key", 64), ("sp", "key32", 32), ("sp", "key1", 1)):
         given = {"key": key[:size], "salt": salt, "person": person}
         words = ["-a", "blake2" + family, "--key-file", name, "--salt=" + salt.hex(), "--personal",
             person.hex().upper()]
-        runs.wants([*words, *FILES], lines(family=family, bits=512 if family == "b" else 256, **given))
+        runs.wants([*words, *FILES], lines(family=family, bits=512 if family[0] == "b" else 256, **given))
         runs.wants([*words, "--tag", "-l", "128", *FILES], lines(family=family, bits=128, tag=True, **given))
         oks = "".join(("\\" if "\n" in it else "") + escaped(it) + ": OK\n" for it in FILES)
         manifest = os.fsencode(lines(family=family, bits=128, **given))
@@ -214,12 +242,103 @@ def test_parameters(runs):
     runs.write("key0", b"")
     for words, said in (("--key-file key65", "key65: a key has 1 to 64 bytes"),
             ("--key-file key0", "key0: a key has 1 to 64 bytes"),
-                        ("-a blake2s --key-file key", "key: a key of BLAKE2s has 1 to 32 bytes"),
+                        ("-a blake2s --key-file key", "key: a key of BLAKE2s or BLAKE2sp has 1 to 32 bytes"),
                         ("--key-file none", f"none: {os.strerror(errno.ENOENT)}"),
                         ("--key-file .", f".: {os.strerror(errno.EISDIR)}")):
         runs.wants([*words.split(), "b"], "", said, 1)
-    runs.wants(["-a", "blake2x", "b"], "", "invalid algorithm: 'blake2x'", 1, Try=1)
+    for name in ("blake2x", "blake2", "blake2bpp", "BLAKE2bp", ""):
+        runs.wants(["-a", name, "b"], "", f"invalid algorithm: '{name}'", 1, Try=1)
     runs.ends("keys, salts, personalizations, and what is refused of them")
+
+
+def test_parallel(runs):
+    """BLAKE2bp and BLAKE2sp: short files by a model, and longer ones by hashlib."""
+    for family, longest, stripe in (("bp", 512, 512), ("sp", 256, 512)):
+        words = ["-a", f"blake2{family}"]
+        for bits in (8, 128, longest - 8, longest):
+            runs.wants([*words, "-l", str(bits), *FILES], lines(bits=bits, family=family))
+            runs.wants([*words, "-l", str(bits), "--tag", "b"], line("b", b"abc", bits, family, tag=True))
+            for tag in (True, False):
+                runs.wants([*words, "-c"], "b: OK\n", data=line("b", b"abc", bits, family, tag=tag).encode())
+        for size in (stripe - 1, stripe, stripe + 1, 3 * stripe, 65535, 65536, 65537, 200000):
+            data = random.Random(size).randbytes(size)
+            runs.write("data", data)
+            wanted = parallel_by_hashlib(family[0], data).hex()
+            runs.wants([*words, "data"], f"{wanted}  data\n")
+            runs.wants([*words, "-"], f"{wanted}  -\n", data=data)
+            runs.wants(["-c", "--strict"], "data: OK\n", data=f"BLAKE2{family} (data) = {wanted}\n".encode())
+    runs.ends("BLAKE2bp and BLAKE2sp")
+
+
+NEEDED = {"key": "--key-file", "salt": "--salt", "person": "--personal"}
+NO_LINE = "'standard input': no properly formatted checksum lines found"
+
+
+def test_needs(runs):
+    """Tags that say what a digest needs: only a check with exactly that reads them, and no other program does."""
+    values = {"key": bytes(range(32)), "salt": b"12345678", "person": b"abcdefgh"}
+    runs.write("key", values["key"])
+    words = {"key": ["--key-file", "key"], "salt": ["--salt", values["salt"].hex()],
+             "person": ["--personal", values["person"].hex()]}
+    sets = [some for count in range(4) for some in itertools.combinations(NEEDED, count)]
+    peers = [it for it in (["b2sum", "-c"], ["cksum", "--check"], ["cksum", "-a", "blake2b", "--check"])
+             if shutil.which(it[0], path="/usr/bin")]
+    for family, some in itertools.product(("b", "s", "bp", "sp", 4), sets):
+        given, bits = {it: values[it] for it in some}, 256
+        if family == 4 and "key" in some:
+            continue
+        own = ["--tree", "4"] if family == 4 else ["-a", "blake2" + family]
+        texts = {it: given[it] for it in some}
+        said = (f"BLAKE2b-tree-4{needs(**texts)}-256 (b) = {root(b'abc', 4, 32, **texts).hex()}\n" if family == 4
+                else line("b", b"abc", bits, family, tag=True, **given))
+        options = [word for it in some for word in words[it]]
+        runs.wants([*own, "-l", "256", "--tag", *options, "b"], said)
+        for other in sets if family == "b" else {(), some}:
+            lacking = " ".join(NEEDED[it] for it in some if it not in other)
+            check = [*own, "-c", "-l256", *(word for it in other for word in words[it])]
+            if other == some:
+                runs.wants(check, "b: OK\n", data=said.encode())
+            else:
+                text = (f"'standard input': lines need {lacking}\n" if lacking else "") + NO_LINE
+                runs.wants(check, "", text, 1, said.encode())
+        for peer in peers if some else ():
+            got = subprocess.run(peer, executable="/usr/bin/" + peer[0], cwd=runs.folder, input=said.encode(),
+                                 stdout=subprocess.PIPE, stderr=subprocess.PIPE)
+            runs.holds([*peer, said], got.returncode == 1 and got.stdout == b"" and b"no properly" in got.stderr, got)
+    tagged = line("b", b"abc", 256, tag=True, key=values["key"])
+    both = tagged + line("a", b"", 256, tag=True, salt=b"x")
+    runs.wants(["-c"], "", "'standard input': lines need --key-file --salt\n" + NO_LINE, 1, both.encode())
+    runs.wants(["-c", "--status"], "", NO_LINE, 1, both.encode())
+    runs.wants(["-c"], "b: OK\n", "'standard input': lines need --key-file\nWARNING: 1 line is improperly formatted", 0,
+               (tagged + line("b", b"abc")).encode())
+    runs.write("one", tagged.encode())
+    runs.write("two", line("b", b"abc").encode())
+    runs.wants(["-c", "one", "two"], "b: OK\n", "one: lines need --key-file\n"
+               "one: no properly formatted checksum lines found", 1)
+    for option, text in (([], line("b", b"abc", 256, "s", tag=True, key=values["key"])),
+                         (["-a", "blake2bp"], tagged), (["-a", "blake2s"], tagged)):
+        runs.wants(["-c", "-l256", *words["key"], *option], "",
+                   "'standard input': lines need another --algorithm or --tree\n" + NO_LINE, 1, text.encode())
+    for text in ("-keyx", "-salt-key", "-personal-salt", "-key-key", "-Key", "-key-", "key", " -key"):
+        runs.wants(["-c", *words["key"]], "", NO_LINE, 1, line("b", b"abc", 512, tag=True, key=values["key"]).replace(
+            "-key", text).encode())
+    runs.ends("tags that say what a digest needs")
+
+
+def test_tags(runs):
+    """One manifest of all hashes, lengths and leaf lengths, whatever the options are for untagged lines."""
+    text = "".join(line("b", b"abc", bits, family, tag=True)
+                   for family in ("b", "s", "bp", "sp") for bits in (8, 256, 512 if family[0] == "b" else 248))
+    text += "".join(root_line("b", b"abc", leaf, bits) for leaf in (1, 2, 65536, (1 << 32) - 1) for bits in (64, 512))
+    for words in ([], ["-a", "blake2s"], ["-a", "blake2bp"], ["--tree", "3"]):
+        runs.wants(["-c", "--strict", *words], "b: OK\n" * 20, data=text.encode())
+    runs.wants(["-c"], "b: OK\n" * 21, data=(text + line("b", b"abc", 128)).encode())
+    runs.wants(["-c", "-l", "256"], "b: OK\n" * 4, "WARNING: 16 lines are improperly formatted", data=text.encode())
+    changed = text.replace("(b)", "(a)")
+    runs.wants(["-c"], "a: FAILED\n" * 20, "WARNING: 20 computed checksums did NOT match", 1, changed.encode())
+    for leaf in ("0", "04", "4294967296", "4x", "", "-4", "+4", " 4", "99999999999999999999"):
+        runs.wants(["-c"], "", NO_LINE, 1, root_line("b", b"abc", 4).replace("tree-4", "tree-" + leaf).encode())
+    runs.ends("manifests of several hashes")
 
 
 def scanned(runs, words, key, call, at):
@@ -243,7 +362,7 @@ def test_secrets(runs):
     the state. Once a key file is opened, the process cannot be dumped."""
     key = random.Random(3).randbytes(64)
     runs.write("long", bytes(200000))
-    for family, bits, some in (("b", 512, key), ("s", 256, key[:32])):
+    for family, bits, some in (("b", 512, key), ("s", 256, key[:32]), ("bp", 512, key), ("sp", 256, key[:32])):
         runs.write("key", some)
         words = ["-a", "blake2" + family, "--key-file", "key"]
         manifest = line("long", bytes(200000), bits, family, key=some)
@@ -259,7 +378,8 @@ def test_secrets(runs):
                     runs.holds([*words, call, at, found], found[1:] == (0, 0))
                 ends.append(at - 1)
             pieces = len(some) // 8
-            runs.holds([*words, "at most", most], 1 <= most // pieces <= MOST_COPIES and ends[0] > 6 and ends[1] > 4)
+            runs.holds([*words, "at most", most],
+                       1 <= most // pieces <= MOST_COPIES[family] and ends[0] > 6 and ends[1] > 4)
             for at in range(ends[1] - 1, ends[1] + 1):
                 runs.holds([*words, "the end", at], scanned(runs, words + more, some, "close", at) == (0, 0, 0))
     for at in (1, 3):
@@ -270,10 +390,10 @@ def test_secrets(runs):
 
 def test_shapes(runs):
     """Digits and bytes without names, as b3sum's users know them."""
-    digest = hashlib.blake2b(b"abc", digest_size=32)
-    for words, shown in ((["--no-names"], digest.hexdigest().encode() + b"\n"), (["--raw"], digest.digest()),
-                         (["--no-names", "--zero"], digest.hexdigest().encode() + b"\0"),
-                         (["--raw", "--no-names", "-b", "-z"], digest.digest())):
+    whole = hashlib.blake2b(b"abc", digest_size=32)
+    for words, shown in ((["--no-names"], whole.hexdigest().encode() + b"\n"), (["--raw"], whole.digest()),
+                         (["--no-names", "--zero"], whole.hexdigest().encode() + b"\0"),
+                         (["--raw", "--no-names", "-b", "-z"], whole.digest())):
         for more, data in ((["b"], b""), ([], b"abc"), (["-"], b"abc")):
             got = runs.run(["-l", "256", *words, *more], data)
             runs.holds([*words, *more], got == (shown, b"", 0), got)
@@ -297,7 +417,8 @@ def test_key_input(runs):
         runs.wants(["-c", "--key-file=-", "sums"], "b: OK\n", data=some)
     for some in (b"", bytes(65), bytes(1000)):
         runs.wants(["--key-file", "-", "b"], "", "-: a key has 1 to 64 bytes", 1, data=some)
-    runs.wants(["-a", "blake2s", "--key-file", "-", "b"], "", "-: a key of BLAKE2s has 1 to 32 bytes", 1, data=key)
+    runs.wants(["-a", "blake2s", "--key-file", "-", "b"], "", "-: a key of BLAKE2s or BLAKE2sp has 1 to 32 bytes", 1,
+               data=key)
     said = "standard input is the key, and cannot be a file too"
     for words in ([], ["-"], ["b", "-"], ["-c"], ["-c", "-"]):
         runs.wants(["--key-file", "-", *words], "", said, 1, data=key, Try=1)
@@ -336,7 +457,7 @@ root = functools.cache(tree_root)
 
 def root_line(name, data, leaf, bits=512, **texts):
     """The line of the root of a tree."""
-    tag = f"BLAKE2b-tree-{leaf}{'' if bits == 512 else f'-{bits}'}"
+    tag = f"BLAKE2b-tree-{leaf}{needs(**texts)}{'' if bits == 512 else f'-{bits}'}"
     return f"{tag} ({name}) = {root(data, leaf, bits // 8, **texts).hex()}\n"
 
 
@@ -366,17 +487,12 @@ def test_trees(runs):
         runs.wants(["--tree", "65536", "--threads", str(count), "big"], root_line("big", big, 65536))
     runs.wants(["--tree=65536", "--salt", "0102", "--personal=ff", "big"],
                root_line("big", big, 65536, salt=b"\1\2", person=b"\xff"))
-    for text in (line("b", b"abc"), line("b", b"abc", tag=True), root_line("b", b"abc", 5),
-            root_line("b", b"abc", 4).replace("-4", "-04")):
-        got = runs.run(["-c", "--tree", "4"], text.encode())
-        runs.holds(text, got[0] == b"" and got[2] == 1 and b"no properly formatted" in got[1], got)
-    got = runs.run(["-c"], root_line("b", b"abc", 4).encode())
-    runs.holds("a root is no digest", got[0] == b"" and got[2] == 1, got)
+    runs.wants(["-c", "--tree", "4"], "", NO_LINE, 1, line("b", b"abc").encode())
     runs.ends("roots of trees")
 
 
 def test_coreutils(runs):
-    """What coreutils' own tests of b2sum and of its kin check."""
+    """What coreutils' own tests of b2sum and of related programs check."""
     names = ("a", " b", "*c", "44", " ")
     for name in names:
         runs.write(name, name.encode() + b"\n")
@@ -403,10 +519,12 @@ def test_differences(runs):
     found = "'standard input': no properly formatted checksum lines found"
     for length in ("0256", "+256", " 256", "0x100"):
         runs.wants(["-c"], "", found, 1, f"BLAKE2b-{length} (b) = {digits}\n".encode())
-    for text in (f"{digits}  b\0\n", f"{digits}\0  b\n", f"BLAKE2bp-256 (b) = {digits}\n",
-                 line("b", b"abc", tag=True).replace("BLAKE2b", "BLAKE2bp"),
+    for text in (f"{digits}  b\0\n", f"{digits}\0  b\n", line("b", b"abc", tag=True).replace("BLAKE2b", "BLAKE2x"),
                  line("b", b"abc", tag=True).replace(" (", "  (")):
         runs.wants(["-c"], "", found, 1, text.encode())
+    for tag in ("BLAKE2bp-256", "BLAKE2s", "BLAKE2sp", "BLAKE2b-tree-1-256"):
+        runs.wants(["-c"], "b: FAILED\n", "WARNING: 1 computed checksum did NOT match", 1,
+                   f"{tag} (b) = {digits}\n".encode())
     runs.wants(["-c"], "b: OK\n", "WARNING: 1 line is improperly formatted", 0,
                f"\\{digits}  a\\x\n{digits} b\n".encode())
     runs.wants(["-c", "--ignore-missing", "--quiet"], "", data=f"{digits}  b\n{digits}  none\n".encode())
@@ -522,6 +640,27 @@ def test_pipes(runs):
     runs.ends("pipes that nobody reads")
 
 
+def test_streams(runs):
+    """Each line of a manifest has its verdict before the next is written, on standard input and in a pipe."""
+    os.mkfifo(runs.path("lines"))
+    for words in ([], ["lines"]):
+        process = subprocess.Popen([runs.program, "-c", *words], cwd=runs.folder, stdin=subprocess.PIPE,
+                                   stdout=subprocess.PIPE)
+        with open(runs.path("lines"), "wb", 0) if words else process.stdin as manifest:
+            for name, data in FILES.items():
+                text, verdict = os.fsencode(line(name, data)), os.fsencode(checked(name))
+                for part in text[:7], text[7:]:
+                    manifest.write(part)
+                    manifest.flush()
+                ready, _, _ = select.select([process.stdout], [], [], 60)
+                got = os.read(process.stdout.fileno(), len(verdict)) if ready else b""
+                runs.holds([*words, name], got == verdict, got)
+        runs.holds([*words, "status"], process.wait() == 0, process.returncode)
+        process.stdout.close()
+        process.stdin.close()
+    runs.ends("lines that are checked as they come")
+
+
 def test_closing(runs):
     """Outputs whose closing fails, as some systems report a late write. The first file is closed before them."""
     quota = f"b2sum: write error: {os.strerror(errno.EDQUOT)}\n".encode()
@@ -537,12 +676,13 @@ def test_closing(runs):
 def test_progress(runs):
     """What --progress shows on a terminal over a pipe that waits, and that nothing else shows anything."""
     os.mkfifo(runs.path("slow"))
-    for words, wanted in ((["--progress"], b"\rslow: 0 MiB\x1b[K\r\x1b[K"),
-            (["--prog", "--tag"], b"\rslow: 0 MiB\x1b[K\r\x1b[K"),
-                          ([], b"")):
+    runs.write("--prog", b"k")
+    shown = b"\rslow: 0 MiB\x1b[K\r\x1b[K"
+    for words, wanted, parameters in ((["--progress"], shown, {}), (["--prog", "--tag"], shown, {"tag": True}),
+                                      (["--key-file", "--prog"], b"", {"key": b"k"}), ([], b"", {})):
         terminal, end = os.openpty()
         writer = subprocess.Popen(["sh", "-c", "exec >slow; printf ab; sleep 0.7; printf c"], cwd=runs.folder)
-        runs.wants([*words, "slow"], line("slow", b"abc", tag="--tag" in words), stderr=end)
+        runs.wants([*words, "slow"], line("slow", b"abc", **parameters), stderr=end)
         stop(writer)
         os.write(end, b"end")
         got = b""
@@ -579,12 +719,12 @@ def test_large(runs):
 # ---- Memory.
 
 def run_within(runs, kib, words, data=b""):
-    """A run in so many KiB of address space."""
+    """A run in this many KiB of address space."""
     return runs.run(words, data, preexec_fn=lambda: resource.setrlimit(resource.RLIMIT_AS, (kib << 10,) * 2))
 
 
 def test_memory(runs):
-    """A fixed amount for digests, and for a check up to twice the manifest. With less, it says so."""
+    """A fixed amount for digests, and for a check up to twice the longest line. With less, it says so."""
     low, high = 0, 1 << 16
     while high - low > 16:
         middle = (low + high) // 2
@@ -593,9 +733,15 @@ def test_memory(runs):
         file.truncate(64 << 20)
     got = run_within(runs, high + 64, ["large"])
     runs.holds("64 MiB", got == (os.fsencode(line("large", bytes(64 << 20))), b"", 0), got)
-    manifest = os.fsencode(line("b", b"abc") + "# comment\n" * 400000)
-    got = run_within(runs, high + 64 + 2 * len(manifest) // 1024, ["-c"], manifest)
+    manifest = os.fsencode("# comment\n" * 400000 + line("b", b"abc"))
+    got = run_within(runs, high + 192, ["-c"], manifest)
     runs.holds("a manifest of 4 MB", got == (b"b: OK\n", b"", 0), got)
+    got = run_within(runs, high + 192, ["-c"], b"y\n" * (1 << 20))
+    runs.holds("lines of yes", got == (b"", b"b2sum: 'standard input': no properly formatted checksum lines found\n", 1),
+               got)
+    manifest = os.fsencode("#" * (1 << 22) + "\n" + line("b", b"abc"))
+    got = run_within(runs, high + 192 + 2 * len(manifest) // 1024, ["-c"], manifest)
+    runs.holds("a line of 4 MiB", got == (b"b: OK\n", b"", 0), got)
     got = run_within(runs, high + len(manifest) // 1024, ["-c"], manifest)
     runs.holds("with less", got == (b"", b"b2sum: memory exhausted\n", 1), got)
     runs.ends("memory")
@@ -658,9 +804,11 @@ def said(call, error, err):
     return os.fsencode(os.strerror(error)) in err or b"read error" in err
 
 
-COMPUTING = (test_lengths, test_parameters, test_demanded_lengths, test_shapes, test_trees)
-TESTS = (*COMPUTING, test_names, test_coreutils, test_differences, test_key_input, test_system, test_changes,
-         test_outputs, test_pipes, test_closing, test_progress, test_large, test_memory, test_secrets, test_faults)
+COMPUTING = (test_lengths, test_parameters, test_parallel, test_demanded_lengths, test_shapes, test_trees)
+CALLING_ALL = (test_shapes, test_parallel, test_trees)
+TESTS = (*COMPUTING, test_needs, test_tags, test_names, test_coreutils, test_differences, test_key_input, test_system,
+         test_changes, test_outputs, test_pipes, test_streams, test_closing, test_progress, test_large, test_memory,
+         test_secrets, test_faults)
 FAULTY = (test_changes, test_closing, test_secrets, test_faults)
 
 
@@ -673,7 +821,7 @@ def main():
             ("FAULTS", "b2sum_faults.c"), ("SCANS", "b2sum_key.c")))
     with programs(sys.argv[1:]) as built:
         for number, program in enumerate(built):
-            for test in TESTS if HUGE or number == 0 else COMPUTING:
+            for test in TESTS if number == 0 else COMPUTING if HUGE else CALLING_ALL:
                 if test in FAULTY and not has_faults:
                     tap.result(True, "calls that fail", skipped="no C compiler cc")
                     continue

@@ -1,11 +1,11 @@
 #!/usr/bin/env bash
 # Tests the scripts on a Linux without GNU's tools, with those of BusyBox, bash, a C compiler and
 # its binutils alone on the PATH; and what they build over the C library musl.
-source "$(dirname "$(readlink -f "$0")")/../c/tests/installed.sh"
+source "$(dirname "$(readlink -f "$0")")/../c/tests/common.sh"
 tools=$work/tools
 repository=$work/repository
 
-# A folder with those tools alone.
+# A folder with only those tools.
 make_tools() {
     local tool
     mkdir "$tools" || return 1
@@ -59,7 +59,7 @@ make_installs() {
 # blamed.
 names_what_is_missing() {
     local tool
-    for tool in awk cat cut diff find sed sha256sum sort tr xargs mktemp cc; do
+    for tool in awk cat cut diff find sed sha256sum sort xargs mktemp cc; do
         mv "$tools/$tool" "$work/hidden" && rm -rf "$repository/out" "$work/none"
         ! alone ./b2sum "$work/abc" >"$work/said" 2>"$work/errors" &&
             ! alone c/install.sh "$work/none" >>"$work/said" 2>"$work/errors.install" &&
@@ -72,12 +72,12 @@ names_what_is_missing() {
     done
 }
 
-# Tools that are there and fail: dist/ is not blamed by b2sum, nor a list of functions by join.sh.
+# Tools that are there and fail: dist/ is not blamed by b2sum, nor a list of functions by make_libraries.sh.
 # diff only shows what differs.
 fails_to_compare() {
     local call tool
-    for call in {awk,cat,cut,find,sed,sha256sum,sort,tr,xargs}:"./b2sum $work/abc" \
-        {grep,sed,sort,tr}:"c/join.sh $work/none $top/dist/x86_64/vulfsjor-v2.s"; do
+    for call in {awk,cat,cut,find,sed,sha256sum,sort,xargs}:"./b2sum $work/abc" \
+        {grep,sed,sort,tr}:"c/make_libraries.sh $work/none $top/dist/x86_64/vulfsjor-v2.s"; do
         tool=${call%%:*}
         mv "$tools/$tool" "$work/hidden" && rm -rf "$repository/out" "$work/none" &&
             printf '#!%s\nexit 1\n' "$BASH" >"$tools/$tool" && chmod +x "$tools/$tool"

@@ -5,7 +5,7 @@ pages that are named, and compares what it prints.
     tests/examples.py [PAGE..]
 
 An example is a fenced block in c, cpp, rust, python, cmake or sh; js/tests/readme.test.mjs runs those in JavaScript,
-and python/tests/test_package.py those in Python's guide. A block in C, C++ or Rust is a whole program, in C `hello.c`.
+and python/tests/test_api.py those in Python's guide. A block in C, C++ or Rust is a whole program, in C `hello.c`.
 A block in cmake is a whole CMakeLists.txt, whose program `hello` is run. The blocks of a page run in order in one
 folder, which starts with links to b2, b2sum, c and dist of the repository, and for the guides with a file `data.bin` of
 100,000 bytes, which is the reader's; what a block leaves there is the next one's. Those of README.md in sh run in a

@@ -1,7 +1,7 @@
 #!/usr/bin/env python3
 """Prints the expected values that are in tables of the tests, under the name that is next to each.
 
-Digests come from Python's hashlib, and transcripts and what they are read as from from_specification.py, which is
+Digests come from Python's hashlib, and transcripts and what they are read as from b2_model.py, which is
 compared with hashlib first. "The digest of X" is BLAKE2b-256 of X.
 
 usage: tests/expected_values.py [NAME..]
@@ -11,8 +11,8 @@ import itertools
 import random
 import struct
 
-from blake2_kinds import FAMILIES, KINDS, Parser
-from from_specification import Input, Place, bytes_of, entries, fields, parameter_words, read
+from b2_model import Input, Place, bytes_of, entries, fields, parameter_words, read
+from common import FAMILIES, KINDS, Parser
 from oracle import SCALAR, check, hashlib_node, range_digests, tree_root
 
 ALPHABET = bytes(i % 251 for i in range(6000))

@@ -2,15 +2,16 @@
 
 A test that only needs a digest calls hashlib. The functions here are for what hashlib does not have
 in one call (roots, ranges of leaves). What it does not have at all (steps, a parameter block of any
-bytes, BLAKE2bp and BLAKE2sp with a key or with shorter digests) is computed by
-tests/from_specification.py, for the family SCALAR["b"] or SCALAR["s"]. `check` compares that with
+bytes, BLAKE2bp and BLAKE2sp with a key or with shorter digests, BLAKE2X) is computed by
+tests/b2_model.py, for the family SCALAR["b"] or SCALAR["s"]. `check` compares that with
 hashlib.
 """
 import hashlib
 import sys
 
-from blake2_kinds import FAMILIES
-from from_specification import B, S, Input, Place, parallel, steps
+from b2_model import B, S, Input, Place, parallel, steps
+from b2_model import output as xof
+from common import FAMILIES
 
 SCALAR = {"b": B, "s": S}
 
@@ -63,6 +64,11 @@ def parallel_by_hashlib(name, message, **texts):
     return node(b"".join(leaf.digest() for leaf in leaves), node_depth=1, last_node=True).digest()
 
 
+def output(name, message, length, key=b"", salt=b"", person=b"", is_known=True):
+    """This many bytes of the output of BLAKE2Xb ("b") or BLAKE2Xs ("s"). hashlib has no nodes of depth 0."""
+    return xof(SCALAR[name], length, Input(message, key or None, salt, person), is_known)
+
+
 def hashlib_node(given):
     """The arguments of hashlib's functions for an input, except its message and its key."""
     place = given.place
@@ -72,7 +78,7 @@ def hashlib_node(given):
 
 
 def check(source):
-    """Ends the program if a digest of from_specification.py differs from hashlib's, over random inputs and
+    """Ends the program if a digest of b2_model.py differs from hashlib's, over random inputs and
     tree parameters at every size of digest."""
     for name, family in SCALAR.items():
         for size in range(1, family.digest + 1):

@@ -1,6 +1,6 @@
 #!/usr/bin/env python3
 """Compares the pages with the sources: what they name, quote and link is there, and their numbers are those of the
-definitions, of the code and of docs/SPEED.md. Each check below says what it compares.
+definitions, of the code and of bench/results/. Each check below says what it compares.
 
 usage: tests/pages.py
 """
@@ -14,9 +14,9 @@ import sys
 import tempfile
 
 import tap
-from blake2_kinds import TOP, Unreadable, read, version
+from common import TOP, Unreadable, read, version
 import reference
-from sources import anchor, modules, words_of
+from read_sources import anchor, modules, words_of
 
 WORD = re.compile(r"`([^`]+)`")
 FUNCTION = r"^///.*?^}$"
@@ -109,8 +109,8 @@ def family_rows():
     of = {name: Values("blake2_simd", "Family", name) for name in (
         "word", "block_bytes", "rounds", "rotations", "key_bytes", "output_bytes", "salt_bytes", "iv")}
 
-    def row(label, name, told=str):
-        return f"| {label} | " + " | ".join(told(of[name][family]) for family in LANGUAGES) + " |"
+    def row(label, name, shown=str):
+        return f"| {label} | " + " | ".join(shown(of[name][family]) for family in LANGUAGES) + " |"
     yield row("w, bits of a word", "word", lambda width: width[1:])
     yield row("B, bytes of a block", "block_bytes")
     yield row("rounds of F", "rounds")
@@ -191,9 +191,9 @@ def check_specification():
     for wanted, found in zip((28, 11, 18, 9), groups):
         if len(found) != wanted:
             yield f"tests/pages.py reads {len(found)} numbers in the definitions where it wants {wanted}: {found[:3]}.."
-    for told in sum(groups, []):
-        if told not in page:
-            yield f"SPECIFICATION: the definitions say {told!r}"
+    for shown in sum(groups, []):
+        if shown not in page:
+            yield f"SPECIFICATION: the definitions say {shown!r}"
 
 
 # Where the version is, by what is before it.
@@ -240,11 +240,25 @@ def check_crates():
                 yield f"crates.txt: {crate} needs {other}"
 
 
-def measured(header):
-    """The rows of a table of docs/SPEED.md whose header begins with this text: cells, by the first one."""
-    text = find(rf"(?m)^\| {header}.*\n\|.*\n((?:\|.*\n)+)", read("docs/SPEED.md"), "docs/SPEED.md")
-    rows = ([cell.strip() for cell in line.strip("|").split("|")] for line in text.splitlines())
-    return {first: cells for first, *cells in rows}
+def tables():
+    """The tables of bench/results/: for each the cells of its header, and those of its rows."""
+    for path in paths("bench/results/*.txt"):
+        for block in re.findall(r"(?m)^\|.*\n\|[ |:-]+\n(?:\|.*\n)+", read(path)):
+            header, _, *rows = ([cell.strip() for cell in line.strip("|").split("|")] for line in block.splitlines())
+            yield header, rows
+
+
+def rows_of(title):
+    """The rows of the table whose header has this first cell."""
+    found = [rows for header, rows in tables() if header[0] == title]
+    if len(found) != 1:
+        raise Unreadable(f"bench/results/: {len(found)} tables have the first cell {title!r}")
+    return found[0]
+
+
+def measured(title):
+    """The same: cells, by the first one."""
+    return {first: cells for first, *cells in rows_of(title)}
 
 
 def newest(rows, name):
@@ -255,30 +269,34 @@ def newest(rows, name):
 def ratio_rows():
     """The rows of README.md that have the ratios of speed."""
     memory, b, s, file = map(measured, (
-        "1 MiB in memory . BLAKE2b-512, GB", "one BLAKE2b-512", "one BLAKE2s-256", "1024 MiB from a file"))
+        "1 MiB in memory", "one BLAKE2b-512 digest", "one BLAKE2s-256 digest", "512 MiB from a file"))
     one, short_b, short_s = (newest(rows, "`vulfsjor`") for rows in (memory, b, s))
+    program = newest(file, "`b2 sum`")
     avx2, old = (memory[f"ours: `vulfsjor`, x86-64-{level}"] for level in ("v3", "v2"))
     for name, *ratios in (
             ("1 MiB in memory", one[1], one[3]), ("64 bytes in memory", short_b[3], short_s[3]),
             *([] if one is avx2 else [("1 MiB in memory, without AVX-512", avx2[1], avx2[3])]),
             ("1 MiB in memory, without AVX2 (the others use it)", old[1], old[3]),
-            ("a file of 1 GiB by `b2 sum`", f"{1 / float(file['blake2b/s_simd'][1]):.2f}", "not measured")):
+            ("a file of 512 MiB by `b2 sum`", program[1], program[3])):
         yield f"| {name} | {' | '.join(f'**{ratio}**' if ratio < '1' else ratio for ratio in ratios)} |"
 
 
 def summary():
     """The first table of docs/SPEED.md, and the sentences above it."""
-    memory, b, s, four_b, eight_b, eight_s, roots = map(measured, (
-        "1 MiB in memory . BLAKE2b-512, GB", "one BLAKE2b-512", "one BLAKE2s-256", "4 messages of BLAKE2b",
-        "8 messages of BLAKE2b", "8 messages of BLAKE2s", "16 MiB"))
+    memory, b, s, bp, sp, four_b, eight_b, eight_s, roots, xof = map(measured, (
+        "1 MiB in memory", "one BLAKE2b-512 digest", "one BLAKE2s-256 digest", "one BLAKE2bp-512 digest",
+        "one BLAKE2sp-256 digest", "4 messages of BLAKE2b-512", "8 messages of BLAKE2b-512",
+        "8 messages of BLAKE2s-256", "16 MiB", "32,768 bytes of output"))
     def cell(speed, ratio):
         return f"{float(speed):.2f} GB/s, {2.5 / float(speed):.2f} cycles a byte | {ratio}"
-    one, short_b, short_s = (newest(rows, "`vulfsjor`") for rows in (memory, b, s))
-    root, short = newest(roots, "root"), (short_b[3], short_s[3])
+    one, short_b, short_s, long_bp, long_sp = (newest(rows, "`vulfsjor`") for rows in (memory, b, s, bp, sp))
+    root, outputs, short = newest(roots, "root"), newest(xof, "blocks in parallel"), (short_b[3], short_s[3])
     several = ((count, newest(rows, "in parallel")) for count, rows in ((4, four_b), (8, eight_b), (8, eight_s)))
     many = [(count * 1024 / int(row[2]), row[3]) for count, row in several]
     yield f"| 1 MiB in memory | {cell(*one[:2])} | {cell(*one[2:4])} |"
     yield f"| a digest of 64 bytes | {short_b[2]} ns | {short[0]} | {short_s[2]} ns | {short[1]} |"
+    yield f"| 1 MiB of BLAKE2bp-512 and BLAKE2sp-256 | {cell(*long_bp[-2:])} | {cell(*long_sp[-2:])} |"
+    yield f"| 32 KiB of output of BLAKE2Xb and BLAKE2Xs | {cell(*outputs[:2])} | {cell(*outputs[2:])} |"
     yield f"| 4 messages of 1,024 bytes in parallel | {cell(*many[0])} | | |"
     yield f"| 8 messages of 1,024 bytes in parallel | {cell(*many[1])} | {cell(*many[2])} |"
     yield f"leaves of 64 KiB | {cell(*root[2:4])} | | |"
@@ -287,21 +305,31 @@ def summary():
         yield f"{what} {min(percents)} to {max(percents)} percent faster"
 
 
+def other_ratios():
+    """Sentences of docs/SPEED.md that have the ratios of threads, of b2sum, of JavaScript and of portable C."""
+    memory, file = measured("1024 MiB in memory"), measured("a file of 1024 MiB")
+    yield f"root of a tree over 1 GiB {memory['`vulfsjor_tree_root_threads`'][5]} times as fast as one thread"
+    yield f"`b2sum --tree` over a file {file['`b2sum --tree`'][5]} times as fast as `b2 tree`"
+    yield f"`b3sum` (BLAKE3, another hash function) is {file['`b3sum`'][5]} times as fast"
+    sums, hashes, roots, portable = (rows_of(title) for title in ("read", "hash", "tree root of", "in C"))
+    one, small = (row[3] for row in sums if row[1] == "`b2sum` (ours)")
+    yield f"`b2sum` is {one} times as fast as the one of coreutils over a file of 1 GiB, and {small} times over"
+    ratios = sorted((row[4], row[1]) for row in hashes if row[0].startswith("BLAKE2"))
+    yield f"{ratios[0][0]} to {ratios[-1][0]} times as fast as `node:crypto`, slowest at {ratios[0][1]} bytes"
+    yield f"{roots[0][0]} {roots[0][5]} times as fast as one thread, and over {roots[1][0]} {roots[1][5]} times"
+    long, short = (sorted(row[4] for row in portable if row[0].endswith(unit)) for unit in ("MiB", "bytes"))
+    yield f"{long[0]} to {long[-1]} times as fast as plain C by the same compiler at 1 MiB"
+    yield f"and {short[0]} to {short[-1]} times at 64 bytes"
+
+
 def check_speeds():
-    """The speeds and the digest of README.md, and the first speeds of docs/SPEED.md"""
+    """The speeds and the digest of README.md, and the speeds of docs/SPEED.md"""
     prefix = find(r"prints ([0-9a-f]+)\.\.\.", read("README.md"), "README.md")
     if not hashlib.blake2b(b"abc").hexdigest().startswith(prefix):
         yield f"README.md: {prefix} is not the beginning of the digest of abc"
-    for page, rows in (("README.md", ratio_rows()), ("docs/SPEED.md", summary())):
+    for page, rows in (("README.md", ratio_rows()), ("docs/SPEED.md", (*summary(), *other_ratios()))):
         text = one_spaced(read(page))
-        yield from (f"{page}: the tables of docs/SPEED.md say {row!r}" for row in rows if row not in text)
-
-
-def tables(page):
-    """The tables of a page: for each the cells of its header, and those of its rows."""
-    for block in re.findall(r"(?m)^\|.*\n\|[ |:-]+\n(?:\|.*\n)+", read(page)):
-        header, _, *rows = ([cell.strip() for cell in line.strip("|").split("|")] for line in block.splitlines())
-        yield header, rows
+        yield from (f"{page}: the tables of bench/results/ say {row!r}" for row in rows if row not in text)
 
 
 def interval(cell):
@@ -332,7 +360,8 @@ def ratios_to(header, rows):
 
 
 def ratios_by_row(header, rows):
-    """The same of a table whose header names no candidate: those of programs over files and of JavaScript."""
+    """The same of a table whose header names no candidate: those of programs over files, of JavaScript and
+    of portable C."""
     base = {}
     for row in rows:
         if header[0] == "read":
@@ -346,20 +375,24 @@ def ratios_by_row(header, rows):
         elif header[0] == "tree root of":
             yield row[0], row[3], row[2], row[1]
             yield row[0], row[5], row[4], row[1]
+        elif header[0] == "in C":
+            for ratio, other in ((row[4], row[3]), (row[6], row[5])):
+                if ratio:
+                    yield row[0], ratio, *((row[2], other) if other.endswith("MB/s") else (other, row[2]))
 
 
 def check_ratios():
-    """The ratios of docs/SPEED.md: each is that of the two numbers in its table"""
+    """The ratios of bench/results/: each is that of the two numbers in its table"""
     count = wanted = 0
-    for header, rows in tables("docs/SPEED.md"):
+    for header, rows in tables():
         for row, ratio, over, under in (*ratios_to(header, rows), *ratios_by_row(header, rows)):
             count += 1
             if not is_ratio(ratio, over, under):
-                yield f"SPEED: {header[0]}, {row}: {ratio} is not {over} / {under}"
-        columns = [i for i, title in enumerate(header) if title.startswith("ratio") and header[0]]
+                yield f"bench/results/: {header[0]}, {row}: {ratio} is not {over} / {under}"
+        columns = [i for i, title in enumerate(header) if title.startswith("ratio")]
         wanted += sum(bool(row[i]) for row in rows for i in columns)
     if count != wanted or not count:
-        yield f"SPEED: of {wanted} ratios {count} are read"
+        yield f"bench/results/: of {wanted} ratios {count} are read"
 
 
 def size(count):
@@ -377,25 +410,26 @@ def constant(path, name):
 
 def thread_words():
     """Sentences that have the numbers of trees by threads: of each the page, and the words."""
-    least, part, most, leaves = (constant("c/threads.c", f"{name}") for name in (
-        "LEAST_BYTES", "PART_BYTES", "MOST_BUFFER_BYTES", "MOST_LEAVES"))
-    for name, value in (("LEAST", least), ("PART", part), ("MOST_BUFFER", most)):
-        path = "rust/src/threads.rs" if f"{name}_BYTES: " in read("rust/src/threads.rs") else "rust/src/file.rs"
+    least, part, most, leaves, of_part, waiting = (constant("c/threads.c", f"{name}") for name in (
+        "LEAST_BYTES", "PART_BYTES", "MOST_BUFFER_BYTES", "MOST_LEAVES", "PART_LEAVES", "WAITING_BYTES"))
+    for name, value in (("LEAST", least), ("PART", part), ("MOST_BUFFER", most), ("WAITING", waiting)):
+        path = "rust/src/threads.rs" if f"const {name}_BYTES: " in read("rust/src/threads.rs") else "rust/src/tree_file.rs"
         if constant(path, f"{name}_BYTES") != value:
             yield path, f"{name}_BYTES of c/threads.c, {value}"
     buffers = f"up to {size(part)} or four leaves, whichever is more, and"
-    digests = size(64 * leaves)
+    digests, of_two = size(64 * leaves), size(2 * 64 * of_part)
     yield "docs/LARGE.md", f"one thread for each {size(least)}, and so a second one from {size(2 * least)} on"
-    yield "docs/LARGE.md", f"{buffers} of at most {size(most)}"
-    yield "docs/LARGE.md", f"`vulfsjor_tree_update_fd` at most {digests}, however long the file is"
+    yield "c/include/vulfsjor_threads.h", f"a root needs about {of_two} for each thread at most"
+    yield "rust/src/threads.rs", f"The call allocates at most {of_two} for each"
+    yield "rust/src/tree_file.rs", f"and at most {of_two} for digests"
     yield "c/include/vulfsjor_threads.h", f"at most one thread for each {size(least)} of"
     yield "c/include/vulfsjor_threads.h", f"{buffers} at most {size(most)}"
-    yield "c/include/vulfsjor_threads.h", f"vulfsjor_tree_update_fd needs at most {digests} for digests"
+    yield "c/include/vulfsjor_threads.h", f"vulfsjor_tree_update_fd at most {digests} for digests"
     yield "c/include/vulfsjor_threads.h", f"A regular file of at least {size(least)} is read by all threads"
     yield "rust/README.md", f"It starts a second thread from {size(2 * least)} on"
     yield "rust/src/threads.rs", f"(less than {size(least)} for each)"
-    yield "rust/src/file.rs", f"A regular file of at least {size(2 * least)} is read and hashed by"
-    yield "rust/src/file.rs", f"Each thread has a buffer of at most {size(most)}"
+    yield "rust/src/tree_file.rs", f"A regular file of at least {size(2 * least)} is read and hashed by"
+    yield "rust/src/tree_file.rs", f"Each thread has a buffer of at most {size(most)}"
 
 
 def leaf_words():
@@ -405,13 +439,65 @@ def leaf_words():
     for words in (f"hashes each leaf to {digest} bytes", f"hashes {digest} bytes for each leaf in one thread",
                   f"1/{(1 << 16) // digest:,} of the message at 64 KiB, 1/{(1 << 10) // digest} at 1 KiB",
                   f"you hash one leaf again, and {digest} bytes for each leaf of the message",
-                  f"A call allocates {digest} bytes for each leaf, which is {of_a_gib} for 1 GiB in leaves of 64 KiB",
+                  f"allocates {digest} bytes for each leaf of its input",
                   f"the digests of the leaves, {digest} bytes for each",
                   f"For 1 GiB in leaves of 64 KiB you keep {of_a_gib} of digests"):
         yield "docs/LARGE.md", words
     short, middle, long = (float(cell) for cell in newest(measured("16 MiB"), "root")[::2])
     yield "docs/LARGE.md", (f"of 4 KiB the speed was {round(100 - 100 * short / middle)} percent lower, with leaves of "
                             f"1 MiB {round(100 - 100 * long / middle)} percent")
+
+
+# What each package says of a family, by the definition: the lengths of block, digest, key, and salt or persona.
+LENGTHS = ("block_bytes", "output_bytes", "key_bytes", "salt_bytes")
+IN_C = ("BLOCKBYTES", "OUTBYTES", "KEYBYTES", "SALTBYTES")
+IN_JAVASCRIPT = ("blockLength", "digestLength", "keyLength", "saltLength")
+
+
+def said_of(kind):
+    """The lengths of a hash in each package: the file, the name there, and the number."""
+    family = kind.upper()
+    for name, length in zip(IN_C, LENGTHS):
+        path = "c/include/vulfsjor.h"
+        yield path, length, find(rf"\bVULFSJOR_{family}_{name} = ([0-9]+),", read(path), path)
+    path = "js/src/engine.js"
+    of_kind = find(rf"(?s)export const {family} = Object.freeze\(\{{(.*?)\}}\)", read(path), path)
+    for name, length in zip(IN_JAVASCRIPT, LENGTHS):
+        yield path, length, find(rf"\b{name}: ([0-9]+),", of_kind, path)
+    path = "python/src/library.c"
+    size, salt = (find(rf"(?m)^TYPE\({kind}, {form},", read(path), path) for form in ("([0-9]+)", "[0-9]+, ([0-9]+)"))
+    yield from ((path, length, number) for length, number in zip(LENGTHS[1:], (size, size, salt)))
+    if len(kind) == len("blake2b"):  # BLAKE2bp has the limits of its family in Rust
+        path = "rust/src/params.rs"
+        of_kind = find(rf"(?s)const {family}: Self = FamilyLimits \{{(.*?)\}}", read(path), path)
+        for name, length in (("output_size", "output_bytes"), ("output_size", "key_bytes"), ("salt", "salt_bytes")):
+            yield path, length, find(rf"\b{name}: ([0-9]+),", of_kind, path)
+
+
+def power(path, before):
+    """The number in a file that is a power of two, or one less, after these words."""
+    base = find(rf"{before}\(?(?:2n \*\* |1 << )([0-9]+)n?\)?", read(path), path)
+    return 1 << int(base)
+
+
+def check_numbers():
+    """The numbers that packages repeat: lengths of each hash, the longest message of a tree, threads"""
+    for kind in ("blake2b", "blake2s", "blake2bp", "blake2sp"):
+        for path, length, number in said_of(kind):
+            wanted = Values("blake2_simd", "Family", length)[kind[:7]]
+            if number != wanted:
+                yield f"{path}: {length} of {kind} is {number}, and the definition has {wanted}"
+    limit = power("crates/blake2_tree/src/limits.rt", "MESSAGE_LIMIT: u64 = ")
+    for path, before in (("rust/src/tree_params.rs", "MOST_BYTES: u64 = "), ("js/index.js", "const LIMIT = "),
+                         ("js/src/threads.js", "const LONGEST_MESSAGE = ")):
+        if power(path, before) != limit:
+            yield f"{path}: {before}is another limit than that of crates/blake2_tree"
+    wanted = constant("c/threads.c", "MOST_THREADS")
+    if constant("js/src/workers.js", "MOST_THREADS") != wanted:
+        yield f"js/src/workers.js: MOST_THREADS is not {wanted}, as in C"
+    path, name = "python/vulfsjor/_threads.py", "_MOST_BUFFER_BYTES"
+    if constant(path, name) != constant("c/threads.c", name[1:]):
+        yield f"{path}: {name} is another than in C"
 
 
 def b2sum_words():
@@ -423,10 +509,12 @@ def b2sum_words():
     of = {name: Values("blake2_simd", "Family", name) for name in ("output_bytes", "key_bytes", "salt_bytes")}
     (out_b, out_s), (key_b, key_s), (salt_b, salt_s) = ([int(values[it]) for it in LANGUAGES] for values in of.values())
     leaf = int(find(r"nat_lt n \(2 \^ ([0-9]+)\)", definition("b2_commands", "Words", "some_leaf"), "some_leaf"))
-    peer = find(r'startswith\("b2sum \(GNU coreutils\) ([0-9.]+)', read("tests/b2sum.py"), "tests/b2sum.py")
+    peer = find(r'startswith\("b2sum \(GNU coreutils\) ([0-9.]+)', read("tests/compare_coreutils.py"),
+                "tests/compare_coreutils.py")
     longest = int(find(r"char path\[([0-9]+)\]", read("c/b2sum.c"), "c/b2sum.c")) - 1
-    for words in (f"of GNU coreutils {peer} and has", f"at most {8 * out_b} (BLAKE2s: {8 * out_s}), the default",
-                  f"as the key: 1 to {key_b} (BLAKE2s: {key_s})", f"up to {salt_b} bytes (BLAKE2s: {salt_s})",
+    shorter = "BLAKE2s and BLAKE2sp"
+    for words in (f"of GNU coreutils {peer} and has", f"at most {8 * out_b} ({shorter}: {8 * out_s}), the default",
+                  f"as the key: 1 to {key_b} ({shorter}: {key_s})", f"up to {salt_b} bytes ({shorter}: {salt_s})",
                   f"leaves of LEAF bytes, 1 to {2 ** leaf - 1}", f"it reads {size(piece)} at a time",
                   f"With `--tree` it needs {size(tree + part)}, at most {size(64 * leaves)} for the digests of leaves",
                   f"a buffer of {size(part)} or four leaves, at most {size(most)}",
@@ -448,17 +536,32 @@ def check_guides():
             yield f"{page}: the code says {words!r}"
 
 
+def without_code(page):
+    """The text of a page without its fenced blocks."""
+    return re.sub(r"^```.*?^```$", "", read(page), flags=re.MULTILINE | re.DOTALL)
+
+
 @functools.cache
 def anchors(path):
     """The anchors of a page's headings, as a browser of the repository makes them."""
-    text = re.sub(r"^```.*?^```$", "", read(path), flags=re.MULTILINE | re.DOTALL)
-    return set(map(anchor, re.findall(r"^#+ (.+)$", text, re.MULTILINE)))
+    return set(map(anchor, re.findall(r"^#+ (.+)$", without_code(path), re.MULTILINE)))
+
+
+def links(page):
+    """The links of a page: text, path, and name of a heading, of which the last two may be empty. One whose target is
+    elsewhere on the page (`[text][label]` and `[label]: target`) has a path that does not exist if that is absent."""
+    text = without_code(page)
+    named = dict(re.findall(r"(?m)^\[([^]]+)\]: (\S+)$", text))
+    used = re.findall(r"\[([^]]*)\]\[([^]]+)\]", text)
+    yield from re.findall(r"\[([^]]*)\]\(([^)#]*)(?:#([^)]*))?\)", text)
+    yield from ((shown, *named.get(label, f"[{label}]").partition("#")[::2]) for shown, label in used)
+    yield from ((label, f"text with [{label}]", "") for label in named.keys() - {label for _, label in used})
 
 
 def check_links():
     """The links"""
     for page in pages():
-        for text, target, name in re.findall(r"\[([^]]*)\]\(([^)#]*)(?:#([^)]*))?\)", read(page)):
+        for text, target, name in links(page):
             path = os.path.normpath(os.path.join(os.path.dirname(page), target)) if target else page
             last = re.fullmatch(r"`(?:[\w.]+::)*(\w+)`", text)
             if "://" in target:
@@ -516,12 +619,10 @@ TARGETS = {"Linux": ("x86_64-linux-gnu", "aarch64-linux-gnu"), "Windows": ("x86_
 BUILDING = {"the library": ("c/install.sh", "{}"), "`b2`": ("b2", "--build", "{}"), "`b2sum`": ("b2sum", "--build", "{}")}
 # Each sentence of a page that says what there is for which systems.
 SENTENCES = {
-    "README.md": [("the library", r"\*\*Platforms\*\* .*?WebAssembly; (.*?); `b2sum`"), ("`b2sum`", r"`b2sum` on ([^.]*)\.")],
-    "docs/PLATFORMS.md": [("`b2sum`", r"The program `b2sum` is for ([^.]*)\.")],
-    "docs/FAQ.md": [("`b2`", r"\*\*(macOS, Windows)\?\*\* The library for C and the program `b2` build for both"),
-                    ("`b2sum`", r"`b2sum` is for ([^.]*)\.")],
+    "README.md": [(it, r"\*\*Platforms\*\* .*?WebAssembly; (.*?); other processors") for it in BUILDING],
+    "docs/PLATFORMS.md": [(it, r"The programs `b2` and `b2sum` are for ([^.]*)\.") for it in ("`b2`", "`b2sum`")],
     "docs/B2SUM.md": [("`b2sum`", r"The program is for ([^.]*)\.")],
-    "dist/README.md": [("the library", r"Each text is for (.*?)\."), ("`b2sum`", r"`b2sum` is linked for ([^.]*)\.")],
+    "dist/README.md": [(it, r"Each text is for (.*?)\.") for it in BUILDING],
 }
 
 
@@ -547,12 +648,11 @@ def check_systems():
         text = " ".join(read(page).split())
         for script, pattern in sentences:
             named = set(re.findall("|".join(TARGETS), find(pattern, text, page)))
-            wanted = built[script] - {"Linux"} if pattern.startswith(r"\*\*(macOS") else built[script]
-            wanted = wanted - {"Linux"} if "WebAssembly; (" in pattern else wanted
+            wanted = built[script] - {"Linux"} if "WebAssembly; (" in pattern else built[script]
             if named != wanted:
                 yield f"{page}: {script} is for {sorted(named)}, and is built for {sorted(built[script])}"
     rows = dict(re.findall(r"^\| (Linux|Windows|macOS), x86-64.*? \| (yes|no)", read("docs/PLATFORMS.md"), re.MULTILINE))
-    if {system for system, has in rows.items() if has == "yes"} != built["the library"] & built["`b2`"]:
+    if {system for system, has in rows.items() if has == "yes"} != set.intersection(*built.values()):
         yield f"docs/PLATFORMS.md: the table has {rows}"
 
 
@@ -560,7 +660,8 @@ def main():
     if sys.argv[1:]:
         sys.exit("usage: tests/pages.py")
     for check in (check_clauses, check_edits, check_specification, check_version, check_files, check_crates,
-                  check_links, check_quotes, check_speeds, check_ratios, check_guides, check_comments, check_systems,
+                  check_links, check_quotes, check_speeds, check_ratios, check_guides, check_numbers, check_comments,
+                  check_systems,
                   check_symbolic_links, check_merges):
         absent = check in (check_symbolic_links, check_merges) and not os.path.exists(os.path.join(TOP, ".git"))
         try:

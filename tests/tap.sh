@@ -59,6 +59,9 @@ check_huge() {
     fi
 }
 
+# Of these words all if VULFSJOR_TEST_HUGE is set, and else the first, which stands for the others.
+some() { if [ -n "${VULFSJOR_TEST_HUGE-}" ]; then echo "$@"; else echo "$1"; fi; }
+
 # Prints the plan and ends the script, with status 1 if a test failed.
 finish() {
     [ "$ended" -gt 0 ] || echo "TAP version 13"
@@ -66,48 +69,56 @@ finish() {
     exit $((failed > 0))
 }
 
-# The version, which is at the top of CHANGELOG.md, with this character for its dots.
-version() {
-    sed -nE '/^## [0-9.]+/{s/^## ([0-9.]+).*/\1/p;q}' "$top/CHANGELOG.md" | tr . "${1:-.}"
-}
+# The version, which is at the top of CHANGELOG.md.
+version() { sed -nE '/^## [0-9.]+/{s/^## ([0-9.]+).*/\1/p;q}' "$top/CHANGELOG.md"; }
+
+# The number of the code, which the names in dist/ have.
+code_number() { sed -n 's/^#define CODE "\([0-9]*\)"$/\1/p' "$top/c/choose.c"; }
 
 # The first block of a page in this language: PAGE LANGUAGE.
 block_of() { sed -n "/^\`\`\`$2\$/,/^\`\`\`\$/{/^\`\`\`\$/q;/^\`\`\`/d;p}" "$top/$1"; }
 
-# Writes a file for the compiler with the macros of dist/ and one of its texts, and prints its path.
+# Writes a file for the compiler with the macros of dist/ and these of its texts, by the name of the first, and
+# prints its path.
 with_macros() {
     local file
     file=$work/macros/$(basename "${1%.s}").S
-    mkdir -p "$work/macros" && printf '#include "%s"\n' "$top/dist/macros.h" "$(readlink -f "$1")" >"$file" && echo "$file"
+    mkdir -p "$work/macros" && printf '#include "%s"\n' "$top/dist/macros.h" $(readlink -f "$@") >"$file" && echo "$file"
 }
 
 # The name that a file of a program in dist/ gives to a function that it calls or exports: FILE
-# call|export FUNCTION. The name of `main` there, and the program from it: FILE PROGRAM [ARGUMENTS
-# FOR THE COMPILER..]
+# call|export FUNCTION. The name of `main` there, and the program from it and the library, assembled once:
+# FILE PROGRAM [ARGUMENTS FOR THE COMPILER..]
 name_in() { sed -n "/^\tvj_$2\t.*\.$3[._]/{s/.*\t//p;q;}" "$1"; }
 main_of() { sed -n 's/^\tvj_export\t\(main_.*\)/\1/p' "$1"; }
 assemble() {
-    local words=("$top/c/b2.c" "-DMAIN=$(main_of "$1")") build=${1##*-}
+    local words=("-DMAIN=$(main_of "$1")" "-I$top/c/include" "$top"/c/{b2,choose}.c)
+    local object=$work/macros/${1##*/}.o
     if [[ $1 == */b2sum* ]]; then
-        [[ $1 != */aarch64/* ]] || build=arm.s
         words+=("-DABSORB_TREE=$(name_in "$1" call absorb_tree)"
             "-DPROVED_TREE=$(name_in "$1" export absorb_tree)"
-            "-DHIDE_MEMORY=$(name_in "$1" call hide_memory)" "-I$top/c/include" -pthread
-            -DEND=b2sum_end -DFREE=b2sum_free -DREALLOC=b2sum_realloc "-DCHOOSE_ONE=${build%.s}"
-            "$top"/c/{b2sum,threads,choose}.c "$(with_macros "${1/b2sum/vulfsjor}")")
+            "-DHIDE_MEMORY=$(name_in "$1" call hide_memory)"
+            "-DSHOW_PROGRESS=$(name_in "$1" call show_progress)" -pthread
+            -DEND=b2sum_end -DFREE=b2sum_free -DREALLOC=b2sum_realloc "$top"/c/{b2sum,threads}.c)
     fi
-    cc -O2 -fno-lto -o "$2" "${words[@]}" "$(with_macros "$1")" "${@:3}"
+    [ -e "$object" ] || cc -c "$(with_macros "$1" "${1%/*}"/vulfsjor*.s)" -o "$object" || return
+    cc -O2 -fno-lto -o "$2" "${words[@]}" "$object" -Wl,--gc-sections "${@:3}"
 }
 
-# The programs of dist/ that this processor runs, newest first, as files in `work`: b2, or NAME.
+# The program of dist/ as a file in `work`: b2, or NAME. If it calls another build of the library here than
+# that for x86-64-v2, also NAME-v2 and so on, which call an older build. ./test has made them in the
+# folder VULFSJOR_PROGRAMS.
 assemble_all() {
     local name=${1:-b2} level newest
+    if [ -n "${VULFSJOR_PROGRAMS-}" ]; then
+        find "$VULFSJOR_PROGRAMS" \( -name "$name" -o -name "$name-v?" \) -exec cp {} "$work/" \; && return
+    fi
     newest=$("$top/tools/processor.sh")
     [ "$newest" != aarch64 ] || { assemble "$top/dist/aarch64/$name.s" "$work/$name"; return; }
-    for level in $(seq "${newest#x86-64-v}" -1 2); do
-        assemble "$top/dist/x86_64/$name-v$level.s" "$work/$name-v$level" || return
+    assemble "$top/dist/x86_64/$name.s" "$work/$name" || return
+    for level in $(seq 2 $((${newest#x86-64-v} - 1))); do
+        assemble "$top/dist/x86_64/$name.s" "$work/$name-v$level" "-DCHOOSE_TEST=$level" || return
     done
-    mv "$work/$name-${newest#x86-64-}" "$work/$name"
 }
 
 # The lines of b2sum for these files, by hashlib.

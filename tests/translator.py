@@ -1,11 +1,12 @@
 #!/usr/bin/env python3
-"""Tests tools/wasm_to_c.py: random functions of all its instructions do in C, on several processors, what node does
-with the module; and what it does not know, it refuses. With VULFSJOR_TEST_HUGE more functions, and each change of the
-translator in translator/mutations.txt is seen by one of these tests.
+"""Tests tools/wasm_to_c.py and tools/wasm_to_rust.py: random functions of all their instructions do in C, on several
+processors, and in Rust what node does with the module; and what they do not know, they refuse. With VULFSJOR_TEST_HUGE
+more functions, and each change of a translator in translator/mutations.txt is seen by one of these tests.
 
     tests/translator.py [SEED COUNT]
 
-Needs node and a C compiler. Other processors need their compiler and emulator.
+Needs node and a C compiler. Other processors need their compiler and emulator, and Rust needs rustc. RUSTC may be
+several words, of a Rust that compiles for another processor, and RUSTC_RUNNER its emulator.
 """
 import os
 import re
@@ -16,12 +17,13 @@ import tempfile
 import types
 
 import tap
-from blake2_kinds import TOP
+from common import TOP
 
 FOLDER = os.path.join(TOP, "tests", "translator")
 sys.path.append(FOLDER)
 import functions  # noqa: E402
 import wasm_to_c  # noqa: E402
+import wasm_to_rust  # noqa: E402
 from terms import CannotShow  # noqa: E402
 
 # The compilers, with words, and what runs their programs.
@@ -36,6 +38,8 @@ CROSS = {"riscv64": ("riscv64-linux-gnu-gcc", "qemu-riscv64"), "s390x": ("s390x-
 SEEING = [(["cc", "-O0"], []), (["cc", "-O0", "-U__BYTE_ORDER__"], []),
           (["s390x-linux-gnu-gcc", "-O0", "-static"], ["qemu-s390x"]),
           NATIVE["clang -O1 with sanitizers"]]
+# Sums that are too long for their type would panic in Rust with these words.
+RUSTC = [*os.environ.get("RUSTC", "rustc").split(), "-C", "opt-level=1", "-C", "debug-assertions=on", "-A", "warnings"]
 INPUTS = [(0, 0), (1, 2**64 - 1), (0x0123456789abcdef, 0xfedcba9876543210), (1 << 63, 1 << 31),
           (0x7fffffff80000000, 0xff80), (0x9e3779b97f4a7c15, 0xbf58476d1ce4e5b9), (33, 0x94d049bb133111eb)]
 C_TYPES = {"i64": "uint64_t", "i32": "uint32_t"}
@@ -58,6 +62,30 @@ int main(void) {
 CALL = """    for (i = 0; i < %d; i++) {
         for (k = 0; k < 64; k++) buffer[k] = (unsigned char)(k * 37 + 11);
         %svulfsjor_ffi_t%d(buffer, in[i][0], in[i][1])%s;
+    }
+"""
+RUST = """
+#[path = "v.rs"]
+mod portable;
+fn show(result: u64, buffer: &[u8]) {
+    let bytes: String = buffer.iter().map(|byte| format!("{:02x}", byte)).collect();
+    println!("{:x} {}", result, bytes);
+}
+fn buffer() -> [u8; 64] {
+    let mut made = [0; 64];
+    for k in 0..64_usize {
+        made[k] = (k * 37 + 11) as u8;
+    }
+    made
+}
+fn main() {
+    static IN: &[(u64, u64)] = &[%s];
+%s}
+"""
+RUST_CALL = """    for &(a, b) in IN {
+        let mut buffer = buffer();
+        let result = unsafe { portable::t%d(buffer.as_mut_ptr(), a, b) };
+        show(%s, &buffer);
     }
 """
 SCRIPT = """
@@ -83,7 +111,7 @@ def header_of(results):
     """A header with the prototypes of these functions."""
     lines = [f"{C_TYPES[each[0]] if each else 'void'} vulfsjor_ffi_t{k}(uint8_t *a, uint64_t b, uint64_t c);"
              for k, each in enumerate(results)]
-    return "\n".join(['#include <stdint.h>', '#define VULFSJOR_VERSION "7.8.9"', *lines, ""])
+    return "\n".join(['#include <stdint.h>', '#define VULFSJOR_VERSION_NUMBER 789', *lines, ""])
 
 
 class Case:
@@ -99,6 +127,8 @@ class Case:
         self.write("vulfsjor.h", self.header.encode())
         self.write("main.c", (HARNESS % (", ".join(f"{{UINT64_C({a}), UINT64_C({b})}}" for a, b in INPUTS),
                                          "".join(calls))).encode())
+        calls = [RUST_CALL % (k, "result as u64" if each else "0") for k, each in enumerate(results)]
+        self.write("main.rs", (RUST % (", ".join(f"({a}, {b})" for a, b in INPUTS), "".join(calls))).encode())
         self.write("run.mjs", (SCRIPT % (", ".join("32" if each == ["i32"] else "64" for each in results), ", ".join(
             f"[{a}n, {b}n]" for a, b in INPUTS))).encode())
         self.wanted = self.output(["node", "--experimental-wasm-memory64", "--no-warnings", "run.mjs"])
@@ -110,7 +140,8 @@ class Case:
 
     def output(self, words):
         """What a command prints, or why it fails."""
-        done = subprocess.run(words, cwd=self.folder, capture_output=True, text=True, check=False, timeout=600)
+        done = subprocess.run(words, cwd=self.folder, capture_output=True, text=True, check=False,
+                              timeout=20 if words[-1] == "./run" else 600)
         return done.stdout if not done.returncode else f"{words[0]}: {done.returncode} {done.stderr[-3000:]}"
 
     def translate(self, translator=wasm_to_c):
@@ -121,6 +152,12 @@ class Case:
         """What the functions in C return."""
         said = self.output([*compiler, "-std=c99", "-w", "-I.", "main.c", "v.c", "-o", "run"])
         return said or self.output([*emulator, "./run"])
+
+    def run_in_rust(self, translator=wasm_to_rust):
+        """What the functions in Rust return."""
+        self.write("v.rs", str(translator.Program(self.data, self.header)).encode())
+        said = self.output([*RUSTC, "--edition=2021", "main.rs", "-o", "run"])
+        return said or self.output([*os.environ.get("RUSTC_RUNNER", "").split(), "./run"])
 
     def difference(self, got):
         """The first function whose result is another than node's, or nothing."""
@@ -143,6 +180,11 @@ def test_targets(case, name):
             continue
         why = case.difference(case.run(compiler, emulator))
         tap.result(not why, f"{name}, {target}", why)
+    if not shutil.which(RUSTC[0]):
+        tap.result(True, f"{name}, in Rust", skipped=f"no {RUSTC[0]}")
+        return
+    why = case.difference(case.run_in_rust())
+    tap.result(not why, f"{name}, in Rust", why)
 
 
 # ---- what is refused
@@ -257,55 +299,69 @@ def wrong_refusals(translator):
 
 # ---- changes of the translator
 
+FILES = {"py": "wasm_to_c.py", "c": "wasm_to_c.c", "rust": "wasm_to_rust.py", "rs": "wasm_to_rust.rs"}
+
+
 def mutations():
     """The changes of translator/mutations.txt: file, old text, new text."""
     with open(os.path.join(FOLDER, "mutations.txt"), encoding="utf-8") as file:
         lines = [line.rstrip("\n") for line in file if line.strip() and not line.startswith("#")]
     for line in lines:
-        name, old, new = re.fullmatch("(py|c): (.*?) => ?(.*)", line).groups()
-        yield "wasm_to_c." + name, old.replace("\\n", "\n"), new.replace("\\n", "\n")
+        name, old, new = re.fullmatch("(py|c|rust|rs): (.*?) => ?(.*)", line).groups()
+        yield FILES[name], old.replace("\\n", "\n"), new.replace("\\n", "\n")
 
 
-def changed(name, old, new):
-    """The translator with a change of the tool or of its part in C."""
+def changed(name, old, new, folder):
+    """The translator with a change of the tool or of its part in C or Rust, which is in this folder."""
+    tool = name.partition(".")[0] + ".py"
     texts = {}
-    for each in ("wasm_to_c.py", "wasm_to_c.c"):
+    for each in (tool, name):
         with open(os.path.join(TOP, "tools", each), encoding="utf-8") as file:
             texts[each] = file.read()
     if texts[name].count(old) != 1:
         raise ValueError(f"{name} has {old!r} {texts[name].count(old)} times")
     texts[name] = texts[name].replace(old, new)
     made = types.ModuleType("changed")
-    made.__file__ = os.path.join(TOP, "tools", "wasm_to_c.py")
-    exec(compile(texts["wasm_to_c.py"], "changed", "exec"), made.__dict__)  # pylint: disable=exec-used
-    parts = re.split(r"^/\* ---- (\w+) \*/\n", texts["wasm_to_c.c"], flags=re.MULTILINE)
-    made.Parts.__init__ = lambda self: setattr(self, "texts", dict(zip(parts[1::2], (
-        text.strip("\n") for text in parts[2::2]))))
+    made.__file__ = os.path.join(TOP, "tools", tool)
+    exec(compile(texts[tool], "changed", "exec"), made.__dict__)  # pylint: disable=exec-used
+    if name != tool:
+        made.Program.parts_file = os.path.join(folder, name)
+        with open(made.Program.parts_file, "w", encoding="utf-8") as file:
+            file.write(texts[name])
     return made
 
 
 def sees(cases, translator):
     """Whether a test sees that this translator is another."""
     try:
-        if wrong_refusals(translator):
+        if translator.Program.language.__name__ == "C" and wrong_refusals(translator):
             return True
     except Exception:  # pylint: disable=broad-except
         return True
     for case in cases:
         try:
+            if translator.Program.language.__name__ == "Rust":
+                if case.difference(case.run_in_rust(translator)):
+                    return True
+                continue
             case.translate(translator)
         except Exception:  # pylint: disable=broad-except
             return True
-        if any(case.difference(case.run(*target)) for target in SEEING):
+        try:
+            if any(case.difference(case.run(*target)) for target in SEEING):
+                return True
+        except subprocess.TimeoutExpired:
             return True
     return False
 
 
 def test_mutations(cases):
-    """Each change of the translator is seen."""
+    """Each change of a translator is seen, and none where there is none."""
+    same = [each for each in (wasm_to_c, wasm_to_rust) if sees(cases, each)]
+    tap.result(not same, "no change of the translators is seen where there is none")
     for name, old, new in mutations():
         try:
-            seen = sees(cases, changed(name, old, new))
+            seen = sees(cases, changed(name, old, new, cases[0].folder))
             why = "no test fails"
         except ValueError as error:
             seen, why = False, str(error)
@@ -329,7 +385,8 @@ def main():
         tap.result(len(case.wanted.splitlines()) == len(INPUTS) * count, "node calls each of them", case.wanted)
         case.translate()
         test_targets(case, f"{len(INPUTS) * count} calls of random functions next to node")
-    missing = [tool for compiler, emulator in SEEING for tool in (compiler[0], *emulator) if not shutil.which(tool)]
+    missing = [tool for compiler, emulator in [*SEEING, (RUSTC, [])] for tool in (compiler[0], *emulator)
+               if not shutil.which(tool)]
     if not huge or missing:
         tap.result(True, "changes of the translator are seen",
                    skipped=f"no {missing[0]}" if huge else "VULFSJOR_TEST_HUGE is not set")

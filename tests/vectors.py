@@ -18,6 +18,7 @@ hashlib's default. The kinds:
     root      the root of a tree of two levels, as hashlib's nodes make it
     leaves    BLAKE2b-256 of the joined results of `ranges` below
     parallel  a digest of BLAKE2bp or BLAKE2sp
+    output    `size` bytes of BLAKE2Xb or BLAKE2Xs, of an output of that length, or of an unknown one
     hmac, hkdf, pbkdf2    over the longest digest (RFC 2104, 5869 and 8018), of `size` bytes
 """
 import hashlib
@@ -25,11 +26,12 @@ import hmac
 import json
 import os
 import random
+import re
 import sys
 
-from blake2_kinds import FAMILIES, Parser, at_least
-from from_specification import Input, Place, bytes_of, parameter_words
-from oracle import SCALAR, parallel_by_hashlib, parallel_digest, range_digests, root_of_leaves, tree_root
+from b2_model import Input, Place, bytes_of, parameter_words
+from common import FAMILIES, Parser, at_least
+from oracle import SCALAR, output, parallel_by_hashlib, parallel_digest, range_digests, root_of_leaves, tree_root
 
 FILE = os.path.join(os.path.dirname(os.path.abspath(__file__)), "vectors.json")
 NUMBERS = ("fanout", "depth", "leaf_size", "node_offset", "node_depth", "inner_size", "last_node")
@@ -116,6 +118,8 @@ def answer(case):
         if given_by_hashlib(given):
             return parallel_by_hashlib(case["hash"][-1], message(case), **given)
         return parallel_digest(case["hash"][-1], message(case), **{"digest_size": family.key, **given})
+    if case["kind"] == "output":
+        return output(case["hash"][-1], message(case), case["size"], is_known=bool(case["is_known"]), **given)
     if case["kind"] == "hmac":
         return hmac.new(given["key"], message(case), family.function).digest()
     if case["kind"] == "hkdf":
@@ -182,6 +186,17 @@ def parallel_rows(dice, longest, salt, block):
         yield size, dice.choice([0, dice.randint(1, longest)]), 0, 0, dice.randint(0, 2 * stripe), size
 
 
+def output_rows(dice, longest, salt):
+    """Outputs that end around blocks, and around four and eight of them, without key, salt and persona, with a
+    key, and with all of them; of known and unknown lengths."""
+    sizes = {max(1, blocks * longest + more) for blocks in (0, 1, 2, 4, 5, 8, 9, 17) for more in (-1, 0, 1)}
+    for size in sorted(sizes):
+        for is_known in (0, 1):
+            yield size, 0, 0, 0, is_known, dice.randint(0, 300), size % 250
+            yield size, dice.choice([1, longest]), 0, 0, is_known, size % 200, 3
+            yield size, dice.choice([0, longest]), salt, dice.randint(0, salt), is_known, size % 200, 4
+
+
 def groups_of(family):
     """The groups of a family."""
     dice = random.Random(7693)
@@ -200,6 +215,8 @@ def groups_of(family):
     yield group("many", family, "digest_size key salt person lengths seed", many_rows(dice, longest, salt))
     yield group("parallel", family, "digest_size key salt person length seed",
                 parallel_rows(dice, longest, salt, SCALAR[family].block))
+    yield group("output", family, "size key salt person is_known length seed",
+                output_rows(random.Random(7693), longest, salt))
     lengths = (0, 1, 63, 64, 65, 127, 128, 129, 500)
     yield group("hmac", family, "key length seed", ((n, 300 - n // 2, n) for n in lengths))
     yield group("hkdf", family, "salt length person size seed", ((n, n, 9, 1 + n, n) for n in lengths))
@@ -275,6 +292,8 @@ def lines(case):
         yield "h", size, key, salt, person, message(case), wanted
     elif case["kind"] == "parallel":
         yield "p", size, key, salt, person, message(case), wanted
+    elif case["kind"] == "output":
+        yield "x", case["size"] if case["is_known"] else 0, key, salt, person, message(case), wanted
     elif case["kind"] == "many":
         yield "m", size, key, salt, person, ",".join(each.hex() or "-" for each in messages(case)), wanted
     elif case["kind"] == "root" and case["seed"]:
@@ -297,6 +316,22 @@ def lines(case):
 def digits(field):
     """A field of a line."""
     return field.hex() or "-" if isinstance(field, bytes) else str(field)
+
+
+# ---- the authors' vectors of BLAKE2X, which golang.org/x/crypto has in its tests
+
+GO = "/usr/share/gocode/src/golang.org/x/crypto"
+
+
+def authors_cases(letter):
+    """256 outputs of 1 to 256 bytes of a message of 256, under the longest key, or FileNotFoundError."""
+    path = os.path.join(os.environ.get("VULFSJOR_GO_CRYPTO", GO), f"blake2{letter}", f"blake2{letter}_test.go")
+    with open(path, encoding="utf-8") as file:
+        table = re.search(r"^var hashes2X = \[\]string\{$(.*?)^\}$", file.read(), re.MULTILINE | re.DOTALL)[1]
+    for number, digits_ in enumerate(re.findall(r'"([0-9a-f]+)"', table), 1):
+        if len(digits_) != 2 * number:
+            sys.exit(f"{path}: another table than that of the authors")
+        yield bytes(range(FAMILIES[letter].key)), bytes(range(256)), bytes.fromhex(digits_)
 
 
 # ---- random cases
@@ -351,6 +386,7 @@ def main():
     parser = Parser(description=__doc__.split("\n\n")[0])
     parser.add_argument("--check", action="store_true", help="compare the file with what would be written")
     parser.add_argument("--lines", choices=sorted(FAMILIES), help="print the cases of a family in lines")
+    parser.add_argument("--authors", choices=sorted(FAMILIES), help="print the authors' outputs of BLAKE2X in lines")
     parser.add_argument("--random", nargs=2, type=at_least(0), metavar=("SEED", "N"), help="print random cases")
     chosen = parser.parse_args()
     if chosen.lines:
@@ -358,6 +394,12 @@ def main():
             if case["hash"][-1] == chosen.lines:
                 for line in lines(case):
                     print(*map(digits, line))
+    elif chosen.authors:
+        try:
+            for key, data, wanted in authors_cases(chosen.authors):
+                print(*map(digits, ("x", len(wanted), key, b"", b"", data, wanted)))
+        except FileNotFoundError:
+            return 1
     elif chosen.random:
         dice = random.Random(chosen.random[0])
         print(json.dumps([random_case(dice, number) for number in range(chosen.random[1])]))

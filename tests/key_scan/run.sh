@@ -8,8 +8,14 @@
 #
 # CPU is the current processor if it is left out: x86-64-v4 if it has AVX-512 and what belongs to
 # it, x86-64-v3 if it has AVX2, x86-64-v2 otherwise. It builds the calls of calls.rt.txt, a crate in
-# Rattle, over the crates as `rt ci` or `rt check` has proved them, and links them to scan.c. It
-# needs the toolchain's command rt, a C compiler and python3: if one is absent it is skipped.
+# Rattle (`rt ci` accepts .rt files only in the crates of crates.txt), over the crates as `rt ci` or
+# `rt check` has proved them, and links them to scan.c. It needs the toolchain's command rt, a C
+# compiler and python3: if one is absent it is skipped. Over proved crates it takes about a minute.
+#
+# Each line reports, for one form of the call, how many pieces were found. A form that leaves more
+# than the table in scan.c allows fails. Two forms leave copies on purpose, a MAC that is passed by
+# value and a hasher that is dropped: there the search has to find pieces. The bytes that `settle`
+# has to read are also placed across the end of a page that can't be read.
 set -u
 here=$(dirname "$(readlink -f "$0")")
 source "$here/../tap.sh"
@@ -20,7 +26,7 @@ cpu=$("$top/tools/processor.sh")
 for tool in rt cc python3; do
     has $tool || { skip "copies of a secret on the stack, by calls in Rattle" "no $tool"; finish; }
 done
-source "$top/tools/kit.sh"
+source "$top/tools/toolchain.sh"
 
 # Builds the calls over what is proved. Crates that are not proved yet are proved first.
 build() {
@@ -36,7 +42,7 @@ build() {
             --toolchain "$toolchain" -o "$work/keyed.a"
 }
 
-# Builds and runs the search after a message of so many bytes. Without -z now the loader's first
+# Builds and runs the search after a message of this many bytes. Without -z now the loader's first
 # look-up of a name saves vector registers on the stack.
 scan() {
     python3 "$here/secret_values.py" "$1" >"$work/secrets.h" &&

@@ -1,7 +1,7 @@
 // Looks for copies of a secret on the dead stack once a call in Rattle has returned: for each piece
 // of 8 bytes of a key, of the tag, and of the chaining words that the last compression begins with.
 // Prints for each form of the call how many were found. A form that leaves more than the table
-// below allows fails. Answers 0 where none failed.
+// below allows fails. Returns 0 if none failed.
 //
 // secrets.h is what secret_values.py prints: the secrets, and a message of 0, 64 or 1,000 bytes.
 #define _DEFAULT_SOURCE
@@ -28,7 +28,7 @@ enum { DEPTH = 64 * 1024, PIECE = 8 };
 #define AT(bytes_0, bytes_64, bytes_1000) \
     (LENGTH == 0 ? bytes_0 : LENGTH == 64 ? bytes_64 : bytes_1000)
 
-// How many pieces of each secret a form may leave. Where that is not 0, so many were found, the
+// How many pieces of each secret a form may leave. Where that is not 0, this many were found, the
 // more of the builds for x86-64-v2 and x86-64-v3. A key of BLAKE2b has 8 pieces and one of BLAKE2s
 // 4, and so have tags and chaining words. A form that is not wiped leaves one piece of the key at
 // least: else this looks in the wrong place.
@@ -129,7 +129,7 @@ static int copies(const uint8_t *in, size_t size, const uint8_t *secret, size_t 
     return found;
 }
 
-// Copies so many bytes of the key to a frame, as far from its end as `place` says: a form that
+// Copies this many bytes of the key to a frame, as far from its end as `place` says: a form that
 // leaves a copy.
 static size_t place, copied;
 static __attribute__((noinline)) _Bool leave_a_copy(const uint8_t *secret, const uint8_t *text,

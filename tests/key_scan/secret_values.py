@@ -1,5 +1,5 @@
 #!/usr/bin/env python3
-"""Prints, as declarations in C, what tests/key_scan/scan.c looks for: a key of the greatest length, a message of so
+"""Prints, as declarations in C, what tests/key_scan/scan.c looks for: a key of the maximum length, a message of so
 many bytes, and for each family the tag (by Python's hashlib) and the chaining words that the last compression of the
 keyed hash begins with, where they come from more than the parameters.
 
@@ -10,7 +10,7 @@ import os
 import sys
 
 sys.path.insert(0, os.path.dirname(os.path.dirname(os.path.abspath(__file__))))
-from from_specification import B, S, Input, bytes_of, steps  # noqa: E402
+from b2_model import B, S, Input, bytes_of, steps  # noqa: E402
 
 
 def declared(name, data):

@@ -14,12 +14,12 @@ from typing import Any, Callable, Iterator
 
 import program as programs
 import call_specification as S
-import calls
+import constant_time
 import rfc7693 as R
 import terms as T
-from calls import STACK
-from exact import MODELS, Buffer, Cells, fresh
-from following import Aligned, reset
+from constant_time import STACK
+from symbolic import MODELS, Buffer, Cells, fresh
+from taint import Aligned, reset
 from machine import image
 from ranges import parts
 from terms import CannotShow, IsWrong
@@ -437,7 +437,7 @@ class Cases:
     def init_tree(self) -> Iterator:
         """Tree parameters are numbers of the arguments, or those of a struct."""
         kind = self.kind
-        is_struct = calls.EXPORTS["_init_tree"][-1] != calls.NUMBER
+        is_struct = constant_time.EXPORTS["_init_tree"][-1] != constant_time.NUMBER
 
         def read(setup: Any, key: Any) -> Any:
             given, conditions = self.lengths(setup, key)

@@ -15,7 +15,7 @@ from __future__ import annotations
 from typing import Any, Callable, TYPE_CHECKING
 
 if TYPE_CHECKING:
-    from exact import Buffer
+    from symbolic import Buffer
     from rfc7693 import Kind
     from terms import Term
 
@@ -51,7 +51,7 @@ def zeros(kind: Kind) -> State:
     return State(words, words, 0, 0, 0, 0, 0, block, block)
 
 
-# When a call is accepted. Each condition is (numbers, the least value of their sum, the greatest);
+# When a call is accepted. Each condition is (numbers, the least value of their sum, the largest);
 # a call is accepted if all hold. A count is refused from 2^64 on.
 
 MOST_COUNTED = 2 ** 64 - 1

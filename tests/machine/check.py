@@ -5,13 +5,13 @@ BLAKE2s write what the RFC says; and that no branch and no address of a whole ca
 secret. Prints TAP; the status is 1 if something failed. docs/MACHINE.md says what is shown and how
 to read the output.
 
-    tests/machine/check.py            the proofs, of whole calls only some cases of one build for
-                                      x86-64 and that for ARM, the rules of terms, and
-                                      instructions on the processor
-    tests/machine/check.py --long     also all cases of whole calls in all builds, more runs of
-                                      each instruction, whole functions against hashlib, the types
-                                      of the tool, and the changes that must be refused; the same
-                                      as VULFSJOR_TEST_HUGE=1
+    tests/machine/check.py            the proofs: of one message in all files; of several messages,
+                                      and some cases of whole calls, each function in one file; some
+                                      rules of terms, and instructions on the processor
+    tests/machine/check.py --long     also several messages and all cases of whole calls in all
+                                      files, all rules and more runs of each instruction, whole
+                                      functions against hashlib, the types of the tool, and the
+                                      changes that must be refused; the same as VULFSJOR_TEST_HUGE=1
     tests/machine/check.py FILE..     only the proofs of these files, by their paths from the root,
                                       with all cases
 
@@ -30,31 +30,40 @@ import sys
 from typing import Any, Callable, Iterator
 
 import call_cases
-import calls
-import check_exact
-import check_following
-import check_functions
+import check_digests
 import check_instructions
+import check_ranges
 import check_specification
+import check_symbolic
+import check_taint
+import check_wasm_instructions
 import compression
+import constant_time
 import functions
 import mutations
 import program as programs
+import scrub_stack
 import terms as T
-import wasm_instructions
-import wiping
 
 HUGE = "VULFSJOR_TEST_HUGE"
 HERE = os.path.dirname(os.path.abspath(__file__))
 FAMILIES = {"blake2b": "BLAKE2b", "blake2s": "BLAKE2s"}
 FORMS = {compression.EachCall: " with a counter each", compression.StripesCall: " in stripes"}
 # The families of exported functions, by the parts in which calls are followed.
-FOLLOWED = {"BLAKE2b": ("blake2b", "version"), "BLAKE2s": ("blake2s", "memcmp", "wipe"),
-            "BLAKE2bp": ("blake2bp",), "BLAKE2sp": ("blake2sp",), "trees": ("tree",)}
-# The builds in which whole calls are executed and followed without --long, with the tests of the
-# models for that; and the widths of rules.
-SHORT = ("dist/x86_64/vulfsjor-v3.s", "dist/aarch64/vulfsjor.s")
-SHORT_WIDTHS = (64, 8)
+FOLLOWED = {"BLAKE2b": ("blake2b",), "BLAKE2s": ("blake2s", "memcmp", "wipe"),
+            "BLAKE2bp": ("blake2bp",), "BLAKE2sp": ("blake2sp",), "BLAKE2X": ("blake2xb", "blake2xs"),
+            "trees": ("tree",)}
+# What there is without --long: one message in all files; each function of several messages in one of
+# these, by turns; each family of calls in one of the first two, and the tests of the models there;
+# rules of one width; and nothing that takes as long as all others.
+SHORT = ("dist/x86_64/vulfsjor-v3.s", "dist/aarch64/vulfsjor.s", "js/src/wasm.js")
+SHORT_MANY = {entry: SHORT[k % 3] for k, entry in enumerate(
+    entry for entry in functions.LIBRARY if entry[2] > 1)}
+SHORT_FOLLOWED = {part: SHORT[k % 2] for k, part in enumerate(FOLLOWED)}
+SHORT_WRITTEN = {family: SHORT[(k + 1) % 2] for k, family in enumerate(FAMILIES)}
+SHORT_WIDTHS = (8,)
+LONG_CALLS = ("vulfsjor_ffi_tree_root", "vulfsjor_ffi_tree_update_leaves")
+LONG_CHANGES = (mutations.secret_forgotten, mutations.carry_forgotten)
 
 
 def missing(path: str) -> Any:
@@ -112,7 +121,8 @@ def search(path: str) -> Any:
 
 def look(path: str) -> Any:
     """What is looked at in all of a file, besides the code of its functions."""
-    title = "%s: nothing that runs or is read is writable, and each exported function is known" % path
+    title = "%s: nothing that runs or is read is writable, and each exported function is known"
+    title %= path
     if missing(path):
         return [("skip", title, "no " + missing(path))]
     try:
@@ -139,18 +149,18 @@ def instructions(path: str) -> Any:
     if missed:
         return [("skip", title, "no " + missed)]
     is_wasm = functions.architecture(path) == "wasm"
-    check = wasm_instructions.check if is_wasm else check_instructions.check
+    check = check_wasm_instructions.check if is_wasm else check_instructions.check
     verdict, why = check(path, 20 if HUGE in os.environ else 4)
     return [(verdict, title, why)]
 
 
-def exact_model(path: str) -> Any:
+def symbolic_model(path: str) -> Any:
     """The model of the calls that are executed over variables, against the processor."""
     title = "%s: the model of whole calls agrees with the processor" % path
     missed = not_runnable(path)
     if missed:
         return [("skip", title, "no " + missed)]
-    verdict, why = check_exact.run(path, 12 if HUGE in os.environ else 4)
+    verdict, why = check_symbolic.run(path, 12 if HUGE in os.environ else 4)
     return [(verdict, title, why)]
 
 
@@ -160,7 +170,7 @@ def public_bytes(path: str) -> Any:
     missed = not_runnable(path)
     if missed:
         return [("skip", title, "no " + missed)]
-    verdict, why = check_following.run(path, 10 if HUGE in os.environ else 2)
+    verdict, why = check_taint.run(path, 10 if HUGE in os.environ else 2)
     return [(verdict, title, why)]
 
 
@@ -175,27 +185,29 @@ def whole(path: str) -> Any:
     title = "%s: whole functions in the model agree with hashlib" % path
     if missing(path):
         return [("skip", title, "no " + missing(path))]
-    verdict, why = check_functions.check(path, 5)
+    verdict, why = check_digests.check(path, 5)
     return [(verdict, title, why)]
 
 
-def follow(path: str, family: str) -> Any:
-    """That whole calls of a family's functions do not depend on secrets."""
+def follow(path: str, family: str, left_out: tuple = ()) -> Any:
+    """That whole calls of a family's functions, except some, do not depend on secrets."""
     title = "%s: no branch and no address of a call depends on a secret: %s" % (path, family)
     if missing(path):
         return [("skip", title, "no " + missing(path))]
     program, count = programs.read(path), 0
     reached: set = set()
-    for entry in calls.exports(program):
-        if entry[2] not in FOLLOWED[family] or not calls.is_followed(entry[0], entry[2]):
+    for entry in constant_time.exports(program):
+        if entry[2] not in FOLLOWED[family]:
+            continue
+        if entry[0] in left_out:
             continue
         try:
-            found = calls.show(program, *entry)
+            found = constant_time.show(program, *entry)
         except T.Refused as e:
-            if isinstance(e, T.CannotShow) and (path, entry[0]) in calls.NOT_SHOWN:
+            if (path, entry[0]) in constant_time.NOT_SHOWN:
                 continue
             return [("not ok", title, "%s: %s" % (T.kind_of(e), e))]
-        if (path, entry[0]) in calls.NOT_SHOWN:
+        if (path, entry[0]) in constant_time.NOT_SHOWN:
             return [("not ok", title, "%s is shown: take it out of NOT_SHOWN" % entry[0])]
         count, reached = count + 1, reached | found.reached
     return [("ok", title, "%d functions, which reach %d instructions besides those that compress"
@@ -221,9 +233,10 @@ def write_and_return(path: str, family: str, exports: Any, pending: Any, sizes: 
 def parts_of_calls(path: str, is_short: bool) -> Iterator:
     """The arguments of write_and_return for a file: all cases in parts, or some."""
     for family in FAMILIES:
-        exports = [e for e in calls.EXPORTS if e not in calls.NOT_COMPUTED]
+        exports = [e for e in constant_time.EXPORTS if e not in constant_time.NOT_COMPUTED]
         if is_short:
-            yield (path, family, exports) + call_cases.some(family)
+            if path == SHORT_WRITTEN[family]:
+                yield (path, family, exports) + call_cases.some(family)
             continue
         pending = list(range(call_cases.KINDS[family].block + 1))
         for numbers in (pending[k::4] for k in range(4)):
@@ -234,9 +247,15 @@ def parts_of_calls(path: str, is_short: bool) -> Iterator:
 
 def specification() -> Any:
     """The specification of whole calls, over numbers."""
-    count = 400 if HUGE in os.environ else 40
+    count = 400 if HUGE in os.environ else 10
     verdict, why = check_specification.check(count)
     return [(verdict, "the specification of whole calls agrees with hashlib", why)]
+
+
+def numbers_in_ranges() -> Any:
+    """The ranges of the machines that follow secrets, over numbers."""
+    verdict, why = check_ranges.check(2000 if HUGE in os.environ else 100)
+    return [(verdict, "the ranges of words that are followed have their numbers", why)]
 
 
 def scrub(path: str) -> Any:
@@ -248,7 +267,7 @@ def scrub(path: str) -> Any:
     found = functions.scrubs(program)
     try:
         for name, count in found.items():
-            wiping.show(program, name, count)
+            scrub_stack.show(program, name, count)
     except T.Refused as e:
         return [("not ok", title, "%s: %s: %s" % (T.kind_of(e), name, e))]
     if not found:
@@ -291,30 +310,34 @@ def jobs(arguments: list) -> Any:
     """The jobs, as a function and its arguments: the long ones first."""
     chosen = arguments or list(functions.FILES)
     builds: dict = {}
+    is_short = not arguments and HUGE not in os.environ
     for path in chosen:
         for entry in functions.FILES[path]:
-            builds.setdefault((functions.build(path), entry), []).append(path)
+            if not is_short or entry[2] == 1 or path == SHORT_MANY.get(entry):
+                builds.setdefault((functions.build(path), entry), []).append(path)
     found: list = [(prove, (paths, entry)) for (_, entry), paths in sorted(
         builds.items(), key=lambda b: -b[0][1][2])]
     libraries = [path for path in chosen if "/vulfsjor" in path
                  and functions.architecture(path) != "wasm"]
-    found += [(search, (path,)) for path in chosen]
-    found += [(f, (path,)) for path in libraries for f in (look, scrub)]
-    is_short = not arguments and HUGE not in os.environ
-    found += [(write_and_return, part) for path in libraries if path in SHORT or not is_short
-              for part in parts_of_calls(path, is_short)]
-    followed = [path for path in libraries if path not in calls.NOT_FOLLOWED]
-    found[:0] = [(follow, (path, part)) for part in reversed(FOLLOWED) for path in followed
-                 if path in SHORT or not is_short]
+    some = [path for path in libraries if path in SHORT or not is_short]
+    found += [(search, (path,)) for path in chosen] + [(look, (path,)) for path in libraries]
+    found += [(scrub, (path,)) for path in some]
+    found += [(write_and_return, part) for path in some for part in parts_of_calls(path, is_short)]
+    followed = [path for path in libraries if path not in constant_time.NOT_FOLLOWED]
+    found[:0] = [(follow, (path, part, LONG_CALLS if is_short else ()))
+                 for part in reversed(FOLLOWED) for path in followed
+                 if path == SHORT_FOLLOWED[part] or not is_short]
     if not arguments:
-        found.append((specification, ()))
+        found += [(specification, ()), (numbers_in_ranges, ())]
         found[:0] = [(rules, (width,)) for width in (64, 32, 16, 8)
                      if width in SHORT_WIDTHS or not is_short]
         found += [(instructions, (path,)) for path in functions.FILES
-                  if not path.rpartition("/")[2].startswith("b2")]
-        found += [(public_bytes, (path,)) for path in followed if path in SHORT or not is_short]
-        found += [(exact_model, (path,)) for path in libraries if path in SHORT or not is_short]
-        found += [(planted, (change,)) for change in mutations.OF_THE_TOOL]
+                  if path in SHORT or not is_short]
+        found += [(public_bytes, (path,)) for path in followed if path == SHORT[1] or not is_short]
+        found += [(symbolic_model, (path,)) for path in libraries
+                  if path == SHORT[0] or not is_short]
+        found += [(planted, (change,)) for change in mutations.OF_THE_TOOL
+                  if not is_short or change not in LONG_CHANGES]
     if not arguments and HUGE in os.environ:
         found += [(whole, (path,)) for path in functions.FILES] + [(types, ())]
         found += [(refuse, line) for line in mutations.table()]
@@ -323,7 +346,7 @@ def jobs(arguments: list) -> Any:
 
 def planted(change: Callable) -> list:
     """A change of the tool, which its tests must notice."""
-    gone = not_runnable(mutations.SHORT["arm"]) or not_runnable(mutations.SHORT["v2"])
+    gone = not_runnable(mutations.SHORT["arm"]) or not_runnable(mutations.SHORT["v3"])
     title = "the tool itself: %s" % change.__name__.replace("_", " ")
     return [("skip", title, "no " + gone)] if gone else change()
 

@@ -1,6 +1,6 @@
 """Runs each form of instruction of the compression functions on the processor (for ARM in
 qemu-aarch64), over random registers and memory, and compares with the model. Zero flags, addresses
-with an index, and jumps have runs of their own. wasm_instructions.py does it for WebAssembly."""
+with an index, and jumps have runs of their own. check_wasm_instructions.py does it for WebAssembly."""
 
 from __future__ import annotations
 

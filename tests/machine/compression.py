@@ -217,8 +217,7 @@ class StripesCall(Call):
 
 
 # The calls of functions with these names, besides Call.
-CALLS: dict[str, type[Call]] = {"compress_each": EachCall, "compress_in_lanes": StripesCall,
-         "compress_stripes": StripesCall}
+CALLS: dict[str, type[Call]] = {"compress_each": EachCall, "compress_in_lanes": StripesCall}
 
 
 def call_of(name: str) -> type[Call]:

@@ -4,7 +4,7 @@ from __future__ import annotations
 
 import struct
 
-PROGBITS, SYMBOLS, RELOCATIONS, NOBITS, GROUP = 1, 2, 4, 8, 17    # types of sections
+PROGBITS, SYMBOLS, RELOCATIONS, NOTE, NOBITS, GROUP = 1, 2, 4, 7, 8, 17    # types of sections
 WRITABLE, ALLOCATED, EXECUTABLE, MERGED = 1, 2, 4, 16      # flags of sections
 STRINGS = MERGED | 32
 FUNCTION = 2                                               # a type of symbols

@@ -12,8 +12,8 @@ if TYPE_CHECKING:
     from program import Program
 
 # The name without the version, the family, and of how many messages it compresses blocks.
-ONE_B = ("blake2_compress..words..blake2b..compress", R.BLAKE2B, 1)
-ONE_S = ("blake2_compress..words..blake2s..compress", R.BLAKE2S, 1)
+ONE_B = ("blake2_compress..compress..blake2b..compress", R.BLAKE2B, 1)
+ONE_S = ("blake2_compress..compress..blake2s..compress", R.BLAKE2S, 1)
 MANY_B = ("blake2_compress..many..blake2b..compress_blocks", R.BLAKE2B, 4)
 MANY_S = ("blake2_compress..many..blake2s..compress_blocks", R.BLAKE2S, 8)
 EIGHT_B = ("blake2_compress..many..blake2b..eight..compress_blocks", R.BLAKE2B, 8)
@@ -21,7 +21,7 @@ EIGHT_B = ("blake2_compress..many..blake2b..eight..compress_blocks", R.BLAKE2B, 
 EACH_B = ("blake2_compress..many..blake2b..compress_each", R.BLAKE2B, 4)
 EACH_S = ("blake2_compress..many..blake2s..compress_each", R.BLAKE2S, 8)
 STRIPES_B = ("blake2_parallel..lanes..blake2b..compress_in_lanes", R.BLAKE2B, 4)
-STRIPES_S = ("blake2_parallel..lanes..blake2s..compress_stripes", R.BLAKE2S, 8)
+STRIPES_S = ("blake2_parallel..lanes..blake2s..compress_in_lanes", R.BLAKE2S, 8)
 SCRUB_STACK = "blake2_digest..wiping..scrub_stack.."
 SETTLE = "blake2_digest..wiping..settle.."
 # What `_final` and `_verify` call, by the family: the first zeroes the state, and the answer of the
@@ -29,21 +29,17 @@ SETTLE = "blake2_digest..wiping..settle.."
 FINALIZE = "blake2_ffi..%s..finalize"
 IS_DIGEST_OF = "blake2_ffi..%s..is_digest_of"
 
+# What the programs call of the library's text, besides what C programs call.
+SHARED = (ONE_B[0], ONE_S[0], "blake2_tree..nodes..Nodes..hash_next",
+          *("blake2_parallel..lanes..%s..Lanes..%s" % (family, call)
+            for family in ("blake2b", "blake2s") for call in ("outputs", "update")))
+
 LIBRARY = (ONE_B, MANY_B, ONE_S, MANY_S, EACH_B, EACH_S, STRIPES_B, STRIPES_S)
-PROGRAM = (ONE_B, MANY_B, ONE_S)       # b2 and b2sum hash several messages with BLAKE2b only
 FILES = {
     "dist/x86_64/vulfsjor-v4.s": LIBRARY + (EIGHT_B,),
     "dist/x86_64/vulfsjor-v3.s": LIBRARY,
-    "dist/x86_64/vulfsjor-v2.s": (ONE_B, ONE_S, MANY_S, EACH_B, EACH_S, STRIPES_S),
+    "dist/x86_64/vulfsjor-v2.s": (ONE_B, ONE_S, MANY_S, EACH_S, STRIPES_S),
     "dist/aarch64/vulfsjor.s": LIBRARY,
-    "dist/x86_64/b2-v4.s": PROGRAM + (EIGHT_B,),
-    "dist/x86_64/b2-v3.s": PROGRAM,
-    "dist/x86_64/b2-v2.s": (ONE_B, ONE_S),
-    "dist/aarch64/b2.s": PROGRAM,
-    "dist/x86_64/b2sum-v4.s": PROGRAM + (EIGHT_B,),
-    "dist/x86_64/b2sum-v3.s": PROGRAM,
-    "dist/x86_64/b2sum-v2.s": (ONE_B, ONE_S),
-    "dist/aarch64/b2sum.s": PROGRAM,
     "dist/wasm/vulfsjor.wasm": LIBRARY,
     "js/src/wasm.js": LIBRARY,
 }
@@ -65,11 +61,6 @@ def build(path: str) -> Any:
     """The folder and the end of a file's name, which the same build of other libraries shares."""
     folder, _, file = path.rpartition("/")
     return folder, file.partition("-")[2]
-
-
-def is_library(path: str) -> bool:
-    """Whether a file is a build of the library, not of a program."""
-    return path.rpartition("/")[2].startswith("vulfsjor")
 
 
 def in_file(path: str, name: str) -> str:

@@ -1,5 +1,5 @@
 """The texts of dist/ are for every object format, by macros of the assembler. Here one is written as
-the assembler reads it for ELF, without macros: tests/formats.py compares both."""
+the assembler reads it for ELF, without macros: tests/object_formats.py compares both."""
 
 import functools
 import os
@@ -32,6 +32,6 @@ def lines_of(line: str, kind: str) -> list[str]:
 
 
 def expanded(text: str, kind: str) -> str:
-    """A text for ELF without macros."""
-    lines = [*macros(kind)[1], *(part for line in text.split("\n") for part in lines_of(line, kind))]
+    """A text for ELF without macros, with the marks that dist/macros.h gives it."""
+    lines = [*macros(kind)[1], *lines_of("\tvj_marks", kind), *(part for line in text.split("\n") for part in lines_of(line, kind))]
     return "\n".join(lines)

@@ -8,23 +8,21 @@ import re
 from typing import Any, Callable
 
 import call_cases
-import calls
-import check_following
+import check_ranges
 import check_specification
+import check_taint
 import compression
-import exact
+import constant_time
 import functions
 import program as programs
+import ranges
+import scrub_stack
+import symbolic
 import terms as T
-import wiping
 
 TABLE = os.path.join(os.path.dirname(os.path.abspath(__file__)), "mutations.txt")
 SHORT = {"v4": "dist/x86_64/vulfsjor-v4.s", "v3": "dist/x86_64/vulfsjor-v3.s",
          "v2": "dist/x86_64/vulfsjor-v2.s", "arm": "dist/aarch64/vulfsjor.s",
-         "b2-v4": "dist/x86_64/b2-v4.s", "b2-v3": "dist/x86_64/b2-v3.s",
-         "b2-v2": "dist/x86_64/b2-v2.s", "b2-arm": "dist/aarch64/b2.s",
-         "b2sum-v4": "dist/x86_64/b2sum-v4.s", "b2sum-v3": "dist/x86_64/b2sum-v3.s",
-         "b2sum-v2": "dist/x86_64/b2sum-v2.s", "b2sum-arm": "dist/aarch64/b2sum.s",
          "wasm": "dist/wasm/vulfsjor.wasm", "js": "js/src/wasm.js"}
 ENTRIES = {"one b": functions.ONE_B, "one s": functions.ONE_S, "many b": functions.MANY_B,
            "many s": functions.MANY_S, "eight b": functions.EIGHT_B,
@@ -52,7 +50,8 @@ def changed(lines: Any, number: Any, old: Any, new: Any) -> Any:
         raise NoMatch("%r matches %d lines, fewer than %d" % (old, len(found), number))
     at = found[number - 1]
     # The labels of a file are numbers too, from 1 up.
-    new = "; ".join(re.sub(r"(?<![\w$%\\])(\d)(f$|:)", r"9999\1\2", part) for part in new.split("; "))
+    new = "; ".join(re.sub(r"(?<![\w$%\\])(\d)(f$|:)", r"9999\1\2", part)
+                    for part in new.split("; "))
     text = new if exact else re.sub(old, new, clean[at], count=1)
     if text == clean[at]:
         raise NoMatch("the change of %r changes nothing" % clean[at])
@@ -63,7 +62,7 @@ def edit_text(name: str, is_data: bool, *change: Any) -> Any:
     """An editor of an assembly text, for one function, or for its constants, which precede it."""
     def edit(text: str) -> Any:
         lines = text.split("\n")
-        label = re.compile(r"\"?%s_\d+_\d+_\d+_\w+\"?:" % re.escape(name))
+        label = re.compile(r"\"?%s_\d+_\w+\"?:" % re.escape(name))
         start = next(k for k, line in enumerate(lines) if label.match(line))
         end = next(k for k in range(start, len(lines)) if lines[k].startswith("\t.size\t"))
         before = [k for k in range(start) if lines[k].startswith("\t.size\t")]
@@ -134,14 +133,14 @@ def is_same(program: programs.Program, name: str) -> Any:
 
 def follow_call(program: programs.Program, name: str, exported: str) -> None:
     """Follows a call of an exported function that reaches the changed one."""
-    for entry in calls.exports(program):
+    for entry in constant_time.exports(program):
         if entry[0] == exported:
-            calls.show(program, *entry)
+            constant_time.show(program, *entry)
 
 
 def show_scrub(program: Any, _: Any, count: Any) -> None:
-    """That scrub_stack of so many bytes overwrites them."""
-    wiping.show(program, functions.SCRUB_STACK + count, int(count))
+    """That scrub_stack of this many bytes overwrites them."""
+    scrub_stack.show(program, functions.SCRUB_STACK + count, int(count))
 
 
 def compute_call(program: programs.Program, name: str, exported: str) -> None:
@@ -153,7 +152,7 @@ def compute_call(program: programs.Program, name: str, exported: str) -> None:
 
 def look(program: programs.Program, _: Any = None) -> None:
     """What is looked at in all of a file: sections, symbols, and which functions are called."""
-    list(calls.exports(program))
+    list(constant_time.exports(program))
     for name, _, _ in functions.FILES[program.path]:
         program.code(name)
 
@@ -213,19 +212,35 @@ def wrong_rule() -> Any:
 
 def secret_forgotten() -> Any:
     """Operations whose result does not depend on their operands, for whole calls."""
-    follower = calls.following_arm.Model
-    verdict, why = _with(follower, "mixed", lambda self, data: calls.unknown(),
-                         lambda: check_following.run(SHORT["arm"], 2))
+    follower = constant_time.taint_arm.Model
+    verdict, why = _with(follower, "mixed", lambda self, data: constant_time.unknown(),
+                         lambda: check_taint.run(SHORT["arm"], 2))
     return _seen("an operation that forgets secrets fails", verdict == "not ok" and why)
 
 
 def carry_forgotten() -> Any:
     """inc and dec that set the carry, which they keep."""
     count = lambda self, to, step: self.binary_word(
-        "other", lambda a, b: T.add(a.w, (1, a), (step, b)), to, calls.following_x86.ONE)
-    verdict, why = _with(calls.following_x86.Model, "count", count,
-                         lambda: check_following.run(SHORT["v2"], 2))
+        "other", lambda a, b: T.add(a.w, (1, a), (step, b)), to, constant_time.taint_x86.ONE)
+    verdict, why = _with(constant_time.taint_x86.Model, "count", count,
+                         lambda: check_taint.run(SHORT["v3"], 2))
     return _seen("a carry that inc sets fails", verdict == "not ok" and why)
+
+
+def path_forgotten() -> Any:
+    """Paths that meet, where the ranges of sums are those of one of them."""
+    right = constant_time.taint_x86.Model.relate
+    one = lambda self, m, _, visits, *words: right(self, m, m, visits, *words[:2], words[1])
+    verdict, why = _with(constant_time.taint_x86.Model, "relate", one,
+                         lambda: check_ranges.check(200))
+    return _seen("a sum whose range is that of one path fails", verdict == "not ok" and why)
+
+
+def step_forgotten() -> Any:
+    """A range that is cut to a number that is not among its steps."""
+    verdict, why = _with(ranges, "aligned", lambda low, high, start, step: (low, high, step),
+                         lambda: check_ranges.check(200))
+    return _seen("a range that begins between two steps fails", verdict == "not ok" and why)
 
 
 def wrong_specification() -> Any:
@@ -240,7 +255,7 @@ def wrong_specification() -> Any:
 
 def wrong_choice() -> Any:
     """A copy of a variable length that takes one byte too many."""
-    f = lambda machine, j, n, a, b: exact.choice(j, n, b, a)
+    f = lambda machine, j, n, a, b: symbolic.choice(j, n, b, a)
     program = programs.read(SHORT["arm"])
 
     def show() -> Any:
@@ -248,35 +263,35 @@ def wrong_choice() -> Any:
             return call_cases.Cases(program, "blake2s").show("_final") and None
         except T.Refused as e:
             return str(e)
-    return _seen("a copy that chooses the wrong bytes fails", _with(exact, "below", f, show))
+    return _seen("a copy that chooses the wrong bytes fails", _with(symbolic, "below", f, show))
 
 
 def call_left_out() -> list:
     """A table of exported functions that has one less."""
-    less = {k: v for k, v in calls.EXPORTS.items() if k != "_update"}
+    less = {k: v for k, v in constant_time.EXPORTS.items() if k != "_update"}
 
     def names() -> Any:
         try:
-            return list(calls.exports(programs.Program(SHORT["arm"]))) and None
+            return list(constant_time.exports(programs.Program(SHORT["arm"]))) and None
         except T.CannotShow as e:
             return str(e)
     return _seen("an exported function left out of its table is found",
-                 _with(calls, "EXPORTS", less, names))
+                 _with(constant_time, "EXPORTS", less, names))
 
 
 def name_changed() -> list:
     """Another name for what `_final` calls to zero the state."""
     program = programs.read(SHORT["arm"])
-    final = next(e for e in calls.exports(program) if e[0] == "vulfsjor_ffi_blake2s_final")
-    other = {**calls.CALLED, "_final": "blake2_ffi..%s..zeroed"}
+    final = next(e for e in constant_time.exports(program) if e[0] == "vulfsjor_ffi_blake2s_final")
+    other = {**constant_time.CALLED, "_final": "blake2_ffi..%s..zeroed"}
 
     def show() -> Any:
         try:
-            return calls.show(program, *final) and None
+            return constant_time.show(program, *final) and None
         except T.CannotShow as e:
             return str(e)
     return _seen("a claim about a function that is not called is noticed",
-                 _with(calls, "CALLED", other, show))
+                 _with(constant_time, "CALLED", other, show))
 
 
 def function_left_out() -> list:
@@ -293,4 +308,5 @@ def _seen(title: str, why: Any) -> list:
 
 
 OF_THE_TOOL = (wrong_model, wrong_rule, function_left_out, secret_forgotten, call_left_out,
-               name_changed, carry_forgotten, wrong_specification, wrong_choice)
+               name_changed, carry_forgotten, path_forgotten, step_forgotten, wrong_specification,
+               wrong_choice)

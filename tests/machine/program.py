@@ -6,6 +6,7 @@ from __future__ import annotations
 import functools
 import os
 import re
+import struct
 import subprocess
 import tempfile
 from typing import Any
@@ -28,10 +29,10 @@ CONSTANTS = ".rodata"                  # the section of the constants
 # The sections of a file that a processor sees, by the start of their names, with their flags.
 SECTIONS = ((".text", elf.ALLOCATED | elf.EXECUTABLE), (CONSTANTS, elf.ALLOCATED),
             (CONSTANTS, elf.ALLOCATED | elf.MERGED), (CONSTANTS, elf.ALLOCATED | elf.STRINGS))
-# Numbers that the linker fills in, in pages that are not writable when the program starts.
-OF_PROGRAMS = (".data.rel.ro", elf.ALLOCATED | elf.WRITABLE)
+# What the linker reads for branch protection: the kind of a processor's features, and those of all code.
+MARKS = {"x86_64": (0xc0000002, 3), "aarch64": (0xc0000000, 1)}
 # The directives that the files use. Each means the same to all assemblers, in all folders.
-DIRECTIVES = frozenset("ascii byte file globl hidden hword ident long p2align popsection quad "
+DIRECTIVES = frozenset("ascii asciz byte file globl hidden hword ident long p2align popsection quad "
                        "pushsection section short size type weak word xword zero".split())
 DIRECTIVE = re.compile(r"(?:^|[;/]|(?<!:lo12):)\s*\.([a-z]\w*)\b(?!\s*[:.])", re.I | re.M)
 # The kinds of relocation that fill in 4 bytes of constants, R_X86_64_PC32 and R_AARCH64_PREL32.
@@ -132,17 +133,15 @@ class Program:
     def read_symbols(self, file: elf.Elf) -> None:
         """The functions that other files may call, and the symbols that they define, of an object
         file. All that a processor sees must be code or constants that nothing writes."""
-        is_library = functions.is_library(self.path)
-        allowed = SECTIONS + (() if is_library else (OF_PROGRAMS,))
         for s in file.sections:
-            is_kept = s.size and s.flags & elf.ALLOCATED
+            is_kept = s.size and s.flags & elf.ALLOCATED and not self.is_mark(s)
             if s.type == elf.GROUP or not s.flags & elf.ALLOCATED and s.flags & elf.EXECUTABLE or (
                     is_kept and (s.type != elf.PROGBITS or not any(
-                        s.name.startswith(name) and s.flags == flags for name, flags in allowed))):
+                        s.name.startswith(name) and s.flags == flags for name, flags in SECTIONS))):
                 raise IsWrong("the section %s has data, or code that may be overwritten, that "
                               "another file may replace, or that runs at the start" % s.name)
         for symbol in file.symbols:
-            if is_library and symbol.binding != elf.LOCAL and symbol.section != elf.UNDEFINED and (
+            if symbol.binding != elf.LOCAL and symbol.section != elf.UNDEFINED and (
                     not symbol.is_hidden):
                 raise IsWrong("another file may define %s too" % symbol.name)
         self.globals = sorted(without_version(s.name) for s in file.symbols
@@ -151,6 +150,12 @@ class Program:
         self.external -= {s.name for s in file.symbols if s.section != elf.UNDEFINED}
         self.callable = {s.name for s in file.symbols
                          if s.type == elf.FUNCTION and s.binding in (elf.LOCAL, elf.GLOBAL)}
+
+    def is_mark(self, section: elf.Section) -> bool:
+        """Whether a section is the note that all code of the object is for branch protection."""
+        kind, features = MARKS[self.kind]
+        note = struct.pack("<3I4s4I", 4, 16, 5, b"GNU", kind, 4, features, 0)
+        return (section.name, section.type, bytes(section.data)) == (".note.gnu.property", elf.NOTE, note)
 
     def is_external(self, shown: str) -> bool:
         """Whether the target of a call, as objdump shows it, is a function of another file."""
@@ -294,8 +299,8 @@ def found(pattern: str, text: str) -> Any:
 
 
 def without_version(name: str) -> str:
-    """A function's name without the version of its package and of the processor."""
-    return re.sub(r"_[0-9]+_[0-9]+_[0-9]+_\w+$", "", name)
+    """A function's name without the number of the code and the build."""
+    return re.sub(r"_[0-9]+_[a-z0-9]+$", "", name)
 
 
 def constants(file: Any) -> Any:

@@ -36,6 +36,32 @@ def gcd(a: int, b: int) -> int:
     return a
 
 
+def aligned(low: int, high: int, start: int, step: int) -> tuple:
+    """The least range that has all numbers between two that are a start plus multiples of a step,
+    which is 0 if the start is the only one."""
+    if step < 2:
+        return low, high, step
+    return low + (start - low) % step, high - (high - start) % step, step
+
+
+def in_both(a: tuple, b: tuple) -> tuple:
+    """A range that has all numbers that two ranges have in common, by the greater step."""
+    if a[2] == 0 or b[2] == 0:
+        return a if a[2] == 0 else b
+    return aligned(max(a[0], b[0]), min(a[1], b[1]), *max(a, b, key=lambda r: r[2])[::2])
+
+
+def extended(t: T.Term) -> T.Term | None:
+    """The word that a term has followed by bytes of zeros, or None."""
+    if t.op != "cat":
+        return None
+    data = T.split(t)
+    while data and data[-1] == 0:
+        data.pop()
+    inner = T.word(data) if len(data) in (1, 2, 4) else t
+    return inner if inner.op in ("var", "add", "slice") else None
+
+
 class Ranges:
     """The part of an abstract machine that has the ranges (low, high, step) of variables that have
     a smaller one than their width. Sums of variables without a constant have ranges too; in
@@ -46,6 +72,7 @@ class Ranges:
     regions: dict
     where: str
     block: int
+    longest: int
 
     def new(self, w: int, what: str = "", limits: tuple | None = None) -> T.Term:
         """A new public variable of w bits, named by the place of the instruction."""
@@ -88,16 +115,14 @@ class Ranges:
             return low, high, step
         if max(high, other[1]) - min(low, other[0]) >> t.w:
             return other
-        return max(low, other[0]), min(high, other[1]), min(step, 1)
+        return in_both((low, high, step), other)
 
     def range_of_integer(self, t: T.Term) -> tuple:
         """The same, of the sum as an integer."""
         known = self.ranges.get(t)
         if t.op != "add":
             return known or (self.range_of(t) if t.op != "var" else (0, (1 << t.w) - 1, 1))
-        low, high, step = self.range_of_sum(t)
-        return (max(low, known[0]), min(high, known[1]), min(step, 1)) if known else (
-            low, high, step)
+        return in_both(known, self.range_of_sum(t)) if known else self.range_of_sum(t)
 
     def range_of_sum(self, t: T.Term) -> tuple:
         """The range of a sum by those of its parts."""
@@ -116,15 +141,22 @@ class Ranges:
             return low - (shift << t.w), high - (shift << t.w)
         return 0, (1 << t.w) - 1
 
-    def limit(self, t: T.Term, low: int, high: int) -> bool:
-        """Learns that a term is between two numbers. Returns whether that may be."""
+    def limit(self, t: T.Term, low: int, high: int, step: int = 1) -> bool:
+        """Learns that a term is between two numbers, and one of low, low + step and so on, where
+        the step is a power of two. Returns whether that may be."""
+        inner = extended(t)
+        if inner and -1 << t.w - 1 <= low and high < 1 << t.w:
+            low, high = low + step * max(0, -(low // step)), min(high, (1 << inner.w) - 1)
+            return low <= high and self.limit(inner, low, high, step)
         constant, sign, rest = parts(t)
-        if rest.op == "slice" and rest.args[1] == 0 and self.range_of(rest)[1] < 1 << rest.w:
+        if rest.op == "slice" and rest.args[1] == 0:
             rest = rest.args[0]
         if rest.op not in ("var", "add") or rest in self.regions:
             return True
+        if step > 1:
+            high -= (high - low) % step
         low, high = sorted((sign * (low - constant), sign * (high - constant)))
-        a, b, step = self.range_of_integer(rest)
+        a, b, known = self.range_of_integer(rest)
         size = 1 << t.w
         first = (a - high + size - 1) // size
         found = [(max(a, low + s * size), min(b, high + s * size)) for s in range(first, first + 2)]
@@ -136,7 +168,11 @@ class Ranges:
             if rest.op == "add" and high - low < q - p:
                 self.residues[rest] = low, high, 1
             return True
-        self.ranges[rest] = found[0] + (step if found[0][0] == a else min(step, 1),)
+        start, step = (a, known) if known >= step else (low, step)
+        new = aligned(*found[0], start, step)
+        if new[0] > new[1]:
+            return False
+        self.ranges[rest] = new
         return rest.op != "add" or self.limit_parts(rest)
 
     def limit_parts(self, t: T.Term) -> bool:
@@ -145,13 +181,19 @@ class Ranges:
         first, last, _ = self.range_of_sum(t)
         for x, k in t.args[1]:
             k, (a, b, step) = signed(t.w, k), self.range_of(x)
-            if x.op != "var" or abs(k) != 1 or x in self.regions:
+            if x.op not in ("var", "slice") or abs(k) != 1 or x in self.regions:
                 continue
             p, q = (low - last + b, high - first + a) if k == 1 else (
                 first - high + b, last - low + a)
             if max(a, p) > min(b, q):
                 return False
-            self.ranges[x] = max(a, p), min(b, q), step if p <= a else min(step, 1)
+            if x.op == "slice":
+                if not self.limit(x, max(a, p), min(b, q)):
+                    return False
+                continue
+            self.ranges[x] = aligned(max(a, p), min(b, q), a, step)
+            if self.ranges[x][0] > self.ranges[x][1]:
+                return False
         return True
 
     def assume(self, relation: str, a: T.Term, b: T.Term) -> bool:
@@ -169,17 +211,31 @@ class Ranges:
                 if u == v and u in (low, high) and not self.limit(
                         t, low + (u == low), high - (u == high)):
                     return False
-            return True
+            return self.differ(a, b)
         strict = relation == "<"
         if strict and a is b or p + strict > s:
             return False
         may = self.limit(a, p, min(q, s - strict)) and self.limit(b, max(r, p + strict), s)
         return may and self.limit(T.add(a.w, (1, b), (-1, a)), strict + 0, s - p)
 
+    def differ(self, a: T.Term, b: T.Term) -> bool:
+        """Learns that two words are not the same, if one end of the range of their difference would
+        be 0. Returns whether that may be."""
+        difference = T.add(a.w, (1, b), (-1, a))
+        low, high, step = self.range_of(difference)
+        if high - low >= 1 << a.w:
+            return True
+        if low % (1 << a.w) == 0:
+            low += step or 1
+        if high % (1 << a.w) == 0:
+            high -= step or 1
+        return low <= high and self.limit(difference, low, high)
+
     def widened(self, old: tuple, new: tuple, w: int, visits: int) -> tuple:
         """A range that stops to grow after some visits. Its end goes to a block's size first."""
         if new == old or visits <= VISITS:
             return new
         low = new[0] if new[0] >= old[0] else 0 if new[0] >= 0 else -TOP
-        top = self.block if new[1] <= self.block else TOP if low else (1 << w) - 1
-        return low, top if new[1] > old[1] else new[1], new[2]
+        top = next((n for n in (self.block, self.longest) if new[1] <= n),
+                   TOP if low else (1 << w) - 1)
+        return aligned(low, top if new[1] > old[1] else new[1], new[0], new[2])

@@ -7,14 +7,14 @@ from __future__ import annotations
 import re
 from typing import Any, TYPE_CHECKING
 
-import calls
+import constant_time
 import functions
 import program as programs
 import terms as T
-from calls import OF_C, STACK
-from exact import MODELS, Buffer, Cells, Undecided, any_of, base_of, below, fresh, is_zero
-from following import Aligned, reset
+from constant_time import OF_C, STACK
 from machine import bitwise, chunks, image, need_public
+from symbolic import MODELS, Buffer, Cells, Undecided, any_of, base_of, below, fresh, is_zero
+from taint import Aligned, reset
 from terms import CannotShow, IsWrong
 
 if TYPE_CHECKING:
@@ -24,7 +24,7 @@ PATHS, LIMIT = 200, 200000             # of a call: paths at a time, and instruc
 # What takes memory of the stack in a compression, and how much: 8 bytes if there is no number.
 MOVES_STACK = re.compile(r"(?!add\b)\w+\s+r?sp,")
 TAKES = re.compile(r"\bsub\s+(?:rsp,|sp, sp, #)(0x[0-9a-f]+|\d+)$|\bpush\b|\[sp, #-(\d+)\]!")
-INSTRUCTIONS = {kind: module.Instruction for kind, module in calls.MODELS.items()}
+INSTRUCTIONS = {kind: module.Instruction for kind, module in constant_time.MODELS.items()}
 
 
 class Terms:

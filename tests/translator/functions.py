@@ -14,8 +14,10 @@ from wasm_format import MORE, PLAIN  # noqa: E402
 
 TYPES = {"i32": 0x7f, "i64": 0x7e}
 BUFFER, FUEL, FRAME, SAVED, ALIAS = 0, 7, 8, 9, 10  # locals
+UNREAD = {"i64": 11, "i32": 12}
+LATE = 13  # set on one of two ways only
 PARAMETERS = ["i64"] * 3
-LOCALS = ["i64", "i64", "i32", "i32", "i32", "i64", "i64", "i64"]
+LOCALS = ["i64", "i64", "i32", "i32", "i32", "i64", "i64", "i64", "i64", "i32", "i64"]
 FREE = {"i64": [1, 2, 3, 4], "i32": [5, 6]}
 BINARY = "add sub mul and or xor shl shr_u shr_s rotl rotr".split()
 COMPARISONS = "eq ne lt_s lt_u gt_s gt_u le_s le_u ge_s ge_u".split()
@@ -75,8 +77,8 @@ class Maker:
         """Lines that leave a number of this type."""
         if not depth:
             return self.number(type_) if self.random.random() < .2 else [f"local.get {self.local(type_)}"]
-        kinds = ["binary"] * 5 + ["tee", "tee", "select", "load", "load", "change", "divide", "extend", "test", "test",
-                                  "leaf", "leaf", "negative"]
+        kinds = ["binary"] * 5 + ["tee", "tee", "select", "chosen", "load", "load", "change", "divide", "extend"]
+        kinds += ["test", "test", "leaf", "leaf", "negative", "numbers"]
         return getattr(self, "make_" + self.one_of(*kinds))(type_, depth - 1)
 
     def make_leaf(self, type_, _):
@@ -87,6 +89,11 @@ class Maker:
         """An operator."""
         return (self.expression(type_, depth) + self.expression(type_, depth) +
                 [f"{type_}.{self.one_of(*BINARY)}"])
+
+    def make_numbers(self, type_, _):
+        """An operator with two numbers, whose result may not have their length."""
+        numbers = [f"{type_}.const {self.one_of(0x7fff, 0xffff, 0x7fffffff)}" for _ in range(2)]
+        return numbers + [f"{type_}.{self.one_of('add', 'mul', 'mul')}"]
 
     def make_negative(self, type_, depth):
         """A sum with a negative number, or all bits changed."""
@@ -101,6 +108,11 @@ class Maker:
         """One of two."""
         return (self.expression(type_, depth) + self.expression(type_, depth) + self.expression("i32", depth) +
                 ["select"])
+
+    def make_chosen(self, type_, depth):
+        """One of two numbers, shifted to where an int has no room."""
+        return (self.number(type_) + self.number(type_) + self.expression("i32", depth) +
+                ["select", f"{type_}.const {self.one_of(24, 31, 40)}", f"{type_}.shl"])
 
     def make_load(self, type_, _):
         """A number from memory."""
@@ -142,7 +154,8 @@ class Maker:
 
     def statement(self, depth, blocks):
         """A statement: it leaves no operand."""
-        kinds = ["set"] * 3 + ["store"] * 3 + ["fill", "copy", "drop", "waits", "waits"]
+        kinds = ["set"] * 3 + ["store"] * 3 + ["fill", "copy", "drop", "waits", "waits", "late"] + ["onto"] * 3
+        kinds += ["zeros", "parts", "parts", "moving"]
         kinds += ["branch", "branch"] if blocks else []
         kinds += ["call", "call", "calls"] if self.functions else []
         kinds += ["block", "loop", "held", "pending", "pending", "leave", "skip", "dead"] if depth else []
@@ -166,6 +179,68 @@ class Maker:
         return (self.address() + self.expression(type_, 3) +
                 [f"{type_}.{self.one_of(*STORES[type_])} {self.random.randrange(57)}"])
 
+    def write_onto(self, _, __):
+        """Sets a local to what it was and other numbers."""
+        type_ = self.one_of("i32", "i64")
+        k, number = self.local(type_), self.expression(type_, 1)
+        operator = f"{type_}." + self.one_of("add", "sub", "sub", "mul", "xor")
+        old, set_ = [f"local.get {k}"], [f"local.set {k}"]
+        return self.one_of(number + old + [operator] + set_,
+                           old + number + [operator] + self.expression(type_, 1) + [operator] + set_,
+                           old + number + [f"{type_}.sub"] + self.expression(type_, 1) + [f"{type_}.add"] + set_,
+                           number + self.expression(type_, 1) + (old if type_ == "i32" else ["i32.const 1"]) +
+                           ["select"] + set_)
+
+    def write_zeros(self, _, __):
+        """Writes zeros next to each other, up or down, sometimes with a gap or another number or address."""
+        lines, base, low, high = [], self.address(), 28, 28
+        for _ in range(self.random.randrange(2, 4)):
+            size, gap = self.one_of(1, 2, 4, 8), self.one_of(0, 0, 0, 1)
+            place = self.one_of(low - gap - size, high + gap)
+            low, high = min(low, place), max(high, place + size)
+            type_ = self.one_of("i32", "i64") if size < 4 else "i32" if size == 4 else "i64"
+            name = "store" if size > 2 else f"store{8 * size}"
+            if self.random.random() < .3:
+                base = self.address() + self.one_of([], ["i64.const 1", "i64.add"])
+            lines += base + [f"{type_}.const {self.one_of(0, 0, 0, 0, -1)}", f"{type_}.{name} {place}"]
+        return lines
+
+    def write_parts(self, _, __):
+        """Writes parts of a number next to each other, as LLVM writes its bytes, sometimes one elsewhere, not at
+        all, or something else."""
+        type_ = self.one_of("i32", "i64")
+        k, base, begin, at, parts = self.local(type_), self.address(), self.random.randrange(1, 50), 0, []
+        while at < (4 if type_ == "i32" else 8):
+            size = self.one_of(1, 1, 2, 4)
+            parts.append((at, size))
+            at += size
+        parts = self.one_of(parts, parts[::-1], self.random.sample(parts, len(parts)), parts[1:] or parts)
+        lines, changed = [], self.random.randrange(2 * len(parts))
+        for n, (at, size) in enumerate(parts):
+            local, place, by, operator, where = k, begin + at, 8 * at, "shr_u", base
+            if n == changed:
+                local, place, by, operator, where = self.one_of(
+                    (self.local(type_), place, by, operator, where), (local, place - 1, by, operator, where),
+                    (local, place, by + 8, operator, where), (local, place, max(by - 8, 0), operator, where),
+                    (local, place, by, self.one_of("shr_s", "shl", "add", "rotr"), where),
+                    (local, place, by, operator, self.address()))
+            name = "store" if f"i{8 * size}" == type_ else f"store{8 * size}"
+            shift = [f"{type_}.const {by}", f"{type_}.{operator}"] if by else []
+            lines += where + [f"local.get {local}"] + shift + [f"{type_}.{name} {place}"]
+        return lines
+
+    def write_moving(self, _, __):
+        """Two writes next to each other, of which the first changes the address or the number of the second, or which
+        are of a number that is shifted by as many bits as it has."""
+        base = ["local.get 0", "local.get 0", "i64.load8_u 16", "i64.add"]
+        number, low = ["local.get 0", "i64.load 0"], ["local.get 0", f"local.get {self.local('i32')}"]
+        return self.one_of(
+            ["local.get 0", "i32.const 8", "i32.store8 16"] + (base + ["i32.const 0"] + ["i32.store8 8"]) +
+            (base + ["i32.const 0"] + ["i32.store8 9"]),
+            ["local.get 0"] + number + ["i64.store8 1", "local.get 0"] + number + [
+                "i64.const 8", "i64.shr_u", "i64.store8 2"],
+            low + ["i32.const 24", "i32.shr_u", "i32.store8 1"] + low + ["i32.const 32", "i32.shr_u", "i32.store8 2"])
+
     def write_fill(self, _, __):
         """Fills memory, also with no bytes."""
         return self.place() + self.expression("i32", 2) + [f"i64.const {self.random.randrange(32)}", "memory.fill 0"]
@@ -185,6 +260,8 @@ class Maker:
     def write_call(self, _, __):
         """Calls a function."""
         lines, type_ = self.call()
+        if type_ and self.random.random() < .3:  # whose result is not used
+            return lines + [self.one_of("drop", f"local.set {UNREAD[type_]}")]
         return lines + (self.mix(type_) if type_ else [])
 
     def call(self):
@@ -212,6 +289,11 @@ class Maker:
         write = [self.write_store, self.write_fill, self.write_copy] + [self.write_call] * bool(self.functions)
         lines += self.one_of(*write)(depth, blocks)
         return lines + self.mix(type_)
+
+    def write_late(self, depth, blocks):
+        """A load that waits while memory is written, and is then set."""
+        type_ = self.one_of("i32", "i64")
+        return self.load(type_) + self.write_store(depth, blocks) + [f"local.set {self.local(type_)}"]
 
     def write_pending(self, _, __):
         """An operand waits while something is written."""
@@ -252,9 +334,10 @@ class Maker:
     # ---- the stack
 
     def write_or_eight(self, _, __):
-        """An address on the stack plus 8, as LLVM writes it."""
+        """An address on the stack plus 8, as LLVM writes it, and a place after that."""
+        after = self.one_of(0, 8, 24) if self.room >= 48 else 0
         return [f"local.get {FRAME}", "i64.const 8", "i64.or"] + self.expression("i64", 1) + [
-            "i64.store 0", f"local.get {FRAME}", "i64.load 8"] + self.mix("i64")
+            f"i64.store {after}", f"local.get {FRAME}", f"i64.load {8 + after}"] + self.mix("i64")
 
     def write_deep(self, _, __):
         """The last bytes of the part of the stack, and the first."""
@@ -290,6 +373,18 @@ class Maker:
         return (["global.get 0", f"i64.const {self.room}", "i64.sub", f"local.tee {FRAME}", "global.set 0"] + check +
                 fill, [f"local.get {FRAME}", f"i64.const {self.room}", "i64.add", "global.set 0"])
 
+    def rare(self):
+        """Lines that each function has: a local that is set on one of two ways only; and parts of a number, also
+        shifted by as many bits as it has, and zeros, which touch or do not."""
+        (first, second), number = FREE["i64"][:2], FREE["i32"][0]
+        lines = ["block", f"local.get {number}", "br_if 0", f"local.get {first}", f"local.set {LATE}", "end",
+                 f"local.get {LATE}", f"local.get {second}", "i64.xor", f"local.set {second}"]
+        for place, by, bits in ((44, 0, 8), (45, 8, 8), (46, 24, 16), (52, 0, 16), (54, 8, 16), (56, None, 8),
+                                (57, None, 8), (59, None, 8), (60, 0, 8), (61, None, 8), (62, 24, 8), (63, 32, 8)):
+            part = [f"local.get {number}", f"i32.const {by}", "i32.shr_u"][:3 if by else 1]
+            lines += [f"local.get {BUFFER}", *(["i32.const 0"] if by is None else part), f"i32.store{bits} {place}"]
+        return lines
+
     def function(self):
         """The results and the lines of a function."""
         results = RESULTS[len(self.functions) % 3]
@@ -297,6 +392,7 @@ class Maker:
         lines = begin + ["i32.const 5", f"local.set {FUEL}"]
         for _ in range(8):
             lines += self.statement(3, 0)
+        lines += self.rare()
         sums = [f"local.get {FREE['i64'][0]}"]
         for n in FREE["i64"][1:]:
             sums += ["i64.const 13", "i64.rotl", f"local.get {n}", "i64.add"]
@@ -378,10 +474,32 @@ def module(functions, exports, more=b""):
             section(0, b"\x04name" + named))
 
 
+# The functions of Rattle's runtime between which an exported function calls another.
+RUNTIME = [("__rattle_enter", [], ["i32"], ["i32"], ["global.get 1", "local.set 0", "i32.const 1", "global.set 1",
+                                                    "local.get 0", "i32.const 0", "i32.ne", "end"]),
+           ("__rattle_leave", [], [], [], ["i32.const 0", "global.set 1", "end"]),
+           ("__rattle_trap", [], [], [], ["unreachable", "end"])]
+
+
+def wrapper(callee, results, runtime, order):
+    """The lines of a function that calls another, with its arguments in this order, as Rattle writes it."""
+    return ["block", f"call {runtime}", "i32.eqz", "br_if 0", f"call {runtime + 2}", "unreachable", "end",
+            *(f"local.get {k}" for k in order), f"call {callee}", *["local.set 3"] * len(results),
+            f"call {runtime + 1}", *["local.get 3"] * len(results), "end"]
+
+
 def random_module(seed, count):
-    """A module of random functions, their results, and their lines."""
+    """A module of random functions, their results, and their lines. Those of some are called by the exported ones, and
+    some of these swap the last two arguments."""
     made = Maker(seed).make(count)
-    names = [f"vulfsjor_ffi_t{k}" for k in range(count)]
-    data = module([(name, PARAMETERS, results, LOCALS, lines) for name, (results, lines) in zip(names, made)],
-                  {name: k for k, name in enumerate(names)})
-    return data, [results for results, _ in made], [lines for _, lines in made]
+    functions = [(f"vulfsjor_ffi_t{k}", PARAMETERS, results, LOCALS, lines)
+                 for k, (results, lines) in enumerate(made)]
+    exports = {function[0]: k for k, function in enumerate(functions)}
+    functions += RUNTIME
+    for k in range(6, count, 5):
+        name, _, results, _, _ = functions[k]
+        functions[k] = "rattle::export " + name, *functions[k][1:]
+        exports[name] = len(functions)
+        lines = wrapper(k, results, count, (0, 1, 2) if k % 2 else (0, 2, 1))
+        functions.append((name, PARAMETERS, results, results or ["i64"], lines))
+    return module(functions, exports), [results for results, _ in made], [lines for _, lines in made]

@@ -7,19 +7,19 @@ import heapq
 import re
 from typing import Any, Callable, Iterator, TYPE_CHECKING
 
-import following_arm
-import following_x86
 import functions
 import program as programs
+import taint_arm
+import taint_x86
 import terms as T
-from following import Aligned, Memory, is_secret, reset, secret, unknown
 from machine import image, need_public
+from taint import Aligned, Memory, is_secret, reset, secret, unknown
 from terms import CannotShow, IsWrong
 
 if TYPE_CHECKING:
     from rfc7693 import Kind
 
-MODELS = {"x86_64": following_x86, "aarch64": following_arm}
+MODELS = {"x86_64": taint_x86, "aarch64": taint_arm}
 STACK = 65536
 ROUNDS = 20                            # of a loop, which are unrolled
 
@@ -36,8 +36,14 @@ def parallel_state(n: int, block: int, held: int) -> list:
             + [(8, True)] * 2 + [(block, False)])
 
 
+def output_state(n: int, block: int) -> list:
+    """The same of a state of BLAKE2Xb or BLAKE2Xs: a root hash, and the output."""
+    return state(n, block) + [(8 * n, False), (4 * n, False)] + [(8, True)] * 3
+
+
 LAYOUTS = {"blake2b": state(8, 128), "blake2s": state(4, 64),
            "blake2bp": parallel_state(8, 128, 896), "blake2sp": parallel_state(4, 64, 960),
+           "blake2xb": output_state(8, 128), "blake2xs": output_state(4, 64),
            "tree": state(8, 128) * 2 + [(8, True)] * 4 + [(16, False)] * 2,
            "limits": [(8, True)] * 4, "plan": [(8, True)] * 9, "part": [(8, True)] * 6,
            "place": [(8, True), (4, True)] + [(1, True)] * 4}
@@ -55,6 +61,7 @@ EXPORTS = {
     "_init_salt_personal": (STATE,) + GIVEN, "_init_tree": (STATE,) + GIVEN + (PLACE,),
     "_reset": (STATE,), "_set_last_node": (STATE, NUMBER), "_state_size": (),
     "_update": (STATE, BYTES), "_verify": (STATE, BYTES), "_wipe": (STATE,),
+    "_derive_key": (OUT, KEY, BYTES), "_left": (STATE,), "_squeeze": (STATE, OUT),
     "": (OUT, BYTES, KEY), "_many": (OUT, NUMBER, TABLE, KEY, BYTES, BYTES),
 }
 TREES = {
@@ -73,22 +80,22 @@ TREES = {
 ANSWERS = ("_verify", "_ffi_memcmp")   # whose result may depend on secrets
 # What the exported functions of a family call, by the end of their names.
 CALLED = {"_final": functions.FINALIZE, "_verify": functions.IS_DIGEST_OF}
-# The longest array of bytes that a family's calls index, in bytes.
-LONGEST = {"blake2s": 64, "blake2bp": 896, "blake2sp": 960}
+# The block of a family, if it is not that of BLAKE2b, and the longest array of bytes that its calls
+# index, if that is not a block, in bytes.
+BLOCKS = {"blake2s": 64, "blake2xs": 64, "blake2sp": 64}
+LONGEST = {"blake2bp": 896, "blake2sp": 960}
 FAMILIES = ("blake2b", "blake2s", "blake2bp", "blake2sp")
 FINALIZING, ANSWERING = (tuple(name % family for family in FAMILIES)
                          for name in (functions.FINALIZE, functions.IS_DIGEST_OF))
-# Of these whole_calls.py does not show what they write.
-NOT_COMPUTED = ("_many",)
+# Of these whole_calls.py does not show what they write. The last three are of BLAKE2Xb and
+# BLAKE2Xs.
+NOT_COMPUTED = ("_many", "_derive_key", "_left", "_squeeze")
 OF_C = ("memcpy", "memmove", "memset")
 NOT_FOLLOWED = ("dist/x86_64/vulfsjor-v4.s",)   # masks of AVX-512 are not followed
-# Of BLAKE2bp and BLAKE2sp these are followed. The others index up to 960 pending bytes, and compute
-# lengths in vectors: the ranges have no bounds for them.
-PARALLEL = {family: ("_count", "_digest_size", "_reset", "_state_size", "_wipe")
-            for family in ("blake2bp", "blake2sp")}
 # What is not shown, as pairs of a file and a function: those whose pointers have bounds that are
-# too hard for the ranges. There is none now.
-NOT_SHOWN: set = set()
+# too hard for the ranges.
+NOT_SHOWN = {(path, "vulfsjor_ffi_blake2bp")
+             for path in ("dist/x86_64/vulfsjor-v3.s", "dist/x86_64/vulfsjor-v2.s")}
 
 
 class Call:
@@ -110,7 +117,7 @@ class Call:
         self.regions[self.sp] = Memory(-STACK, len(above),
                                        lambda k: secret() if k < 0 else above[k])
         self.machine = model(self.regions, {})
-        self.machine.begin(alignment, self.ranges, LONGEST.get(family, 128))
+        self.machine.begin(alignment, self.ranges, BLOCKS.get(family, 128), LONGEST.get(family, 0))
         self.machine.start(self.sp, back, self.words)
 
     def add(self, kind: str, layout: list | None) -> None:
@@ -179,7 +186,7 @@ class Analysis:
         visits: dict = {}
         waiting: list = []
         ends: list = []
-        machine.rounds, machine.undecided = (), frozenset()
+        machine.rounds, machine.undecided, machine.bounds = (), frozenset(), frozenset()
         entry = machine.at_entry()
         loops: dict = {}                     # the head of a loop -> its last address
         for i in code.values():
@@ -197,14 +204,15 @@ class Analysis:
                 raise CannotShow("no invariant of a loop is found")
             if key not in states:
                 states[key] = m.copy()
-            elif not states[key].join(m, "%s.%x%s." % (path, pc, in_round(m)), visits[key]):
+            elif not states[key].join(m, "%s.%x%s." % (path, pc, in_round(m)), visits[key],
+                                      pc in loops and m.longest > m.block):
                 return
             if key not in waiting:
                 heapq.heappush(waiting, key)
 
         def check(m: Any, first: int = 0) -> None:
-            for k, what in list(enumerate(("return address", "stack pointer", "registers")))[first:]:
-                if m.at_entry()[k] != entry[k]:
+            for k, what in enumerate(("return address", "stack pointer", "registers")):
+                if k >= first and m.at_entry()[k] != entry[k]:
                     raise IsWrong("the caller's %s: not as at the entry of %s" % (what, name))
 
         def finish(m: Any, first: int = 0) -> None:
@@ -293,11 +301,11 @@ class Analysis:
 
     def enter(self, m: Any, name: str, i: Any, path: str) -> None:
         """A call of a function whose code is followed."""
-        kept = m.rounds, m.undecided
+        kept = m.rounds, m.undecided, m.bounds
         found = self.run(name, m, "%s/%x%s" % (path, i.address, in_round(m)))
         self.at = i
         m.__dict__.update(found.__dict__)
-        m.rounds, m.undecided = kept
+        m.rounds, m.undecided, m.bounds = kept
         self.entered.add(name)
         if name in ANSWERING:
             if not self.exported.endswith(ANSWERS):
@@ -343,21 +351,15 @@ def compress(m: Any, arguments: list, name: str, kind: Kind, lanes: int) -> None
 
 def exports(program: programs.Program) -> Iterator:
     """The functions that C programs call, with their arguments and families."""
-    for name in program.globals:
-        m = re.fullmatch(r"vulfsjor_ffi_(blake2[bs]p?|tree|memcmp|wipe|version)(.*)", name)
-        tables: dict = {"tree": TREES, "memcmp": {"": (BYTES, BYTES)}, "wipe": {"": (OUT,)},
-                        "version": {"": ()}}
+    for name in sorted(set(program.globals) - set(functions.SHARED)):
+        m = re.fullmatch(r"vulfsjor_ffi_(blake2x?[bs]p?|tree|memcmp|wipe)(.*)", name)
+        tables: dict = {"tree": TREES, "memcmp": {"": (BYTES, BYTES)}, "wipe": {"": (OUT,)}}
         table = tables.get(m[1], EXPORTS) if m else {}
         if not m or m[2] not in table:
             raise CannotShow("the arguments of %s are not known: add them to "
-                             "tests/machine/calls.py" % name)
+                             "tests/machine/constant_time.py" % name)
         program.extent(name)           # refuses what is not a function, or may be another's
         yield name, table[m[2]], m[1]
-
-
-def is_followed(name: str, family: str) -> bool:
-    """Whether the secrets in calls of this function are followed."""
-    return name.removeprefix("vulfsjor_ffi_" + family) in PARALLEL.get(family, EXPORTS | TREES)
 
 
 def show(program: programs.Program, name: str, kinds: tuple, family: str) -> Analysis:

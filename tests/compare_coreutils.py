@@ -8,11 +8,15 @@
 - random ones, over files with names of any bytes and manifests with damaged lines: RUNS of them for each program, by
   default 200, and 5,000 if VULFSJOR_TEST_HUGE is set.
 
-Without VULFSJOR_TEST_HUGE only the first program has others than random ones: all are built from the same sources.
+Only the first program has others than random ones, and the others have a tenth of those: they are the same program, with
+older builds of the library.
 Standard output, standard error and the status have to be equal, in the locale C. docs/B2SUM.md lists the differences,
 which this test avoids and tests/b2sum_files.py checks. It compares with coreutils 9.1, and is skipped with another.
 
-usage: tests/b2sum.py [--runs RUNS] [--seed SEED] [PROGRAM..]
+With --by each PROGRAM is one for Windows, which the command COMMAND runs; then it compares every Nth command line of
+options, and every Nth manifest whose names Windows has too.
+
+usage: tests/compare_coreutils.py [--runs RUNS] [--seed SEED] [--by COMMAND] [--every N] [PROGRAM..]
 """
 import argparse
 import concurrent.futures
@@ -25,7 +29,7 @@ import subprocess
 import tempfile
 
 import tap
-from b2sum_program import programs
+from b2sum_support import programs
 
 HUGE = bool(os.environ.get("VULFSJOR_TEST_HUGE"))
 NAMES = [
@@ -53,6 +57,10 @@ OURS = (b"a", b"k", b"p", b"s", b"t")
 
 def run(program, words, folder, data, user):
     """What the program prints to both streams, and its status. Without data standard input is closed."""
+    if isinstance(program, list):
+        done = subprocess.run([*program, *words], cwd=folder, input=data, timeout=60, stdout=subprocess.PIPE,
+                              stderr=subprocess.PIPE)
+        return done.stdout, done.stderr, done.returncode
     done = subprocess.run([b"b2sum", *words], executable=program, cwd=folder, input=data, timeout=60, user=user,
                           preexec_fn=(lambda: os.close(0)) if data is None else None,
                           env={"LC_ALL": "C", "PATH": "/usr/bin:/bin"}, stdout=subprocess.PIPE, stderr=subprocess.PIPE)
@@ -154,7 +162,7 @@ def is_left_out(line):
     line = line.lstrip(b" \t")
     is_escaped = line.startswith(b"\\")
     line = line[is_escaped:]
-    if line.startswith(b"BLAKE2b"):
+    if line.startswith((b"BLAKE2b", b"BLAKE2s")):
         return not re.match(rb"BLAKE2b(-[1-9]\d*)? ?(\(|$)", line)
     if re.fullmatch(rb"[0-9a-fA-F]*[ \t]-\r?", line):
         return True
@@ -257,7 +265,7 @@ def fixed_runs():
                 yield [b"--" + name[:end] + b"=x", b"-c"]
 
 
-def test_options(program, pool):
+def test_options(program, pool, every=1):
     """Each option, alone and in pairs, over two files, over a manifest, and over nothing."""
     with tempfile.TemporaryDirectory() as folder:
         with open(os.path.join(folder, "one"), "wb") as file:
@@ -266,7 +274,7 @@ def test_options(program, pool):
         lines += b"ab  none\nwrong line\n" + b"0" * 128 + b"  one\n"
         with open(os.path.join(folder, "sums"), "wb") as file:
             file.write(lines)
-        runs = [words + end for words in fixed_runs() for end in ([b"one", b"two"], [b"sums"], [])]
+        runs = [words + end for words in fixed_runs() for end in ([b"one", b"two"], [b"sums"], [])][::every]
         said = list(pool.map(lambda words: difference(program, words, folder, lines), runs))
     tap.result(not any(said), f"{program}: {len(runs)} command lines of options and pairs of them",
         "".join(said)[:4000])
@@ -315,7 +323,7 @@ def forms():
         b"BLAKE2b-99999999999999999999 (f) = " + half, b"BLAKE2b-256 (f) = " + half.upper(),
         b"BLAKE2b-256 (f) = " + half + b" ",
         b"\\BLAKE2b-256 (f) = " + half, b"\\BLAKE2b-256 (\\\\f) = " + half, b"blake2b (f) = " + whole,
-        b"BLAKE2s (f) = " + half,
+        b"BLAKE2s (f) = " + whole,
         b"BLAKE2b (f) = x) = " + whole, b"SHA512 (f) = " + whole, b"BLAKE2sp (f) = " + whole,
     ]
     yield from (line + b"\n" for line in lines)
@@ -324,7 +332,7 @@ def forms():
     yield from (b"", b"\n", b"\n\n", b"\r\n", half + b"  f", half + b"  f\n\n" + whole + b"  f", b"#\n" * 3, b"x\n" * 3)
 
 
-def test_forms(program, pool):
+def test_forms(program, pool, every=1):
     """Manifests of many forms, and all lengths."""
     with tempfile.TemporaryDirectory() as folder:
         with open(os.path.join(folder, "f"), "wb") as file:
@@ -332,6 +340,8 @@ def test_forms(program, pool):
         runs = [([b"-c", *more], text) for text in forms() for more in ([], [b"-w", b"--strict"])]
         runs += [([b"-l", b"%d" % bits, *more, b"f"], b"") for bits in range(0, 1025) for more in ([], [b"--tag"])
                  if bits % 8 == 0 or bits < 20]
+        if isinstance(program, list):  # a name of Windows ends in no blank
+            runs = [it for it in runs if not re.search(rb"f[ \r](\n|\))", it[1])][::every]
         said = list(pool.map(lambda run: difference(program, run[0], folder, run[1]) and f"{run}: differs\n", runs))
     tap.result(not any(said), f"{program}: {len(runs)} manifests and lengths", "".join(said)[:4000])
 
@@ -340,23 +350,31 @@ def main():
     parser = argparse.ArgumentParser()
     parser.add_argument("--runs", type=int, default=5000 if HUGE else 200)
     parser.add_argument("--seed", type=int, default=1)
+    parser.add_argument("--by")
+    parser.add_argument("--every", type=int, default=1)
     parser.add_argument("program", nargs="*")
     given = parser.parse_args()
     peer = shutil.which("b2sum", path="/usr/bin")
     version = subprocess.run([peer, "--version"], stdout=subprocess.PIPE, text=True).stdout if peer else ""
     if not version.startswith("b2sum (GNU coreutils) 9.1\n"):
-        tap.result(True, "command lines beside coreutils' b2sum", skipped="no b2sum of coreutils 9.1")
+        tap.result(True, "command lines compared with coreutils' b2sum", skipped="no b2sum of coreutils 9.1")
         tap.finish()
     pool = concurrent.futures.ThreadPoolExecutor(len(os.sched_getaffinity(0)))
+    if given.by:
+        for program in given.program:
+            test_options([given.by, program], pool, given.every)
+            test_forms([given.by, program], pool, given.every)
+        tap.finish()
     with programs(given.program) as built:
         for number, program in enumerate(built):
-            if HUGE or number == 0:
+            if number == 0:
                 test_options(program, pool)
                 test_closed(program, pool)
                 test_forms(program, pool)
-            seeds = range(given.seed * 1000003, given.seed * 1000003 + given.runs)
+            runs = given.runs if number == 0 else given.runs // 10
+            seeds = range(given.seed * 1000003, given.seed * 1000003 + runs)
             said = list(filter(None, pool.map(lambda seed: random_run(program, seed), seeds)))
-            tap.result(not said, f"{program}: {given.runs} random command lines, from seed {given.seed} on",
+            tap.result(not said, f"{program}: {runs} random command lines, from seed {given.seed} on",
                        f"{len(said)} differ\n" + "".join(said[:9]))
     tap.finish()
 

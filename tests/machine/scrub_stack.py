@@ -8,11 +8,11 @@ from typing import Any
 import functions
 import program as programs
 import terms as T
-from calls import OF_C
 from compression import STACK, Runner
-from exact import MODELS, Cells, fresh
-from following import reset
+from constant_time import OF_C
 from machine import Region, image, junk
+from symbolic import MODELS, Cells, fresh
+from taint import reset
 from terms import CannotShow, IsWrong
 from whole_calls import Calls
 from x86 import UPPER

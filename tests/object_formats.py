@@ -3,11 +3,12 @@
 call only what they may, and linkers for these systems accept them. What tests/machine reads is, byte for byte, what the
 assembler makes of the text. vulfsjor.S has the functions of its texts.
 
-    tests/formats.py [DIST]
+    tests/object_formats.py [DIST]
 
-DIST is dist/ if it is left out. Needs clang, llvm-objdump and llvm-nm, and ld64.lld and lld-link.
+DIST is dist/ if it is left out. Without VULFSJOR_TEST_HUGE vulfsjor.S, which says nothing of systems, is assembled for
+Linux only, and so are texts whose macros another has too. Needs clang, llvm-objdump and llvm-nm, and ld64.lld and
+lld-link.
 """
-import functools
 import os
 import re
 import shutil
@@ -16,23 +17,32 @@ import sys
 import tempfile
 
 import tap
-from blake2_kinds import TOP
+from common import TOP
 
 sys.path.insert(0, os.path.join(TOP, "tests", "machine"))
 import macros  # pylint: disable=wrong-import-position
 
+HUGE = bool(os.environ.get("VULFSJOR_TEST_HUGE"))
 SYSTEMS = {"linux": "linux-gnu", "macos": "apple-macos11", "windows": "pc-windows-msvc"}
-TEXTS = {"x86_64": [f"{name}-{level}" for name in ("vulfsjor", "b2", "b2sum") for level in ("v2", "v3", "v4")],
-         "aarch64": ["vulfsjor", "b2", "b2sum"]}
+TEXTS = {"x86_64": ["vulfsjor-v2", "vulfsjor-v3", "vulfsjor-v4", "b2", "b2sum"], "aarch64": ["vulfsjor", "b2", "b2sum"]}
 C_LIBRARY = {"memcpy", "memmove", "memset"}
 OF_PROGRAMS = {f"rattle_{it}" for it in ("alloc", "arg", "dealloc", "errno", "realloc", "set_errno")}
 OF_PROGRAMS |= {"__x86_get_cpuid_feature_leaf"}
 OF_B2 = {"linux": {"read", "write", "__write", "__sysv_signal"}, "windows": {"b2_read", "b2_write", "b2_signal"}}
-OF_B2SUM = {"b2sum_open", "b2sum_read", "b2sum_signal", "__xpg_strerror_r", "close"}
-# The functions of b2sum that C has instead.
-OF_C = re.compile(r"b2sum\.\.(disk\.\.hide_memory|hashes\.\.absorb_tree\.\.[0-9a-f]{16})_\d+_\d+_\d+_(v[234]|arm)")
+OF_B2SUM = {f"b2sum_{it}" for it in ("open", "read", "close", "signal", "strerror")}
+# The functions of b2sum that C has instead, and those of the library that hash for the programs.
+OF_C = re.compile(r"b2sum\.\.(disk\.\.(hide_memory|show_progress)|hashes\.\.absorb_tree\.\.[0-9a-f]{16})_\d+_(x86|a64)")
+HASHING = re.compile(r"blake2_(compress\.\.compress\.\.blake2[bs]\.\.compress|tree\.\.nodes\.\.Nodes\.\.hash_next"
+                     r"|parallel\.\.lanes\.\.blake2[bs]\.\.Lanes\.\.(outputs|update))_\d+_(v[234]|arm)")
+# How many of them a program calls.
+HASHING_COUNT = {"b2": 3, "b2sum": 7}
+# The texts that are assembled for each system without VULFSJOR_TEST_HUGE: one of the library, and the longer program.
+FOR_EACH_SYSTEM = ("vulfsjor-v3", "vulfsjor", "b2sum")
 TOOLS = ("clang", "llvm-objdump", "llvm-nm")
-PADDING = re.compile(r"(nop|data16|cs nop|xchgw %ax, %ax|int3|udf)")
+PADDING = ("nop", "data16", "cs\t", "cs nop", "xchgw\t%ax, %ax", "int3", "udf")
+COMMENT, TARGET = re.compile(r"\s*(##|# |//|;).*"), re.compile(r"(0x)?[0-9a-f]+ <.*>")
+RIP = re.compile(r"-?(0x)?[0-9a-f]*\(%rip\)")
+
 
 
 def run(*words, stdin=None):
@@ -43,14 +53,6 @@ def symbols(path, *kinds):
     return {line.split()[-1] for line in run("llvm-nm", *kinds, path).splitlines()}
 
 
-@functools.lru_cache(maxsize=None)
-def instruction(text):
-    """An instruction without comments and without what labels decide."""
-    text = re.sub(r"\s*(##|# |//|;).*", "", text)
-    text = re.sub(r"(0x)?[0-9a-f]+ <.*>", "TARGET", text)
-    return re.sub(r"\s+", " ", re.sub(r"-?(0x)?[0-9a-f]*\(%rip\)", "PLACE", text))
-
-
 def functions(path, arch):
     """The instructions of each function of an object, by its name, except what labels and relocations decide."""
     # LLVM's assembler has a separate label where a section of Mach-O begins.
@@ -59,19 +61,26 @@ def functions(path, arch):
     found, body = {}, []
     words = ("llvm-objdump", f"--triple={arch}-linux-gnu", "-dr", "--no-show-raw-insn", path)
     for line in run(*words).splitlines():
-        head = re.match(r"[0-9a-f]+ <(.*)>:", line)
-        if head:
-            name = first if head[1] == "ltmp0" else head[1]
-            body = body if re.match(r"[lL.]", name) else found.setdefault(re.sub("^_", "", name), [])
-        elif re.match(r"\s*[0-9a-f]+:\s+(R_|IMAGE_REL|ARM64_RELOC|X86_64_RELOC)", line):
+        if line.startswith(" "):
+            text = line.partition("\t")[2]
+            # Each look for a character first: there are a million lines.
+            if "#" in text or ";" in text or "/" in text:
+                text = COMMENT.sub("", text)
+            if ">" in text:
+                text = TARGET.sub("TARGET", text)
+            if "%rip" in text:
+                text = RIP.sub("PLACE", text)
+            if text and not text.startswith(PADDING):
+                body.append(text)
+        elif line.startswith("\t\t"):
             if body and "[" in body[-1]:
                 body[-1] = re.sub(r"\[(\w+).*", r"[\1 PLACE", body[-1])
-            elif body and body[-1].startswith(("add ", "adrp ")):
+            elif body and body[-1].startswith(("add\t", "adrp\t")):
                 body[-1] = body[-1].rsplit(",", 1)[0] + ", PLACE"
-        elif re.match(r"\s*[0-9a-f]+:\s", line):
-            text = instruction(line.split(":", 1)[1].strip())
-            if not PADDING.match(text):
-                body.append(text)
+        elif line.endswith(">:"):
+            name = line[line.index("<") + 1:-2]
+            name = first if name == "ltmp0" else name
+            body = body if name[0] in "lL." else found.setdefault(name.removeprefix("_"), [])
     return {name: body for name, body in found.items() if not name.startswith("vj_sysv_")}
 
 
@@ -82,19 +91,41 @@ def assembled(path, arch, system, made):
     return made
 
 
+def jumps(path):
+    """The instructions of each function of an x86-64 object that jumps to the library's build, with what each names."""
+    found, body = {}, None
+    for line in run("llvm-objdump", "--triple=x86_64-linux-gnu", "-dr", "--no-show-raw-insn", path).splitlines():
+        head = re.match(r"[0-9a-f]+ <_?(.*)_(\d+)_x86>:", line)
+        if head or not line.strip():
+            body = found.setdefault((head[1], head[2]), []) if head and HASHING.fullmatch(f"{head[1]}_{head[2]}_v2") else None
+        elif body is not None and (named := re.match(r"\s*[0-9a-f]+:\s+[RIX]\w+\s+_?([\w.]+?)(?:[-+]\w+)?$", line)):
+            body[-1] += " " + named[1]
+        elif body is not None:
+            body.append(re.sub(r"\s.*|,.*", "", line.split(":", 1)[1].strip().replace("$0x3", "$3").replace("cmpb\t$", "cmpb$")))
+    return found
+
+
+def jump_right(path, count):
+    """Whether each such function jumps to the three builds by the level that choose.c has found."""
+    found = jumps(path)
+    return len(found) == count and all(body[:4] == ["cmpb$3 vulfsjor_ffi_level", *(
+        f"{jump} {name}_{code}_{build}" for jump, build in (("ja", "v4"), ("je", "v3"), ("jmp", "v2")))]
+                                   for (name, code), body in found.items())
+
+
 def may_call(name, system):
     """The functions elsewhere that a text may call."""
     own = OF_B2.get(system, OF_B2["linux"]) | OF_PROGRAMS
     return C_LIBRARY | (own | OF_B2SUM if name.startswith("b2sum") else own if name.startswith("b2") else set())
 
 
-def is_read_so(path, arch, room):
-    """Whether the text that tests/machine reads is assembled to the same bytes."""
+def is_read_so(path, arch, room, elf):
+    """Whether the text that tests/machine reads is assembled to the same bytes as this object."""
     read = os.path.join(room, "read.s")
     with open(path, encoding="utf-8") as file, open(read, "w", encoding="utf-8") as to:
         to.write(macros.expanded(file.read(), arch))
     run("clang", f"--target={arch}-{SYSTEMS['linux']}", "-c", read, "-o", f"{read}.o")
-    with open(f"{read}.o", "rb") as ours, open(assembled(path, arch, "linux", f"{read}.linux.o"), "rb") as theirs:
+    with open(f"{read}.o", "rb") as ours, open(elf, "rb") as theirs:
         return ours.read() == theirs.read()
 
 
@@ -107,8 +138,13 @@ def check_system(name, arch, system, made, elf):
            sorted(elf.keys() - set(same))[:5])
     called = {re.sub("^_", "", it) if system == "macos" else it for it in symbols(made, "-u")}
     of_c = {it for it in called if name.startswith("b2sum") and OF_C.fullmatch(it)}
-    yield "it calls the functions that C has instead", len(of_c) == 2 * name.startswith("b2sum"), called
-    called -= of_c
+    yield "it calls the functions that C has instead", len(of_c) == 3 * name.startswith("b2sum"), called
+    hashing = {it for it in called if name.startswith("b2") and HASHING.fullmatch(it)}
+    yield "it calls the functions of the library that hash, of each build", len(hashing) == (
+        HASHING_COUNT.get(name, 0) * (3 if arch == "x86_64" else 1)), hashing
+    if name.startswith("b2") and arch == "x86_64":
+        yield "it jumps to the library's build for the processor", jump_right(made, HASHING_COUNT[name]), jumps(made)
+    called -= of_c | hashing | ({"vulfsjor_ffi_level"} if hashing and arch == "x86_64" else set())
     yield "it calls the C library and what the C of the programs has", (
         C_LIBRARY <= called <= may_call(name, system)), called - may_call(name, system)
     link = f"{made}.linked"
@@ -124,9 +160,13 @@ def check_system(name, arch, system, made, elf):
 
 def check_text(path, arch, name, room):
     """Prints the results of a text, and returns its functions."""
-    elf = functions(assembled(path, arch, "linux", os.path.join(room, "elf.o")), arch)
-    tap.result(is_read_so(path, arch, room), f"{arch}/{name}.s: tests/machine reads what the assembler makes of it")
-    for system in ("macos", "windows"):
+    made = assembled(path, arch, "linux", os.path.join(room, "elf.o"))
+    elf = functions(made, arch)
+    tap.result(is_read_so(path, arch, room, made), f"{arch}/{name}.s: tests/machine reads what the assembler makes of it")
+    if name.startswith("b2") and arch == "x86_64":
+        tap.result(jump_right(os.path.join(room, "elf.o"), HASHING_COUNT[name]),
+                   f"{arch}/{name}.s: it jumps to the library's build for the processor")
+    for system in ("macos", "windows") if HUGE or name in FOR_EACH_SYSTEM else ():
         made = assembled(path, arch, system, os.path.join(room, f"{arch}-{name}-{system}.o"))
         for words, holds, why in check_system(name, arch, system, made, elf):
             tap.result(holds, f"{arch}/{name}.s on {system}: {words}", str(why))
@@ -145,7 +185,7 @@ def main():
             for name in names:
                 of_file = found.setdefault(name.partition("-")[0], {})
                 of_file.update(check_text(os.path.join(dist, arch, f"{name}.s"), arch, name, room))
-            for system in SYSTEMS:
+            for system in SYSTEMS if HUGE else ("linux",):
                 made = assembled(os.path.join(dist, "vulfsjor.S"), arch, system, os.path.join(room, "all.o"))
                 tap.result(functions(made, arch) == found["vulfsjor"],
                            f"vulfsjor.S on {system}, {arch}: it has the functions of its texts, and no others")

@@ -1,4 +1,4 @@
-"""The abstract machine of following.py for x86-64. What only moves bytes is as in x86.py."""
+"""The abstract machine of taint.py for x86-64. What only moves bytes is as in x86.py."""
 
 from __future__ import annotations
 
@@ -7,20 +7,21 @@ from typing import Any, Callable
 
 import terms as T
 import x86
-from following import Follower, is_secret, secret, unknown
 from machine import CannotShow, IsWrong, need_public
+from taint import Taint, is_secret, secret, unknown
 
 CONDITIONS = "e ne b ae a be s ns l le g ge o no".split()
 OF_CARRY, OF_OVERFLOW = ("b", "ae", "a", "be"), ("o", "no")
 MOVES_ONLY: tuple = (x86.MOVES, x86.BROADCASTS, x86.UNARY, x86.INSERTS)
 # Operations on vectors whose result may depend on all bytes of the operands, in a fixed time.
-MIXES = ("paddq paddd pxor xorps xorpd por orps pand andps pandn pshufb psrld psrlq psrlw pslld "
-         "psllq pblendvb blendvps blendvpd").split()
+MIXES = ("paddq paddd psubq pxor xorps xorpd por orps pand andps pandn pshufb psrld psrlq psrlw "
+         "pslld psllq pblendvb blendvps blendvpd pcmpgtq").split()
 SHUFFLES = tuple(n for n in x86.BINARY if n not in MIXES) + ("movq", "movd")
 ONE = x86.Operand("number", value=1)
+WORDS = {"b": 1, "w": 2, "d": 4, "q": 8, "s": 4}       # bytes, by the end of a name
 
 
-class FollowX86(Follower, x86.X86):
+class TaintX86(Taint, x86.X86):
     ARGUMENTS: tuple = x86.ARGUMENTS
     # What a condition compares after `cmp`. Others are not followed: both ways may be taken.
     RELATIONS = {"e": "==", "ne": "!=", "b": "<", "ae": ">=", "a": ">", "be": "<="}
@@ -246,17 +247,25 @@ class FollowX86(Follower, x86.X86):
             r = self.new(64) if any(data) else T.const(64, 0)
             self.flags = ("secret",) if any(map(is_secret, data)) else (
                 ("logic" if r.op == "const" else "other",) + (r,) * 3)
-        elif name in ("movss", "movsd"):
+        elif name in ("movss", "movsd") or name == "movlps" and ops[0].kind == "memory":
             self.move_low(4 if name == "movss" else 8, ops, vex)
-        elif re.fullmatch("pextr[bwdq]", name):
-            n = {"b": 1, "w": 2, "d": 4, "q": 8}[name[-1]]
+        elif re.fullmatch("pextr[bwdq]|extractps", name):
+            n = WORDS[name[-1]]
             at = n * (ops[2].value % (16 // n))
             data = self.read(ops[1])[at:at + n]
             self.write(ops[0], data + [0] * ((ops[0].size if ops[0].kind == "general" else n) - n))
         elif name in ("extracti128", "extractf128"):
             at = 16 * (ops[2].value & 1)
             self.write(ops[0], self.read(ops[1])[at:at + 16], vex)
-        elif name in MIXES:
+        elif re.fullmatch("pmovzx(bw|wd|dq)", name):
+            n = WORDS[name[-2]]
+            data = self.read(ops[1], ops[0].size // 2)[:ops[0].size // 2]
+            self.write(ops[0], x86.joined(p + [0] * n for p in x86.chunks(data, n)), vex)
+        elif name == "psrldq":
+            parts = x86.chunks(self.read(ops[vex]), 16)
+            self.write(ops[0], x86.joined((p + [0] * 16)[ops[-1].value:][:16] for p in parts), vex)
+        elif name in MIXES or name in ("permd", "permps") and not all(
+                isinstance(b, int) for b in self.read(ops[1])):
             self.mix(name, ops, vex)
         elif name in ("pbroadcastw", "pbroadcastb"):
             n = 2 if name.endswith("w") else 1
@@ -296,4 +305,4 @@ def same(a: x86.Operand, b: x86.Operand) -> bool:
     return a.kind == b.kind != "memory" and a.kind != "number" and a.index == b.index
 
 
-Model, Instruction = FollowX86, x86.Instruction
+Model, Instruction = TaintX86, x86.Instruction

@@ -3,7 +3,7 @@
 # the commands of that page, with the page's callers as the crate app and those of
 # crates/blake2_tree/CALLING.md as app_tree, and proves every crate in it.
 #
-# usage: tests/recipe.sh
+# usage: tests/calling.sh
 #
 # Work that is kept in crates/*/out is copied along, and what is not there is proved anew. The copy
 # needs about 2 GB in the folder for temporary files.

@@ -1,10 +1,10 @@
 #!/usr/bin/env bash
 # Runs the program b2 as a shell does, and checks what no proof covers of `main`: that it passes
 # every argument and the three streams on, and ends with the status that `run` returns. Then it runs
-# each command within the memory that docs/REVIEW.md states, and checks by a count of instructions
+# each command within the memory that it needs (docs/B2.md), and checks by a count of instructions
 # whether `tree` hashes leaves in parallel.
 #
-# usage: tests/program.sh [PROGRAM..]
+# usage: tests/b2_program.sh [PROGRAM..]
 #
 # Without PROGRAM it assembles those of dist/ that this processor runs; `./test --prove` adds the
 # one that `rt ci` has built. It needs python3 for the roots. valgrind counts the instructions: if it
@@ -25,7 +25,7 @@ count() {
     fail "$name: status $2, wanted $3" "$work/log"
 }
 
-# Checks that a run, whose status and output are told, ended with this status and printed this line,
+# Checks that a run, whose status and output are given, ended with this status and printed this line,
 # or nothing where LINE is empty. usage: ended NAME STATUS WANTED LINE
 ended() {
     printf '%b' "${4:+$4\n}" >"$work/wanted"
@@ -78,8 +78,8 @@ test_commands() {
     says 0 5abb265af975bd803708b70db42bd302 tree b128 4
 }
 
-# Wrong words, each told of the first of them: none, empty ones, and more than are taken. The rest
-# is proved, and tests/specification.py compares it.
+# Wrong arguments, of which the first is reported: none, empty ones, and more than are taken. The rest
+# is proved, and tests/compare_model.py compares it.
 test_arguments() {
     says 2 "b2: wrong words"
     says 2 "b2: wrong words" ""
@@ -134,7 +134,7 @@ test_bytes() {
 
 # ---- Memory, by limits of address space.
 
-# Runs the program in so many KiB, over the file `input`. The shell sets the limit in a process of
+# Runs the program in this many KiB, over the file `input`. The shell sets the limit in a process of
 # its own.
 run_in() {
     local kib=$1
@@ -143,25 +143,25 @@ run_in() {
         2>"$work/errors"
 }
 
-# Whether these words, which are wrong ones, are told in so many KiB.
-is_told_in() {
+# Whether these wrong arguments are reported in this many KiB.
+is_reported_in() {
     run_in "$@"
     [ $? -eq 2 ] && [ "$(cat "$work/output")" = "b2: wrong words" ]
 }
 
-# The fewest KiB in which the program tells that these words are wrong, for which it keeps its
+# The fewest KiB in which the program reports that these words are wrong, for which it keeps its
 # arguments alone: fewer than 16 too many, and no more than 64 MiB.
 least_for() {
     local low=0 high=65536 middle
-    is_told_in "$high" "$@" || return 1
+    is_reported_in "$high" "$@" || return 1
     while [ $((high - low)) -gt 16 ]; do
         middle=$(((low + high) / 2))
-        if is_told_in "$middle" "$@"; then high=$middle; else low=$middle; fi
+        if is_reported_in "$middle" "$@"; then high=$middle; else low=$middle; fi
     done
     echo "$high"
 }
 
-# Checks a run in so many KiB beyond `least`, over the file `input`: wants STATUS, and LINE, or what
+# Checks a run in this many KiB beyond `least`, over the file `input`: wants STATUS, and LINE, or what
 # the file `wanted` has where LINE is -. usage: ends_in KIB STATUS LINE WORDS..
 ends_in() {
     [ "$3" = - ] || echo "$3" >"$work/wanted"
@@ -171,8 +171,8 @@ ends_in() {
     count "b2 $4 $5${6:+ ${6:0:20}} (in $1 KiB, over $(stat -c %s "$work/input") bytes)" $status "$2"
 }
 
-# Checks that a run has room, or too little, which shows that the limit is in force and that want of
-# memory is told: KIB LINE WORDS.., or KIB WORDS..
+# Checks that a run has room, or too little, which shows that the limit is in force and that it is
+# reported if memory is refused: KIB LINE WORDS.., or KIB WORDS..
 has_room() { ends_in "$1" 0 "${@:2}"; }
 lacks_room() { ends_in "$1" 1 "b2: no memory" "${@:2}"; }
 
@@ -180,7 +180,7 @@ lacks_room() { ends_in "$1" 1 "b2: no memory" "${@:2}"; }
 root_of_input() { roots_by_hashlib "$1" "$work/input" | cut -c -128; }
 has_root_in() { has_room "$1" "$(root_of_input "$2")" tree b512 "$2"; }
 
-# Makes the file `input` of so many zeros.
+# Makes the file `input` of this many zeros.
 take_zeros() {
     : >"$work/input"
     truncate -s "$1" "$work/input"
@@ -201,7 +201,7 @@ check_memory_of_streams() {
     lacks_room 8192 tree b512 3355443
 }
 
-# What the transcript of so many zeros, in whole blocks of BLAKE2b, is.
+# What the transcript of this many zeros, in whole blocks of BLAKE2b, is.
 transcript_of_zeros() {
     echo "$words"
     seq -f "e %.0f 0 00$zeros" 128 128 $(($1 - 128))
@@ -280,16 +280,16 @@ share_in_parallel() {
         END { print all ? int(100 * count / all) : -1 }' "$work/instructions"
 }
 
-# Checks a run of `tree` over so many zeros: at least 75 in 100 of its instructions are to be those
+# Checks a run of `tree` over this many zeros: at least 75 in 100 of its instructions are to be those
 # that hash leaves in parallel, or none in the build for x86-64-v2, where one leaf after another is
 # faster. No root tells which they were. usage: hashes_leaves BYTES LEAF
 hashes_leaves() {
     local least=75 most=100 leaf=$2 level=${program##*-} name share status
+    # valgrind has no AVX-512, so the library's build for x86-64-v3 is chosen at most.
     [ "$program" != "$work/b2" ] || level=$("$top/tools/processor.sh")
     [ "${level##*-}" != v2 ] || least=0 most=0
     name="b2 tree b512 $leaf, $least to $most in 100 of whose instructions hash leaves in parallel"
     has valgrind || { skip "$name" "no valgrind" && return; }
-    [ "$level" != x86-64-v4 ] || { skip "$name" "valgrind has no AVX-512" && return; }
     take_zeros "$1"
     rm -f "$work/instructions"
     valgrind --tool=callgrind --compress-strings=no --compress-pos=no \
@@ -330,11 +330,14 @@ for program; do
         continue
     }
     test_commands
-    test_arguments
-    test_inputs
-    test_outputs
-    test_bytes
-    test_memory
     test_leaves
+    # The others are the same program, with older builds of the library.
+    [[ $program == "$work"/b2-v? ]] || {
+        test_arguments
+        test_inputs
+        test_outputs
+        test_bytes
+        test_memory
+    }
 done
 finish

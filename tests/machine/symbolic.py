@@ -1,4 +1,4 @@
-"""Executes a whole call over variables: the abstract machines of following.py, in which no byte is
+"""Executes a whole call over variables: the abstract machines of taint.py, in which no byte is
 forgotten. What a function of the C library copies, if its length is not a number, is a choice
 byte by byte. A branch that is not decided is taken both ways."""
 
@@ -9,11 +9,11 @@ from typing import Any, Callable, Iterator
 
 import terms as T
 import x86
-from following import Aligned, Follower, is_secret, secret, unknown
-from following_arm import FollowArm
-from following_x86 import FollowX86
 from machine import bitwise, chunks, image, joined, need_public
 from ranges import OPPOSITE, signed
+from taint import Aligned, Taint, is_secret, secret, unknown
+from taint_arm import TaintArm
+from taint_x86 import TaintX86
 from terms import CannotShow, IsWrong
 
 _COUNT = itertools.count()             # for names of variables that are used once
@@ -88,7 +88,7 @@ class Cells:
         self.writable, self.alignment = writable, alignment
 
 
-class Exact(Follower):
+class Exact(Taint):
     """What the models for both processors have in common."""
 
     general: list
@@ -97,8 +97,8 @@ class Exact(Follower):
     secret_of: Any
     compared_bytes: Any
 
-    def begin(self, alignment: tuple, ranges: dict, block: int) -> None:
-        super().begin(alignment, ranges, block)
+    def begin(self, alignment: tuple, ranges: dict, block: int, longest: int = 0) -> None:
+        super().begin(alignment, ranges, block, longest)
         self.decisions, self.secret_of, self.where, self.compared_bytes = {}, None, "exact", None
         # The lowest place of the stack that was used, and whether all below the frame of the call
         # was overwritten since.
@@ -119,7 +119,7 @@ class Exact(Follower):
         self.deepest, self.is_scrubbed = min(self.deepest, low), False
 
     def scrub(self, count: int) -> None:
-        """A call of scrub_stack, which overwrites so many bytes below its caller's frame. Of what
+        """A call of scrub_stack, which overwrites this many bytes below its caller's frame. Of what
         the frames above keep, nothing may be secret."""
         if self.deepest < self.lowest() - count or any(
                 base is self.stack and is_secret_byte(b) for (base, _), b in self.memory.items()):
@@ -607,7 +607,7 @@ def members_of(b: T.Byte) -> frozenset:
     return frozenset([b])
 
 
-class ExactX86(Exact, FollowX86):
+class ExactX86(Exact, TaintX86):
     """x86-64."""
 
     BITWISE = {"pxor": "xor", "xorps": "xor", "por": "or", "orps": "or"}
@@ -653,7 +653,7 @@ class ExactX86(Exact, FollowX86):
             super().vector_step(i)
 
 
-class ExactArm(Exact, FollowArm):
+class ExactArm(Exact, TaintArm):
     """AArch64."""
 
     def condition(self, i: Any) -> tuple:

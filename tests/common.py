@@ -1,5 +1,5 @@
 """What the scripts of tests share: the two families of BLAKE2, the KINDs of `b2`, the command line, and what
-tools/sources.py reads. Not a program.
+tools/read_sources.py reads. Not a program.
 """
 import argparse
 import hashlib
@@ -9,7 +9,7 @@ from dataclasses import dataclass
 from typing import Callable
 
 sys.path.append(os.path.join(os.path.dirname(os.path.abspath(__file__)), "..", "tools"))
-from sources import TOP, Unreadable, read, version  # noqa: E402, F401
+from read_sources import TOP, Unreadable, read, version  # noqa: E402, F401
 
 
 @dataclass(frozen=True)

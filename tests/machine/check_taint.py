@@ -9,12 +9,12 @@ import random
 import struct
 from typing import Any, Iterator, TYPE_CHECKING
 
-import calls
 import check_instructions as check
+import constant_time
 import functions
 import terms as T
-from following import Memory, is_secret, reset, secret
 from program import read
+from taint import Memory, is_secret, reset, secret
 
 if TYPE_CHECKING:
     from program import Program
@@ -23,8 +23,8 @@ SPAN = (-check.BUFFER, check.BUFFER)
 # Not run alone: other control, what moves the stack pointer, and what may fault or wait.
 SKIPPED = check.SKIPPED | {"call", "bl", "div", "udiv", "mul", "imul", "mulx",
                             "madd", "msub", "umulh", "pause", "isb", "leave", "brk", "ud2"}
-SKIPPED |= {"j" + c for c in calls.following_x86.CONDITIONS}
-SKIPPED |= {"b." + c for c in calls.following_arm.CONDITIONS} | {"tbz", "tbnz", "br"}
+SKIPPED |= {"j" + c for c in constant_time.taint_x86.CONDITIONS}
+SKIPPED |= {"b." + c for c in constant_time.taint_arm.CONDITIONS} | {"tbz", "tbnz", "br"}
 
 
 # Instructions that set flags, that keep some or all, and that read them.
@@ -32,12 +32,12 @@ FLAGS = {
     "x86_64": (("cmp rbx,rcx", "add edx,esi", "test r8,r9", "neg rdi", "sub r10,r11", "and dl,al",
                 "xor ecx,ecx"),
                ("", "inc edx", "dec r9", "inc BYTE PTR [r15]", "not ecx", "lea r8,[r9+0x1]"),
-               ["set%s r14b" % c for c in calls.following_x86.CONDITIONS] + [
+               ["set%s r14b" % c for c in constant_time.taint_x86.CONDITIONS] + [
                    "cmov%s r14,r13" % c for c in ("b", "e")] + ["adc r14,r13", "sbb r14d,0x1"]),
     "aarch64": (("cmp x1, x2", "adds x3, x4, x5", "tst w6, #0xff", "subs w1, w2, w3", "cmn x1, #1",
                  "ands x3, x4, x5"),
                 ("", "add x9, x9, #1", "mov x10, x11", "ccmp x3, x4, #0, ne"),
-                ["cset x14, %s" % c for c in calls.following_arm.CONDITIONS] + [
+                ["cset x14, %s" % c for c in constant_time.taint_arm.CONDITIONS] + [
                     "csel x14, x13, x12, lo", "csinc x14, x13, x12, eq"]),
 }
 SETS_FLAGS = {
@@ -59,19 +59,20 @@ def readers(kind: str, tests: list, rng: Any) -> Iterator:
 
 
 def reached(program: Program) -> list:
-    """The functions that the calls whose secrets are followed reach, except those that compress or
-    overwrite the stack."""
+    """The functions that exported functions reach, except those that compress or overwrite the
+    stack."""
     starts = {program.extent(name)[0]: name for name in program.functions
               if "@" not in name and not name.startswith(".plt")}
-    waiting = [name for name, _, family in calls.exports(program) if calls.is_followed(name, family)]
-    found = {functions.in_file(program.path, name): False for name, _, _ in functions.FILES[program.path]}
+    waiting = [name for name, _, _ in constant_time.exports(program)]
+    found = {functions.in_file(program.path, name): False
+             for name, _, _ in functions.FILES[program.path]}
     while waiting:
         name = waiting.pop()
         if name in found or name.startswith((functions.SCRUB_STACK, functions.SETTLE)):
             continue
         found[name] = True
-        waiting += [starts[i.target] for i in program.code(name, calls.MODELS[program.kind].Instruction)
-                    if i.target in starts]
+        code = program.code(name, constant_time.MODELS[program.kind].Instruction)
+        waiting += [starts[i.target] for i in code if i.target in starts]
     return [name for name in found if found[name]]
 
 
@@ -80,7 +81,7 @@ def chosen(program: Program, count: int, rng: Any, names: list | None = None) ->
     follow."""
     found: dict = {}
     kind = program.kind
-    model = calls.MODELS[kind]
+    model = constant_time.MODELS[kind]
     for name in names or reached(program):
         for i in program.code(name, model.Instruction):
             has_index = kind == "aarch64" and any(getattr(o, "index", None) and o.kind == "memory"
@@ -110,7 +111,7 @@ def hidden(rng: Any, size: int) -> set:
 
 def machine(program: Program, text: str, base: int, data: bytes, places: set) -> tuple:
     """The abstract machine after an instruction, in which bytes at these places are secret."""
-    model = calls.MODELS[program.kind]
+    model = constant_time.MODELS[program.kind]
     byte = lambda k: secret() if k in places else data[k]
     buf = T.var(64, "buffer", T.PUBLIC)
     m = model.Model({buf: Memory(*SPAN, lambda k: byte(check.MEMORY + check.BUFFER + k))}, {})
@@ -132,7 +133,7 @@ def execute(m: Any, program: Program, text: str) -> None:
     """Executes the instructions of a text in a model."""
     for part in text.split("; "):
         part = part.replace(" ", "\t", 1) if program.kind == "aarch64" else part
-        m.step(calls.MODELS[program.kind].Instruction(0, part))
+        m.step(constant_time.MODELS[program.kind].Instruction(0, part))
 
 
 def wrong(program: Program, m: Any, buf: T.Term, one: bytes, two: bytes) -> Any:

@@ -1,4 +1,4 @@
-"""The abstract machine of following.py for AArch64. The code of whole calls has more operands and
+"""The abstract machine of taint.py for AArch64. The code of whole calls has more operands and
 instructions than the functions that compress, so none of arm.py's are used."""
 
 from __future__ import annotations
@@ -8,9 +8,9 @@ from typing import Any, Callable
 
 import arm
 import terms as T
-from following import Follower, secret, unknown
 from machine import CannotShow, IsWrong, chunks, image, joined, need_public
 from ranges import signed
+from taint import Taint, secret, unknown
 
 CONDITIONS = "eq ne cs cc hi ls mi pl vs vc ge lt gt le".split()
 SIZES = {"b": 1, "h": 2}
@@ -77,7 +77,7 @@ class Instruction(arm.Instruction):
             self.operands[-1].mode, self.operands[-1].offset = "after", step.value
 
 
-class FollowArm(Follower, arm.Arm):
+class TaintArm(Taint, arm.Arm):
     ARGUMENTS: tuple = tuple(range(8))
     RELATIONS = {"eq": "==", "ne": "!=", "cc": "<", "cs": ">=", "hi": ">", "ls": "<="}
 
@@ -168,7 +168,7 @@ class FollowArm(Follower, arm.Arm):
 
     def unknown(self, i: arm.Instruction) -> T.CannotShow:
         return CannotShow("the instruction %s is not modelled: add it to "
-                          "tests/machine/following_arm.py" % " ".join(i.text.split()))
+                          "tests/machine/taint_arm.py" % " ".join(i.text.split()))
 
     # Memory.
 
@@ -364,15 +364,24 @@ class FollowArm(Follower, arm.Arm):
         elif name in ("mov", "fmov", "dup"):
             self.write(to, (data[0][:n] * (to.size // n)) if name == "dup" else data[0])
         elif name == "movi":
-            if ops[1].value:
-                return False
-            self.write(to, [0] * to.size)
+            if len(ops) > 2 or ops[1].value and (n == 8 or not 0 <= ops[1].value < 256):
+                return False           # shifted, or all bits of each byte
+            self.write(to, ([ops[1].value] + [0] * (n - 1)) * (to.size // n))
         elif name in ("zip1", "zip2"):
             pairs = [a + b for a, b in zip(*[chunks(d, n) for d in data])]
             half = len(pairs) // 2
             self.write(to, joined(pairs[:half] if name == "zip1" else pairs[half:]))
-        elif name == "uzp1":
-            self.write(to, joined(chunks(data[0] + data[1], n)[::2]))
+        elif name in ("uzp1", "uzp2"):
+            self.write(to, joined(chunks(data[0] + data[1], n)[name == "uzp2"::2]))
+        elif name in ("trn1", "trn2"):
+            a, b = (chunks(d, n)[name == "trn2"::2] for d in data)
+            self.write(to, joined(x + y for x, y in zip(a, b)))
+        elif name == "xtn":
+            self.write(to, joined(p[:n] for p in chunks(data[0], 2 * n)))
+        elif name in ("uqsub", "cmhi"):
+            self.write(to, self.combined(name, *data)[:to.size])
+        elif name in ("bit", "bif", "bsl"):
+            self.write(to, [self.mixed(list(p)) for p in zip(self.read(to, 16), *data)])
         elif name == "ext":
             at = ops[3].value
             self.write(to, (data[0] + data[1])[at:at + to.size])
@@ -409,4 +418,4 @@ class Value:
         self.data = data
 
 
-Model = FollowArm
+Model = TaintArm

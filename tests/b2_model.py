@@ -1,8 +1,8 @@
 #!/usr/bin/env python3
 """The program `b2`, written only from docs/SPECIFICATION.md: no other page, no source and no other tool of the
-repository was used. Section numbers are those of that page. `tests/specification.py` compares it with `b2`.
+repository was used. Section numbers are those of that page. `tests/compare_model.py` compares it with `b2`.
 
-usage: tests/from_specification.py WORDS.. < INPUT
+usage: tests/b2_model.py WORDS.. < INPUT
 """
 import os
 import sys
@@ -133,6 +133,20 @@ def parallel(family, size, given):
     return output(b"".join(outputs), 0, 1, True)[:size]
 
 
+def output(family, length, given, is_known=True):
+    """Section 13: this many bytes of the output of BLAKE2Xb or BLAKE2Xs, of a length that is known in advance or not."""
+    xof_length = (length if is_known else 2**(8 * (family.offset - 4)) - 1) << 32
+
+    def node(size, place, data):
+        return steps(family, size, data._replace(salt=given.salt, persona=given.persona, place=place))[1]
+    root = Input(node(family.digest, SEQUENTIAL._replace(node_offset=xof_length), given))
+    blocks = []
+    for i in range(-(-length // family.digest)):
+        size = min(family.digest, length - i * family.digest) if is_known else family.digest
+        blocks.append(node(size, Place(0, 0, family.digest, xof_length + i, 0, family.digest), root))
+    return b"".join(blocks)[:length]
+
+
 def read(family, words, listed):
     """The reader of section 7: the digest length and the input, or None."""
     p = bytes_of(family, words)
@@ -258,8 +272,8 @@ def script(family, size, given, data):
 
 def fields(family, letter, words, entry=None):
     """A line of section 10.4: words, and counter, final flag and block of an entry, if it has them."""
-    told = [letter, *(f"{word:0{family.w // 4}x}" for word in words)]
-    return " ".join(told + [str(entry[1]), str(int(entry[2])), entry[0].hex()] if entry else told)
+    parts = [letter, *(f"{word:0{family.w // 4}x}" for word in words)]
+    return " ".join(parts + [str(entry[1]), str(int(entry[2])), entry[0].hex()] if entry else parts)
 
 
 def lines(words, source):
@@ -290,8 +304,8 @@ def lines(words, source):
     given = given._replace(message=data)
     if command == "sum":
         return [steps(family, size, given)[1].hex()]
-    told = [fields(family, "w", parameter_words(family, size, given))]
-    return told + [fields(family, "e", [], entry) for entry in entries(family, given)]
+    parts = [fields(family, "w", parameter_words(family, size, given))]
+    return parts + [fields(family, "e", [], entry) for entry in entries(family, given)]
 
 
 def run(words, source):

@@ -1,6 +1,6 @@
 """Runs each form of instruction of the calls that whole_calls.py executes on the processor, over
-random registers and memory, and compares with the model of exact.py: what it has as a number must
-be that number. Flags are compared through instructions that read them."""
+random registers and memory, and compares with the model of symbolic.py: what it has as a number
+must be that number. Flags are compared through instructions that read them."""
 
 from __future__ import annotations
 
@@ -9,11 +9,11 @@ import re
 from typing import TYPE_CHECKING
 
 import call_cases
-import calls
-import check_following as following
 import check_instructions as check
-import exact
+import check_taint as taint
+import constant_time
 import functions
+import symbolic
 import terms as T
 from program import read
 
@@ -29,27 +29,27 @@ def reached(program: Program) -> list:
     stack."""
     listed = {functions.in_file(program.path, name) for name, _, _ in functions.FILES[program.path]}
     waiting = ["vulfsjor_ffi_%s%s" % (family, export) for family in call_cases.KINDS
-               for export in calls.EXPORTS if export not in calls.NOT_COMPUTED]
+               for export in constant_time.EXPORTS if export not in constant_time.NOT_COMPUTED]
     found = set()
     while waiting:
         name = waiting.pop()
         if name in found or name in listed or name.startswith(functions.SCRUB_STACK) or (
-                name in calls.OF_C):
+                name in constant_time.OF_C):
             continue
         found.add(name)
-        code = program.code(name, calls.MODELS[program.kind].Instruction)
+        code = program.code(name, constant_time.MODELS[program.kind].Instruction)
         inside = {i.address for i in code}
-        waiting += [program.target(i, calls.OF_C) for i in code
+        waiting += [program.target(i, constant_time.OF_C) for i in code
                     if i.target is not None and i.target not in inside]
     return sorted(found)
 
 
 def machine(program: Program, text: str, base: int, data: bytes) -> tuple:
-    """The machine of exact.py after the instructions of a text."""
+    """The machine of symbolic.py after the instructions of a text."""
     count, size = check.vectors_of(program.path)
     buf, memory = T.var(64, "buffer", T.PUBLIC), check.MEMORY + check.BUFFER
-    m = exact.MODELS[program.kind]({buf: exact.Cells(
-        *following.SPAN, lambda k: data[memory + k], True, (64, 0))}, {})
+    m = symbolic.MODELS[program.kind]({buf: symbolic.Cells(
+        *taint.SPAN, lambda k: data[memory + k], True, (64, 0))}, {})
     m.begin((16, 0), {}, 128)
     m.stack = T.var(64, "sp", T.PUBLIC)
     for j in range(len(m.general)):
@@ -60,7 +60,7 @@ def machine(program: Program, text: str, base: int, data: bytes) -> tuple:
         m.vector[j][:size] = list(data[at:at + size])
     zero = T.const(8, data[check.ZERO])
     m.flags = "sub", zero, T.const(8, 0), zero
-    following.execute(m, program, text)
+    taint.execute(m, program, text)
     return m, buf
 
 
@@ -68,8 +68,8 @@ def run(path: str, rounds: int) -> tuple:
     """Whether the model agrees with the processor: a verdict, and what differs."""
     program, rng = read(path), random.Random(7)
     names = reached(program)
-    forms, tests = following.chosen(program, 1, rng, names)
-    flags = [t for t in following.readers(program.kind, tests, rng)
+    forms, tests = taint.chosen(program, 1, rng, names)
+    flags = [t for t in taint.readers(program.kind, tests, rng)
              if not SIGNED.search(t[0].split("; ")[-1])]
     tests, inputs = tests + flags, []
     for k, (text, _) in enumerate(tests):
@@ -77,13 +77,13 @@ def run(path: str, rounds: int) -> tuple:
     after, known = check.execute(program.kind, tests, check.vectors_of(path), inputs), set()
     for n, (k, data) in enumerate(inputs):
         if n % 50 == 0:
-            following.reset()
+            taint.reset()
         try:
             text, base = tests[k]
             m, buf = machine(program, text, base, data)
-        except (T.Refused, exact.Undecided):
+        except (T.Refused, symbolic.Undecided):
             continue
-        why = following.wrong(program, m, buf, after[n], after[n])
+        why = taint.wrong(program, m, buf, after[n], after[n])
         if why:
             return "not ok", "%s: %s" % (tests[k][0], why)
         numbers = {buf: T.const(64, 0)}

@@ -1,13 +1,13 @@
 #!/usr/bin/env python3
-"""Compares `b2` with tests/from_specification.py, which was written only from docs/SPECIFICATION.md, and the worked
-values of that page with what that program, hashlib and the page say. The examples of docs/PROGRAM.md that run `./b2`
+"""Compares `b2` with tests/b2_model.py, which was written only from docs/SPECIFICATION.md, and the worked
+values of that page with what that program, hashlib and the page say. The examples of docs/B2.md that run `./b2`
 are cases too.
 
 For each command it runs random cases from one seed: arguments in random order and case, arguments that are wrong, missing or too
 many, arguments that are not UTF-8, inputs around every boundary, scripts with wrong lines and bad calls, and an input
 that can't be read. Status and output have to be the same; what `sum` and `tree` print is compared with hashlib too.
 
-usage: tests/specification.py --program PATH [--cases N] [--seed N]
+usage: tests/compare_model.py --program PATH [--cases N] [--seed N]
 """
 import hashlib
 import os
@@ -17,9 +17,9 @@ import shlex
 import subprocess
 
 import tap
-from blake2_kinds import FAMILIES, KINDS, TOP, Parser, at_least, program
-from blake2_kinds import read as read_file
-from from_specification import B, S, Input, Place, entries, parameter_words, read, run
+from b2_model import B, S, Input, Place, entries, parameter_words, read, run
+from common import FAMILIES, KINDS, TOP, Parser, at_least, program
+from common import read as read_file
 from oracle import tree_root
 
 FUNCTIONS = {name: family.function for name, family in FAMILIES.items()}
@@ -66,10 +66,10 @@ def spoiled(source, words):
             words.insert(place, other)
         elif place < len(words):
             words[place:place + 1] = source.choice([[], [other], [words[place].upper()], [words[place] + "="]])
-    told = [word.encode() for word in words]
-    if told and source.random() < 0.02:
-        told[source.randrange(len(told))] += source.choice([b"\xff", b"\xc3(", b"\xed\xa0\x80"])
-    return told
+    given = [word.encode() for word in words]
+    if given and source.random() < 0.02:
+        given[source.randrange(len(given))] += source.choice([b"\xff", b"\xc3(", b"\xed\xa0\x80"])
+    return given
 
 
 def script_lines(source, block):
@@ -206,14 +206,14 @@ def worked():
 
 
 def examples():
-    """The words and the input of each example of docs/PROGRAM.md that runs `./b2`, and its line."""
+    """The words and the input of each example of docs/B2.md that runs `./b2`, and its line."""
     form = r"^    ((?:printf (\S+|'[^']*') \| )?\./b2 (?!--)([^#\n]*[a-z0-9]))  +#"
-    found = re.findall(form, read_file("docs/PROGRAM.md"), re.M)
+    found = re.findall(form, read_file("docs/B2.md"), re.M)
     if not found:
-        yield "docs/PROGRAM.md: no example", [], b""
+        yield "docs/B2.md: no example", [], b""
     for line, given, words in found:
         message = shlex.split(given)[0].encode().decode("unicode_escape").encode() if given else b""
-        yield f"docs/PROGRAM.md: {line}", [word.encode() for word in shlex.split(words)], message
+        yield f"docs/B2.md: {line}", [word.encode() for word in shlex.split(words)], message
 
 
 def is_unicode(word):

@@ -6,7 +6,7 @@ import subprocess
 import tempfile
 
 import tap
-from blake2_kinds import TOP
+from common import TOP
 
 ASSEMBLE = 'source "$0/tests/tap.sh" && trap "" EXIT && rmdir "$work" && work=$1 && assemble_all b2sum'
 

@@ -12,7 +12,7 @@ from typing import Any, Callable, Iterator
 
 import terms as T
 from machine import Machine, need_public
-from ranges import OPPOSITE, TOP, Ranges, merged
+from ranges import OPPOSITE, TOP, VISITS, Ranges, merged
 from terms import CannotShow, IsWrong
 
 TABLE_STEP = 64                        # bytes from which an index is into a table, not an array
@@ -69,6 +69,27 @@ def joined_byte(a: T.Byte, b: T.Byte) -> T.Byte:
     return secret() if is_secret(a) or is_secret(b) else unknown()
 
 
+def parts_of(t: T.Term) -> list:
+    """A term and its lowest bytes as shorter terms, of which each is 0 if a bit is."""
+    data = T.split(t)
+    return [T.word(data[:n]) for n in (8, 4, 1) if n <= len(data)]
+
+
+def variables(t: T.Term) -> frozenset:
+    """The variables of a term."""
+    return T.remembered(_variables, t)
+
+
+def _variables(t: T.Term) -> frozenset:
+    if t.op == "var":
+        return frozenset([t])
+    if t.op == "const":
+        return frozenset()
+    inner = t.args[1] if t.op == "add" else t.args
+    return frozenset().union(*[variables(u[0] if isinstance(u, tuple) else u) for u in inner
+                               if isinstance(u, (tuple, T.Term))])
+
+
 class Aligned(CannotShow):
     """The stack is aligned to more bytes than is known of it at the entry."""
 
@@ -77,7 +98,7 @@ class Aligned(CannotShow):
         self.need = need
 
 
-class Follower(Ranges, Machine):
+class Taint(Ranges, Machine):
     """What the abstract machines have in common. It comes before a model among the bases."""
 
     KNOWN = ("memory", "ranges", "residues")
@@ -85,6 +106,7 @@ class Follower(Ranges, Machine):
     RELATIONS: dict = {}               # what a condition compares, see compared()
     flags: Any
     facts: dict
+    bounds: frozenset
 
     def enter(self, i: Any) -> Any:
         """What a call does before its function starts. Returns the return address."""
@@ -102,16 +124,18 @@ class Follower(Ranges, Machine):
         """What a function may leave in the registers that do not belong to its caller."""
         raise NotImplementedError
 
-    def begin(self, alignment: tuple, ranges: dict, block: int) -> None:
+    def begin(self, alignment: tuple, ranges: dict, block: int, longest: int = 0) -> None:
         """Adds what the models do not have. `alignment` is that of the stack: a power of two, and
-        the stack pointer modulo that. An index that has no bound stays within a block."""
-        self.alignment, self.block = alignment, block
+        the stack pointer modulo that. An index that has no bound, or a greater one than the longest
+        array, stays within a block."""
+        self.alignment, self.block, self.longest = alignment, block, longest or block
         # Byte -> what holds if it is 0, and what if it is not: comparisons, as for learn().
         self.facts = {}
         # The range (low, high, step) of each variable that has a smaller one than its width. Sums
         # of variables without a constant have ranges too; in `residues`, modulo the width.
         self.ranges, self.residues = dict(ranges), {}
         self.flags = None              # the comparison that the flags are from
+        self.bounds = frozenset()      # words that a branch of the function has compared
         self.where = ""                # the path of calls and the instruction, for new variables
 
     def copy(self) -> Any:
@@ -175,18 +199,21 @@ class Follower(Ranges, Machine):
         known: tuple = self.facts[a][low > 0] if a in self.facts and (low > 0 or high == 0) else ()
         return all(self.learn(*other) for other in known)
 
+    def supposing(self, compared: Any, holds: bool) -> Any:
+        """This machine with what a comparison says of the ranges if it holds or does not, or None
+        if that may not be."""
+        m = copy.copy(self)
+        m.ranges, m.residues = dict(self.ranges), dict(self.residues)
+        relation, a, b = compared
+        return m if m.learn(relation, a, b, holds) else None
+
     def truth(self, condition: Any) -> Any:
         """Whether a condition holds, if that is known, or "secret"."""
         if self.flags == ("secret",):
             return "secret"
         compared: Any = self.compared(condition)
         for holds in (True, False) if compared else ():
-            kept = self.ranges, self.residues
-            self.ranges, self.residues = map(dict, kept)
-            relation, a, b = compared
-            may = self.learn(relation, a, b, holds)
-            self.ranges, self.residues = kept
-            if not may:
+            if self.supposing(compared, holds) is None:
                 return not holds
         return None
 
@@ -197,7 +224,26 @@ class Follower(Ranges, Machine):
             return a if truth else b
         if truth == "secret":
             return [secret()] * len(a)
-        return a if a == b else self.joined(self, self, a, b, "?", 0)
+        if a == b:
+            return a
+        compared = self.compared(condition)
+        one, other = (self.supposing(compared, on) if compared else self for on in (True, False))
+        data = self.joined(one, other, a, b, "?", 0)
+        if not any(map(is_secret, a + b + data)):
+            words = T.word(data), T.word(a), T.word(b)
+            for t in words[1:]:
+                self.relate(one, other, 0, *(T.add(t.w, (1, u), (-1, t)) for u in words))
+        return data
+
+    def relate(self, one: Any, other: Any, visits: int, *words: T.Term) -> None:
+        """Learns the range of a word that is another in each of two machines. After some visits,
+        only one that does not grow."""
+        old, new = (m.range_of(t) for m, t in zip((one, other), words[1:]))
+        low, high, step = merged(old, new)
+        if visits <= VISITS or (low, high) == old[:2]:
+            a, b, _ = self.range_of(words[0])
+            if high - low < min(b - a, 1 << words[0].w - 1):
+                self.limit(words[0], low, high, step & -step or 1)
 
     def bit(self, condition: str) -> Any:
         """A byte that is 1 if a condition holds, and otherwise 0."""
@@ -215,6 +261,8 @@ class Follower(Ranges, Machine):
     def outcomes(self, i: Any) -> Iterator:
         """The states after a conditional jump, each with whether it jumps."""
         compared = self.condition(i)
+        if compared is not None:
+            self.bounds |= {t for t in compared[1:] if t.w == 64 and t.op in ("var", "add")}
         self.by_numbers = compared is not None and compared[1].op == compared[2].op == "const"
         self.counts["branches"] += 1
         for jumps in (True, False):
@@ -262,7 +310,8 @@ class Follower(Ranges, Machine):
             return self.aligned_stack(a, low)
         if b.op == "const" and low <= 4096 and low & low - 1 == 0:
             r = T.add(a.w, (1, a), (-1, self.new(a.w, "low", (0, low - 1, 1))))
-            self.limit(r, 0, self.unsigned(a)[1])
+            first, last = self.unsigned(a)
+            self.limit(r, first & -low, last & -low, low)
             return r
         return 0, n, n & -n or 1
 
@@ -300,7 +349,7 @@ class Follower(Ranges, Machine):
         if base is self.stack and low < self.lowest():
             raise IsWrong("%r is below the stack" % address)
         fits = region.low <= low <= high <= region.high - size
-        if not region.uniform and not (fits and (high - low < self.block or step >= TABLE_STEP)):
+        if not region.uniform and not (fits and (high - low < self.longest or step >= TABLE_STEP)):
             if low == high or not region.low <= low <= region.high - self.block:
                 raise CannotShow("no bound is known for %r, from %d on" % (address, low))
             high = low + self.block - size
@@ -373,7 +422,7 @@ class Follower(Ranges, Machine):
         """The end of a range of memory whose length is not known."""
         base, low, _, region = self.place(address, 0, False)
         high = self.range_of(T.add(64, (1, address), (1, length), (-1, base)))[1]
-        return min(high, low + self.block)
+        return high if high <= low + self.longest else low + self.block
 
     def aligned_stack(self, address: T.Term, low: int) -> Any:
         """An address on the stack, rounded down to a multiple of a power of two."""
@@ -399,26 +448,53 @@ class Follower(Ranges, Machine):
 
     # Paths that meet.
 
-    def join(self, other: Any, place: str, visits: int) -> bool:
-        """Adds another path to this state. Returns whether anything changed."""
+    def join(self, other: Any, place: str, visits: int, is_loop: bool = False) -> bool:
+        """Adds another path to this state. Returns whether anything changed. At the head of a loop,
+        it learns how words differ that the loop changes."""
         old = self.copy()
         self.where = place
         self.join_ranges(other)
         self.facts = {t: f for t, f in self.facts.items() if other.facts.get(t) == f}
+        self.bounds |= other.bounds
+        words = []
         for name in self.FILES:
             for at, (a, b) in enumerate(zip(getattr(old, name), getattr(other, name))):
                 if a != b:
-                    getattr(self, name)[at] = self.joined(
-                        old, other, a, b, "%s%d" % (name, at), visits)
+                    data = self.joined(old, other, a, b, "%s%d" % (name, at), visits)
+                    getattr(self, name)[at] = data
+                    words.append((data, a, b))
         for base, k in self.different(other):
             a, b = ([m.byte(base, k + j, self.regions[base]) for j in range(8)]
                     for m in (old, other))
             data = self.joined(old, other, a, b, "%s%d" % (base.args, k), visits)
             self.memory.update({(base, k + j): byte for j, byte in enumerate(data)})
+        self.relate_all(old, other, visits, [
+            self.without_base(*map(T.word, t)) for t in words if is_loop
+            and len(t[0]) == 8 and not any(map(is_secret, t[0] + t[1] + t[2]))])
         if self.flags != other.flags:
             self.flags = None
         return any(getattr(self, name) != getattr(old, name)
                    for name in self.FILES + self.KNOWN + ("facts", "flags"))
+
+    def relate_all(self, old: Any, other: Any, visits: int, words: list) -> None:
+        """Learns how words that differ on two paths, given as they are after these and on each,
+        differ from each other and from words that were compared."""
+        new = {x for t, _, _ in words for x in T.linear(t)[1] if x not in self.regions}
+        bounds = [t for t in self.bounds if not new & set(T.linear(t)[1])]
+        for k, three in enumerate(words):
+            for t in bounds:
+                self.relate(old, other, visits, *(T.add(64, (1, u), (-1, t)) for u in three))
+            for sign in (1, -1):
+                for pair in words[:k]:
+                    self.relate(old, other, visits, *(
+                        T.add(64, (1, u), (sign, v)) for u, v in zip(three, pair)))
+
+    def without_base(self, *words: T.Term) -> tuple:
+        """Words without the base of memory that all of them have, if there is one."""
+        first, *rest = ([u for u in T.linear(t)[1] if u in self.regions] for t in words)
+        if len(first) != 1 or any(found != first for found in rest):
+            return words
+        return tuple(T.add(t.w, (1, t), (-1, first[0])) for t in words)
 
     def different(self, other: Any) -> list:
         """The words of memory that are not the same."""
@@ -442,14 +518,52 @@ class Follower(Ranges, Machine):
             return [joined_byte(x, y) for x, y in zip(a, b)]
         t, u = T.word(a), T.word(b)
         if (t.taint | u.taint) & ~T.PUBLIC or unknown() in a + b:
-            return self.cleaned([secret_bit() if x != y and old.is_bit(x) and other.is_bit(y)
-                                 else joined_byte(x, y) for x, y in zip(a, b)],
+            return self.cleaned([self.joined_bit(x, y, "%s.%d" % (name, k))
+                                 if x != y and old.is_bit(x) and other.is_bit(y)
+                                 else joined_byte(x, y) for k, (x, y) in enumerate(zip(a, b))],
                                 not name.startswith(("image", "sp")) and len(a) <= 8)
         base = self.common(t, u)
         old_range, new_range = (m.offset(v, base) for m, v in ((old, t), (other, u)))
         x = self.renew(T.var(t.w, "%s%s" % (self.where, name), T.PUBLIC), self.widened(
             old_range, merged(old_range, new_range), t.w, visits))
+        if base.op == "const" and self.range_of(x)[:2] == (0, 1):
+            self.remember(x, old, other, t, u)
         return T.split(T.add(t.w, (1, base), (1, x)))
+
+    def remember(self, x: T.Term, old: Any, other: Any, t: T.Term, u: T.Term) -> None:
+        """Keeps of a word that is 0 or 1 on each of two paths what it says of the path."""
+        on: list = [(), ()]
+        for m, word, n in ((old, t, other), (other, u, old)):
+            others = n.range_of(u if m is old else t)
+            for value in (0, 1):
+                if others[:2] == (1 - value, 1 - value):
+                    known = next((m.facts[k][value] for k in parts_of(word) if k in m.facts), ())
+                    on[value] = m.more_than(n) + known
+        on = [tuple(f for f in known if not any(
+            v.args.startswith(self.where) for t in f[1:3] for v in variables(t))) for known in on]
+        if any(on):
+            self.facts = {**self.facts, **{k: tuple(on) for k in parts_of(x)}}
+
+    def more_than(self, other: Any) -> tuple:
+        """What the ranges of variables say here and not on another path: comparisons."""
+        found = []
+        for t in sorted(self.ranges, key=lambda t: t.serial):
+            low, high, _ = self.ranges[t]
+            least, greatest, _ = other.range_of(t)
+            if t.op == "var" and 0 <= low <= high < TOP >> 1 and (least < low or high < greatest):
+                found += [("<=", t, T.const(t.w, high), True), (">=", t, T.const(t.w, low), True)]
+        return tuple(found)
+
+    def renew(self, x: T.Term, limits: tuple | None) -> T.Term:
+        self.facts = {t: f for t, f in self.facts.items() if not any(
+            x in variables(u) for u in [t] + [w for _, a, b, _ in f[0] + f[1] for w in (a, b)])}
+        return super().renew(x, limits)
+
+    def joined_bit(self, a: T.Byte, b: T.Byte, name: str) -> T.Byte:
+        """A byte that is one of two bits."""
+        if is_secret(a) or is_secret(b):
+            return secret_bit()
+        return self.renew(T.var(8, "%s%s" % (self.where, name), T.PUBLIC), (0, 1, 1)), 0
 
     def common(self, t: T.Term, u: T.Term) -> T.Term:
         """The base that two words have in common, or 0. Bases of memory that is only read become

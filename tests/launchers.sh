@@ -1,0 +1,314 @@
+#!/usr/bin/env bash
+# Checks when and of what the scripts `b2` and `b2sum` build a program, in a small separate
+# repository and with a compiler that notes its arguments and makes a script. Then checks the
+# completions. tests/b2_program.sh and tests/compare_coreutils.py run the real programs.
+set -u
+source "$(dirname "$(readlink -f "$0")")/tap.sh"
+shown=("$work/output" "$work/errors")
+
+repository=$work/a\ repository
+machine=$(uname -m) program=$repository/out/b2-$machine sums=$repository/out/b2sum-$machine
+mkdir -p "$repository"/{tools,c/include} "$work/bin"
+cp "$top/b2" "$top/b2sum" "$repository/"
+cp "$top/tools/launcher.sh" "$repository/tools/"
+(cd "$top" && find c/*.c c/system.h c/include/*.h dist/MANIFEST) | while read -r file; do
+    mkdir -p "$repository/${file%/*}" && echo "$file" >"$repository/$file"
+done
+(cd "$top" && ls dist/*/*.{s,inc}) | while read -r file; do
+    mkdir -p "$repository/${file%/*}"
+    { echo "/* $file */" && grep $'^\tvj_\\(call\\|export\\)' "$top/$file"; } >"$repository/$file"
+done
+printf '#!/bin/sh\n[ "$*" = current ] && [ ! -e "%s/stale" ]\n' "$work" >"$repository/tools/dist.sh"
+cat >"$work/bin/for" <<END
+#!/bin/bash
+cd "$work" && echo "\$*" >>calls
+[ "\${@: -1}" != -dumpmachine ] || { echo "\$1" && exit; }
+[ ! -e refuse ] || { echo "for: refused" >&2 && exit 1; }
+[ ! -e edit ] || touch "a repository/c/b2.c"
+for file; do [[ \$file != *.s ]] || cat "\$file"; done >assembly
+while [ "\$1" != -o ]; do shift; done
+printf '#!/bin/sh\nprintf "<%%s>" "\$@" "\$\$"; IFS= read -r line; echo "\$line"; exit 7\n' >"\$2"
+END
+chmod 755 "$work" "$repository/tools/dist.sh" "$work/bin/for"
+cd "$repository" || exit
+
+# Runs a command over an input, with these variables before it. `calls` has those of the compiler.
+run() {
+    rm -f "$work/calls"
+    echo in | env PATH="$work/bin:$PATH" CC="for $machine-linux-gnu" "$@" >"$work/output" 2>"$work/errors"
+    status=$?
+}
+# The status, the output without the number of the process, and the number of builds.
+ends() {
+    local builds
+    builds=$(grep -cs -- ' -o ' "$work/calls")
+    [ "$status,$(sed 's/<[0-9]*>in$/in/' "$work/output"),$builds" = "$1,$2,${3-}" ]
+}
+says() { grep -qF -- "$1" "$work/errors"; }
+builds() { ends 7 "<sum>in" 1 && says "b2: built $1" && [ "$(ls "${1%/*}")" = "b2-$machine" ]; }
+# Another run, which needs no other command, prints this, and builds and says nothing.
+runs() {
+    run PATH="$work" "${@:2}"
+    ends 7 "$1in" && [ ! -s "$work/errors" ]
+}
+stops() {
+    [ "$status" -eq 1 ] && [ ! -s "$work/output" ] && says "$1" &&
+        [ -z "$(ls "$repository/out" 2>/dev/null)" ]
+}
+b2() { run "$repository/b2" "$@"; }
+# The files that the compiler got in the last build.
+texts() { sed -n 's|^/\* \(.*\) \*/|\1|p' "$work/assembly"; }
+inputs() { texts && grep -o 'c/[a-z0-9_]*\.c\b' "$work/calls"; }
+
+b2 --help
+check "--help prints the usage" ends 0 "$(sed -n "/^usage: b2/,/^END/{/^END/d;p}" "$top/b2")"
+b2 sum
+check "the first run builds the program and runs it" builds "$program"
+own=(b2 tools/launcher.sh dist/MANIFEST dist/*/{elf,macho,coff}.inc c/include/vulfsjor.h $(inputs))
+check "without writable addresses of functions" grep -q -- '-Wl,-z,relro -Wl,-z,now' "$work/calls"
+check "the next run does not" runs "<sum><two words><><*>" "$BASH" "$repository/b2" sum "two words" "" "*"
+is_the_script() {
+    "$repository/b2" <<<"" >"$work/output" &
+    wait $!
+    [ "$(cat "$work/output")" = "<$!>" ]
+}
+check "it is the process that the script was" is_the_script
+ln -s "$repository/b2" "$work/linked" && ln -s "$repository/b2sum" "$work/linked sum"
+run "$work/linked" sum
+check "a link to the script is the script" ends 7 "<sum>in"
+check "so is its name in its folder" runs "<sum>" "$BASH" b2 sum
+for file in "${own[@]}"; do
+    touch -d '+9 seconds' "$file" && b2 sum
+    check "after a change of $file it is built again" builds "$program"
+    touch -d '-9 seconds' "$file"
+done
+touch -d '+9 seconds' dist b2sum dist/*/b2sum* c/{b2sum,threads}.c c/system.h
+check "after another change it is not" runs "<sum>" "$BASH" "$repository/b2" sum
+touch -d '-9 seconds' b2sum dist/*/b2sum* c/{b2sum,threads}.c c/system.h
+touch "$work/edit" && rm "$program" && b2 sum && rm "$work/edit"
+b2 sum
+check "after a change during the build it is built again" builds "$program"
+touch -r "$program" c/b2.c && b2 sum
+check "a program as old as one of its sources is built again" builds "$program"
+
+# The other script, which shares all but the names of its files.
+run "$work/linked sum" "two words" --help
+check "b2sum builds the other program, and passes on all arguments" ends 7 "<two words><--help>in" 1
+check "and says so" says "b2sum: built $sums"
+are_replaced() {
+    local file=$top/dist/${machine/arm64/aarch64}/b2sum.s
+    grep -qF "=$(name_in "$file" call absorb_tree) " "$work/calls" &&
+        grep -qF "=$(name_in "$file" export absorb_tree) " "$work/calls" &&
+        grep -qF "=$(name_in "$file" call hide_memory) " "$work/calls" &&
+        grep -qF "=$(name_in "$file" call show_progress) " "$work/calls"
+}
+check "C replaces three functions, and calls one" are_replaced
+check "with the threads of glibc before 2.34" grep -q -- ' -pthread ' "$work/calls"
+for file in b2sum c/system.h c/include/vulfsjor_threads.h $(inputs); do
+    touch -d '+9 seconds' "$file" && run "$repository/b2sum" a
+    check "after a change of $file it is built again" ends 7 "<a>in" 1
+    touch -d '-9 seconds' "$file"
+done
+run "$repository/b2sum" --build "$work/sum of files"
+check "b2sum --build builds it as that file" [ -x "$work/sum of files" ]
+rm "$program" "$sums"
+
+# What stops a build, and what is assembled for other machines.
+touch "$work/stale" && b2 sum && rm "$work/stale"
+check "a dist/ from other sources is refused" stops "b2: dist/ was not made from these sources: run"
+touch "$work/refuse" && b2 sum && rm "$work/refuse"
+check "a compiler that fails stops it" stops "for: refused"
+while IFS=: read -r compiler sentence; do
+    run CC="$compiler" "$repository/b2" sum
+    check "the compiler '$compiler' is refused" stops "b2: $sentence"
+done <<'END'
+none -O2:a C compiler is needed: cc, or the one that CC names
+ :a C compiler is needed
+for x86_64-linux-gnux32:there is no build for x86_64-linux-gnux32
+for aarch64-linux-gnu_ilp32:there is no build for aarch64
+for x86_64-freebsd:there is no build for x86_64-freebsd
+for riscv64-linux-gnu:there is no build for riscv64-linux-gnu
+for i686-w64-mingw32:there is no build for i686-w64-mingw32
+for sparc-linux-gnu:there is no build for sparc-linux-gnu
+END
+other=aarch64 && [ "$machine" = x86_64 ] || other=x86_64
+run CC="for $other-linux-gnu" "$repository/b2" sum
+check "a program for another machine is not run" \
+    stops "b2: CC compiles for $other-linux-gnu, and this machine is $machine"
+for machine_of in x86_64-w64-mingw32:coff x86_64-w64-windows-gnu:coff aarch64-w64-mingw32:coff \
+    x86_64-apple-darwin23.1.0:macho arm64-apple-darwin23.1.0:macho aarch64-linux-gnu:elf; do
+    folder=${machine_of%%-*} folder=dist/${folder/arm64/aarch64}
+    for name in b2 b2sum; do
+        run CC="for ${machine_of%:*} -O3" "$repository/$name" --build "$work/other"
+        check "the files of $name for $machine_of" diff <(texts) \
+            <(printf '%s\n' $folder/{${machine_of#*:}.inc,$name.s,vulfsjor*.s})
+    done
+done
+
+# On macOS the script compares the files with MANIFEST by itself.
+if has shasum; then
+    (cd dist && sha256sum ./*/*.s >MANIFEST) && run OSTYPE=darwin23 "$repository/b2" --build "$work/checked"
+    check "with the bash of macOS it builds from a whole dist/" [ -x "$work/checked" ]
+    echo >>dist/aarch64/b2.s && run OSTYPE=darwin23 "$repository/b2" --build "$work/checked"
+    check "and not from a changed one" says "b2: dist/ was not made from these sources"
+else
+    skip "the script with the bash of macOS" "no shasum"
+fi
+
+# A repository that cannot be written, not even by root.
+rm -rf out && chmod a-w . && chmod 777 "$work"
+user=() && [ "$(id -u)" -ne 0 ] || user=(setpriv --reuid=65534 --regid=65534 --clear-groups)
+for cache in "$work/cache" relative; do
+    folder=${cache/#relative/$work/home/.cache}/vulfsjor$repository
+    call=(XDG_CACHE_HOME="$cache" HOME="$work/home" "${user[@]}" "$repository/b2" sum)
+    run "${call[@]}"
+    check "the program is in a cache for this clone" builds "$folder/b2-$machine"
+    check "and a line says why" says "b2: $repository/out cannot be written: trying $folder"
+    run "${call[@]}"
+    check "and stays there" ends 7 "<sum>in"
+done
+run XDG_CACHE_HOME="$work/cache" HOME="$work/home" "${user[@]}" "$repository/b2sum" a
+check "b2sum is built next to b2" says "b2sum: built $work/cache/vulfsjor$repository/b2sum-$machine"
+for cache in "" "$repository"; do
+    run XDG_CACHE_HOME="$cache" HOME= "${user[@]}" "$repository/b2" sum
+    check "or the variable to set is named" stops "b2: $repository/out cannot be written: set XDG_"
+    check "and no folder that is not there" eval '! says /dev/null'
+done
+chmod u+w . && touch out
+run XDG_CACHE_HOME="$work/third" "$repository/b2" sum
+check "if out is a file it is in the cache too" builds "$work/third/vulfsjor$repository/b2-$machine"
+run XDG_CACHE_HOME= HOME= "$repository/b2" sum
+check "nothing is written elsewhere in the clone" says "b2: $repository/out cannot be written"
+
+# The completions: what each shell offers for a line.
+by_bash() {
+    bash --norc -c 'source completions/b2.bash; compopt() { [ "$*" = "-o nospace" ]; }
+        COMP_WORDS=("$@") COMP_CWORD=$(($# - 1)); _b2; printf "%s\n" "${COMPREPLY[@]}"' - "$@"
+}
+by_zsh() {
+    zsh -fc 'compadd() { print -rl -- ${@:#-S} }; words=("$@") CURRENT=$#
+        complete_b2() { source completions/_b2 }; complete_b2' - "$@" | grep -e "^${!#}."
+}
+by_fish() { fish --no-config -c 'source completions/b2.fish; complete -C "$argv"' -- "$@"; }
+offers() {
+    local shell=$1 line words
+    while IFS=: read -r line words; do
+        read -ra line <<<"$line"
+        [ "${line[-1]}" != . ] || line[-1]=""
+        diff <(by_$shell "${line[@]}" | sed '/^$/d' | sort) \
+            <(printf '%s\n' $words | sed '/^$/d' | sort) || return
+    done <<'END'
+b2 .:sum script steps witness tree
+b2 st:steps
+b2 script .:b128 b256 b512 s128 s256
+b2 sum s:s128 s256
+b2 steps b1:b128
+b2 witness .:b128 b256 b512 s128 s256 b0 b8 s0 s8
+b2 witness b8 .:
+b2 tree .:b128 b256 b512
+b2 tree b512 .:
+b2 tree b512 4096 .:salt= persona=
+b2 script s256 .:key= salt= persona=
+b2 sum b512 salt=00 p:persona=
+b2 steps b512 k:key=
+b2 other .:
+END
+}
+# The completions of b2sum: what bash and fish offer for the last word of a line, in bash after the
+# options of compopt, and what zsh gets for each word.
+sums_by_bash() {
+    bash --norc -c 'source "$0/completions/b2sum.bash"; compopt() { printf "%s\n" "$@"; }
+        COMP_WORDS=("$@") COMP_CWORD=$(($# - 1)); _b2sum
+        printf "%s\n" "${COMPREPLY[@]}"' "$top" "$@"
+}
+sums_by_fish() {
+    fish --no-config -c 'source "$argv[1]/completions/b2sum.fish"; complete -C "$argv[2..]"' \
+        "$top" "$@" | cut -f 1
+}
+sums_by_zsh() {
+    zsh -fc '_arguments() { print -rl -- "$@" }; source "$0"' "$top/completions/_b2sum"
+}
+# The options that a shell offers: bash only long ones.
+options_by() {
+    case $1 in
+        bash) sums_by_bash b2sum -- ;;
+        zsh) sums_by_zsh |
+            sed -nE 's/^(\((-.) (--[a-z-]+)\)(\2|\3)|(--[a-z-]+))=?\[[^]]*\].*/\4\5/p' ;;
+        fish) sums_by_fish b2sum - ;;
+    esac | sort
+}
+# Whether they are those of the manual.
+offers_options() {
+    diff <(options_by "$1") <(sed -n '/^| `-/s/ | .*//p' "$top/docs/B2SUM.md" |
+        grep -oE -e "--$([ "$1" = bash ] || echo '?')[a-z-]+" | sort -u)
+}
+# What a shell offers after an option of b2sum, in a folder with one file.
+value_by() {
+    local spec equals="="
+    case $1 in
+        bash) sums_by_bash b2sum "$2" "" ;;
+        fish) sums_by_fish "b2sum $2 " ;;
+        zsh)
+            [[ $2 == --* ]] || equals=
+            spec=$(sums_by_zsh | sed -nE "s/^(\(.*\))?$2$equals\[[^]]*\]//p")
+            spec=$(sed 's/.*://; s/_files/file/' <<<"${spec:-$(sums_by_zsh | grep '^\*:')}")
+            tr -d '()' <<<"$spec" | tr ' ' '\n'
+            ;;
+    esac | sed '/^$/d'
+}
+offers_values() {
+    local option values
+    mkdir -p "$work/folder" && cd "$work/folder" && touch file &&
+        while IFS=: read -r option values; do
+            [ "$1,$values" != bash,file ] || values="-o filenames file"
+            diff <(value_by "$1" "$option") <(printf '%s\n' $values | sed '/^$/d') || return
+        done <<'END'
+-a:blake2b blake2s blake2bp blake2sp
+--algorithm:blake2b blake2s blake2bp blake2sp
+-l:128 160 224 256 384 512
+--length:128 160 224 256 384 512
+--tree:65536
+--personal:
+--salt:
+--key-file:file
+--check:file
+none:file
+END
+}
+# Lines that bash cuts into words at =, and the commands whose completions these are.
+bash_words() {
+    diff <(sums_by_bash b2sum --algorithm = blake2bp && sums_by_bash b2sum --tree = &&
+        sums_by_bash b2sum a --z) <(printf '%s\n' blake2bp 65536 --zero) &&
+        cd "$work/folder" && touch "a file" &&
+        [ "$(sums_by_bash b2sum "a f" | tail -n 1)" = "a file" ] &&
+        bash --norc -c 'source "$0/completions/b2sum.bash" && complete -p b2sum' "$top" |
+        grep -x 'complete -F _b2sum b2sum' &&
+        [ "$(grep -cxE '#compdef b2sum|_arguments -s \\' "$top/completions/_b2sum")" -eq 2 ]
+}
+
+# tools/processor.sh: what it makes of the features in a file such as /proc/cpuinfo.
+is_processor() {
+    echo "flags : fpu ${*:2}" >"$work/cpuinfo"
+    [ "$("$top/tools/processor.sh" "$work/cpuinfo")" = "$1" ]
+}
+finds_levels() {
+    local flag v3="avx avx2 bmi1 bmi2 f16c fma abm movbe xsave" all
+    all="$v3 avx512f avx512bw avx512cd avx512dq avx512vl"
+    is_processor x86-64-v4 "$all" && is_processor x86-64-v3 "$v3" || return
+    for flag in $all; do
+        is_processor "$([[ " $v3 " == *" $flag "* ]] && echo x86-64-v2 || echo x86-64-v3)" \
+            "$(tr ' ' '\n' <<<"$all" | grep -vx "$flag" | tr '\n' ' ')" || return
+    done
+}
+needs
+if [ "$machine" = x86_64 ]; then check "the level of a processor, by its features" finds_levels; fi
+
+cd "$top" && for shell in bash zsh fish; do
+    needs $shell
+    check "what $shell completes" offers $shell
+    check "which options of b2sum $shell completes" offers_options $shell
+    check "which values and files $shell completes after them" offers_values $shell
+done
+needs bash
+check "which words of b2sum bash completes" bash_words
+finish
