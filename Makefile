@@ -1,41 +1,67 @@
 # The names to try first. Each runs scripts that can be run by themselves.
-.PHONY: help install uninstall test prove dist bench docs
+.PHONY: all help check test clean distclean install uninstall release prove dist bench docs
+.DEFAULT_GOAL = all
 
-# Where `make install` puts its files, an absolute path; below DESTDIR, if that is set. CC names the
-# compiler, and LIBDIR the folder of the libraries (c/install.sh --help).
-PREFIX = /usr/local
-to = $(if $(filter /%,$(PREFIX)),$(DESTDIR)$(PREFIX),$(error PREFIX must be an absolute path))
-# The programs to install. b2sum has the name of coreutils' program, which it replaces for those who
-# have PREFIX/bin before /usr/bin in their PATH: PROGRAMS=b2 leaves it out.
+# The variables of the GNU coding standards. PREFIX and LIBDIR are other names of prefix and libdir.
+# CC, CFLAGS, CPPFLAGS, LDFLAGS and AR are used if they are set, as an argument or in the environment.
+prefix = /usr/local
+PREFIX = $(prefix)
+exec_prefix = $(PREFIX)
+bindir = $(exec_prefix)/bin
+LIBDIR = lib
+libdir = $(if $(filter /%,$(LIBDIR)),$(LIBDIR),$(exec_prefix)/$(LIBDIR))
+includedir = $(PREFIX)/include
+datarootdir = $(PREFIX)/share
+mandir = $(datarootdir)/man
+bashcompdir = $(datarootdir)/bash-completion/completions
+zshcompdir = $(datarootdir)/zsh/site-functions
+fishcompdir = $(datarootdir)/fish/vendor_completions.d
+export bindir mandir bashcompdir zshcompdir fishcompdir DESTDIR
+# The programs to install, and what is put before their names. A file of somebody else is never
+# replaced, such as coreutils' b2sum in /usr/bin, unless OVERWRITE is yes.
 PROGRAMS = b2 b2sum
+PROGRAM_PREFIX =
+OVERWRITE = no
+export PROGRAM_PREFIX OVERWRITE
+
+needs_absolute = $(if $(filter /%,$(PREFIX)),,$(error PREFIX must be an absolute path))
+of_library = env INCLUDEDIR="$(includedir)" LIBDIR="$(libdir)" c/install.sh
+# What is built, and what it is built from.
+built = out/make
+code = $(wildcard c/*.[ch] c/*.map c/*/*.[ch] c/include/libb2/* c/*.sh dist/MANIFEST dist/*.[hS] dist/*/*.[sc] dist/*/*.inc)
+
+all: $(PROGRAMS:%=$(built)/%) $(built)/lib/kind ## build b2, b2sum and the C library in out/make
 
 help: ## list these names
 	@sed -n "s/^\([a-z]*\):.*## /make \1	/p" Makefile
 
-install: $(PROGRAMS:%=install-%) ## install b2, b2sum, their man pages and completions, and the C library in PREFIX
-	c/install.sh "$(PREFIX)"
+$(PROGRAMS:%=$(built)/%): $(built)/%: % tools/launcher.sh $(code)
+	mkdir -p $(built)
+	./$* --build $@
 
-# Writes a file anew below $(to): $(call put,FILE,FOLDER,NAME)
-put = umask 022 && mkdir -p "$(to)/$(2)" && rm -f "$(to)/$(2)/$(3)" && cat $(1) >"$(to)/$(2)/$(3)"
+$(built)/lib/kind: $(code)
+	c/install.sh --build $(built)/lib
 
-install-%:
-	umask 022 && mkdir -p "$(to)/bin"
-	./$* --build "$(to)/bin/$*"
-	$(call put,docs/$*.1,share/man/man1,$*.1)
-	$(call put,completions/$*.bash,share/bash-completion/completions,$*)
-	$(call put,completions/_$*,share/zsh/site-functions,_$*)
-	$(call put,completions/$*.fish,share/fish/vendor_completions.d,$*.fish)
+install: all ## install b2, b2sum, their man pages and completions, and the C library in prefix
+	$(needs_absolute)tools/install_programs.sh $(built) $(PROGRAMS)
+	$(of_library) --built $(built)/lib "$(PREFIX)"
 
-uninstall: $(PROGRAMS:%=uninstall-%) ## remove what `make install` has installed
-	c/install.sh --uninstall "$(PREFIX)"
+uninstall: ## remove what `make install` has installed
+	$(needs_absolute)tools/install_programs.sh --uninstall $(PROGRAMS)
+	$(of_library) --uninstall "$(PREFIX)"
 
-uninstall-%:
-	rm -f "$(to)/bin/$*" "$(to)/share/man/man1/$*.1"
-	rm -f "$(to)/share/bash-completion/completions/$*" "$(to)/share/zsh/site-functions/_$*"
-	rm -f "$(to)/share/fish/vendor_completions.d/$*.fish"
+check: test ## the same as test
 
 test: ## test everything that needs no proof, over the code in dist/
 	./test
+
+clean: ## remove what was built
+	rm -rf out
+
+distclean: clean
+
+release: ## make the artifacts of a release in out/release, and test each of them
+	tools/release.sh
 
 prove: ## prove every crate, compare dist/ with the proofs, and test everything (needs rt)
 	./test --prove
@@ -47,8 +73,7 @@ dist: ## write dist/, the code that the proofs build, and js/src/wasm.js (needs 
 bench: ## measure speed next to other libraries
 	bench/speed.py
 
-docs: ## write docs/reference/, the man page and the pictures, and test all pages
+docs: ## write docs/reference/ and the man pages, and test all pages
 	tools/reference.py
 	tools/manual.py
-	tools/pictures.py
 	tests/pages.py

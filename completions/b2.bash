@@ -1,4 +1,4 @@
-# Completes the arguments of b2 in bash.
+# Completes the arguments of Vulfsjor's b2 in bash.
 _b2() {
     local word=${COMP_WORDS[COMP_CWORD]} kinds="b128 b256 b512 s128 s256" words=
     case $COMP_CWORD,${COMP_WORDS[1]} in

@@ -1,4 +1,4 @@
-# Completes the arguments of b2 in fish.
+# Completes the arguments of Vulfsjor's b2 in fish.
 function __b2_is --description 'whether these are the number of words before and the command'
     set -l words (commandline -opc)
     test (count $words) -ge $argv[1] -a (count $words) -le $argv[2]

@@ -1,11 +1,11 @@
-# Completes the arguments of b2sum in bash.
+# Completes the arguments of Vulfsjor's b2sum in bash.
 _b2sum() {
     local word=${COMP_WORDS[COMP_CWORD]} before=${COMP_WORDS[COMP_CWORD - 1]} words
     COMPREPLY=()
     [ "$before" != = ] || before=${COMP_WORDS[COMP_CWORD - 2]}
     [ "$word" != = ] || word=
     case $before in
-        -a | --algorithm) words="blake2b blake2s" ;;
+        -a | --algorithm) words="blake2b blake2s blake2bp blake2sp" ;;
         -l | --length) words="128 160 224 256 384 512" ;;
         --tree) words="65536" ;;
         --personal | --salt | --threads) return ;;

@@ -1,5 +1,5 @@
-# Completes the arguments of b2sum in fish.
-complete -c b2sum -s a -l algorithm -x -a 'blake2b blake2s' -d 'the hash'
+# Completes the arguments of Vulfsjor's b2sum in fish.
+complete -c b2sum -s a -l algorithm -x -k -a 'blake2b blake2s blake2bp blake2sp' -d 'the hash'
 complete -c b2sum -s b -l binary -d 'print * before each name'
 complete -c b2sum -s c -l check -d 'check the digests in the files'
 complete -c b2sum -s l -l length -x -a '128 160 224 256 384 512' -d 'length of the digests in bits'
@@ -11,8 +11,8 @@ complete -c b2sum -l raw -d 'print the bytes of a digest'
 complete -c b2sum -l key-file -r -d 'use the key in a file'
 complete -c b2sum -l personal -x -d personalization
 complete -c b2sum -l salt -x -d salt
-complete -c b2sum -l tree -x -a 65536 -d 'hash a tree with leaves of so many bytes'
-complete -c b2sum -l threads -x -d 'hash a tree by so many threads'
+complete -c b2sum -l tree -x -a 65536 -d 'hash a tree with leaves of this many bytes'
+complete -c b2sum -l threads -x -d 'hash a tree by this many threads'
 complete -c b2sum -l progress -d 'show the progress on a terminal'
 complete -c b2sum -l ignore-missing -d 'do not fail for missing files'
 complete -c b2sum -l quiet -d 'do not print OK'
