@@ -7,8 +7,8 @@ source "$(dirname "$(readlink -f "$0")")/common.sh"
 mingw=x86_64-w64-mingw32-gcc
 wine=$(command -v wine64 || ls /usr/lib/wine/wine64 2>/dev/null)
 server=$(command -v wineserver || ls /usr/lib/wine/wineserver 2>/dev/null)
-export WINEPREFIX=$work/wine WINEDEBUG=-all WINEDLLOVERRIDES="mscoree,mshtml=" RUST_BACKTRACE=0
-export WINE=$wine WINE_LOG=$work/wine_log
+export WINEPREFIX=$work/wine WINEDEBUG=-all,err+virtual WINEDLLOVERRIDES="mscoree,mshtml="
+export WINE=$wine WINE_LOG=$work/wine_log RUST_BACKTRACE=0
 by_wine=$tests/run_by_wine.sh
 exec </dev/null
 
@@ -52,6 +52,7 @@ stand_in_ends() {
 }
 runs_again() {
     local client="wine client error:0: recvmsg: Connection reset by peer" of="wineserver: no socket"
+    local first="err:virtual:virtual_alloc_first_teb wine: failed to map the shared user data"
     stand_in_ends 'exit 0' 0 1 "" 0 && stand_in_ends 'exit 1' 1 1 "" 0 &&
         stand_in_ends 'echo wrong >&2; exit 1' 1 1 wrong 0 &&
         stand_in_ends "echo '$client' >&2; exit 0" 0 1 "$client" 0 &&
@@ -60,6 +61,8 @@ runs_again() {
             3 2 "" 1 &&
         stand_in_ends "[ \$(wc -l <'$work/runs') -lt 3 ] || exit 0; echo '$of' >&2; exit 1" \
             0 3 "" 2 &&
+        stand_in_ends "[ \$(wc -l <'$work/runs') -lt 2 ] || exit 0; echo '$first' >&2; exit 1" \
+            0 2 "" 1 &&
         stand_in_ends "echo '$of' >&2; exit 9" 9 3 "$of" 3
 }
 
