@@ -100,6 +100,7 @@ fi
 needs aarch64-linux-gnu-gcc qemu-aarch64
 ls "$(rustc --print sysroot)/lib/rustlib/$arm/lib" >/dev/null 2>&1 ||
     missing="no standard library of Rust for $arm"
+[ -n "$missing" ] || has_compiler aarch64-linux-gnu-gcc || missing="no C library for $arm"
 check "the crate vulfsjor on 64-bit ARM" cargo_arm
 needs valgrind
 check_huge "a comparison takes equal time" cargo_here test --test programs -- --ignored equal_time

@@ -171,7 +171,7 @@ check_huge "packages of Debian" debian amd64
 # Whether the compiler for another processor is there, and its emulator.
 for_another() {
     missing=$built
-    [ -n "$missing" ] || has "$1" || missing="no $1"
+    [ -n "$missing" ] || has_compiler "$1" || missing="no $1 with a C library"
     [ -n "$missing" ] || has "qemu-${1%%-*}" || missing="no qemu-${1%%-*}"
 }
 for_another aarch64-linux-gnu-gcc

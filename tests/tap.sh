@@ -11,6 +11,10 @@ shown=()
 
 has() { command -v "$1" >/dev/null 2>&1; }
 
+# Whether there is this compiler, with its C library, which Debian's compilers for other processors
+# only recommend.
+has_compiler() { has "$1" && "$1" -E -include stdlib.h -x c /dev/null >/dev/null 2>&1; }
+
 # Prints the line of the next test: RESULT NAME [WHY IT IS SKIPPED]
 result() {
     [ "$ended" -gt 0 ] || echo "TAP version 13"

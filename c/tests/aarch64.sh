@@ -69,8 +69,8 @@ sums_for_arm() {
 
 test_aarch64() {
     local library
-    if ! has "$arm" || ! has qemu-aarch64 || ! has python3; then
-        skip "the library for aarch64" "no $arm, no qemu-aarch64 or no python3"
+    if ! has_compiler "$arm" || ! has qemu-aarch64 || ! has python3; then
+        skip "the library for aarch64" "no $arm with a C library, no qemu-aarch64 or no python3"
         return
     fi
     # test.c takes every eleventh case, since emulation is slow. The other programs run whole.

@@ -202,10 +202,11 @@ test_macos() {
     [ -n "$lipo" ] || missing="no llvm-lipo"
     check "an object for both processors, and a library by CMake" makes_universal
     needs
-    if has qemu-aarch64 && has aarch64-linux-gnu-gcc && has python3; then
+    if has qemu-aarch64 && has_compiler aarch64-linux-gnu-gcc && has python3; then
         check "apple_arguments.c by the convention of macOS on ARM" apple_arguments_run
     else
-        skip "apple_arguments.c" "no qemu-aarch64, no aarch64-linux-gnu-gcc or no python3"
+        skip "apple_arguments.c" \
+            "no qemu-aarch64, no aarch64-linux-gnu-gcc with a C library, or no python3"
     fi
 }
 

@@ -177,10 +177,10 @@ test_portable() {
     needs python3
     for name in riscv64 s390x i386 armhf ppc64el; do
         compiler=("${compilers[$name]}" -static) emulator=("${emulators[$name]}")
-        if has "${compiler[0]}" && has "${emulator[0]}"; then
+        if has_compiler "${compiler[0]}" && has "${emulator[0]}"; then
             test_there "$name"
         else
-            skip "the library for $name" "no ${compiler[0]} or no ${emulator[0]}"
+            skip "the library for $name" "no ${compiler[0]} with a C library, or no ${emulator[0]}"
         fi
     done
 }

@@ -46,6 +46,15 @@ def cannot_build():
     return absent(tools=["cc"]) or ("" if os.path.exists(header) else "no Python.h")
 
 
+def cannot_compile(compiler):
+    """Why this compiler for another processor can't be used, or ''. Debian's only recommend its C
+    library."""
+    if why := absent(tools=[compiler]):
+        return why
+    done = run(compiler, "-E", "-include", "stdlib.h", "-x", "c", os.devnull)
+    return f"no C library for {compiler}" if done.returncode else ""
+
+
 def run(*words, **named):
     """Runs a program, and returns what it has printed and its status."""
     return subprocess.run(words, stdout=subprocess.PIPE, stderr=subprocess.STDOUT, text=True,

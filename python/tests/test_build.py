@@ -21,11 +21,12 @@ import unittest
 import zipfile
 
 import support
-from support import FOLDER, HERE, HUGE, TOP, absent, long, run
+from support import FOLDER, HERE, HUGE, TOP, absent, cannot_compile, long, run
 
 MODULE = os.path.join(FOLDER, "vulfsjor", "_library.abi3.so")
 PACKAGE = {"__init__.py", "_library.abi3.so", "_library.pyi", "_threads.py", "py.typed"}
 X86 = platform.machine() == "x86_64"
+NO_ARM = cannot_compile("aarch64-linux-gnu-gcc")
 with open(os.path.join(TOP, "CHANGELOG.md"), encoding="utf-8") as PAGE:
     VERSION = re.search(r"^## ([0-9.]+)", PAGE.read(), re.MULTILINE)[1]
 ABOUT = f"vulfsjor-{VERSION}.dist-info"
@@ -369,7 +370,7 @@ class Build(Test):
         self.assertLess(self.time_of(lambda: self.succeeds("sh", "-ec", last, **named)), 5 * build)
         self.is_installed(*glob.glob(f"{self.folder}/a clone/venv/lib/python*/site-packages"))
 
-    @unittest.skipIf(absent(tools=["aarch64-linux-gnu-gcc"]), "no aarch64-linux-gnu-gcc")
+    @unittest.skipIf(NO_ARM, NO_ARM)
     def test_module_for_arm(self):
         """The module for 64-bit ARM is compiled and linked. Debian's headers have a pyconfig.h for
         each processor; that of this one serves, since both have numbers of the same sizes."""
