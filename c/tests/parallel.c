@@ -5,9 +5,7 @@
  *
  *   cc -std=c99 -DTEST_P -I FOLDER/include parallel.c ARCHIVE -o parallel
  *   cc the same with -DTEST_S                the same for BLAKE2sp */
-#include "check.h"
-#include "family.h"
-#include "texts.h"
+#include "states.h"
 
 /* The leaves, the bytes of a stripe, the most that are pending, and those of a key's blocks. */
 enum { LEAVES = 512 / BLOCK, STRIPE = 512, HELD = (2 * LEAVES - 1) * BLOCK, KEY_BLOCKS = 512 };
@@ -16,21 +14,7 @@ enum { LEAVES = 512 / BLOCK, STRIPE = 512, HELD = (2 * LEAVES - 1) * BLOCK, KEY_
 
 static uint8_t bytes[4 * STRIPE];
 
-static int is_zero(const state_t *state) {
-    static const state_t zeros;
-    return !memcmp(state, &zeros, sizeof zeros);
-}
-
 /* ---- test vectors */
-
-/* Absorbs bytes from..to of the message, from a separate allocation. */
-static void take(state_t *state, text message, size_t from, size_t to) {
-    text piece = copy_of(message.bytes + from, to - from);
-    uint64_t count = BLAKE(count)(state);
-    CHECK(BLAKE(update)(state, or_null(piece), piece.length) == 0);
-    CHECK(BLAKE(count)(state) == count + piece.length);
-    free(piece.bytes);
-}
 
 /* The digest of a copy is the wanted one, and the copy is then zeros, which no call takes. */
 static void gives(const state_t *state, text wanted) {

@@ -1,21 +1,7 @@
 /* Test vectors in one call, at every cut and in random pieces; tags, copies, resets, wiping; what
  * is refused; states of random bytes. Reads the lines of tests/vectors.py from the file that is
  * named, and returns 0 if all is as it should be. TEST_S is defined for BLAKE2s. */
-#include "check.h"
-#include "family.h"
-#include "texts.h"
-
-static int is_zero(const state_t *state) {
-    static const state_t zeros;
-    return !memcmp(state, &zeros, sizeof zeros);
-}
-
-/* Absorbs bytes from..to of the message, from a separate allocation. */
-static void take(state_t *state, text message, size_t from, size_t to) {
-    text piece = copy_of(message.bytes + from, to - from);
-    CHECK(BLAKE(update)(state, or_null(piece), piece.length) == 0);
-    free(piece.bytes);
-}
+#include "states.h"
 
 /* The digest of a copy is the wanted one, and the copy is then zeros. */
 static void gives(const state_t *state, text wanted) {

@@ -5,9 +5,7 @@
  *
  *   cc -std=c99 -DTEST_X -I FOLDER/include xof.c ARCHIVE -o xof
  *   cc the same with -DTEST_S                the same for BLAKE2Xs */
-#include "check.h"
-#include "family.h"
-#include "texts.h"
+#include "states.h"
 
 #define SAME(a, b) (!memcmp(&(a), &(b), sizeof(a)))
 #define UNKNOWN ((size_t)CONSTANT(UNKNOWN_LENGTH))
@@ -15,21 +13,7 @@
 
 static uint8_t bytes[2048];
 
-static int is_zero(const state_t *state) {
-    static const state_t zeros;
-    return !memcmp(state, &zeros, sizeof zeros);
-}
-
 /* ---- test vectors */
-
-/* Absorbs bytes from..to of the message, from a separate allocation. */
-static void take(state_t *state, text message, size_t from, size_t to) {
-    text piece = copy_of(message.bytes + from, to - from);
-    uint64_t count = BLAKE(count)(state);
-    CHECK(BLAKE(update)(state, or_null(piece), piece.length) == 0);
-    CHECK(BLAKE(count)(state) == count + piece.length);
-    free(piece.bytes);
-}
 
 /* Reads n bytes, those of the wanted output from `at` on, into an allocation of that length. */
 static void read_piece(state_t *state, text wanted, size_t at, size_t n) {
