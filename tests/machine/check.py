@@ -132,12 +132,21 @@ def look(path: str) -> Any:
     return [("ok", title, "")]
 
 
+def has_library(compiler: str) -> bool:
+    """Whether a compiler has its C library, which Debian's for other processors only recommend."""
+    words = [compiler, "-E", "-include", "stdlib.h", "-x", "c", os.devnull]
+    return not subprocess.run(words, capture_output=True, check=False).returncode
+
+
 def not_runnable(path: str) -> Any:
     """What is missing to run a file's instructions, or None."""
     kind = functions.architecture(path)
     runner = {"aarch64": "qemu-aarch64", "x86_64": "cc", "wasm": "node"}[kind]
     if missing(path) or not shutil.which(runner):
         return missing(path) or runner
+    compiler, _, _ = programs.TOOLS.get(kind, ([], None, []))
+    if compiler and not has_library(compiler[0]):
+        return "C library for " + compiler[0]
     needed = "avx512bw" if path.endswith("-v4.s") else "avx2"
     return needed.upper() if kind == "x86_64" and not has_flag(needed) else None
 
