@@ -5,8 +5,8 @@
  *
  * MAIN is the main of the assembly file, such as main_1_x86. On x86-64 it calls functions of the
  * library by the level that choose.c finds first. END is a function that gets the status of MAIN and
- * returns that of the process; FREE and REALLOC are then used instead of free and realloc. On Windows
- * the compiler needs -municode. */
+ * argument 0, which is empty if there is none, and returns the status of the process; FREE and
+ * REALLOC are then used instead of free and realloc. On Windows the compiler needs -municode. */
 #include <errno.h>
 #include <stdbool.h>
 #include <stddef.h>
@@ -44,17 +44,19 @@ static int start(void) { return MAIN(); }
 #endif
 
 #ifdef END
-int END(int status);
+int END(int status, const char *path);
 void FREE(void *place);
 void *REALLOC(void *place, size_t size);
 #else
-#define END(status) (status)
+#define END(status, path) (status)
 #define FREE free
 #define REALLOC realloc
 #endif
 
 static size_t count;
 static char **arguments;
+
+static int end(int status) { return END(status, count ? arguments[0] : ""); }
 
 #ifdef _WIN32
 /* A copy of the text in UTF-8, in which U+FFFD replaces what is not Unicode, and / replaces \, which
@@ -70,13 +72,21 @@ static char *utf8(const wchar_t *text) {
     return copy;
 }
 
+/* Cuts off .exe, with which a program may be called by its name or not. */
+static void cut_suffix(char *path) {
+    const size_t length = strlen(path);
+
+    if (length >= 4 && !_stricmp(path + length - 4, ".exe")) path[length - 4] = 0;
+}
+
 /* The arguments in UTF-8, and streams that change no byte. */
 int wmain(int argc, wchar_t **argv) {
     arguments = malloc(((size_t)argc + 1) * sizeof *arguments);
     if (!arguments) abort();
     for (count = 0; count < (size_t)argc; count++) arguments[count] = utf8(argv[count]);
+    if (count) cut_suffix(arguments[0]);
     for (int file = 0; file <= 2; file++) _setmode(file, _O_BINARY);
-    return END(start());
+    return end(start());
 }
 
 /* At most 2^30 bytes a call, since lengths of Windows have 32 bits. */
@@ -101,7 +111,7 @@ OF_TEXT void *b2_signal(int signal, void *handler) {
 int main(int argc, char **argv) {
     count = (size_t)argc;
     arguments = argv;
-    return END(start());
+    return end(start());
 }
 #endif
 

@@ -33,7 +33,7 @@ HIDDEN OF_TEXT int b2sum_strerror(int error, char *text, size_t size);
 HIDDEN OF_TEXT void (*b2sum_signal(int number, void (*handler)(int)))(int);
 HIDDEN void *b2sum_realloc(void *place, size_t size);
 HIDDEN void b2sum_free(void *place);
-HIDDEN int b2sum_end(int status);
+HIDDEN int b2sum_end(int status, const char *path);
 
 /* The name of a function of the assembly file, from a macro. */
 #define STRING_OF(words) #words
@@ -124,19 +124,22 @@ __attribute__((constructor)) static void use_utf8(void) {
 /* Whether standard input was read. */
 static bool is_input_read;
 
-/* Prints that something has failed, and why. Returns the status for that. */
-static int complain(const char *what) {
-    dprintf(STDERR_FILENO, "b2sum: %s: %s\n", what, strerror(errno));
+/* Prints that something has failed, and why, as a message of the program of this path: its name is
+ * what is after the last slash, or b2sum if that is empty. Returns the status for that. */
+static int complain(const char *path, const char *what) {
+    const char *slash = strrchr(path, '/'), *name = slash ? slash + 1 : path;
+
+    dprintf(STDERR_FILENO, "%s: %s: %s\n", *name ? name : "b2sum", what, strerror(errno));
     return 1;
 }
 
 /* Closes standard input, if it was read, and the outputs, since some systems report only then that
- * a write failed. Returns the status of the process: the one of the program, or 1. An output that
- * was not open is no error. */
-int b2sum_end(int status) {
+ * a write failed. Returns the status of the process: the one of the program, which has this path,
+ * or 1. An output that was not open is no error. */
+int b2sum_end(int status, const char *path) {
     if (is_secret) wipe_stack();
-    if (is_input_read && close(STDIN_FILENO)) status = complain("standard input");
-    if (close(STDOUT_FILENO) && errno != EBADF) status = complain("write error");
+    if (is_input_read && close(STDIN_FILENO)) status = complain(path, "standard input");
+    if (close(STDOUT_FILENO) && errno != EBADF) status = complain(path, "write error");
     return close(STDERR_FILENO) && errno != EBADF ? 1 : status;
 }
 

@@ -66,6 +66,7 @@ WRONG = {
 # A key is in the options and, while a file is read, in the state: in its pending block, or in one for each leaf, and in
 # that of a reset.
 MOST_COPIES = {"b": 3, "s": 3, "bp": 6, "sp": 10}
+NAME_REQUESTS = 3  # for memory, before the name of the program is known
 FILES = {"a": b"", "b": b"abc", "with\nline": b"x" * 1000, "caf\udcff": bytes(range(256)) * 5}
 
 
@@ -106,12 +107,12 @@ class Runs:
         with open(self.path(name), "wb") as file:
             file.write(data)
 
-    def run(self, words, data=b"", **more):
+    def run(self, words, data=b"", called="b2sum", **more):
         """What the program prints to both streams, and its status."""
         more = {"env": {"LC_ALL": "C"}, "stdout": subprocess.PIPE, "stderr": subprocess.PIPE, "timeout": 100, **more}
         if "stdin" not in more:
             more["input"] = data
-        done = subprocess.run(["b2sum", *words], executable=self.program, cwd=self.folder, **more)
+        done = subprocess.run([called, *words], executable=self.program, cwd=self.folder, **more)
         return done.stdout or b"", done.stderr or b"", done.returncode
 
     def wants(self, words, out, err="", status=0, data=b"", **more):
@@ -624,6 +625,39 @@ def test_outputs(runs):
     runs.ends("outputs that are full or closed")
 
 
+def test_called(runs):
+    """Messages, the usage and the pointer to it have the last part of argument 0, or `b2sum` if that is empty."""
+    runs.write("sums", line("b", b"abd").encode() + b"x\n")
+    usage, version = (runs.run([word])[0] for word in ("--help", "--version"))
+    first = b"Usage: b2sum [OPTION].. [FILE]..\n"
+    runs.holds("the usage", usage.startswith(first) and usage.count(b"b2sum") == 1, usage)
+    missing, no_space = (os.strerror(it).encode() for it in (errno.ENOENT, errno.ENOSPC))
+    for path, name in (("vulfsjor-b2sum", b""), ("/usr/bin/vulfsjor-b2sum", b"vulfsjor-b2sum"),
+                       ("./b2sum.exe", b"b2sum.exe"), ("a b/c\n\udcff d", b"c\n\xff d"), ("//s", b"s"),
+                       ("x" * 255 + "/" + "y" * 256, b"y" * 256), ("z" * 70000, b""), ("", b"b2sum"), ("a/", b"b2sum"),
+                       ("/", b"b2sum")):
+        name = name or os.fsencode(path)
+        for words, out, said in (
+                (["none"], b"", b"%s: none: " + missing), (["-c", "none"], b"", b"%s: none: " + missing),
+                (["-x"], b"", b"%s: invalid option -- 'x'\nTry '%s --help' for more information."),
+                (["-l", "7"], b"", b"%s: invalid length: '7'\n%s: length is not a multiple of 8"),
+                (["--key-file", "a", "b"], b"", b"%s: a: a key has 1 to 64 bytes"),
+                (["-cw", "sums"], b"b: FAILED\n", b"%s: sums: 2: improperly formatted BLAKE2b checksum line\n"
+                 b"%s: WARNING: 1 line is improperly formatted\n%s: WARNING: 1 computed checksum did NOT match")):
+            got = runs.run(words, called=path)
+            runs.holds([path[:99], *words], got == (out, said.replace(b"%s", name) + b"\n", 1), got)
+        runs.holds([path[:99], "--help"], runs.run(["--help"], called=path) ==
+                   (usage.replace(b"b2sum", name), b"", 0))
+        runs.holds([path[:99], "--version"], runs.run(["--version"], called=path) == (version, b"", 0))
+        with open("/dev/full", "wb") as full:
+            got = runs.run(["--help"], called=path, stdout=full)
+        runs.holds([path[:99], "/dev/full"], got == (b"", name + b": write error: " + no_space + b"\n", 1), got)
+    os.symlink(runs.program, runs.path("linked sum"))
+    done = subprocess.run([runs.path("linked sum"), "none"], stderr=subprocess.PIPE)
+    runs.holds("a link", done.stderr == b"linked sum: none: " + missing + b"\n", done.stderr)
+    runs.ends("other names of the program")
+
+
 def test_pipes(runs):
     """A pipe that nobody reads ends the program by SIGPIPE, unless it was ignored when the program started."""
     sums = os.fsencode(lines())
@@ -670,6 +704,9 @@ def test_closing(runs):
         runs.holds(["close", at], got == wanted, got)
     got = fault(runs, ["b"], b"", "close", 2, 3, errno.EBADF)
     runs.holds("closing what is closed", got == (whole, b"", 0), got)
+    for path in "sums", "/usr/bin/sums":
+        got = fault(runs, ["b"], b"", "close", 2, 2, errno.EDQUOT, path)
+        runs.holds([path, "close"], got == (whole, quota.replace(b"b2sum", b"sums"), 1), got)
     runs.ends("outputs whose closing fails")
 
 
@@ -749,10 +786,10 @@ def test_memory(runs):
 
 # ---- Faults.
 
-def fault(runs, words, data, call, at, last, error):
+def fault(runs, words, data, call, at, last, error, called="b2sum"):
     """A run in which these calls of a function fail, or nothing if it makes no such call."""
     hit = runs.path("hit")
-    got = runs.run(words, data, env={
+    got = runs.run(words, data, called, env={
         "LC_ALL": "C", "LD_PRELOAD": os.environ["FAULTS"], "FAULT_CALL": call, "FAULT_AT": str(at),
         "FAULT_LAST": str(last), "FAULT_ERROR": str(error), "FAULT_HIT": hit})
     if not os.path.exists(hit):
@@ -792,6 +829,10 @@ def test_faults(runs):
                 runs.holds([words, call, at, last], fault(runs, words, data, call, at, last, 0) == whole)
     runs.holds("a write of no byte", fault(runs, ["b"], b"", "write", 1, 1, -1) ==
                (b"", b"b2sum: write error: write zero\n", 1))
+    for at in range(1, 9):
+        got = fault(runs, ["b"], b"", "malloc", at, 1 << 30, errno.ENOMEM, "/bin/sums")
+        name = b"b2sum" if at <= NAME_REQUESTS else b"sums"
+        runs.holds(["another name", at], got == (b"", name + b": memory exhausted\n", 1), got)
     runs.ends("each read, open, write and request for memory fails in turn")
 
 
@@ -807,8 +848,8 @@ def said(call, error, err):
 COMPUTING = (test_lengths, test_parameters, test_parallel, test_demanded_lengths, test_shapes, test_trees)
 CALLING_ALL = (test_shapes, test_parallel, test_trees)
 TESTS = (*COMPUTING, test_needs, test_tags, test_names, test_coreutils, test_differences, test_key_input, test_system,
-         test_changes, test_outputs, test_pipes, test_streams, test_closing, test_progress, test_large, test_memory,
-         test_secrets, test_faults)
+         test_changes, test_outputs, test_called, test_pipes, test_streams, test_closing, test_progress, test_large,
+         test_memory, test_secrets, test_faults)
 FAULTY = (test_changes, test_closing, test_secrets, test_faults)
 
 

@@ -111,6 +111,8 @@ for file in b2sum c/system.h c/include/vulfsjor_threads.h $(inputs); do
 done
 run "$repository/b2sum" --build "$work/sum of files"
 check "b2sum --build builds it as that file" [ -x "$work/sum of files" ]
+cp "$BASH" "$sums" && run "$work/linked sum" --nothing
+check "the program has the name of the script, or of a link to it" says "linked sum: --nothing: "
 rm "$program" "$sums"
 
 # What stops a build, and what is assembled for other machines.

@@ -131,12 +131,13 @@ find_program() {
     build "$program" "$machine-"
 }
 
-# Runs the program with these arguments. `--build FILE` builds it as FILE instead.
+# Runs the program with these arguments, by the name of the script, which its messages begin with. `--build FILE` builds
+# it as FILE instead.
 run_program() {
     if [ "${1-},$#" = --build,2 ]; then
         build "$2"
     else
         find_program
-        exec "$program" "$@"
+        exec -a "$0" "$program" "$@"
     fi
 }

@@ -27,7 +27,7 @@ ssize_t b2sum_read(int file, void *bytes, size_t size);
 int b2sum_close(int file);
 int b2sum_strerror(int error, char *text, size_t size);
 void (*b2sum_signal(int number, void (*handler)(int)))(int);
-int b2sum_end(int status);
+int b2sum_end(int status, const char *path);
 
 static int fails;
 #define CHECK(condition)                                          \
@@ -164,13 +164,16 @@ static void check_open(void) {
     CHECK(b2sum_open("a", O_RDWR | O_CREAT) == 9 && opened_flags == (O_RDONLY | O_CLOEXEC));
 }
 
+/* The path by which the program is called. */
+static const char *called = "b2sum";
+
 /* What the end with this status returns if the closing of the outputs fails by these errors, and
  * that both are closed. */
 static int ends_with(int status, int output, int messages) {
     closed_count = said[0] = 0;
     error_of_close[1] = output;
     error_of_close[2] = messages;
-    status = b2sum_end(status);
+    status = b2sum_end(status, called);
     CHECK(closed_count == 2 && closed[0] == 1 && closed[1] == 2);
     return status;
 }
@@ -180,7 +183,7 @@ static int ends_after_input(int status, int input) {
     closed_count = said[0] = error_of_close[1] = error_of_close[2] = 0;
     error_of_close[0] = input;
     says_input = 1;
-    status = b2sum_end(status);
+    status = b2sum_end(status, called);
     says_input = 0;
     CHECK(closed_count == 3 && closed[0] == 0 && closed[1] == 1 && closed[2] == 2);
     return status;
@@ -216,6 +219,20 @@ static void check_end(void) {
               !strcmp(said, "b2sum: write error: Quota exceeded\n")); /* musl */
         CHECK(ends_with(status, EIO, EIO) == 1 && !strncmp(said, "b2sum: write error: I", 21));
     }
+}
+
+/* Messages begin with the last part of the path, or with the usual name if that is empty. */
+static void check_names(void) {
+    static const char *const paths[] = {"sums",   "/usr/bin/sums", "./a b/sums",
+                                        "//sums", "",              "sums/"};
+
+    for (size_t i = 0; i < sizeof paths / sizeof *paths; i++) {
+        called = paths[i];
+        CHECK(ends_with(0, EIO, 0) == 1);
+        CHECK(!strncmp(said, i < 4 ? "sums: write error: I" : "b2sum: write error: I",
+                       i < 4 ? 20 : 21));
+    }
+    called = "b2sum";
 }
 
 /* The runtime's wish to ignore SIGPIPE changes nothing. */
@@ -446,7 +463,7 @@ static int wipes_stack(int is_secret) {
     left[1] = left_on_stack();
     closed_count = 0;
     leave_on_stack();
-    b2sum_end(0);
+    b2sum_end(0, called);
     left[2] = left_on_stack();
     for (int i = 0; i < 3; i++)
         if (is_secret ? left[i] > DEEP / 50 : left[i] < DEEP / 2) return 0;
@@ -543,6 +560,7 @@ int checks(void) {
     is_terminal = !getenv("NO_TERMINAL");
     is_shown = is_terminal && is_wanted;
     check_end();
+    check_names();
     if (!is_wanted) check_input();
     if (is_wanted) show_progress();
     if (is_shown) {

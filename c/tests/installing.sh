@@ -410,9 +410,11 @@ is_plain() {
         [ "$(PKG_CONFIG_PATH=$1 pkg-config --cflags --libs vulfsjor | sed 's/ *$//')" = -lvulfsjor ]
 }
 
-# The man pages and completions have the name of the program with the prefix, and no other line differs.
+# The man pages and completions have the name of the program with the prefix, and no other line differs. So do the
+# messages of b2sum.
 follows_the_prefix() {
     local name share=$1/share
+    [ "$("$1/bin/vulfsjor-b2sum" none 2>&1)" = "vulfsjor-b2sum: none: No such file or directory" ] || return
     for name in b2 b2sum; do
         head -4 "$share/man/man1/vulfsjor-$name.1" |
             grep -q "^\.TH VULFSJOR-$(tr '[:lower:]' '[:upper:]' <<<$name) 1 " &&

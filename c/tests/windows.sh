@@ -218,6 +218,14 @@ sums_are_checked() {
         grep -qx 'empty: FAILED' ../said &&
         diff ../errors - <<<'b2sum: WARNING: 1 computed checksum did NOT match' && : >empty
 }
+# Messages begin with the name of the program, without .exe.
+sums_by_other_names() {
+    local name
+    cd "$work/sums" && for name in vulfsjor-b2sum.exe 'b s.EXE'; do
+        cp ../b2sum.exe "$work/$name" && ! "$by_wine" "$work/$name" none 2>../said &&
+            diff ../said - <<<"${name%.[eE][xX][eE]}: none: No such file or directory" || return
+    done
+}
 # Folders, devices, keys, trees by threads, and progress, which nobody sees here.
 sums_of_others() {
     cd "$work/sums" && ! "$work/b2sum" dir dir/none NUL >../said 2>../errors &&
@@ -318,6 +326,7 @@ test_windows() {
     check_by_wine "trees by threads on Windows" threads_for_windows
     if check "b2sum.exe" build_sums; then
         check_by_wine "b2sum.exe over files" sums_of_files
+        check_by_wine "b2sum.exe by other names" sums_by_other_names
         check_by_wine "b2sum.exe --check" sums_are_checked
         check_by_wine "b2sum.exe over folders, devices and with a key" sums_of_others
         check_by_wine "b2sum.exe next to coreutils" sums_next_to_coreutils \

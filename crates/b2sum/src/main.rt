@@ -5,12 +5,13 @@
 mod disk;
 mod hashes;
 
-use b2sum_commands::{Host, Session, run};
+use b2sum_commands::{Host, Program, Session, run};
 use blake2::streams::write_whole;
 use disk::{Opened, System, Writer};
 use hashes::Blake2;
 use std::alloc::{AllocError, Global};
 use std::env::FillError;
+use std::io::Write;
 use std::process::ExitCode;
 use std::rt::Env;
 
@@ -18,24 +19,42 @@ use std::rt::Env;
 const USUAL_ARGUMENT: usize = 256;
 
 fn main(rt: HostRuntime) -> ExitCode {
-    let host = Host {
-        alloc: rt.alloc(),
-        hashes: Blake2,
-        disk: System { files: &rt },
+    let Ok(program) = program(&rt, rt.alloc()) else {
+        return exhausted(rt.stderr(), b"b2sum");
     };
     let output = Writer::new(rt.stdout());
     let messages = Writer::new(rt.stderr());
     let input = Opened::input(rt.stdin());
     let session = Session::new(rt.alloc(), input, output, messages);
     let words = arguments(&rt, rt.alloc());
-    let status = match (session, words) {
-        (Ok(mut session), Ok(words)) => run(&host, &mut session, words.as_slice()),
-        _ => {
-            let _ = write_whole(&mut Writer::new(rt.stderr()), b"b2sum: memory exhausted\n");
-            1
+    match (session, words) {
+        (Ok(mut session), Ok(words)) => {
+            let host = Host {
+                program,
+                hashes: Blake2,
+                disk: System { files: &rt },
+            };
+            ExitCode::from(run(&host, &mut session, words.as_slice()))
         }
-    };
-    ExitCode::from(status)
+        _ => exhausted(rt.stderr(), program.name.as_slice()),
+    }
+}
+
+// Prints that an allocation failed, in a message of the program of this name. Returns the status.
+fn exhausted(messages: impl Write + Drop, name: &[u8]) -> ExitCode {
+    let mut messages = Writer::new(messages);
+    if write_whole(&mut messages, name).is_ok() {
+        let _ = write_whole(&mut messages, b": memory exhausted\n");
+    }
+    ExitCode::from(1)
+}
+
+// Returns the program, by argument 0. If there is none, it has the usual name.
+fn program(env: &impl Env, alloc: Global) -> Result<Program, AllocError> {
+    match argument(env, alloc, 0)? {
+        Some(path) => Program::new(alloc, path.as_slice()),
+        None => Program::new(alloc, b""),
+    }
 }
 
 // Returns the arguments without the program's name, as bytes.

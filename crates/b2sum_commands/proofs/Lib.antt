@@ -8,3 +8,4 @@ pub mod Stopping
 pub mod Doing
 pub mod Telling
 pub mod Stops
+pub mod Naming

@@ -1,5 +1,6 @@
 pub mod Found
 pub mod World
+pub mod Name
 pub mod Sums
 pub mod Manifests
 pub mod LineReads

@@ -1,6 +1,6 @@
 -- What a run did for its command line.
-use Rattle.std.specs.Prelude.{◌≡◌, ℕ, Bool, true, false, if◌then◌else◌, List, Option, Result}
-use Rattle.std.specs.Prelude.{Ok, Err, Some, None, IfSome, ◌⊎◌}
+use Rattle.std.specs.Prelude.{◌≡◌, ℕ, Bool, true, false, if◌then◌else◌, List, ◌++◌, codes, Option}
+use Rattle.std.specs.Prelude.{Result, Ok, Err, Some, None, IfSome, ◌⊎◌}
 use Rattle.std.specs.Io.KnownBytes.{Appends}
 use Rattle.b2sum_lines.specs.Lines.{max_bytes}
 use Rattle.b2sum_lines.specs.declared.entry.Spacing.TheVariants.{Open}
@@ -68,6 +68,10 @@ abbrev pub DoesChoice : World → Choice → List (List ℕ) → Streams → Str
 DoesChoice w c names old new end =
     DoesTask w c names old new end ⊎ IsUnbegun w c old new end
 
+-- The help of the program of this name, with what comes after that.
+abbrev pub help_of : List ℕ → List ℕ → List ℕ
+help_of name text = codes "Usage: " ++ name ++ text
+
 -- A text is printed. If there is no result, nothing or a part of it is.
 abbrev pub PrintsText : List ℕ → Streams → Streams → Option Bool → Type 0
 PrintsText text old new (Some well) = (well ≡ true) × Appends old.held new.held text
@@ -90,13 +94,14 @@ DoesLine w help version (Err Versioned) old new end = PrintsText version old new
 DoesLine w help version (Err Refused) old new end = IsRefused old new end
 DoesLine w help version (Ok read) old new end = DoesChoice w read.0 read.1 old new end
 
--- A run did what its command line means, or an error ended that, as the last message says.
-abbrev pub RunsLine : World → List ℕ → List ℕ → Result (Choice × List (List ℕ)) End → Streams
-    → Streams → Option Bool → Type 0
-RunsLine w help version line old new (Some well) =
+-- A run of the program of this name did what its command line means, or an error ended that, as
+-- the last message says.
+abbrev pub RunsLine : List ℕ → World → List ℕ → List ℕ → Result (Choice × List (List ℕ)) End
+    → Streams → Streams → Option Bool → Type 0
+RunsLine name w help version line old new (Some well) =
     DoesLine w help version line old new (Some well)
-RunsLine w help version line old new None =
-    (mid : Streams) × DoesLine w help version line old mid None × IsEnded mid new
+RunsLine name w help version line old new None =
+    (mid : Streams) × DoesLine w help version line old mid None × IsEnded name mid new
 
 -- The status of a run: 0 if all went well.
 abbrev pub status_of : Option Bool → ℕ

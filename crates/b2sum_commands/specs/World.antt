@@ -59,12 +59,12 @@ HasMore was_failed is_failed old new =
 abbrev pub StopsIn : Option (List ℕ) → Option (List ℕ) → List ℕ → Type 0
 StopsIn old new text = (new ≡ old) ⊎ TakesPart old new text
 
--- An error ended a run, as one more message says: an allocation failed, or a write to the output,
--- with the reason. Nothing else is printed.
-pub record IsEnded (old new : Streams) : Type 0 where
+-- An error ended a run of the program of this name, as one more message says: an allocation failed,
+-- or a write to the output, with the reason. Nothing else is printed.
+pub record IsEnded (name : List ℕ) (old new : Streams) : Type 0 where
   pub line : List ℕ
-  pub cause : (line ≡ codes "b2sum: memory exhausted\n") ⊎ ((new.output_failed ≡ true)
-      × (reason : List ℕ) × (line ≡ codes "b2sum: write error" ++ reason ++ (10 ∷ [])))
+  pub cause : (line ≡ name ++ codes ": memory exhausted\n") ⊎ ((new.output_failed ≡ true)
+      × (reason : List ℕ) × (line ≡ name ++ codes ": write error" ++ reason ++ (10 ∷ [])))
   pub told : IsWritten old.messages_failed new.messages_failed old.told new.told line
   pub held : new.held ≡ old.held
 

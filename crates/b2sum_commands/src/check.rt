@@ -32,7 +32,7 @@ use crate::line_reader::{LineEnd, LineReader};
 use crate::messages::{warn, warn_of_count, warn_of_file};
 use crate::options::{Options, Report};
 use crate::quoting::quoted_name;
-use crate::session::{Host, Session};
+use crate::session::{Host, Program, Session};
 use crate::sums::{Read, digest_file, is_dash};
 use b2sum_lines::{Entry, Spacing, Style, push_escaped, read_line};
 use blake2_digest::is_same;
@@ -177,10 +177,10 @@ pub fn check_manifest<H: Hashes, D: Disk, K: Output, E: Sink>(
     let title = manifest.title.as_slice();
     let lacks = session.lacks;
     session.lacks = Lacks::none();
-    tell_lacks(host.alloc, options, title, lacks, &mut session.messages)?;
+    tell_lacks(&host.program, options, title, lacks, &mut session.messages)?;
     let Some(counts) = found else {
         warn(
-            host.alloc,
+            &host.program,
             &mut session.messages,
             title,
             b": ",
@@ -188,7 +188,13 @@ pub fn check_manifest<H: Hashes, D: Disk, K: Output, E: Sink>(
         )?;
         return Ok(false);
     };
-    report(host.alloc, options, title, &counts, &mut session.messages)?;
+    report(
+        &host.program,
+        options,
+        title,
+        &counts,
+        &mut session.messages,
+    )?;
     Ok(counts.holds(options.is_strict))
 }
 
@@ -244,8 +250,8 @@ fn open_manifest<H, D: Disk, K: Output, E: Sink>(
         then session.old.left else (D.files host.now.disk).holds name.now)))) }
     ensures memory { IsOkUnless result Fault.NoMemory }
 {
-    let title = quoted_name(host.alloc, title_of(name))?;
-    let lines = LineReader::new(host.alloc)?;
+    let title = quoted_name(host.program.alloc, title_of(name))?;
+    let lines = LineReader::new(host.program.alloc)?;
     if is_dash(name) {
         return Ok(Some(Manifest {
             title,
@@ -253,14 +259,14 @@ fn open_manifest<H, D: Disk, K: Output, E: Sink>(
             lines,
         }));
     }
-    match host.disk.open(host.alloc, name) {
+    match host.disk.open(host.program.alloc, name) {
         Ok(file) => Ok(Some(Manifest {
             title,
             file: Some(file),
             lines,
         })),
         Err(error) => {
-            warn_of_file(host.alloc, error, &mut session.messages, name)?;
+            warn_of_file(&host.program, error, &mut session.messages, name)?;
             Ok(None)
         }
     }
@@ -299,7 +305,7 @@ fn check_lines<H: Hashes, D: Disk, K: Output, E: Sink>(
     ensures write { IsErrOf result Fault.WriteFailed → session.new.output_failed ≡ true }
 {
     let mut counts = Counts::none();
-    let mut line = Vec::new(host.alloc);
+    let mut line = Vec::new(host.program.alloc);
     for number in 1..u64::MAX {
         let end = manifest.read_line(&mut session.input, &mut line)?;
         if end != LineEnd::Newline && line.is_empty() {
@@ -344,13 +350,13 @@ fn check_line<H: Hashes, D: Disk, K: Output, E: Sink>(
     ensures write { IsErrOf result Fault.WriteFailed → session.new.output_failed ≡ true }
 {
     let is_input = manifest.is_input();
-    let item = read_item(host.alloc, options, session.spacing, is_input, line)?;
+    let item = read_item(host.program.alloc, options, session.spacing, is_input, line)?;
     match item {
         Item::Comment => Ok(Verdict::Comment),
         Item::Malformed(lacks) => {
             session.lacks.add(lacks);
             let title = manifest.title.as_slice();
-            warn_of_line(host.alloc, options, title, number, &mut session.messages)?;
+            warn_of_line(&host.program, options, title, number, &mut session.messages)?;
             Ok(Verdict::Malformed)
         }
         Item::Listed(entry) => {
@@ -468,7 +474,7 @@ fn check_entry<H: Hashes, D: Disk, K: Output, E: Sink>(
     let all = &digest[..];
     let verdict = verdict_of(read, &all[..size], entry.digest.as_slice());
     let outcome = outcome_of(options.report, verdict);
-    print_outcome(host.alloc, &mut session.output, name, outcome)?;
+    print_outcome(host.program.alloc, &mut session.output, name, outcome)?;
     Ok(verdict)
 }
 
@@ -535,7 +541,7 @@ fn print_outcome<K: Sink>(
 
 // Prints the message of a line that is not properly formatted, if the options want it.
 fn warn_of_line<E: Sink>(
-    alloc: Global,
+    program: &Program,
     options: &Options,
     title: &[u8],
     number: u64,
@@ -546,18 +552,24 @@ fn warn_of_line<E: Sink>(
     if options.report != Report::Warnings {
         return Ok(());
     }
-    let mut place = Vec::new(alloc);
+    let mut place = Vec::new(program.alloc);
     place.extend_from_slice(b": ")?;
     push_decimal(&mut place, number)?;
     place.extend_from_slice(b": improperly formatted ")?;
-    place.extend_from_slice(options.algorithm.tag(alloc)?.as_slice())?;
-    warn(alloc, messages, title, place.as_slice(), b" checksum line")?;
+    place.extend_from_slice(options.algorithm.tag(program.alloc)?.as_slice())?;
+    warn(
+        program,
+        messages,
+        title,
+        place.as_slice(),
+        b" checksum line",
+    )?;
     Ok(())
 }
 
 // Prints the messages of a manifest that was read.
 fn report<E: Sink>(
-    alloc: Global,
+    program: &Program,
     options: &Options,
     title: &[u8],
     counts: &Counts,
@@ -567,7 +579,7 @@ fn report<E: Sink>(
 {
     if counts.has_no_entry() {
         warn(
-            alloc,
+            program,
             messages,
             title,
             b": no properly formatted checksum lines found",
@@ -579,28 +591,28 @@ fn report<E: Sink>(
         return Ok(());
     }
     warn_of_count(
-        alloc,
+        program,
         messages,
         counts.malformed,
         b" line is improperly formatted",
         b" lines are improperly formatted",
     )?;
     warn_of_count(
-        alloc,
+        program,
         messages,
         counts.unread,
         b" listed file could not be read",
         b" listed files could not be read",
     )?;
     warn_of_count(
-        alloc,
+        program,
         messages,
         counts.different,
         b" computed checksum did NOT match",
         b" computed checksums did NOT match",
     )?;
     if options.ignores_missing && counts.equal == 0 {
-        warn(alloc, messages, title, b": no file was verified", b"")?;
+        warn(program, messages, title, b": no file was verified", b"")?;
     }
     Ok(())
 }

@@ -7,13 +7,14 @@ ghost use Rattle.b2sum_commands.specs.World.{HasMessage, IsKey, IsNoKey};
 
 use crate::devices::{Disk, Fault, OpenFile};
 use crate::messages::{warn_of_file, warn_of_name};
+use crate::session::Program;
 use blake2_streams::{Sink, Source};
 use std::alloc::Global;
 
 /// Returns the bytes of the key's file, all of them, at least 1 and at most `most`. For another
 /// file the result is `None`, after a message. The error is `Fault::NoMemory`.
 pub(crate) fn read_key<D: Disk, E: Sink>(
-    alloc: Global,
+    program: &Program,
     disk: &D,
     name: &[u8],
     most: usize,
@@ -30,19 +31,19 @@ pub(crate) fn read_key<D: Disk, E: Sink>(
         (E.failed messages.new) (E.held messages.old) (E.held messages.new)) }
     ensures memory { IsOkUnless result Fault.NoMemory }
 {
-    let mut file = match disk.open(alloc, name) {
+    let mut file = match disk.open(program.alloc, name) {
         Ok(file) => file,
         Err(error) => {
-            warn_of_file(alloc, error, messages, name)?;
+            warn_of_file(program, error, messages, name)?;
             return Ok(None);
         }
     };
-    read_key_from(alloc, &mut file, name, most, messages)
+    read_key_from(program, &mut file, name, most, messages)
 }
 
 /// Returns all bytes of an open file of this name as the key, as `read_key` does.
 pub(crate) fn read_key_from<F: OpenFile, E: Sink>(
-    alloc: Global,
+    program: &Program,
     file: &mut F,
     name: &[u8],
     most: usize,
@@ -57,8 +58,8 @@ pub(crate) fn read_key_from<F: OpenFile, E: Sink>(
         (E.failed messages.new) (E.held messages.old) (E.held messages.new)) }
     ensures memory { IsOkUnless result Fault.NoMemory }
 {
-    let Some(key) = read_bytes(alloc, file, most)? else {
-        warn_of_file(alloc, file.reason(), messages, name)?;
+    let Some(key) = read_bytes(program.alloc, file, most)? else {
+        warn_of_file(program, file.reason(), messages, name)?;
         return Ok(None);
     };
     if key.is_empty() || key.len() > most {
@@ -67,7 +68,7 @@ pub(crate) fn read_key_from<F: OpenFile, E: Sink>(
         } else {
             b"a key of BLAKE2s or BLAKE2sp has 1 to 32 bytes"
         };
-        warn_of_name(alloc, messages, name, reason)?;
+        warn_of_name(program, messages, name, reason)?;
         return Ok(None);
     }
     Ok(Some(key))

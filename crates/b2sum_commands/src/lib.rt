@@ -25,5 +25,5 @@ pub use devices::{Disk, Fault, OpenFile, Output};
 pub use hashes::{Function, Hashes};
 pub use options::{Options, Report, Shape};
 pub use program::run;
-pub use session::{Host, Session};
+pub use session::{Host, Program, Session};
 pub use sums::print_sums;

@@ -6,9 +6,10 @@ ghost use Rattle.b2sum_commands.specs.Manifests.{same_needs};
 
 use crate::messages::warn;
 use crate::options::{Options, Report};
+use crate::session::Program;
 use b2sum_lines::{Algorithm, Entry, Needs, Style};
 use blake2_streams::Sink;
-use std::alloc::{AllocError, Global};
+use std::alloc::AllocError;
 
 /// Returns whether a line of this style needs what the options have, and nothing else. A line
 /// without a tag does not say what it needs.
@@ -116,16 +117,16 @@ impl Lacks {
 
 /// Prints the message of lines of the manifest of this title that need options, if there are any.
 pub(crate) fn tell_lacks<E: Sink>(
-    alloc: Global,
+    program: &Program,
     options: &Options,
     title: &[u8],
     lacks: Lacks,
     messages: &mut E,
 ) -> Result<(), AllocError> {
-    let mut text = Vec::new(alloc);
+    let mut text = Vec::new(program.alloc);
     lacks.push_options(&mut text)?;
     if text.is_empty() || options.report == Report::Nothing {
         return Ok(());
     }
-    warn(alloc, messages, title, b": lines need", text.as_slice())
+    warn(program, messages, title, b": lines need", text.as_slice())
 }

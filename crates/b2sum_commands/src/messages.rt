@@ -5,14 +5,15 @@ ghost use Rattle.b2sum_commands.specs.World.{IsWritten, HasMessage};
 
 use crate::devices::tell;
 use crate::quoting::quoted_name;
+use crate::session::Program;
 use blake2_streams::Sink;
 use std::alloc::{AllocError, Global};
 use std::io;
 use text_lines::push_decimal;
 
-/// Prints the line `b2sum: ` and these parts to the sink of messages.
+/// Prints the line of the program's name, `: ` and these parts to the sink of messages.
 pub(crate) fn warn<E: Sink>(
-    alloc: Global,
+    program: &Program,
     sink: &mut E,
     first: &[u8],
     second: &[u8],
@@ -21,10 +22,12 @@ pub(crate) fn warn<E: Sink>(
     ensures unsaid { IsErr result → sink.new ≡ sink.old }
     ensures line { OnOk result (IsWritten (E.failed sink.old) (E.failed sink.new)
         (E.held sink.old) (E.held sink.new)
-        (codes "b2sum: " ++ first.now ++ second.now ++ third.now ++ (10 ∷ []))) }
+        (program.now.name.items ++ codes ": " ++ first.now ++ second.now ++ third.now
+        ++ (10 ∷ []))) }
 {
-    let mut line = Vec::new(alloc);
-    line.extend_from_slice(b"b2sum: ")?;
+    let mut line = Vec::new(program.alloc);
+    line.extend_from_slice(program.name.as_slice())?;
+    line.extend_from_slice(b": ")?;
     line.extend_from_slice(first)?;
     line.extend_from_slice(second)?;
     line.extend_from_slice(third)?;
@@ -33,9 +36,18 @@ pub(crate) fn warn<E: Sink>(
     Ok(())
 }
 
+/// Prints the program's name and this text to the sink of messages. It allocates nothing.
+pub(crate) fn tell_named<E: Sink>(program: &Program, sink: &mut E, text: &[u8])
+    ensures { IsWritten (E.failed sink.old) (E.failed sink.new) (E.held sink.old) (E.held sink.new)
+        (program.now.name.items ++ text.now) }
+{
+    tell(sink, program.name.as_slice());
+    tell(sink, text);
+}
+
 /// Prints the line of a file: its quoted name and the reason.
 pub(crate) fn warn_of_name<E: Sink>(
-    alloc: Global,
+    program: &Program,
     sink: &mut E,
     name: &[u8],
     reason: &[u8],
@@ -43,13 +55,13 @@ pub(crate) fn warn_of_name<E: Sink>(
     ensures { OnOk result (HasMessage (E.failed sink.old) (E.failed sink.new) (E.held sink.old)
         (E.held sink.new)) }
 {
-    let name = quoted_name(alloc, name)?;
-    warn(alloc, sink, name.as_slice(), b": ", reason)
+    let name = quoted_name(program.alloc, name)?;
+    warn(program, sink, name.as_slice(), b": ", reason)
 }
 
 /// Prints the line of a file that cannot be read: its quoted name and the text of the error.
 pub(crate) fn warn_of_file<E: Sink>(
-    alloc: Global,
+    program: &Program,
     error: io::Error,
     sink: &mut E,
     name: &[u8],
@@ -57,8 +69,8 @@ pub(crate) fn warn_of_file<E: Sink>(
     ensures { OnOk result (HasMessage (E.failed sink.old) (E.failed sink.new) (E.held sink.old)
         (E.held sink.new)) }
 {
-    let text = reason_of(alloc, error)?;
-    warn_of_name(alloc, sink, name, text.as_bytes())
+    let text = reason_of(program.alloc, error)?;
+    warn_of_name(program, sink, name, text.as_bytes())
 }
 
 /// Returns the text of an error, without the number that std prints after it.
@@ -72,9 +84,9 @@ pub(crate) fn reason_of(alloc: Global, error: io::Error) -> Result<String, Alloc
     Ok(short)
 }
 
-/// Prints `b2sum: WARNING: N` and one of two texts, for one or for several, if there are any.
+/// Prints `NAME: WARNING: N` and one of two texts, for one or for several, if there are any.
 pub(crate) fn warn_of_count<E: Sink>(
-    alloc: Global,
+    program: &Program,
     sink: &mut E,
     count: u64,
     one: &[u8],
@@ -83,8 +95,8 @@ pub(crate) fn warn_of_count<E: Sink>(
     if count == 0 {
         return Ok(());
     }
-    let mut number = Vec::new(alloc);
+    let mut number = Vec::new(program.alloc);
     push_decimal(&mut number, count)?;
     let text = if count == 1 { one } else { several };
-    warn(alloc, sink, b"WARNING: ", number.as_slice(), text)
+    warn(program, sink, b"WARNING: ", number.as_slice(), text)
 }

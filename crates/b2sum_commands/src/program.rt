@@ -9,7 +9,7 @@ ghost use Rattle.b2sum_commands.specs.CommandLine.{Choice, Refused};
 ghost use Rattle.b2sum_commands.specs.Accepted.{AreOptions, command_line};
 ghost use Rattle.b2sum_commands.specs.World.{world_of, HasMessage, HasMore, IsTold, IsWritten};
 ghost use Rattle.b2sum_commands.specs.Runs.{DoesChoice, DoesLine, HasKey, AfterKey, IsKeyless};
-ghost use Rattle.b2sum_commands.specs.Runs.{RunsLine, status_of};
+ghost use Rattle.b2sum_commands.specs.Runs.{RunsLine, help_of, status_of};
 ghost use Rattle.b2sum_lines.specs.Lines.{max_bytes};
 ghost use Rattle.b2sum_commands.specs.Readers.{IsPrinted};
 
@@ -17,15 +17,16 @@ use crate::check::check_manifests;
 use crate::devices::{Disk, Fault, OpenFile, Output, put, tell};
 use crate::hashes::Hashes;
 use crate::key::{read_key, read_key_from};
-use crate::messages::{reason_of, warn};
-use crate::options::{Arguments, Options, Stop, read_arguments};
-use crate::session::{Host, Session};
+use crate::messages::{reason_of, tell_named, warn};
+use crate::options::{Arguments, Options, Stop, joined, read_arguments};
+use crate::session::{Host, Program, Session};
 use crate::sums::{is_dash, print_sums};
 use blake2_streams::Sink;
-use std::alloc::{AllocError, Global};
+use std::alloc::AllocError;
 use std::io;
 
-const HELP: &[u8] = b"Usage: b2sum [OPTION].. [FILE]..
+// What comes after `Usage: ` and the program's name.
+const HELP: &[u8] = b" [OPTION].. [FILE]..
 Print or check BLAKE2 digests. With no FILE, or if FILE is -, read standard input.
 
   -a, --algorithm NAME  blake2b (the default), blake2s, blake2bp or blake2sp
@@ -59,11 +60,9 @@ options, or output that cannot be written.
 
 const VERSION: &[u8] = b"b2sum (Vulfsjor) 0.1.0\n";
 
-const TRY_HELP: &[u8] = b"Try 'b2sum --help' for more information.\n";
-
 /// Runs the command line, without the program's name. Returns the status: 0 for success, 1 if the
 /// options are wrong, a file cannot be read, a digest differs, a write fails or an allocation
-/// fails.
+/// fails. Messages begin with the name of the host's program.
 pub fn run<H: Hashes, D: Disk, K: Output, E: Sink>(
     host: &Host<H, D>,
     session: &mut Session<D::File, K, E>,
@@ -71,7 +70,8 @@ pub fn run<H: Hashes, D: Disk, K: Output, E: Sink>(
 ) -> u8
     ensures status { result ≤ 1 }
     ensures line { (end : Option Bool) × (result ≡ status_of end) × RunsLine
-        (world_of D.File.failed (D.files host.now.disk) H.hashing) HELP.now VERSION.now
+        host.now.program.name.items (world_of D.File.failed (D.files host.now.disk) H.hashing)
+        (help_of host.now.program.name.items HELP.now) VERSION.now
         (command_line (map (λ word. word.items) words.now)) session.old session.new end }
     ensures refused { command_line (map (λ word. word.items) words.now) ≡ Err Refused
         → (result ≡ 1) × (session.new.held ≡ session.old.held)
@@ -82,27 +82,28 @@ pub fn run<H: Hashes, D: Disk, K: Output, E: Sink>(
         Ok(false) => 1,
         Err(Fault::WriteFailed) => {
             let reason = session.output.reason();
-            warn_of_write(host.alloc, reason, &mut session.messages);
+            warn_of_write(&host.program, reason, &mut session.messages);
             1
         }
         Err(Fault::NoMemory) => {
-            tell(&mut session.messages, b"b2sum: memory exhausted\n");
+            let text = b": memory exhausted\n";
+            tell_named(&host.program, &mut session.messages, text);
             1
         }
     }
 }
 
 // Prints the message of a write that failed.
-fn warn_of_write<E: Sink>(alloc: Global, error: io::Error, messages: &mut E)
+fn warn_of_write<E: Sink>(program: &Program, error: io::Error, messages: &mut E)
     ensures { (reason : List ℕ) × IsWritten (E.failed messages.old) (E.failed messages.new)
         (E.held messages.old) (E.held messages.new)
-        (codes "b2sum: write error" ++ reason ++ (10 ∷ [])) }
+        (program.now.name.items ++ codes ": write error" ++ reason ++ (10 ∷ [])) }
 {
-    let Ok(reason) = reason_of(alloc, error) else {
-        return tell(messages, b"b2sum: write error\n");
+    let Ok(reason) = reason_of(program.alloc, error) else {
+        return tell_named(program, messages, b": write error\n");
     };
-    if warn(alloc, messages, b"write error: ", reason.as_bytes(), b"").is_err() {
-        tell(messages, b"b2sum: write error\n");
+    if warn(program, messages, b"write error: ", reason.as_bytes(), b"").is_err() {
+        tell_named(program, messages, b": write error\n");
     }
 }
 
@@ -112,31 +113,33 @@ fn run_words<H: Hashes, D: Disk, K: Output, E: Sink>(
     words: &[Vec<u8>],
 ) -> Result<bool, Fault>
     ensures line { DoesLine
-        (world_of D.File.failed (D.files host.now.disk) H.hashing) HELP.now VERSION.now
+        (world_of D.File.failed (D.files host.now.disk) H.hashing)
+        (help_of host.now.program.name.items HELP.now) VERSION.now
         (command_line (map (λ word. word.items) words.now)) session.old session.new
         (result_ok result) }
     ensures write { IsErrOf result Fault.WriteFailed → session.new.output_failed ≡ true }
 {
-    match read_arguments(host.alloc, words) {
+    match read_arguments(host.program.alloc, words) {
         Ok(arguments) => run_task(host, session, arguments),
-        Err(stop) => print_stop(host.alloc, session, stop),
+        Err(stop) => print_stop(&host.program, session, stop),
     }
 }
 
 // Prints what a command line without a task asks for: the help, the version or a message. Returns
 // whether it is right.
 fn print_stop<F: OpenFile, K: Output, E: Sink>(
-    alloc: Global,
+    program: &Program,
     session: &mut Session<F, K, E>,
     stop: Stop,
 ) -> Result<bool, Fault>
-    ensures printed { IsPrinted HELP.now VERSION.now session.old session.new stop
-        (result_ok result) }
+    ensures printed { IsPrinted (help_of program.now.name.items HELP.now) VERSION.now session.old
+        session.new stop (result_ok result) }
     ensures write { IsErrOf result Fault.WriteFailed → session.new.output_failed ≡ true }
 {
     match stop {
         Stop::Help => {
-            put(&mut session.output, HELP)?;
+            let help = joined(program.alloc, b"Usage: ", program.name.as_slice(), HELP)?;
+            put(&mut session.output, help.as_slice())?;
             Ok(true)
         }
         Stop::Version => {
@@ -144,12 +147,12 @@ fn print_stop<F: OpenFile, K: Output, E: Sink>(
             Ok(true)
         }
         Stop::Usage(text) => {
-            tell_usage(alloc, text.as_slice(), &mut session.messages)?;
+            tell_usage(program, text.as_slice(), &mut session.messages)?;
             Ok(false)
         }
         Stop::Value(first, second) => {
             let (first, second) = (first.as_slice(), second.as_slice());
-            tell_value(alloc, first, second, &mut session.messages)?;
+            tell_value(program, first, second, &mut session.messages)?;
             Ok(false)
         }
         Stop::NoMemory => Err(Fault::NoMemory),
@@ -157,20 +160,23 @@ fn print_stop<F: OpenFile, K: Output, E: Sink>(
 }
 
 // Prints the message of wrong options, and the pointer to `--help`.
-fn tell_usage<E: Sink>(alloc: Global, text: &[u8], messages: &mut E) -> Result<(), AllocError>
+fn tell_usage<E: Sink>(program: &Program, text: &[u8], messages: &mut E) -> Result<(), AllocError>
     ensures told { OnOk result (HasMessage (E.failed messages.old) (E.failed messages.new)
         (E.held messages.old) (E.held messages.new)) }
     ensures more { HasMore (E.failed messages.old) (E.failed messages.new)
         (E.held messages.old) (E.held messages.new) }
 {
-    warn(alloc, messages, text, b"", b"")?;
-    tell(messages, TRY_HELP);
+    let name = program.name.as_slice();
+    let rest = b" --help' for more information.\n";
+    let pointer = joined(program.alloc, b"Try '", name, rest)?;
+    warn(program, messages, text, b"", b"")?;
+    tell(messages, pointer.as_slice());
     Ok(())
 }
 
 // Prints the messages of a wrong value: one, or two.
 fn tell_value<E: Sink>(
-    alloc: Global,
+    program: &Program,
     first: &[u8],
     second: &[u8],
     messages: &mut E,
@@ -180,11 +186,11 @@ fn tell_value<E: Sink>(
     ensures more { HasMore (E.failed messages.old) (E.failed messages.new)
         (E.held messages.old) (E.held messages.new) }
 {
-    warn(alloc, messages, first, b"", b"")?;
+    warn(program, messages, first, b"", b"")?;
     if second.is_empty() {
         return Ok(());
     }
-    warn(alloc, messages, second, b"", b"")?;
+    warn(program, messages, second, b"", b"")?;
     Ok(())
 }
 
@@ -213,7 +219,7 @@ fn run_task<H: Hashes, D: Disk, K: Output, E: Sink>(
     let Some(options) = with_key(host, session, options, key_file)? else {
         return Ok(false);
     };
-    session.make_room(host.alloc, host.hashes.piece_bytes(&options))?;
+    session.make_room(host.program.alloc, host.hashes.piece_bytes(&options))?;
     let names = files.as_slice();
     if options.checks {
         session.begin_checks();
@@ -254,9 +260,9 @@ fn with_key<H: Hashes, D: Disk, K: Output, E: Sink>(
     host.disk.keep_secrets();
     let messages = &mut session.messages;
     let found = if is_dash(name) {
-        read_key_from(host.alloc, &mut session.input, name, most, messages)?
+        read_key_from(&host.program, &mut session.input, name, most, messages)?
     } else {
-        read_key(host.alloc, &host.disk, name, most, messages)?
+        read_key(&host.program, &host.disk, name, most, messages)?
     };
     let Some(key) = found else {
         return Ok(None);

@@ -1,6 +1,7 @@
 //! What a run works with.
 
 ghost use Rattle.std.specs.Prelude.{◌≡◌, ◌<◌, ◌≤◌, ◌^◌, length, IfOk};
+ghost use Rattle.b2sum_commands.specs.Name.{last_part, program_name};
 ghost use Rattle.b2sum_lines.specs.declared.entry.Spacing.TheVariants.{Open};
 
 use crate::devices::{OpenFile, Output};
@@ -13,11 +14,46 @@ use std::marker::Model;
 /// The number of bytes that one read requests, for most hash functions.
 const PIECE_BYTES: usize = 1 << 16;
 
-/// The files, the hash functions and the memory of a run.
+/// The memory of a run, and the name that its messages begin with.
 #[derive(Drop)]
-pub struct Host<H, D> {
+pub struct Program {
     /// The memory.
     pub alloc: Global,
+    /// The name.
+    pub name: Vec<u8>,
+}
+
+impl Program {
+    /// Returns a program whose name is that of argument 0: what is after the last `/`, or `b2sum`
+    /// if that is empty. The error is that of the allocator, for the name.
+    pub fn new(alloc: Global, path: &[u8]) -> Result<Program, AllocError>
+        ensures { IfOk result (λ p. p.name.items ≡ program_name path.now) }
+    {
+        let part = last_part(path);
+        let name: &[u8] = if part.is_empty() { b"b2sum" } else { part };
+        Ok(Program {
+            alloc,
+            name: Vec::from_slice(alloc, name)?,
+        })
+    }
+}
+
+// Returns what is after the last slash of a path, or all of it if there is none.
+fn last_part(path: &[u8]) -> &[u8]
+    ensures { result.now ≡ last_part path.now }
+{
+    let mut at = path.len();
+    'part: while at > 0 && path[at - 1] != b'/' {
+        at -= 1;
+    }
+    &path[at..]
+}
+
+/// The program, the hash functions and the files of a run.
+#[derive(Drop)]
+pub struct Host<H, D> {
+    /// The program.
+    pub program: Program,
     /// The hash functions.
     pub hashes: H,
     /// The files.

@@ -67,16 +67,16 @@ pub(crate) fn digest_file<H: Hashes, D: Disk, K: Output, E: Sink>(
             return Ok(Read::Whole);
         }
         let reason = session.input.reason();
-        warn_of_file(host.alloc, reason, &mut session.messages, name)?;
+        warn_of_file(&host.program, reason, &mut session.messages, name)?;
         return Ok(Read::Failed);
     }
-    let mut file = match host.disk.open(host.alloc, name) {
+    let mut file = match host.disk.open(host.program.alloc, name) {
         Ok(file) => file,
         Err(error) => {
             if options.ignores_missing && error.kind() == io::ErrorKind::NotFound {
                 return Ok(Read::Missing);
             }
-            warn_of_file(host.alloc, error, &mut session.messages, name)?;
+            warn_of_file(&host.program, error, &mut session.messages, name)?;
             return Ok(Read::Failed);
         }
     };
@@ -88,7 +88,7 @@ pub(crate) fn digest_file<H: Hashes, D: Disk, K: Output, E: Sink>(
     {
         return Ok(Read::Whole);
     }
-    warn_of_file(host.alloc, file.reason(), &mut session.messages, name)?;
+    warn_of_file(&host.program, file.reason(), &mut session.messages, name)?;
     Ok(Read::Failed)
 }
 
@@ -139,7 +139,7 @@ fn print_sum<H: Hashes, D: Disk, K: Output, E: Sink>(
         return Ok(false);
     }
     let all = &digest[..];
-    let line = printed(host.alloc, options, &all[..size], name)?;
+    let line = printed(host.program.alloc, options, &all[..size], name)?;
     put(&mut session.output, line.as_slice())?;
     Ok(true)
 }

@@ -1,14 +1,15 @@
-use Rattle.std.proofs.Common.{refl, arith, subst, sym}
+use Rattle.std.proofs.Common.{refl, subst, sym}
 use Rattle.b2sum_commands.specs.World.{HasMore}
-use Rattle.b2sum_commands.proofs.Telling.{more_message, message_more, line_more, unsaid_more}
+use Rattle.b2sum_commands.proofs.Telling.{more_message, message_more, line_more, some_ended}
+use Rattle.b2sum_commands.proofs.Telling.{unsaid_more}
 use Rattle.b2sum_commands.proofs.program.tell_value.Goals as goal
 
 pub returns-clause-told : goal.returns-clause-told
-returns-clause-told g c = more_message _ _ _ _ _ _ _ _ (omega arith) c.in_ok-warn.ensures.line
+returns-clause-told g c = more_message _ _ _ _ _ _ _ _ (some_ended _) c.in_ok-warn.ensures.line
     c.in_ok-warn-2.ensures.line
 
 pub returns-clause-more : goal.returns-clause-more
-returns-clause-more g c = message_more _ _ _ _ (more_message _ _ _ _ _ _ _ _ (omega arith)
+returns-clause-more g c = message_more _ _ _ _ (more_message _ _ _ _ _ _ _ _ (some_ended _)
     c.in_ok-warn.ensures.line c.in_ok-warn-2.ensures.line)
 
 pub returns-in_err-warn-clause-more : goal.returns-in_err-warn-clause-more
