@@ -10,7 +10,7 @@ lipo=$(command -v llvm-lipo || command -v llvm-lipo-14)
 
 # What the library and the programs need of the C library of macOS.
 write_sdk() {
-    local names=(memcpy memmove memset memcmp strlen strcpy strerror abort write read readv pread openat
+    local names=(memcpy memmove memset memcmp strlen strcpy strrchr strerror abort write read readv pread openat
         close dup fstat lseek isatty malloc realloc free malloc_size signal setrlimit sysconf clock_gettime
         snprintf dprintf pthread_create pthread_join pthread_sigmask pthread_setcancelstate
         pthread_mutex_lock pthread_mutex_unlock pthread_cond_wait pthread_cond_broadcast
@@ -22,7 +22,7 @@ write_sdk() {
         'void *memmove(void *, const void *, size_t);' 'void *memset(void *, int, size_t);' \
         'int memcmp(const void *, const void *, size_t);' \
         'size_t strlen(const char *);' 'char *strcpy(char *, const char *);' \
-        'char *strerror(int);' >"$sdk/usr/include/string.h"
+        'char *strrchr(const char *, int);' 'char *strerror(int);' >"$sdk/usr/include/string.h"
     printf 'typedef %s;\n' 'long ssize_t' 'long long off_t' >"$sdk/usr/include/sys/types.h"
     printf '%s\n' '#include <stddef.h>' '#include <sys/types.h>' \
         'ssize_t write(int, const void *, size_t);' 'ssize_t read(int, void *, size_t);' \
