@@ -35,7 +35,7 @@ use crate::quoting::quoted_name;
 use crate::session::{Host, Program, Session};
 use crate::sums::{Read, digest_file, is_dash};
 use b2sum_lines::{Entry, Spacing, Style, push_escaped, read_line};
-use blake2_digest::is_same;
+use blake2_digest::constant_time_eq;
 use blake2_streams::{Sink, Source};
 use std::alloc::{AllocError, Global};
 use text_lines::push_decimal;
@@ -492,7 +492,7 @@ fn verdict_of(read: Read, digest: &[u8], listed: &[u8]) -> Verdict
     match read {
         Read::Missing => Verdict::Skipped,
         Read::Failed => Verdict::Unread,
-        Read::Whole if is_same(digest, listed) => Verdict::Equal,
+        Read::Whole if constant_time_eq(digest, listed) => Verdict::Equal,
         Read::Whole => Verdict::Different,
     }
 }

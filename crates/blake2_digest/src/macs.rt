@@ -12,7 +12,7 @@ use std::marker::Model;
 /// Returns whether the bytes are equal: the comparison for tags. If the lengths are equal, all
 /// bytes are compared, wherever they differ, and no branch here depends on one. Only the result
 /// is promised, not the time that compiled code needs.
-pub fn is_same(a: &[u8], b: &[u8]) -> bool
+pub fn constant_time_eq(a: &[u8], b: &[u8]) -> bool
     ensures { IsTrue result ↔ (a.now ≡ b.now) }
 {
     if a.len() != b.len() {
@@ -121,9 +121,9 @@ pub trait Mac<const N: usize>: FixedOutput<N> {
         ensures { IsOk result ↔ (tag.now ≡ digest_now Self.meaning self) }
     {
         let mut output = self.finalize_fixed();
-        let is_same = is_same(output.as_slice(), tag);
+        let is_equal = constant_time_eq(output.as_slice(), tag);
         output = [0; N];
         settle(&output);
-        if is_same { Ok(()) } else { Err(MacError) }
+        if is_equal { Ok(()) } else { Err(MacError) }
     }
 }

@@ -25,7 +25,7 @@ mod plans;
 mod trees;
 
 use blake2::Tree;
-use blake2_digest::is_same;
+use blake2_digest::constant_time_eq;
 
 /// One of several messages, as `vulfsjor_message` of the header: a pointer and a length.
 #[repr(C)]
@@ -75,7 +75,7 @@ impl NodeParameters {
 pub extern "C" fn vulfsjor_ffi_memcmp(a: &[u8], b: &[u8]) -> i32
     ensures { Returns result (a.now ≡ b.now) }
 {
-    if is_same(a, b) { 0 } else { -1 }
+    if constant_time_eq(a, b) { 0 } else { -1 }
 }
 
 /// Overwrites the bytes with zeros. A compiler cannot remove the call, since it does not see what

@@ -19,7 +19,7 @@ use blake2_compress::compress::blake2s::{compress, to_bytes, to_rows};
 use blake2_compress::many::blake2s as many;
 use blake2_compress::params::blake2s::start_words;
 use blake2_compress::params::{Parameters, Tree};
-use blake2_digest::{Duplicate, InvalidLength, is_same, padded, settle};
+use blake2_digest::{Duplicate, InvalidLength, constant_time_eq, padded, settle};
 use blake2_simd::rows::u32x4;
 use std::hint;
 
@@ -311,7 +311,7 @@ impl State {
         ensures { IsTrue result ↔ (tag.now ≡ digest_now meaning self.now) }
     {
         let whole = self.output();
-        is_same(tag, &whole[..self.output_size])
+        constant_time_eq(tag, &whole[..self.output_size])
     }
 }
 

@@ -18,8 +18,8 @@ use blake2_compress::compress::blake2s::to_words;
 use blake2_compress::params::Parameters;
 use blake2_compress::params::blake2s::{fits, start_of};
 use blake2_digest::{
-    InvalidLength, LastNode, LazyBuffer, UpdateCore, VariableOutputCore, digest_into, is_same,
-    padded,
+    InvalidLength, LastNode, LazyBuffer, UpdateCore, VariableOutputCore, constant_time_eq,
+    digest_into, padded,
 };
 
 /// A state of BLAKE2s as plain numbers. All values of the fields are states, and none is unsafe.
@@ -381,6 +381,6 @@ impl State {
     {
         let mut whole = [0; 32];
         self.write_digest(&mut whole);
-        is_same(tag, &whole[..self.output_size])
+        constant_time_eq(tag, &whole[..self.output_size])
     }
 }

@@ -1,6 +1,6 @@
 use Rattle.std.proofs.Common.{get_or, arith, below_more, ap, eq-eqb, eqb-true}
 use Rattle.blake2_digest.proofs.Differences.{none_differ, equal_by_reads}
-use Rattle.blake2_digest.proofs.macs.is_same.Goals as goal
+use Rattle.blake2_digest.proofs.macs.constant_time_eq.Goals as goal
 
 pub loop-i-preserved : goal.loop-i-preserved
 loop-i-preserved c =
