@@ -152,13 +152,16 @@ if can_make "$windows.zip" x86_64-w64-mingw32-gcc zip; then
     cp README.md CHANGELOG.md "$work/$windows/"
     find "$work/$windows" -exec touch -h -d "@$SOURCE_DATE_EPOCH" {} +
     (cd "$work" && find "$windows" | LC_ALL=C sort | zip -qX -@ "$out/$windows.zip")
-    if can_make "the test of $windows.zip" wine unzip; then
+    WINE=$(command -v wine64 wine /usr/lib/wine/wine64 | head -1) || :
+    if can_make "the test of $windows.zip" "${WINE:-wine}" unzip; then
         mkdir "$work/wine" && (cd "$work/wine" && unzip -q "$out/$windows.zip")
-        export WINEPREFIX=$work/wine/home WINEDEBUG=-all WINEDLLOVERRIDES="mscoree,mshtml="
+        export WINE WINE_LOG=$work/wine_log WINEPREFIX=$work/wine/home WINEDEBUG=-all,err+virtual \
+            WINEDLLOVERRIDES="mscoree,mshtml="
         for call in "b2.exe sum b512" b2sum.exe; do
             [ -e "$work/wine/$windows/bin/${call%% *}" ] || continue
             # shellcheck disable=SC2086
-            (cd "$work/wine/$windows/bin" && printf abc | wine $call) 2>/dev/null >"$work/printed" || :
+            (cd "$work/wine/$windows/bin" && printf abc | "$source/c/tests/run_by_wine.sh" $call) \
+                2>/dev/null >"$work/printed" || :
             grep -q ^ba80a53f "$work/printed" || stop "$call of $windows.zip"
         done
         wineserver -k 2>/dev/null || /usr/lib/wine/wineserver -k || :

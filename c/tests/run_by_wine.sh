@@ -1,5 +1,5 @@
 #!/usr/bin/env bash
-# Runs a program for Windows by the wine that WINE names, for windows.sh:
+# Runs a program for Windows by the wine that WINE names, for windows.sh and tools/release.sh:
 #
 #   c/tests/run_by_wine.sh PROGRAM [ARGUMENTS..]
 #
