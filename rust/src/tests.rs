@@ -161,6 +161,32 @@ family!(blake2s, Blake2s, Blake2sState, 64, 8);
 parallel!(blake2bp, Blake2bp, Blake2bpState, 4);
 parallel!(blake2sp, Blake2sp, Blake2spState, 8);
 
+macro_rules! output {
+    ($test:ident, $hasher:ident, $state:ident, $block:literal, $counter:literal) => {
+        mod $test {
+            use super::*;
+
+            #[test]
+            fn inputs_end_before_2_to_the_64() {
+                let none = || $hasher {
+                    state: $state::ZEROS,
+                };
+                assert!(panic_of(|| none().update(b"").count()).contains("an input of 2^64 bytes"));
+                assert!(panic_of(|| none().reset()).contains("a state that new has made"));
+                let mut hasher = $hasher::new();
+                hasher.state.0[$counter] = 0u64.wrapping_sub($block).to_le();
+                hasher.update([7; $block - 1]);
+                let panic = panic_of(|| hasher.update(b"x").count());
+                assert!(panic.contains("an input of 2^64 bytes"));
+                assert_eq!(hasher.count(), u64::MAX);
+            }
+        }
+    };
+}
+
+output!(blake2xb, Blake2xb, Blake2xbState, 128, 16);
+output!(blake2xs, Blake2xs, Blake2xsState, 64, 8);
+
 #[test]
 fn a_tree_that_no_init_has_made_is_refused() {
     let none = || TreeHasher {

@@ -15,7 +15,7 @@ macro_rules! xof {
         ///
         /// A clone is independent: each absorbs its own further input.
         pub struct $hasher {
-            state: $state,
+            pub(crate) state: $state,
         }
 
         impl $hasher {

@@ -453,6 +453,7 @@ macro_rules! family {
                 assert_eq!(long.to_string(), digits);
                 let hex = long.to_hex();
                 assert!(hex == *digits && hex == digits.as_str() && hex != "y" && hex != *"x");
+                assert!(hex != digits[..2] && hex != &digits[..2]);
                 assert_eq!(
                     (hex.as_str(), hex.as_ref(), hex.len()),
                     (&*digits, &*digits, 2 * $max)
@@ -509,6 +510,22 @@ fn trees_are_written_wiped_and_shown() {
     assert!(holds(&before, b"salt of the tree") && before.len() >= 900);
     assert!(after.iter().all(|byte| *byte == 0));
     assert_eq!(format!("{:?}", new()), "TreeHasher { .. }");
+}
+
+#[test]
+fn nothing_is_left_of_a_key_of_an_output() {
+    let key: Vec<u8> = (1..=32).collect();
+    let params = Params::new().key(&key);
+    let (b, s) = (params.blake2xb().unwrap(), params.blake2xs().unwrap());
+    for [before, after] in [
+        bytes_around_drop(b.finalize_xof()),
+        bytes_around_drop(s.finalize_xof()),
+        bytes_around_drop(b),
+        bytes_around_drop(s),
+    ] {
+        assert!(holds(&before, &key) && before.len() >= 200);
+        assert!(after.iter().all(|byte| *byte == 0));
+    }
 }
 
 #[test]
@@ -574,6 +591,9 @@ fn what_is_no_digest_is_refused() {
             let mut digits = *b"0aF9";
             digits[index] = byte;
             let refused = Digest::from_hex(digits);
+            if let Ok(text) = std::str::from_utf8(&digits) {
+                assert_eq!(text.parse(), refused);
+            }
             if byte.is_ascii_hexdigit() {
                 let text = std::str::from_utf8(&digits).unwrap();
                 assert_eq!(refused.unwrap().to_string(), text.to_lowercase());

@@ -118,6 +118,9 @@ macro_rules! family {
                 assert_eq!(refused, format!("out.len() is 0, and must be 1 to {}", $longest));
                 let tree = Tree { fanout: 2, ..Tree::SEQUENTIAL };
                 assert_eq!(error(Params::new().tree(tree)), "tree.fanout is 2, and must be 1");
+                let tree = Tree { inner_length: 7, ..Tree::SEQUENTIAL };
+                assert_eq!(error(Params::new().tree(tree)), "tree.inner_length is 7, and must be 0");
+                assert_eq!(error(Params::new().last_node(true)), "last_node is 1, and must be 0");
                 let wanted = format!("salt.len() is {}, and must be 0 to {}", $max + 1, $small);
                 assert_eq!(error(Params::new().salt(&long)), wanted);
             }
