@@ -98,22 +98,23 @@ class Build(Test):
                             ignore=shutil.ignore_patterns("__pycache__", "*.so"))
         return os.path.join(folder, "python")
 
-    def words(self, call, folder, environment):
-        """The command that makes a wheel or a source distribution in self.folder, and its
-        environment."""
-        return ([sys.executable, os.path.join(folder, "build_package.py"), call, self.folder],
+    def words(self, call, folder, environment, prefix=""):
+        """The command that makes a wheel or a source distribution in self.folder, with lines of
+        Python before it, and its environment."""
+        path = os.path.join(folder, "build_package.py")
+        code = (f"import runpy, sys, sysconfig\nsys.argv[0] = {path!r}\n{prefix}\n"
+                "runpy.run_path(sys.argv[0], run_name='__main__')")
+        return ([sys.executable, *(["-c", code] if prefix else [path]), call, self.folder],
                 {**os.environ, **environment})
 
-    def made(self, call, folder, **environment):
+    def made(self, call, folder, prefix="", **environment):
         """The path of a new wheel or source distribution."""
-        words, env = self.words(call, folder, environment)
+        words, env = self.words(call, folder, environment, prefix)
         return os.path.join(self.folder, self.succeeds(*words, env=env).splitlines()[-1])
 
     def refused(self, folder=os.path.join(TOP, "python"), prefix="", **environment):
         """What a build prints last when it ends with status 1, with lines of Python before it."""
-        words, env = self.words("wheel", folder, environment)
-        words[1:2] = ["-c", f"import runpy, sys, sysconfig\nsys.argv[0] = {words[1]!r}\n{prefix}\n"
-                      "runpy.run_path(sys.argv[0], run_name='__main__')"]
+        words, env = self.words("wheel", folder, environment, prefix)
         done = run(*words, env=env)
         self.assertEqual(done.returncode, 1, done.stdout)
         return done.stdout.splitlines()[-1]
@@ -169,8 +170,37 @@ class Build(Test):
             "as Debian's python3-dev")
         self.assertEqual(self.refused(prefix="sys.version_info = (3, 10, 9)"),
                          "build_package.py: vulfsjor needs CPython 3.11 or later")
-        self.assertEqual(self.refused(prefix="sys.argv[1:] = ['wheel']"),
-                         "usage: build_package.py wheel|sdist FOLDER")
+        for arguments in (["wheel"], ["egg", self.folder], ["wheel", self.folder, "more"]):
+            self.assertEqual(self.refused(prefix=f"sys.argv[1:] = {arguments}"),
+                             "usage: build_package.py wheel|sdist FOLDER")
+
+    def test_the_choice_of_a_compiler(self):
+        """That of this Python, or cc, or gcc, if CC is not set. Each is removed once it was used."""
+        folder = tempfile.mkdtemp(dir=self.folder)
+        names = ("own", "cc", "gcc")
+        for name in names:
+            self.fake(os.path.join(folder, name), f"echo {name}")
+        for name in names:
+            wheel = self.made("wheel", os.path.join(TOP, "python"), CC="", PATH=folder,
+                              prefix="sysconfig.get_config_var = {'CC': 'own -x'}.get")
+            with zipfile.ZipFile(wheel) as file:
+                self.assertEqual(file.read("vulfsjor/_library.abi3.so"), f"{name}\n".encode())
+            os.remove(os.path.join(folder, name))
+
+    def test_a_python_without_the_gil(self):
+        """Its module and its wheel are for one version, which the name of the wheel has."""
+        wheel = self.made(
+            "wheel", os.path.join(TOP, "python"), CC=f"'{self.fake()}'",
+            VULFSJOR_WHEEL_PLATFORM="a-platform.5",
+            prefix="sysconfig.get_config_var = {'Py_GIL_DISABLED': 1, 'EXT_SUFFIX': '.own.so'}.get")
+        version = f"cp3{sys.version_info.minor}"
+        self.assertEqual(os.path.basename(wheel),
+                         f"vulfsjor-{VERSION}-{version}-{version}t-a_platform_5.whl")
+        with zipfile.ZipFile(wheel) as file:
+            words = file.read("vulfsjor/_library.own.so").decode().splitlines()
+            self.assertIn(f"\nTag: {version}-{version}t-a_platform_5\n",
+                          file.read(f"{ABOUT}/WHEEL").decode())
+        self.assertIn("-DPy_GIL_DISABLED=1", words)
 
     def test_the_words_of_a_platform(self):
         """Those that the compiler gets, and the name of the wheel."""
