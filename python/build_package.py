@@ -82,13 +82,14 @@ def source_files():
 
 def target():
     """The system that the module is for, its processor if dist/ has a text for that, and the compiler's options.
-    Linux and other systems with ELF get portable C on other processors, and if VULFSJOR_PORTABLE is set."""
+    Linux and other systems with ELF get portable C on other processors, in a Python of 32 bits, and if
+    VULFSJOR_PORTABLE is set."""
     platform = sysconfig.get_platform()  # such as macosx-11.0-arm64 or mingw_x86_64_ucrt
-    found = re.fullmatch(r"(linux|macosx|mingw|win)[-_](?:([\d.]+)-)?"
-                         r"(?:(x86_64|amd64)|(aarch64|arm64))(?:_\w+)?", platform)
+    found = sys.maxsize > 2**32 and re.fullmatch(  # a Python of 32 bits may name a kernel of 64
+        r"(linux|macosx|mingw|win)[-_](?:([\d.]+)-)?(?:(x86_64|amd64)|(aarch64|arm64))(?:_\w+)?", platform)
     if not re.match("macosx|mingw|win", platform) and (not found or os.environ.get("VULFSJOR_PORTABLE")):
         return "linux", None, LINKING["linux"]
-    if not found or sys.maxsize < 2**32:
+    if not found:
         refuse("vulfsjor is assembly for Linux, macOS and Windows on x86-64 and on 64-bit ARM, and "
                f"has none for {platform}")
     system, version, x86, arm = found.groups()

@@ -138,7 +138,8 @@ class Build(Test):
         fake = f"'{self.fake()}' -x"
         for environment in ({"_PYTHON_HOST_PLATFORM": "linux-s390x"}, {"_PYTHON_HOST_PLATFORM": "linux-i686"},
                             {"_PYTHON_HOST_PLATFORM": "freebsd-14.0-release-amd64"},
-                            {"_PYTHON_HOST_PLATFORM": "linux-x86_64", "VULFSJOR_PORTABLE": "1"}):
+                            {"_PYTHON_HOST_PLATFORM": "linux-x86_64", "VULFSJOR_PORTABLE": "1"},
+                            {"_PYTHON_HOST_PLATFORM": "linux-x86_64", "prefix": "sys.maxsize = 2**31 - 1"}):
             with zipfile.ZipFile(self.made("wheel", os.path.join(TOP, "python"), CC=fake, **environment)) as wheel:
                 names = [name for name in wheel.namelist() if name.startswith("vulfsjor/_library")]
                 words = wheel.read(names[0]).decode().splitlines()
