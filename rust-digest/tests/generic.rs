@@ -301,6 +301,9 @@ fn parallel_digests_and_tags() {
     assert_eq!(name_of::<Blake2spMac<U16>>(), "Blake2spMac128");
     assert_eq!(<Blake2bp<U16> as BlockSizeUser>::block_size(), 128);
     assert_eq!(<Blake2sp<U16> as BlockSizeUser>::block_size(), 64);
+    assert_eq!((Blake2bpVar::MAX_OUTPUT_SIZE, Blake2spVar::MAX_OUTPUT_SIZE), (64, 32));
+    assert_eq!(<Blake2bpMac<U16> as KeySizeUser>::key_size(), 64);
+    assert_eq!(<Blake2spMac<U16> as KeySizeUser>::key_size(), 32);
 }
 
 #[test]
@@ -308,6 +311,8 @@ fn types_with_names() {
     assert_eq!(Output::<Blake2b512>::default().len(), 64);
     assert_eq!(Blake2b256::digest(b"x"), Blake2b::<U32>::digest(b"x"));
     assert_eq!(Blake2b512::digest(b"x"), Blake2b::<U64>::digest(b"x"));
+    assert_eq!(Blake2b128::digest(b"x"), Blake2b::<U16>::digest(b"x"));
+    assert_eq!(Blake2s128::digest(b"x"), Blake2s::<U16>::digest(b"x"));
     assert_eq!(Blake2s256::digest(b"x"), Blake2s::<U32>::digest(b"x"));
     assert_eq!(Blake2bp512::digest(b"x"), Blake2bp::<U64>::digest(b"x"));
     assert_eq!(Blake2bp256::digest(b"x"), Blake2bp::<U32>::digest(b"x"));
@@ -330,8 +335,12 @@ where
     reader.read(first);
     reader.read(second);
     assert_eq!(out, wanted);
-    hasher.finalize_xof_reset_into(&mut out);
-    assert_eq!(out, wanted);
+    for _ in 0..2 {
+        out.fill(0);
+        hasher.finalize_xof_reset_into(&mut out);
+        assert_eq!(out, wanted);
+        hasher.update(message);
+    }
     hasher.update(b"other");
     Reset::reset(&mut hasher);
     hasher.update(message);
@@ -370,8 +379,10 @@ fn outputs() {
     assert!(Blake2xs::with_params(&vulfsjor::Params::new().output_size(0)).is_err());
     assert!(<Blake2xb as KeyInit>::new_from_slice(&[0; 65]).is_err());
     let _hasher = <Blake2xb as KeyInit>::new(&GenericArray::default());
-    assert_eq!(<Blake2xs as BlockSizeUser>::block_size(), 64);
-    assert_eq!(<Blake2xb as KeySizeUser>::key_size(), 64);
+    let _hasher = <Blake2xs as KeyInit>::new(&GenericArray::default());
+    assert_eq!((Blake2xb::block_size(), Blake2xs::block_size()), (128, 64));
+    assert_eq!((Blake2xb::key_size(), Blake2xs::key_size()), (64, 32));
+    assert_eq!((name_of::<Blake2xb>(), name_of::<Blake2xs>()), ("Blake2xb".into(), "Blake2xs".into()));
     let text = format!("{:?} {:?}", Blake2xb::default(), Blake2xs::default().finalize_xof());
     assert_eq!(text, "Blake2xb { .. } Blake2xsReader { .. }");
 }

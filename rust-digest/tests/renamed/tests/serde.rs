@@ -18,6 +18,7 @@ fn text_has_digits() {
     for (text, error) in [
         ("\"0\"", "1 hexadecimal digits, and not an even number from 2 to 128"),
         ("\"0x\"", "the byte 0x78 at index 1 is not a hexadecimal digit"),
+        ("\" 01\"", "3 hexadecimal digits, and not an even number from 2 to 128"),
         ("[1]", "invalid type: sequence, expected a digest of 1 to 64 bytes"),
     ] {
         let message = serde_json::from_str::<Field>(text).err().unwrap().to_string();
