@@ -34,6 +34,7 @@ PLAIN = (("blake2b", vulfsjor.blake2b, hashlib.blake2b, vulfsjor.blake2b_many, 6
          ("blake2s", vulfsjor.blake2s, hashlib.blake2s, vulfsjor.blake2s_many, 32))
 FAMILIES = (*PLAIN, ("blake2bp", vulfsjor.blake2bp, parallel("b"), None, 64),
             ("blake2sp", vulfsjor.blake2sp, parallel("s"), None, 32))
+OUTPUTS = (("blake2xb", vulfsjor.blake2xb, 64), ("blake2xs", vulfsjor.blake2xs, 32))
 LONG = bytes(1 << 26)
 
 
@@ -224,11 +225,14 @@ class Secrets(unittest.TestCase):
     """What is left of a key."""
 
     def test_a_dead_object_has_no_byte_of_its_state(self):
-        states = {"blake2b": 424, "blake2s": 232, "blake2bp": 1632, "blake2sp": 1600}
-        for name, make, _, _, longest in FAMILIES:
+        states = {"blake2b": 424, "blake2s": 232, "blake2bp": 1632, "blake2sp": 1600,
+                  "blake2xb": 544, "blake2xs": 304}
+        for name, make, longest, fields in (
+                *((name, make, longest, 24) for name, make, _, _, longest in FAMILIES),
+                *((*each, 16) for each in OUTPUTS)):
             key = bytes(range(1, longest + 1))
             mac = make(b"message", key=key)
-            address, size, head = id(mac), mac.__sizeof__(), object.__basicsize__ + 24
+            address, size, head = id(mac), mac.__sizeof__(), object.__basicsize__ + fields
             self.assertEqual(size, head + states[name])
             alive, dead = (ctypes.create_string_buffer(size) for _ in range(2))
             ctypes.memmove(alive, address, size)
@@ -244,16 +248,17 @@ class Secrets(unittest.TestCase):
 
     @unittest.skipIf(WITHOUT_GIL, "without the GIL the memory is too large to search")
     def test_digests_leave_no_copy_of_a_state(self):
-        for _, make, _, _, longest in FAMILIES:
+        for make, longest, size in (*((make, longest, ()) for _, make, _, _, longest in FAMILIES),
+                                    *((make, longest, (0,)) for _, make, longest in OUTPUTS)):
             key = os.urandom(longest)
             before = places_of(key)
             mac = make(b"message", key=key)
             for call in (
-                mac.digest,
-                mac.hexdigest,
-                lambda: mac.verify(b"x"),
-                lambda: mac.verify(mac.digest()),
-                lambda: mac.copy().digest(),
+                lambda: mac.digest(*size),
+                lambda: mac.hexdigest(*size),
+                lambda: mac.copy().digest(*size),
+                *([lambda: mac.digest(99)] if size else [
+                    lambda: mac.verify(b"x"), lambda: mac.verify(mac.digest())]),
             ):
                 deep(call)
                 new = places_of(key) - before
@@ -271,19 +276,21 @@ class Counts(unittest.TestCase):
     def test_an_input_that_is_too_long_is_refused(self):
         # Where the count is, what it is after 1,700 bytes, and one near the end. That of BLAKE2bp
         # and BLAKE2sp is the count of each leaf.
-        counts = ((128, 1664, 2**64 - 256), (64, 1664, 2**64 - 256), (256, 256, 2**62 - 256),
-                  (256, 128, 2**61 - 128))
-        for (_, make, _, _, _), (chain, early, late) in zip(FAMILIES, counts, strict=True):
+        counts = ((152, 1664, 2**64 - 256), (88, 1664, 2**64 - 256), (280, 256, 2**62 - 256),
+                  (280, 128, 2**61 - 128), (144, 1664, 2**64 - 256), (80, 1664, 2**64 - 256))
+        for (_, make, *_), (place, early, late) in zip((*FAMILIES, *OUTPUTS), counts, strict=True):
+            size = (9,) * (make in (vulfsjor.blake2xb, vulfsjor.blake2xs))
             for length in (300, 3000):
-                hasher, head = make(), object.__basicsize__ + 24
-                count = ctypes.c_uint64.from_address(id(hasher) + head + chain)
+                hasher = make()
+                count = ctypes.c_uint64.from_address(id(hasher) + object.__basicsize__ + place)
                 hasher.update(bytes(1700))
                 self.assertEqual(count.value, early)
                 count.value = late
                 hasher.update(bytes(100))
-                before = hasher.digest()
-                self.assertRaises(OverflowError, hasher.update, bytes(length))
-                self.assertEqual(hasher.digest(), before)
+                before = hasher.digest(*size)
+                with self.assertRaisesRegex(OverflowError, r"\A2\^64 bytes or more\Z"):
+                    hasher.update(bytes(length))
+                self.assertEqual(hasher.digest(*size), before)
 
 
 class Views(unittest.TestCase):
@@ -320,6 +327,17 @@ class Views(unittest.TestCase):
                 self.grows(
                     lambda **words: many([words.pop("data"), None], **words), ("data",), **words
                 )
+        for _, make, _ in OUTPUTS:
+            for words in ({}, {"length": 0}):
+                self.grows(lambda **words: make(words.pop("data", b"x"), **words),
+                           ("data", "key", "salt", "person"), **words)
+                self.grows(
+                    lambda **words: make("text", **words), ("key", "salt", "person"), **words
+                )
+            self.grows(lambda data: make().update(data), ("data",))
+        for length in (9, 0):
+            self.grows(lambda key=b"key", context=b"": vulfsjor.derive_key(key, context, length),
+                       ("key", "context"))
 
     def test_roots(self):
         for words in ({"leaf_size": 1}, {"leaf_size": 0}, {"leaf_size": 1, "digest_size": 0}):
@@ -396,7 +414,10 @@ class Threads(unittest.TestCase):
             for call in (lambda: hasher.update(LONG), lambda: make(LONG),
                          *([lambda: many([LONG])] if many else [])):
                 self.assert_lets_others_run(call)
+        for _, make, _ in OUTPUTS:
+            self.assert_lets_others_run(lambda: make().update(LONG))
         for call in (
+            lambda: vulfsjor.TreeHasher(4096).update_leaves(LONG, b"x"),
             lambda: vulfsjor.tree_root(LONG, 4096),
             lambda: vulfsjor.TreeHasher(4096).update(LONG),
             lambda: vulfsjor.TreeHasher(4096).next_leaves(LONG),
@@ -435,7 +456,8 @@ class Threads(unittest.TestCase):
             )
 
     def test_2048_bytes_are_long(self):
-        for make in (*(make for _, make, _, _, _ in FAMILIES), lambda: vulfsjor.TreeHasher(4096)):
+        for make in (*(make for _, make, *_ in (*FAMILIES, *OUTPUTS)),
+                     lambda: vulfsjor.TreeHasher(4096)):
             hasher, before, end = make(), self.turns, time.monotonic() + 20
             while self.turns == before and time.monotonic() < end:
                 hasher.update(bytes(2048))
