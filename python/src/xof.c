@@ -216,6 +216,21 @@ static PyGetSetDef fields[] = {{"name", name_of, NULL, "The name of the function
 TYPE(blake2xb, "4294967294", "64", "16")
 TYPE(blake2xs, "65534", "32", "8")
 
+/* A key of this length. The GIL is released meanwhile. */
+static PyObject *derived(size_t length, const Py_buffer *key, const Py_buffer *context) {
+    PyObject *out = PyBytes_FromStringAndSize(NULL, (Py_ssize_t)length);
+    char *bytes;
+    int status;
+    if (!out) return NULL;
+    bytes = PyBytes_AsString(out);
+    Py_BEGIN_ALLOW_THREADS
+    status = vulfsjor_blake2xb_derive_key(bytes, length, TEXT(key), TEXT(context));
+    Py_END_ALLOW_THREADS
+    if (!status) return out;
+    Py_DECREF(out);
+    return refused(PyExc_OverflowError, "2^64 bytes or more");
+}
+
 static PyObject *derive_key(PyObject *module, PyObject *args, PyObject *words) {
     static char *names[] = {"key", "context", "length", NULL};
     PyObject *given, *out = NULL;
@@ -227,14 +242,8 @@ static PyObject *derive_key(PyObject *module, PyObject *args, PyObject *words) {
     if (key.len < 1 || key.len > blake2xb.key)
         PyErr_Format(PyExc_ValueError, "key must have between 1 and %d bytes", blake2xb.key);
     else if (!length_of(given, 0, blake2xb.unknown - 1, &length)) {
-        if (!length)
-            PyErr_SetString(PyExc_TypeError, "length must be an integer");
-        else if ((out = PyBytes_FromStringAndSize(NULL, (Py_ssize_t)length)) &&
-                 vulfsjor_blake2xb_derive_key(PyBytes_AsString(out), (size_t)length, TEXT(&key),
-                                              TEXT(&context))) {
-            PyErr_SetString(PyExc_OverflowError, "2^64 bytes or more");
-            Py_CLEAR(out);
-        }
+        if (!length) PyErr_SetString(PyExc_TypeError, "length must be an integer");
+        else out = derived((size_t)length, &key, &context);
     }
     release(&key);
     release(&context);

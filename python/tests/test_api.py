@@ -417,6 +417,7 @@ class Threads(unittest.TestCase):
         for _, make, _ in OUTPUTS:
             self.assert_lets_others_run(lambda: make().update(LONG))
         for call in (
+            lambda: vulfsjor.derive_key(b"key", LONG, 9),
             lambda: vulfsjor.TreeHasher(4096).update_leaves(LONG, b"x"),
             lambda: vulfsjor.tree_root(LONG, 4096),
             lambda: vulfsjor.TreeHasher(4096).update(LONG),
