@@ -1013,6 +1013,8 @@ class Stops(Test):
             self.assertEqual(cancel.called, threads == 3)
             self.assertLess(len(calls), 30)
             self.assertEqual(ours(), [])
+            self.refuses(OSError, "[Errno 28] full", vulfsjor.tree_root_file, self.file(DATA), 1 << 14,
+                         threads=threads, progress=mock.Mock(side_effect=OSError(errno.ENOSPC, "full")))
 
     def test_calls_that_wait_are_not_made(self):
         calls, stopped, failures = [], threading.Event(), []

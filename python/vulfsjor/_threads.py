@@ -238,7 +238,12 @@ class _File:
         number of bytes, which is less only at the end of the file."""
         done = 0
         while done < len(view):
-            count = self.read(view[done:], start + done)
+            try:
+                count = self.read(view[done:], start + done)
+            except OSError as error:
+                if error.filename is None and error.errno is not None:
+                    error.filename = self.path
+                raise
             if not count:
                 break
             done += count
@@ -272,7 +277,7 @@ class _File:
             self.held.buffer = bytearray(length)
         view = memoryview(self.held.buffer)[:length]
         if self.fill(view, start) < len(view):
-            raise OSError(errno.EIO, "the file became shorter while it was read")
+            raise OSError(errno.EIO, "the file became shorter while it was read", self.path)
         return view
 
 
@@ -316,14 +321,9 @@ def tree_root_file(path: "FileDescriptorOrPath", /, leaf_size: int, *,
     if progress is not None and not callable(progress):
         raise TypeError("progress must be callable")
     with io.FileIO(path, closefd=not isinstance(path, int)) as opened:
-        try:
-            file = _File(opened, path)
-            plan = tree.plan(file.length, threads, _MOST_BUFFER_BYTES)
-            if plan.threads > 1:
-                return tree.root(file.range, plan, _MOST_BUFFER_BYTES, progress)
-            hasher = _library.TreeHasher(leaf_size, digest_size=digest_size, **tree.shared)
-            return _root_in_order(file, hasher, progress)
-        except OSError as error:
-            if error.filename is None and error.errno is not None:
-                error.filename = path
-            raise
+        file = _File(opened, path)
+        plan = tree.plan(file.length, threads, _MOST_BUFFER_BYTES)
+        if plan.threads > 1:
+            return tree.root(file.range, plan, _MOST_BUFFER_BYTES, progress)
+        hasher = _library.TreeHasher(leaf_size, digest_size=digest_size, **tree.shared)
+        return _root_in_order(file, hasher, progress)
