@@ -616,6 +616,15 @@ class Words(unittest.TestCase):
         self.assertEqual(vulfsjor._threads._MOST_BUFFER_BYTES, 16 << 20)
         self.assertIn("less than 1 MiB for each", " ".join(vulfsjor.tree_root.__doc__.split()))
         self.assertEqual(vulfsjor._threads._LEAST_BYTES, 1 << 20)
+        for name, make, _, many, longest in FAMILIES:
+            self.assertEqual((make.MAX_DIGEST_SIZE, make.MAX_KEY_SIZE), (longest, longest))
+            self.assertIn(f"digest_size is 1 to {longest}, a key has up to {longest} bytes, salt and "
+                          f"person up to {make.SALT_SIZE} each.", make.__doc__)
+            if many:
+                lanes = {64: "four", 32: "eight"}[longest]
+                self.assertIn(f"hashed {lanes} in parallel", many.__doc__)
+            else:
+                self.assertIn(f"the BLAKE2 document gives BLAKE{name[5:]} neither.", make.__doc__)
 
     def test_signatures_are_those_of_hashlib(self):
         positional = inspect.Parameter.POSITIONAL_ONLY

@@ -126,6 +126,11 @@ class Parameters(Test):
                     mock.patch.object(_threads, "_start", side_effect=_threads._start) as start:
                 self.assertEqual(call(0), ROOT)
                 self.assertEqual(start.call_args.args[0], 3)
+                start.reset_mock()
+                vulfsjor.tree_root(DATA, 1 << 14)
+                self.assertFalse(start.called)
+                vulfsjor.tree_root_file(self.file(DATA), 1 << 14)
+                self.assertEqual(start.call_args.args[0], 3)
             for count, wanted in ((3, 3), (None, None)):  # a system without that call
                 with mock.patch("os.cpu_count", lambda count=count: count), \
                         mock.patch.object(_threads, "_start", side_effect=_threads._start) as start, \
@@ -749,12 +754,20 @@ class Files(Test):
             data[place] = place >> 19
         with open(path, "wb") as file:
             file.write(data)
+        lengths, fill = set(), _threads._File.fill
+
+        def measure(file, view, start):
+            lengths.add(len(view))
+            return fill(file, view, start)
+
         for leaf_size in (4 * MIB, 4 * MIB + 1, 16 * MIB + 1):
             wanted = oracle.tree_root(data, leaf_size)
             for threads in (1, 2, 3):
-                found = vulfsjor.tree_root_file(path, leaf_size, threads=threads)
+                with mock.patch.object(_threads._File, "fill", measure):
+                    found = vulfsjor.tree_root_file(path, leaf_size, threads=threads)
                 self.assertEqual(found, wanted, (leaf_size, threads))
             self.assertEqual(vulfsjor.tree_root(data, leaf_size, threads=2), wanted)
+        self.assertEqual(max(lengths), 16 * MIB)
 
     def test_descriptors_keep_their_position(self):
         with open(self.file(DATA), "rb", buffering=0) as file:

@@ -117,6 +117,12 @@ class Results(unittest.TestCase):
             tree = ast.parse(file.read())
         seen = set()
         for owner in [tree, *(node for node in tree.body if isinstance(node, ast.ClassDef))]:
+            if isinstance(owner, ast.ClassDef):
+                is_final = [ast.unparse(each) for each in owner.decorator_list] == ["final"]
+                self.assertEqual(is_final, owner.name != "TreeHasher", owner.name)
+                if is_final:
+                    with self.assertRaises(TypeError):
+                        type("Other", (getattr(vulfsjor, owner.name),), {})
             for node in owner.body:
                 prefix = "vulfsjor" if hasattr(vulfsjor, getattr(node, "name", "")) else (
                     "vulfsjor._library")

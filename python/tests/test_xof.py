@@ -65,6 +65,7 @@ class Outputs(unittest.TestCase):
 
     def test_derived_keys(self):
         key = bytes(range(32))
+        self.assertIn("a key of 1 to 64 bytes", vulfsjor.derive_key.__doc__)
         found = {vulfsjor.derive_key(key, context, length)
                  for context in (b"", b"\0", b"files", b"cookies") for length in (32, 33, 64, 96)}
         self.assertEqual(len({each[:16] for each in found}), 16)
@@ -99,6 +100,9 @@ class Outputs(unittest.TestCase):
     def test_what_is_refused(self):
         for name, make, letter, longest, salt, most, _ in FAMILIES:
             self.assertEqual((make().name, make().block_size), (name, 2 * longest))
+            said = " ".join(make.__doc__.split())
+            self.assertIn(f"1 to {most}, or None if", said)
+            self.assertIn(f"up to {longest} bytes, salt and person up to {salt} each.", said)
             for word, limit in (("key", longest), ("salt", salt), ("person", salt)):
                 make(**{word: bytes(limit)})
                 with self.assertRaisesRegex(ValueError, f"maximum {word} length is {limit} bytes"):
