@@ -438,6 +438,11 @@ class Threads(unittest.TestCase):
                 lambda hasher: hasher.verify(wanted),
             ):
                 self.assertTrue(any(self.is_met(call, make()) for _ in range(100)))
+        for _, make, _ in OUTPUTS:
+            wanted = make(LONG).digest(9)
+            for call in (lambda output: output.copy().digest(9) == wanted,
+                         lambda output: output.digest(9) == wanted):
+                self.assertTrue(any(self.is_met(call, make()) for _ in range(100)))
 
     def is_met(self, call, hasher):
         """The result of a call while another thread updates the object."""
