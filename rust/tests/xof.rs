@@ -92,6 +92,11 @@ macro_rules! family {
                 assert!(last[4..] == [0xaa; 2] && Read::read(&mut reader, &mut last).unwrap() == 0);
                 reader.read(&mut []).unwrap();
                 assert_eq!($hasher::default().finalize_xof().left(), $whole);
+                // The documentation of `new` has the same number.
+                let source = include_str!("../src/xof.rs");
+                let (_, rest) = source.split_once(concat!("    ", stringify!($hasher), ",\n")).unwrap();
+                let said = format!("\"{} GiB\"", $hasher::new().finalize_xof().left() >> 30);
+                assert!(rest.split_once(");").unwrap().0.contains(&said));
             }
 
             #[test]
