@@ -592,6 +592,20 @@ class Modules(unittest.TestCase):
         gc.collect()  # the class of the classes, which is free once they are
         self.assertEqual(([each() for each in gone], classes()), ([None] * 3, before))
 
+    def test_what_later_versions_are_told(self):
+        """The module runs without the GIL, and in interpreters with a GIL each: the first two of
+        its slots, which Python knows from 3.13 and from 3.12 on."""
+        class Slot(ctypes.Structure):
+            _fields_ = [("number", ctypes.c_int), ("value", ctypes.c_size_t)]
+
+        start = ctypes.PyDLL(vulfsjor._library.__file__).PyInit__library
+        start.restype = ctypes.c_void_p
+        field = start() + object.__basicsize__ + 56
+        skipped = (sys.version_info < (3, 13)) + (sys.version_info < (3, 12))
+        first = ctypes.c_void_p.from_address(field).value - skipped * ctypes.sizeof(Slot)
+        slots = (Slot * 2).from_address(first)
+        self.assertEqual([(slot.number, slot.value) for slot in slots], [(4, 1), (3, 2)])
+
 
 class Words(unittest.TestCase):
     """The names, signatures and types of the package."""
@@ -704,6 +718,8 @@ class Words(unittest.TestCase):
         }
         self.assertEqual(declared, there)
         self.assertEqual(set(vulfsjor.__all__) - declared, {"tree_root_file"})
+        self.assertEqual(set(vulfsjor.__all__), {
+            name for name, thing in vars(vulfsjor).items() if callable(thing) and name[0] != "_"})
 
     def same_signature(self, node, owner, name):
         """Compares the names, kinds and defaults of a function's arguments with the stub."""

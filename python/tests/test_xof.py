@@ -93,9 +93,11 @@ class Outputs(unittest.TestCase):
                 make().digest(whole + 1)
             with self.assertRaisesRegex(ValueError, "value must be positive"):
                 make().digest(-1)
-            self.assertRaises(OverflowError, make().digest, 2**64)
+            with self.assertRaisesRegex(OverflowError, "length is too large"):
+                make().digest(2**64)
             self.assertRaises(TypeError, make().digest)
-            self.assertRaises(TypeError, make().hexdigest, 1.0)
+            with self.assertRaisesRegex(TypeError, "length must be an integer"):
+                make().hexdigest(1.0)
 
     def test_what_is_refused(self):
         for name, make, letter, longest, salt, most, _ in FAMILIES:
