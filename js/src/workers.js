@@ -56,8 +56,17 @@ function listen(worker, onMessage, onFault) {
   worker.onerror = ({ message }) => onFault(new Error(message ?? "it could not be started"));
 }
 
-// Lets other work of this thread run, such as what aborts a call.
-const pause = () => new Promise((resolve) => (globalThis.setImmediate ?? queueMicrotask)(resolve));
+// Lets other work of this thread run, such as what aborts a call. A browser has no setImmediate,
+// and its timers are slow in a page that is not seen.
+const pause = () => new Promise((resolve) => {
+  if (globalThis.setImmediate !== undefined) return setImmediate(resolve);
+  const { port1, port2 } = new MessageChannel();
+  port1.onmessage = () => {
+    port1.close();
+    resolve();
+  };
+  port2.postMessage(undefined);
+});
 
 /**
  * Hashes ranges of leaves, one at a time, in a worker or, if none can be started, here. It calls
@@ -129,7 +138,8 @@ export class RangeWorker {
   async #hash(job) {
     await pause();
     if (this.#isStopped) return;
-    await digestsOf(job).then(this.#listeners.onDigests, this.#listeners.onFault);
+    await digestsOf(job).then(
+      (digests) => this.#isStopped || this.#listeners.onDigests(digests), this.#listeners.onFault);
   }
 
   #end() {

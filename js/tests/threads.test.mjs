@@ -570,6 +570,33 @@ test("where a text cannot be started a file is, or else the calling thread hashe
       assert.deepEqual([counts.length, counts.at(-1)], [3, MESSAGE.length]);
     }
   }
+  // an abort comes through between ranges, although a browser has no setImmediate
+  Fake.failing = () => thrown;
+  const { setImmediate } = globalThis;
+  t.after(() => (globalThis.setImmediate = setImmediate));
+  delete globalThis.setImmediate;
+  const control = new AbortController();
+  const long = (async function* () { for (let i = 0; i < 9; i++) yield MESSAGE; })();
+  await assert.rejects(inBrowser(Fake, 4, () => byThreads(long, {
+    leafLength: 65536, threads: 2, onFallback() {}, signal: control.signal,
+    onProgress: () => setTimeout(() => control.abort(thrown)),
+  })), thrown);
+  // nothing is counted after the end of the call, whatever was being read then
+  const [late, counts] = [new AbortController(), []];
+  const slow = new Blob([MESSAGE]);
+  slow.slice = (from, to) => ({
+    async arrayBuffer() {
+      late.abort(thrown);
+      await new Promise((resolve) => setTimeout(resolve, 1));
+      return new ArrayBuffer(to - from);
+    },
+  });
+  await assert.rejects(inBrowser(Fake, 4, () => byThreads(slow, {
+    leafLength: 65536, threads: 2, onFallback() {}, signal: late.signal,
+    onProgress: (count) => counts.push(count),
+  })), thrown);
+  await new Promise((resolve) => setTimeout(resolve, 20));
+  assert.deepEqual(counts, []);
 });
 
 test("threads is an integer from 0 to 256, onFallback a function, and only of trees", async () => {
@@ -718,6 +745,9 @@ test("in node, too, the calling thread hashes what no worker can be started for"
   await assert.rejects(
     call({ leafLength: 64, onFallback() {}, onProgress, signal: control.signal }), fault);
   assert.ok(counts.length < 3, String(counts));
+  const before = counts.length;
+  await new Promise((resolve) => setTimeout(resolve, 50));
+  assert.equal(counts.length, before);
   const size = MESSAGE.length + 5;
   const longer = { fd: file.fd, stat: async () => ({ isFile: () => true, size }) };
   await assert.rejects(
