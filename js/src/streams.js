@@ -107,8 +107,11 @@ function checkCallback(value, caller, what) {
   }
 }
 
+// A signal needs what AbortSignalLike has: those of older browsers have no more.
 function checkSignal(value, caller) {
-  if (value !== undefined && typeof value?.throwIfAborted !== "function") {
+  if (value === undefined) return;
+  const calls = [value?.addEventListener, value?.removeEventListener];
+  if (typeof value?.aborted !== "boolean" || calls.some((call) => typeof call !== "function")) {
     throw new TypeError(`${caller}: signal must be an AbortSignal, not ${kindOf(value)}`);
   }
 }

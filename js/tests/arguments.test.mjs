@@ -437,8 +437,13 @@ test("streams reject what calls refuse", async () => {
   await rejects(treeRootStream(new Blob()), TypeError, "treeRootStream: leafLength must be given");
   await rejects(blake2bStream(new Blob(), { onProgress: 5 }), TypeError,
     "blake2bStream: onProgress must be a function, not a number");
-  await rejects(blake2bStream(new Blob(), { signal: {} }), TypeError,
-    "blake2bStream: signal must be an AbortSignal, not an object");
+  for (const [signal, said] of [
+    [{}, "an object"], [null, "null"], [new AbortController(), "an instance of AbortController"],
+    [{ aborted: false }, "an object"], [new EventTarget(), "an instance of EventTarget"],
+  ]) {
+    await rejects(blake2bStream(new Blob(), { signal }), TypeError,
+      `blake2bStream: signal must be an AbortSignal, not ${said}`);
+  }
   await rejects(blake2bStream(new Blob(), {}, 1), TypeError,
     `blake2bStream: ${tooMany(3, 2)}`);
 });

@@ -123,6 +123,16 @@ test("an abort ends it, before and on the way", async () => {
   assert.equal(reason, fault);
   await assert.rejects(
     blake2bStream((async function* () {})(), { signal: AbortSignal.abort(fault) }), fault);
+  // a signal that has only what the types call for
+  const listeners = new Set();
+  const signal = {
+    aborted: false,
+    addEventListener: (type, listener) => listeners.add(listener),
+    removeEventListener: (type, listener) => listeners.delete(listener),
+  };
+  const onProgress = () => listeners.forEach((listener) => listener());
+  await assert.rejects(blake2bStream(blob, { signal, onProgress }), { name: "AbortError" });
+  assert.equal(listeners.size, 0);
 });
 
 test("what fails after the first failure is not reported", async (t) => {
