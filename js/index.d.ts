@@ -205,7 +205,8 @@ export function treeRootOfLeaves(digests: Bytes, options: TreeOptions): Uint8Arr
 
 /**
  * Returns the BLAKE2b digest of everything that a source contains. A stream is read to its end or
- * canceled. If a file changes while it is read, the promise rejects.
+ * canceled. Keep a file unchanged until the promise settles: it rejects if the file of a `Blob`
+ * changes, or if that of a `FileHandle` becomes shorter, and no other change is noticed.
  */
 export function blake2bStream(
   source: Source,
