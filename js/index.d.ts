@@ -294,13 +294,13 @@ export interface OutputOptions {
    * The bytes of the output, 1 to 2^32 - 2 (BLAKE2Xb) or 65,534 (BLAKE2Xs); without it the length is
    * not known in advance. The output depends on it.
    */
-  outputLength?: number;
+  outputLength?: number | undefined;
   /** A key of 1 to 64 bytes (BLAKE2Xb) or 32 (BLAKE2Xs). */
-  key?: Bytes;
+  key?: Bytes | undefined;
   /** A salt of up to 16 bytes (BLAKE2Xb) or 8 (BLAKE2Xs). */
-  salt?: Bytes;
+  salt?: Bytes | undefined;
   /** A personalization of up to 16 bytes (BLAKE2Xb) or 8 (BLAKE2Xs). */
-  personalization?: Bytes;
+  personalization?: Bytes | undefined;
 }
 
 declare abstract class Output {
@@ -319,6 +319,8 @@ declare abstract class Output {
   copy(): this;
   /** Overwrites the state. All later calls throw. */
   wipe(): void;
+  /** The same as `wipe`, for `using`. */
+  [Symbol.dispose](): void;
 }
 
 /** BLAKE2Xb, an output of any length that is read in pieces. */

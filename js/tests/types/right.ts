@@ -1,7 +1,8 @@
 // Compiles, and each line marked as an error is one.
 import {
-  Blake2b, Blake2bp, Blake2s, Blake2sp, TreeHash, blake2b, blake2bMany, blake2bStream, blake2bp,
-  blake2bpStream, blake2s, blake2sp, blake2spStream, equal, fromHex,
+  Blake2b, Blake2bp, Blake2s, Blake2sp, Blake2xb, Blake2xs, TreeHash, blake2b, blake2bMany,
+  blake2bStream, blake2bp, blake2bpStream, blake2s, blake2sp, blake2spStream, deriveKey, equal,
+  fromHex,
   hashTransform, hashWritable, hex, load, treeLeaves, treeRoot, treeRootOfLeaves, treeRootStream, utf8, type Bytes, type FileHandleLike,
   type HashOptions, type ManyOptions, type ParallelOptions,
 } from "vulfsjor";
@@ -37,6 +38,45 @@ async function all(file: Blob, signal: AbortSignal): Promise<Uint8Array[]> {
   ];
 }
 console.log(isSame, roots, many, others, all, new Blake2b()[Symbol.dispose]);
+
+// outputs of any length
+const output = new Blake2xb({ outputLength: 9, key: digest }).update(digest).copy();
+const left: bigint = output.left;
+const read: Uint8Array[] = [output.read(5), new Blake2xs().read(9), deriveKey(digest, digest, 32)];
+console.log(left, read, output[Symbol.dispose]());
+// @ts-expect-error a key has a length
+deriveKey(digest, digest);
+// @ts-expect-error an output has another name for its length
+new Blake2xs({ digestLength: 32 });
+// @ts-expect-error an output has no digest
+output.digest();
+
+// a subclass stays one, and lengths are those of the options
+class Counted extends Blake2b {
+  count = 0;
+}
+new Counted().update(digest).copy().reset().count++;
+// @ts-expect-error read only
+new Blake2b().digestLength = 32;
+
+// what is undefined is not given
+const none = {
+  digestLength: undefined, key: undefined, salt: undefined, personalization: undefined,
+};
+const no = undefined;
+blake2b(digest, { ...none, tree: no });
+blake2b(digest, {
+  tree: {
+    fanout: no, depth: no, leafLength: no, nodeOffset: no, nodeDepth: no, innerLength: no,
+    lastNode: no,
+  },
+});
+new Blake2xb({ outputLength: no, key: no, salt: no, personalization: no });
+treeLeaves(digest, { leafLength: 5, first: 0, ends: true, salt: no, personalization: no });
+treeRootStream(new Blob([]), {
+  leafLength: 5, digestLength: no, salt: no, personalization: no, threads: no, onFallback: no,
+  onProgress: no, signal: no,
+});
 
 // a source of node
 declare const handle: FileHandleLike;
