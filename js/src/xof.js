@@ -79,7 +79,10 @@ export class Output {
     refuseMore(rest, caller, 1);
     if (length === undefined) throw new TypeError(`${caller}: length must be given`);
     const count = integerOf(length, caller, "length", 0, MOST);
-    const output = engine.squeeze(this.#kind, this.#open("read"), count);
+    const state = this.#open("read");
+    this.#state = undefined; // as in update
+    const output = engine.squeeze(this.#kind, state, count);
+    this.#state = state;
     if (output === undefined) {
       throw new RangeError(`${caller}: only ${this.left} bytes of the output are left`);
     }

@@ -32,8 +32,8 @@ WebAssembly.Instance = class {
   }
 };
 const {
-  Blake2b, Blake2bp, Blake2s, Blake2sp, TreeHash, blake2b, blake2bMany, blake2bp, blake2s,
-  blake2sMany, blake2sp, equal, treeLeaves, treeRoot, treeRootOfLeaves,
+  Blake2b, Blake2bp, Blake2s, Blake2sp, Blake2xb, TreeHash, blake2b, blake2bMany, blake2bp,
+  blake2s, blake2sMany, blake2sp, equal, treeLeaves, treeRoot, treeRootOfLeaves,
 } = await import("../index.js");
 const engine = await import("../src/engine.js");
 
@@ -141,6 +141,15 @@ test("what the library refuses is an error, and the memory is given up", () => {
     refused = undefined;
     assert.equal(engine.memory(), undefined);
   }
+});
+
+test("an output ends with a call that fails, so that none of it is left out", () => {
+  const output = new Blake2xb();
+  refused = "blake2xb_squeeze";
+  assert.throws(() => output.read(1), { message: "vulfsjor: the library refused a call" });
+  refused = undefined;
+  assert.throws(() => output.read(1),
+    { message: "Blake2xb.read: this output was wiped, or a call failed" });
 });
 
 test("an update that is too long changes nothing", () => {
