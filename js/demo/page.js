@@ -252,8 +252,11 @@ function judge(entry, { byName, byDigest }) {
     other.base === entry.base && other.name !== entry.name &&
     other.kinds.some((kind) => isOf(entry, kind)));
   const left = named.filter((item) => !namesakes().some((other) => isIn(other, item)));
-  const states = left.flatMap(({ digests }) =>
-    digests.filter(({ kind }) => isOf(entry, kind)).map(({ state }) => state));
+  const states = left.flatMap(({ digests, isStopped }) => {
+    const own = digests.filter(({ kind }) => isOf(entry, kind));
+    if (own.length === 0 && !isStopped) return ["open"]; // it is requested after a pause
+    return own.map((each) => each.state);
+  });
   const state = equal.some(({ item }) => named.includes(item)) ? "OK"
     : left.length === 0 ? "no such file below"
       : states.includes("open") ? "still being computed"

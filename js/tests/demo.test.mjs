@@ -203,6 +203,11 @@ test("a manifest has a verdict for each file, with digests of all lengths", asyn
     assert.deepEqual((await page.evaluate(LINES))[0], [names[i], "FAILED"]);
     assert.equal(await page.evaluate("document.getElementById('verdict').className"), "bad");
   }
+  // of another length, which is computed after a pause
+  const other = "0".repeat(42);
+  assert.equal(await page.compare(`${other}  one byte\n${other}  empty.txt`),
+    "2 digests: 2 still being computed. 0");
+  await page.until(`${VERDICT} === "2 digests: 2 FAILED."`, 20);
   assert.deepEqual(page.faults, []);
 });
 
