@@ -554,6 +554,28 @@ static void check_length(void) {
     __real_close(9);
 }
 
+/* While threads read a file, their bytes are shown with those before; if they fail, only those. */
+static void check_tree(void) {
+    static char bytes[1 << 20];
+    const int file = file_of(5 << 20, 0);
+
+    CHECK(dup2(file, 0) == 0 && !__real_close(file));
+    time_now = 7000;
+    update.reports = 2;
+    CHECK(absorbs(0, 1) && !strcmp(written, "\r-: 1 MiB of 5\033[K\r-: 2 MiB of 5\033[K"));
+    written[0] = 0;
+    update.status = -1;
+    CHECK(absorbs(0, 1) && !strcmp(written, "\r\033[K\r-: 3 MiB of 5\033[K\r-: 4 MiB of 5\033[K"));
+    update.status = update.reports = written[0] = 0;
+    time_now += 600;
+    next_count = sizeof bytes;
+    CHECK(b2sum_read(0, bytes, sizeof bytes) == next_count);
+    CHECK(!strcmp(written, "\r-: 3 MiB of 5\033[K"));
+    next_count = written[0] = 0;
+    CHECK(b2sum_read(0, bytes, 1) == 0 && !strcmp(written, "\r\033[K"));
+    written[0] = 0;
+}
+
 int checks(void) {
     const bool is_wanted = getenv("SHOWS");
 
@@ -566,6 +588,7 @@ int checks(void) {
     if (is_shown) {
         check_progress();
         check_length();
+        check_tree();
     } else {
         CHECK(opens_as("a", "a"));
         CHECK(shows(1000, 1, "") && shows(9000, 1, "") && shows(9999, 0, ""));
