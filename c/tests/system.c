@@ -120,8 +120,37 @@ static void try_paths(void) {
     memset(longest, 'n', LONGEST_PATH);
     CHECK(!wide_path(longest, room) && errno == ENAMETOOLONG);
 }
+
+/* A file that others have open for writing, what they may do with one that is open here, and one
+ * that another has for itself. */
+static void try_sharing(void) {
+    static const wchar_t wide[] = L"caf\u00e9 \U0001f600";
+    int writer = _wopen(wide, _O_WRONLY | _O_BINARY), file = open_path(name);
+    HANDLE alone;
+
+    CHECK(writer >= 0 && file >= 0 && !close(writer));
+    CHECK((writer = _wopen(wide, _O_WRONLY | _O_BINARY)) >= 0 && !close(writer));
+    CHECK(!_wrename(wide, L"other") && !_wrename(L"other", wide) && !close(file));
+    alone = CreateFileW(wide, GENERIC_READ, 0, NULL, OPEN_EXISTING, 0, NULL);
+    errno = 0;
+    CHECK(alone != INVALID_HANDLE_VALUE && open_path(name) == -1 && errno == EACCES);
+    CloseHandle(alone);
+}
+
+/* A byte past 4 GiB, which wine keeps in a file with a hole. */
+static void try_far(void) {
+    const int64_t from = ((int64_t)1 << 32) + 5;
+    const int file = open("far", O_RDWR | O_CREAT | O_TRUNC | O_BINARY, 0600);
+    char byte = 0;
+
+    CHECK(file >= 0 && lseek(file, from, SEEK_SET) == from && write(file, "f", 1) == 1);
+    CHECK(read_from(file, &byte, 1, (uint64_t)from) == 1 && byte == 'f');
+    CHECK(!close(file) && !unlink("far"));
+}
 #else
 static void try_paths(void) {}
+static void try_sharing(void) {}
+static void try_far(void) {}
 #endif
 
 /* Threads that wait until all run at the same time. */
@@ -163,6 +192,8 @@ int main(int count, char **words) {
     for (size_t i = 0; i < sizeof threads / sizeof *threads; i++) try_threads(threads[i]);
     try_errors();
     try_paths();
+    try_sharing();
+    try_far();
     try_start(count == 2 ? (unsigned)atoi(words[1]) : 0);
     return fails != 0;
 }
