@@ -646,6 +646,9 @@ static void progress_ends_calls(void) {
     take(FEW, 4096, 1);
     expect(root_of_all, 0);
     CHECK(reported.calls >= 2);
+    take((1 << 20) + 1000, 4096, 1);
+    expect(root_of_piped_rest, 0);
+    CHECK(reported.calls == 1); /* not again at the end of a stream of whole pieces */
 }
 
 /* ---- how many threads hash */
