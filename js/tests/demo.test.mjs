@@ -234,14 +234,19 @@ test("what is in a manifest and is not here, or is no line of one, is said", LON
       `BLAKE2s-264 (one byte) = ${b256}00\nand a remark`,
       "1 digest: 1 OK, 6 lines not understood.", ["one byte", "OK"]],
     // names that are escaped, and a digest alone
-    [`\\${b256}  a\\nb\\\\c\n${b256}`, "2 digests: 1 no such file below, 1 OK.",
-      ["a b\\c", "no such file below"], [b256, "OK"]],
+    [`\\${b256}  a\\nb\\\\c\\rd\n${b256}`, "2 digests: 1 no such file below, 1 OK.",
+      ["a b\\c d", "no such file below"], [b256, "OK"]],
+    // lines of b2sum -z
+    [`${b256}  one byte\0${other}  one byte\0`, "2 digests: 1 FAILED, 1 OK.",
+      ["one byte", "FAILED"], ["one byte", "OK"]],
     [`${nothing}\n${"0".repeat(56)}`, "2 digests: 1 FAILED, 1 OK.",
       ["0".repeat(56), "FAILED"], [nothing, "OK"]],
   ]) {
     await page.compare(text);
     await page.until(`${VERDICT} === ${JSON.stringify(verdict)}`, 20);
     assert.deepEqual(await page.evaluate(LINES), lines, text);
+    assert.equal(await page.evaluate("document.getElementById('verdict').className"),
+      verdict.includes("FAILED") ? "bad" : "quiet", text);
   }
   // no more lines are shown than can be read
   await page.compare(`${b256}  name\n`.repeat(1000));
@@ -313,10 +318,20 @@ test("files are stopped while hashed or waiting, and a changed one is reported",
   truncateSync(large, 3_000_000_000);
   await page.setFiles("#files", [large]);
   await page.until("document.querySelector('progress')?.value > 1e6");
+  const zeros = "0".repeat(64);
+  assert.equal(await page.compare(zeros),
+    "Not equal to any digest so far; some are still being computed. 0");
+  const named = `${zeros}  large.img\n${zeros}  other`;
+  assert.equal(await page.compare(named),
+    "2 digests: 1 still being computed, 1 no such file below. 0");
   await page.evaluate("document.querySelector('article .top button').focus()");
   await page.evaluate("document.activeElement.click()");
   await page.until("document.querySelector('article').dataset.state === 'failed'");
   assert.equal(await page.evaluate("document.activeElement.tagName"), "ARTICLE");
+  assert.equal(await page.compare(named),
+    "2 digests: 1 could not be computed, 1 no such file below. 0");
+  await page.compare(`${"0".repeat(40)}  large.img`); // which is not begun again
+  await page.evaluate(PAUSE);
   // the workers are free again, and what waits for them is changed or stopped
   await page.evaluate("workers.forEach((worker) => (worker.isFree = false))");
   const gone = join(folder, "gone.bin");
@@ -385,6 +400,7 @@ test("the page is readable, has a name for each control, and connects to nothing
       new Image().src = "${url}/image";
       const [script, inside, form] = ["script", "script", "form"].map((name) =>
         document.body.appendChild(document.createElement(name)));
+      document.head.appendChild(document.createElement("base")).href = "${url}";
       script.src = "${url}/script";
       inside.textContent = "window.ran = true";
       form.action = "${url}/form";
@@ -394,6 +410,7 @@ test("the page is readable, has a name for each control, and connects to nothing
     }`);
     assert.deepEqual(asked, []);
     assert.equal(await page.evaluate("String(window.ran)"), "undefined");
+    assert.equal(await page.evaluate("document.baseURI"), `${PAGE}#proved`);
   } finally {
     server.close();
   }
