@@ -3,7 +3,8 @@
 //   node tests/keep_key.mjs FORM      writes a line, the key with each byte xored with 0x5a
 import { openSync, readSync, writeSync } from "node:fs";
 import {
-  Blake2b, Blake2bp, Blake2s, Blake2sp, blake2b, blake2bMany, blake2bp, blake2s, blake2sp, utf8,
+  Blake2b, Blake2bp, Blake2s, Blake2sp, Blake2xb, blake2b, blake2bMany, blake2bp, blake2s, blake2sp,
+  deriveKey, utf8,
 } from "../index.js";
 
 const form = process.argv[2];
@@ -45,6 +46,13 @@ const forms = {
   "Blake2bp, verify": () =>
     [short, long].forEach((message) => new Blake2bp({ key }).update(message).verify(tag)),
   "Blake2bp, copy and reset": () => copyAndReset(new Blake2bp({ key })),
+  "Blake2xb, read and wipe": () => {
+    const output = new Blake2xb({ key });
+    const copy = output.copy().update(short);
+    copy.read(9);
+    [output, copy].forEach((each) => each.wipe());
+  },
+  "deriveKey": () => deriveKey(key, short, 9),
   "Blake2b, wipe": () => new Blake2b({ key }).update(long).wipe(),
   "Blake2b, dropped": () => {
     (() => new Blake2b({ key }))();

@@ -60,7 +60,7 @@ const FORMS = [
   "blake2b of a key in the heap", "Blake2b of a key in the heap", "Blake2b, digest of nothing",
   "blake2bp in one call", "blake2sp in one call", "Blake2bp, digest", "Blake2sp, digest",
   "Blake2bp, verify", "Blake2bp, copy and reset", "Blake2b, verify", "Blake2b, copy and reset",
-  "Blake2b, wipe", "Blake2b, dropped",
+  "Blake2b, wipe", "Blake2b, dropped", "Blake2xb, read and wipe", "deriveKey",
 ].filter((form) => HUGE || !/lake2(s|bp|sp)/.test(form));
 
 test("pieces of a key in the memory of the process", async (t) => {

@@ -5,10 +5,10 @@ import test from "node:test";
 import v8 from "node:v8";
 import vm from "node:vm";
 import {
-  Blake2b, Blake2bp, Blake2s, Blake2sp, TreeHash, blake2b, blake2bMany, blake2bp, equal, load,
-  treeRoot, utf8,
+  Blake2b, Blake2bp, Blake2s, Blake2sp, Blake2xb, TreeHash, blake2b, blake2bMany, blake2bp, equal,
+  load, treeRoot, utf8,
 } from "../index.js";
-import { memory } from "../src/engine.js";
+import { BLAKE2B, BLAKE2XB, memory } from "../src/engine.js";
 import { assertClean, HUGE, hexOf } from "./common.mjs";
 
 const M = utf8("message");
@@ -250,8 +250,9 @@ test("the state of a run under a key is wiped when its object goes", async () =>
   const collect = vm.runInNewContext("gc");
   const { fill } = Uint8Array.prototype;
   const wiped = [];
+  const lengths = [BLAKE2B.stateLength, BLAKE2XB.stateLength];
   Uint8Array.prototype.fill = function (...words) {
-    if (this.buffer.byteLength === this.length && this.length === 424) {
+    if (this.buffer.byteLength === this.length && lengths.includes(this.length)) {
       wiped.push(this.some((byte) => byte !== 0));
       assert.deepEqual(words, [0]);
     }
@@ -268,15 +269,17 @@ test("the state of a run under a key is wiped when its object goes", async () =>
     wiped.length = 0;
     (() => {
       for (let i = 0; i < 50; i++) {
-        new Blake2b({ key: KEY.subarray(31 * (i % 2)) }).update(M).copy();
+        const key = KEY.subarray(31 * (i % 2));
+        new Blake2b({ key }).update(M).copy();
+        new Blake2xb({ key }).update(M).copy();
       }
     })();
-    await collectUntil(() => wiped.length >= 100);
+    await collectUntil(() => wiped.length >= 200);
   } finally {
     Uint8Array.prototype.fill = fill;
   }
-  assert.ok(wiped.filter(Boolean).length >= 90, `${wiped.length} states were wiped`);
-  assert.ok(wiped.length <= 100, `${wiped.length} states were wiped`);
+  assert.ok(wiped.filter(Boolean).length >= 190, `${wiped.length} states were wiped`);
+  assert.ok(wiped.length <= 200, `${wiped.length} states were wiped`);
 });
 
 test("load compiles ahead, and again", async () => {

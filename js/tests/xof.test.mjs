@@ -7,6 +7,8 @@ import { test } from "node:test";
 import { fileURLToPath } from "node:url";
 
 import { Blake2xb, Blake2xs, deriveKey, fromHex, hex, utf8 } from "../index.js";
+import { BLAKE2XB } from "../src/engine.js";
+import { assertClean } from "./common.mjs";
 
 const SCRIPT = fileURLToPath(new URL("../../tests/vectors.py", import.meta.url));
 const FAMILIES = [
@@ -110,7 +112,31 @@ test("a long output, in pieces of the memory", () => {
   const output = new Blake2xb().update(utf8("abc"));
   for (const [at, n] of [[0, 65536], [65536, 65537], [131073, 68927]]) {
     assert.equal(hex(output.read(n)), hex(whole.subarray(at, at + n)));
+    assertClean("read");
   }
+});
+
+test("wipe, the end of a block and deriveKey set the state to zero", () => {
+  const key = utf8("a key");
+  const { slice } = Uint8Array.prototype;
+  const states = [];
+  Uint8Array.prototype.slice = function (...words) {
+    const made = Reflect.apply(slice, this, words);
+    if (made.length === BLAKE2XB.stateLength) states.push(made);
+    return made;
+  };
+  try {
+    for (const end of ["wipe", Symbol.dispose ?? Symbol.for("Symbol.dispose")]) {
+      const output = new Blake2xb({ key });
+      output.read(1);
+      assert.ok(states.at(-1).some((byte) => byte !== 0));
+      output[end]();
+    }
+    deriveKey(key, key, 64);
+  } finally {
+    Uint8Array.prototype.slice = slice;
+  }
+  assert.deepEqual(states.map((state) => state.every((byte) => byte === 0)), Array(3).fill(true));
 });
 
 test("derived keys", () => {
