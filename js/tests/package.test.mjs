@@ -56,6 +56,7 @@ test("npm installs it by the command of the pages, and it needs this folder no l
       console.log(hex(root).slice(0, 8));`;
     // the RFC's and hashlib's
     assert.equal(run("--input-type=module", "-e", program), "ba80a53f\n19fc31bb\n");
+    assert.equal(run("-p", 'require("vulfsjor/package.json").name'), "vulfsjor\n");
     // from CommonJS: in each version by a call, and by require in those that can
     const inCommon = (from) => `(async () => {
       const { blake2b, hex, utf8 } = ${from}("vulfsjor"); ${print} })();`;

@@ -74,7 +74,12 @@ test("progress counts up to the end", async () => {
   counts.length = 0;
   await blake2bStream(
     streamOf(piecesOf(4_000_000)), { onProgress: (...both) => counts.push(both) });
-  assert.deepEqual(counts, [[4000000, undefined], [8000000, undefined], [9000000, undefined]]);
+  const unknown = [[4000000, undefined], [8000000, undefined], [9000000, undefined]];
+  assert.deepEqual(counts, unknown);
+  counts.length = 0;
+  const pieces = (async function* () { yield* piecesOf(4_000_000); })();
+  await blake2bStream(pieces, { onProgress: (...both) => counts.push(both) });
+  assert.deepEqual(counts, unknown);
 });
 
 test("what fails rejects, and the source is released", async () => {
@@ -93,6 +98,16 @@ test("what fails rejects, and the source is released", async () => {
   const broken = new Error("broken");
   await assert.rejects(blake2bStream(new ReadableStream({ pull() { throw broken; } })), broken);
   await assert.rejects(blake2bStream((async function* () { throw broken; })()), broken);
+  let isEnded = false;
+  const pieces = (async function* () {
+    try {
+      for (const piece of piecesOf(1000)) yield piece;
+    } finally {
+      isEnded = true;
+    }
+  })();
+  await assert.rejects(blake2bStream(pieces, { onProgress() { throw fault; } }), fault);
+  assert.equal(isEnded, true);
   const locked = new Blob([MESSAGE]).stream();
   locked.getReader();
   await assert.rejects(blake2bStream(locked), TypeError);

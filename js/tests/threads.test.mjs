@@ -7,6 +7,8 @@ import { mkdtemp, open, rm, truncate, writeFile } from "node:fs/promises";
 import os from "node:os";
 import { join } from "node:path";
 import test, { after } from "node:test";
+import v8 from "node:v8";
+import vm from "node:vm";
 import workerThreads from "node:worker_threads";
 import { blake2b, blake2bStream, hex, treeLeaves, treeRoot, treeRootOfLeaves, treeRootStream, utf8 } from "../index.js";
 import { processorCount } from "../src/workers.js";
@@ -309,6 +311,10 @@ const AHEAD = "two ranges for each worker are ahead of the first, and the root h
 for (const [leafLength, leaves, ranges] of [[65536, 64, 40], [16, 65536, 8]]) test(AHEAD, async () => {
   const count = 3;
   const digestsOf = (i) => new Uint8Array(64 * leaves).fill(i);
+  v8.setFlagsFromString("--expose-gc");
+  const collect = vm.runInNewContext("gc");
+  const made = []; // references to the digests
+  let kept = true;
   let sent = 0;
   const Class = class extends EventEmitter {
     constructor() {
@@ -322,7 +328,14 @@ for (const [leafLength, leaves, ranges] of [[65536, 64, 40], [16, 65536, 8]]) te
       while (i === 0 && sent < 2 * count) await new Promise((resolve) => setTimeout(resolve, 1));
       await new Promise((resolve) => setTimeout(resolve, i === 0 ? 20 : (7 * i) % 4));
       if (i === 0) assert.equal(sent, 2 * count);
-      this.emit("message", digestsOf(i));
+      for (let left = 50; i === ranges - 1 && kept && left > 0; left--) {
+        collect();
+        kept = made[0].deref() !== undefined; // which itself keeps it until the next turn
+        await new Promise((resolve) => setTimeout(resolve, 1));
+      }
+      const digests = digestsOf(i);
+      made[i] = new WeakRef(digests);
+      this.emit("message", digests);
     }
     terminate() {}
   };
@@ -330,6 +343,7 @@ for (const [leafLength, leaves, ranges] of [[65536, 64, 40], [16, 65536, 8]]) te
   const root = await withWorkers(Class, () => byThreads(handle, { leafLength, threads: count }));
   const all = Buffer.concat(Array.from({ length: ranges }, (_, i) => digestsOf(i)));
   assert.equal(root, hex(treeRootOfLeaves(all, { leafLength })));
+  assert.equal(kept, false); // once the root has them
 });
 
 test("past 4 GiB each part of a file is read where it is", async () => {

@@ -95,7 +95,15 @@ for (const [family, Output, longest, salt, most, whole] of FAMILIES) {
       assert.throws(() => start.read(length), TypeError);
     }
     for (const length of [-1, 1.5, 2 ** 31]) assert.throws(() => start.read(length), RangeError);
-    assert.throws(() => start.read(1, 2), TypeError);
+    for (const call of [
+      () => start.read(1, 2), () => start.update(utf8("a"), 1), () => start.copy(1),
+    ]) {
+      assert.throws(call, { name: "TypeError", message: /too many arguments/ });
+    }
+    assert.equal(start.copy().update(utf8("")).read(0).length, 0);
+    const begun = start.copy();
+    begun.read(0);
+    assert.throws(() => begun.update(utf8("a")), { name: "TypeError", message: /being read/ });
     assert.throws(() => start.update("text"), TypeError);
     start.wipe();
     for (const call of [() => start.read(1), () => start.update(utf8("a")), () => start.copy(),
@@ -150,6 +158,7 @@ test("derived keys", () => {
     }
   }
   assert.equal(found.size, 9);
+  assert.equal(deriveKey(key, key, 2 ** 16).length, 2 ** 16);
   assert.throws(() => deriveKey(new Uint8Array(0), key, 1), RangeError);
   assert.throws(() => deriveKey(new Uint8Array(65), key, 1), RangeError);
   assert.throws(() => deriveKey(undefined, key, 1), TypeError);
