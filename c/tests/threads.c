@@ -353,6 +353,28 @@ static void compare_stream(int from, int to) {
     close(from);
 }
 
+static int grows(void *context, uint64_t count) {
+    uint64_t *const last = context;
+
+    CHECK(count > *last);
+    *last = count;
+    return 0;
+}
+
+/* A stream of several pieces, whose progress grows to its length. */
+static void update_by_stream(void) {
+    vulfsjor_tree_state state;
+    uint64_t count = 0;
+    pthread_t writer;
+    int ends[2];
+
+    CHECK(!vulfsjor_tree_init(&state, 64, 0, 0, 0, 0, 65536) && !pipe(ends));
+    CHECK(!pthread_create(&writer, NULL, write_pieces, &ends[1]));
+    CHECK(!vulfsjor_tree_update_fd(&state, ends[0], 4, grows, &count) && count == 3 << 20);
+    CHECK(!vulfsjor_tree_final(&state, root, 64) && !memcmp(root, wanted, 64));
+    CHECK(!pthread_join(writer, NULL) && !close(ends[0]));
+}
+
 static void *open_and_write(void *given) {
     int file = open(given, O_WRONLY);
 
@@ -367,6 +389,7 @@ static void streams(void) {
     compare_stream(ends[0], ends[1]);
     CHECK(!socketpair(AF_UNIX, SOCK_STREAM, 0, ends));
     compare_stream(ends[0], ends[1]);
+    update_by_stream();
     unlink(other);
     CHECK(!mkfifo(other, 0600) && !pthread_create(&writer, NULL, open_and_write, other));
     memset(root, 0, 64);
