@@ -119,6 +119,10 @@ static void try_paths(void) {
     CHECK(!wide_path("\xff", room) && errno == ENOENT);
     memset(longest, 'n', LONGEST_PATH);
     CHECK(!wide_path(longest, room) && errno == ENAMETOOLONG);
+    CHECK(number_of(ERROR_ACCESS_DENIED) == EACCES && number_of(ERROR_LOCK_VIOLATION) == EACCES);
+    CHECK(number_of(ERROR_BAD_NETPATH) == ENOENT && number_of(ERROR_INVALID_HANDLE) == EBADF);
+    CHECK(number_of(ERROR_TOO_MANY_OPEN_FILES) == EMFILE && number_of(ERROR_OUTOFMEMORY) == ENOMEM);
+    CHECK(number_of(ERROR_FILENAME_EXCED_RANGE) == ENAMETOOLONG && number_of(ERROR_CRC) == EIO);
 }
 
 /* A file that others have open for writing, what they may do with one that is open here, and one
@@ -147,10 +151,20 @@ static void try_far(void) {
     CHECK(read_from(file, &byte, 1, (uint64_t)from) == 1 && byte == 'f');
     CHECK(!close(file) && !unlink("far"));
 }
+
+/* One of the processors, and all again. */
+static void try_affinity(void) {
+    DWORD_PTR own, all;
+
+    CHECK(GetProcessAffinityMask(GetCurrentProcess(), &own, &all));
+    CHECK(SetProcessAffinityMask(GetCurrentProcess(), own & -own) && processors() == 1);
+    CHECK(SetProcessAffinityMask(GetCurrentProcess(), own));
+}
 #else
 static void try_paths(void) {}
 static void try_sharing(void) {}
 static void try_far(void) {}
+static void try_affinity(void) {}
 #endif
 
 /* Threads that wait until all run at the same time. */
@@ -194,6 +208,7 @@ int main(int count, char **words) {
     try_paths();
     try_sharing();
     try_far();
+    try_affinity();
     try_start(count == 2 ? (unsigned)atoi(words[1]) : 0);
     return fails != 0;
 }
