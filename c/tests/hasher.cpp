@@ -3,7 +3,9 @@
  * reads them; returns 0 if all else is as it should be.
  *
  *   c++ -std=c++17 -I FOLDER/include hasher.cpp ARCHIVE -o hasher
- *   ./hasher | python3 check_with_hashlib.py  the same with -std=c++20, and with -fno-exceptions */
+ *   ./hasher | python3 check_with_hashlib.py  the same with -std=c++20, and with -fno-exceptions
+ *
+ * With -DTEST_SECRETS it tests only that the time of verify depends on no byte, under valgrind. */
 #include <vulfsjor.hpp>
 
 #include "check.h"
@@ -12,6 +14,9 @@
 #include <string_view>
 #if __has_include(<span>) && __cplusplus >= 202002L
 #include <span>
+#endif
+#ifdef TEST_SECRETS
+#include <valgrind/memcheck.h>
 #endif
 
 using vulfsjor::blake2b;
@@ -60,7 +65,8 @@ static_assert(is_bytes<const char *> && is_bytes<const char (&)[4]> && is_bytes<
               is_bytes<std::vector<char>> && is_bytes<const std::array<std::byte, 4> &>);
 static_assert(!is_bytes<std::nullptr_t> && !is_bytes<int> && !is_bytes<unsigned char *> &&
               !is_bytes<std::vector<int>> && !is_bytes<std::u16string> &&
-              !is_bytes<int (&)[4]> && !is_bytes<std::vector<bool>> && !is_bytes<const void *>);
+              !is_bytes<int (&)[4]> && !is_bytes<std::vector<bool>> && !is_bytes<const void *> &&
+              !is_bytes<std::array<bool, 4>> && !is_bytes<std::vector<signed char>>);
 #ifdef __cpp_lib_span
 static_assert(is_bytes<std::span<const std::byte>> && is_bytes<std::span<unsigned char, 4>> &&
               !is_bytes<std::span<const int>>);
@@ -93,6 +99,11 @@ template <class H> void tell(std::size_t size, std::size_t keylen, std::size_t s
     std::printf("hash %s %zu %zu %zu %zu 0 %zu ", name<H>, size, keylen, saltlen, personallen,
                 length);
     print(hasher->digest());
+#ifdef __cpp_exceptions
+    H constructed(given);
+    CHECK(constructed.update(message.data(), length) && constructed.verify(hasher->digest()));
+    CHECK(H::hash(bytes(message.data(), length), given) == hasher->digest());
+#endif
 }
 
 template <class H> void digests() {
@@ -114,7 +125,10 @@ template <class H> void nodes() {
     last.set_last_node(true);
     CHECK(last.update(message.data(), 20));
     std::printf("last %s %zu 20 ", name<H>, longest<H>);
-    print(last.digest());
+    const auto digest = last.digest();
+    print(digest);
+    last.reset(); /* which keeps it */
+    CHECK(last.update(message.data(), 20) && last.digest() == digest);
     last.set_last_node(false);
     std::printf("hash %s %zu 0 0 0 0 20 ", name<H>, longest<H>);
     print(last.digest());
@@ -305,15 +319,16 @@ template <class H, class F> void parallel(F one_call) {
     CHECK(plain.update(message) && plain.digest() == longest_wanted && H::block_length >= 64);
     given.tree = vulfsjor_tree{0, 0, 1, 1, 0, 0};
     CHECK(!H::create(given));
-    parameters wrong[4];
+    parameters wrong[5];
     wrong[0].digest_length = most + 1;
     wrong[1].key = bytes(keys.data(), most + 1);
     wrong[2].salt = bytes(salts.data(), most / 4 + 1);
     wrong[3].personal = bytes(personals.data(), most / 4 + 1);
+    wrong[4].key = bytes("");
     for (const parameters &each : wrong) CHECK(!H::create(each));
 #ifdef __cpp_exceptions
-    static const char *const names[] = {"outlen", "key", "salt", "personal"};
-    for (int k = 0; k < 4; k++) {
+    static const char *const names[] = {"outlen", "key", "salt", "personal", "key"};
+    for (int k = 0; k < 5; k++) {
         std::string said;
         try {
             H refused(wrong[k]);
@@ -329,11 +344,36 @@ template <class H, class F> void parallel(F one_call) {
         CHECK(std::string_view(e.what()) == "vulfsjor: this hash has no tree parameters");
     }
 #endif
+    wiped<H>();
 }
+
+#ifdef TEST_SECRETS
+/* Under memcheck, which reports one branch on a secret in each verify, that on its result. */
+template <class H> void verify_of_secrets() {
+    std::vector<unsigned char> key(keys.begin(), keys.begin() + 32);
+    (void)VALGRIND_MAKE_MEM_UNDEFINED(key.data(), key.size());
+    parameters given;
+    given.key = key;
+    const H hasher(given);
+    for (std::size_t wrong : {std::size_t(0), H::max_digest_length - 1}) {
+        std::vector<std::uint8_t> tag = hasher.digest();
+        tag[wrong] ^= 1;
+        const auto before = VALGRIND_COUNT_ERRORS;
+        CHECK(!hasher.verify(tag) && VALGRIND_COUNT_ERRORS - before == 1);
+    }
+}
+#endif
 
 } /* namespace */
 
 int main() {
+#ifdef TEST_SECRETS
+    verify_of_secrets<blake2b>();
+    verify_of_secrets<blake2s>();
+    verify_of_secrets<vulfsjor::blake2bp>();
+    verify_of_secrets<vulfsjor::blake2sp>();
+    return fails ? 1 : 0;
+#endif
     family<blake2b>();
     family<blake2s>();
     parallel<vulfsjor::blake2bp>(vulfsjor_blake2bp);

@@ -9,6 +9,12 @@ secrets_run() {
         valgrind -q --error-limit=no "$work/secrets" "${@:3}"
 }
 
+# The same of verify in C++.
+hasher_runs() {
+    c++ -std=c++17 -O2 "${warnings[@]}" -I"$include" -DTEST_SECRETS "$tests/hasher.cpp" "$1" \
+        -o "$work/secrets" && valgrind -q --error-limit=no "$work/secrets"
+}
+
 # What memcheck has to report, so that a silent run means something.
 secrets_reports() { secrets_run "$1" b "$2"; }
 
@@ -46,6 +52,9 @@ $(wc -l <"$work/cases/xs") of BLAKE2Xs." "$top/docs/WIPING.md"
                 secrets_run "$library" "$family" "$work/cases/$family"
         done
     done
+    needs c++
+    check "no branch by a byte of a tag in hasher.cpp" hasher_runs "$library"
+    needs
     check "memcheck reports a branch by a key" secrets_reports "$library" branch
     check "memcheck reports an address by a key" secrets_reports "$library" address
 }
