@@ -77,11 +77,12 @@ folder_with_a_space() {
         words_work "$folder/lib" &&
         mv "$folder" "$work/another folder" && words_work "$work/another folder/lib" || return 1
     folder="$work/another folder"
-    touch "$folder/lib/theirs" "$folder/include/theirs.h" &&
+    touch "$folder"/{lib/theirs,lib/cmake/vulfsjor/theirs,include/theirs.h} &&
         "$here/install.sh" --uninstall "$folder" &&
-        files_below "$folder" | diff <(printf '%s\n' include/theirs.h lib/theirs) - &&
+        files_below "$folder" | diff <(printf '%s\n' include/theirs.h lib/cmake/vulfsjor/theirs lib/theirs) - &&
         [ ! -e "$folder/lib/vulfsjor-libb2" ] && [ ! -e "$folder/include/vulfsjor-libb2" ] &&
-        "$here/install.sh" --uninstall "$folder"
+        rm "$folder/lib/cmake/vulfsjor/theirs" && "$here/install.sh" --uninstall "$folder" &&
+        [ ! -e "$folder/lib/cmake/vulfsjor" ]
 }
 
 # DESTDIR and LIBDIR, as a package is made: nothing outside of DESTDIR, and no word of it in a file.
@@ -93,15 +94,20 @@ package() {
         words_work "$root$work/usr/lib/x86_64-linux-gnu" || return 1
     DESTDIR=$root LIBDIR=$work/lib64 install_one "$work/usr" && words_work "$root$work/lib64" &&
         [ "$(files_below "$root$work/lib64" | wc -l)" -eq 14 ] || return 1
+    DESTDIR=$root install_one /usr/local && grep -qx prefix=/usr/local "$root/usr/local/lib/pkgconfig/vulfsjor.pc" &&
+        DESTDIR=$root "$here/install.sh" --uninstall /usr/local || return 1
     DESTDIR=$root LIBDIR=$work/lib64 "$here/install.sh" --uninstall "$work/usr" &&
         DESTDIR=$root LIBDIR=lib/x86_64-linux-gnu "$here/install.sh" --uninstall "$work/usr" &&
         [ -z "$(files_below "$root")" ]
 }
 
-# Only one build, without the choice, and with the same functions.
+# Only one build, without the choice, and with the same functions; made where another archive was.
 one_build() {
     local folder=$work/one
-    "$here/install.sh" --cpu x86-64-v2 --from "$dist" "$folder" &&
+    mkdir "$folder.made" && ar rc "$folder.made/libvulfsjor.a" "$empty" &&
+        "$here/install.sh" --cpu x86-64-v2 --from "$dist" --build "$folder.made" &&
+        "$here/install.sh" --built "$folder.made" "$folder" && ! ar t "$folder/lib/libvulfsjor.a" | grep empty &&
+        grep -qx 'Description: .*, proved, for x86-64-v2' "$folder/lib/pkgconfig/vulfsjor.pc" &&
         files_below "$folder" | diff <(wanted_files lib/) - &&
         words_work "$folder/lib" && ! nm "$folder/lib/libvulfsjor.a" | grep -q vulfsjor_ffi_level &&
         nm -g --defined-only "$folder/lib/libvulfsjor.a" |
@@ -109,12 +115,13 @@ one_build() {
             diff - <(sed -n 's/^CALL("\(.*\)")$/\1/p' "$here/choose.c" | LC_ALL=C sort)
 }
 
-# A second installation takes the place of the first, and of what another left there.
+# A second installation takes the place of the first, and of what another left there. It writes to no
+# file of another by a link.
 installs_again() {
     local folder=$work/again
-    install_one "$folder" && echo old >"$folder/lib/libvulfsjor.a" &&
+    install_one "$folder" && echo old >"$work/old" && ln -sf "$work/old" "$folder/lib/libvulfsjor.a" &&
         ln -sf nowhere "$folder/lib/libvulfsjor.so" &&
-        install_one "$folder" && words_work "$folder/lib" &&
+        install_one "$folder" && words_work "$folder/lib" && [ "$(cat "$work/old")" = old ] &&
         files_below "$folder" | diff <(wanted_files lib/) -
 }
 
@@ -592,14 +599,14 @@ machines_without_assembly() {
     texts_for x86_64-pc-linux-gnu --portable | diff <(echo c/vulfsjor.c) - || return 1
     [ -e "$work/noting" ] || is_portable x86_64-pc-linux-gnu || return 1
     touch "$work/noting"
-    for machine in x86_64-linux-gnux32 aarch64_be-linux-gnu i386-unknown-haiku; do
+    for machine in x86_64-linux-gnux32 aarch64-linux-gnu_ilp32 aarch64_be-linux-gnu i386-unknown-haiku; do
         texts_for $machine | diff <(echo c/vulfsjor.c) - || return 1
     done
     rm "$work/noting"
     ! is_x86 || texts_for x86_64-unknown-freebsd14.0 |
         diff <(printf 'x86_64/vulfsjor-v%s.s\n' 2 3 4) - || return 1
     touch "$work/noting"
-    ! is_x86 || for machine in x86_64-unknown-openbsd x86_64-linux-android; do
+    ! is_x86 || for machine in x86_64-unknown-{openbsd,dragonfly6.4} x86_64-linux-android x86_64-w64-windows-gnu; do
         texts_for $machine | diff <(echo x86_64/vulfsjor-v2.s) - || return 1
     done
     rm "$work/noting"
@@ -623,6 +630,7 @@ refusals() {
         refuses 1 'no-compiler is not on the PATH' env CC=no-compiler "${call[@]}" --from "$dist" \
             "$work/no" &&
         refuses 1 'No such file' "${call[@]}" --from "$work/nowhere" "$work/no" &&
+        refuses 1 'was not made by --build' "${call[@]}" --built "$work" "$work/no" &&
         [ ! -e "$work/no" ] || return 1
     "$here/install.sh" --help | head -n 1 | grep -q '^Installs the library'
 }
