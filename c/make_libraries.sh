@@ -57,8 +57,10 @@ compile() {
     "${cc[@]}" -O2 "${branches[@]}" "${flags[@]}" -std=c99 -fPIC -ffunction-sections -fno-lto -c "$@"
 }
 
-# An archive of these objects, by AR or the compiler's binutils.
-archive() { "${AR:-$("${cc[@]}" -print-prog-name=ar)}" rcsD "$@"; }
+# An archive of these objects, by AR, which may have several words, or the compiler's binutils.
+read -ra ar <<<"${AR-}"
+[ ${#ar[@]} -gt 0 ] || ar=("$("${cc[@]}" -print-prog-name=ar)")
+archive() { "${ar[@]}" rcsD "$@"; }
 
 # Ends the script unless the functions that sed prints for a file are those of the header: FILE EDIT
 compare_functions() {

@@ -355,7 +355,7 @@ variables_of_make() {
         printf '#!/bin/sh\necho "$*" >>"%s/%s.calls"\nexec %s "$@"\n' "$folder" $tool $tool >"$folder/$tool" &&
             chmod +x "$folder/$tool" || return 1
     done
-    make_here built="$folder/made" all CC="$folder/cc" AR="$folder/ar" CPPFLAGS=-DASKED=1 \
+    make_here built="$folder/made" all CC="$folder/cc" AR="env $folder/ar" CPPFLAGS=-DASKED=1 \
         CFLAGS="-g -flto" LDFLAGS="-Wl,-z,separate-code -L/asked$more" 2>"$folder/said" || return 1
     # Debug information names no temporary file, so that another build is the same.
     ! grep -rlaF -e "$folder" -e /text.s "$folder/made" || return 1
