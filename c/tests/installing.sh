@@ -188,7 +188,8 @@ set(CMAKE_C_FLAGS)
 set(CMAKE_C_STANDARD)"
     project_by_cmake "$odd" vulfsjor::vulfsjor vulfsjor::threads && needs_nothing &&
         project_by_cmake "$shared_is_on
-$add" vulfsjor::vulfsjor vulfsjor::threads && needs_shared
+$add" vulfsjor::vulfsjor vulfsjor::threads && needs_shared &&
+        readelf -d "$work"/project.*/build/vulfsjor/libvulfsjor.so | grep -q BIND_NOW
 }
 
 # The package of an installation: by another LIBDIR, static by default, for C++ too, found twice,
@@ -215,18 +216,34 @@ $find 0.1 REQUIRED)" vulfsjor::vulfsjor vulfsjor::threads && needs_shared
 # within the installation, and has the static library and the shared one.
 installed_by_cmake() {
     local folder=$work/by\ cmake find
-    cmake -S "$here" -B "$folder.build" -DCMAKE_INSTALL_LIBDIR=lib -DCMAKE_C_COMPILER=cc \
-        -DCMAKE_C_FLAGS=-DASKED &&
-        cmake --build "$folder.build" && cmake --install "$folder.build" --prefix "$folder" &&
+    printf '#!/bin/sh\necho "$*" >>"$0.calls"\nexec cc "$@"\n' >"$work/noted" && chmod +x "$work/noted" &&
+        cmake -S "$here" -B "$folder.build" -DCMAKE_INSTALL_LIBDIR=lib -DCMAKE_C_COMPILER="$work/noted" \
+            -DCMAKE_C_FLAGS=-DASKED &&
+        cmake --build "$folder.build" && grep -q -e '-DASKED .*/choose\.o$' "$work/noted.calls" &&
+        cmake --install "$folder.build" --prefix "$folder" &&
         files_below "$folder" | diff <(files_of_all) - &&
         diff -r "$prefix/lib" "$folder/lib" && diff -r "$prefix/include" "$folder/include" &&
-        mv "$folder/lib/cmake/vulfsjor" "$folder/share/" || return 1
+        mv "$folder/lib/cmake/vulfsjor" "$folder/share/" &&
+        cmake -S "$here" -B "$folder.build" -DCMAKE_INSTALL_{BIN,INCLUDE,MAN}DIR=other &&
+        cmake --install "$folder.build" --prefix "$folder.other" && files_below "$folder.other" |
+        diff <(files_of_all | sed 's,^\(bin\|include\|share/man\)/,other/,' | LC_ALL=C sort) - || return 1
     find="list(APPEND CMAKE_PREFIX_PATH \"$folder\")
 find_package(vulfsjor 0.1 REQUIRED)"
     project_by_cmake "$find" vulfsjor::vulfsjor vulfsjor::threads && needs_nothing &&
         project_by_cmake "$shared_is_on
 $find" vulfsjor::vulfsjor vulfsjor::threads && needs_shared && rm -r "$folder/include" &&
         refuses 1 'no folder above' project_by_cmake "$find" vulfsjor::vulfsjor vulfsjor::threads
+}
+
+# The same in portable C, as CMake makes it for Windows and macOS too: the library without the programs.
+portable_by_cmake() {
+    local folder=$work/portable
+    cmake -S "$here" -B "$folder.build" -DVULFSJOR_PORTABLE=ON -DCMAKE_INSTALL_LIBDIR=lib &&
+        cmake --build "$folder.build" && cmake --install "$folder.build" --prefix "$folder" &&
+        files_below "$folder" | diff <(printf '%s\n' include/vulfsjor{.h,.hpp,_threads.h} \
+            lib/cmake/vulfsjor/vulfsjor-config{-version,}.cmake lib/libvulfsjor{-threads,}.a) - &&
+        project_by_cmake "list(APPEND CMAKE_PREFIX_PATH \"$folder\")
+find_package(vulfsjor $(version) EXACT REQUIRED)" vulfsjor::vulfsjor vulfsjor::threads && needs_nothing
 }
 
 # The modules for pkg-config in CMake and in meson.
@@ -343,6 +360,7 @@ made_by_make() {
         make_here uninstall PREFIX="/opt/a b" DESTDIR="$root" &&
         [ "$(files_below "$root")" = "opt/a b/bin/other" ] &&
         refuses 2 "PREFIX must be an absolute path" make_here install PREFIX=opt &&
+        refuses 2 "PREFIX must be an absolute path" make_here uninstall PREFIX=opt &&
         ! make_here -n install PROGRAMS=b2 | grep -q b2sum
 }
 
@@ -374,12 +392,19 @@ variables_of_make() {
         [ "$(grep -c -e ' -E ' "$folder/cc.calls")" -eq 1 ] &&
         [ "$(wc -l <"$folder/ar.calls")" -eq 3 ] &&
         make_here built="$folder/made" -s install CC=false DESTDIR="$root" prefix=/p bindir=/b \
-            libdir=/l includedir=/i mandir=/m &&
+            libdir=/l includedir=/i mandir=/m datarootdir=/d &&
         files_below "$root" | diff <(files_of_all |
-            sed 's|^bin/|b/|;s|^include/|i/|;s|^lib/|l/|;s|^share/man/|m/|;s|^share/|p/&|' | LC_ALL=C sort) - &&
+            sed 's|^bin/|b/|;s|^include/|i/|;s|^lib/|l/|;s|^share/man/|m/|;s|^share/|d/|' | LC_ALL=C sort) - &&
         [ "$(printf abc | "$root/b/b2sum")" = "$(printf abc | b2sum)" ] &&
-        make_here uninstall DESTDIR="$root" prefix=/p bindir=/b libdir=/l includedir=/i mandir=/m &&
+        make_here uninstall DESTDIR="$root" prefix=/p bindir=/b libdir=/l includedir=/i mandir=/m datarootdir=/d &&
         [ -z "$(files_below "$root")" ] || return 1
+    # Each of these is built again if what it is made of has changed.
+    for line in tools/launcher.sh:b2 c/{choose.c,system.h,vulfsjor.map,include/vulfsjor.h,make_libraries.sh}:lib/kind \
+        c/{libb2/libb2.c,include/libb2/blake2.h}:lib/kind dist/{MANIFEST,macros.h,x86_64/{elf.inc,b2sum.s}}:b2sum; do
+        make -C "$top" built="$folder/made" -q "$folder/made/${line#*:}" &&
+            ! make -C "$top" built="$folder/made" -q -W "${line%:*}" "$folder/made/${line#*:}" ||
+            { echo "$line" && return 1; }
+    done
     make_here -n install exec_prefix=/e | grep -qF ' LIBDIR="/e/lib" ' &&
         make_here -n install LIBDIR=lib/x PREFIX=/p | grep -qF ' LIBDIR="/p/lib/x" ' &&
         ! make_here -n clean | grep -v '^make\|^rm -rf out$' && make_here -n check | grep -qx ./test
@@ -650,6 +675,7 @@ test_installing() {
     check "what CMake chooses by the processor" chosen_by_cmake
     check "find_package of an installation" installed_for_cmake
     check "find_package after cmake --install" installed_by_cmake
+    check "find_package after cmake --install of portable C" portable_by_cmake
     needs make
     check "make install and make uninstall" made_by_make
     check "the variables of make" variables_of_make
