@@ -62,6 +62,8 @@ inputs() { texts && grep -o 'c/[a-z0-9_]*\.c\b' "$work/calls"; }
 
 b2 --help
 check "--help prints the usage" ends 0 "$(sed -n "/^usage: b2/,/^END/{/^END/d;p}" "$top/b2")"
+check "with each KIND" diff <(grep -oE '\b[bs][0-9]+\b' "$work/output" | LC_ALL=C sort -u) \
+    <(printf '%s\n' b0 b128 b2 b256 b512 b8 s0 s128 s256 s8)
 b2 sum
 check "the first run builds the program and runs it" builds "$program"
 own=(b2 tools/launcher.sh dist/MANIFEST dist/*/{elf,macho,coff}.inc c/include/vulfsjor.h $(inputs))
@@ -283,8 +285,8 @@ bash_words() {
         sums_by_bash b2sum a --z) <(printf '%s\n' blake2bp 65536 --zero) &&
         cd "$work/folder" && touch "a file" &&
         [ "$(sums_by_bash b2sum "a f" | tail -n 1)" = "a file" ] &&
-        bash --norc -c 'source "$0/completions/b2sum.bash" && complete -p b2sum' "$top" |
-        grep -x 'complete -F _b2sum b2sum' &&
+        bash --norc -c 'for name; do source "$0/completions/$name.bash"; done; complete -p "$@"' "$top" b2 b2sum |
+        diff - <(printf 'complete -F _%s\n' 'b2 b2' 'b2sum b2sum') &&
         [ "$(grep -cxE '#compdef b2sum|_arguments -s \\' "$top/completions/_b2sum")" -eq 2 ]
 }
 
