@@ -35,12 +35,14 @@ refused() {
     refuses_change "VULFSJOR_VERSION_NUMBER has" c/include/vulfsjor.h 's/0x000100/0x000101/' &&
         refuses_change "the numbers of" c/include/vulfsjor.h '/VERSION_PATCH/s/0$/1/' &&
         refuses_change "the dependency of" rust-digest/Cargo.toml '/^vulfsjor =/s/"[0-9.]*"/"9.9.9"/' &&
-        refuses_change "dist/ was not made from these sources" crates/b2/src/main.rt '$a fn more() {}' || return 1
+        refuses_change "dist/ was not made from these sources" crates/b2/src/main.rt '$a fn more() {}' &&
+        refuses "dist/ was not made from these sources" "$repository/tools/release.sh" --trial ORIG_HEAD || return 1
     trial=
     refuses "has no tag v$(version)" "$repository/tools/release.sh" || return 1
     if grep -q "^## $(version)\$" "$top/CHANGELOG.md"; then
         git -C "$repository" tag "v$(version)" &&
-            refuses "CHANGELOG.md has no date" "$repository/tools/release.sh" || return 1
+            refuses "CHANGELOG.md has no date" "$repository/tools/release.sh" &&
+            refuses_change "has no tag v$(version)" README.md '$a More.' || return 1
     fi
     # An earlier version with a function that is gone.
     trial=--trial
@@ -90,18 +92,19 @@ interface() {
 }
 
 # What a public forge runs: the workflow calls the script .ci/forge and nothing else, which runs all tests of
-# a system.
+# a system, and ends with their status. So does .ci/run with the full test.
 forge() {
     local folder=$work/forge system
     [ "$(grep -E '^ *(- )?(run|uses):' "$top/.github/workflows/test.yml" | sed 's/^ *//')" = \
         $'run:\n- uses: actions/checkout@v4\n- run: .ci/forge' ] && mkdir -p "$folder"/{.ci,bin,c/tests} || return 1
-    cp "$top/.ci/forge" "$folder/.ci/" && printf '#!/bin/sh\necho all\n' >"$folder/test" &&
-        printf '#!/bin/sh\necho some\n' >"$folder/c/tests/on_a_mac.sh" &&
+    cp "$top"/.ci/{forge,run} "$folder/.ci/" && printf '#!/bin/sh\necho all $*; exit 7\n' >"$folder/test" &&
+        printf '#!/bin/sh\necho some; exit 7\n' >"$folder/c/tests/on_a_mac.sh" &&
         printf '#!/bin/sh\necho "$SYSTEM"\n' >"$folder/bin/uname" &&
         chmod +x "$folder"/{test,c/tests/on_a_mac.sh,bin/uname} && cd / || return 1
     for system in Linux:all Darwin:some MINGW64_NT-10.0-26100:some; do
-        [ "$(SYSTEM=${system%:*} PATH=$folder/bin:$PATH "$folder/.ci/forge")" = "${system#*:}" ] || return 1
+        [ "$(SYSTEM=${system%:*} PATH=$folder/bin:$PATH "$folder/.ci/forge"; echo $?)" = "${system#*:}"$'\n7' ] || return 1
     done
+    [ "$("$folder/.ci/run"; echo $?)" = $'all --prove\n7' ]
 }
 
 # Two clones in other folders, with another umask, zone, configuration of git and variables of compilers.
