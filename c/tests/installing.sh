@@ -235,7 +235,7 @@ $find" vulfsjor::vulfsjor vulfsjor::threads && needs_shared && rm -r "$folder/in
         refuses 1 'no folder above' project_by_cmake "$find" vulfsjor::vulfsjor vulfsjor::threads
 }
 
-# The same in portable C, as CMake makes it for Windows and macOS too: the library without the programs.
+# The same in portable C, in the way of Windows and macOS: the library without the programs.
 portable_by_cmake() {
     local folder=$work/portable
     cmake -S "$here" -B "$folder.build" -DVULFSJOR_PORTABLE=ON -DCMAKE_INSTALL_LIBDIR=lib &&
