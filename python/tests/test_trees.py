@@ -847,10 +847,11 @@ class Files(Test):
         self.assertEqual(vulfsjor.tree_root_file(path, 1 << 16, threads=4, progress=grow), wanted)
 
     def test_a_longer_file_needs_no_more_memory(self):
+        # How many parts are ahead, each with digests of 8 KiB, depends on the time: fewer than ten.
         peaks = []
         for length in (MIB, 8 * MIB):  # in leaves of 16 bytes, whose digests have four times as many
             path = self.file(bytes(length))
-            with mock.patch.multiple(_threads, _LEAST_BYTES=1, _PART_LEAVES=1 << 10):
+            with mock.patch.multiple(_threads, _LEAST_BYTES=1, _PART_LEAVES=1 << 7):
                 tracemalloc.start()
                 try:
                     vulfsjor.tree_root_file(path, 16, threads=2)
