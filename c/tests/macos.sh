@@ -4,6 +4,7 @@
 # Apple's. The functions in C of thunks.h run on an emulated ARM by Apple's calling convention.
 # tests/object_formats.py compares the code.
 source "$(dirname "$(readlink -f "$0")")/common.sh"
+export TMPDIR=$work # where clang leaves empty folders if it compiles for several processors
 sdk=$work/sdk
 linker=$(command -v ld64.lld || command -v ld64.lld-14)
 lipo=$(command -v llvm-lipo || command -v llvm-lipo-14)
