@@ -145,10 +145,11 @@ test("workers start in Chromium with esbuild and without, or one thread hashes",
   ]);
 });
 
+// The module makes a bundle larger than webpack recommends.
 test("webpack finds the file of the worker", async (t) => {
   if (!has("webpack")) return t.skip("no webpack");
   await bundle("webpack", "--mode", "production", "--entry", "./app.mjs", "--output-path",
-    "webpack", "--output-filename", "app.js", "--stats", "errors-warnings");
+    "webpack", "--output-filename", "app.js", "--stats", "errors-warnings", "--no-performance");
   await look(t, [
     ["webpack", "script", "none given"], ["webpack", "script", "blob:"],
     ["webpack", "script", "'self'"], ["webpack", "script", "'none'", NO_WORKER],
