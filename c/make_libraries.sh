@@ -58,9 +58,12 @@ compile() {
 }
 
 # An archive of these objects, by AR, which may have several words, or the compiler's binutils.
-read -ra ar <<<"${AR-}"
-[ ${#ar[@]} -gt 0 ] || ar=("$("${cc[@]}" -print-prog-name=ar)")
-archive() { "${ar[@]}" rcsD "$@"; }
+archive() {
+    local ar
+    read -ra ar <<<"${AR-}"
+    [ ${#ar[@]} -gt 0 ] || ar=("$("${cc[@]}" -print-prog-name=ar)")
+    "${ar[@]}" rcsD "$@"
+}
 
 # Ends the script unless the functions that sed prints for a file are those of the header: FILE EDIT
 compare_functions() {
