@@ -1,56 +1,57 @@
 # The names to try first. Each runs scripts that can be run by themselves.
-.PHONY: all help check test clean distclean install uninstall release prove dist bench docs
+.PHONY: all help test clean install uninstall release prove twins dist bench docs
 .DEFAULT_GOAL = all
+ifneq ($(shell { bash -c 'echo yes'; } 2>/dev/null),yes)
+$(error the scripts that make runs need bash, which is not on the PATH)
+endif
 
-# The variables of the GNU coding standards. PREFIX and LIBDIR are other names of prefix and libdir.
-# CC, CFLAGS, CPPFLAGS, LDFLAGS and AR are used if they are set, as an argument or in the environment.
-prefix = /usr/local
-PREFIX = $(prefix)
-exec_prefix = $(PREFIX)
-bindir = $(exec_prefix)/bin
-LIBDIR = lib
-libdir = $(if $(filter /%,$(LIBDIR)),$(LIBDIR),$(exec_prefix)/$(LIBDIR))
-includedir = $(PREFIX)/include
-datarootdir = $(PREFIX)/share
-mandir = $(datarootdir)/man
-bashcompdir = $(datarootdir)/bash-completion/completions
-zshcompdir = $(datarootdir)/zsh/site-functions
-fishcompdir = $(datarootdir)/fish/vendor_completions.d
-export bindir mandir bashcompdir zshcompdir fishcompdir DESTDIR
-# The programs to install, and what is put before their names. A file of somebody else is never
-# replaced, such as coreutils' b2sum in /usr/bin, unless OVERWRITE is yes.
+# The folders have the names of the GNU coding standards; tools/install_programs.sh has the usual ones of prefix for those
+# that are not given: bindir, mandir and others. CC, CFLAGS, CPPFLAGS, LDFLAGS and AR are used if they are set, as an
+# argument or in the environment. PREFIX is the other usual name of prefix.
+PREFIX = /usr/local
+prefix = $(PREFIX)
+exec_prefix = $(prefix)
+libdir = $(exec_prefix)/lib
+includedir = $(prefix)/include
+export prefix exec_prefix
+# The programs to install; PROGRAM_PREFIX is put before their names. A file of somebody else is never replaced, such as
+# coreutils' b2sum in /usr/bin.
 PROGRAMS = b2 b2sum
-PROGRAM_PREFIX =
-OVERWRITE = no
-export PROGRAM_PREFIX OVERWRITE
 
-needs_absolute = $(if $(filter /%,$(PREFIX)),,$(error PREFIX must be an absolute path))
+needs_absolute = $(if $(filter /%,$(prefix)),,$(error prefix must be an absolute path))
 of_library = env INCLUDEDIR="$(includedir)" LIBDIR="$(libdir)" c/install.sh
 # What is built, and what it is built from.
 built = out/make
 code = $(wildcard c/*.[ch] c/*.map c/*/*.[ch] c/include/libb2/* c/*.sh dist/MANIFEST dist/*.[hS] dist/*/*.[sc] dist/*/*.inc)
+
+# What is asked for of the compiler, if anything is. All is built again if that was another.
+quote = '$(subst ','\'',$(1))'
+words = $(foreach name,CC AR CPPFLAGS CFLAGS LDFLAGS,$(if $(filter-out default undefined,$(origin $(name))),$(name)=$($(name))))
+$(built)/words: $(if $(strip $(words)),$(shell [ "`cat $(built)/words 2>&1`" = $(call quote,$(words)) ] || echo again))
+	mkdir -p $(built)
+	printf '%s\n' $(call quote,$(words)) >$@
+
+.PHONY: again
+again:
 
 all: $(PROGRAMS:%=$(built)/%) $(built)/lib/kind ## build b2, b2sum and the C library in out/make
 
 help: ## list these names
 	@sed -n "s/^\([a-z]*\):.*## /make \1	/p" Makefile
 
-$(PROGRAMS:%=$(built)/%): $(built)/%: % tools/launcher.sh $(code)
-	mkdir -p $(built)
+$(PROGRAMS:%=$(built)/%): $(built)/%: % tools/launcher.sh $(code) $(built)/words
 	./$* --build $@
 
-$(built)/lib/kind: $(code)
+$(built)/lib/kind: $(code) $(built)/words
 	c/install.sh --build $(built)/lib
 
 install: all ## install b2, b2sum, their man pages and completions, and the C library in prefix
 	$(needs_absolute)tools/install_programs.sh $(built) $(PROGRAMS)
-	$(of_library) --built $(built)/lib "$(PREFIX)"
+	$(of_library) --built $(built)/lib "$(prefix)"
 
 uninstall: ## remove what `make install` has installed
 	$(needs_absolute)tools/install_programs.sh --uninstall $(PROGRAMS)
-	$(of_library) --uninstall "$(PREFIX)"
-
-check: test ## the same as test
+	$(of_library) --uninstall "$(prefix)"
 
 test: ## test everything that needs no proof, over the code in dist/
 	./test
@@ -58,22 +59,24 @@ test: ## test everything that needs no proof, over the code in dist/
 clean: ## remove what was built
 	rm -rf out
 
-distclean: clean
-
 release: ## make the artifacts of a release in out/release, and test each of them
 	tools/release.sh
 
 prove: ## prove every crate, compare dist/ with the proofs, and test everything (needs rt)
 	./test --prove
 
-dist: ## write dist/, the code that the proofs build, and js/src/wasm.js (needs rt and node)
+twins: ## write the files of BLAKE2s from those of BLAKE2b
+	tools/twins.py
+
+dist: ## write dist/, the code that the proofs build, and js/src/wasm*.js (needs rt and node)
 	tools/dist.sh make
 	js/tools/build.mjs
 
 bench: ## measure speed next to other libraries
 	bench/speed.py
 
-docs: ## write docs/reference/ and the man pages, and test all pages
+docs: ## write docs/reference/, the man pages and the numbers in pages, and test all pages
 	tools/reference.py
+	tests/page_numbers.py --write
 	tools/manual.py
 	tests/pages.py

@@ -1,21 +1,26 @@
-// Measures the package next to node:crypto (OpenSSL), and roots of trees by workers next to one
-// thread, in one run:
+// Measures the package next to node:crypto (OpenSSL), roots of trees by workers next to one thread,
+// and the sizes of bundles, in one run:
 //
 //   node bench/javascript.mjs [TURNS] [--write]
 //
-// It prints two tables; --write also writes them to bench/results/javascript.txt. What a row
+// It prints four tables; --write also writes them to bench/results/javascript.txt. What a row
 // compares runs in turns, and each figure is the best of all turns: of TURNS (30 if not given) in
-// processor time for the digests of the first table, of a sixth of that by the clock for the roots
-// of the second. Each root is that of a file in the page cache, and includes the start of its
-// workers.
+// processor time for the digests and the calls of the first two tables, of a sixth of that by the
+// clock for the roots of the third. Each root is that of a file in the page cache, and includes the
+// start of its workers. node:crypto has no BLAKE2 with a key, so its hash without one stands there.
+// Bundles are those of esbuild, minified, of a program that imports only these names.
 import assert from "node:assert/strict";
+import { spawnSync } from "node:child_process";
 import { createHash, randomBytes } from "node:crypto";
-import { mkdtempSync, rmSync, writeFileSync } from "node:fs";
+import { cpSync, mkdtempSync, readFileSync, rmSync, writeFileSync } from "node:fs";
 import { open } from "node:fs/promises";
 import { cpus, loadavg, tmpdir } from "node:os";
 import { join } from "node:path";
-import { pathToFileURL } from "node:url";
-import { blake2b, blake2s, hex, treeRoot, treeRootStream } from "../js/index.js";
+import { fileURLToPath, pathToFileURL } from "node:url";
+import { gzipSync } from "node:zlib";
+import {
+  Blake2b, Blake2s, blake2b, blake2s, hex, treeRoot, treeRootStream,
+} from "../js/index.js";
 
 const RESULTS = new URL("results/javascript.txt", import.meta.url);
 const LEAF = 65536;
@@ -31,6 +36,27 @@ const HASHES = {
   ],
 };
 
+const KEY = new Uint8Array(32).fill(7);
+const SHORT = new Uint8Array(randomBytes(64));
+const [ofB, ofS] = ["blake2b512", "blake2s256"].map((name) => () => createHash(name));
+const running = [new Blake2b(), ofB(), new Blake2s(), ofS()];
+// Calls with a message of 64 bytes, or none: ours, and that of node:crypto.
+const CALLS = {
+  "a hash of BLAKE2b": [() => blake2b(SHORT), () => ofB().update(SHORT).digest()],
+  "a hash of BLAKE2s": [() => blake2s(SHORT), () => ofS().update(SHORT).digest()],
+  "one of BLAKE2b with a key": [
+    () => blake2b(SHORT, { key: KEY }), () => ofB().update(SHORT).digest(),
+  ],
+  "one of BLAKE2s with a key": [
+    () => blake2s(SHORT, { key: KEY }), () => ofS().update(SHORT).digest(),
+  ],
+  "`new Blake2b()` and `digest`": [() => new Blake2b().digest(), () => ofB().digest()],
+  "`new Blake2s()` and `digest`": [() => new Blake2s().digest(), () => ofS().digest()],
+  "`update` of `Blake2b`": [() => running[0].update(SHORT), () => running[1].update(SHORT)],
+  "`update` of `Blake2s`": [() => running[2].update(SHORT), () => running[3].update(SHORT)],
+};
+const BUNDLES = ["blake2b", "blake2s", "Blake2b", "blake2bStream", "treeRoot"];
+
 const row = (cells) => `| ${cells.join(" | ")} |\n`;
 const head = (titles) => row(titles) + row(titles.map(() => "---"));
 const load = () => `\n(Load ${loadavg()[0].toFixed(1)} in the last minute of this.)\n`;
@@ -44,14 +70,14 @@ function timeOf(call, count) {
   return (spent.user + spent.system) / count;
 }
 
-function measure([ours, theirs], length, turns) {
-  const message = randomBytes(length);
-  const count = Math.max(1, Math.ceil(2 ** 20 / (length + 512)));
-  const best = [Infinity, Infinity];
+// The best times of pairs of calls with their counts. All run in each turn, so that none is measured
+// while only it is compiled.
+function bestOf(pairs, turns) {
+  const best = pairs.map(() => [Infinity, Infinity]);
   for (let turn = 0; turn < turns; turn++) {
-    [ours, theirs].forEach((hash, i) => {
-      best[i] = Math.min(best[i], timeOf(() => hash(message), count));
-    });
+    for (const [row, [calls, count]] of pairs.entries()) {
+      calls.forEach((call, i) => (best[row][i] = Math.min(best[row][i], timeOf(call, count))));
+    }
   }
   return best;
 }
@@ -62,12 +88,55 @@ export function hashRow(name, length, [ours, theirs]) {
   return row([name, length, shown(ours), shown(theirs), (theirs / ours).toFixed(2)]);
 }
 
-function hashesTable(turns) {
-  let text = head(["hash", "bytes", "vulfsjor", "node:crypto", "ratio of speed"]);
-  for (const [name, both] of Object.entries(HASHES)) {
-    for (const length of LENGTHS) text += hashRow(name, length, measure(both, length, turns));
+/** The row of a call, from both microseconds: the last cell is our speed divided by theirs. */
+export function callRow(name, [ours, theirs]) {
+  const shown = (us) => `${(1000 * us).toFixed(0)} ns`;
+  return row([name, shown(ours), shown(theirs), (theirs / ours).toFixed(2)]);
+}
+
+function callsTable(turns) {
+  const best = bestOf(Object.values(CALLS).map((calls) => [calls, 2000]), turns);
+  return head(["call with 64 bytes", "vulfsjor", "node:crypto", "ratio of speed"]) +
+    Object.keys(CALLS).map((name, i) => callRow(name, best[i])).join("") + load();
+}
+
+/** The bytes of a bundle by esbuild, minified, of a program that imports only these names. */
+export function bundleOf(names, folder) {
+  for (const part of ["package.json", "index.js", "src"]) {
+    const from = fileURLToPath(new URL(`../js/${part}`, import.meta.url));
+    cpSync(from, join(folder, "node_modules/vulfsjor", part), { recursive: true });
   }
-  return text + load();
+  writeFileSync(
+    join(folder, "program.mjs"), `import { ${names} } from "vulfsjor";\nconsole.log(${names});\n`);
+  const words = ["program.mjs", "--bundle", "--minify", "--format=esm", "--outfile=bundle.mjs",
+    "--log-level=error"];
+  const { status, error, stderr } = spawnSync("esbuild", words, { cwd: folder, encoding: "utf8" });
+  if (error !== undefined) throw error;
+  assert.equal(status, 0, stderr);
+  return readFileSync(join(folder, "bundle.mjs"));
+}
+
+function bundlesTable() {
+  const folder = mkdtempSync(join(tmpdir(), "vulfsjor-"));
+  try {
+    return head(["bundle of", "bytes", "gzip"]) + BUNDLES.map((name) => {
+      const bytes = bundleOf(name, folder);
+      return row([`\`${name}\``, bytes.length, gzipSync(bytes, { level: 9 }).length]);
+    }).join("");
+  } finally {
+    rmSync(folder, { recursive: true });
+  }
+}
+
+function hashesTable(turns) {
+  const rows = Object.entries(HASHES).flatMap(([name, hashes]) => LENGTHS.map((length) => {
+    const message = randomBytes(length);
+    const count = Math.max(1, Math.ceil(2 ** 20 / (length + 512)));
+    return { name, length, calls: [hashes.map((hash) => () => hash(message)), count] };
+  }));
+  const best = bestOf(rows.map(({ calls }) => calls), turns);
+  return head(["hash", "bytes", "vulfsjor", "node:crypto", "ratio of speed"]) +
+    rows.map(({ name, length }, i) => hashRow(name, length, best[i])).join("") + load();
 }
 
 /** The row of a root, from the milliseconds by one thread and by workers: each with its speedup. */
@@ -113,7 +182,10 @@ async function main(words) {
       `OpenSSL ${process.versions.openssl}; best of ${turns}.\n`,
   ];
   console.log(parts[0]);
-  for (const table of [() => hashesTable(turns), () => threadsTable(Math.ceil(turns / 6))]) {
+  for (const table of [
+    () => callsTable(turns), () => hashesTable(turns), () => threadsTable(Math.ceil(turns / 6)),
+    bundlesTable,
+  ]) {
     parts.push(await table());
     console.log(parts.at(-1));
   }

@@ -5,7 +5,8 @@ The table, as Markdown on standard output, goes with --write into bench/results/
 compiled by one compiler with -O2 and timed in turns, by the processor's time, and the best of seven counts. plain.c is
 BLAKE2 as RFC 7693 writes it (bench/plain/plain.c). Before that, their digests are compared.
 
-SODIUM is the folder of libsodium's source, such as `apt-get source libsodium` leaves; without it there is no such column.
+SODIUM is the folder of libsodium's source, such as `apt-get source libsodium` leaves; without it there is no such
+column.
 
 usage: bench/portable.py [--mib N] [--sodium SODIUM] [--write]
 """

@@ -13,8 +13,8 @@ Tables, as Markdown on standard output:
 - tree: the roots of trees over one message of 16 MiB in memory, next to one stream over it.
 
 With --write all of them go into bench/results/speed.txt, and a plot of messages of 64 bytes to 1 MiB goes into
-docs/speed.svg. bench/README.md says how each candidate is timed, and which packages have the peers. A peer that is absent
-is named on standard error and left out.
+docs/speed.svg. docs/SPEED.md says how each candidate is timed. A peer that is absent, and the package that has it,
+are named on standard error, and it is left out.
 
 Each digest is first compared with hashlib's. Then the candidates of a column are timed in turns, and the best time of
 each counts. A ratio is the candidate's speed over that of the column's best peer.
@@ -45,7 +45,7 @@ RESULTS = os.path.join(TOP, "bench", "results")
 PICTURE = os.path.join(TOP, "docs", "speed.svg")
 PEERS = os.path.join(TOP, "bench", "peers")
 OUT = os.path.join(TOP, "bench", "out")
-NEWEST = subprocess.run([os.path.join(TOP, "tools", "processor.sh")], stdout=subprocess.PIPE, text=True,
+NEWEST = subprocess.run([os.path.join(TOP, "tests", "processor.sh")], stdout=subprocess.PIPE, text=True,
                         check=True).stdout.strip()  # of the builds that this processor runs
 CPUS = ("x86-64-v2", "x86-64-v3", "x86-64-v4")
 CPUS = CPUS[:CPUS.index(NEWEST) + 1] if NEWEST in CPUS else ()
@@ -128,7 +128,8 @@ def program_of(cpu):
         for name in (os.path.join(TOP, "dist", "macros.h"), *texts):
             all_texts.write(f'#include "{name}"\n')
     sources = [os.path.join(TOP, "c", name) for name in ("b2.c", "choose.c")]
-    path = compiled(cpu + "-b2", ["-DMAIN=" + main, "-DCHOOSE_TEST=" + cpu[-1], "-I" + os.path.join(TOP, "c", "include"),
+    path = compiled(cpu + "-b2", ["-DMAIN=" + main, "-DCHOOSE_TEST=" + cpu[-1],
+                                  "-I" + os.path.join(TOP, "c", "include"),
                                   *sources, assembly])
     if path is None:
         sys.exit("speed: the program needs a C compiler (cc)")

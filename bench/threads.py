@@ -7,8 +7,8 @@ Two tables, as Markdown on standard output, in 10^9 bytes a second by the clock,
 - file: vulfsjor_tree_root_file next to `b2sum --tree` and `b3sum`, and, with one thread, `b2 tree` and `b2sum`. A
   program is timed with its start.
 
-With --write both go into bench/results/threads.txt. Each root is first compared with hashlib's. Then the candidates of a
-table are timed in turns, and the best time of each counts. Leaves have 64 KiB.
+With --write both go into bench/results/threads.txt. Each root is first compared with hashlib's. Then the candidates of
+a table are timed in turns, and the best time of each counts. Leaves have 64 KiB.
 
 usage: bench/threads.py [--mebibytes N] [--turns N] [--write]
 """

@@ -46,6 +46,9 @@ HIDDEN int b2sum_end(int status, const char *path);
  * stack below its calls of the system. */
 static bool is_secret;
 
+/* Whether the next file that is opened is the key's, and whether others may read that. */
+static bool is_key_next, is_key_shared;
+
 /* More than the functions of the program need. */
 enum { STACK_BYTES = 1 << 15 };
 
@@ -74,10 +77,10 @@ void *b2sum_realloc(void *place, size_t size) {
 }
 
 /* The function of this name of the assembly file, which can do nothing. */
-HIDDEN OF_TEXT void b2sum_hide(void) __asm__(SYMBOL(HIDE_MEMORY));
-OF_TEXT void b2sum_hide(void) {
-    is_secret = true;
-    hide_process();
+HIDDEN OF_TEXT void b2sum_hide_memory(void) __asm__(SYMBOL(HIDE_MEMORY));
+OF_TEXT void b2sum_hide_memory(void) {
+    is_secret = is_key_next = true;
+    hide_memory();
 }
 
 /* ---- The start and the end. */
@@ -91,7 +94,16 @@ OF_TEXT void (*b2sum_signal(int number, void (*handler)(int)))(int) {
 }
 
 /* The rest of what the assembly calls of the C library. */
-OF_TEXT int b2sum_close(int file) { return close(file); }
+
+/* The error of the first close of a file that failed, or 0. */
+static int close_error;
+
+OF_TEXT int b2sum_close(int file) {
+    const int result = close(file);
+
+    if (result && !close_error) close_error = errno;
+    return result;
+}
 
 OF_TEXT int b2sum_strerror(int error, char *text, size_t size) {
     snprintf(text, size, "%s", strerror(error));
@@ -124,20 +136,29 @@ __attribute__((constructor)) static void use_utf8(void) {
 /* Whether standard input was read. */
 static bool is_input_read;
 
-/* Prints that something has failed, and why, as a message of the program of this path: its name is
- * what is after the last slash, or b2sum if that is empty. Returns the status for that. */
-static int complain(const char *path, const char *what) {
+/* The name of the program of this path: what is after the last slash, or b2sum if that is empty. */
+static const char *name_of(const char *path) {
     const char *slash = strrchr(path, '/'), *name = slash ? slash + 1 : path;
 
-    dprintf(STDERR_FILENO, "%s: %s: %s\n", *name ? name : "b2sum", what, strerror(errno));
+    return *name ? name : "b2sum";
+}
+
+/* Prints that something has failed, and why, as a message of the program of this path. Returns the
+ * status for that. */
+static int complain(const char *path, const char *what) {
+    dprintf(STDERR_FILENO, "%s: %s: %s\n", name_of(path), what, strerror(errno));
     return 1;
 }
 
-/* Closes standard input, if it was read, and the outputs, since some systems report only then that
- * a write failed. Returns the status of the process: the one of the program, which has this path,
- * or 1. An output that was not open is no error. */
+/* Reports a key file that others may read, and a file that could not be closed. Closes standard
+ * input, if it was read, and the outputs, since some systems report only then that a read or a write
+ * failed. Returns the status of the process: the one of the program, which has this path, or 1. An
+ * output that was not open is no error. */
 int b2sum_end(int status, const char *path) {
     if (is_secret) wipe_stack();
+    if (is_key_shared)
+        dprintf(STDERR_FILENO, "%s: WARNING: others may read the key file\n", name_of(path));
+    if ((errno = close_error)) status = complain(path, "close error");
     if (is_input_read && close(STDIN_FILENO)) status = complain(path, "standard input");
     if (close(STDOUT_FILENO) && errno != EBADF) status = complain(path, "write error");
     return close(STDERR_FILENO) && errno != EBADF ? 1 : status;
@@ -160,8 +181,8 @@ static bool is_shown;
 
 /* The function of this name of the assembly file, which can do nothing. It is called before a file
  * is opened, if the options say so. */
-HIDDEN OF_TEXT void b2sum_show(void) __asm__(SYMBOL(SHOW_PROGRESS));
-OF_TEXT void b2sum_show(void) { is_shown = is_terminal(STDERR_FILENO); }
+HIDDEN OF_TEXT void b2sum_show_progress(void) __asm__(SYMBOL(SHOW_PROGRESS));
+OF_TEXT void b2sum_show_progress(void) { is_shown = is_terminal(STDERR_FILENO); }
 
 /* Begins with another file. */
 static void begin(int file, const char *name) {
@@ -263,9 +284,14 @@ __attribute__((noinline)) static int open_file(const char *name) {
 
 /* The flags, by the numbers of Linux, say that the file is read. */
 OF_TEXT int b2sum_open(const char *name, int flags, ...) {
+    int file;
+
     (void)flags;
     if (is_secret) wipe_stack();
-    return open_file(name);
+    file = open_file(name);
+    if (is_key_next && file >= 0) is_key_shared = is_shared(file);
+    is_key_next = false;
+    return file;
 }
 
 /* Reads at most size bytes, after a signal again. Returns their number, 0 at the end, or -1 and
@@ -279,6 +305,7 @@ OF_TEXT ssize_t b2sum_read(int file, void *bytes, size_t size) {
     while (count < 0 && errno == EINTR);
     error = errno;
     if (file == STDIN_FILENO) is_input_read = true;
+    is_key_next = false;
     if (is_shown) note(file, count);
     errno = error;
     return count;
@@ -327,9 +354,9 @@ static void absorb(int file, unsigned threads, vulfsjor_tree_state *state) {
 /* The function of this name of the assembly file; the proved one, which reads the source to its end
  * in one thread, has the other name. It does that after the threads too: it reads what they could
  * not, or finds the end. */
-HIDDEN OF_TEXT bool b2sum_absorb(ARGUMENTS) __asm__(SYMBOL(ABSORB_TREE));
+HIDDEN OF_TEXT bool b2sum_absorb_tree(ARGUMENTS) __asm__(SYMBOL(ABSORB_TREE));
 HIDDEN OF_TEXT bool b2sum_absorb_proved(ARGUMENTS) __asm__(SYMBOL(PROVED_TREE));
-OF_TEXT bool b2sum_absorb(ARGUMENTS) {
+OF_TEXT bool b2sum_absorb_tree(ARGUMENTS) {
     absorb(file, threads, state);
     return b2sum_absorb_proved(source, file, threads, state, room, size);
 }

@@ -13,10 +13,11 @@
  *
  * CHOOSE_ONE names a build, such as v3: then the library contains only that build, and each call
  * jumps to it. CHOOSE_SHOWN is defined for the shared library. Otherwise the names are hidden, so
- * that a shared library that links the archive does not export them. Three macros are for tests.
+ * that a shared library that links the archive does not export them. CHOOSE_PART leaves out all but
+ * the functions of CHOOSE_FUNCTIONS, a header, for an object of the archive. Three macros are for tests.
  * CHOOSE_TEST 2, 3 or 4 selects that build, whatever the processor, and 23 or 234 alternates
  * between the builds of its digits without a rule. CHOOSE_PROCESSOR is a header with a simulated
- * processor, and CHOOSE_FUNCTIONS a header with other functions.
+ * processor, and CHOOSE_FUNCTIONS has other functions.
  *
  * macOS and Windows have the functions in C (thunks.h). */
 #include "vulfsjor.h"
@@ -82,7 +83,9 @@
 #else
 
 /* 4, 3 or 2 for the build of this level, or 0 before the first call. */
+#ifndef CHOOSE_PART
 HIDDEN unsigned char vulfsjor_ffi_level;
+#endif
 
 #ifdef __ELF__
 #define CALL(name)                                  \
@@ -98,6 +101,7 @@ HIDDEN unsigned char vulfsjor_ffi_level;
              "je " IN_BUILD(name, "v3") "\n"        \
              "jmp " IN_BUILD(name, "v2") "\n")
 
+#ifndef CHOOSE_PART
 /* Calls vulfsjor_ffi_find and keeps the registers that hold arguments. The result is in al. */
 #define KEEP(register) "push " register "\n.cfi_adjust_cfa_offset 8\n"
 #define TAKE(register) "pop " register "\n.cfi_adjust_cfa_offset -8\n"
@@ -107,8 +111,10 @@ FUNCTION("vulfsjor_ffi_ask", ".hidden vulfsjor_ffi_ask\n",
          TAKE("%r9") TAKE("%r8") TAKE("%rcx") TAKE("%rdx") TAKE("%rsi") TAKE("%rdi")
          "ret\n")
 #endif
+#endif
 
-#ifndef CHOOSE_TEST
+#ifdef CHOOSE_PART
+#elif !defined(CHOOSE_TEST)
 #ifdef CHOOSE_PROCESSOR
 #include CHOOSE_PROCESSOR
 #else
@@ -171,6 +177,7 @@ static unsigned char level_here(void) {
 static void keep(unsigned char level) { (void)level; }
 #endif
 
+#ifndef CHOOSE_PART
 /* Looks for the level, keeps it and returns it. */
 __attribute__((used)) HIDDEN unsigned char vulfsjor_ffi_find(void) {
     static const char refusal[] =
@@ -185,9 +192,12 @@ __attribute__((used)) HIDDEN unsigned char vulfsjor_ffi_find(void) {
     return level;
 }
 #endif
+#endif
 
+#ifndef CHOOSE_PART
 /* The version is that of the header, so the assembly is the same if only the version is another. */
 SHOWN uint32_t vulfsjor_library_version(void) { return VULFSJOR_VERSION_NUMBER; }
+#endif
 
 /* The functions that vulfsjor.h declares, as tools/exports.py writes them. c/make_libraries.sh compares this
  * list with the header and with the assembly. */

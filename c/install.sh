@@ -1,39 +1,29 @@
 #!/usr/bin/env bash
 # Installs the library vulfsjor under a folder:
 #
-#   c/install.sh [--cpu CPU | --portable] [--prove | --from DIST] FOLDER
-#   c/install.sh [--cpu CPU | --portable] [--prove | --from DIST] --build FOLDER
+#   c/install.sh [--cpu CPU | --portable] [--from DIST] [--build] FOLDER
 #   c/install.sh --built FOLDER FOLDER
 #   c/install.sh --uninstall FOLDER
 #
-#   FOLDER/lib/libvulfsjor.a                  the static library, and libvulfsjor-static.a, a link
-#                                             to it by a name that no shared library has
-#   FOLDER/lib/libvulfsjor.so.VERSION         the shared one, with the links .so.0 and .so
-#   FOLDER/lib/libvulfsjor-libb2.a            the static one, with libb2's functions by their own
-#                                             names
-#   FOLDER/lib/libvulfsjor-threads.a          roots of trees by several threads, which needs one of
-#                                             the first two
-#   FOLDER/lib/pkgconfig/                     vulfsjor.pc, vulfsjor-static.pc, vulfsjor-threads.pc
-#   FOLDER/lib/cmake/vulfsjor/                the package vulfsjor for CMake
-#   FOLDER/lib/vulfsjor-libb2/                libb2.a and pkgconfig/libb2.pc, for programs that
-#                                             look for libb2
-#   FOLDER/include/vulfsjor.h                 the functions
-#   FOLDER/include/vulfsjor.hpp               a hasher for C++17, over them
-#   FOLDER/include/vulfsjor_threads.h         those of libvulfsjor-threads.a
-#   FOLDER/include/vulfsjor-libb2/blake2.h    the same by the names of libb2
+#   FOLDER/include/                   vulfsjor.h; vulfsjor.hpp for C++; vulfsjor_threads.h
+#   FOLDER/include/vulfsjor-libb2/    blake2.h, with libb2's names
+#   FOLDER/lib/                       libvulfsjor.a and libvulfsjor.so; libvulfsjor-threads.a, for roots of trees by
+#                                     several threads; libvulfsjor-libb2.a, with libb2's names; libvulfsjor-static.a, a
+#                                     link to the first by a name that no shared library has
+#   FOLDER/lib/pkgconfig/             vulfsjor.pc, vulfsjor-static.pc, vulfsjor-threads.pc
+#   FOLDER/lib/cmake/vulfsjor/        the package vulfsjor for CMake
+#   FOLDER/lib/vulfsjor-libb2/        libb2.a and pkgconfig/libb2.pc, for programs that look for libb2
 #
 # If the compiler is one for Windows, the shared library is FOLDER/bin/libvulfsjor-0.dll, with
 # FOLDER/lib/libvulfsjor.dll.a to link it. If it is one for macOS, that is
-# FOLDER/lib/libvulfsjor.0.dylib, with the link libvulfsjor.dylib. The script itself needs bash 4 and
-# the tools of GNU or of BusyBox.
+# FOLDER/lib/libvulfsjor.0.dylib, with the link libvulfsjor.dylib. The script itself needs bash 3.2 and
+# the tools of GNU, BusyBox or BSD.
 #
 # It assembles the files of dist/ for the machine that the C compiler (CC, otherwise cc) compiles
-# for, x86-64 or 64-bit ARM, in a second or two. For every other machine it compiles dist/c,
+# for, x86-64 or 64-bit ARM, in a few seconds. For every other machine it compiles dist/c,
 # portable C, twice, in 10 to 60 seconds each (docs/PORTABLE.md); with --portable also for those
 # two. It needs the compiler and its binutils. CC may have several words, such as `ccache gcc`. With
-# --prove it proves the crates and installs what they compile to instead of dist/. That needs the
-# toolchain's command rt too, and 10 to 20 minutes the first time. With --from it installs what
-# `tools/dist.sh make` has written to the folder DIST.
+# --from it installs what `tools/dist.sh make` has written to the folder DIST.
 #
 # On x86-64 the library contains the code for x86-64-v2, x86-64-v3 and x86-64-v4 processors, and
 # chooses at run time. With --cpu it contains only the code for CPU, one of these three, and runs on
@@ -47,37 +37,31 @@
 # that are named above, with the same LIBDIR, INCLUDEDIR and DESTDIR.
 set -eu
 here=$(dirname "$(readlink -f "$0")")
-top=$(dirname "$here")
+source "$here/../tools/shell.sh"
 
-usage() {
-    echo "usage: c/install.sh [--cpu x86-64-v2|x86-64-v3|x86-64-v4 | --portable]" \
-        "[--prove | --from DIST] [--build] FOLDER" >&2
-    echo "       c/install.sh --built FOLDER FOLDER, --uninstall FOLDER, or --help" >&2
-    exit 2
-}
+usage() { echo "usage: c/install.sh [OPTIONS] FOLDER, or c/install.sh --help" >&2 && exit 2; }
 
 read -ra cc <<<"${CC:-cc}"
-cpu= portable=no dist=$top/dist prove=no uninstall=no build=no built=
+cpu= portable=no dist=$top/dist uninstall=no build=no built=
 while [ $# -gt 0 ]; do
     case $1 in
         --cpu) [[ ${2-} =~ ^x86-64-v[234]$ ]] || usage; cpu=$2; shift 2 ;;
         --portable) portable=yes; shift ;;
-        --prove) prove=yes; shift ;;
         --from) [ $# -ge 2 ] || usage; dist=$2; shift 2 ;;
         --build) build=yes; shift ;;
         --built) [ $# -ge 2 ] || usage; built=$2; shift 2 ;;
         --uninstall) uninstall=yes; shift ;;
-        --help) sed -n '2,/^set /{/^set /d;s/^#\{0,1\} \{0,1\}//;p}' "$0"; exit 0 ;;
+        --help) sed -n '2,/^set /{/^set /d;s/^#\{0,1\} \{0,1\}//;p;}' "$0"; exit 0 ;;
         *) break ;;
     esac
 done
 { [ $# -eq 1 ] && [ -n "$1" ] && [[ $1 != -* ]] && [ "${cpu:+cpu}$portable" != cpuyes ]; } || usage
 
-# A path as an absolute one without `.`, `..` and empty names. Links are not followed, and nothing
-# needs to be there.
+# A path, from a folder, as an absolute one without `.`, `..` and empty names. Links are not followed, and nothing
+# needs to be there: PATH FOLDER
 absolute() {
     local name path='' rest=$1/
-    [[ $rest == /* ]] || rest=$PWD/$rest
+    [[ $rest == /* ]] || rest=$2/$rest
     while [ -n "$rest" ]; do
         name=${rest%%/*} rest=${rest#*/}
         case $name in
@@ -98,88 +82,68 @@ relative() {
 }
 
 # The folders as the installed files are found later; all but these names goes below DESTDIR.
-folder=$(absolute "$1")
-libdir=${LIBDIR:-lib}
-[[ $libdir == /* ]] || libdir=$folder/$libdir
-libdir=$(absolute "$libdir")
-include=${INCLUDEDIR:-include}
-[[ $include == /* ]] || include=$folder/$include
-include=$(absolute "$include")
+folder=$(absolute "$1" "$PWD")
+libdir=$(absolute "${LIBDIR:-lib}" "$folder")
+include=$(absolute "${INCLUDEDIR:-include}" "$folder")
 beside=$libdir/vulfsjor-libb2
 package=$libdir/cmake/vulfsjor
 root=${DESTDIR:-}
 
-# Where more is said: of the algorithm, as long as this project has no address (docs/RELEASING.md).
-address=https://www.rfc-editor.org/rfc/rfc7693
-
 # The version, as the header has it.
 version=$(sed -n 's/^#define VULFSJOR_VERSION "\(.*\)"$/\1/p' "$here/include/vulfsjor.h")
 
-files=("$libdir/libvulfsjor.a" "$libdir/libvulfsjor.so.$version" "$libdir/libvulfsjor.so.0"
-    "$libdir/libvulfsjor.so" "$libdir/libvulfsjor-libb2.a" "$libdir/pkgconfig/vulfsjor.pc"
-    "$libdir/pkgconfig/vulfsjor-static.pc" "$beside/libb2.a" "$beside/pkgconfig/libb2.pc"
-    "$libdir/libvulfsjor-threads.a" "$libdir/pkgconfig/vulfsjor-threads.pc"
-    "$libdir/libvulfsjor-static.a" "$package/vulfsjor-config.cmake"
-    "$package/vulfsjor-config-version.cmake"
-    "$include/vulfsjor_threads.h" "$include/vulfsjor.h" "$include/vulfsjor.hpp"
-    "$include/vulfsjor-libb2/blake2.h"
-    "$folder/bin/libvulfsjor-0.dll" "$libdir/libvulfsjor.dll.a" "$libdir/libvulfsjor.0.dylib"
-    "$libdir/libvulfsjor.dylib")
-folders=("$package" "$beside/pkgconfig" "$beside" "$include/vulfsjor-libb2")
+files=("$libdir"/libvulfsjor{,-static,-libb2,-threads,.dll}.a "$libdir"/libvulfsjor.{so,so.0,dylib,0.dylib}
+    "$libdir"/pkgconfig/vulfsjor{,-static,-threads}.pc "$package"/vulfsjor-config{,-version}.cmake
+    "$beside"/{libb2.a,pkgconfig/libb2.pc} "$folder/bin/libvulfsjor-0.dll"
+    "$include"/{vulfsjor.h,vulfsjor.hpp,vulfsjor_threads.h,vulfsjor-libb2/blake2.h})
 if [ "$uninstall" = yes ]; then
     for name in "${files[@]}"; do rm -f -- "$root$name"; done
-    for name in "${folders[@]}"; do
-        [ ! -d "$root$name" ] || [ -n "$(ls -A -- "$root$name")" ] || rmdir -- "$root$name"
+    rm -f -- "$root$libdir"/libvulfsjor.so.0.* # this version, and older ones
+    for name in "$package" "$beside/pkgconfig" "$beside" "$include/vulfsjor-libb2"; do
+        rmdir -- "$root$name" 2>/dev/null || : # something else is in it
     done
     echo "install.sh: uninstalled from $root$folder" >&2
     exit
 fi
 
-fail() {
-    echo "install.sh: $1" >&2
-    exit 1
-}
-
-work=$(mktemp -d)
-trap 'rm -rf "$work"' EXIT
 system= has_text=no
 
 # Makes the libraries in this folder, and a file that says for which system and how.
 build_libraries() {
     command -v "${cc[0]-}" >/dev/null ||
-        fail "${cc[0]-} is not on the PATH: a C compiler is needed, and its binutils"
+        stop "${cc[0]-} is not on the PATH: a C compiler is needed, and its binutils"
     # The texts for the machine that it compiles for: portable C if there are none. Those for Linux are
     # ELF, and call nothing but memcpy and the like, so other systems with ELF have them too.
-    machine=$("${cc[@]}" -dumpmachine) texts=()
+    # The preprocessor knows of -m32, and -dumpmachine does not.
+    machine=$("${cc[@]}" -dumpmachine 2>/dev/null) || stop "${cc[*]} does not know -dumpmachine: use GCC or Clang"
+    pointer=$(echo __SIZEOF_POINTER__ | "${cc[@]}" ${CPPFLAGS-} ${CFLAGS-} -E -P -) ||
+        stop "${cc[*]} -E does not preprocess"
+    texts=
     case $machine in
         *x32 | *ilp32) ;;
         *-linux* | *bsd* | *-dragonfly*) has_text=yes ;;
         *-mingw32 | *-windows-gnu) system=-windows has_text=yes ;;
         *-apple-*) system=-macos has_text=yes ;;
     esac
-    [ "$portable" = no ] || has_text=no
+    [ "$portable,$pointer" = no,8 ] || has_text=no
     case $machine,$has_text in
         *,no) ;;
         x86_64-*)
             cpus=${cpu:-x86-64-v2 x86-64-v3 x86-64-v4}
-            for level in $cpus; do texts+=("x86_64/vulfsjor-${level#x86-64-}.s"); done
+            for level in $cpus; do texts="$texts x86_64/vulfsjor-${level#x86-64-}.s"; done
             ;;
-        aarch64-* | arm64-*) [ -n "$cpu" ] || cpus=aarch64 texts=(aarch64/vulfsjor.s) ;;
+        aarch64-* | arm64-*) [ -n "$cpu" ] || cpus=aarch64 texts=aarch64/vulfsjor.s ;;
     esac
     kind="proved, for ${cpus-}"
-    [ ${#texts[@]} -gt 0 ] || [ -n "$cpu" ] || kind="translated from proved code" texts=(c/vulfsjor.c)
-    [ ${#texts[@]} -gt 0 ] || fail "there is no build for $machine${cpu:+ and $cpu}"
-    if [ "$prove" = yes ]; then
-        dist=$work/dist
-        "$top/tools/dist.sh" make "$dist" "${texts[@]}"
-    elif [ "$dist" = "$top/dist" ]; then
-        "$top/tools/dist.sh" current || {
-            [ $? -ne 1 ] || fail "dist/ was not made from these sources: install with --prove"
-            fail "dist/ could not be compared with these sources"
-        }
-    fi
-    "$here/make_libraries.sh" "$1" "${texts[@]/#/$dist/}"
-    printf '%s\n' "$system" "$kind" >"$1/kind"
+    [ -n "$texts$cpu" ] || kind="translated from proved code" texts=c/vulfsjor.c
+    [ -n "$texts" ] || stop "there is no build for $machine${cpu:+ and $cpu}"
+    [ "$dist" != "$top/dist" ] || "$top/tools/dist.sh" current || {
+        [ $? -ne 1 ] || stop "dist/ was not made from these sources: run make dist"
+        stop "dist/ could not be compared with these sources"
+    }
+    for text in $texts; do set -- "$@" "$dist/$text"; done
+    "$here/make_libraries.sh" "$@"
+    printf '%s\n' "$system" "$kind" "$pointer" >"$1/kind"
 }
 
 if [ "$build" = yes ]; then
@@ -190,37 +154,30 @@ elif [ -z "$built" ]; then
     built=$work/lib
     build_libraries "$built"
 fi
-[ -r "$built/kind" ] || fail "$built was not made by --build"
-{ read -r system && read -r kind; } <"$built/kind"
+[ -r "$built/kind" ] || stop "$built was not made by --build"
+{ read -r system && read -r kind && read -r pointer; } <"$built/kind"
 
-# Writes a file anew from standard input: FILE [RIGHTS]
-write() {
-    mkdir -p -- "${1%/*}"
-    rm -f -- "$1"
-    cat >"$1"
-    chmod "${2:-644}" "$1"
-}
 write_link() { ln -sf -- "$1" "$root$2"; }
 
 umask 022
-for name in "$built"/*.a; do write "$root$libdir/${name##*/}" <"$name"; done
-case $system in
-    -windows) write "$root$folder/bin/libvulfsjor-0.dll" 755 <"$built/libvulfsjor-0.dll" ;;
-    -macos)
-        write "$root$libdir/libvulfsjor.0.dylib" 755 <"$built/libvulfsjor.0.dylib"
-        write_link libvulfsjor.0.dylib "$libdir/libvulfsjor.dylib"
-        ;;
-    *)
-        write "$root$libdir/libvulfsjor.so.$version" 755 <"$built/libvulfsjor.so.$version"
-        write_link "libvulfsjor.so.$version" "$libdir/libvulfsjor.so.0"
-        write_link libvulfsjor.so.0 "$libdir/libvulfsjor.so"
-        ;;
-esac
+for file in "$built"/lib*; do
+    name=$libdir/${file##*/}
+    case $file in
+        *.a) write "$root$name" <"$file" ;;
+        *.dll) write "$root$folder/bin/${file##*/}" 755 <"$file" ;;
+        *) if [ -L "$file" ]; then write_link "$(readlink "$file")" "$name"; else write "$root$name" 755 <"$file"; fi ;;
+    esac
+done
 for name in vulfsjor{,_threads}.h vulfsjor.hpp; do write "$root$include/$name" <"$here/include/$name"; done
 write "$root$include/vulfsjor-libb2/blake2.h" <"$here/include/libb2/blake2.h"
 mkdir -p -- "$root$beside"
-write_link libvulfsjor.a "$libdir/libvulfsjor-static.a"
-write_link ../libvulfsjor-libb2.a "$beside/libb2.a"
+# Windows has no links, and GCC there can name the file.
+static=-l:libvulfsjor.a libb2='-L${libdir} -l:libvulfsjor-libb2.a' pthread=
+if [ "$system" != -windows ]; then
+    static=-lvulfsjor-static libb2='-L${libdir}/vulfsjor-libb2 -lb2' pthread=' -pthread'
+    write_link libvulfsjor.a "$libdir/libvulfsjor-static.a"
+    write_link ../libvulfsjor-libb2.a "$beside/libb2.a"
+fi
 
 # A folder of a file for pkg-config, as that names it: FILE FOLDER. It is found from where the file is,
 # so that all may be moved together; but in the folders of the system, where nothing moves, it is
@@ -242,7 +199,7 @@ libb2dir=\${includedir}/vulfsjor-libb2
 
 Name: $2
 Description: BLAKE2b, BLAKE2s, BLAKE2bp and BLAKE2sp, $kind$4
-URL: $address
+URL: https://www.rfc-editor.org/rfc/rfc7693
 Version: $3
 Cflags: -I$5
 Libs: $6
@@ -251,13 +208,15 @@ END
 write_words "$libdir/pkgconfig/vulfsjor.pc" vulfsjor "$version" "" '${includedir}' \
     '-L${libdir} -lvulfsjor'
 write_words "$libdir/pkgconfig/vulfsjor-static.pc" vulfsjor-static "$version" \
-    ", linked statically" '${includedir}' '-L${libdir} -lvulfsjor-static'
-[ "$system" = -windows ] && pthread= || pthread=' -pthread'
+    ", linked statically" '${includedir}' "-L\${libdir} $static"
 write_words "$libdir/pkgconfig/vulfsjor-threads.pc" vulfsjor-threads "$version" \
     ", with trees by several threads" '${includedir}' \
-    '-L${libdir} -lvulfsjor-threads -lvulfsjor-static'"$pthread"
+    "-L\${libdir} -lvulfsjor-threads $static$pthread"
 write_words "$beside/pkgconfig/libb2.pc" libb2 0.98.1 ", a drop-in replacement for libb2" \
-    '${libb2dir}' '-L${libdir}/vulfsjor-libb2 -lb2'
+    '${libb2dir}' "$libb2"
+
+# Puts a value in the place of a name, in the variable `text`: NAME VALUE
+put() { while [[ $text == *"@$1@"* ]]; do text=${text%%"@$1@"*}$2${text#*"@$1@"}; done; }
 
 # Writes a file of the package for CMake. The headers and the libraries are below a folder that is
 # above the package, which may be moved there, and all together.
@@ -265,8 +224,16 @@ above=$package
 while [[ $include/ != "${above%/}"/* || $libdir/ != "${above%/}"/* ]]; do above=${above%/*}; done
 for name in vulfsjor-config.cmake vulfsjor-config-version.cmake; do
     text=$(<"$here/$name.in")
-    text=${text//@VERSION@/"$version"}
-    text=${text//@LIBDIR@/"$(relative "${above:-/}" "$libdir")"}
-    write "$root$package/$name" <<<"${text//@INCLUDEDIR@/"$(relative "${above:-/}" "$include")"}"
+    put VERSION "$version"
+    put POINTER "$pointer"
+    put LIBDIR "$(relative "${above:-/}" "$libdir")"
+    put INCLUDEDIR "$(relative "${above:-/}" "$include")"
+    write "$root$package/$name" <<<"$text"
 done
 echo "install.sh: installed under $root$folder" >&2
+# The loader keeps a list of the libraries in its folders.
+if [ -z "$root$system" ] && ldconfig=$(PATH=$PATH:/usr/sbin:/sbin command -v ldconfig) &&
+    "$ldconfig" -NXv 2>/dev/null | grep "^$libdir:" >/dev/null; then
+    "$ldconfig" 2>/dev/null || echo "install.sh: run ldconfig as root, so that programs find $libdir/libvulfsjor.so.0" \
+        >&2
+fi

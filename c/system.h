@@ -100,6 +100,12 @@ static inline ssize_t read_from(int file, void *bytes, size_t size, uint64_t fro
     return pread(file, bytes, size, (off_t)from);
 }
 
+/* Reads at most size bytes from the file's position on, as they are in the file. Returns 0 at its
+ * end. */
+static inline ssize_t read_stream(int file, void *bytes, size_t size) {
+    return read(file, bytes, size);
+}
+
 /* ---- What only b2sum.c calls. */
 
 /* Reads at most size bytes. */
@@ -116,6 +122,13 @@ static inline void read_ahead(int file) {
 #else
     (void)file;
 #endif
+}
+
+/* Whether it is a regular file that users other than its owner may read. */
+static inline bool is_shared(int file) {
+    struct stat about;
+
+    return !fstat(file, &about) && S_ISREG(about.st_mode) && about.st_mode & (S_IRGRP | S_IROTH);
 }
 
 static inline bool is_terminal(int file) { return isatty(file); }
@@ -138,7 +151,7 @@ static inline size_t size_of_block(void *place) {
 }
 
 /* Keeps the memory of the process from core files, and on Linux from other processes of its user. */
-static inline void hide_process(void) {
+static inline void hide_memory(void) {
     const struct rlimit none = {0, 0};
 
 #ifdef __linux__
@@ -270,16 +283,28 @@ static inline int open_path(const char *name) {
     return file;
 }
 
-/* At most 2^30 bytes. The position of the file moves. */
-static inline ssize_t read_from(int file, void *bytes, size_t size, uint64_t from) {
-    OVERLAPPED place = {.Offset = (DWORD)from, .OffsetHigh = (DWORD)(from >> 32)};
+/* Reads at most 2^30 bytes from a place, or from the file's position if that is null. The C library
+ * does not see them: it would turn CR LF into LF, and end at a byte 26, where the descriptor is in text
+ * mode. */
+static inline ssize_t read_handle(int file, void *bytes, size_t size, OVERLAPPED *place) {
     const DWORD most = size < 1u << 30 ? (DWORD)size : 1u << 30;
     DWORD count;
 
-    if (ReadFile((HANDLE)_get_osfhandle(file), bytes, most, &count, &place)) return (ssize_t)count;
-    if (GetLastError() == ERROR_HANDLE_EOF) return 0;
+    if (ReadFile((HANDLE)_get_osfhandle(file), bytes, most, &count, place)) return (ssize_t)count;
+    if (GetLastError() == ERROR_HANDLE_EOF || GetLastError() == ERROR_BROKEN_PIPE) return 0;
     errno = number_of(GetLastError());
     return -1;
+}
+
+/* The position of the file moves. */
+static inline ssize_t read_from(int file, void *bytes, size_t size, uint64_t from) {
+    OVERLAPPED place = {.Offset = (DWORD)from, .OffsetHigh = (DWORD)(from >> 32)};
+
+    return read_handle(file, bytes, size, &place);
+}
+
+static inline ssize_t read_stream(int file, void *bytes, size_t size) {
+    return read_handle(file, bytes, size, NULL);
 }
 
 /* ---- What only b2sum.c calls. */
@@ -289,6 +314,12 @@ static inline ssize_t read_next(int file, void *bytes, size_t size) {
 }
 
 static inline void read_ahead(int file) { (void)file; }
+
+/* Who may read a file is not looked at. */
+static inline bool is_shared(int file) {
+    (void)file;
+    return false;
+}
 
 /* Whether it is a console, which then obeys escape sequences. */
 static inline bool is_terminal(int file) {
@@ -303,7 +334,7 @@ static inline uint64_t now(void) { return GetTickCount64(); }
 
 static inline size_t size_of_block(void *place) { return place ? _msize(place) : 0; }
 
-static inline void hide_process(void) {}
+static inline void hide_memory(void) {}
 
 static inline int dprintf(int file, const char *format, ...) {
     char line[256];

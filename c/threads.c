@@ -1,7 +1,7 @@
 /* See include/vulfsjor_threads.h. The functions of the library are proved, and so is its plan: the
  * parts of a message are in order, without gap or overlap, and their joined digests have its root.
  * That this file reads each part, absorbs its digests in the order of the parts and waits for its
- * threads is tested (tests/threads.c, tests/thread_faults.c). */
+ * threads is tested (tests/threads.c, tests/thread_faults.c). python/src/by_threads.c includes it. */
 #include "system.h"
 
 #include "vulfsjor_threads.h"
@@ -75,36 +75,56 @@ static int init_leaf(const job *j, vulfsjor_blake2b_state *leaf, const vulfsjor_
                                    j->leaf_length);
 }
 
-/* Writes the digest of a leaf of the file, which is longer than the buffer. Returns 0 or an
- * error. */
-static int hash_long_leaf(const job *j, const vulfsjor_part *part, unsigned char *buffer,
-                          unsigned char *out) {
+/* Reports this number, in the caller's thread. Returns 0 or an error. */
+static int report(const job *j, uint64_t count) {
+    return j->progress && j->progress(j->context, count) ? ECANCELED : 0;
+}
+
+/* Counts bytes that were hashed, and reports all of them in the caller's thread. Returns 0 or an
+ * error, which may be that of another thread. */
+static int count_bytes(job *j, uint64_t length, int reports) {
+    uint64_t count;
+    int error;
+
+    enter(&j->gate);
+    count = j->count += length;
+    error = j->error;
+    leave(&j->gate);
+    return error || !reports ? error : report(j, count);
+}
+
+/* Writes the digest of a leaf of the file, which is longer than the buffer, and counts its bytes but
+ * for the last of them, whose number is then part->length. Returns 0 or an error. */
+static int hash_long_leaf(job *j, vulfsjor_part *part, unsigned char *buffer, unsigned char *out,
+                          int reports) {
     vulfsjor_blake2b_state leaf;
-    uint64_t from = j->from + part->start, left = part->length;
+    uint64_t from = j->from + part->start;
     int error;
 
     if (init_leaf(j, &leaf, part)) return EINVAL;
-    while (left) {
-        size_t n = left < PART_BYTES ? left : PART_BYTES;
+    for (;;) {
+        size_t n = part->length < PART_BYTES ? part->length : PART_BYTES;
         if ((error = read_at(j->file, buffer, n, from))) return error;
         if (vulfsjor_blake2b_update(&leaf, buffer, n)) return EINVAL;
+        if (n == part->length) break;
         from += n;
-        left -= n;
+        part->length -= n;
+        if ((error = count_bytes(j, n, reports))) return error;
     }
     return vulfsjor_blake2b_final(&leaf, out, part->digests_length) ? EINVAL : 0;
 }
 
-/* Writes the digests of a part. The buffer of `room` bytes is for a part of a file. Returns 0 or an
- * error. */
-static int hash_part(const job *j, const vulfsjor_part *part, unsigned char *buffer, size_t room,
-                     unsigned char *out) {
+/* Writes the digests of a part, and leaves in part->length the number of its bytes that are not
+ * counted. The buffer of `room` bytes is for a part of a file. Returns 0 or an error. */
+static int hash_part(job *j, vulfsjor_part *part, unsigned char *buffer, size_t room,
+                     unsigned char *out, int reports) {
     const unsigned char *bytes = buffer;
     int error, status;
 
     if (j->bytes) {
         bytes = j->bytes + part->start;
     } else {
-        if (part->length > room) return hash_long_leaf(j, part, buffer, out);
+        if (part->length > room) return hash_long_leaf(j, part, buffer, out, reports);
         if ((error = read_at(j->file, buffer, part->length, j->from + part->start))) return error;
     }
     if (j->state)
@@ -151,41 +171,34 @@ static int absorb(job *j) {
     return 0;
 }
 
-/* Counts part i, whose digests are there, and sets *count to all that was hashed so far. Returns 0
- * or an error. */
-static int put_part(job *j, uint64_t i, const vulfsjor_part *part, uint64_t *count) {
-    int error = 0;
+/* Absorbs the digests of part i, which are there, as soon as those before are. Returns 0 or an
+ * error. */
+static int put_part(job *j, uint64_t i) {
+    int error;
 
+    if (j->state) return 0;
     enter(&j->gate);
-    *count = j->count += part->length;
-    if (!j->state) {
-        j->digests[j->rooms * j->room + i % j->rooms] = 1;
-        error = absorb(j);
-        wake_all(&j->gate);
-    }
+    j->digests[j->rooms * j->room + i % j->rooms] = 1;
+    error = absorb(j);
+    wake_all(&j->gate);
     leave(&j->gate);
     return error;
-}
-
-/* Reports this number, in the caller's thread. Returns 0 or an error. */
-static int report(const job *j, uint64_t count) {
-    return j->progress && j->progress(j->context, count) ? ECANCELED : 0;
 }
 
 /* What each thread does. That of the caller reports what all have done. */
 static void hash(job *j, int reports) {
     size_t room = j->bytes ? 0 : j->plan.part_length;
     unsigned char *buffer = NULL;
-    uint64_t count, i;
+    uint64_t i;
     vulfsjor_part part;
     int error = 0;
 
     if (room > MOST_BUFFER_BYTES) room = PART_BYTES;
     if (room && !(buffer = malloc(room))) error = ENOMEM;
     while (!error && !(error = take_part(j, &i, &part))) {
-        error = hash_part(j, &part, buffer, room, j->digests + i % j->rooms * j->room);
-        if (!error) error = put_part(j, i, &part, &count);
-        if (!error && reports) error = report(j, count);
+        error = hash_part(j, &part, buffer, room, j->digests + i % j->rooms * j->room, reports);
+        if (!error) error = put_part(j, i);
+        if (!error) error = count_bytes(j, part.length, reports);
     }
     free(buffer);
     if (error <= 0) return;
@@ -292,7 +305,7 @@ static int fill(int file, unsigned char *buffer, size_t room, size_t *length) {
 
     *length = 0;
     do {
-        n = read(file, buffer + *length, room - *length);
+        n = read_stream(file, buffer + *length, room - *length);
         if (n > 0) *length += (size_t)n;
     } while ((n < 0 && errno == EINTR) || (n > 0 && *length < room));
     return n < 0 ? errno : 0;
@@ -359,19 +372,19 @@ static int root_of_file(job *j, void *out, size_t outlen, unsigned threads) {
 
 /* ---- Updates of a state, which is ready. After an error the state is of no use. */
 
-/* Absorbs the input. Returns 0 or an error. */
-static int update(vulfsjor_tree_state *S, const unsigned char *in, size_t inlen, unsigned threads) {
-    job j = {.state = S, .leaf_length = vulfsjor_tree_leaf_length(S), .bytes = in, .gate = GATE};
-    vulfsjor_limits limits = limits_of(&j, threads);
+/* Absorbs the input of the job. Returns 0 or an error. */
+static int update(job *j, vulfsjor_tree_state *S, size_t inlen, unsigned threads) {
+    const unsigned char *in = j->bytes;
+    vulfsjor_limits limits = limits_of(j, threads);
     int error, status;
 
-    if (vulfsjor_tree_plan_update(&j.plan, S, inlen, &limits)) return EINVAL;
-    if (j.plan.threads <= 1) return vulfsjor_tree_update(S, in, inlen) ? EINVAL : 0;
-    if (vulfsjor_tree_update(S, in, j.plan.start)) return EINVAL;
-    if ((error = hash_parts(&j))) return error;
-    status = vulfsjor_tree_update_leaves(S, j.digests, j.plan.digests_length, in + j.plan.end,
-                                         j.plan.rest_length);
-    free(j.digests);
+    if (vulfsjor_tree_plan_update(&j->plan, S, inlen, &limits)) return EINVAL;
+    if (j->plan.threads <= 1) return vulfsjor_tree_update(S, in, inlen) ? EINVAL : 0;
+    if (vulfsjor_tree_update(S, in, j->plan.start)) return EINVAL;
+    if ((error = hash_parts(j))) return error;
+    status = vulfsjor_tree_update_leaves(S, j->digests, j->plan.digests_length, in + j->plan.end,
+                                         j->plan.rest_length);
+    free(j->digests);
     return status ? EINVAL : 0;
 }
 
@@ -484,11 +497,13 @@ int vulfsjor_tree_root_file(void *out, size_t outlen, const char *path, const vo
 int vulfsjor_tree_update_threads(vulfsjor_tree_state *S, const void *in, size_t inlen,
                                  unsigned threads) {
     vulfsjor_tree_state next;
+    job j = {.state = &next, .bytes = vulfsjor_text(in), .gate = GATE};
     int before = begin_call(), error = EINVAL;
 
     if (S && (in || !inlen)) {
         next = *S;
-        if (!(error = update(&next, vulfsjor_text(in), inlen, threads))) *S = next;
+        j.leaf_length = vulfsjor_tree_leaf_length(S);
+        if (!(error = update(&j, &next, inlen, threads))) *S = next;
     }
     return answer(error, before);
 }

@@ -6,7 +6,10 @@ _b2sum() {
     [ "$word" != = ] || word=
     case $before in
         -a | --algorithm) words="blake2b blake2s blake2bp blake2sp" ;;
-        -l | --length) words="128 160 224 256 384 512" ;;
+        -l | --length)
+            words="128 160 224 256"
+            [[ ${COMP_WORDS[*]} == *blake2s* ]] || words+=" 384 512"
+            ;;
         --tree) words="65536" ;;
         --personal | --salt | --threads) return ;;
         *)

@@ -1,6 +1,6 @@
 /**
- * BLAKE2b and BLAKE2s (RFC 7693), BLAKE2bp and BLAKE2sp in WebAssembly, compiled from formally
- * verified functions.
+ * BLAKE2b and BLAKE2s (RFC 7693), BLAKE2bp and BLAKE2sp, BLAKE2Xb and BLAKE2Xs in WebAssembly,
+ * compiled from formally verified functions.
  *
  * Input is a `Uint8Array`, any other view or an `ArrayBuffer`; digests are new `Uint8Array`s. A
  * string is refused: `utf8(text)` encodes it. Values of another type, unknown options and further
@@ -25,8 +25,11 @@ export type Bytes = ArrayBufferView | ArrayBuffer | SharedArrayBuffer;
 export interface ManyOptions {
   /** The length of the digest in bytes: 1 to 64, BLAKE2s 1 to 32. The default is the maximum. */
   digestLength?: number | undefined;
-  /** A key of 1 to 64 bytes, BLAKE2s 1 to 32. The digest is then a MAC. */
-  key?: Bytes | undefined;
+  /**
+   * A key of 1 to 64 bytes, BLAKE2s 1 to 32. The digest is then a MAC. It must not be undefined:
+   * leave it out for a hash without a key.
+   */
+  key?: Bytes;
   /** Up to 16 bytes, BLAKE2s up to 8. Trailing zeros change nothing. */
   salt?: Bytes | undefined;
   /**
@@ -155,8 +158,13 @@ export interface ReadableStreamLike {
   };
 }
 
-/** A source of bytes: a file, the body of a response, or a stream of node. */
-export type Source = BlobLike | ReadableStreamLike | FileHandleLike | AsyncIterable<Bytes>;
+/**
+ * A source of bytes: a file, the body of a response, a stream of node, or pieces. A stream or an
+ * iterator that was already read, or that something else is reading, throws a `TypeError`, as far as
+ * the platform shows it.
+ */
+export type Source =
+  BlobLike | ReadableStreamLike | FileHandleLike | AsyncIterable<Bytes> | Iterable<Bytes>;
 
 /** Returns the BLAKE2b digest of a message. */
 export function blake2b(message: Bytes, options?: HashOptions): Uint8Array;
@@ -206,7 +214,8 @@ export function treeRootOfLeaves(digests: Bytes, options: TreeOptions): Uint8Arr
 /**
  * Returns the BLAKE2b digest of everything that a source contains. A stream is read to its end or
  * canceled. Keep a file unchanged until the promise settles: it rejects if the file of a `Blob`
- * changes, or if that of a `FileHandle` becomes shorter, and no other change is noticed.
+ * changes, or if that of a `FileHandle` becomes shorter, and no other change is noticed. A
+ * `FileHandle` of a file that has bytes and the length 0, such as one of /proc, is refused.
  */
 export function blake2bStream(
   source: Source,
@@ -238,6 +247,11 @@ export function treeRootStream(
   options: TreeOptions & StreamOptions & ThreadsOptions,
 ): Promise<Uint8Array>;
 
+/** The error of `verify` for a wrong tag. */
+export class InvalidTagError extends Error {
+  readonly name: "InvalidTagError";
+}
+
 /**
  * An incremental hash. `digest`, `hex`, `verify` and `wipe` end it and set its state to zero; other
  * calls then throw.
@@ -254,10 +268,11 @@ declare class Hasher {
   /** Returns the digest in hexadecimal digits. Ends the hash. */
   hex(): string;
   /**
-   * Returns whether the tag is the whole digest. Ends the hash. All bytes of a tag of the right
-   * length are compared, wherever they differ.
+   * Throws an `InvalidTagError` unless the tag is the whole digest; returns nothing. Ends the hash.
+   * All bytes of a tag of the right length are compared, wherever they differ. A hash without a key,
+   * except a tree, throws a `TypeError` and goes on: compare digests with `equal`.
    */
-  verify(tag: Bytes): boolean;
+  verify(tag: Bytes): void;
   /** Returns a separate hash that has absorbed the same bytes. */
   copy(): this;
   /** Discards what was absorbed, and keeps the options. */
@@ -295,8 +310,8 @@ export interface OutputOptions {
    * not known in advance. The output depends on it.
    */
   outputLength?: number | undefined;
-  /** A key of 1 to 64 bytes (BLAKE2Xb) or 32 (BLAKE2Xs). */
-  key?: Bytes | undefined;
+  /** A key of 1 to 64 bytes (BLAKE2Xb) or 32 (BLAKE2Xs). It must not be undefined. */
+  key?: Bytes;
   /** A salt of up to 16 bytes (BLAKE2Xb) or 8 (BLAKE2Xs). */
   salt?: Bytes | undefined;
   /** A personalization of up to 16 bytes (BLAKE2Xb) or 8 (BLAKE2Xs). */
@@ -365,14 +380,16 @@ type GlobalWritable = typeof globalThis extends { WritableStream: { prototype: i
   ? Stream : WritableStreamLike;
 
 /**
- * Returns a `WritableStream` that absorbs the bytes written to it into a hash, for `pipeTo`. If it
- * is aborted, or a chunk is not bytes, it ends the hash as `wipe` does.
+ * Returns a `WritableStream` that absorbs the bytes written to it into a hash, for `pipeTo`. Until
+ * it is closed, calls of the hash throw, except `copy` and `wipe`. If it is aborted, or a chunk is
+ * not bytes, it ends the hash as `wipe` does.
  */
 export function hashWritable(hash: AnyHash): GlobalWritable;
 
 /**
  * Returns a pair of streams that passes bytes on unchanged and absorbs them into a hash, for
- * `pipeThrough`. It reads no faster than the other side. If either side fails before the end of the
+ * `pipeThrough`. It reads no faster than the other side. Until the data has ended, calls of the
+ * hash throw, except `copy` and `wipe`. If either side fails before the end of the
  * data, or a chunk is not bytes, it ends the hash as `wipe` does.
  */
 export function hashTransform(hash: AnyHash): {

@@ -2,31 +2,41 @@
 // index.d.ts documents the interface.
 
 import {
-  OPTIONS, bytesOf, flagOf, isBytes, kindOf, lengthOf, offsetOf, refuseMore, settingsOf,
+  OPTIONS, bytesOf, checkedSettings, flagOf, isBytes, kindOf, lengthOf, offsetOf, readSettings,
+  refuseMore, settingsOf,
 } from "./src/arguments.js";
-import {
-  BLAKE2B, BLAKE2BP, BLAKE2S, BLAKE2SP, LEAF_DIGEST, TREE, hash, hashLeaves, hashMany, isSame, load,
-  rootOfLeaves,
-} from "./src/engine.js";
-import { Blake2b, Blake2bp, Blake2s, Blake2sp, TreeHash, hex } from "./src/hashers.js";
-import { Blake2xb, Blake2xs, deriveKey } from "./src/xof.js";
+import { BLAKE2B, Blake2b } from "./src/blake2b.js";
+import { BLAKE2S, Blake2s } from "./src/blake2s.js";
+import { hash, isSame, load } from "./src/engine.js";
+import { InvalidTagError } from "./src/hashers.js";
+import { hex } from "./src/hex.js";
+import { LEAF_DIGEST, hashLeaves, rootOfLeaves } from "./src/leaves.js";
+import { hashMany } from "./src/many.js";
+import { Blake2bp, Blake2sp } from "./src/parallel.js";
 import { hashTransform, hashWritable } from "./src/pipes.js";
 import { hashStream } from "./src/streams.js";
+import * as threads from "./src/threads.js";
+import { TreeHash } from "./src/tree_hash.js";
+import {
+  BLAKE2BP, BLAKE2SP, TREE, WHOLE_BLAKE2B, WHOLE_BLAKE2S,
+} from "./src/whole_module.js";
+import { Blake2xb, Blake2xs, deriveKey } from "./src/xof.js";
 
 export {
-  Blake2b, Blake2bp, Blake2s, Blake2sp, Blake2xb, Blake2xs, TreeHash, deriveKey, hashTransform,
-  hashWritable, hex, load,
+  Blake2b, Blake2bp, Blake2s, Blake2sp, Blake2xb, Blake2xs, InvalidTagError, TreeHash, deriveKey,
+  hashTransform, hashWritable, hex, load,
 };
 
-function one(kind, caller, message, options, rest) {
-  refuseMore(rest, caller, 2);
+// The functions that are called for short messages count their arguments, so that no array of those
+// beyond the last is made.
+function one(kind, caller, message, options, count) {
+  refuseMore(count - 2, caller, 2);
   const bytes = bytesOf(message, caller, "message");
-  const [settings] = settingsOf(kind, options, caller);
-  return hash(kind, bytes, settings);
+  return hash(kind, bytes, settingsOf(kind, options, caller));
 }
 
 function several(kind, caller, messages, options, rest) {
-  refuseMore(rest, caller, 2);
+  refuseMore(rest.length, caller, 2);
   const isIterable = typeof messages?.[Symbol.iterator] === "function";
   if (!isIterable || typeof messages === "string" || isBytes(messages)) {
     throw new TypeError(
@@ -34,39 +44,40 @@ function several(kind, caller, messages, options, rest) {
         (isBytes(messages) ? "; several messages are expected, not one" : ""),
     );
   }
-  const [settings] = settingsOf(kind, options, caller, OPTIONS.basic);
+  const [, read] = readSettings(kind, options, caller, OPTIONS.basic);
   const given = Array.from(messages);
+  const settings = checkedSettings(kind, read, caller); // again, after code of the caller
   const bytes = given.map((message, i) => bytesOf(message, caller, `message ${i}`));
   return hashMany(kind, bytes, settings);
 }
 
-export function blake2b(message, options, ...rest) {
-  return one(BLAKE2B, "blake2b", message, options, rest);
+export function blake2b(message, options) {
+  return one(BLAKE2B, "blake2b", message, options, arguments.length);
 }
 
-export function blake2s(message, options, ...rest) {
-  return one(BLAKE2S, "blake2s", message, options, rest);
+export function blake2s(message, options) {
+  return one(BLAKE2S, "blake2s", message, options, arguments.length);
 }
 
-export function blake2bp(message, options, ...rest) {
-  return one(BLAKE2BP, "blake2bp", message, options, rest);
+export function blake2bp(message, options) {
+  return one(BLAKE2BP, "blake2bp", message, options, arguments.length);
 }
 
-export function blake2sp(message, options, ...rest) {
-  return one(BLAKE2SP, "blake2sp", message, options, rest);
+export function blake2sp(message, options) {
+  return one(BLAKE2SP, "blake2sp", message, options, arguments.length);
 }
 
-export function treeRoot(message, options, ...rest) {
-  return one(TREE, "treeRoot", message, options, rest);
+export function treeRoot(message, options) {
+  return one(TREE, "treeRoot", message, options, arguments.length);
 }
 
 // Where messages of a tree have to end (the library's limit).
 const LIMIT = 2n ** 58n;
 
 export function treeLeaves(message, options, ...rest) {
-  refuseMore(rest, "treeLeaves", 2);
+  refuseMore(rest.length, "treeLeaves", 2);
   const bytes = bytesOf(message, "treeLeaves", "message");
-  const [settings, { first, ends }] = settingsOf(TREE, options, "treeLeaves", OPTIONS.leaves);
+  const [settings, { first, ends }] = readSettings(TREE, options, "treeLeaves", OPTIONS.leaves);
   for (const [name, value] of [["first", first], ["ends", ends]]) {
     if (value === undefined) throw new TypeError(`treeLeaves: ${name} must be given`);
   }
@@ -91,9 +102,9 @@ export function treeLeaves(message, options, ...rest) {
 }
 
 export function treeRootOfLeaves(digests, options, ...rest) {
-  refuseMore(rest, "treeRootOfLeaves", 2);
+  refuseMore(rest.length, "treeRootOfLeaves", 2);
   const bytes = bytesOf(digests, "treeRootOfLeaves", "digests");
-  const [settings] = settingsOf(TREE, options, "treeRootOfLeaves");
+  const settings = settingsOf(TREE, options, "treeRootOfLeaves");
   const length = lengthOf(bytes);
   if (length === 0 || length % LEAF_DIGEST !== 0) {
     throw new RangeError(
@@ -104,11 +115,11 @@ export function treeRootOfLeaves(digests, options, ...rest) {
 }
 
 export function blake2bMany(messages, options, ...rest) {
-  return several(BLAKE2B, "blake2bMany", messages, options, rest);
+  return several(WHOLE_BLAKE2B, "blake2bMany", messages, options, rest);
 }
 
 export function blake2sMany(messages, options, ...rest) {
-  return several(BLAKE2S, "blake2sMany", messages, options, rest);
+  return several(WHOLE_BLAKE2S, "blake2sMany", messages, options, rest);
 }
 
 export function blake2bStream(source, options, ...rest) {
@@ -128,12 +139,12 @@ export function blake2spStream(source, options, ...rest) {
 }
 
 export function treeRootStream(source, options, ...rest) {
-  return hashStream(TREE, TreeHash, "treeRootStream", source, options, rest);
+  return hashStream(TREE, TreeHash, "treeRootStream", source, options, rest, threads);
 }
 
 export function equal(a, b, ...rest) {
-  refuseMore(rest, "equal", 2);
-  return isSame(bytesOf(a, "equal", "a"), bytesOf(b, "equal", "b"));
+  refuseMore(rest.length, "equal", 2);
+  return isSame(BLAKE2B, bytesOf(a, "equal", "a"), bytesOf(b, "equal", "b"));
 }
 
 // hex, utf8 and fromHex ignore further arguments, so that map() can call them.

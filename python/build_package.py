@@ -40,21 +40,30 @@ TEXTS = {"aarch64": ["aarch64/vulfsjor.s"],
 MACROS = {"linux": "elf.inc", "macosx": "macho.inc", "windows": "coff.inc"}
 
 # The files of a source distribution: those of this folder, and those of the repository.
-OWN = ("README.md", "build_package.py", "pyproject.toml", "src/library.[ch]", "src/trees.c", "src/xof.c",
-       "tests/*.py", "vulfsjor/*.py", "vulfsjor/*.pyi", "vulfsjor/py.typed")
+OWN = ("README.md", "build_package.py", "pyproject.toml", "src/by_threads.c", "src/library.[ch]", "src/trees.c",
+       "src/xof.c", "tests/*.py", "vulfsjor/*.py", "vulfsjor/*.pyi", "vulfsjor/py.typed")
 SHARED = {
     "src/vulfsjor.h": "c/include/vulfsjor.h",
+    "src/vulfsjor_threads.h": "c/include/vulfsjor_threads.h",
+    "src/threads.c": "c/threads.c",
+    "src/system.h": "c/system.h",
     "src/choose.c": "c/choose.c",
     "src/thunks.h": "c/thunks.h",
     "src/portable.c": "dist/c/vulfsjor.c",
+    "src/MANIFEST": "dist/MANIFEST",
     **{f"src/{name}": f"dist/{name}" for processor, texts in TEXTS.items()
        for name in [*texts, *(f"{processor}/{macros}" for macros in MACROS.values())]},
 }
 
+# What its tests need besides.
+FOR_TESTS = {**{f"tests/{name}": f"tests/{name}" for name in (
+    "b2_model.py", "common.py", "oracle.py", "vectors.json", "vectors.py")},
+    "tests/read_sources.py": "tools/read_sources.py"}
+
 # Clang warns of each option that means nothing for assembly. LTO loses the assembly of choose.c.
 COMPILING = ["-std=c99", "-O2", "-DNDEBUG", "-Wall", "-Wextra", "-fvisibility=hidden", "-fno-lto",
-             "-Wno-unused-command-line-argument"]
-LINKING = {"linux": ["-fPIC", "-shared", "-Wl,--gc-sections", "-Wl,-z,relro,-z,now"],
+             "-ffunction-sections", "-Wno-unused-command-line-argument"]
+LINKING = {"linux": ["-fPIC", "-shared", "-pthread", "-Wl,--gc-sections", "-Wl,-z,relro,-z,now"],
            "macosx": ["-bundle", "-undefined", "dynamic_lookup", "-Wl,-dead_strip"],
            "windows": ["-shared", f"-L{sys.base_prefix}/libs", f"-L{sys.base_prefix}/lib"]}
 WITHOUT_GIL = bool(sysconfig.get_config_var("Py_GIL_DISABLED"))
@@ -65,17 +74,32 @@ def refuse(why):
     sys.exit(f"build_package.py: {why}")
 
 
-def source_files():
-    """The path of each file of a source distribution, by its name there."""
+def source_files(shared=SHARED):
+    """The path of each file of this folder, and of each that the repository shares, by its name in a source
+    distribution."""
     found = {path.relative_to(HERE).as_posix(): path for pattern in OWN for path in HERE.glob(pattern)}
     is_released = (HERE / "PKG-INFO").exists()
-    for name, place in SHARED.items():
+    for name, place in shared.items():
         found[name] = HERE / name if is_released else HERE.parent / place
         if not found[name].is_file():
             refuse(f"{name if is_released else f'../{place}'} is missing: build in a clone of the "
                    "repository, since the package shares files with c/ and dist/, or from a source "
                    "distribution")
+    check_dist(found, is_released)
     return found
+
+
+def check_dist(found, is_released):
+    """Refuses a file of dist/ that is not the one that MANIFEST names. A source distribution has some of them."""
+    lines = found["src/MANIFEST"].read_text(encoding="utf-8").splitlines()
+    sums = {name: digest for digest, name in (line.split("  ") for line in lines if not line.startswith("#"))}
+    texts = {place.removeprefix("dist/"): found[name] for name, place in SHARED.items()
+             if place.startswith("dist/") and name != "src/MANIFEST"}
+    if not is_released:
+        texts |= {name: HERE.parent / "dist" / name for name in sums}
+    for name, path in texts.items():
+        if not path.is_file() or hashlib.sha256(path.read_bytes()).hexdigest() != sums.get(name):
+            refuse(f"dist/{name} is not as in dist/MANIFEST, so it is not what was tested")
 
 
 # ---- The module
@@ -143,10 +167,11 @@ def compiled():
                 shutil.copyfile(path, f"{work}/{name}")
         made = os.path.join(work, module_name())
         done = subprocess.run(
-            [*compiler(system), *COMPILING, *(f"-I{folder}" for folder in sorted(includes)),
+            [*compiler(system), *COMPILING, f"-fdebug-prefix-map={work}=.",
+             *(f"-I{folder}" for folder in sorted(includes)),
              *(["-DPy_GIL_DISABLED=1"] if WITHOUT_GIL else []),
              *shlex.split(os.environ.get("CFLAGS", "")), *options, "-o", made, "src/library.c",
-             "src/trees.c", "src/xof.c", *library(system, processor, work),
+             "src/by_threads.c", "src/trees.c", "src/xof.c", *library(system, processor, work),
              *shlex.split(os.environ.get("LDFLAGS", "")),
              *(["-lpython3"] if system == "windows" else [])], cwd=work, check=False)
         if done.returncode:
@@ -231,7 +256,7 @@ def build_sdist(sdist_directory, config_settings=None):
     """Makes a source distribution. The same files make the same one."""
     del config_settings
     files = {"PKG-INFO": metadata(),
-             **{name: path.read_bytes() for name, path in source_files().items()}}
+             **{name: path.read_bytes() for name, path in source_files({**SHARED, **FOR_TESTS}).items()}}
     name = f"{RELEASE}.tar.gz"
     with open(os.path.join(sdist_directory, name), "wb") as file, \
             gzip.GzipFile("", "wb", 9, file, 0) as packed, \

@@ -14,7 +14,6 @@ source "$(dirname "$(readlink -f "$0")")/../tests/tap.sh"
 export CARGO_TARGET_DIR=$work/target CARGO_NET_OFFLINE=true
 # What only later builds or a debugger would use.
 export CARGO_INCREMENTAL=0 CARGO_PROFILE_DEV_DEBUG=0
-arm=aarch64-unknown-linux-gnu
 short=(--lib --test bindings --test known_answers)
 
 cargo_here() { cargo "$1" --manifest-path "$top/Cargo.toml" "${@:2}"; }
@@ -41,18 +40,38 @@ check_debian() {
 }
 check_debian_huge() { checking=check_huge check_debian "$@"; }
 
+# Whether rustc refuses the lines of the programs in a folder that end with the comment "refused", and no other lines.
+refused_lines() {
+    local program name
+    for program in "$top/$1"/src/bin/*.rs; do
+        name=$(basename "$program" .rs)
+        ! cargo_debian "$1" check -q --bin "$name" --message-format short 2>"$work/said" &&
+            diff <(sed -n "s/^src.*$name.rs:\([0-9]*\):.* error.*/\1/p" "$work/said" | sort -un) \
+                <(grep -n '// refused$' "$program" | cut -d: -f1) || return
+    done
+}
+
 # The digests of a build that this processor would not choose by itself.
 cargo_build() {
-    local tests=(--test known_answers)
+    local tests=(--test known_answers --test conformance)
     [ -z "${VULFSJOR_TEST_HUGE-}" ] || tests=("${short[@]}")
     RUSTFLAGS="--cfg vulfsjor_build=\"$1\"" CARGO_TARGET_DIR=$work/$1 cargo_here test "${tests[@]}"
 }
 
-# The tests for 64-bit ARM, which is emulated.
-cargo_arm() {
-    CARGO_TARGET_AARCH64_UNKNOWN_LINUX_GNU_LINKER=aarch64-linux-gnu-gcc \
-        CARGO_TARGET_AARCH64_UNKNOWN_LINUX_GNU_RUNNER="qemu-aarch64 -L /usr/aarch64-linux-gnu" \
-        cargo_here test --target "$arm" "${short[@]}"
+# Says what the next test needs, which cargo_cross then makes for a processor that is emulated: TARGET COMPILER
+# EMULATOR.
+needs_cross() {
+    needs "$2" "$3"
+    [ -n "$missing" ] || ls "$(rustc --print sysroot)/lib/rustlib/$1/lib" >/dev/null 2>&1 ||
+        missing="no standard library of Rust for $1"
+    [ -n "$missing" ] || has_compiler "$2" || missing="no C library for $1"
+    cross=("$@")
+}
+cargo_cross() {
+    local variable=${cross[0]//-/_}
+    variable=CARGO_TARGET_${variable^^}
+    export "${variable}_LINKER=${cross[1]}" "${variable}_RUNNER=${cross[2]} -L /usr/${cross[1]%-gcc}"
+    cargo_here test --target "${cross[0]}" "$@"
 }
 
 # The roots of files by rayon's threads, compared with hashlib.
@@ -66,12 +85,12 @@ rayon_example() {
 
 # What a program for the crate blake2 prints if it gets rust-digest under that name.
 renamed_program() {
-    cargo_debian rust-digest/tests/renamed run -q >"$work/printed" && python3 -c '
+    cd "$top" && cargo_debian rust-digest/tests/renamed run -q >"$work/printed" && python3 -c '
 from hashlib import blake2b, blake2s
 ten = blake2b(b"my input", digest_size=10)
 salted = blake2b(b"my input", digest_size=10, key=b"key", salt=b"salt", person=b"persona")
 for hash in (blake2b(b"hello world"), blake2s(b"hello world"), ten, blake2s(blake2s(b"abc").digest()), ten,
-             blake2b(b"my input", key=b"key"), salted):
+             blake2b(b"my input", key=b"key"), salted, blake2s(open("Cargo.toml", "rb").read())):
     print(hash.hexdigest())' | diff - "$work/printed"
 }
 
@@ -82,13 +101,15 @@ check "the crate vulfsjor" cargo_here test --tests || finish
 check_huge "the examples in the documentation of vulfsjor" cargo_here test --doc
 check_huge "the crate vulfsjor in a shared library of Rust" cargo_here test --test programs -- --ignored shared_library
 check_huge "the crate vulfsjor, optimized" cargo_here test --release "${short[@]}"
+check "wrong uses do not compile" refused_lines rust/tests/wrong_uses
 check "the crate vulfsjor without std" cargo_here test --no-default-features --lib --test bindings
 # Optimizing takes longer than the few tests without VULFSJOR_TEST_HUGE save by it.
-CARGO_PROFILE_DEV_OPT_LEVEL=$([ -n "${VULFSJOR_TEST_HUGE-}" ] && echo 1 || echo 0) check "the crate vulfsjor in portable Rust" cargo_build portable
+CARGO_PROFILE_DEV_OPT_LEVEL=$([ -n "${VULFSJOR_TEST_HUGE-}" ] && echo 1 || echo 0) \
+    check "the crate vulfsjor in portable Rust" cargo_build portable
 check_huge "all tests of the crate vulfsjor without std" cargo_here test --no-default-features
 if [ "$(uname -m)" = x86_64 ]; then
     check "the crate vulfsjor over the build for x86-64-v2" cargo_build v2
-    if [ "$("$top/tools/processor.sh")" = x86-64-v4 ]; then
+    if [ "$("$top/tests/processor.sh")" = x86-64-v4 ]; then
         check_huge "the crate vulfsjor over the build for x86-64-v3" cargo_build v3
     else
         skip "the crate vulfsjor over the build for x86-64-v3" "the choice is that build, or none"
@@ -97,21 +118,22 @@ if [ "$(uname -m)" = x86_64 ]; then
     check "the crate vulfsjor on other processors" \
         cargo_here test --lib --test programs -- --ignored other_processors
 fi
-needs aarch64-linux-gnu-gcc qemu-aarch64
-ls "$(rustc --print sysroot)/lib/rustlib/$arm/lib" >/dev/null 2>&1 ||
-    missing="no standard library of Rust for $arm"
-[ -n "$missing" ] || has_compiler aarch64-linux-gnu-gcc || missing="no C library for $arm"
-check "the crate vulfsjor on 64-bit ARM" cargo_arm
+needs_cross aarch64-unknown-linux-gnu aarch64-linux-gnu-gcc qemu-aarch64
+check "the crate vulfsjor on 64-bit ARM" cargo_cross "${short[@]}"
+needs_cross s390x-unknown-linux-gnu s390x-linux-gnu-gcc qemu-s390x
+check "the crate vulfsjor in portable Rust on s390x" cargo_cross --test known_answers --test conformance
 needs valgrind
 check_huge "a comparison takes equal time" cargo_here test --test programs -- --ignored equal_time
 needs cargo-clippy
-check_huge "clippy has nothing to say" cargo_here clippy --all-targets -- -D warnings
+check_huge "clippy has nothing to say" cargo_here clippy --all-targets -- -D warnings -D clippy::must_use_candidate
 needs
 check_huge "each call with more than 4 GiB" cargo_here test --test huge -- --ignored
 check_huge "the pages of cargo doc have no broken link" env RUSTDOCFLAGS="-D warnings" \
     cargo doc --no-deps --manifest-path "$top/Cargo.toml"
 check_debian "the crate vulfsjor-digest" digest=0.10 serde=1 hmac=0.12 hkdf=0.12 pbkdf2=0.11 -- \
-    cargo_debian rust-digest test --tests
+    cargo_debian rust-digest test --tests --features serde
+check_debian "wrong uses of vulfsjor-digest do not compile" digest=0.10 serde=1 -- \
+    refused_lines rust-digest/tests/wrong_uses
 check_debian_huge "the examples in the documentation of vulfsjor-digest" digest=0.10 serde=1 hmac=0.12 \
     hkdf=0.12 pbkdf2=0.11 -- cargo_debian rust-digest test --doc
 check_debian_huge "vulfsjor-digest without std" digest=0.10 serde=1 hmac=0.12 hkdf=0.12 pbkdf2=0.11 -- \

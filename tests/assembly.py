@@ -1,12 +1,12 @@
 #!/usr/bin/env python3
-"""Looks at the assembly files of dist/, with no toolchain: each symbol ends in the number of the code and the build, nothing is
-called that is not there except a few functions of the C library, each function is called or exported, only macros differ
-between systems, no preprocessor changes a line, and nothing is used that Windows or macOS reserves. Messages of BLAKE2b
-are compressed one by one for x86-64-v2, by fours elsewhere, and by eights too for x86-64-v4. The programs have no
-compression: they call the library's, on x86-64 those of the build for the processor. On ARM one message is compressed
-without vector registers and several messages with them. For x86-64-v4 only the compression of eight messages
-has instructions of 512 bits, and each function clears those of the upper 16 vector registers that it uses, after a call
-with a key all of them.
+"""Looks at the assembly files of dist/, with no toolchain: each symbol ends in the number of the code and the build,
+nothing is called that is not there except a few functions of the C library, each function is called or exported, only
+macros differ between systems, no preprocessor changes a line, and nothing is used that Windows or macOS reserves.
+Messages of BLAKE2b are compressed one by one for x86-64-v2, by fours elsewhere, and by eights too for x86-64-v4. The
+programs have no compression: they call the library's, on x86-64 those of the build for the processor. On ARM one
+message is compressed without vector registers and several messages with them. For x86-64-v4 only the compression of
+eight messages has instructions of 512 bits, and each function clears those of the upper 16 vector registers that it
+uses, after a call with a key all of them.
 
     tests/assembly.py [DIST]
 
@@ -48,7 +48,7 @@ INDEXED = re.compile(r"[\t ,]-\w+\(%rsp,")
 FAMILIES = ("blake2b", "blake2s")
 # The functions of the library that hash for both programs, and those that hash for b2sum, in the order of their names.
 HASHING = [*(f"blake2_compress..compress..{it}..compress" for it in FAMILIES), "blake2_tree..nodes..Nodes..hash_next"]
-LEAVES = [f"blake2_parallel..lanes..{it}..Lanes..{what}" for it in FAMILIES for what in ("outputs", "update")]
+LEAVES = [f"blake2_parallel..lanes..{it}p..Lanes..{what}" for it in FAMILIES for what in ("outputs", "update")]
 # The compressions of several messages of BLAKE2b that each build has.
 FOUR = "blake2_compress..many..blake2b..compress_blocks"
 EIGHT = "blake2_compress..many..blake2b..eight..compress_blocks"
@@ -86,7 +86,8 @@ def check_text(name, text, end):
              for word in re.findall(r"[A-Za-z_][\w.]*", line)}
     labels = [line[:-1] for line in lines if re.fullmatch(r"\.L[^\t]*:", line)]
     words = {line.split("\t")[1] for line in lines if line.startswith("\t.")}
-    yield "each function ends in the number of the code and the build", code and all(it.endswith(f"_{end}") for it in code)
+    yield "each function ends in the number of the code and the build", (
+        code and all(it.endswith(f"_{end}") for it in code))
     yield "so does the name of each constant", labels and all(it.startswith(f".L{end}_") for it in labels)
     yield "each function is exported, or called or named by another", exported and code.keys() <= named | set(exported)
     theirs = [OF_C.findall("\n".join(sorted(it))) for it in (outside, [it for it in exported if ".proved_" in it])]
@@ -100,7 +101,8 @@ def check_text(name, text, end):
     yield "no preprocessor changes a line", not any(
         PREPROCESSED.search(line) for line in lines[1:] if not line.startswith("\t.asci"))
     yield "it uses no red zone and no x18", not any(map(RESERVED.search, lines)) and not any(
-        any(map(INDEXED.search, body)) and not any("call" in line.split("\t")[1] for line in body) for body in code.values())
+        any(map(INDEXED.search, body)) and not any("call" in line.split("\t")[1] for line in body)
+        for body in code.values())
 
 
 def hashing_of(name):

@@ -1,6 +1,7 @@
 #!/usr/bin/env python3
-"""The program `b2`, written only from docs/SPECIFICATION.md: no other page, no source and no other tool of the
-repository was used. Section numbers are those of that page. `tests/compare_model.py` compares it with `b2`.
+"""The program `b2`, written only from docs/SPECIFICATION.md, what it names in docs/B2.md, and RFC 7693: no other page,
+no source and no other tool of the repository was used. Section numbers are those of that page.
+`tests/compare_model.py` compares it with `b2`.
 
 usage: tests/b2_model.py WORDS.. < INPUT
 """
@@ -134,7 +135,8 @@ def parallel(family, size, given):
 
 
 def output(family, length, given, is_known=True):
-    """Section 13: this many bytes of the output of BLAKE2Xb or BLAKE2Xs, of a length that is known in advance or not."""
+    """Section 13: this many bytes of the output of BLAKE2Xb or BLAKE2Xs, of a length that is known in advance or
+    not."""
     xof_length = (length if is_known else 2**(8 * (family.offset - 4)) - 1) << 32
 
     def node(size, place, data):
@@ -198,7 +200,8 @@ def tree_root(size, leaf_length, message, salt, persona):
 COMMON = {"b128": (B, 16), "b256": (B, 32), "b512": (B, 64), "s128": (S, 16), "s256": (S, 32)}
 KINDS = {"sum": COMMON, "script": COMMON, "steps": COMMON,
          "witness": COMMON | {"b0": (B, 0), "b8": (B, 1), "s0": (S, 0), "s8": (S, 1)},
-         "tree": {kind: of for kind, of in COMMON.items() if of[0] is B}}
+         "tree": {kind: of for kind, of in COMMON.items() if of[0] is B},
+         "xof": {"xb": (B, 64), "xs": (S, 32)}}
 
 
 class Fault(Exception):
@@ -229,11 +232,32 @@ def options(words, names):
     """The words in brackets."""
     given = {}
     for word in words:
-        name, equals, digits = word.partition("=")
+        name, equals, value = word.partition("=")
+        is_text = name == "persona-text"
+        name = "persona" if is_text else name
         if not equals or name not in names or name in given:
             raise Fault("wrong words")
-        given[name] = hex_bytes(digits)
+        given[name] = value.encode() if is_text else hex_bytes(value)
     return given
+
+
+def output_length(family, digits):
+    """LENGTH."""
+    length = number_of(digits, 10)
+    if not length or length >= 2**(8 * (family.offset - 4)) - 1:
+        raise Fault("wrong words")
+    return length
+
+
+def derived(words, source):
+    """The line of `derive`."""
+    length = output_length(B, words[0] if words else "")
+    if len(words) != 2:
+        raise Fault("wrong words")
+    key = source()
+    if not 1 <= len(key) <= B.key:
+        raise Fault("wrong length")
+    return output(B, length, Input(words[1].encode(), key)).hex()
 
 
 def script_calls(data):
@@ -278,6 +302,8 @@ def fields(family, letter, words, entry=None):
 
 def lines(words, source):
     """The lines that the arguments request; the source is a function that reads the input."""
+    if words and words[0] == "derive":
+        return [derived(words[1:], source)]
     if not words or words[0] not in KINDS or len(words) < 2 or words[1] not in KINDS[words[0]]:
         raise Fault("wrong words")
     command, (family, size), rest = words[0], KINDS[words[0]][words[1]], words[2:]
@@ -292,6 +318,8 @@ def lines(words, source):
         leaf_length = number_of(rest.pop(0), 10) if rest else None
         if not leaf_length or leaf_length >= 2**32:
             raise Fault("wrong words")
+    if command == "xof":
+        length = output_length(family, rest.pop(0) if rest else "")
     given = Input(b"", **options(rest, names))
     if max(len(given.salt), len(given.persona)) > family.salt or given.key is not None and not (
             1 <= len(given.key) <= family.key):
@@ -302,6 +330,8 @@ def lines(words, source):
     if command == "tree":
         return [tree_root(size, leaf_length, data, given.salt, given.persona).hex()]
     given = given._replace(message=data)
+    if command == "xof":
+        return [output(family, length, given).hex()]
     if command == "sum":
         return [steps(family, size, given)[1].hex()]
     parts = [fields(family, "w", parameter_words(family, size, given))]

@@ -12,12 +12,23 @@
 set -u
 source "$(dirname "$(readlink -f "$0")")/tap.sh"
 
+# Whether standard error is as it should be: what to write instead of wrong arguments, or nothing.
+has_notes() {
+    case $(cat "$work/wanted") in
+        "b2: wrong words" | "b2: wrong hex")
+            grep -qx "usage: b2 .*\|b2: a command is missing\|b2: the first argument is not a command" "$work/errors" &&
+                [ "$(sed 1d "$work/errors")" = "Try 'b2 --help' for more information." ]
+            ;;
+        *) [ ! -s "$work/errors" ] ;;
+    esac
+}
+
 # Counts a check of this name: the status, the output and the errors that the run left, against
-# those that are wanted. Standard error stays empty in every run.
+# those that are wanted.
 count() {
     local name
     name=$(cat -v <<<"$build$1")
-    if [ "$2" = "$3" ] && cmp -s "$work/output" "$work/wanted" && [ ! -s "$work/errors" ]; then
+    if [ "$2" = "$3" ] && cmp -s "$work/output" "$work/wanted" && has_notes; then
         pass "$name"
         return
     fi
@@ -58,6 +69,7 @@ start="s 6a09e667f2bdc908 bb67ae8584caa73b 3c6ef372fe94f82b a54ff53a5f1d36f1"
 start="$start 510e527fade682d1 9b05688c2b3e6c1f 1f83d9abfb41bd6b 5be0cd19137e2179"
 root=14b0752e3ca5c2b4f5df98dcb4fab97caeda23424260d531f9b0b52310bb58ee
 root=${root}cb6e13211a8298c3e52d543a21efa545053f3006100629ff6bd181611b38f8c8
+output=eea2823aa41ed238900ec86e5abd0edf2c9507fd48ff4b0d4a55e32cfe62fe6275
 root_of_parts=ece6ceb0305d1bf7a0dce3f6a9abe1720d59d063c8b5d7f1def3f93b0196ae44
 words="w 0000000001010040$(printf ' 0000000000000000%.0s' {1..7})"
 
@@ -76,6 +88,28 @@ test_commands() {
     over abcde 0 "$root" tree b512 4
     over abcde 0 "$root_of_parts" tree b256 4 persona=70 salt=0102
     says 0 5abb265af975bd803708b70db42bd302 tree b128 4
+    over abc 0 "$output" xof xs 33 persona-text=apple salt=01
+    over 'master key' 0 7f71fabc20c90d95ae1ed05991e53c05396b98ff3a928cbc7bb3ae6b953f228c derive 32 context
+    says 0 "b2 (Vulfsjor) $(sed -n 's/^## \([0-9.]*\).*/\1/p;' "$top/CHANGELOG.md" | head -n 1)" --version
+}
+
+# The help names every command, and each KIND of docs/B2.md.
+test_help() {
+    "$program" --help >"$work/help" 2>"$work/errors" </dev/null
+    : >"$work/output" && ended "b2 --help" $? 0 ""
+    check "$build--help names every command" diff \
+        <(sed -n 's/^  \([a-z-]*\) .*/\1/p' "$work/help") \
+        <(printf '%s\n' sum script steps witness tree xof derive --help --version)
+    check "$build--help has lines of at most 100 columns" test -z "$(grep '.\{101\}' "$work/help")"
+}
+
+# Standard error that is closed or full changes nothing else.
+test_notes() {
+    printf 'b2: wrong words\n' >"$work/wanted"
+    "$program" sum >"$work/output" 2>&- </dev/null
+    check "${build}b2 sum, its standard error closed" test "$?,$(cat "$work/output")" = "2,b2: wrong words"
+    "$program" sum >"$work/output" 2>/dev/full </dev/null
+    check "${build}b2 sum, its standard error full" test "$?,$(cat "$work/output")" = "2,b2: wrong words"
 }
 
 # Wrong arguments, of which the first is reported: none, empty ones, and more than are taken. The rest
@@ -85,7 +119,7 @@ test_arguments() {
     says 2 "b2: wrong words" ""
     says 2 "b2: wrong words" "" sum b512
     says 2 "b2: wrong words" -h
-    says 2 "b2: wrong words" --help
+    says 2 "b2: wrong words" --help sum
     says 2 "b2: wrong words" sum b512 ""
     says 2 "b2: wrong words" sum b512 key=01 salt=02 persona=03 1 2 3 4 5
     says 2 "b2: wrong hex" sum b512 key=01 salt=02 persona=0 1 2 3 4 5
@@ -274,7 +308,7 @@ test_memory() {
 # How many of 100 instructions of the run that was counted are those of functions that hash several
 # messages in parallel.
 share_in_parallel() {
-    awk '/^fn=/ { is_one = /^fn=blake2_compress(::|[.][.])many.*compress_blocks/ }
+    awk '/^fn=/ { is_one = /^fn=blake2_compress(::|[.][.])many/ }
         /^calls=/ { getline; next }
         /^[0-9]/ { all += $2; if (is_one) count += $2 }
         END { print all ? int(100 * count / all) : -1 }' "$work/instructions"
@@ -286,7 +320,7 @@ share_in_parallel() {
 hashes_leaves() {
     local least=75 most=100 leaf=$2 level=${program##*-} name share status
     # valgrind has no AVX-512, so the library's build for x86-64-v3 is chosen at most.
-    [ "$program" != "$work/b2" ] || level=$("$top/tools/processor.sh")
+    [ "$program" != "$work/b2" ] || level=$("$top/tests/processor.sh")
     [ "${level##*-}" != v2 ] || least=0 most=0
     name="b2 tree b512 $leaf, $least to $most in 100 of whose instructions hash leaves in parallel"
     has valgrind || { skip "$name" "no valgrind" && return; }
@@ -312,6 +346,13 @@ test_leaves() {
     hashes_leaves $(((26 << 20) + 1)) 1048576
 }
 
+# The conformance cases of BLAKE2b and BLAKE2s, by `sum` and `script`.
+test_conformance() {
+    local cases=${VULFSJOR_CONFORMANCE:-$work/conforming}
+    [ -d "$cases" ] || { mkdir "$cases" && "$top/tests/conformance/write.py" "$cases" blake2b blake2s; }
+    check "${build}the conformance cases" "$top/tests/conformance/b2_cases.py" --program "$program" "$cases"
+}
+
 has python3 || { skip "the program" "no python3" && finish; }
 if [ $# -eq 0 ]; then
     if has cc; then
@@ -334,10 +375,13 @@ for program; do
     # The others are the same program, with older builds of the library.
     [[ $program == "$work"/b2-v? ]] || {
         test_arguments
+        test_help
+        test_notes
         test_inputs
         test_outputs
         test_bytes
         test_memory
+        test_conformance
     }
 done
 finish

@@ -34,6 +34,8 @@ CALLS = {"readv": errno.EIO, "openat": errno.EACCES, "write": errno.ENOSPC, "mal
          "realloc": errno.ENOMEM}
 # Wrong arguments, and what is said of them.
 WRONG = {
+    "--salt=": "invalid salt: ''\nthe value has no digits",
+    "--personal=": "invalid personalization: ''\nthe value has no digits",
     "--salt 0": "invalid salt: '0'\nthe value is not hexadecimal digits, two for each byte",
     "--personal zz": "invalid personalization: 'zz'\nthe value is not hexadecimal digits, two for each byte",
     "--salt " + "00" * 17: "the salt is too long: at most 16 bytes, 8 for BLAKE2s and BLAKE2sp",
@@ -51,6 +53,8 @@ WRONG = {
     "--threads x": "invalid number of threads: 'x'\nthe value is not a number of threads, or 0 for all processors",
     "--threads 4294967296": "invalid number of threads: '4294967296'\n"
                             "the value is not a number of threads, or 0 for all processors",
+    "--threads 4": "the --threads option is meaningful only with --tree",
+    "--threads 0 --salt 00": "the --threads option is meaningful only with --tree",
     "--raw --tag": "--tag does not support --no-names and --raw",
     "--no-names --tag": "--tag does not support --no-names and --raw",
     "-c --raw": "the --no-names and --raw options are meaningless when verifying checksums",
@@ -104,7 +108,10 @@ class Runs:
         return os.path.join(self.folder, name)
 
     def write(self, name, data):
+        """Writes a file, which only its owner may read if it has a key."""
         with open(self.path(name), "wb") as file:
+            if name.startswith("key"):
+                os.chmod(file.fileno(), 0o600)
             file.write(data)
 
     def run(self, words, data=b"", called="b2sum", **more):
@@ -236,7 +243,7 @@ def test_parameters(runs):
         wrong = "".join(("\\" if "\n" in it else "") + escaped(it) + ": FAILED\n" for it in FILES)
         runs.wants(["-c", *words, "--salt", "00"], wrong, f"WARNING: {len(FILES)} computed checksums did NOT match", 1,
                    manifest)
-    runs.wants(["--salt", "00" * 16, "--personal", "", "b"], line("b", b"abc"))
+    runs.wants(["--salt", "00" * 16, "b"], line("b", b"abc"))
     for words, said in WRONG.items():
         runs.wants([*words.split(), "b"], "", said, 1, **({} if "\n" in said else {"Try": 1}))
     runs.write("key65", bytes(65))
@@ -275,6 +282,12 @@ NEEDED = {"key": "--key-file", "salt": "--salt", "person": "--personal"}
 NO_LINE = "'standard input': no properly formatted checksum lines found"
 
 
+def unmet(wanted, count=1, title="'standard input'"):
+    """The messages of this many lines that need other options."""
+    return (f"{title}: lines need {wanted}\n"
+            f"WARNING: {count} {'line needs' if count == 1 else 'lines need'} other options")
+
+
 def test_needs(runs):
     """Tags that say what a digest needs: only a check with exactly that reads them, and no other program does."""
     values = {"key": bytes(range(32)), "salt": b"12345678", "person": b"abcdefgh"}
@@ -295,31 +308,48 @@ def test_needs(runs):
         options = [word for it in some for word in words[it]]
         runs.wants([*own, "-l", "256", "--tag", *options, "b"], said)
         for other in sets if family == "b" else {(), some}:
-            lacking = " ".join(NEEDED[it] for it in some if it not in other)
+            lacking = [NEEDED[it] for it in some if it not in other]
+            lacking += ["no " + NEEDED[it] for it in other if it not in some]
             check = [*own, "-c", "-l256", *(word for it in other for word in words[it])]
             if other == some:
                 runs.wants(check, "b: OK\n", data=said.encode())
             else:
-                text = (f"'standard input': lines need {lacking}\n" if lacking else "") + NO_LINE
-                runs.wants(check, "", text, 1, said.encode())
+                runs.wants(check, "", unmet(" ".join(lacking)), 1, said.encode())
         for peer in peers if some else ():
             got = subprocess.run(peer, executable="/usr/bin/" + peer[0], cwd=runs.folder, input=said.encode(),
                                  stdout=subprocess.PIPE, stderr=subprocess.PIPE)
             runs.holds([*peer, said], got.returncode == 1 and got.stdout == b"" and b"no properly" in got.stderr, got)
     tagged = line("b", b"abc", 256, tag=True, key=values["key"])
     both = tagged + line("a", b"", 256, tag=True, salt=b"x")
-    runs.wants(["-c"], "", "'standard input': lines need --key-file --salt\n" + NO_LINE, 1, both.encode())
-    runs.wants(["-c", "--status"], "", NO_LINE, 1, both.encode())
-    runs.wants(["-c"], "b: OK\n", "'standard input': lines need --key-file\nWARNING: 1 line is improperly formatted", 0,
-               (tagged + line("b", b"abc")).encode())
+    runs.wants(["-c"], "", unmet("--key-file --salt --length 256", 2), 1, both.encode())
+    plain = tagged + line("b", b"abc")
+    for more in ([], ["--strict"], ["-w"], ["--ignore-missing"]):
+        runs.wants(["-c", *more], "b: OK\n", unmet("--key-file --length 256"), 1, plain.encode())
+    for text in (both, plain):
+        runs.wants(["-c", "--status"], "", "", 1, text.encode())
+    runs.wants(["-c", "--quiet"], "", unmet("--key-file --length 256"), 1, plain.encode())
     runs.write("one", tagged.encode())
     runs.write("two", line("b", b"abc").encode())
-    runs.wants(["-c", "one", "two"], "b: OK\n", "one: lines need --key-file\n"
-               "one: no properly formatted checksum lines found", 1)
-    for option, text in (([], line("b", b"abc", 256, "s", tag=True, key=values["key"])),
-                         (["-a", "blake2bp"], tagged), (["-a", "blake2s"], tagged)):
-        runs.wants(["-c", "-l256", *words["key"], *option], "",
-                   "'standard input': lines need another --algorithm or --tree\n" + NO_LINE, 1, text.encode())
+    runs.wants(["-c", "one", "two"], "b: OK\n", unmet("--key-file --length 256", title="one"), 1)
+    runs.wants(["-c", "two", "one"], "b: OK\n", unmet("--key-file --length 256", title="one"), 1)
+    for option, text, wanted in (
+            ([], line("b", b"abc", 256, "s", tag=True, key=values["key"]), "--algorithm blake2s"),
+            ([], line("b", b"abc", 256, "sp", tag=True, key=values["key"]), "--algorithm blake2sp"),
+            (["-a", "blake2bp"], tagged, "--algorithm blake2b"),
+            (["-a", "blake2bp"], tagged.replace("2b-", "2bp-"), None),
+            (["-a", "blake2s"], tagged, "--algorithm blake2b --length 256")):
+        if wanted:
+            runs.wants(["-c", "-l256", *words["key"], *option], "", unmet(wanted), 1, text.encode())
+        else:
+            runs.wants(["-c", "-l256", *words["key"], *option], "b: FAILED\n",
+                       "WARNING: 1 computed checksum did NOT match", 1, text.encode())
+    tree = root_line("b", b"abc", 65536, 256, salt=values["salt"])
+    runs.wants(["-c", *words["salt"]], "", unmet("--tree 65536"), 1, tree.encode())
+    runs.wants(["-c", *words["salt"], "--tree", "4"], "", unmet("--tree 65536"), 1, tree.encode())
+    runs.wants(["-c", *words["salt"], "--tree", "65536"], "b: OK\n", data=tree.encode())
+    for salted in (["--salt", "00"], ["--personal", "00"]):
+        runs.wants(["-c", *salted], "b: OK\n", unmet("no " + salted[0]), 1,
+                   (line("b", b"abc") + line("a", b"", tag=True)).encode())
     for text in ("-keyx", "-salt-key", "-personal-salt", "-key-key", "-Key", "-key-", "key", " -key"):
         runs.wants(["-c", *words["key"]], "", NO_LINE, 1, line("b", b"abc", 512, tag=True, key=values["key"]).replace(
             "-key", text).encode())
@@ -331,10 +361,14 @@ def test_tags(runs):
     text = "".join(line("b", b"abc", bits, family, tag=True)
                    for family in ("b", "s", "bp", "sp") for bits in (8, 256, 512 if family[0] == "b" else 248))
     text += "".join(root_line("b", b"abc", leaf, bits) for leaf in (1, 2, 65536, (1 << 32) - 1) for bits in (64, 512))
-    for words in ([], ["-a", "blake2s"], ["-a", "blake2bp"], ["--tree", "3"]):
-        runs.wants(["-c", "--strict", *words], "b: OK\n" * 20, data=text.encode())
+    runs.wants(["-c", "--strict"], "b: OK\n" * 20, data=text.encode())
+    for words, count, other in ((["-a", "blake2b"], 3, "algorithm blake2s"),
+                                (["-a", "blake2s"], 3, "algorithm blake2b"),
+                                (["-a", "blake2bp"], 3, "algorithm blake2b"), (["--tree", "2"], 2, "algorithm blake2b"),
+                                (["--tree", "3"], 0, "algorithm blake2b"), (["-l", "256"], 4, "length 8")):
+        runs.wants(["-c", *words], "b: OK\n" * count, unmet("--" + other, 20 - count), 1, text.encode())
+    runs.wants(["-c", "-l", "512"], "b: OK\n" * 6, unmet("--length 8", 14), 1, text.encode())
     runs.wants(["-c"], "b: OK\n" * 21, data=(text + line("b", b"abc", 128)).encode())
-    runs.wants(["-c", "-l", "256"], "b: OK\n" * 4, "WARNING: 16 lines are improperly formatted", data=text.encode())
     changed = text.replace("(b)", "(a)")
     runs.wants(["-c"], "a: FAILED\n" * 20, "WARNING: 20 computed checksums did NOT match", 1, changed.encode())
     for leaf in ("0", "04", "4294967296", "4x", "", "-4", "+4", " 4", "99999999999999999999"):
@@ -423,6 +457,10 @@ def test_key_input(runs):
     said = "standard input is the key, and cannot be a file too"
     for words in ([], ["-"], ["b", "-"], ["-c"], ["-c", "-"]):
         runs.wants(["--key-file", "-", *words], "", said, 1, data=key, Try=1)
+    runs.write("sums", (line("b", b"abc", key=key) + line("-", b"", key=key)).encode())
+    runs.wants(["-c", "--key-file=-", "sums"], "b: OK\n", "WARNING: 1 line is improperly formatted", 1, data=key)
+    runs.write("key", key)
+    runs.wants(["-c", "--key-file=key", "sums"], "b: OK\n-: OK\n")
     runs.wants(["-c", "--key-file", "-", "sums"], "", f"-: {os.strerror(errno.EISDIR)}", 1,
                stdin=os.open(runs.folder, os.O_RDONLY))
     runs.ends("keys on standard input")
@@ -440,11 +478,58 @@ def test_demanded_lengths(runs):
             if other == bits:
                 runs.wants(["-c", *words], "b: OK\n", data=text)
             else:
-                runs.wants(["-c", *words], "", "'standard input': no properly formatted checksum lines found", 1, text)
+                runs.wants(["-c", *words], "", unmet(f"--length {other}"), 1, text)
+                runs.wants(["-c", "--strict", "--status", *words], "", "", 1, text)
     runs.write("M", "".join(f"{first:02x}  b\n" for first in range(256)).encode())
-    runs.wants(["-c", "--key-file", "key", "M"], "", "M: no properly formatted checksum lines found", 1)
+    runs.wants(["-c", "--key-file", "key", "M"], "", unmet("--length 8", 256, "M"), 1)
     runs.wants(["-c", "-l0"], "b: OK\n", data=os.fsencode(line("b", b"abc", bits=8)))
     runs.ends("the lengths that a check demands")
+
+
+def test_macs(runs):
+    """What a check with a key promises: it is strict, its names have two bytes before them, whatever another manifest
+    has, and the pair of commands of the manual authenticates a manifest."""
+    key = bytes(range(32))
+    runs.write("key", key)
+    check, sums = ["--key-file", "key", "--check"], line("b", b"abc", key=key)
+    runs.wants(check, "b: OK\n", "WARNING: 1 line is improperly formatted", 1, (sums + "g" + sums[1:]).encode())
+    runs.wants([*check, "--status"], "", "", 1, (sums + "g" + sums[1:]).encode())
+    runs.wants(["-c"], "b: OK\n", "WARNING: 1 line is improperly formatted", 0,
+               (line("b", b"abc") + "g" + line("b", b"abc")[1:]).encode())
+    for name, data in ((" conf", b"good"), ("conf", b"evil"), ("other", b"x")):
+        runs.write(name, data)
+    for words, given in (([], {}), (check[:2], {"key": key})):
+        trusted = line("conf", b"good", **given)
+        runs.write("trusted", trusted.encode())
+        runs.write("stranger", line("other", b"x", **given).replace("  ", " ").encode())
+        failed = "conf: FAILED\n"
+        did_not = "WARNING: 1 computed checksum did NOT match"
+        runs.wants([*words, "-c", "trusted"], failed, did_not, 1)
+        none = "stranger: no properly formatted checksum lines found\n"
+        runs.wants([*words, "-c", "stranger", "trusted"], ("" if given else "other: OK\n") + failed,
+                   (none if given else "") + did_not, 1)
+        runs.wants([*words, "-c", "trusted", "stranger"], failed + ("" if given else "other: OK\n"),
+                   did_not + ("\n" + none if given else ""), 1)
+    runs.wants(["--key-file", "key", "--tag", "b", "a"],
+               manifest := line("b", b"abc", tag=True, key=key) + line("a", b"", tag=True, key=key))
+    runs.write("SUMS", manifest.encode())
+    mac = line("SUMS", manifest.encode(), tag=True, key=key)
+    runs.wants(["--key-file", "key", "--tag", "SUMS"], mac)
+    runs.write("SUMS.mac", mac.encode())
+    runs.wants([*check, "SUMS.mac"], "SUMS: OK\n")
+    runs.wants([*check, "SUMS"], "b: OK\na: OK\n")
+    runs.write("a", b"abc")  # an attack without the key: the file and the line of another
+    runs.write("SUMS", manifest.replace(manifest.splitlines(True)[1], manifest.splitlines(True)[0].replace(
+        "(b)", "(a)")).encode())
+    runs.wants([*check, "SUMS"], "b: OK\na: OK\n")
+    runs.wants([*check, "SUMS.mac"], "SUMS: FAILED\n", "WARNING: 1 computed checksum did NOT match", 1)
+    runs.write("a", FILES["a"])
+    for mode, others in ((0o644, True), (0o640, True), (0o604, True), (0o600, False), (0o733, False), (0o400, False)):
+        os.chmod(runs.path("key"), mode)
+        said = "WARNING: others may read the key file" if others else ""
+        runs.wants(["--key-file", "key", "b", "key"], line("b", b"abc", key=key) + line("key", key, key=key), said)
+        runs.wants(["--key-file", "-", "b", "key"], line("b", b"abc", key=key) + line("key", key, key=key), data=key)
+    runs.ends("checks with a key")
 
 
 def stop(process):
@@ -529,6 +614,9 @@ def test_differences(runs):
     runs.wants(["-c"], "b: OK\n", "WARNING: 1 line is improperly formatted", 0,
                f"\\{digits}  a\\x\n{digits} b\n".encode())
     runs.wants(["-c", "--ignore-missing", "--quiet"], "", data=f"{digits}  b\n{digits}  none\n".encode())
+    for name, text in (("one", f"{digits} b\n"), ("two", f"{digits}  b\n")):
+        runs.write(name, text.encode())
+    runs.wants(["-c", "one", "two", "one"], "b: OK\n" * 3)
     for words in (["--help"], ["--version"]):
         got = runs.run(words)
         runs.holds(words, b"b2sum" in got[0] and got[1:] == (b"", 0), got)
@@ -567,7 +655,8 @@ def test_system(runs):
             runs.wants(["-c"], f"{name}: FAILED open or read\nb: OK\n", f"{name}: {os.strerror(error)}\n"
                        "WARNING: 1 listed file could not be read", 1,
                        os.fsencode(line(name, b"abc") + line("b", b"abc")))
-            runs.wants(["-c", name], "", f"{name}: {'read error' if error in (errno.EISDIR, errno.EIO) else os.strerror(error)}",
+            said = "read error" if error in (errno.EISDIR, errno.EIO) else os.strerror(error)
+            runs.wants(["-c", name], "", f"{name}: {said}",
                        1)
     runs.wants(["link", "dir/../b"], line("link", b"abc") + line("dir/../b", b"abc"))
     runs.wants(["/dev/null"], line("/dev/null", b""))
@@ -627,6 +716,7 @@ def test_outputs(runs):
 
 def test_called(runs):
     """Messages, the usage and the pointer to it have the last part of argument 0, or `b2sum` if that is empty."""
+    runs.write("key", b"")
     runs.write("sums", line("b", b"abd").encode() + b"x\n")
     usage, version = (runs.run([word])[0] for word in ("--help", "--version"))
     first = b"Usage: b2sum [OPTION].. [FILE]..\n"
@@ -641,7 +731,7 @@ def test_called(runs):
                 (["none"], b"", b"%s: none: " + missing), (["-c", "none"], b"", b"%s: none: " + missing),
                 (["-x"], b"", b"%s: invalid option -- 'x'\nTry '%s --help' for more information."),
                 (["-l", "7"], b"", b"%s: invalid length: '7'\n%s: length is not a multiple of 8"),
-                (["--key-file", "a", "b"], b"", b"%s: a: a key has 1 to 64 bytes"),
+                (["--key-file", "key", "b"], b"", b"%s: key: a key has 1 to 64 bytes"),
                 (["-cw", "sums"], b"b: FAILED\n", b"%s: sums: 2: improperly formatted BLAKE2b checksum line\n"
                  b"%s: WARNING: 1 line is improperly formatted\n%s: WARNING: 1 computed checksum did NOT match")):
             got = runs.run(words, called=path)
@@ -696,10 +786,11 @@ def test_streams(runs):
 
 
 def test_closing(runs):
-    """Outputs whose closing fails, as some systems report a late write. The first file is closed before them."""
+    """Files and outputs whose closing fails, as some systems report a late read or write."""
     quota = f"b2sum: write error: {os.strerror(errno.EDQUOT)}\n".encode()
     whole = line("b", b"abc").encode()
-    for at, wanted in ((1, (whole, b"", 0)), (2, (whole, quota, 1)), (3, (whole, b"", 1)), (4, None)):
+    late = f"b2sum: close error: {os.strerror(errno.EDQUOT)}\n".encode()
+    for at, wanted in ((1, (whole, late, 1)), (2, (whole, quota, 1)), (3, (whole, b"", 1)), (4, None)):
         got = fault(runs, ["b"], b"", "close", at, at, errno.EDQUOT)
         runs.holds(["close", at], got == wanted, got)
     got = fault(runs, ["b"], b"", "close", 2, 3, errno.EBADF)
@@ -714,6 +805,7 @@ def test_progress(runs):
     """What --progress shows on a terminal over a pipe that waits, and that nothing else shows anything."""
     os.mkfifo(runs.path("slow"))
     runs.write("--prog", b"k")
+    os.chmod(runs.path("--prog"), 0o600)
     shown = b"\rslow: 0 MiB\x1b[K\r\x1b[K"
     for words, wanted, parameters in ((["--progress"], shown, {}), (["--prog", "--tag"], shown, {"tag": True}),
                                       (["--key-file", "--prog"], b"", {"key": b"k"}), ([], b"", {})):
@@ -774,7 +866,8 @@ def test_memory(runs):
     got = run_within(runs, high + 192, ["-c"], manifest)
     runs.holds("a manifest of 4 MB", got == (b"b: OK\n", b"", 0), got)
     got = run_within(runs, high + 192, ["-c"], b"y\n" * (1 << 20))
-    runs.holds("lines of yes", got == (b"", b"b2sum: 'standard input': no properly formatted checksum lines found\n", 1),
+    runs.holds("lines of yes",
+               got == (b"", b"b2sum: 'standard input': no properly formatted checksum lines found\n", 1),
                got)
     manifest = os.fsencode("#" * (1 << 22) + "\n" + line("b", b"abc"))
     got = run_within(runs, high + 192 + 2 * len(manifest) // 1024, ["-c"], manifest)
@@ -847,7 +940,8 @@ def said(call, error, err):
 
 COMPUTING = (test_lengths, test_parameters, test_parallel, test_demanded_lengths, test_shapes, test_trees)
 CALLING_ALL = (test_shapes, test_parallel, test_trees)
-TESTS = (*COMPUTING, test_needs, test_tags, test_names, test_coreutils, test_differences, test_key_input, test_system,
+TESTS = (*COMPUTING, test_needs, test_macs, test_tags, test_names, test_coreutils, test_differences, test_key_input,
+         test_system,
          test_changes, test_outputs, test_called, test_pipes, test_streams, test_closing, test_progress, test_large,
          test_memory, test_secrets, test_faults)
 FAULTY = (test_changes, test_closing, test_secrets, test_faults)
@@ -857,7 +951,7 @@ def main():
     work = tempfile.mkdtemp()
     os.environ["FAULTS"], os.environ["SCANS"] = (os.path.join(work, it) for it in ("faults.so", "scans.so"))
     has_faults = shutil.which("cc") and all(subprocess.run(
-        ["cc", "-shared", "-fPIC", "-O1", os.path.join(TOP, "tests", source), "-o", os.environ[it]],
+        ["cc", "-shared", "-fPIC", "-O1", "-Wl,-z,now", os.path.join(TOP, "tests", source), "-o", os.environ[it]],
         stdout=subprocess.DEVNULL).returncode == 0 for it, source in (
             ("FAULTS", "b2sum_faults.c"), ("SCANS", "b2sum_key.c")))
     with programs(sys.argv[1:]) as built:

@@ -7,7 +7,9 @@
  *   SCAN_OUT   a file that gets three numbers: of the pieces of 8 bytes of the key that were found,
  *              of PR_GET_DUMPABLE, and of the bytes that a core file may have (0 or 1: more)
  *
- * Nothing here holds a piece of the key as it is. */
+ * Nothing here holds a piece of the key as it is. It has to be linked with -z now: where a function is
+ * looked up at its first call, the dynamic linker saves the vector registers on the stack, and with
+ * them pieces of the key, which then are counted though the program has not left them. */
 #define _GNU_SOURCE
 #include <fcntl.h>
 #include <stdio.h>

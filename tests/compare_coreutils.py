@@ -8,8 +8,8 @@
 - random ones, over files with names of any bytes and manifests with damaged lines: RUNS of them for each program, by
   default 200, and 5,000 if VULFSJOR_TEST_HUGE is set.
 
-Only the first program has others than random ones, and the others have a tenth of those: they are the same program, with
-older builds of the library.
+Only the first program has others than random ones, and the others have a tenth of those: they are the same program,
+with older builds of the library.
 Standard output, standard error and the status have to be equal, in the locale C. docs/B2SUM.md lists the differences,
 which this test avoids and tests/b2sum_files.py checks. It compares with coreutils 9.1, and is skipped with another.
 
@@ -169,8 +169,16 @@ def is_left_out(line):
     return is_escaped and not re.fullmatch(rb"([^\\]|\\[\\nr])*", line, flags=re.DOTALL)
 
 
-def manifest(rng, files):
-    """A manifest of some of these files and of others, a share of whose lines is damaged."""
+def has_one_blank(line):
+    """Whether an untagged line has one byte before its name, so that it decides so for the manifests after it too, in
+    coreutils and not here."""
+    line = re.sub(rb"^[ \t]*\\?", b"", line).removesuffix(b"\r")
+    return bool(re.match(rb"[0-9a-fA-F]+[ \t](?![ *].)", line, flags=re.DOTALL))
+
+
+def manifest(rng, files, is_only):
+    """A manifest of some of these files and of others, a share of whose lines is damaged. If it is not the only one,
+    no line has one byte before the name."""
     lines, share = [], rng.choice([0.0, 0.0, 0.1, 0.4])
     for _ in range(rng.randint(0, 9)):
         name = rng.choice(list(files))
@@ -178,7 +186,7 @@ def manifest(rng, files):
             name = rng.choice(UNREADABLE[:-2] + [b"-"])
         line = line_of(rng, name, files.get(name, b""))
         line = damaged(rng, line) if rng.random() < share else line
-        lines.append(b"x" if is_left_out(line) else line)
+        lines.append(b"x" if is_left_out(line) or not is_only and has_one_blank(line) else line)
     text = b"\n".join(lines)
     end = rng.choice([b"\n", b"\n", b"\n", b"", b"\n\n", b"\r\n"])
     return (text.replace(b"\n", b"\r\n") if rng.random() < 0.1 else text) + (end if lines else b"")
@@ -191,13 +199,14 @@ def to_check(rng, folder, files):
     options = [rng.choice([b"-c", b"--check", b"--ch"])] + [it for it in CHECKS if rng.random() < 0.2]
     if rng.random() < 0.05:
         options.append(rng.choice([b"-z", b"--tag", b"-b", b"-t", b"-l0"]))
-    names, data = [], b""
-    for k in range(rng.choice([0, 1, 1, 1, 2])):
+    names, data, count = [], b"", rng.choice([0, 1, 1, 1, 2])
+    reads_input = not count or rng.random() < 0.15
+    for k in range(count):
         names.append(rng.choice([b"sums", b"my sums", b"s'ums", b"s\nums"]) + b"%d" % k)
         with open(os.path.join(folder, names[-1]), "wb") as file:
-            file.write(manifest(rng, files))
-    if not names or rng.random() < 0.15:
-        data = manifest(rng, files)
+            file.write(manifest(rng, files, count + reads_input == 1))
+    if reads_input:
+        data = manifest(rng, files, not count)
         names += [b"-"] if names else []
     if rng.random() < 0.1:
         names.append(rng.choice([b"missing", b"dir", b"secret", b"loop"]))

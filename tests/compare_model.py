@@ -3,9 +3,10 @@
 values of that page with what that program, hashlib and the page say. The examples of docs/B2.md that run `./b2`
 are cases too.
 
-For each command it runs random cases from one seed: arguments in random order and case, arguments that are wrong, missing or too
-many, arguments that are not UTF-8, inputs around every boundary, scripts with wrong lines and bad calls, and an input
-that can't be read. Status and output have to be the same; what `sum` and `tree` print is compared with hashlib too.
+For each command it runs random cases from one seed: arguments in random order and case, arguments that are wrong,
+missing or too many, arguments that are not UTF-8, inputs around every boundary, scripts with wrong lines and bad calls,
+and an input that can't be read. Status and output have to be the same; what `sum` and `tree` print is compared with
+hashlib too.
 
 usage: tests/compare_model.py --program PATH [--cases N] [--seed N]
 """
@@ -50,7 +51,10 @@ def bracketed(source, kind, names):
         if source.random() < 0.5:
             length = source.choice([0, 1, most[name] // half, source.randint(0, most[name] // half)])
             length += source.random() < 0.04
-            words.append(f"{name}={digits(source, source.randbytes(length))}")
+            if name == "persona" and source.random() < 0.3:
+                words.append("persona-text=" + "".join(source.choices("az09=- \u00e9", k=length)))
+            else:
+                words.append(f"{name}={digits(source, source.randbytes(length))}")
     source.shuffle(words)
     return words
 
@@ -61,7 +65,8 @@ def spoiled(source, words):
     while source.random() < 0.12:
         place = source.randrange(len(words) + 1)
         other = source.choice(
-            words + ["", "foo", "key", "key=01", "salt=", "persona=00", "=", "b512", "S256", "-", "61"])
+            words + ["", "foo", "key", "key=01", "salt=", "persona=00", "persona-text=", "=", "b512", "S256", "-", "61",
+                     "xs"])
         if source.random() < 0.4:
             words.insert(place, other)
         elif place < len(words):
@@ -132,7 +137,31 @@ def tree_case(source, command):
     return [command, kind, word, *bracketed(source, "b", ("salt", "persona"))], message
 
 
-CASES = {"sum": sum_case, "steps": sum_case, "script": script_case, "witness": witness_case, "tree": tree_case}
+def output_length(source, most):
+    """A length of an output, as a word, sometimes one that is refused."""
+    length = source.choice([1, 31, 32, 33, 63, 64, 65, 255, 256, 257, source.randint(1, 600)])
+    return str(length) if source.random() < 0.9 else source.choice(
+        ["0", "01", "-1", "+8", "8k", "", str(most), str(most + 1), "99999999999"])
+
+
+def xof_case(source, command):
+    """The words and the input of a `xof`."""
+    kind = source.choice(["xb", "xs", "xb", "xs", source.choice(["b512", "x", "XB"])])
+    most = 2**32 - 1 if kind == "xb" else 2**16 - 1
+    return ([command, kind, output_length(source, most),
+             *bracketed(source, "b" if kind == "xb" else "s", ("key", "salt", "persona"))],
+            source.randbytes(lengths(source, 128 if kind == "xb" else 64)))
+
+
+def derive_case(source, command):
+    """The words and the input, a key, of a `derive`."""
+    context = "".join(source.choices("az09=- \u00e9", k=source.choice([0, 1, 9, 127, 128, 129])))
+    return ([command, output_length(source, 2**32 - 1), context],
+            source.randbytes(source.choice([1, 16, 32, 63, 64, 64, 65, 0, source.randint(1, 200)])))
+
+
+CASES = {"sum": sum_case, "steps": sum_case, "script": script_case, "witness": witness_case, "tree": tree_case,
+         "xof": xof_case, "derive": derive_case}
 
 
 def unreadable():
@@ -156,7 +185,9 @@ def outcome(path, words, message):
 def of_hashlib(words, message):
     """The line that `sum` or `tree` prints with these words, which are right, by hashlib."""
     words = [word.decode() for word in words]
-    given = {name: bytes.fromhex(digits) for name, digits in (word.split("=") for word in words if "=" in word)}
+    given = {}
+    for name, value in (word.split("=", 1) for word in words if "=" in word):
+        given[name.removesuffix("-text")] = value.encode() if name == "persona-text" else bytes.fromhex(value)
     named = {"salt": given.get("salt", b""), "person": given.get("persona", b""), "digest_size": KINDS[words[1]][1]}
     if words[0] == "tree":
         return tree_root(message, int(words[2]), **named).hex()

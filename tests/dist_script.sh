@@ -16,10 +16,9 @@ PATH=$work/python:/usr/bin:/bin
 
 # The repository: crates of one line, the files that the sources name, and a MANIFEST of them.
 repository=$work/a\ repository
-mkdir -p "$repository"/{tools,tests/machine,c/include,dist}
+mkdir -p "$repository"/{tools,tests,c/include,dist}
 cp "$top"/tools/*.{sh,py,sed,csv,txt,c,rs} "$repository/tools/"
 cp "$top/tests/tap.sh" "$repository/tests/"
-cp "$top/tests/machine/wasm_format.py" "$repository/tests/machine/"
 printf '%s\n' '/* A header' ' * of one function. */' 'int f(void); /* here */' \
     '#define VULFSJOR_VERSION "1.2.3"' >"$repository/c/include/vulfsjor.h"
 echo '#define CODE "7"' >"$repository/c/choose.c"
@@ -36,14 +35,15 @@ of_script() {
     echo "$1" >>tools/parts.sh
     bash tools/parts.sh
 }
-files=$(of_script 'printf "%s\n" "${files[@]}"')
-for file in $files; do mkdir -p "dist/${file%/*}" && echo "$file" >"dist/$file"; done
+made=$(of_script 'printf "%s\n" "${files[@]}"')
+files="$made $(of_script 'printf "%s\n" "${by_hand[@]}"')"
+for file in $files; do mkdir -p "$(dirname "dist/$file")" && echo "$file" >"dist/$file"; done
 (
     echo "# kit: kit 1"
     echo "# sources: $(of_script sources)"
     cd dist && sha256sum $files
 ) >dist/MANIFEST
-count=$(wc -w <<<"$files")
+count=$(wc -w <<<"$made")
 
 dist() { tools/dist.sh "$@" >"$work/shown" 2>&1; }
 # A run with a status, that shows a line with these words: STATUS LINE ARGUMENTS..
@@ -63,6 +63,19 @@ changed() {
 }
 
 check "dist/ with its MANIFEST is current" dist current
+# Without sha256sum, as on macOS.
+with_shasum() {
+    local tool folder=$work/tools
+    mkdir "$folder" && for tool in awk bash cat cut diff dirname env find mktemp readlink rm sed shasum sort xargs; do
+        ln -s "$(command -v $tool)" "$folder/$tool"
+    done
+    PATH=$folder dist current && echo >>dist/macros.h && ! PATH=$folder dist current
+}
+cp dist/macros.h "$work/macros.h"
+needs shasum
+check "shasum will do for sha256sum" with_shasum
+needs
+cp "$work/macros.h" dist/macros.h
 for file in $files; do check "a change of $file is found" changed 1 "dist/$file" '$a\ '; done
 mv dist/wasm/vulfsjor.wasm "$work/old"
 check "a file that is absent is found" ends 1 "there is no dist/wasm/vulfsjor.wasm" current
@@ -79,8 +92,8 @@ check "nor a file next to src/" dist current
 mv crates/blake2_ffi/src/{lib,more}.rt
 check "another name of a file is found" eval "! dist current"
 mv crates/blake2_ffi/src/{more,lib}.rt
-for file in tools/{{plain_names,clear_registers,object_formats,wasm_to_c}.py,wasm_to_c.c,*.csv,*.sed,shared_functions.txt} \
-    tests/machine/wasm_format.py; do
+for file in tools/{plain_names,clear_registers,object_formats,wasm_format,wasm_to_c}.py \
+    tools/{wasm_to_c.c,*.csv,*.sed,shared_functions.txt}; do
     check "a change of $file is found" changed 1 "$file" '$a # more'
 done
 check "a change of the header is found" changed 1 c/include/vulfsjor.h 's/int/long/'
@@ -90,6 +103,8 @@ check "not another version" changed 0 c/include/vulfsjor.h 's/"1\.2\.3"/"1.2.4"/
 
 only_hashes() { dist check && [ "$(grep -c '^ok .* # SKIP .*toolchain, kit 1$' "$work/shown")" -eq "$count" ]; }
 check "without a toolchain only hashes are compared" only_hashes
+check "MANIFEST names every file of dist/ but itself and a page" diff <(cd "$top" && git ls-files dist | sort) \
+    <(printf '%s\n' MANIFEST README.md $files | sed 's|^|dist/|' | sort)
 check "make needs rt" ends 1 "the toolchain's command rt is not on the PATH" make
 check "help" ends 0 "tools/dist.sh current" --help
 for words in "" "make a" "check a" "what"; do

@@ -1,22 +1,24 @@
 #!/usr/bin/env python3
-"""Compiles and runs every example of the README, the tutorial and the guides for C, Rust and large data, or of the
-pages that are named, and compares what it prints.
+"""Compiles and runs every example of the README, the tutorial, the review and the guides for C, Rust and
+libsodium, or of the pages that are named, and compares what it prints.
 
     tests/examples.py [PAGE..]
 
 An example is a fenced block in c, cpp, rust, python, cmake or sh; js/tests/readme.test.mjs runs those in JavaScript,
-and python/tests/test_api.py those in Python's guide. A block in C, C++ or Rust is a whole program, in C `hello.c`.
-A block in cmake is a whole CMakeLists.txt, whose program `hello` is run. The blocks of a page run in order in one
-folder, which starts with links to b2, b2sum, c and dist of the repository, and for the guides with a file `data.bin` of
-100,000 bytes, which is the reader's; what a block leaves there is the next one's. Those of README.md in sh run in a
-fresh clone of the repository by a user of core.autocrlf, with no tools but those of READMES_TOOLS on the PATH, and
-leave no file that git does not ignore. If a block in `text` follows an example, it is what the example prints, and so
-is what a comment in it `prints`; a line that ends with `...` is the beginning of a line. In cmake and sh, PATH is the
+and python/tests/test_names.py those in Python's guide. A block in C, C++ or Rust is a whole program, in C `hello.c`. A
+block in cmake is a whole CMakeLists.txt, whose program `hello` is run. The blocks of a page run in order, twice, in
+one folder, which starts with links to b2, b2sum, c and dist of the repository, and for the guides with `data.bin`, a
+file of 100,000 bytes, which is the reader's; what a block leaves there is the next one's. Those of the README, the
+tutorial and the review run at the top of the repository: of the README those in sh, with no tools but READMES_TOOLS
+on the PATH; of the others also those in Python, from the folder on, and with the PATH, that the block before has
+left. The repository is a fresh clone by a user of core.autocrlf, in which no page leaves a file that git does not
+ignore. If a block in `text` follows an example, it is what the example prints, and so is what a comment in it
+`prints`; a line that ends with `...` is the beginning of a line. In cmake, and in sh of the guides, PATH is the
 repository and FOLDER the installed library.
 
 The installed library is a copy of that in the folder VULFSJOR_INSTALLED, if that is set, as by ./test. The module for
 Python is built here, and the script ends with an error if that fails. An example whose tool is absent is skipped: for
-Python that is also cc or Python's headers.
+Python that is also cc or Python's headers, and for the README and the tutorial git.
 """
 import os
 import pathlib
@@ -30,7 +32,8 @@ import tap
 
 TOP = pathlib.Path(__file__).resolve().parent.parent
 TOOLS = {"c": "cc", "cpp": "c++", "rust": "cargo", "python": "python3", "cmake": "cmake", "sh": "bash"}
-PAGES = ("README.md", "docs/TUTORIAL.md", "docs/LARGE.md", "c/README.md", "rust/README.md")
+PAGES = ("README.md", "docs/TUTORIAL.md", "docs/REVIEW.md", "c/README.md", "c/PORTING.md",
+         "rust/README.md")
 WITH_DATA = ("c/README.md", "rust/README.md")
 # What a machine with a C compiler has, as far as the scripts use it.
 READMES_TOOLS = ("awk bash cat chmod cut diff dirname find grep mkdir mktemp mv readlink rm sed sha256sum sh sort tail "
@@ -63,19 +66,20 @@ class Runner:
 
     needs = {}
 
-    def __init__(self, folder, library, module, with_data):
+    def __init__(self, folder, repository, library, module, with_data=False):
         self.folder = folder
+        self.repository = repository
         self.library = library
         self.environment = dict(os.environ, LC_ALL="C.UTF-8", CARGO_NET_OFFLINE="true", PYTHONPATH=str(module),
                                 CARGO_TARGET_DIR=str(folder.parent / "target"))
         if with_data:
             (folder / "data.bin").write_bytes(bytes(i % 251 for i in range(100_000)))
         for name in ("b2", "b2sum", "c", "dist"):
-            (folder / name).symlink_to(TOP / name)
+            (folder / name).symlink_to(repository / name)
 
     def filled(self, text):
         """A block with the folders that it names."""
-        return re.sub(r"\bPATH\b", str(TOP), text.replace("FOLDER", str(self.library)))
+        return re.sub(r"\bPATH\b", str(self.repository), text.replace("FOLDER", str(self.library)))
 
     def call(self, *words, at=None):
         """What a program prints; it has to succeed."""
@@ -89,9 +93,10 @@ class Runner:
         """Runs a program in C or C++."""
         (self.folder / name).write_text(text)
         library = self.library / "lib"
-        threads = [library / "libvulfsjor-threads.a"] if "vulfsjor_threads.h" in text else []
+        others = [library / "libvulfsjor-threads.a"] if "vulfsjor_threads.h" in text else []
+        others += ["-lsodium"] if "sodium.h" in text else []
         self.call(compiler, *words, "-O1", "-Wall", "-Wextra", "-Werror", name,
-                  f"-I{self.library / 'include'}", *threads, library / "libvulfsjor.a", "-pthread", "-o", "example")
+                  f"-I{self.library / 'include'}", *others, library / "libvulfsjor.a", "-pthread", "-o", "example")
         return self.call("./example")
 
     def run_c(self, text):
@@ -123,33 +128,71 @@ class Runner:
         return self.call("bash", "-euo", "pipefail", "-c", self.filled(text))
 
 
-class RunnerOfClone(Runner):
-    """Runs the examples in the shell in a fresh clone of the files of the repository that git does not ignore. The
-    clone is made under core.autocrlf, so that it differs from others if an attribute of git is missing."""
+class RunnerAtTop(Runner):
+    """Runs those in the shell at the top of the repository, with few tools."""
 
     needs = {"sh": ("git",)}
 
     def run_sh(self, text):
-        with tempfile.TemporaryDirectory(dir=self.folder.parent) as work:
-            work = pathlib.Path(work)
-            git = "git", "-c", "user.name=test", "-c", "user.email=test", "-c", "commit.gpgsign=false"
-            self.call(*git, "init", "-q", work / "origin")
-            git = *git, f"--git-dir={work / 'origin/.git'}", f"--work-tree={TOP}"
-            self.call(*git, "add", "-A", at=TOP)
-            self.call(*git, "commit", "-q", "-m", "all files", at=TOP)
-            self.call("git", "clone", "-q", "-c", "core.autocrlf=true", work / "origin", work / "clone")
-            ends = self.call("git", "ls-files", "--eol", at=work / "clone")
-            if "w/crlf" in ends or "w/mixed" in ends:
-                raise RuntimeError("in a clone under core.autocrlf, some lines end with CR LF")
-            (work / "bin").mkdir()
-            for tool in READMES_TOOLS.split():
-                (work / "bin" / tool).symlink_to(shutil.which(tool))
-            words = "env", "-i", f"PATH={work / 'bin'}", f"HOME={work}", "bash", "-euo", "pipefail", "-c", text
-            printed = self.call(*words, at=work / "clone")
-            left = self.call("git", "status", "--porcelain", at=work / "clone")
-            if left:
-                raise RuntimeError(f"it leaves in the clone\n{left}")
-            return printed
+        tools = self.folder / "bin"
+        tools.mkdir(exist_ok=True)
+        for tool in READMES_TOOLS.split():
+            (tools / tool).unlink(missing_ok=True)
+            (tools / tool).symlink_to(shutil.which(tool))
+        words = "env", "-i", f"PATH={tools}", f"HOME={self.folder}", "bash", "-euo", "pipefail", "-c", text
+        return self.call(*words, at=self.repository)
+
+
+class RunnerOfShell(Runner):
+    """Runs those in the shell and in Python as one user does, whose shell starts at the top of the repository."""
+
+    needs = {"sh": ("git",), "python": ("git",)}
+
+    def __init__(self, folder, repository, *others):
+        super().__init__(folder, repository, *others)
+        self.environment["TMPDIR"] = str(folder)
+        self.start = self.environment["PATH"]
+
+    def begin(self):
+        """Opens another shell."""
+        self.place, self.environment["PATH"] = self.repository, self.start
+
+    def run_sh(self, text):
+        state = self.folder / "state"
+        words = f"{text}\nprintf '%s\\n' \"$PWD\" \"$PATH\" >'{state}'"
+        printed = self.call("bash", "-euo", "pipefail", "-c", words, at=self.place)
+        self.place, self.environment["PATH"] = state.read_text().splitlines()
+        return printed
+
+    def run_python(self, text):
+        return self.call("python3", "-c", text, at=self.place)
+
+
+def fresh_clone(work):
+    """A clone of the files of the repository that git does not ignore, under core.autocrlf, so that it differs from
+    others if an attribute of git is missing; or the repository itself, without git."""
+    if not shutil.which("git"):
+        return TOP
+    def call(*words):
+        return subprocess.run(["git", *words], cwd=TOP, check=True, capture_output=True, text=True).stdout
+    call("init", "-q", work / "origin")
+    git = ("-c", "user.name=test", "-c", "user.email=test", "-c", "commit.gpgsign=false",
+           f"--git-dir={work / 'origin/.git'}", f"--work-tree={TOP}")
+    call(*git, "add", "-A")
+    call(*git, "commit", "-q", "-m", "all files")
+    call("clone", "-q", "-c", "core.autocrlf=true", work / "origin", work / "clone")
+    ends = call("-C", work / "clone", "ls-files", "--eol")
+    if "w/crlf" in ends or "w/mixed" in ends:
+        sys.exit("examples.py: in a clone under core.autocrlf, some lines end with CR LF")
+    return work / "clone"
+
+
+def left_in(repository):
+    """What git shows in a clone that nobody has changed."""
+    if repository == TOP:
+        return ""
+    return subprocess.run(["git", "-C", repository, "status", "--porcelain"], check=True, capture_output=True,
+                          text=True).stdout
 
 
 def is_as_printed(printed, wanted):
@@ -163,9 +206,21 @@ def is_as_printed(printed, wanted):
 def absent(runner, language, text, module):
     """What an example needs and is not here, or '': its tool, those that a block of the shell or of CMake calls, and
     for Python the built module."""
-    called = {"cmake ": "cmake", "pkg-config": "pkg-config", "PkgConfig": "pkg-config"}
-    needed = [TOOLS[language], *runner.needs.get(language, ()), *(tool for words, tool in called.items() if words in text)]
+    called = {"cmake ": "cmake", "pkg-config": "pkg-config", "PkgConfig": "pkg-config", "tests/machine/": "objdump",
+              ".py ": "python3"}
+    needed = [TOOLS[language], *runner.needs.get(language, ()),
+              *(tool for words, tool in called.items() if words in text)]
     missing = [tool for tool in needed if not shutil.which(tool)]
+    if "<sodium.h>" in text and subprocess.run(["cc", "-E", "-include", "sodium.h", "-xc", os.devnull], check=False,
+                                               capture_output=True).returncode:
+        missing.append("libsodium-dev")
+    if "tests/machine/" in text and not any(
+            shutil.which(python) and not subprocess.run([python, "-c", "import z3"], check=False,
+                                                        capture_output=True).returncode
+            for python in ("python3", "/usr/bin/python3")):
+        missing.append("python3-z3")
+    if "dist/x86_64/" in text and os.uname().machine != "x86_64":
+        missing.append("x86-64")
     return missing[0] if missing else "" if language != "python" or module else "python with headers"
 
 
@@ -188,19 +243,31 @@ def main():
             shutil.copytree(os.environ["VULFSJOR_INSTALLED"], library, symlinks=True)
         else:
             subprocess.run([TOP / "c/install.sh", library], check=True, capture_output=True)
+        repository = fresh_clone(work)
         for page in map(pathlib.Path, sys.argv[1:] or (TOP / page for page in PAGES)):
-            name_of_page = str(page.resolve().relative_to(TOP))
-            kind = RunnerOfClone if name_of_page == "README.md" else Runner
-            runner = kind(pathlib.Path(tempfile.mkdtemp(dir=work)), library, work / "module", name_of_page in WITH_DATA)
-            for line, language, text, wanted in examples(page):
-                name = f"{name_of_page}, line {line}"
-                missing = absent(runner, language, text, module)
-                if missing:
-                    tap.result(True, name, skipped=f"no {missing}")
-                    continue
-                why = error_of(runner, language, text, wanted)
-                tap.result(not why, name, why)
+            run_page(page, str(page.resolve().relative_to(TOP)), work, repository, library, module)
     tap.finish()
+
+
+def run_page(page, name, work, repository, library, module):
+    """Runs the examples of a page, and then again."""
+    kinds = {"README.md": RunnerAtTop, "docs/TUTORIAL.md": RunnerOfShell, "docs/REVIEW.md": RunnerOfShell}
+    kind = kinds.get(name, Runner)
+    folder = pathlib.Path(tempfile.mkdtemp(dir=work))
+    runner = kind(folder, repository, library, work / "module", name in WITH_DATA)
+    for again in ("", ", again"):
+        if kind is RunnerOfShell:
+            runner.begin()
+        for line, language, text, wanted in examples(page):
+            test = f"{name}, line {line}{again}"
+            missing = absent(runner, language, text, module)
+            if missing:
+                tap.result(True, test, skipped=f"no {missing}")
+                continue
+            why = error_of(runner, language, text, wanted)
+            tap.result(not why, test, why)
+    left = left_in(repository)
+    tap.result(not left, f"{name} leaves nothing in the clone", left)
 
 
 def error_of(runner, language, text, wanted):

@@ -60,10 +60,6 @@ b2() { run "$repository/b2" "$@"; }
 texts() { sed -n 's|^/\* \(.*\) \*/|\1|p' "$work/assembly"; }
 inputs() { texts && grep -o 'c/[a-z0-9_]*\.c\b' "$work/calls"; }
 
-b2 --help
-check "--help prints the usage" ends 0 "$(sed -n "/^usage: b2/,/^END/{/^END/d;p}" "$top/b2")"
-check "with each KIND" diff <(grep -oE '\b[bs][0-9]+\b' "$work/output" | LC_ALL=C sort -u) \
-    <(printf '%s\n' b0 b128 b2 b256 b512 b8 s0 s128 s256 s8)
 b2 sum
 check "the first run builds the program and runs it" builds "$program"
 own=(b2 tools/launcher.sh dist/MANIFEST dist/*/{elf,macho,coff}.inc c/include/vulfsjor.h $(inputs))
@@ -149,16 +145,6 @@ for machine_of in x86_64-w64-mingw32:coff x86_64-w64-windows-gnu:coff aarch64-w6
     done
 done
 
-# On macOS the script compares the files with MANIFEST by itself.
-if has shasum; then
-    (cd dist && sha256sum ./*/*.s >MANIFEST) && run OSTYPE=darwin23 "$repository/b2" --build "$work/checked"
-    check "with the bash of macOS it builds from a whole dist/" [ -x "$work/checked" ]
-    echo >>dist/aarch64/b2.s && run OSTYPE=darwin23 "$repository/b2" --build "$work/checked"
-    check "and not from a changed one" says "b2: dist/ was not made from these sources"
-else
-    skip "the script with the bash of macOS" "no shasum"
-fi
-
 # A repository that cannot be written, not even by root.
 rm -rf out && chmod a-w . && chmod 777 "$work"
 user=() && [ "$(id -u)" -ne 0 ] || user=(setpriv --reuid=65534 --regid=65534 --clear-groups)
@@ -190,7 +176,7 @@ by_bash() {
         COMP_WORDS=("$@") COMP_CWORD=$(($# - 1)); _b2; printf "%s\n" "${COMPREPLY[@]}"' - "$@"
 }
 by_zsh() {
-    zsh -fc 'compadd() { print -rl -- ${@:#-S} }; words=("$@") CURRENT=$#
+    zsh -fc 'compadd() { [[ $1 != -- ]] || shift; print -rl -- ${@:#-S} }; words=("$@") CURRENT=$#
         complete_b2() { source completions/_b2 }; complete_b2' - "$@" | grep -e "^${!#}."
 }
 by_fish() { fish --no-config -c 'source completions/b2.fish; complete -C "$argv"' -- "$@"; }
@@ -202,7 +188,7 @@ offers() {
         diff <(by_$shell "${line[@]}" | sed '/^$/d' | sort) \
             <(printf '%s\n' $words | sed '/^$/d' | sort) || return
     done <<'END'
-b2 .:sum script steps witness tree
+b2 .:sum script steps witness tree xof derive --help --version
 b2 st:steps
 b2 script .:b128 b256 b512 s128 s256
 b2 sum s:s128 s256
@@ -211,9 +197,13 @@ b2 witness .:b128 b256 b512 s128 s256 b0 b8 s0 s8
 b2 witness b8 .:
 b2 tree .:b128 b256 b512
 b2 tree b512 .:
-b2 tree b512 4096 .:salt= persona=
-b2 script s256 .:key= salt= persona=
-b2 sum b512 salt=00 p:persona=
+b2 tree b512 4096 .:salt= persona= persona-text=
+b2 script s256 .:key= salt= persona= persona-text=
+b2 xof .:xb xs
+b2 xof xb .:
+b2 xof xb 8 .:key= salt= persona= persona-text=
+b2 derive .:
+b2 sum b512 salt=00 p:persona= persona-text=
 b2 steps b512 k:key=
 b2 other .:
 END
@@ -283,6 +273,9 @@ END
 bash_words() {
     diff <(sums_by_bash b2sum --algorithm = blake2bp && sums_by_bash b2sum --tree = &&
         sums_by_bash b2sum a --z) <(printf '%s\n' blake2bp 65536 --zero) &&
+        diff <(sums_by_bash b2sum --algorithm = blake2s -l 5 && sums_by_bash b2sum -a blake2sp -l 3 &&
+            sums_by_bash b2sum -ablake2s -l 25 && sums_by_bash b2sum -a blake2bp --length = 5) \
+            <(printf '%s\n' "" "" 256 512) &&
         cd "$work/folder" && touch "a file" &&
         [ "$(sums_by_bash b2sum "a f" | tail -n 1)" = "a file" ] &&
         bash --norc -c 'for name; do source "$0/completions/$name.bash"; done; complete -p "$@"' "$top" b2 b2sum |
@@ -290,10 +283,10 @@ bash_words() {
         [ "$(grep -cxE '#compdef b2sum|_arguments -s \\' "$top/completions/_b2sum")" -eq 2 ]
 }
 
-# tools/processor.sh: what it makes of the features in a file such as /proc/cpuinfo.
+# tests/processor.sh: what it makes of the features in a file such as /proc/cpuinfo.
 is_processor() {
     echo "flags : fpu ${*:2}" >"$work/cpuinfo"
-    [ "$("$top/tools/processor.sh" "$work/cpuinfo")" = "$1" ]
+    [ "$("$top/tests/processor.sh" "$work/cpuinfo")" = "$1" ]
 }
 finds_levels() {
     local flag v3="avx avx2 bmi1 bmi2 f16c fma abm movbe xsave" all

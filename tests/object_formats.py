@@ -33,7 +33,7 @@ OF_B2SUM = {f"b2sum_{it}" for it in ("open", "read", "close", "signal", "strerro
 # The functions of b2sum that C has instead, and those of the library that hash for the programs.
 OF_C = re.compile(r"b2sum\.\.(disk\.\.(hide_memory|show_progress)|hashes\.\.absorb_tree\.\.[0-9a-f]{16})_\d+_(x86|a64)")
 HASHING = re.compile(r"blake2_(compress\.\.compress\.\.blake2[bs]\.\.compress|tree\.\.nodes\.\.Nodes\.\.hash_next"
-                     r"|parallel\.\.lanes\.\.blake2[bs]\.\.Lanes\.\.(outputs|update))_\d+_(v[234]|arm)")
+                     r"|parallel\.\.lanes\.\.blake2[bs]p\.\.Lanes\.\.(outputs|update))_\d+_(v[234]|arm)")
 # How many of them a program calls.
 HASHING_COUNT = {"b2": 3, "b2sum": 7}
 # The texts that are assembled for each system without VULFSJOR_TEST_HUGE: one of the library, and the longer program.
@@ -86,7 +86,8 @@ def functions(path, arch):
 
 def assembled(path, arch, system, made):
     """Assembles a text of dist/ with its macros, or vulfsjor.S, which has them."""
-    words = [] if path.endswith(".S") else ["-include", os.path.join(TOP, "dist", "macros.h"), "-x", "assembler-with-cpp"]
+    words = [] if path.endswith(".S") else ["-include", os.path.join(TOP, "dist", "macros.h"),
+                                            "-x", "assembler-with-cpp"]
     run("clang", f"--target={arch}-{SYSTEMS[system]}", *words, "-c", path, "-o", made)
     return made
 
@@ -97,11 +98,13 @@ def jumps(path):
     for line in run("llvm-objdump", "--triple=x86_64-linux-gnu", "-dr", "--no-show-raw-insn", path).splitlines():
         head = re.match(r"[0-9a-f]+ <_?(.*)_(\d+)_x86>:", line)
         if head or not line.strip():
-            body = found.setdefault((head[1], head[2]), []) if head and HASHING.fullmatch(f"{head[1]}_{head[2]}_v2") else None
+            hashes = head and HASHING.fullmatch(f"{head[1]}_{head[2]}_v2")
+            body = found.setdefault((head[1], head[2]), []) if hashes else None
         elif body is not None and (named := re.match(r"\s*[0-9a-f]+:\s+[RIX]\w+\s+_?([\w.]+?)(?:[-+]\w+)?$", line)):
             body[-1] += " " + named[1]
         elif body is not None:
-            body.append(re.sub(r"\s.*|,.*", "", line.split(":", 1)[1].strip().replace("$0x3", "$3").replace("cmpb\t$", "cmpb$")))
+            words = line.split(":", 1)[1].strip().replace("$0x3", "$3").replace("cmpb\t$", "cmpb$")
+            body.append(re.sub(r"\s.*|,.*", "", words))
     return found
 
 
@@ -162,7 +165,8 @@ def check_text(path, arch, name, room):
     """Prints the results of a text, and returns its functions."""
     made = assembled(path, arch, "linux", os.path.join(room, "elf.o"))
     elf = functions(made, arch)
-    tap.result(is_read_so(path, arch, room, made), f"{arch}/{name}.s: tests/machine reads what the assembler makes of it")
+    tap.result(is_read_so(path, arch, room, made),
+               f"{arch}/{name}.s: tests/machine reads what the assembler makes of it")
     if name.startswith("b2") and arch == "x86_64":
         tap.result(jump_right(os.path.join(room, "elf.o"), HASHING_COUNT[name]),
                    f"{arch}/{name}.s: it jumps to the library's build for the processor")

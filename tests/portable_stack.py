@@ -4,11 +4,14 @@
     tests/portable_stack.py dist/c/vulfsjor.c USAGE
 
 USAGE is the file .su that the compiler writes with -fstack-usage. A function that calls one of SCRUB has called others
-before, which may have left a key below it: the deepest of them, with all that they call, must reach no further down than
-SCRUB overwrites. Prints each of these functions; the status is 1 if one reaches further.
+before, which may have left a key below it: the deepest of them, with all that they call, must reach no further down
+than SCRUB overwrites, and no function may use more than MOST. Prints each of these functions; the status is 1 if one
+reaches further.
 """
 import re
 import sys
+
+MOST = 16 << 10  # bytes, as docs/PORTABLE.md says
 
 
 def read(path):
@@ -40,7 +43,18 @@ def main():
         for each in sorted(callees & {*scrubbed}):
             failed = failed or used > scrubbed[each]
             print(f"{name}: {used} bytes below it, {scrubbed[each]} overwritten{' TOO FEW' * (used > scrubbed[each])}")
-    sys.exit(failed)
+    whole = {}
+
+    def used_by(name):
+        """What a call uses, also by those of SCRUB."""
+        if name not in whole:
+            below = (scrubbed[it] if it in scrubbed else used_by(it) for it in calls.get(name, ()))
+            whole[name] = frames.get(name, 0) + max(below, default=0)
+        return whole[name]
+
+    deepest = max((used_by(name), name) for name in bodies)
+    print(f"{deepest[1]}: {deepest[0]} bytes, of at most {MOST}")
+    sys.exit(failed or deepest[0] > MOST)
 
 
 main()

@@ -1,38 +1,5 @@
-# What the scripts of tests share; a script reads it by `source`. It sets `top` to the folder of the
-# repository and `work` to one for temporary files, which is removed at the end. The functions print
-# the Test Anything Protocol, which `prove` reads.
-top=$(dirname "$(dirname "$(readlink -f "${BASH_SOURCE[0]}")")")
-work=$(mktemp -d)
-trap 'rm -rf "$work"' EXIT
-ended=0 failed=0
-
-# The files that show, besides what a failed test printed, why it failed.
-shown=()
-
-has() { command -v "$1" >/dev/null 2>&1; }
-
-# Whether there is this compiler, with its C library, which Debian's compilers for other processors
-# only recommend.
-has_compiler() { has "$1" && "$1" -E -include stdlib.h -x c /dev/null >/dev/null 2>&1; }
-
-# Prints the line of the next test: RESULT NAME [WHY IT IS SKIPPED]
-result() {
-    [ "$ended" -gt 0 ] || echo "TAP version 13"
-    ended=$((ended + 1))
-    echo "$1 $ended - ${2//#/\\#}${3:+ # SKIP $3}"
-}
-
-pass() { result ok "$1"; }
-
-# A test that can't be made here: NAME WHY.
-skip() { result ok "$1" "$2"; }
-
-# A failed test of this name, with the end of these files.
-fail() {
-    result "not ok" "$1"
-    failed=$((failed + 1))
-    [ $# -eq 1 ] || tail -n 40 "${@:2}" 2>&1 | sed 's/^/#     /'
-}
+# What the scripts of tests share; a script reads it by `source`, and so gets what tools/shell.sh has.
+source "$(dirname "$(dirname "$(readlink -f "${BASH_SOURCE[0]}")")")/tools/shell.sh"
 
 # Says which programs the next tests need: those that `check` runs are skipped if one is absent. A
 # script may set `missing` to another reason.
@@ -41,18 +8,13 @@ needs() {
     missing=
     for tool; do has "$tool" || missing="no $tool"; done
 }
-missing=
 
-# Runs the command in a subshell, as a test of this name.
-check() {
-    [ -z "$missing" ] || { skip "$1" "$missing" && return 1; }
-    if ("${@:2}") >"$work/log" 2>&1; then
-        pass "$1"
-    else
-        fail "$1" "$work/log" "${shown[@]}"
-        return 1
-    fi
-}
+# The version, which is at the top of CHANGELOG.md.
+version() { sed -nE '/^## [0-9.]+/{s/^## ([0-9.]+).*/\1/p;q;}' "$top/CHANGELOG.md"; }
+
+# Whether there is this compiler, with its C library, which Debian's compilers for other processors
+# only recommend.
+has_compiler() { has "$1" && "$1" -E -include stdlib.h -x c /dev/null >/dev/null 2>&1; }
 
 # The same for a test that takes long and rarely fails alone: only if VULFSJOR_TEST_HUGE is set.
 check_huge() {
@@ -66,18 +28,20 @@ check_huge() {
 # Of these words all if VULFSJOR_TEST_HUGE is set, and else the first, which stands for the others.
 some() { if [ -n "${VULFSJOR_TEST_HUGE-}" ]; then echo "$@"; else echo "$1"; fi; }
 
-# Prints the plan and ends the script, with status 1 if a test failed.
-finish() {
-    [ "$ended" -gt 0 ] || echo "TAP version 13"
-    echo "1..$ended"
-    exit $((failed > 0))
+# A repository in this folder with the files of this one as they are, except those of a pattern: FOLDER [PATTERN]
+make_repository() {
+    mkdir "$1" && (cd "$top" && git ls-files -z --cached --others --exclude-standard | grep -vzE "${2:-^\$}" |
+        tar --null --ignore-failed-read -T - -cf -) | tar -C "$1" -xf - &&
+        git -C "$1" init -q && git -C "$1" config user.name test && git -C "$1" config user.email test &&
+        git -C "$1" add -A && git -C "$1" commit -q -m "All files"
 }
 
-# The version, which is at the top of CHANGELOG.md.
-version() { sed -nE '/^## [0-9.]+/{s/^## ([0-9.]+).*/\1/p;q}' "$top/CHANGELOG.md"; }
-
-# The number of the code, which the names in dist/ have.
-code_number() { sed -n 's/^#define CODE "\([0-9]*\)"$/\1/p' "$top/c/choose.c"; }
+# The functions of the headers for C, except those for other languages and for themselves.
+functions_of_headers() {
+    sed -nE 's/^(VULF\S+ )*(static inline )?(const )?[a-z]\w+ \*?(vulfsjor_\w+)\(.*/\4/p' \
+        "$top"/c/include/vulfsjor{,_threads}.h |
+        grep -vxE 'vulfsjor_(ffi_.*|text|bytes|is_half_key|are_refused|has_key|digit|library_version)'
+}
 
 # The first block of a page in this language: PAGE LANGUAGE.
 block_of() { sed -n "/^\`\`\`$2\$/,/^\`\`\`\$/{/^\`\`\`\$/q;/^\`\`\`/d;p}" "$top/$1"; }
@@ -87,7 +51,8 @@ block_of() { sed -n "/^\`\`\`$2\$/,/^\`\`\`\$/{/^\`\`\`\$/q;/^\`\`\`/d;p}" "$top
 with_macros() {
     local file
     file=$work/macros/$(basename "${1%.s}").S
-    mkdir -p "$work/macros" && printf '#include "%s"\n' "$top/dist/macros.h" $(readlink -f "$@") >"$file" && echo "$file"
+    mkdir -p "$work/macros" && printf '#include "%s"\n' "$top/dist/macros.h" $(readlink -f "$@") >"$file" &&
+        echo "$file"
 }
 
 # The name that a file of a program in dist/ gives to a function that it calls or exports: FILE
@@ -117,7 +82,7 @@ assemble_all() {
     if [ -n "${VULFSJOR_PROGRAMS-}" ]; then
         find "$VULFSJOR_PROGRAMS" \( -name "$name" -o -name "$name-v?" \) -exec cp {} "$work/" \; && return
     fi
-    newest=$("$top/tools/processor.sh")
+    newest=$("$top/tests/processor.sh")
     [ "$newest" != aarch64 ] || { assemble "$top/dist/aarch64/$name.s" "$work/$name"; return; }
     assemble "$top/dist/x86_64/$name.s" "$work/$name" || return
     for level in $(seq 2 $((${newest#x86-64-v} - 1))); do

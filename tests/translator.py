@@ -24,7 +24,7 @@ sys.path.append(FOLDER)
 import functions  # noqa: E402
 import wasm_to_c  # noqa: E402
 import wasm_to_rust  # noqa: E402
-from terms import CannotShow  # noqa: E402
+from wasm_format import CannotRead  # noqa: E402
 
 # The compilers, with words, and what runs their programs.
 NATIVE = {"cc -O2": (["cc", "-O2"], []),
@@ -296,7 +296,7 @@ def refusal(translator, data):
     """Why a module is refused, or nothing."""
     try:
         str(translator.Program(data, header_of([["i64"]])))
-    except (translator.Refused, CannotShow) as why:
+    except (translator.Refused, CannotRead) as why:
         return str(why) or "refused"
     return ""
 

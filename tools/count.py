@@ -1,7 +1,7 @@
 #!/usr/bin/env python3
-"""Counts the lines of each kind of file that git keeps here, and how many lines of tests, tools and benchmarks there are
-for each line of the product, which is all code that is written by hand and installed. Examples, the page in js/demo,
-test vectors and what is generated belong to neither, and tests/machine is counted by itself.
+"""Counts the lines of each kind of file that git keeps here, and how many lines of tests, tools and benchmarks there
+are for each line of the product, which is all code that is written by hand and installed. Examples, the page in
+js/demo, test vectors and what is generated belong to neither, and tests/machine is counted by itself.
 
     tools/count.py [CLONE]
 """
@@ -14,17 +14,19 @@ import sys
 # The kinds, the first whose expression a path matches.
 KINDS = [
     ("pages", r".*\.md"),
-    ("generated", r"js/src/(wasm|worker_text)\.js|dist/(?!.*\.(S|h|inc)$).*|.*\.(svg|[1-8]|lock)|bench/results/.*"),
+    ("generated", r"js/src/(wasm\w*|worker_text)\.js|dist/(?!.*\.(S|h|inc)$).*|.*\.(svg|[1-8]|lock)|bench/results/.*"),
     ("test vectors", r"tests/vectors\.json"),
     ("examples, demo", r"crates/blake2_examples/src/.*|.*/examples/.*|js/demo/.*"),
     ("must-fail edits", r"crates/.*/must-fail/.*"), ("Rattle, specs", r"crates/.*/specs/.*"),
     ("Rattle, proofs", r"crates/.*/proofs/.*"),
-    ("around: tests in Rattle", r"crates/(\w+_tests|blake2_kat|blake2_test_support|blake2/src/tests\.rt|b2_tests)(/.*)?"),
+    ("around: tests in Rattle",
+     r"crates/(\w+_tests|blake2_kat|blake2_test_support|blake2/src/tests\.rt|b2_tests)(/.*)?"),
     ("product: Rattle", r"crates/\w+/src/.*"),
     ("around: tests of packages", r"(c|rust|rust-digest|python|js)/(.*/)?(tests/.*|tests\.rs|run_tests\.sh)"),
     ("product: C", r"c/.*|dist/.*"), ("product: Rust", r"rust(-digest)?/.*"), ("product: Python", r"python/.*"),
     ("product: JavaScript", r"js/.*"),
-    ("tests/machine", r"(tests|tools)/machine/.*"), ("around: tests, tools", r"(tests|tools)/.*"), ("around: bench", r"bench/.*"),
+    ("tests/machine", r"(tests|tools)/machine/.*"), ("around: tests, tools", r"(tests|tools)/.*"),
+    ("around: bench", r"bench/.*"),
 ]
 
 
@@ -48,20 +50,25 @@ def arguments_of(head):
 def main():
     """Prints the counts."""
     top = sys.argv[1] if len(sys.argv) > 1 else os.path.dirname(os.path.dirname(os.path.abspath(__file__)))
-    paths = subprocess.run(["git", "-C", top, "ls-files"], capture_output=True, text=True, check=True).stdout.split("\n")
+    listed = subprocess.run(["git", "-C", top, "ls-files"], capture_output=True, text=True, check=True)
+    paths = listed.stdout.split("\n")
     texts = collections.defaultdict(dict)
     for path in filter(None, paths):
         with open(os.path.join(top, path), encoding="utf-8", errors="replace") as file:
-            texts[kind_of(path)][path] = file.read()
+            text = file.read()
+        kind = "generated" if "Made by tools/twins.py" in text.partition("\n")[0] else kind_of(path)
+        texts[kind][path] = text
     lines = {kind: sum(text.count("\n") for text in files.values()) for kind, files in texts.items()}
     for kind in sorted(texts):
         print(f"{kind:28}{len(texts[kind]):6} files {lines[kind]:8} lines")
-    product, around = (sum(count for kind, count in lines.items() if kind.startswith(word)) for word in ("product", "around"))
+    product, around = (sum(count for kind, count in lines.items() if kind.startswith(word))
+                       for word in ("product", "around"))
     print(f"{around} lines around {product} of product: {around / product:.2f}; "
           f"with tests/machine {(around + lines['tests/machine']) / product:.2f}")
     print(sum(len(text.split()) for text in texts["pages"].values()), "words in pages")
     code = "\n".join(texts["product: Rattle"].values())
-    lists = [arguments_of(code[it.end() - 1:]) for it in re.finditer(r"^ *(?:pub(?:\(\w+\))? )?(?:const )?fn \w+(?:<.*?>)?\(",
+    lists = [arguments_of(code[it.end() - 1:])
+             for it in re.finditer(r"^ *(?:pub(?:\(\w+\))? )?(?:const )?fn \w+(?:<.*?>)?\(",
                                                                     code, re.MULTILINE)]
     print(f"{len(lists)} functions in Rattle, {sum(count > 7 for count in lists)} with more than 7 arguments")
     names = collections.Counter(os.path.basename(path) for files in texts.values() for path in files

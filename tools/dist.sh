@@ -15,14 +15,14 @@
 # `check` needs the tools whose hash MANIFEST has, of the kit that it names or of another. With other
 # tools, or none, it does what `current` does and says so.
 set -euo pipefail
-source "$(dirname "$(readlink -f "$0")")/../tests/tap.sh"
+source "$(dirname "$(readlink -f "$0")")/shell.sh"
 manifest=$top/dist/MANIFEST
 crates=(blake2_ffi b2 b2sum)
-# Its files, except those by which they are assembled: dist/*.S, dist/macros.h and dist/*/*.inc are
-# written by hand.
+# Its files: those that are made, and those by which they are assembled.
 files=(aarch64/b2.s aarch64/b2sum.s aarch64/vulfsjor.s c/vulfsjor.c rust/vulfsjor.rs
     wasm/vulfsjor.wasm x86_64/b2.s x86_64/b2sum.s
     x86_64/vulfsjor-v2.s x86_64/vulfsjor-v3.s x86_64/vulfsjor-v4.s)
+by_hand=(macros.h vulfsjor.S {aarch64,x86_64}/{coff,elf,macho,purge_macros}.inc)
 source "$top/tools/toolchain.sh"
 
 stop() {
@@ -30,7 +30,10 @@ stop() {
     exit 1
 }
 
-usage() { sed -n '2,/^set /{/^set /d;s/^#\{0,1\} \{0,1\}//;p}' "$0"; }
+usage() { sed -n '2,/^set /{/^set /d;s/^#\{0,1\} \{0,1\}//;p;}' "$0"; }
+
+# sha256sum, or what macOS has.
+sha256() { if has sha256sum; then sha256sum "$@"; else shasum -a 256 "$@"; fi; }
 
 # The crate of a file.
 crate_of() {
@@ -76,30 +79,33 @@ attributes_of() {
 sources() {
     local folders
     folders=$(crates_of "${crates[@]}" | sort -u | sed 's|.*|crates/&/src|') || return
-    mapfile -t folders <<<"$folders"
     cd "$top" && {
-        find "${folders[@]}" -name '*.rt' | LC_ALL=C sort |
+        find $folders -name '*.rt' | LC_ALL=C sort |
             xargs awk 'FNR == 1 { print "== " FILENAME } !/^[ \t]*\/\//' &&
             code_number &&
             cat tools/plain_names.py tools/aarch64_attributes.csv tools/parallel_attributes.csv \
                 tools/x86_64_v2.sed tools/x86_64_v4.sed tools/b2sum.sed tools/clear_registers.py \
                 tools/object_formats.py tools/shared_functions.txt tools/scalar.sed \
-                tools/wasm_to_c.{py,c} tools/wasm_to_rust.{py,rs} \
-                tests/machine/wasm_format.py &&
+                tools/wasm_format.py tools/wasm_to_c.{py,c} tools/wasm_to_rust.{py,rs} &&
             sed '/^ \*/d;/^\/\*/d;s/\/\*.*\*\///;/^#define VULFSJOR_VERSION/d' c/include/vulfsjor.h
-    } | sha256sum | cut -d ' ' -f 1
+    } | sha256 | cut -d ' ' -f 1
 }
+
+# The lines of MANIFEST for the files as they are.
+sums() { cd "$top/dist" && sha256 "${files[@]}" "${by_hand[@]}"; }
 
 # What MANIFEST says of this word, and what follows from it.
 said() { sed -n "s/^# $1: //p" "$manifest"; }
 is_whole() {
     local file wanted sums
-    for file in "${files[@]}"; do
+    for file in "${files[@]}" "${by_hand[@]}"; do
         [ -f "$top/dist/$file" ] || { echo "dist.sh: there is no dist/$file" >&2 && return 1; }
     done
-    wanted=$(sed '/^#/d' "$manifest") && sums=$(cd "$top/dist" && sha256sum "${files[@]}") ||
-        return 2
-    [ "$sums" = "$wanted" ] || { diff <(echo "$wanted") - <<<"$sums" >&2 || return 1; }
+    wanted=$(sed '/^#/d' "$manifest") && sums=$(sums) || return 2
+    [ "$sums" != "$wanted" ] || return 0
+    diff <(echo "$wanted") - <<<"$sums" | sed -n 's|^[<>] [0-9a-f]*  |dist.sh: not as in MANIFEST: dist/|p' |
+        sort -u >&2
+    return 1
 }
 is_current() {
     local wanted hash
@@ -122,7 +128,8 @@ has_same_tools() { [ "$(said tools)" = "$(hash_of_tools)" ]; }
 # In a crate with BLAKE2bp and BLAKE2sp the rounds of several messages have more than one caller, and
 # LLVM would call them there instead of writing them out. parallel_attributes.csv says that writing
 # them out costs nothing, which LLVM reads only if it computes the whole cost. So the other functions
-# are compiled as without these two.
+# are compiled as without these two. The starts of BLAKE2sp, and on aarch64 of BLAKE2bp, are functions of their own:
+# written out into a call, they have pointers whose bounds are too hard for tests/machine.
 #
 # A name in a list of attributes that is not in the code makes clang print a line, and then the build
 # fails.
@@ -215,7 +222,7 @@ write_manifest() {
         echo "# kit: $(rt version)"
         echo "# tools: $(hash_of_tools)"
         echo "# sources: $1"
-        cd "$top/dist" && sha256sum "${files[@]}"
+        sums
     } >"$work/MANIFEST"
     mv "$work/MANIFEST" "$manifest"
 }
@@ -244,7 +251,7 @@ case ${1-},$# in
     --help,1 | -h,1) usage && exit ;;
     current,1)
         # The tools of the two, before one that is absent makes a difference.
-        for tool in awk cat cut diff find sed sha256sum sort xargs; do
+        for tool in awk cat cut diff find sed "$(has shasum && echo shasum || echo sha256sum)" sort xargs; do
             has "$tool" || { echo "dist.sh: there is no $tool on the PATH" >&2 && exit 2; }
         done
         is_whole && is_current
@@ -256,7 +263,8 @@ esac
 [ "$1" != check ] || compare_all
 has rt || stop "the toolchain's command rt is not on the PATH"
 if [ $# -gt 1 ]; then
-    make "$(realpath -m "$2")" "${@:3}"
+    mkdir -p "$2"
+    make "$(readlink -f "$2")" "${@:3}"
 else
     before=$(sources)
     make "$top/dist" "${files[@]}"

@@ -1,10 +1,10 @@
 #!/usr/bin/env python3
-"""Writes the lists of functions in c/choose.c and c/thunks.h from the prototypes of c/include/vulfsjor.h, and c/abi.txt and
-c/vulfsjor.map, and compares those prototypes and structs with the exports of crates/blake2_ffi and with
+"""Writes the lists of functions in c/choose.c and c/thunks.h from the prototypes of c/include/vulfsjor.h, and c/abi.txt
+and c/vulfsjor.map, and compares those prototypes and structs with the exports of crates/blake2_ffi and with
 rust/src/library.rs: names, types and order. With --check it also compares the four files, and writes nothing.
 
-A function that is new in c/abi.txt gets the node of this version. If a line of an earlier version has changed or is gone,
-the library needs another soname, and nothing is written.
+A function that is new in c/abi.txt gets the node of this version. If a line of an earlier version has changed or is
+gone, the library needs another soname, and nothing is written.
 
 usage: tools/exports.py [--check]
 """
@@ -25,14 +25,14 @@ NUMBERS = {"uint8_t": "u8", "uint32_t": "u32", "uint64_t": "u64", "int32_t": "i3
 STRUCTS = {
     "blake2b_state": ("crates/blake2_state/src/blake2b.rt", "State", None),
     "blake2s_state": ("crates/blake2_state/src/blake2s.rt", "State", None),
-    "blake2bp_lanes": ("crates/blake2_parallel/src/lanes/blake2b.rt", "Lanes", None),
-    "blake2bp_state": ("crates/blake2_parallel/src/blake2b.rt", "State", None),
-    "blake2sp_lanes": ("crates/blake2_parallel/src/lanes/blake2s.rt", "Lanes", None),
-    "blake2sp_state": ("crates/blake2_parallel/src/blake2s.rt", "State", None),
-    "blake2xb_reader": ("crates/blake2_xof/src/reader/blake2b.rt", "Reader", None),
-    "blake2xb_state": ("crates/blake2_xof/src/blake2b.rt", "State", None),
-    "blake2xs_reader": ("crates/blake2_xof/src/reader/blake2s.rt", "Reader", None),
-    "blake2xs_state": ("crates/blake2_xof/src/blake2s.rt", "State", None),
+    "blake2bp_lanes": ("crates/blake2_parallel/src/lanes/blake2bp.rt", "Lanes", None),
+    "blake2bp_state": ("crates/blake2_parallel/src/blake2bp.rt", "State", None),
+    "blake2sp_lanes": ("crates/blake2_parallel/src/lanes/blake2sp.rt", "Lanes", None),
+    "blake2sp_state": ("crates/blake2_parallel/src/blake2sp.rt", "State", None),
+    "blake2xb_reader": ("crates/blake2_xof/src/reader/blake2xb.rt", "Reader", None),
+    "blake2xb_state": ("crates/blake2_xof/src/blake2xb.rt", "State", None),
+    "blake2xs_reader": ("crates/blake2_xof/src/reader/blake2xs.rt", "Reader", None),
+    "blake2xs_state": ("crates/blake2_xof/src/blake2xs.rt", "State", None),
     "tree_state": ("crates/blake2_state/src/tree.rt", "TreeState", None),
     "tree": ("crates/blake2_ffi/src/lib.rt", "NodeParameters", "Tree"),
     "message": ("crates/blake2_ffi/src/lib.rt", "Text", "Text"),
@@ -193,7 +193,8 @@ def layouts():
 
 def interface():
     """The lines of c/abi.txt for functions and structs, in the order of the versions that added them."""
-    of_functions = [(f"{result} {name}", ", ".join(re.sub(r" ?\w+$", "", one) for one in given) or "void") for name, (result, given, _) in prototypes().items()]
+    of_functions = [(f"{result} {name}", ", ".join(re.sub(r" ?\w+$", "", one) for one in given) or "void")
+                    for name, (result, given, _) in prototypes().items()]
     words = [IN_C, *(f"{head}({given})" for head, given in of_functions),
              *(f"struct {head}: {fields_}" for head, fields_ in layouts())]
     added = {line.partition(" ")[2]: line.partition(" ")[0] for line in read(ABI).split("\n")}

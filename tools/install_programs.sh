@@ -1,21 +1,21 @@
 #!/usr/bin/env bash
-# Installs programs that are built, with their man pages and shell completions:
+# Installs programs that are built, with their man pages and shell completions, and the man pages of the library, with a
+# link for each function:
 #
 #   tools/install_programs.sh BUILT NAME..         those of the folder BUILT
 #   tools/install_programs.sh --uninstall NAME..   removes them
 #
 # `make install` calls it. The folders are bindir, mandir, bashcompdir, zshcompdir and fishcompdir, or
-# the usual ones of prefix, below DESTDIR. PROGRAM_PREFIX is put before each name, in the man page and the completions too.
-# Nothing is installed if a file of somebody else is in the place of one, unless OVERWRITE is yes.
-# A file is ours if it has the name Vulfsjor in it, and a program also if its man page has.
-# --uninstall leaves those of others.
+# the usual ones of prefix, exec_prefix and datarootdir, below DESTDIR. PROGRAM_PREFIX is put before each name, in man
+# pages and completions too. Nothing is installed if a file of somebody else is in the place of one, and --uninstall
+# leaves it. A file is ours if it has the name Vulfsjor in it, and a program also if its man page has.
 set -euo pipefail
-top=$(dirname "$(dirname "$(readlink -f "$0")")")
+source "$(dirname "$(readlink -f "$0")")/shell.sh"
 folder=${prefix:-/usr/local} prefix=${PROGRAM_PREFIX-} root=${DESTDIR-}
-bindir=${bindir:-$folder/bin} mandir=${mandir:-$folder/share/man}
-bashcompdir=${bashcompdir:-$folder/share/bash-completion/completions}
-zshcompdir=${zshcompdir:-$folder/share/zsh/site-functions}
-fishcompdir=${fishcompdir:-$folder/share/fish/vendor_completions.d}
+share=${datarootdir:-$folder/share} bindir=${bindir:-${exec_prefix:-$folder}/bin} mandir=${mandir:-$share/man}
+bashcompdir=${bashcompdir:-$share/bash-completion/completions}
+zshcompdir=${zshcompdir:-$share/zsh/site-functions}
+fishcompdir=${fishcompdir:-$share/fish/vendor_completions.d}
 uninstall=no built=$1
 [ "$1" != --uninstall ] || uninstall=yes
 shift
@@ -29,47 +29,41 @@ places_of() {
 # Whether there is nothing in this place, or a file of ours.
 is_ours() { { [ ! -e "$1" ] && [ ! -L "$1" ]; } || grep -qs Vulfsjor "$1"; }
 
-# The text of a file, for the program's name with the prefix: FILE NAME. In a man page that are the
-# words in bold and the first ones of lines, and the title; in completions, what they are for.
+# The text of a file, for the program's name with the prefix: FILE NAME. In a man page that are the title, the first
+# words of lines, and the words in bold; in completions of the three shells, what they are for.
 renamed() {
-    local upper
-    upper=$(printf '%s' "$prefix" | tr '[:lower:]' '[:upper:]')
-    case $prefix,$1 in
-        ,*) cat "$1" ;;
-        *.1) sed "s/^\.TH /&$upper/;s/^$2 /$prefix&/;s/\\\\fB$2\\( [^\\\\]*\\)\\{0,1\\}\\\\fR/\\\\fB$prefix$2\\1\\\\fR/g" "$1" ;;
-        *.bash) sed "s/^\\(complete .* \\)$2\$/\\1$prefix$2/" "$1" ;;
-        *.fish) sed "s/^complete -c $2 /complete -c $prefix$2 /" "$1" ;;
-        *) sed "1s/^#compdef $2\$/#compdef $prefix$2/" "$1" ;;
-    esac
+    sed "s/^\.TH /&$(printf '%s' "$prefix" | tr '[:lower:]' '[:upper:]')/;s/^$2 /$prefix&/
+        s/\\\\fB$2\\( [^\\\\]*\\)\\{0,1\\}\\\\fR/\\\\fB$prefix$2\\1\\\\fR/g
+        s/^\\(complete .* \\)$2\$/\\1$prefix$2/;s/^complete -c /&$prefix/;1s/^#compdef /&$prefix/" "$1"
 }
 
-# Writes a file anew from standard input: FILE RIGHTS
-write() {
-    mkdir -p -- "${1%/*}"
-    rm -f -- "$1"
-    cat >"$1"
-    chmod "$2" "$1"
-}
-
-for name; do
-    mapfile -t places < <(places_of "$name")
-    for place in "${places[@]}"; do
-        if is_ours "$place" || { [ "$place" = "${places[0]}" ] && grep -qs Vulfsjor "${places[1]}"; }; then
+# What is in the place of a file: leaves a file of somebody else, and removes ours or refuses those: NAME
+make_room() {
+    local place page=$root$mandir/man1/$prefix$1.1
+    while IFS= read -r place; do
+        if is_ours "$place" || { [ "$place" = "$root$bindir/$prefix$1" ] && grep -qs Vulfsjor "$page"; }; then
             [ "$uninstall" = no ] || rm -f -- "$place"
-        elif [ "$uninstall" = no ] && [ "${OVERWRITE-}" != yes ]; then
-            echo "install_programs.sh: $place is not ours: set PROGRAM_PREFIX to install by another name," \
-                "such as vulfsjor-, PROGRAMS to leave $name out, or OVERWRITE=yes to replace it" >&2
-            exit 1
+        elif [ "$uninstall" = no ]; then
+            stop "$place is not ours: set PROGRAM_PREFIX to install by another name, such as vulfsjor-, or PROGRAMS"
         fi
-    done
-done
+    done < <(places_of "$1")
+}
+
+for name; do make_room "$name"; done
+rm -f -- "$root$mandir"/man3/vulfsjor{,_*}.3
 [ "$uninstall" = no ] || exit 0
 umask 022
+for page in "$top"/c/man/*.3; do
+    page=${page##*/}
+    for name in $(sed -n '/^\.SH NAME$/{n;s/,//g;s/ \\-.*//;p;}' "$top/c/man/$page"); do
+        write "$root$mandir/man3/$name.3" <<<".so man3/$page"
+    done
+    write "$root$mandir/man3/$page" <"$top/c/man/$page"
+done
 for name; do
-    mapfile -t places < <(places_of "$name")
-    write "${places[0]}" 755 <"$built/$name"
-    write "${places[1]}" 644 < <(renamed "$top/docs/$name.1" "$name")
-    write "${places[2]}" 644 < <(renamed "$top/completions/$name.bash" "$name")
-    write "${places[3]}" 644 < <(renamed "$top/completions/_$name" "$name")
-    write "${places[4]}" 644 < <(renamed "$top/completions/$name.fish" "$name")
+    write "$root$bindir/$prefix$name" 755 <"$built/$name"
+    write "$root$mandir/man1/$prefix$name.1" < <(renamed "$top/docs/$name.1" "$name")
+    write "$root$bashcompdir/$prefix$name" < <(renamed "$top/completions/$name.bash" "$name")
+    write "$root$zshcompdir/_$prefix$name" < <(renamed "$top/completions/_$name" "$name")
+    write "$root$fishcompdir/$prefix$name.fish" < <(renamed "$top/completions/$name.fish" "$name")
 done

@@ -48,27 +48,18 @@ add_words() {
     fi
 }
 
-# Ends the script unless dist/ is whole and made from these sources. The bash of macOS is too old
-# for the second.
+# Ends the script unless dist/ is whole and made from these sources.
 check_dist() {
-    local status=0
-    if [[ $OSTYPE != darwin* ]]; then
-        "$top/tools/dist.sh" current || status=$?
-    else
-        (cd "$top/dist" && shasum -a 256 -s -c MANIFEST) || status=$?
-    fi
-    case $status in
-        0) ;;
-        1) fail "dist/ was not made from these sources: run make dist" ;;
-        *) fail "dist/ could not be compared with these sources" ;;
-    esac
+    "$top/tools/dist.sh" current && return
+    [ $? -ne 1 ] || fail "dist/ was not made from these sources: run make dist"
+    fail "dist/ could not be compared with these sources"
 }
 
 # Builds the program as this file, for the machine that the compiler compiles for, which has to be
 # this one if it is named: FILE [MACHINE]. It is then as old as the beginning of its build. CFLAGS,
 # CPPFLAGS and LDFLAGS are used as by make. For ELF it is marked for branch protection.
 build() {
-    local cc target texts format words flags branches
+    local cc target texts format words flags
     read -ra cc <<<"${CC:-cc}"
     command -v "${cc[0]-}" >/dev/null || fail "a C compiler is needed: cc, or the one that CC names"
     target=$("${cc[@]}" -dumpmachine)
@@ -85,10 +76,9 @@ build() {
         aarch64-* | arm64-*) texts=("${aarch64[@]}") ;;
         *) fail "there is no build for $target" ;;
     esac
-    branches=()
     case $target,$format in
-        x86_64-*,elf) branches=(-fcf-protection=full) ;;
-        aarch64-*,elf) branches=(-mbranch-protection=bti) ;;
+        x86_64-*,elf) words+=(-fcf-protection=full) ;;
+        aarch64-*,elf) words+=(-mbranch-protection=bti) ;;
     esac
     [[ $target == "${2-}"* ]] || fail "CC compiles for $target, and this machine is $2"
     check_dist
@@ -100,7 +90,7 @@ build() {
         printf '\tvj_marks\n' && cat "${texts[@]}") >"$begun.s"
     add_words "${texts[0]}"
     read -ra flags <<<"${CPPFLAGS-} ${CFLAGS-} ${LDFLAGS-}"
-    "${cc[@]}" -O2 "${branches[@]}" "${flags[@]}" -fno-lto -ffunction-sections "${words[@]}" \
+    "${cc[@]}" -O2 ${flags[@]+"${flags[@]}"} -fno-lto -ffunction-sections "${words[@]}" \
         -o "$begun.new" "$begun.s"
     chmod 755 "$begun.new"
     touch -r "$begun" "$begun.new"

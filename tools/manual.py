@@ -1,6 +1,6 @@
 #!/usr/bin/env python3
 """Makes the man pages docs/b2.1 and docs/b2sum.1 from docs/B2.md and docs/B2SUM.md, without the sections on this
-repository.
+repository, and those of the library, c/man/*.3, from its headers.
 
     tools/manual.py            writes them
     tools/manual.py --check    compares them with what would be written, and with what mandoc or man says of them
@@ -11,6 +11,8 @@ import shutil
 import subprocess
 import sys
 
+import library_manual
+from library_manual import escaped
 from read_sources import TOP, Unreadable, read, version
 
 DATE = "2026-11-26"
@@ -21,11 +23,6 @@ PROGRAMS = {
     "b2sum": ("docs/B2SUM.md", "print and check BLAKE2 digests of files", "b2 cksum b3sum"),
 }
 LEFT_OUT = ("Building", "What is proved", "See also")
-
-
-def escaped(text):
-    """The text, escaped for a line of a man page."""
-    return re.sub(r"^([.'])", r"\\&\1", text.replace("\\", "\\e").replace("-", "\\-"))
 
 
 def inline(text):
@@ -47,11 +44,6 @@ def block(part):
         raise Unreadable(f"docs/B2.md: a row of the table {lines[0]!r} does not have two or three cells")
     last = [row if len(row) == 2 else [f"{row[1]} (status {row[0].strip()})", row[2]] for row in rows]
     return "\n".join(f".TP\n{inline(head)}\n{inline(text)}" for head, text in last)
-
-
-def path_of(name):
-    """The man page of a program."""
-    return os.path.join(TOP, "docs", f"{name}.1")
 
 
 def manual(name):
@@ -78,23 +70,23 @@ def warnings(path):
     return ""
 
 
-def check(name):
-    """What is wrong with the man page of a program."""
-    path = path_of(name)
-    is_current = os.path.exists(path) and read(path) == manual(name)
-    return ("" if is_current else f"docs/{name}.1: run tools/manual.py\n") + warnings(path)
+def check(path, text):
+    """What is wrong with a man page, whose text has to be this."""
+    is_current = os.path.exists(f"{TOP}/{path}") and read(path) == text
+    return ("" if is_current else f"{path}: run tools/manual.py\n") + warnings(f"{TOP}/{path}")
 
 
 def main():
     if sys.argv[1:] not in ([], ["--check"]):
         sys.exit("usage: tools/manual.py [--check]")
+    pages = {**{f"docs/{name}.1": manual(name) for name in PROGRAMS}, **library_manual.pages(DATE)}
     if not sys.argv[1:]:
-        for name in PROGRAMS:
-            with open(path_of(name), "w", encoding="utf-8") as file:
-                file.write(manual(name))
+        for path, text in pages.items():
+            with open(f"{TOP}/{path}", "w", encoding="utf-8") as file:
+                file.write(text)
         return 0
-    said = "".join(map(check, PROGRAMS))
-    print(said or "the man pages are what tools/manual.py makes of their pages\n", end="")
+    said = "".join(check(*page) for page in pages.items())
+    print(said or "the man pages are what tools/manual.py makes of their sources\n", end="")
     return 1 if said else 0
 
 

@@ -4,9 +4,10 @@
     tools/object_formats.py [SHARED..] <elf.s >file.s
 
 Every instruction stays, except that a jump by a table of a program needs no landing pad for branch protection: it gets
-the prefix notrack, or on ARM is a ret by its register. Directives and operands that differ between ELF, Mach-O and COFF become macros of the assembler,
-whose names begin with vj_: dist/README.md lists them, and dist/x86_64/*.inc and dist/aarch64/*.inc define them. Labels of
-code become numbers, which are local in every format: 12f is the next 12, and 12b the last one. Each function counts from
+the prefix notrack, or on ARM is a ret by its register. Directives and operands that differ between ELF, Mach-O and COFF
+become macros of the assembler, whose names begin with vj_: dist/README.md lists them, and dist/x86_64/*.inc and
+dist/aarch64/*.inc define them. Labels of code become numbers, which are local in every format: 12f is the next 12, and
+12b the last one. Each function counts from
 1. The names of constants stay. A line that is not known here is refused.
 
 SHARED are functions of the library that hash for the programs. A program calls those of the library's build; for x86-64

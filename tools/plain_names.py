@@ -3,13 +3,13 @@
 
     tools/plain_names.py _1_v3 [THEIRS..] [NAME=OURS..] <module.s >file.s
 
-Rattle's names stand in quotes, as "blake2_compress::many::blake2b::outputs::<=64>", which not every assembler takes. This one
-becomes blake2_compress..many..blake2b..outputs..64_1_v3. Exported names and local labels get the end too, so that several
-such texts can stand in one program, and in one run of an assembler. Exported names are hidden: a program's objects see
-them, and a shared library that is linked from them does not export them. Of each function THEIRS, by its name in Rattle,
-which C has instead, the text calls one that it has not, and exports the proved one as NAME::proved. A call of the function
-NAME elsewhere, such as read, becomes one of OURS. Nothing else changes: the instructions stay as they are, and so do the
-names of other functions elsewhere, such as memcpy.
+Rattle's names stand in quotes, as "blake2_compress::many::blake2b::outputs::<=64>", which not every assembler takes.
+This one becomes blake2_compress..many..blake2b..outputs..64_1_v3. Exported names and local labels get the end too, so
+that several such texts can stand in one program, and in one run of an assembler. Exported names are hidden: a program's
+objects see them, and a shared library that is linked from them does not export them. Of each function THEIRS, by its
+name in Rattle, which C has instead, the text calls one that it has not, and exports the proved one as NAME::proved. A
+call of the function NAME elsewhere, such as read, becomes one of OURS. Nothing else changes: the instructions stay as
+they are, and so do the names of other functions elsewhere, such as memcpy.
 """
 import re
 import sys
@@ -28,7 +28,8 @@ def labels(lines):
 
 
 def check_theirs(lines, names):
-    """Refuses a text that has one of these functions itself, or has not exactly one proved one, exported, and a call."""
+    """Refuses a text that has one of these functions itself, or has not exactly one proved one, exported, and a
+    call."""
     for name in names:
         found = [line[1:-2] for line in lines if re.fullmatch(rf'"{name}(::<.*>)?(::proved)?":', line)]
         outside = found[0].removesuffix("::proved") if found else ""

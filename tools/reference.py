@@ -1,9 +1,11 @@
 #!/usr/bin/env python3
-"""Writes docs/reference/: a page for each crate with its items and definitions, and an index.
+"""Writes docs/reference/: a page of HTML for each crate with its items and definitions, and index.html, where names are
+searched.
 
 An item of crates/NAME/src/ is shown with its doc comment, its signature and its clauses, and a
-definition of crates/NAME/specs/ with its comment. The index has both by name. The sources are read in the layout of `rt fmt`. A public item without a doc comment is an error,
-and so is a public definition without a comment. Nothing is written then.
+definition of crates/NAME/specs/ with its comment. The index has both by name. The sources are read in the layout of `rt
+fmt`. A public item without a doc comment is an error, and so is a public definition without a comment. Nothing is
+written then.
 
 usage: tools/reference.py
 """
@@ -13,10 +15,11 @@ import shutil
 import sys
 from itertools import groupby, takewhile
 
+import reference_html
 from read_sources import TOP, Unreadable, anchor, exported, modules, read, words_of
 
 FOLDER = "docs/reference"
-NOTE = "<!-- Written by tools/reference.py from the sources: do not edit. -->"
+NOTE = "[All crates and names](index.html)"
 IMPL = re.compile(r"impl(?:<.*?>)? (?:(.+) for )?(\w+)")
 
 
@@ -105,7 +108,7 @@ class Page:
                 contents[-1] += f"{', ' if ': ' in contents[-1] else ': '}{link}"
         lines = [f"# `{self.crate}`", "", NOTE, "", *self.modules[0].doc, "", "## Contents", "",
                  *contents, "", *self.lines]
-        titles = [(title, "" if page is self else f"{page.crate}.md")
+        titles = [(title, "" if page is self else f"{page.crate}.html")
                   for page in (self, *pages) for title in page.titles]
         return linked("\n".join(lines), titles)
 
@@ -146,29 +149,33 @@ def linked(text, titles):
         return found[0] if found else f"`{match[1]}`"
     parts = re.split(r"^(```.*?^```)$", text, flags=re.DOTALL | re.MULTILINE)
     for i in range(0, len(parts), 2):
-        prose = re.sub(r"^\[`.*`\]: .*\n", "", parts[i], flags=re.MULTILINE)
+        prose = re.sub(r"^\[`.*`\]: .*\n|(?<=\])\(crate::[\w:]+\)", "", parts[i], flags=re.MULTILINE)
         parts[i] = re.sub(r"\[`([\w:]+)`\](?!\()", link, prose)
     return re.sub(r"\n{3,}", "\n\n", "".join(parts)).rstrip() + "\n"
 
 
 def index(pages):
-    """The page that leads to the others: the crates, and all items and definitions by name."""
-    yield from ("# Reference", "", NOTE, "",
-                "One page for each crate: its public items with their contracts, and the",
-                "definitions that the contracts use.", "",
+    """The page that leads to the crates."""
+    yield from ("# Reference", "",
+                "The public items of each crate with their contracts, and the definitions that these use.", "",
                 "| crate | contents | items | definitions |", "|---|---|---|---|")
-    items, words = [], []
     for page in pages:
         about = re.split(r"[.:] ", " ".join(page.modules[0].doc) + " ")[0]
-        items += [(name, title, page.crate) for name, title in page.names]
-        words += [(word.name, word.title(), page.crate) for word in page.words]
-        yield f"| [`{page.crate}`]({page.crate}.md) | {about} | {len(page.names)} | {len(page.words)} |"
-    for heading, found in (("Items by name", items), ("Definitions by name", words)):
-        yield from ("", f"## {heading}", "")
-        found.sort(key=lambda name: name[0].split("::")[-1].lower())
-        for letter, names in groupby(found, lambda name: name[0].split("::")[-1][0].upper()):
-            links = (f"[`{name}`]({crate}.md#{anchor(title)})" for name, title, crate in names)
-            yield f"- {letter}: {', '.join(links)}"
+        yield f"| [`{page.crate}`]({page.crate}.html) | {about} | {len(page.names)} | {len(page.words)} |"
+
+
+def names_of(pages):
+    """Each item and each definition by its name, and where it is."""
+    found = [(name, title, page.crate) for page in pages
+             for name, title in (*page.names, *((word.name, word.title()) for word in page.words))]
+    for name, title, crate in sorted(found, key=lambda it: it[0].split("::")[-1].lower()):
+        yield name, f"{crate}.html#{anchor(title)}"
+
+
+def texts(pages):
+    """The files by their names."""
+    made = {f"{page.crate}.html": reference_html.page(page.text(pages), anchor) for page in pages}
+    return made | {"index.html": reference_html.page("\n".join(index(pages)), anchor, list(names_of(pages)))}
 
 
 def pages():
@@ -187,11 +194,9 @@ def main():
     wrong = [line for page in found for line in page.wrong]
     if wrong:
         sys.exit("\n".join(wrong))
-    texts = {f"{page.crate}.md": page.text(found) for page in found}
-    texts["README.md"] = "\n".join(index(found)) + "\n"
     shutil.rmtree(f"{TOP}/{FOLDER}", ignore_errors=True)
     os.makedirs(f"{TOP}/{FOLDER}")
-    for name, text in texts.items():
+    for name, text in texts(found).items():
         with open(f"{TOP}/{FOLDER}/{name}", "w", encoding="utf-8") as file:
             file.write(text)
 

@@ -23,14 +23,12 @@ import re
 import sys
 import textwrap
 
-HERE = os.path.dirname(os.path.abspath(__file__))
-sys.path.append(os.path.join(HERE, "..", "tests", "machine"))
-from terms import CannotShow  # noqa: E402
-from wasm_format import Module, Reader  # noqa: E402
+from wasm_format import CannotRead, Module, Reader
 
+HERE = os.path.dirname(os.path.abspath(__file__))
 BITS = {"i32": 32, "i64": 64}
 LONGEST = 200  # characters of an expression, about
-MARGIN = 1024  # bytes of the stack
+MARGIN = 2048  # bytes of the stack
 COMPARISONS = {"eq": "==", "ne": "!=", "lt": "<", "gt": ">", "le": "<=", "ge": ">="}
 OPERATORS = {"add": "+", "sub": "-", "mul": "*", "and": "&", "or": "|", "xor": "^"}
 TOP, FRAME = "top", "frame"  # what an address on the stack is counted from
@@ -898,7 +896,7 @@ def main(program=Program):
         header = file.read()
     try:
         print(program(data, header), end="")
-    except (Refused, CannotShow) as why:
+    except (Refused, CannotRead) as why:
         sys.exit(f"{name}: {sys.argv[1]} has what is not translated: {why}")
 
 

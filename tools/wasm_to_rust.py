@@ -153,7 +153,8 @@ class Program(wasm_to_c.Program):
         if after:
             lines += [f"if {call} != 0 {{ return -1; }}", *after, "0"]
         else:
-            lines.append(call + (f" as {TYPES[result]}" if result in ("int32_t", "size_t") else ";" * (result == "void")))
+            converted = result in ("int32_t", "size_t")
+            lines.append(call + (f" as {TYPES[result]}" if converted else ";" * (result == "void")))
         return f"{begin}\n" + "\n".join(f"    {line}" for line in lines) + "\n}"
 
 

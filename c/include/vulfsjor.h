@@ -13,14 +13,15 @@
  * are proved to do what this file says if the caller meets the preconditions. The inline
  * functions are tested, not proved. Other languages call vulfsjor_ffi_* directly.
  *
- * Lengths are in bytes. A pointer may be null if its length is 0.
+ * Lengths are in bytes. A pointer may be null if its length is 0. No key is a null pointer with
+ * length 0. Every call refuses a pointer to a key of 0 bytes, which may be one that was not loaded.
  *
  * Return value: 0, or -1 if the call fails. The comment of each function says when it fails. The
  * last part of this file lists what -1 can mean, call by call, and has functions that return which
  * argument was refused. Every function with a status also returns -1 if a pointer to a state, an
- * output, a parameter block or tree parameters is null, or if any other pointer is null and its
- * length is not 0. A call that fails writes nothing and leaves the state unchanged, with two
- * exceptions:
+ * output, a parameter block or tree parameters is null, if any other pointer is null and its length
+ * is not 0, or if a key is not null and its length is 0. A call that fails writes nothing and leaves
+ * the state unchanged, with two exceptions:
  *   - An init that fails sets the state to zero.
  *   - verify returns -1 for a wrong tag, and then wipes the state too.
  *
@@ -67,6 +68,20 @@ extern "C" {
 #define VULFSJOR_MUST_USE
 #endif
 
+/* For a pointer and the length of what it points to, by their places among the arguments: the
+ * function reads or writes that many bytes at most. gcc 10 and later then warns of a call whose
+ * memory is known to be shorter. */
+#ifdef __has_attribute
+#if __has_attribute(access)
+#define VULFSJOR_READS(pointer, length) __attribute__((access(read_only, pointer, length)))
+#define VULFSJOR_WRITES(pointer, length) __attribute__((access(write_only, pointer, length)))
+#endif
+#endif
+#ifndef VULFSJOR_READS
+#define VULFSJOR_READS(pointer, length)
+#define VULFSJOR_WRITES(pointer, length)
+#endif
+
 /* Whether the bytes of a number are in the order of a parameter block. */
 #if defined(_MSC_VER) || \
     (defined(__BYTE_ORDER__) && __BYTE_ORDER__ == __ORDER_LITTLE_ENDIAN__)
@@ -74,7 +89,7 @@ extern "C" {
 #endif
 
 /* Lengths in bytes: of a block, of the longest digest and key, and of the longest salt and
- * personalization. */
+ * personalization. The outputs of BLAKE2Xb and BLAKE2Xs have no such lengths. */
 enum {
     VULFSJOR_BLAKE2B_BLOCKBYTES = 128,
     VULFSJOR_BLAKE2B_OUTBYTES = 64,
@@ -95,7 +110,13 @@ enum {
     VULFSJOR_BLAKE2SP_OUTBYTES = 32,
     VULFSJOR_BLAKE2SP_KEYBYTES = 32,
     VULFSJOR_BLAKE2SP_SALTBYTES = 8,
-    VULFSJOR_BLAKE2SP_PERSONALBYTES = 8
+    VULFSJOR_BLAKE2SP_PERSONALBYTES = 8,
+    VULFSJOR_BLAKE2XB_KEYBYTES = 64,
+    VULFSJOR_BLAKE2XB_SALTBYTES = 16,
+    VULFSJOR_BLAKE2XB_PERSONALBYTES = 16,
+    VULFSJOR_BLAKE2XS_KEYBYTES = 32,
+    VULFSJOR_BLAKE2XS_SALTBYTES = 8,
+    VULFSJOR_BLAKE2XS_PERSONALBYTES = 8
 };
 
 /* The lengths of outputs of BLAKE2Xb and BLAKE2Xs that are not known in advance. */
@@ -325,6 +346,8 @@ typedef char vulfsjor_layouts[sizeof(vulfsjor_blake2b_state) == 424 &&
 /* ---- The functions of the library, for other languages. Preconditions: no pointer is null, and
  * every byte of a state was written. Each function does what is said below of the function with its
  * name, with these exceptions:
+ *   - A key of 0 bytes is no key. Only init_key and derive_key refuse it.
+ *   - verify compares a tag also if the state has no key.
  *   - many fails if out_length is not count times output_size.
  *   - memcmp accepts two lengths; buffers of different lengths differ.
  *   - state_size returns the length of a state.
@@ -530,6 +553,13 @@ int32_t vulfsjor_ffi_tree_part(vulfsjor_part *part, const vulfsjor_plan *plan, u
 #define VULFSJOR_CAST(type, value) ((type)(value))
 #endif
 
+/* Internal: a null pointer. */
+#ifdef __cplusplus
+#define VULFSJOR_NULL nullptr
+#else
+#define VULFSJOR_NULL NULL
+#endif
+
 /* Internal: returns the pointer, or a pointer that is not null if it is null. */
 static inline const uint8_t *vulfsjor_text(const void *text) {
     const void *bytes = text ? text : "";
@@ -539,6 +569,25 @@ static inline const uint8_t *vulfsjor_text(const void *text) {
 /* Internal: returns the pointer as one to bytes. */
 static inline uint8_t *vulfsjor_bytes(void *out) {
     return VULFSJOR_CAST(uint8_t *, out);
+}
+
+/* Internal: returns whether only one of a key and its length is given: the key is null and its
+ * length is not 0, or the length is 0 and the key is not null. */
+VULFSJOR_MUST_USE static inline int vulfsjor_is_half_key(const void *key, size_t keylen) {
+    return !key != !keylen;
+}
+
+/* Internal: returns whether the key is such a one, or another pointer is null with a length. */
+VULFSJOR_MUST_USE static inline int vulfsjor_are_refused(const void *key, size_t keylen,
+                                                         const void *salt, size_t saltlen,
+                                                         const void *personal, size_t personallen) {
+    return vulfsjor_is_half_key(key, keylen) || (!salt && saltlen) || (!personal && personallen);
+}
+
+/* Internal: returns whether the parameter block of a state has a key, whose length is its second byte.
+ * It is in the words, the first of the state, and so xored with that byte of the IV. */
+VULFSJOR_MUST_USE static inline int vulfsjor_has_key(const void *words, unsigned iv) {
+    return vulfsjor_text(words)[1] != iv;
 }
 
 /* Internal: returns VULFSJOR_VERSION_NUMBER of the header that the library was compiled with. */
@@ -553,7 +602,10 @@ static inline uint32_t vulfsjor_version(void) {
  * order, as that of memcmp is. Its time does not depend on the bytes, so use it for tags:
  *
  *     if (vulfsjor_memcmp(tag, want, sizeof tag) != 0) return REJECTED;
+ *
+ * Pass the length that a tag must have. One that came with the tag may be 0, and 0 bytes are equal.
  */
+VULFSJOR_READS(1, 3) VULFSJOR_READS(2, 3)
 VULFSJOR_MUST_USE static inline int vulfsjor_memcmp(const void *a, const void *b, size_t length) {
     if ((!a || !b) && length) return -1;
     return vulfsjor_ffi_memcmp(vulfsjor_text(a), length, vulfsjor_text(b), length);
@@ -562,6 +614,7 @@ VULFSJOR_MUST_USE static inline int vulfsjor_memcmp(const void *a, const void *b
 /* Sets length bytes to zero, such as a key or a derived key that you need no more. Compilers remove
  * a memset of memory that nothing reads afterwards, and do not remove this call. Does nothing if
  * bytes is null. */
+VULFSJOR_WRITES(1, 2)
 static inline void vulfsjor_wipe(void *bytes, size_t length) {
     if (bytes) vulfsjor_ffi_wipe(vulfsjor_bytes(bytes), length);
 }
@@ -570,6 +623,7 @@ static inline void vulfsjor_wipe(void *bytes, size_t length) {
  * after them. outlen is the room in out, at least 2 * inlen + 1. The remaining characters are
  * unchanged. Its time does not depend on the bytes. Returns -1 and writes nothing if outlen is
  * less. */
+VULFSJOR_WRITES(1, 2) VULFSJOR_READS(3, 4)
 VULFSJOR_MUST_USE static inline int vulfsjor_bin2hex(char *out, size_t outlen, const void *in,
                                                      size_t inlen) {
     const uint8_t *bytes = vulfsjor_text(in);
@@ -599,6 +653,7 @@ static inline unsigned vulfsjor_digit(char character) {
 /* Writes the bytes of hexadecimal digits, two for each byte, of either case: outlen bytes. Its time
  * depends on no digit, unless a character is not one. Returns -1 and writes nothing if hexlen is
  * not 2 * outlen, or if a character is not a hexadecimal digit. */
+VULFSJOR_WRITES(1, 2) VULFSJOR_READS(3, 4)
 VULFSJOR_MUST_USE static inline int vulfsjor_hex2bin(void *out, size_t outlen, const char *hex,
                                                      size_t hexlen) {
     uint8_t *bytes = vulfsjor_bytes(out);
@@ -622,17 +677,19 @@ static inline size_t vulfsjor_null_message(const vulfsjor_message *messages, siz
 
 /* -- BLAKE2b */
 
-/* Initializes a state for BLAKE2b digests of outlen bytes, 1 to 64. The key has 0 to 64 bytes;
- * without a key keylen is 0. With a key the digest is a message authentication code. The salt and
- * the personalization have 0 to 16 bytes each, and trailing zeros in them change nothing. Use a
- * different personalization for each purpose. Returns -1 and sets the state to zero if a length is
- * out of range. */
+/* Initializes a state for BLAKE2b digests of outlen bytes, 1 to 64. The key has 1 to 64 bytes;
+ * without a key, key is null and keylen is 0. With a key the digest is a message authentication
+ * code. The salt and the personalization have 0 to 16 bytes each, and trailing zeros in them change
+ * nothing. Use a different personalization for each purpose. Returns -1 and sets the state to zero
+ * if a length is out of range. */
+VULFSJOR_READS(3, 4) VULFSJOR_READS(5, 6) VULFSJOR_READS(7, 8)
 static inline int vulfsjor_blake2b_init_salt_personal(
     vulfsjor_blake2b_state *S, size_t outlen, const void *key, size_t keylen, const void *salt,
     size_t saltlen, const void *personal, size_t personallen) {
     if (!S) return -1;
     memset(S, 0, sizeof *S);
-    if ((!key && keylen) || (!salt && saltlen) || (!personal && personallen)) return -1;
+    if (vulfsjor_are_refused(key, keylen, salt, saltlen, personal, personallen))
+        return -1;
     return vulfsjor_ffi_blake2b_init_salt_personal(S, outlen, vulfsjor_text(key), keylen,
                                                    vulfsjor_text(salt), saltlen,
                                                    vulfsjor_text(personal), personallen);
@@ -641,12 +698,13 @@ static inline int vulfsjor_blake2b_init_salt_personal(
 /* Initializes a state for BLAKE2b digests of outlen bytes, 1 to 64, without key, salt and
  * personalization. Returns -1 and sets the state to zero if outlen is out of range. */
 static inline int vulfsjor_blake2b_init(vulfsjor_blake2b_state *S, size_t outlen) {
-    return vulfsjor_blake2b_init_salt_personal(S, outlen, "", 0, "", 0, "", 0);
+    return vulfsjor_blake2b_init_salt_personal(S, outlen, VULFSJOR_NULL, 0, "", 0, "", 0);
 }
 
 /* Initializes a state for BLAKE2b digests of outlen bytes, 1 to 64, under a key of 1 to 64 bytes,
  * without salt and personalization. Returns -1 and sets the state to zero if a length is out of
- * range. A key of 0 bytes is refused here. */
+ * range. A key of 0 bytes is refused, also if it is null. */
+VULFSJOR_READS(3, 4)
 static inline int vulfsjor_blake2b_init_key(vulfsjor_blake2b_state *S, size_t outlen,
                                             const void *key, size_t keylen) {
     if (!S) return -1;
@@ -655,16 +713,33 @@ static inline int vulfsjor_blake2b_init_key(vulfsjor_blake2b_state *S, size_t ou
     return vulfsjor_ffi_blake2b_init_key(S, outlen, vulfsjor_text(key), keylen);
 }
 
+/* Initializes a state as vulfsjor_blake2b_init_salt_personal does, under a key of 1 to 64 bytes:
+ * use it where a key is a must. Returns -1 and sets the state to zero if a length is out of range.
+ * A key of 0 bytes is refused, also if it is null. */
+VULFSJOR_READS(3, 4) VULFSJOR_READS(5, 6) VULFSJOR_READS(7, 8)
+static inline int vulfsjor_blake2b_init_mac(vulfsjor_blake2b_state *S, size_t outlen,
+                                            const void *key, size_t keylen, const void *salt,
+                                            size_t saltlen, const void *personal,
+                                            size_t personallen) {
+    if (!S) return -1;
+    memset(S, 0, sizeof *S);
+    if (!keylen) return -1;
+    return vulfsjor_blake2b_init_salt_personal(S, outlen, key, keylen, salt, saltlen, personal,
+                                               personallen);
+}
+
 /* Initializes a state for a node of a tree of hashes with these tree parameters (the BLAKE2
  * document, 2.10). The other arguments are those of vulfsjor_blake2b_init_salt_personal. The
  * last-node flag is off. Returns -1 and sets the state to zero if a length is out of range, if
  * tree->depth is 0, or if tree->inner_length is more than 64. */
+VULFSJOR_READS(3, 4) VULFSJOR_READS(5, 6) VULFSJOR_READS(7, 8)
 static inline int vulfsjor_blake2b_init_tree(
     vulfsjor_blake2b_state *S, size_t outlen, const void *key, size_t keylen, const void *salt,
     size_t saltlen, const void *personal, size_t personallen, const vulfsjor_tree *tree) {
     if (!S) return -1;
     memset(S, 0, sizeof *S);
-    if (!tree || (!key && keylen) || (!salt && saltlen) || (!personal && personallen)) return -1;
+    if (!tree || vulfsjor_are_refused(key, keylen, salt, saltlen, personal, personallen))
+        return -1;
     return vulfsjor_ffi_blake2b_init_tree(S, outlen, vulfsjor_text(key), keylen,
                                           vulfsjor_text(salt), saltlen, vulfsjor_text(personal),
                                           personallen, tree);
@@ -696,32 +771,35 @@ static inline int vulfsjor_blake2b_init_param(vulfsjor_blake2b_state *S,
 /* Absorbs inlen bytes of input. The digest does not depend on how the input is split into calls.
  * Returns -1 if the state is not ready, or if the bytes absorbed since the init or the last reset,
  * with a key's block of 128 bytes, would be 2^64 or more. The state is then unchanged. */
+VULFSJOR_READS(2, 3)
 VULFSJOR_MUST_USE static inline int vulfsjor_blake2b_update(vulfsjor_blake2b_state *S,
                                                             const void *in, size_t inlen) {
     if (!S || (!in && inlen)) return -1;
     return vulfsjor_ffi_blake2b_update(S, vulfsjor_text(in), inlen);
 }
 
-/* Writes the digest of all input to the beginning of out, and wipes the state. outlen is the room
- * in out. It may be more than the length of the digest; the remaining bytes are unchanged. Returns
- * -1 if the state is not ready or the digest is longer than outlen. Then out and the state are
- * unchanged. */
+/* Writes the digest of all input to out, and wipes the state. outlen must be the length of the
+ * digest, vulfsjor_blake2b_digest_size. Returns -1 if it is another or the state is not ready. Then
+ * out and the state are unchanged. */
+VULFSJOR_WRITES(2, 3)
 VULFSJOR_MUST_USE static inline int vulfsjor_blake2b_final(vulfsjor_blake2b_state *S, void *out,
                                                            size_t outlen) {
     if (!S || !out) return -1;
     return vulfsjor_ffi_blake2b_final(S, vulfsjor_bytes(out), outlen);
 }
 
-/* Returns 0 if tag is the whole digest of all input, and -1 otherwise:
+/* Returns 0 if tag is the whole digest of all input under the key, and -1 otherwise:
  *
  *     if (vulfsjor_blake2b_verify(&state, tag, sizeof tag) != 0) return REJECTED;
  *
  * It wipes the state in either case, so copy the state first to try another tag. All bytes of a tag
- * of the right length are compared. The state is unchanged if it was not ready, or if tag is null
- * and taglen is not 0. */
+ * of the right length are compared. Returns -1 too, and leaves the state unchanged, if it has no
+ * key, since anybody can make its digests: compare those by final and vulfsjor_memcmp. Likewise if
+ * it was not ready, or if tag is null and taglen is not 0. */
+VULFSJOR_READS(2, 3)
 VULFSJOR_MUST_USE static inline int vulfsjor_blake2b_verify(vulfsjor_blake2b_state *S,
                                                             const void *tag, size_t taglen) {
-    if (!S || (!tag && taglen)) return -1;
+    if (!S || (!tag && taglen) || !vulfsjor_has_key(S->first, 0xc9)) return -1;
     return vulfsjor_ffi_blake2b_verify(S, vulfsjor_text(tag), taglen);
 }
 
@@ -757,12 +835,13 @@ static inline uint64_t vulfsjor_blake2b_count(const vulfsjor_blake2b_state *S) {
     return S ? vulfsjor_ffi_blake2b_count(S) : 0;
 }
 
-/* Writes the BLAKE2b digest of the input to out: outlen bytes, 1 to 64, under a key of 0 to 64
- * bytes; without a key keylen is 0. Returns -1 and writes nothing if a length is out of range, or
- * if the input and a key's block of 128 bytes have 2^64 bytes or more. */
+/* Writes the BLAKE2b digest of the input to out: outlen bytes, 1 to 64, under a key of 1 to 64
+ * bytes; without a key, key is null and keylen is 0. Returns -1 and writes nothing if a length is
+ * out of range, or if the input and a key's block of 128 bytes have 2^64 bytes or more. */
+VULFSJOR_WRITES(1, 2) VULFSJOR_READS(3, 4) VULFSJOR_READS(5, 6)
 VULFSJOR_MUST_USE static inline int vulfsjor_blake2b(void *out, size_t outlen, const void *in,
                                                      size_t inlen, const void *key, size_t keylen) {
-    if (!out || (!in && inlen) || (!key && keylen)) return -1;
+    if (!out || (!in && inlen) || vulfsjor_is_half_key(key, keylen)) return -1;
     return vulfsjor_ffi_blake2b(vulfsjor_bytes(out), outlen, vulfsjor_text(in), inlen,
                                 vulfsjor_text(key), keylen);
 }
@@ -774,11 +853,13 @@ VULFSJOR_MUST_USE static inline int vulfsjor_blake2b(void *out, size_t outlen, c
  * is faster (docs/SPEED.md has times). Returns -1 and writes nothing if a length is out of range,
  * if a message and a key's block have 2^64 bytes or more, or if out, messages or the bytes of a
  * message are null, even if count or the length is 0. */
+VULFSJOR_READS(3, 4) VULFSJOR_READS(5, 6) VULFSJOR_READS(7, 8) VULFSJOR_READS(9, 10)
 VULFSJOR_MUST_USE static inline int vulfsjor_blake2b_many(
     void *out, size_t outlen, const vulfsjor_message *messages, size_t count, const void *key,
     size_t keylen, const void *salt, size_t saltlen, const void *personal, size_t personallen) {
     if (!out || !messages || vulfsjor_null_message(messages, count) < count) return -1;
-    if ((!key && keylen) || (!salt && saltlen) || (!personal && personallen)) return -1;
+    if (vulfsjor_are_refused(key, keylen, salt, saltlen, personal, personallen))
+        return -1;
     return vulfsjor_ffi_blake2b_many(vulfsjor_bytes(out), count * outlen, outlen, messages, count,
                                      vulfsjor_text(key), keylen, vulfsjor_text(salt), saltlen,
                                      vulfsjor_text(personal), personallen);
@@ -786,17 +867,19 @@ VULFSJOR_MUST_USE static inline int vulfsjor_blake2b_many(
 
 /* -- BLAKE2s */
 
-/* Initializes a state for BLAKE2s digests of outlen bytes, 1 to 32. The key has 0 to 32 bytes;
- * without a key keylen is 0. With a key the digest is a message authentication code. The salt and
- * the personalization have 0 to 8 bytes each, and trailing zeros in them change nothing. Use a
- * different personalization for each purpose. Returns -1 and sets the state to zero if a length is
- * out of range. */
+/* Initializes a state for BLAKE2s digests of outlen bytes, 1 to 32. The key has 1 to 32 bytes;
+ * without a key, key is null and keylen is 0. With a key the digest is a message authentication
+ * code. The salt and the personalization have 0 to 8 bytes each, and trailing zeros in them change
+ * nothing. Use a different personalization for each purpose. Returns -1 and sets the state to zero
+ * if a length is out of range. */
+VULFSJOR_READS(3, 4) VULFSJOR_READS(5, 6) VULFSJOR_READS(7, 8)
 static inline int vulfsjor_blake2s_init_salt_personal(
     vulfsjor_blake2s_state *S, size_t outlen, const void *key, size_t keylen, const void *salt,
     size_t saltlen, const void *personal, size_t personallen) {
     if (!S) return -1;
     memset(S, 0, sizeof *S);
-    if ((!key && keylen) || (!salt && saltlen) || (!personal && personallen)) return -1;
+    if (vulfsjor_are_refused(key, keylen, salt, saltlen, personal, personallen))
+        return -1;
     return vulfsjor_ffi_blake2s_init_salt_personal(S, outlen, vulfsjor_text(key), keylen,
                                                    vulfsjor_text(salt), saltlen,
                                                    vulfsjor_text(personal), personallen);
@@ -805,12 +888,13 @@ static inline int vulfsjor_blake2s_init_salt_personal(
 /* Initializes a state for BLAKE2s digests of outlen bytes, 1 to 32, without key, salt and
  * personalization. Returns -1 and sets the state to zero if outlen is out of range. */
 static inline int vulfsjor_blake2s_init(vulfsjor_blake2s_state *S, size_t outlen) {
-    return vulfsjor_blake2s_init_salt_personal(S, outlen, "", 0, "", 0, "", 0);
+    return vulfsjor_blake2s_init_salt_personal(S, outlen, VULFSJOR_NULL, 0, "", 0, "", 0);
 }
 
 /* Initializes a state for BLAKE2s digests of outlen bytes, 1 to 32, under a key of 1 to 32 bytes,
  * without salt and personalization. Returns -1 and sets the state to zero if a length is out of
- * range. A key of 0 bytes is refused here. */
+ * range. A key of 0 bytes is refused, also if it is null. */
+VULFSJOR_READS(3, 4)
 static inline int vulfsjor_blake2s_init_key(vulfsjor_blake2s_state *S, size_t outlen,
                                             const void *key, size_t keylen) {
     if (!S) return -1;
@@ -819,17 +903,34 @@ static inline int vulfsjor_blake2s_init_key(vulfsjor_blake2s_state *S, size_t ou
     return vulfsjor_ffi_blake2s_init_key(S, outlen, vulfsjor_text(key), keylen);
 }
 
+/* Initializes a state as vulfsjor_blake2s_init_salt_personal does, under a key of 1 to 32 bytes:
+ * use it where a key is a must. Returns -1 and sets the state to zero if a length is out of range.
+ * A key of 0 bytes is refused, also if it is null. */
+VULFSJOR_READS(3, 4) VULFSJOR_READS(5, 6) VULFSJOR_READS(7, 8)
+static inline int vulfsjor_blake2s_init_mac(vulfsjor_blake2s_state *S, size_t outlen,
+                                            const void *key, size_t keylen, const void *salt,
+                                            size_t saltlen, const void *personal,
+                                            size_t personallen) {
+    if (!S) return -1;
+    memset(S, 0, sizeof *S);
+    if (!keylen) return -1;
+    return vulfsjor_blake2s_init_salt_personal(S, outlen, key, keylen, salt, saltlen, personal,
+                                               personallen);
+}
+
 /* Initializes a state for a node of a tree of hashes with these tree parameters (the BLAKE2
  * document, 2.10). The other arguments are those of vulfsjor_blake2s_init_salt_personal. The
  * last-node flag is off. Returns -1 and sets the state to zero if a length is out of range, if
  * tree->depth is 0, if tree->inner_length is more than 32, or if tree->node_offset is 2^48 or
  * more. */
+VULFSJOR_READS(3, 4) VULFSJOR_READS(5, 6) VULFSJOR_READS(7, 8)
 static inline int vulfsjor_blake2s_init_tree(
     vulfsjor_blake2s_state *S, size_t outlen, const void *key, size_t keylen, const void *salt,
     size_t saltlen, const void *personal, size_t personallen, const vulfsjor_tree *tree) {
     if (!S) return -1;
     memset(S, 0, sizeof *S);
-    if (!tree || (!key && keylen) || (!salt && saltlen) || (!personal && personallen)) return -1;
+    if (!tree || vulfsjor_are_refused(key, keylen, salt, saltlen, personal, personallen))
+        return -1;
     return vulfsjor_ffi_blake2s_init_tree(S, outlen, vulfsjor_text(key), keylen,
                                           vulfsjor_text(salt), saltlen, vulfsjor_text(personal),
                                           personallen, tree);
@@ -860,32 +961,35 @@ static inline int vulfsjor_blake2s_init_param(vulfsjor_blake2s_state *S,
 /* Absorbs inlen bytes of input. The digest does not depend on how the input is split into calls.
  * Returns -1 if the state is not ready, or if the bytes absorbed since the init or the last reset,
  * with a key's block of 64 bytes, would be 2^64 or more. The state is then unchanged. */
+VULFSJOR_READS(2, 3)
 VULFSJOR_MUST_USE static inline int vulfsjor_blake2s_update(vulfsjor_blake2s_state *S,
                                                             const void *in, size_t inlen) {
     if (!S || (!in && inlen)) return -1;
     return vulfsjor_ffi_blake2s_update(S, vulfsjor_text(in), inlen);
 }
 
-/* Writes the digest of all input to the beginning of out, and wipes the state. outlen is the room
- * in out. It may be more than the length of the digest; the remaining bytes are unchanged. Returns
- * -1 if the state is not ready or the digest is longer than outlen. Then out and the state are
- * unchanged. */
+/* Writes the digest of all input to out, and wipes the state. outlen must be the length of the
+ * digest, vulfsjor_blake2s_digest_size. Returns -1 if it is another or the state is not ready. Then
+ * out and the state are unchanged. */
+VULFSJOR_WRITES(2, 3)
 VULFSJOR_MUST_USE static inline int vulfsjor_blake2s_final(vulfsjor_blake2s_state *S, void *out,
                                                            size_t outlen) {
     if (!S || !out) return -1;
     return vulfsjor_ffi_blake2s_final(S, vulfsjor_bytes(out), outlen);
 }
 
-/* Returns 0 if tag is the whole digest of all input, and -1 otherwise:
+/* Returns 0 if tag is the whole digest of all input under the key, and -1 otherwise:
  *
  *     if (vulfsjor_blake2s_verify(&state, tag, sizeof tag) != 0) return REJECTED;
  *
  * It wipes the state in either case, so copy the state first to try another tag. All bytes of a tag
- * of the right length are compared. The state is unchanged if it was not ready, or if tag is null
- * and taglen is not 0. */
+ * of the right length are compared. Returns -1 too, and leaves the state unchanged, if it has no
+ * key, since anybody can make its digests: compare those by final and vulfsjor_memcmp. Likewise if
+ * it was not ready, or if tag is null and taglen is not 0. */
+VULFSJOR_READS(2, 3)
 VULFSJOR_MUST_USE static inline int vulfsjor_blake2s_verify(vulfsjor_blake2s_state *S,
                                                             const void *tag, size_t taglen) {
-    if (!S || (!tag && taglen)) return -1;
+    if (!S || (!tag && taglen) || !vulfsjor_has_key(S->first, 0xe6)) return -1;
     return vulfsjor_ffi_blake2s_verify(S, vulfsjor_text(tag), taglen);
 }
 
@@ -921,12 +1025,13 @@ static inline uint64_t vulfsjor_blake2s_count(const vulfsjor_blake2s_state *S) {
     return S ? vulfsjor_ffi_blake2s_count(S) : 0;
 }
 
-/* Writes the BLAKE2s digest of the input to out: outlen bytes, 1 to 32, under a key of 0 to 32
- * bytes; without a key keylen is 0. Returns -1 and writes nothing if a length is out of range, or
- * if the input and a key's block of 64 bytes have 2^64 bytes or more. */
+/* Writes the BLAKE2s digest of the input to out: outlen bytes, 1 to 32, under a key of 1 to 32
+ * bytes; without a key, key is null and keylen is 0. Returns -1 and writes nothing if a length is
+ * out of range, or if the input and a key's block of 64 bytes have 2^64 bytes or more. */
+VULFSJOR_WRITES(1, 2) VULFSJOR_READS(3, 4) VULFSJOR_READS(5, 6)
 VULFSJOR_MUST_USE static inline int vulfsjor_blake2s(void *out, size_t outlen, const void *in,
                                                      size_t inlen, const void *key, size_t keylen) {
-    if (!out || (!in && inlen) || (!key && keylen)) return -1;
+    if (!out || (!in && inlen) || vulfsjor_is_half_key(key, keylen)) return -1;
     return vulfsjor_ffi_blake2s(vulfsjor_bytes(out), outlen, vulfsjor_text(in), inlen,
                                 vulfsjor_text(key), keylen);
 }
@@ -938,11 +1043,13 @@ VULFSJOR_MUST_USE static inline int vulfsjor_blake2s(void *out, size_t outlen, c
  * (docs/SPEED.md has times). Returns -1 and writes nothing if a length is out of range, if a
  * message and a key's block have 2^64 bytes or more, or if out, messages or the bytes of a message
  * are null, even if count or the length is 0. */
+VULFSJOR_READS(3, 4) VULFSJOR_READS(5, 6) VULFSJOR_READS(7, 8) VULFSJOR_READS(9, 10)
 VULFSJOR_MUST_USE static inline int vulfsjor_blake2s_many(
     void *out, size_t outlen, const vulfsjor_message *messages, size_t count, const void *key,
     size_t keylen, const void *salt, size_t saltlen, const void *personal, size_t personallen) {
     if (!out || !messages || vulfsjor_null_message(messages, count) < count) return -1;
-    if ((!key && keylen) || (!salt && saltlen) || (!personal && personallen)) return -1;
+    if (vulfsjor_are_refused(key, keylen, salt, saltlen, personal, personallen))
+        return -1;
     return vulfsjor_ffi_blake2s_many(vulfsjor_bytes(out), count * outlen, outlen, messages, count,
                                      vulfsjor_text(key), keylen, vulfsjor_text(salt), saltlen,
                                      vulfsjor_text(personal), personallen);
@@ -953,17 +1060,20 @@ VULFSJOR_MUST_USE static inline int vulfsjor_blake2s_many(
  * in parallel: long messages are hashed faster than by BLAKE2b, and short ones slower
  * (docs/SPEED.md has times). The digest is not the BLAKE2b digest of the message. */
 
-/* Initializes a state for BLAKE2bp digests of outlen bytes, 1 to 64. The key has 0 to 64 bytes;
- * without a key keylen is 0. With a key the digest is a message authentication code. The salt and
- * the personalization have 0 to 16 bytes each, and trailing zeros in them change nothing. They are
- * an extension: the BLAKE2 document gives BLAKE2bp neither. Here they are in the parameter block of
- * each node. Returns -1 and sets the state to zero if a length is out of range. */
+/* Initializes a state for BLAKE2bp digests of outlen bytes, 1 to 64. The key has 1 to 64 bytes;
+ * without a key, key is null and keylen is 0. With a key the digest is a message authentication
+ * code. The salt and the personalization have 0 to 16 bytes each, and trailing zeros in them change
+ * nothing. They are an extension: the BLAKE2 document gives BLAKE2bp neither. Here they are in the
+ * parameter block of each node. Returns -1 and sets the state to zero if a length is out of
+ * range. */
+VULFSJOR_READS(3, 4) VULFSJOR_READS(5, 6) VULFSJOR_READS(7, 8)
 static inline int vulfsjor_blake2bp_init_salt_personal(
     vulfsjor_blake2bp_state *S, size_t outlen, const void *key, size_t keylen, const void *salt,
     size_t saltlen, const void *personal, size_t personallen) {
     if (!S) return -1;
     memset(S, 0, sizeof *S);
-    if ((!key && keylen) || (!salt && saltlen) || (!personal && personallen)) return -1;
+    if (vulfsjor_are_refused(key, keylen, salt, saltlen, personal, personallen))
+        return -1;
     return vulfsjor_ffi_blake2bp_init_salt_personal(S, outlen, vulfsjor_text(key), keylen,
                                                     vulfsjor_text(salt), saltlen,
                                                     vulfsjor_text(personal), personallen);
@@ -972,12 +1082,13 @@ static inline int vulfsjor_blake2bp_init_salt_personal(
 /* Initializes a state for BLAKE2bp digests of outlen bytes, 1 to 64, without key, salt and
  * personalization. Returns -1 and sets the state to zero if outlen is out of range. */
 static inline int vulfsjor_blake2bp_init(vulfsjor_blake2bp_state *S, size_t outlen) {
-    return vulfsjor_blake2bp_init_salt_personal(S, outlen, "", 0, "", 0, "", 0);
+    return vulfsjor_blake2bp_init_salt_personal(S, outlen, VULFSJOR_NULL, 0, "", 0, "", 0);
 }
 
 /* Initializes a state for BLAKE2bp digests of outlen bytes, 1 to 64, under a key of 1 to 64 bytes,
  * without salt and personalization. Returns -1 and sets the state to zero if a length is out of
- * range. A key of 0 bytes is refused here. */
+ * range. A key of 0 bytes is refused, also if it is null. */
+VULFSJOR_READS(3, 4)
 static inline int vulfsjor_blake2bp_init_key(vulfsjor_blake2bp_state *S, size_t outlen,
                                              const void *key, size_t keylen) {
     if (!S) return -1;
@@ -986,33 +1097,50 @@ static inline int vulfsjor_blake2bp_init_key(vulfsjor_blake2bp_state *S, size_t 
     return vulfsjor_ffi_blake2bp_init_key(S, outlen, vulfsjor_text(key), keylen);
 }
 
+/* Initializes a state as vulfsjor_blake2bp_init_salt_personal does, under a key of 1 to 64 bytes:
+ * use it where a key is a must. Returns -1 and sets the state to zero if a length is out of range.
+ * A key of 0 bytes is refused, also if it is null. */
+VULFSJOR_READS(3, 4) VULFSJOR_READS(5, 6) VULFSJOR_READS(7, 8)
+static inline int vulfsjor_blake2bp_init_mac(vulfsjor_blake2bp_state *S, size_t outlen,
+                                             const void *key, size_t keylen, const void *salt,
+                                             size_t saltlen, const void *personal,
+                                             size_t personallen) {
+    if (!S) return -1;
+    memset(S, 0, sizeof *S);
+    if (!keylen) return -1;
+    return vulfsjor_blake2bp_init_salt_personal(S, outlen, key, keylen, salt, saltlen, personal,
+                                                personallen);
+}
+
 /* Absorbs inlen bytes of input. The digest does not depend on how the input is split into calls.
  * Pieces of at least 4096 bytes are fastest. Returns -1 if the state is not ready, or if the bytes
  * absorbed since the init or the last reset, with 512 bytes for a key, would be 2^64 or more. The
  * state is then unchanged. */
+VULFSJOR_READS(2, 3)
 VULFSJOR_MUST_USE static inline int vulfsjor_blake2bp_update(vulfsjor_blake2bp_state *S,
                                                              const void *in, size_t inlen) {
     if (!S || (!in && inlen)) return -1;
     return vulfsjor_ffi_blake2bp_update(S, vulfsjor_text(in), inlen);
 }
 
-/* Writes the digest of all input to the beginning of out, and wipes the state. outlen is the room
- * in out. It may be more than the length of the digest; the remaining bytes are unchanged. Returns
- * -1 if the state is not ready or the digest is longer than outlen. Then out and the state are
- * unchanged. */
+/* Writes the digest of all input to out, and wipes the state. outlen must be the length of the
+ * digest, vulfsjor_blake2bp_digest_size. Returns -1 if it is another or the state is not ready. Then
+ * out and the state are unchanged. */
+VULFSJOR_WRITES(2, 3)
 VULFSJOR_MUST_USE static inline int vulfsjor_blake2bp_final(vulfsjor_blake2bp_state *S, void *out,
                                                             size_t outlen) {
     if (!S || !out) return -1;
     return vulfsjor_ffi_blake2bp_final(S, vulfsjor_bytes(out), outlen);
 }
 
-/* Returns 0 if tag is the whole digest of all input, and -1 otherwise, as vulfsjor_blake2b_verify
- * does. It wipes the state in either case, so copy the state first to try another tag. All bytes of
- * a tag of the right length are compared. The state is unchanged if it was not ready, or if tag is
- * null and taglen is not 0. */
+/* Returns 0 if tag is the whole digest of all input under the key, and -1 otherwise, as
+ * vulfsjor_blake2b_verify does. It wipes the state in either case, so copy the state first to try
+ * another tag. All bytes of a tag of the right length are compared. Returns -1 too, and leaves the
+ * state unchanged, if it has no key, if it was not ready, or if tag is null and taglen is not 0. */
+VULFSJOR_READS(2, 3)
 VULFSJOR_MUST_USE static inline int vulfsjor_blake2bp_verify(vulfsjor_blake2bp_state *S,
                                                              const void *tag, size_t taglen) {
-    if (!S || (!tag && taglen)) return -1;
+    if (!S || (!tag && taglen) || !vulfsjor_has_key(S->root, 0xc9)) return -1;
     return vulfsjor_ffi_blake2bp_verify(S, vulfsjor_text(tag), taglen);
 }
 
@@ -1039,13 +1167,14 @@ static inline uint64_t vulfsjor_blake2bp_count(const vulfsjor_blake2bp_state *S)
     return S ? vulfsjor_ffi_blake2bp_count(S) : 0;
 }
 
-/* Writes the BLAKE2bp digest of the input to out: outlen bytes, 1 to 64, under a key of 0 to 64
- * bytes; without a key keylen is 0. Returns -1 and writes nothing if a length is out of range, or
- * if the input and 512 bytes for a key have 2^64 bytes or more. */
+/* Writes the BLAKE2bp digest of the input to out: outlen bytes, 1 to 64, under a key of 1 to 64
+ * bytes; without a key, key is null and keylen is 0. Returns -1 and writes nothing if a length is
+ * out of range, or if the input and 512 bytes for a key have 2^64 bytes or more. */
+VULFSJOR_WRITES(1, 2) VULFSJOR_READS(3, 4) VULFSJOR_READS(5, 6)
 VULFSJOR_MUST_USE static inline int vulfsjor_blake2bp(void *out, size_t outlen, const void *in,
                                                       size_t inlen, const void *key,
                                                       size_t keylen) {
-    if (!out || (!in && inlen) || (!key && keylen)) return -1;
+    if (!out || (!in && inlen) || vulfsjor_is_half_key(key, keylen)) return -1;
     return vulfsjor_ffi_blake2bp(vulfsjor_bytes(out), outlen, vulfsjor_text(in), inlen,
                                  vulfsjor_text(key), keylen);
 }
@@ -1055,17 +1184,20 @@ VULFSJOR_MUST_USE static inline int vulfsjor_blake2bp(void *out, size_t outlen, 
  * in parallel: long messages are hashed faster than by BLAKE2s, and short ones slower
  * (docs/SPEED.md has times). The digest is not the BLAKE2s digest of the message. */
 
-/* Initializes a state for BLAKE2sp digests of outlen bytes, 1 to 32. The key has 0 to 32 bytes;
- * without a key keylen is 0. With a key the digest is a message authentication code. The salt and
- * the personalization have 0 to 8 bytes each, and trailing zeros in them change nothing. They are
- * an extension: the BLAKE2 document gives BLAKE2sp neither. Here they are in the parameter block of
- * each node. Returns -1 and sets the state to zero if a length is out of range. */
+/* Initializes a state for BLAKE2sp digests of outlen bytes, 1 to 32. The key has 1 to 32 bytes;
+ * without a key, key is null and keylen is 0. With a key the digest is a message authentication
+ * code. The salt and the personalization have 0 to 8 bytes each, and trailing zeros in them change
+ * nothing. They are an extension: the BLAKE2 document gives BLAKE2sp neither. Here they are in the
+ * parameter block of each node. Returns -1 and sets the state to zero if a length is out of
+ * range. */
+VULFSJOR_READS(3, 4) VULFSJOR_READS(5, 6) VULFSJOR_READS(7, 8)
 static inline int vulfsjor_blake2sp_init_salt_personal(
     vulfsjor_blake2sp_state *S, size_t outlen, const void *key, size_t keylen, const void *salt,
     size_t saltlen, const void *personal, size_t personallen) {
     if (!S) return -1;
     memset(S, 0, sizeof *S);
-    if ((!key && keylen) || (!salt && saltlen) || (!personal && personallen)) return -1;
+    if (vulfsjor_are_refused(key, keylen, salt, saltlen, personal, personallen))
+        return -1;
     return vulfsjor_ffi_blake2sp_init_salt_personal(S, outlen, vulfsjor_text(key), keylen,
                                                     vulfsjor_text(salt), saltlen,
                                                     vulfsjor_text(personal), personallen);
@@ -1074,12 +1206,13 @@ static inline int vulfsjor_blake2sp_init_salt_personal(
 /* Initializes a state for BLAKE2sp digests of outlen bytes, 1 to 32, without key, salt and
  * personalization. Returns -1 and sets the state to zero if outlen is out of range. */
 static inline int vulfsjor_blake2sp_init(vulfsjor_blake2sp_state *S, size_t outlen) {
-    return vulfsjor_blake2sp_init_salt_personal(S, outlen, "", 0, "", 0, "", 0);
+    return vulfsjor_blake2sp_init_salt_personal(S, outlen, VULFSJOR_NULL, 0, "", 0, "", 0);
 }
 
 /* Initializes a state for BLAKE2sp digests of outlen bytes, 1 to 32, under a key of 1 to 32 bytes,
  * without salt and personalization. Returns -1 and sets the state to zero if a length is out of
- * range. A key of 0 bytes is refused here. */
+ * range. A key of 0 bytes is refused, also if it is null. */
+VULFSJOR_READS(3, 4)
 static inline int vulfsjor_blake2sp_init_key(vulfsjor_blake2sp_state *S, size_t outlen,
                                              const void *key, size_t keylen) {
     if (!S) return -1;
@@ -1088,33 +1221,50 @@ static inline int vulfsjor_blake2sp_init_key(vulfsjor_blake2sp_state *S, size_t 
     return vulfsjor_ffi_blake2sp_init_key(S, outlen, vulfsjor_text(key), keylen);
 }
 
+/* Initializes a state as vulfsjor_blake2sp_init_salt_personal does, under a key of 1 to 32 bytes:
+ * use it where a key is a must. Returns -1 and sets the state to zero if a length is out of range.
+ * A key of 0 bytes is refused, also if it is null. */
+VULFSJOR_READS(3, 4) VULFSJOR_READS(5, 6) VULFSJOR_READS(7, 8)
+static inline int vulfsjor_blake2sp_init_mac(vulfsjor_blake2sp_state *S, size_t outlen,
+                                             const void *key, size_t keylen, const void *salt,
+                                             size_t saltlen, const void *personal,
+                                             size_t personallen) {
+    if (!S) return -1;
+    memset(S, 0, sizeof *S);
+    if (!keylen) return -1;
+    return vulfsjor_blake2sp_init_salt_personal(S, outlen, key, keylen, salt, saltlen, personal,
+                                                personallen);
+}
+
 /* Absorbs inlen bytes of input. The digest does not depend on how the input is split into calls.
  * Pieces of at least 4096 bytes are fastest. Returns -1 if the state is not ready, or if the bytes
  * absorbed since the init or the last reset, with 512 bytes for a key, would be 2^64 or more. The
  * state is then unchanged. */
+VULFSJOR_READS(2, 3)
 VULFSJOR_MUST_USE static inline int vulfsjor_blake2sp_update(vulfsjor_blake2sp_state *S,
                                                              const void *in, size_t inlen) {
     if (!S || (!in && inlen)) return -1;
     return vulfsjor_ffi_blake2sp_update(S, vulfsjor_text(in), inlen);
 }
 
-/* Writes the digest of all input to the beginning of out, and wipes the state. outlen is the room
- * in out. It may be more than the length of the digest; the remaining bytes are unchanged. Returns
- * -1 if the state is not ready or the digest is longer than outlen. Then out and the state are
- * unchanged. */
+/* Writes the digest of all input to out, and wipes the state. outlen must be the length of the
+ * digest, vulfsjor_blake2sp_digest_size. Returns -1 if it is another or the state is not ready. Then
+ * out and the state are unchanged. */
+VULFSJOR_WRITES(2, 3)
 VULFSJOR_MUST_USE static inline int vulfsjor_blake2sp_final(vulfsjor_blake2sp_state *S, void *out,
                                                             size_t outlen) {
     if (!S || !out) return -1;
     return vulfsjor_ffi_blake2sp_final(S, vulfsjor_bytes(out), outlen);
 }
 
-/* Returns 0 if tag is the whole digest of all input, and -1 otherwise, as vulfsjor_blake2s_verify
- * does. It wipes the state in either case, so copy the state first to try another tag. All bytes of
- * a tag of the right length are compared. The state is unchanged if it was not ready, or if tag is
- * null and taglen is not 0. */
+/* Returns 0 if tag is the whole digest of all input under the key, and -1 otherwise, as
+ * vulfsjor_blake2s_verify does. It wipes the state in either case, so copy the state first to try
+ * another tag. All bytes of a tag of the right length are compared. Returns -1 too, and leaves the
+ * state unchanged, if it has no key, if it was not ready, or if tag is null and taglen is not 0. */
+VULFSJOR_READS(2, 3)
 VULFSJOR_MUST_USE static inline int vulfsjor_blake2sp_verify(vulfsjor_blake2sp_state *S,
                                                              const void *tag, size_t taglen) {
-    if (!S || (!tag && taglen)) return -1;
+    if (!S || (!tag && taglen) || !vulfsjor_has_key(S->root, 0xe6)) return -1;
     return vulfsjor_ffi_blake2sp_verify(S, vulfsjor_text(tag), taglen);
 }
 
@@ -1141,13 +1291,14 @@ static inline uint64_t vulfsjor_blake2sp_count(const vulfsjor_blake2sp_state *S)
     return S ? vulfsjor_ffi_blake2sp_count(S) : 0;
 }
 
-/* Writes the BLAKE2sp digest of the input to out: outlen bytes, 1 to 32, under a key of 0 to 32
- * bytes; without a key keylen is 0. Returns -1 and writes nothing if a length is out of range, or
- * if the input and 512 bytes for a key have 2^64 bytes or more. */
+/* Writes the BLAKE2sp digest of the input to out: outlen bytes, 1 to 32, under a key of 1 to 32
+ * bytes; without a key, key is null and keylen is 0. Returns -1 and writes nothing if a length is
+ * out of range, or if the input and 512 bytes for a key have 2^64 bytes or more. */
+VULFSJOR_WRITES(1, 2) VULFSJOR_READS(3, 4) VULFSJOR_READS(5, 6)
 VULFSJOR_MUST_USE static inline int vulfsjor_blake2sp(void *out, size_t outlen, const void *in,
                                                       size_t inlen, const void *key,
                                                       size_t keylen) {
-    if (!out || (!in && inlen) || (!key && keylen)) return -1;
+    if (!out || (!in && inlen) || vulfsjor_is_half_key(key, keylen)) return -1;
     return vulfsjor_ffi_blake2sp(vulfsjor_bytes(out), outlen, vulfsjor_text(in), inlen,
                                  vulfsjor_text(key), keylen);
 }
@@ -1158,15 +1309,17 @@ VULFSJOR_MUST_USE static inline int vulfsjor_blake2sp(void *out, size_t outlen, 
 
 /* Initializes a state for an output of xoflen bytes, 1 to 2^32 - 2, or of
  * VULFSJOR_BLAKE2XB_UNKNOWN_LENGTH if the length is not known in advance: then 256 GiB can be read.
- * The key has 0 to 64 bytes; without a key keylen is 0. The salt and the personalization have 0 to
- * 16 bytes each, and trailing zeros in them change nothing. Returns -1 and sets the state to zero if
- * a length is out of range. */
+ * The key has 1 to 64 bytes; without a key, key is null and keylen is 0. The salt and the
+ * personalization have 0 to 16 bytes each, and trailing zeros in them change nothing. Returns -1
+ * and sets the state to zero if a length is out of range. */
+VULFSJOR_READS(3, 4) VULFSJOR_READS(5, 6) VULFSJOR_READS(7, 8)
 static inline int vulfsjor_blake2xb_init_salt_personal(
     vulfsjor_blake2xb_state *S, size_t xoflen, const void *key, size_t keylen, const void *salt,
     size_t saltlen, const void *personal, size_t personallen) {
     if (!S) return -1;
     memset(S, 0, sizeof *S);
-    if ((!key && keylen) || (!salt && saltlen) || (!personal && personallen)) return -1;
+    if (vulfsjor_are_refused(key, keylen, salt, saltlen, personal, personallen))
+        return -1;
     return vulfsjor_ffi_blake2xb_init_salt_personal(S, xoflen, vulfsjor_text(key), keylen,
                                                     vulfsjor_text(salt), saltlen,
                                                     vulfsjor_text(personal), personallen);
@@ -1176,12 +1329,13 @@ static inline int vulfsjor_blake2xb_init_salt_personal(
  * without key, salt and personalization. Returns -1 and sets the state to zero if xoflen is out of
  * range. */
 static inline int vulfsjor_blake2xb_init(vulfsjor_blake2xb_state *S, size_t xoflen) {
-    return vulfsjor_blake2xb_init_salt_personal(S, xoflen, "", 0, "", 0, "", 0);
+    return vulfsjor_blake2xb_init_salt_personal(S, xoflen, VULFSJOR_NULL, 0, "", 0, "", 0);
 }
 
 /* Initializes a state for an output of xoflen bytes, as vulfsjor_blake2xb_init_salt_personal does,
  * under a key of 1 to 64 bytes, without salt and personalization. Returns -1 and sets the state to
- * zero if a length is out of range. A key of 0 bytes is refused here. */
+ * zero if a length is out of range. A key of 0 bytes is refused, also if it is null. */
+VULFSJOR_READS(3, 4)
 static inline int vulfsjor_blake2xb_init_key(vulfsjor_blake2xb_state *S, size_t xoflen,
                                              const void *key, size_t keylen) {
     if (!S) return -1;
@@ -1190,10 +1344,26 @@ static inline int vulfsjor_blake2xb_init_key(vulfsjor_blake2xb_state *S, size_t 
     return vulfsjor_blake2xb_init_salt_personal(S, xoflen, key, keylen, "", 0, "", 0);
 }
 
+/* Initializes a state as vulfsjor_blake2xb_init_salt_personal does, under a key of 1 to 64 bytes:
+ * use it where a key is a must. Returns -1 and sets the state to zero if a length is out of range.
+ * A key of 0 bytes is refused, also if it is null. */
+VULFSJOR_READS(3, 4) VULFSJOR_READS(5, 6) VULFSJOR_READS(7, 8)
+static inline int vulfsjor_blake2xb_init_mac(vulfsjor_blake2xb_state *S, size_t xoflen,
+                                             const void *key, size_t keylen, const void *salt,
+                                             size_t saltlen, const void *personal,
+                                             size_t personallen) {
+    if (!S) return -1;
+    memset(S, 0, sizeof *S);
+    if (!keylen) return -1;
+    return vulfsjor_blake2xb_init_salt_personal(S, xoflen, key, keylen, salt, saltlen, personal,
+                                                personallen);
+}
+
 /* Absorbs inlen bytes of input. The output does not depend on how the input is split into calls.
  * Returns -1 if the state is not ready, if its output is already being read, or if the bytes
  * absorbed since the init or the last reset, with 128 bytes for a key, would be 2^64 or more. The
  * state is then unchanged. */
+VULFSJOR_READS(2, 3)
 VULFSJOR_MUST_USE static inline int vulfsjor_blake2xb_update(vulfsjor_blake2xb_state *S,
                                                              const void *in, size_t inlen) {
     if (!S || (!in && inlen)) return -1;
@@ -1203,6 +1373,7 @@ VULFSJOR_MUST_USE static inline int vulfsjor_blake2xb_update(vulfsjor_blake2xb_s
 /* Writes the next outlen bytes of the output to out. The output does not depend on how it is split
  * into calls. The first call ends the input. Returns -1 and writes nothing if the state is not
  * ready, or if fewer than outlen bytes of the output are left. The state is then unchanged. */
+VULFSJOR_WRITES(2, 3)
 VULFSJOR_MUST_USE static inline int vulfsjor_blake2xb_squeeze(vulfsjor_blake2xb_state *S, void *out,
                                                               size_t outlen) {
     uint8_t none;
@@ -1233,13 +1404,14 @@ static inline uint64_t vulfsjor_blake2xb_count(const vulfsjor_blake2xb_state *S)
     return S ? vulfsjor_ffi_blake2xb_count(S) : 0;
 }
 
-/* Writes the BLAKE2Xb output of the input to out: outlen bytes, 1 to 2^32 - 2, under a key of 0 to
- * 64 bytes; without a key keylen is 0. Returns -1 and writes nothing if a length is out of range, or
- * if the input and 128 bytes for a key have 2^64 bytes or more. */
+/* Writes the BLAKE2Xb output of the input to out: outlen bytes, 1 to 2^32 - 2, under a key of 1 to
+ * 64 bytes; without a key, key is null and keylen is 0. Returns -1 and writes nothing if a length
+ * is out of range, or if the input and 128 bytes for a key have 2^64 bytes or more. */
+VULFSJOR_WRITES(1, 2) VULFSJOR_READS(3, 4) VULFSJOR_READS(5, 6)
 VULFSJOR_MUST_USE static inline int vulfsjor_blake2xb(void *out, size_t outlen, const void *in,
                                                       size_t inlen, const void *key,
                                                       size_t keylen) {
-    if (!out || (!in && inlen) || (!key && keylen)) return -1;
+    if (!out || (!in && inlen) || vulfsjor_is_half_key(key, keylen)) return -1;
     return vulfsjor_ffi_blake2xb(vulfsjor_bytes(out), outlen, vulfsjor_text(in), inlen,
                                  vulfsjor_text(key), keylen);
 }
@@ -1249,6 +1421,7 @@ VULFSJOR_MUST_USE static inline int vulfsjor_blake2xb(void *out, size_t outlen, 
  * different contexts, and keys of different lengths, are outputs of different inputs. Returns -1 and
  * writes nothing if a length is out of range, or if the context and 128 bytes have 2^64 bytes or
  * more. */
+VULFSJOR_WRITES(1, 2) VULFSJOR_READS(3, 4) VULFSJOR_READS(5, 6)
 VULFSJOR_MUST_USE static inline int vulfsjor_blake2xb_derive_key(void *out, size_t outlen,
                                                                  const void *key, size_t keylen,
                                                                  const void *context,
@@ -1264,15 +1437,17 @@ VULFSJOR_MUST_USE static inline int vulfsjor_blake2xb_derive_key(void *out, size
 
 /* Initializes a state for an output of xoflen bytes, 1 to 2^16 - 2, or of
  * VULFSJOR_BLAKE2XS_UNKNOWN_LENGTH if the length is not known in advance: then 128 GiB can be read.
- * The key has 0 to 32 bytes; without a key keylen is 0. The salt and the personalization have 0 to
- * 16 bytes each, and trailing zeros in them change nothing. Returns -1 and sets the state to zero if
- * a length is out of range. */
+ * The key has 1 to 32 bytes; without a key, key is null and keylen is 0. The salt and the
+ * personalization have 0 to 8 bytes each, and trailing zeros in them change nothing. Returns -1 and
+ * sets the state to zero if a length is out of range. */
+VULFSJOR_READS(3, 4) VULFSJOR_READS(5, 6) VULFSJOR_READS(7, 8)
 static inline int vulfsjor_blake2xs_init_salt_personal(
     vulfsjor_blake2xs_state *S, size_t xoflen, const void *key, size_t keylen, const void *salt,
     size_t saltlen, const void *personal, size_t personallen) {
     if (!S) return -1;
     memset(S, 0, sizeof *S);
-    if ((!key && keylen) || (!salt && saltlen) || (!personal && personallen)) return -1;
+    if (vulfsjor_are_refused(key, keylen, salt, saltlen, personal, personallen))
+        return -1;
     return vulfsjor_ffi_blake2xs_init_salt_personal(S, xoflen, vulfsjor_text(key), keylen,
                                                     vulfsjor_text(salt), saltlen,
                                                     vulfsjor_text(personal), personallen);
@@ -1282,12 +1457,13 @@ static inline int vulfsjor_blake2xs_init_salt_personal(
  * without key, salt and personalization. Returns -1 and sets the state to zero if xoflen is out of
  * range. */
 static inline int vulfsjor_blake2xs_init(vulfsjor_blake2xs_state *S, size_t xoflen) {
-    return vulfsjor_blake2xs_init_salt_personal(S, xoflen, "", 0, "", 0, "", 0);
+    return vulfsjor_blake2xs_init_salt_personal(S, xoflen, VULFSJOR_NULL, 0, "", 0, "", 0);
 }
 
 /* Initializes a state for an output of xoflen bytes, as vulfsjor_blake2xs_init_salt_personal does,
  * under a key of 1 to 32 bytes, without salt and personalization. Returns -1 and sets the state to
- * zero if a length is out of range. A key of 0 bytes is refused here. */
+ * zero if a length is out of range. A key of 0 bytes is refused, also if it is null. */
+VULFSJOR_READS(3, 4)
 static inline int vulfsjor_blake2xs_init_key(vulfsjor_blake2xs_state *S, size_t xoflen,
                                              const void *key, size_t keylen) {
     if (!S) return -1;
@@ -1296,10 +1472,26 @@ static inline int vulfsjor_blake2xs_init_key(vulfsjor_blake2xs_state *S, size_t 
     return vulfsjor_blake2xs_init_salt_personal(S, xoflen, key, keylen, "", 0, "", 0);
 }
 
+/* Initializes a state as vulfsjor_blake2xs_init_salt_personal does, under a key of 1 to 32 bytes:
+ * use it where a key is a must. Returns -1 and sets the state to zero if a length is out of range.
+ * A key of 0 bytes is refused, also if it is null. */
+VULFSJOR_READS(3, 4) VULFSJOR_READS(5, 6) VULFSJOR_READS(7, 8)
+static inline int vulfsjor_blake2xs_init_mac(vulfsjor_blake2xs_state *S, size_t xoflen,
+                                             const void *key, size_t keylen, const void *salt,
+                                             size_t saltlen, const void *personal,
+                                             size_t personallen) {
+    if (!S) return -1;
+    memset(S, 0, sizeof *S);
+    if (!keylen) return -1;
+    return vulfsjor_blake2xs_init_salt_personal(S, xoflen, key, keylen, salt, saltlen, personal,
+                                                personallen);
+}
+
 /* Absorbs inlen bytes of input. The output does not depend on how the input is split into calls.
  * Returns -1 if the state is not ready, if its output is already being read, or if the bytes
  * absorbed since the init or the last reset, with 64 bytes for a key, would be 2^64 or more. The
  * state is then unchanged. */
+VULFSJOR_READS(2, 3)
 VULFSJOR_MUST_USE static inline int vulfsjor_blake2xs_update(vulfsjor_blake2xs_state *S,
                                                              const void *in, size_t inlen) {
     if (!S || (!in && inlen)) return -1;
@@ -1309,6 +1501,7 @@ VULFSJOR_MUST_USE static inline int vulfsjor_blake2xs_update(vulfsjor_blake2xs_s
 /* Writes the next outlen bytes of the output to out. The output does not depend on how it is split
  * into calls. The first call ends the input. Returns -1 and writes nothing if the state is not
  * ready, or if fewer than outlen bytes of the output are left. The state is then unchanged. */
+VULFSJOR_WRITES(2, 3)
 VULFSJOR_MUST_USE static inline int vulfsjor_blake2xs_squeeze(vulfsjor_blake2xs_state *S, void *out,
                                                               size_t outlen) {
     uint8_t none;
@@ -1339,13 +1532,14 @@ static inline uint64_t vulfsjor_blake2xs_count(const vulfsjor_blake2xs_state *S)
     return S ? vulfsjor_ffi_blake2xs_count(S) : 0;
 }
 
-/* Writes the BLAKE2Xs output of the input to out: outlen bytes, 1 to 2^16 - 2, under a key of 0 to
- * 64 bytes; without a key keylen is 0. Returns -1 and writes nothing if a length is out of range, or
- * if the input and 64 bytes for a key have 2^64 bytes or more. */
+/* Writes the BLAKE2Xs output of the input to out: outlen bytes, 1 to 2^16 - 2, under a key of 1 to
+ * 32 bytes; without a key, key is null and keylen is 0. Returns -1 and writes nothing if a length
+ * is out of range, or if the input and 64 bytes for a key have 2^64 bytes or more. */
+VULFSJOR_WRITES(1, 2) VULFSJOR_READS(3, 4) VULFSJOR_READS(5, 6)
 VULFSJOR_MUST_USE static inline int vulfsjor_blake2xs(void *out, size_t outlen, const void *in,
                                                       size_t inlen, const void *key,
                                                       size_t keylen) {
-    if (!out || (!in && inlen) || (!key && keylen)) return -1;
+    if (!out || (!in && inlen) || vulfsjor_is_half_key(key, keylen)) return -1;
     return vulfsjor_ffi_blake2xs(vulfsjor_bytes(out), outlen, vulfsjor_text(in), inlen,
                                  vulfsjor_text(key), keylen);
 }
@@ -1355,6 +1549,7 @@ VULFSJOR_MUST_USE static inline int vulfsjor_blake2xs(void *out, size_t outlen, 
  * different contexts, and keys of different lengths, are outputs of different inputs. Returns -1 and
  * writes nothing if a length is out of range, or if the context and 64 bytes have 2^64 bytes or
  * more. */
+VULFSJOR_WRITES(1, 2) VULFSJOR_READS(3, 4) VULFSJOR_READS(5, 6)
 VULFSJOR_MUST_USE static inline int vulfsjor_blake2xs_derive_key(void *out, size_t outlen,
                                                                  const void *key, size_t keylen,
                                                                  const void *context,
@@ -1373,6 +1568,7 @@ VULFSJOR_MUST_USE static inline int vulfsjor_blake2xs_derive_key(void *out, size
 /* Writes the root of the input's tree to out: outlen bytes, 1 to 64. leaf_length is at least 1, and
  * the salt and the personalization have 0 to 16 bytes each. Returns -1 and writes nothing if a
  * length is out of range, or if the input has 2^58 bytes or more. */
+VULFSJOR_WRITES(1, 2) VULFSJOR_READS(3, 4) VULFSJOR_READS(5, 6) VULFSJOR_READS(7, 8)
 VULFSJOR_MUST_USE static inline int vulfsjor_tree_root(void *out, size_t outlen, const void *in,
                                                        size_t inlen, const void *salt,
                                                        size_t saltlen, const void *personal,
@@ -1385,6 +1581,7 @@ VULFSJOR_MUST_USE static inline int vulfsjor_tree_root(void *out, size_t outlen,
 
 /* Initializes a state for a root of outlen bytes, 1 to 64. The other arguments are those of
  * vulfsjor_tree_root. Returns -1 and sets the state to zero if a length is out of range. */
+VULFSJOR_READS(3, 4) VULFSJOR_READS(5, 6)
 static inline int vulfsjor_tree_init(vulfsjor_tree_state *S, size_t outlen, const void *salt,
                                      size_t saltlen, const void *personal, size_t personallen,
                                      uint32_t leaf_length) {
@@ -1399,16 +1596,17 @@ static inline int vulfsjor_tree_init(vulfsjor_tree_state *S, size_t outlen, cons
  * Pieces of several leaves are fastest: whole leaves after the open one are hashed four in
  * parallel, if more input follows them. Returns -1 if the state is not ready, or if it would have
  * absorbed 2^58 bytes or more. The state is then unchanged. */
+VULFSJOR_READS(2, 3)
 VULFSJOR_MUST_USE static inline int vulfsjor_tree_update(vulfsjor_tree_state *S, const void *in,
                                                          size_t inlen) {
     if (!S || (!in && inlen)) return -1;
     return vulfsjor_ffi_tree_update(S, vulfsjor_text(in), inlen);
 }
 
-/* Writes the root of all input to the beginning of out, and wipes the state. outlen is the room in
- * out. It may be more than the length of the root; the remaining bytes are unchanged. Returns -1 if
- * the state is not ready or the root is longer than outlen. Then out and the state are
- * unchanged. */
+/* Writes the root of all input to out, and wipes the state. outlen must be the length of the root,
+ * vulfsjor_tree_digest_size. Returns -1 if it is another or the state is not ready. Then out and the
+ * state are unchanged. */
+VULFSJOR_WRITES(2, 3)
 VULFSJOR_MUST_USE static inline int vulfsjor_tree_final(vulfsjor_tree_state *S, void *out,
                                                         size_t outlen) {
     if (!S || !out) return -1;
@@ -1460,6 +1658,7 @@ static inline uint64_t vulfsjor_tree_leaf_count(uint64_t inlen, uint32_t leaf_le
  *   - if ends is 0 and the input is empty or not whole leaves;
  *   - if ends is not 0 and the input is empty, unless first is 0 (an empty message has one leaf);
  *   - if the range ends at byte 2^58 of the message or after it. */
+VULFSJOR_WRITES(1, 2) VULFSJOR_READS(5, 6) VULFSJOR_READS(7, 8) VULFSJOR_READS(9, 10)
 VULFSJOR_MUST_USE static inline int vulfsjor_tree_leaves(void *out, size_t outlen, uint64_t first,
                                                          int ends, const void *in, size_t inlen,
                                                          const void *salt, size_t saltlen,
@@ -1474,6 +1673,7 @@ VULFSJOR_MUST_USE static inline int vulfsjor_tree_leaves(void *out, size_t outle
 /* Writes the root over the digests of all leaves, 64 bytes each, in their order, to out: outlen
  * bytes, 1 to 64. The other arguments are those of vulfsjor_tree_root. Returns -1 and writes
  * nothing if digestslen is 0 or not a multiple of 64, or if another length is out of range. */
+VULFSJOR_WRITES(1, 2) VULFSJOR_READS(3, 4) VULFSJOR_READS(5, 6) VULFSJOR_READS(7, 8)
 VULFSJOR_MUST_USE static inline int
 vulfsjor_tree_root_of_leaves(void *out, size_t outlen, const void *digests, size_t digestslen,
                              const void *salt, size_t saltlen, const void *personal,
@@ -1495,6 +1695,7 @@ vulfsjor_tree_root_of_leaves(void *out, size_t outlen, const void *digests, size
  * and writes nothing if the state is not ready or not at a leaf boundary, if the input is empty or
  * not whole leaves, if outlen is another number, or if the leaves end at byte 2^58 of the message
  * or after it. */
+VULFSJOR_WRITES(2, 3) VULFSJOR_READS(5, 6)
 VULFSJOR_MUST_USE static inline int vulfsjor_tree_next_leaves(const vulfsjor_tree_state *S,
                                                               void *out, size_t outlen,
                                                               uint64_t skip, const void *in,
@@ -1511,6 +1712,7 @@ VULFSJOR_MUST_USE static inline int vulfsjor_tree_next_leaves(const vulfsjor_tre
  * is vulfsjor_tree_update. Returns -1 if the state is not ready, if digestslen is not a multiple of
  * 64, if there are digests but the state is not at a leaf boundary or the input is empty, or if the
  * state would have absorbed 2^58 bytes or more. The state is then unchanged. */
+VULFSJOR_READS(2, 3) VULFSJOR_READS(4, 5)
 VULFSJOR_MUST_USE static inline int vulfsjor_tree_update_leaves(vulfsjor_tree_state *S,
                                                                 const void *digests,
                                                                 size_t digestslen, const void *in,
@@ -1561,6 +1763,7 @@ VULFSJOR_MUST_USE static inline int vulfsjor_tree_part(vulfsjor_part *part,
  * It absorbs the bytes of the leaf, and its digest has 64 bytes. last is whether the leaf is the
  * message's last (0 if not). Returns -1 and sets the state to zero if leaf_length is 0, or if the
  * salt or the personalization has more than 16 bytes. */
+VULFSJOR_READS(4, 5) VULFSJOR_READS(6, 7)
 static inline int vulfsjor_tree_init_leaf(vulfsjor_blake2b_state *S, uint64_t i, int last,
                                           const void *salt, size_t saltlen, const void *personal,
                                           size_t personallen, uint32_t leaf_length) {
@@ -1575,6 +1778,7 @@ static inline int vulfsjor_tree_init_leaf(vulfsjor_blake2b_state *S, uint64_t i,
  * absorbs the digests of all leaves in order, and its digest is the root: outlen bytes, 1 to 64.
  * The other arguments are those of vulfsjor_tree_root. Returns -1 and sets the state to zero if a
  * length is out of range. */
+VULFSJOR_READS(3, 4) VULFSJOR_READS(5, 6)
 static inline int vulfsjor_tree_init_root(vulfsjor_blake2b_state *S, size_t outlen,
                                           const void *salt, size_t saltlen, const void *personal,
                                           size_t personallen, uint32_t leaf_length) {
@@ -1587,7 +1791,7 @@ static inline int vulfsjor_tree_init_root(vulfsjor_blake2b_state *S, size_t outl
 
 /* -- What -1 means, call by call. A null pointer is a reason in every call: to a state, an output,
  * digests for tree_root_of_leaves, messages, a parameter block or tree parameters, and any other if
- * its length is not 0. The other reasons are:
+ * its length is not 0. So is a key that is not null and has length 0. The other reasons are:
  *
  *   memcmp                         the bytes differ
  *   bin2hex                        outlen is less than 2 * inlen + 1
@@ -1595,7 +1799,7 @@ static inline int vulfsjor_tree_init_root(vulfsjor_blake2b_state *S, size_t outl
  *   BLAKE2b and BLAKE2s, and of these calls those that BLAKE2bp and BLAKE2sp have:
  *   _init, _init_salt_personal,    an argument that _refused returns
  *   _init_tree
- *   _init_key                      an argument that _refused returns, or a key of 0 bytes
+ *   _init_key, _init_mac           an argument that _refused returns, or a key of 0 bytes
  *   _init_param                    a field that _param_refused returns
  *   the hash in one call           an argument that _refused returns, or input and a key's block of
  *                                  2^64 bytes or more (BLAKE2bp and BLAKE2sp: 512 bytes for a key)
@@ -1603,15 +1807,28 @@ static inline int vulfsjor_tree_init_root(vulfsjor_blake2b_state *S, size_t outl
  *                                  vulfsjor_null_message returns
  *   _update                        the state is not ready (_digest_size returns 0 for it), or it
  *                                  would have absorbed 2^64 bytes or more
- *   _final                         the state is not ready, or outlen is less than _digest_size
- *   _verify                        the tag or its length is another, or the state was not ready
+ *   _final                         the state is not ready, or outlen is not _digest_size
+ *   _verify                        the tag or its length is another, or the state was not ready or
+ *                                  has no key
  *   _set_last_node, _reset         the state is not ready
+ *   BLAKE2Xb and BLAKE2Xs:
+ *   _init, _init_salt_personal     an argument that _refused returns
+ *   _init_key, _init_mac           an argument that _refused returns, or a key of 0 bytes
+ *   the output in one call         an argument that _refused returns, outlen that is the number for
+ *                                  an unknown length, or input and a key's block of 2^64 bytes or
+ *                                  more
+ *   _derive_key                    the same of the context, or a key of 0 bytes
+ *   _update                        the state is not ready (_left and _count return 0 for it), its
+ *                                  output is being read, or it would have absorbed 2^64 bytes or
+ *                                  more
+ *   _squeeze                       the state is not ready, or outlen is more than _left
+ *   _reset                         the state is not ready
  *   The tree of two levels:
  *   tree_init                      an argument that vulfsjor_tree_refused returns
  *   tree_root                      the same, or input of 2^58 bytes or more
  *   tree_update                    the state is not ready (tree_digest_size returns 0 for it), or
  *                                  it would have absorbed 2^58 bytes or more
- *   tree_final                     the state is not ready, or outlen is less than tree_digest_size
+ *   tree_final                     the state is not ready, or outlen is not tree_digest_size
  *   tree_leaves                    salt, personal or leaf_length, which vulfsjor_tree_refused
  *                                  returns, outlen, or a range that its comment excludes
  *   tree_root_of_leaves            an argument that vulfsjor_tree_refused returns, or digestslen
@@ -1631,8 +1848,8 @@ typedef enum vulfsjor_argument {
     VULFSJOR_ARGUMENT_NONE = 0, /* no argument is refused */
     VULFSJOR_ARGUMENT_PARAM,    /* the parameter block is null */
     VULFSJOR_ARGUMENT_OUTLEN,   /* the length of the digest is out of range */
-    VULFSJOR_ARGUMENT_KEY,      /* keylen is out of range, or key is null and keylen is not 0 */
-    VULFSJOR_ARGUMENT_SALT,     /* the same of salt and saltlen */
+    VULFSJOR_ARGUMENT_KEY,      /* keylen is out of range, or only one of key and keylen is 0 */
+    VULFSJOR_ARGUMENT_SALT,     /* saltlen is out of range, or salt is null and saltlen is not 0 */
     VULFSJOR_ARGUMENT_PERSONAL, /* the same of personal and personallen */
     VULFSJOR_ARGUMENT_NODE_OFFSET,  /* tree->node_offset is out of range */
     VULFSJOR_ARGUMENT_DEPTH,        /* tree->depth is 0 */
@@ -1643,18 +1860,11 @@ typedef enum vulfsjor_argument {
 /* Returns the name of an argument for a message, such as "outlen" or "tree->depth"; "no argument"
  * for VULFSJOR_ARGUMENT_NONE and for any other number. */
 static inline const char *vulfsjor_argument_name(vulfsjor_argument argument) {
-    switch (argument) {
-        case VULFSJOR_ARGUMENT_PARAM: return "P";
-        case VULFSJOR_ARGUMENT_OUTLEN: return "outlen";
-        case VULFSJOR_ARGUMENT_KEY: return "key";
-        case VULFSJOR_ARGUMENT_SALT: return "salt";
-        case VULFSJOR_ARGUMENT_PERSONAL: return "personal";
-        case VULFSJOR_ARGUMENT_NODE_OFFSET: return "tree->node_offset";
-        case VULFSJOR_ARGUMENT_DEPTH: return "tree->depth";
-        case VULFSJOR_ARGUMENT_INNER_LENGTH: return "tree->inner_length";
-        case VULFSJOR_ARGUMENT_LEAF_LENGTH: return "leaf_length";
-        default: return "no argument";
-    }
+    static const char *const names[] = {
+        "no argument",       "P",           "outlen",             "key",        "salt", "personal",
+        "tree->node_offset", "tree->depth", "tree->inner_length", "leaf_length"};
+    const unsigned at = VULFSJOR_CAST(unsigned, argument);
+    return at < sizeof names / sizeof *names ? names[at] : names[0];
 }
 
 /* Returns the first of these arguments, in this order, that an init of BLAKE2b refuses, or
@@ -1672,19 +1882,20 @@ static inline vulfsjor_argument vulfsjor_blake2b_refused(size_t outlen, const vo
     refused = vulfsjor_blake2b_init_salt_personal(&S, 1, key, keylen, salt, 0, personal, 0);
     vulfsjor_blake2b_wipe(&S);
     if (refused) return VULFSJOR_ARGUMENT_KEY;
-    if (vulfsjor_blake2b_init_salt_personal(&S, 1, key, 0, salt, saltlen, personal, 0))
+    if (vulfsjor_blake2b_init_salt_personal(&S, 1, VULFSJOR_NULL, 0, salt, saltlen, personal, 0))
         return VULFSJOR_ARGUMENT_SALT;
-    if (vulfsjor_blake2b_init_salt_personal(&S, 1, key, 0, salt, 0, personal, personallen))
+    if (vulfsjor_blake2b_init_salt_personal(&S, 1, VULFSJOR_NULL, 0, salt, 0, personal,
+                                            personallen))
         return VULFSJOR_ARGUMENT_PERSONAL;
     if (!tree) return VULFSJOR_ARGUMENT_NONE;
     one.node_offset = tree->node_offset;
-    if (vulfsjor_blake2b_init_tree(&S, 1, key, 0, salt, 0, personal, 0, &one))
+    if (vulfsjor_blake2b_init_tree(&S, 1, VULFSJOR_NULL, 0, salt, 0, personal, 0, &one))
         return VULFSJOR_ARGUMENT_NODE_OFFSET;
     one.depth = tree->depth;
-    if (vulfsjor_blake2b_init_tree(&S, 1, key, 0, salt, 0, personal, 0, &one))
+    if (vulfsjor_blake2b_init_tree(&S, 1, VULFSJOR_NULL, 0, salt, 0, personal, 0, &one))
         return VULFSJOR_ARGUMENT_DEPTH;
     one.inner_length = tree->inner_length;
-    if (vulfsjor_blake2b_init_tree(&S, 1, key, 0, salt, 0, personal, 0, &one))
+    if (vulfsjor_blake2b_init_tree(&S, 1, VULFSJOR_NULL, 0, salt, 0, personal, 0, &one))
         return VULFSJOR_ARGUMENT_INNER_LENGTH;
     return VULFSJOR_ARGUMENT_NONE;
 }
@@ -1717,19 +1928,20 @@ static inline vulfsjor_argument vulfsjor_blake2s_refused(size_t outlen, const vo
     refused = vulfsjor_blake2s_init_salt_personal(&S, 1, key, keylen, salt, 0, personal, 0);
     vulfsjor_blake2s_wipe(&S);
     if (refused) return VULFSJOR_ARGUMENT_KEY;
-    if (vulfsjor_blake2s_init_salt_personal(&S, 1, key, 0, salt, saltlen, personal, 0))
+    if (vulfsjor_blake2s_init_salt_personal(&S, 1, VULFSJOR_NULL, 0, salt, saltlen, personal, 0))
         return VULFSJOR_ARGUMENT_SALT;
-    if (vulfsjor_blake2s_init_salt_personal(&S, 1, key, 0, salt, 0, personal, personallen))
+    if (vulfsjor_blake2s_init_salt_personal(&S, 1, VULFSJOR_NULL, 0, salt, 0, personal,
+                                            personallen))
         return VULFSJOR_ARGUMENT_PERSONAL;
     if (!tree) return VULFSJOR_ARGUMENT_NONE;
     one.node_offset = tree->node_offset;
-    if (vulfsjor_blake2s_init_tree(&S, 1, key, 0, salt, 0, personal, 0, &one))
+    if (vulfsjor_blake2s_init_tree(&S, 1, VULFSJOR_NULL, 0, salt, 0, personal, 0, &one))
         return VULFSJOR_ARGUMENT_NODE_OFFSET;
     one.depth = tree->depth;
-    if (vulfsjor_blake2s_init_tree(&S, 1, key, 0, salt, 0, personal, 0, &one))
+    if (vulfsjor_blake2s_init_tree(&S, 1, VULFSJOR_NULL, 0, salt, 0, personal, 0, &one))
         return VULFSJOR_ARGUMENT_DEPTH;
     one.inner_length = tree->inner_length;
-    if (vulfsjor_blake2s_init_tree(&S, 1, key, 0, salt, 0, personal, 0, &one))
+    if (vulfsjor_blake2s_init_tree(&S, 1, VULFSJOR_NULL, 0, salt, 0, personal, 0, &one))
         return VULFSJOR_ARGUMENT_INNER_LENGTH;
     return VULFSJOR_ARGUMENT_NONE;
 }
@@ -1759,9 +1971,10 @@ static inline vulfsjor_argument vulfsjor_blake2bp_refused(size_t outlen, const v
     refused = vulfsjor_blake2bp_init_salt_personal(&S, 1, key, keylen, salt, 0, personal, 0);
     vulfsjor_blake2bp_wipe(&S);
     if (refused) return VULFSJOR_ARGUMENT_KEY;
-    if (vulfsjor_blake2bp_init_salt_personal(&S, 1, key, 0, salt, saltlen, personal, 0))
+    if (vulfsjor_blake2bp_init_salt_personal(&S, 1, VULFSJOR_NULL, 0, salt, saltlen, personal, 0))
         return VULFSJOR_ARGUMENT_SALT;
-    if (vulfsjor_blake2bp_init_salt_personal(&S, 1, key, 0, salt, 0, personal, personallen))
+    if (vulfsjor_blake2bp_init_salt_personal(&S, 1, VULFSJOR_NULL, 0, salt, 0, personal,
+                                             personallen))
         return VULFSJOR_ARGUMENT_PERSONAL;
     return VULFSJOR_ARGUMENT_NONE;
 }
@@ -1778,9 +1991,52 @@ static inline vulfsjor_argument vulfsjor_blake2sp_refused(size_t outlen, const v
     refused = vulfsjor_blake2sp_init_salt_personal(&S, 1, key, keylen, salt, 0, personal, 0);
     vulfsjor_blake2sp_wipe(&S);
     if (refused) return VULFSJOR_ARGUMENT_KEY;
-    if (vulfsjor_blake2sp_init_salt_personal(&S, 1, key, 0, salt, saltlen, personal, 0))
+    if (vulfsjor_blake2sp_init_salt_personal(&S, 1, VULFSJOR_NULL, 0, salt, saltlen, personal, 0))
         return VULFSJOR_ARGUMENT_SALT;
-    if (vulfsjor_blake2sp_init_salt_personal(&S, 1, key, 0, salt, 0, personal, personallen))
+    if (vulfsjor_blake2sp_init_salt_personal(&S, 1, VULFSJOR_NULL, 0, salt, 0, personal,
+                                             personallen))
+        return VULFSJOR_ARGUMENT_PERSONAL;
+    return VULFSJOR_ARGUMENT_NONE;
+}
+
+/* Returns the first of these arguments, in this order, that an init of BLAKE2Xb refuses, or
+ * VULFSJOR_ARGUMENT_NONE. They are those of vulfsjor_blake2xb_init_salt_personal, and
+ * VULFSJOR_ARGUMENT_OUTLEN is for xoflen. */
+static inline vulfsjor_argument vulfsjor_blake2xb_refused(size_t xoflen, const void *key,
+                                                           size_t keylen, const void *salt,
+                                                           size_t saltlen, const void *personal,
+                                                           size_t personallen) {
+    vulfsjor_blake2xb_state S;
+    int refused;
+    if (vulfsjor_blake2xb_init(&S, xoflen)) return VULFSJOR_ARGUMENT_OUTLEN;
+    refused = vulfsjor_blake2xb_init_salt_personal(&S, 1, key, keylen, salt, 0, personal, 0);
+    vulfsjor_blake2xb_wipe(&S);
+    if (refused) return VULFSJOR_ARGUMENT_KEY;
+    if (vulfsjor_blake2xb_init_salt_personal(&S, 1, VULFSJOR_NULL, 0, salt, saltlen, personal, 0))
+        return VULFSJOR_ARGUMENT_SALT;
+    if (vulfsjor_blake2xb_init_salt_personal(&S, 1, VULFSJOR_NULL, 0, salt, 0, personal,
+                                             personallen))
+        return VULFSJOR_ARGUMENT_PERSONAL;
+    return VULFSJOR_ARGUMENT_NONE;
+}
+
+/* Returns the first of these arguments, in this order, that an init of BLAKE2Xs refuses, or
+ * VULFSJOR_ARGUMENT_NONE. They are those of vulfsjor_blake2xs_init_salt_personal, and
+ * VULFSJOR_ARGUMENT_OUTLEN is for xoflen. */
+static inline vulfsjor_argument vulfsjor_blake2xs_refused(size_t xoflen, const void *key,
+                                                           size_t keylen, const void *salt,
+                                                           size_t saltlen, const void *personal,
+                                                           size_t personallen) {
+    vulfsjor_blake2xs_state S;
+    int refused;
+    if (vulfsjor_blake2xs_init(&S, xoflen)) return VULFSJOR_ARGUMENT_OUTLEN;
+    refused = vulfsjor_blake2xs_init_salt_personal(&S, 1, key, keylen, salt, 0, personal, 0);
+    vulfsjor_blake2xs_wipe(&S);
+    if (refused) return VULFSJOR_ARGUMENT_KEY;
+    if (vulfsjor_blake2xs_init_salt_personal(&S, 1, VULFSJOR_NULL, 0, salt, saltlen, personal, 0))
+        return VULFSJOR_ARGUMENT_SALT;
+    if (vulfsjor_blake2xs_init_salt_personal(&S, 1, VULFSJOR_NULL, 0, salt, 0, personal,
+                                             personallen))
         return VULFSJOR_ARGUMENT_PERSONAL;
     return VULFSJOR_ARGUMENT_NONE;
 }

@@ -1,15 +1,15 @@
 /* BLAKE2b, BLAKE2s, BLAKE2bp and BLAKE2sp for C++17 and later, over vulfsjor.h and its library.
  *
  *     vulfsjor::parameters given;
- *     given.key = key;                          // a std::vector, std::array, std::span, ..
+ *     given.key = key;                          // a copy of a std::vector, std::array, ..
  *     given.digest_length = 16;
  *     vulfsjor::blake2b hasher(given);          // throws std::invalid_argument
  *     if (!hasher.update("hello ") || !hasher.update("world")) return 1;
  *     std::vector<std::uint8_t> tag = hasher.digest();
  *
  * A hasher is a value: copies are independent, and one that was moved from stays as it was. It is
- * always ready, since a constructor that fails throws. Only that constructor, `hash` and the
- * `digest` that returns a vector throw. Without exceptions (-fno-exceptions), construct it without
+ * always ready, since a constructor that fails throws. Only that constructor, `hash`, the `digest`
+ * that returns a vector and `verify` of a hasher without a key throw. Without exceptions (-fno-exceptions), construct it without
  * arguments or by `create`. The destructor wipes the state. Threads may share a hasher in const
  * functions only. This header is tested, not proved. */
 #ifndef VULFSJOR_HPP
@@ -31,45 +31,154 @@
 
 namespace vulfsjor {
 
-/* A view of bytes that another object holds: a pointer and a length, a string of C without its
- * zero, or anything with std::data and std::size whose elements are char, unsigned char, std::byte
- * or char8_t, such as std::string_view, std::vector, std::array and std::span. */
+/* For a constructor from a literal: from C++20 on the compiler refuses an array that is none. */
+#if defined(__cpp_consteval) && defined(__cpp_lib_is_constant_evaluated)
+#define VULFSJOR_OF_LITERAL consteval
+#define VULFSJOR_IS_CONSTANT std::is_constant_evaluated()
+#define VULFSJOR_CONSTANT constexpr
+#else
+#define VULFSJOR_OF_LITERAL constexpr
+#define VULFSJOR_IS_CONSTANT false
+#define VULFSJOR_CONSTANT
+#endif
+
+/* For an argument that has to live as long as the view that is made of it, of which clang warns. */
+#if defined(__has_cpp_attribute)
+#if __has_cpp_attribute(clang::lifetimebound)
+#define VULFSJOR_LIVES [[clang::lifetimebound]]
+#endif
+#endif
+#ifndef VULFSJOR_LIVES
+#define VULFSJOR_LIVES
+#endif
+
+/* A view of bytes that another object holds. It is made of
+ *
+ *   - a pointer and a length;
+ *   - anything with std::data and std::size whose elements are char, unsigned char, std::byte or
+ *     char8_t, such as std::string_view, std::vector, std::array and std::span;
+ *   - a literal such as "abc" or u8"abc": its characters, without the zero at its end. An array of
+ *     const char is taken for one, and refused if its last element is not zero: when it is compiled
+ *     from C++20 on, and otherwise by the call that it is passed to;
+ *   - a pointer to char, which is a string of C: the characters before the first zero. A call that
+ *     it is passed to refuses a null pointer;
+ *   - an array of unsigned char or std::byte: all its elements. So `const unsigned char a[] = "abc"`
+ *     is four bytes, the zero among them.
+ *
+ * An array of char that is not const is a buffer, which does not say how much of it is in use. It
+ * does not compile: pass a pointer and a length. */
 class bytes {
     template <class C>
     using element = std::remove_cv_t<std::remove_pointer_t<decltype(std::data(std::declval<C>()))>>;
     template <class E>
-    static constexpr bool is_byte = std::is_same_v<E, char> || std::is_same_v<E, unsigned char> ||
+    static constexpr bool is_character = std::is_same_v<E, char>
 #ifdef __cpp_char8_t
-                                    std::is_same_v<E, char8_t> ||
+                                         || std::is_same_v<E, char8_t>
 #endif
-                                    std::is_same_v<E, std::byte>;
+        ;
+    template <class E>
+    static constexpr bool is_byte =
+        is_character<E> || std::is_same_v<E, unsigned char> || std::is_same_v<E, std::byte>;
     template <class C>
-    static constexpr bool is_text = std::is_convertible_v<const C &, const char *>;
+    static constexpr bool is_text =
+        std::is_array_v<C> && is_character<std::remove_cv_t<std::remove_extent_t<C>>>;
+    template <class E> using if_character = std::enable_if_t<is_character<E>, int>;
+    template <std::size_t N> friend class short_bytes;
 
   public:
     constexpr bytes() noexcept = default;
     constexpr bytes(const void *data, std::size_t size) noexcept : data_(data), size_(size) {}
-    bytes(const char *text) noexcept : data_(text), size_(text ? std::strlen(text) : 0) {}
     bytes(std::nullptr_t) = delete;
+
+    template <class E, std::size_t N, if_character<E> = 0>
+    VULFSJOR_OF_LITERAL bytes(const E (&literal)[N]) noexcept
+        : data_(literal[N - 1] ? nullptr : literal), size_(literal[N - 1] ? not_a_literal() : N - 1) {}
+    // clang-format off
+    template <class E, std::size_t N, if_character<E> = 0> bytes(E (&buffer)[N]) = delete; // pass bytes(buffer, length)
+    template <class E, std::size_t N, if_character<E> = 0> bytes(E (&&buffer)[N]) = delete; // pass bytes(buffer, length)
+    template <class E, std::size_t N, if_character<E> = 0> bytes(const E (&&buffer)[N]) = delete; // pass bytes(buffer, length)
+    // clang-format on
+
+    template <class P, if_character<std::remove_cv_t<std::remove_pointer_t<P>>> = 0,
+              std::enable_if_t<std::is_pointer_v<P>, int> = 0>
+    bytes(const P &string) noexcept
+        : data_(string), size_(string ? std::strlen(reinterpret_cast<const char *>(string)) : 1) {}
+
     template <class C, std::enable_if_t<is_byte<element<const C &>> && !is_text<C>, int> = 0>
-    constexpr bytes(const C &container) noexcept
+    constexpr bytes(const C &container VULFSJOR_LIVES) noexcept
         : data_(std::data(container)), size_(std::size(container)) {}
 
-    constexpr const void *data() const noexcept { return data_; }
-    constexpr std::size_t size() const noexcept { return size_; }
+    [[nodiscard]] constexpr const void *data() const noexcept { return data_; }
+    [[nodiscard]] constexpr std::size_t size() const noexcept { return size_; }
 
   private:
+    /* The length of a null pointer that calls refuse. It is no constant expression. */
+    static std::size_t not_a_literal() noexcept { return 1; }
+
     const void *data_ = nullptr;
     std::size_t size_ = 0;
 };
 
-/* What a hash depends on besides its input. The views need to last until the hasher is made. */
+/* Up to N bytes by value: a copy of what it is made of, which is anything that `bytes` accepts, or
+ * std::nullopt. They are wiped when it dies. More than N bytes, and what calls would refuse as
+ * `bytes`, are N + 1 bytes here, which hashers refuse. */
+template <std::size_t N> class short_bytes {
+    template <class E> using if_character = bytes::if_character<E>;
+    template <class C>
+    static constexpr bool is_other = !bytes::is_text<std::remove_reference_t<C>> &&
+                                     !std::is_same_v<std::decay_t<C>, short_bytes> &&
+                                     std::is_convertible_v<C, bytes>;
+
+  public:
+    constexpr short_bytes() noexcept = default;
+    constexpr short_bytes(std::nullopt_t) noexcept {}
+    constexpr short_bytes(const short_bytes &) noexcept = default;
+    constexpr short_bytes &operator=(const short_bytes &) noexcept = default;
+    VULFSJOR_CONSTANT ~short_bytes() {
+        if (!VULFSJOR_IS_CONSTANT) vulfsjor_wipe(data_, sizeof data_);
+    }
+
+    short_bytes(const void *data, std::size_t size) noexcept : short_bytes(bytes(data, size)) {}
+    template <class C, std::enable_if_t<is_other<C>, int> = 0>
+    short_bytes(C &&given) noexcept : has_value_(true) {
+        const bytes view(std::forward<C>(given));
+        const bool is_short = view.size() <= N && (view.data() || !view.size());
+        size_ = is_short ? view.size() : N + 1;
+        if (is_short && size_) std::memcpy(data_, view.data(), size_);
+    }
+    template <class E, std::size_t M, if_character<E> = 0>
+    VULFSJOR_OF_LITERAL short_bytes(const E (&literal)[M]) noexcept
+        : size_(bytes(literal).size()), has_value_(true) {
+        if (size_ > N || literal[M - 1]) size_ = N + 1;
+        for (std::size_t i = 0; i < size_ && size_ <= N; i++)
+            data_[i] = static_cast<unsigned char>(literal[i]);
+    }
+    // clang-format off
+    template <class E, std::size_t M, if_character<E> = 0> short_bytes(E (&buffer)[M]) = delete; // pass bytes(buffer, length)
+    template <class E, std::size_t M, if_character<E> = 0> short_bytes(E (&&buffer)[M]) = delete; // pass bytes(buffer, length)
+    template <class E, std::size_t M, if_character<E> = 0> short_bytes(const E (&&buffer)[M]) = delete; // pass bytes(buffer, length)
+    // clang-format on
+
+    /* Whether it was made of bytes, if only of none. */
+    [[nodiscard]] constexpr bool has_value() const noexcept { return has_value_; }
+    [[nodiscard]] constexpr std::size_t size() const noexcept { return size_; }
+    /* The bytes; null if it was made of none. */
+    [[nodiscard]] constexpr const void *data() const noexcept { return size_ ? data_ : nullptr; }
+
+  private:
+    unsigned char data_[N + 1] = {};
+    std::size_t size_ = 0;
+    bool has_value_ = false;
+};
+
+/* What a hash depends on besides its input. All of it is copied, and key, salt and personalization
+ * are wiped when it dies. */
 struct parameters {
-    std::optional<std::size_t> digest_length; /* in bytes; absent: the longest */
-    std::optional<bytes> key;                 /* absent: no key. A key of no bytes is refused. */
-    bytes salt;                               /* up to 16 bytes (BLAKE2s: 8) */
-    bytes personal;                           /* up to 16 bytes (BLAKE2s: 8) */
-    std::optional<vulfsjor_tree> tree;        /* the node of a tree; absent: no tree */
+    std::optional<std::size_t> digest_length = {}; /* in bytes; absent: the longest */
+    short_bytes<64> key = {};                      /* absent: no key. A key of no bytes is refused. */
+    short_bytes<16> salt = {};                     /* up to 16 bytes (BLAKE2s: 8) */
+    short_bytes<16> personal = {};                 /* up to 16 bytes (BLAKE2s: 8) */
+    std::optional<vulfsjor_tree> tree = {};        /* the node of a tree; absent: no tree */
 };
 
 /* The calls that all families have. */
@@ -122,7 +231,7 @@ template <class Calls> class hasher {
     ~hasher() { Calls::wipe(&state_); }
 
     /* A hasher with these parameters, or nothing if one of them is refused. */
-    static std::optional<hasher> create(const parameters &given) noexcept {
+    [[nodiscard]] static std::optional<hasher> create(const parameters &given) noexcept {
         std::optional<hasher> made(std::in_place);
         if (made->init(given)) made.reset();
         return made;
@@ -145,19 +254,23 @@ template <class Calls> class hasher {
     }
 
     /* The same digest, as a vector; or as an array, or nothing if N is not digest_length(). */
-    std::vector<std::uint8_t> digest() const {
+    [[nodiscard]] std::vector<std::uint8_t> digest() const {
         std::vector<std::uint8_t> out(digest_length());
         static_cast<void>(digest_to(out.data(), out.size()));
         return out;
     }
-    template <std::size_t N> std::optional<std::array<std::uint8_t, N>> digest() const noexcept {
+    template <std::size_t N>
+    [[nodiscard]] std::optional<std::array<std::uint8_t, N>> digest() const noexcept {
         std::array<std::uint8_t, N> out{};
         if (!digest_to(out.data(), N)) return std::nullopt;
         return out;
     }
 
-    /* Whether this tag is the digest of all bytes so far. The time depends only on its length. */
-    [[nodiscard]] bool verify(bytes tag) const noexcept {
+    /* Whether this tag is the digest of all bytes so far under the key. The time depends only on its
+     * length. A hasher without a key throws std::logic_error or, without exceptions, returns false:
+     * anybody can make its digests. Compare those by vulfsjor_memcmp. */
+    [[nodiscard]] bool verify(bytes tag) const {
+        if (!state_.start_length) return refuse_no_key();
         hasher copy(*this);
         return !Calls::verify(&copy.state_, tag.data(), tag.size());
     }
@@ -168,10 +281,10 @@ template <class Calls> class hasher {
     /* Forgets all bytes so far, and keeps the parameters and set_last_node. */
     void reset() noexcept { Calls::reset(&state_); }
 
-    std::size_t digest_length() const noexcept { return Calls::digest_size(&state_); }
+    [[nodiscard]] std::size_t digest_length() const noexcept { return Calls::digest_size(&state_); }
 
     /* How many bytes were absorbed. */
-    std::uint64_t count() const noexcept { return Calls::count(&state_); }
+    [[nodiscard]] std::uint64_t count() const noexcept { return Calls::count(&state_); }
 
 #ifdef __cpp_exceptions
     /* Throws std::invalid_argument, with the name that vulfsjor.h has for the argument. */
@@ -180,7 +293,7 @@ template <class Calls> class hasher {
     }
 
     /* The digest of a message in one call. Throws std::invalid_argument. */
-    static std::vector<std::uint8_t> hash(bytes input, const parameters &given = {}) {
+    [[nodiscard]] static std::vector<std::uint8_t> hash(bytes input, const parameters &given = {}) {
         hasher made(given);
         if (!made.update(input)) throw std::invalid_argument("vulfsjor: in is out of range");
         return made.digest();
@@ -188,12 +301,19 @@ template <class Calls> class hasher {
 #endif
 
   private:
-    static bytes key_of(const parameters &given) { return given.key.value_or(bytes()); }
+    static bool refuse_no_key() {
+#ifdef __cpp_exceptions
+        throw std::logic_error("vulfsjor: verify needs a key; compare digests by vulfsjor_memcmp");
+#else
+        return false;
+#endif
+    }
 
     int init(const parameters &given) noexcept {
         const std::size_t length = given.digest_length.value_or(max_digest_length);
-        const bytes key = key_of(given), salt = given.salt, personal = given.personal;
-        if (given.key && !key.size()) return -1;
+        const auto &key = given.key;
+        const auto &salt = given.salt, &personal = given.personal;
+        if (key.has_value() && !key.size()) return -1;
         if constexpr (Calls::has_tree) {
             if (given.tree)
                 return Calls::init_tree(&state_, length, key.data(), key.size(), salt.data(),
@@ -207,7 +327,8 @@ template <class Calls> class hasher {
     }
 
     static std::string message(const parameters &given) {
-        const bytes key = key_of(given), salt = given.salt, personal = given.personal;
+        const auto &key = given.key;
+        const auto &salt = given.salt, &personal = given.personal;
         const std::size_t length = given.digest_length.value_or(max_digest_length);
         vulfsjor_argument wrong;
         if constexpr (Calls::has_tree) {
@@ -231,5 +352,9 @@ using blake2s = hasher<blake2s_calls>;
 using blake2bp = hasher<blake2bp_calls>;
 using blake2sp = hasher<blake2sp_calls>;
 
+#undef VULFSJOR_OF_LITERAL
+#undef VULFSJOR_IS_CONSTANT
+#undef VULFSJOR_CONSTANT
+#undef VULFSJOR_LIVES
 } /* namespace vulfsjor */
 #endif

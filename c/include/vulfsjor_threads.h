@@ -47,6 +47,7 @@ extern "C" {
 
 /* Writes the root of inlen bytes to out: outlen bytes, 1 to 64. The other arguments are those of
  * vulfsjor_tree_root, and so is the root. */
+VULFSJOR_WRITES(1, 2) VULFSJOR_READS(3, 4) VULFSJOR_READS(5, 6) VULFSJOR_READS(7, 8)
 VULFSJOR_MUST_USE int vulfsjor_tree_root_threads(void *out, size_t outlen, const void *in,
                                                  size_t inlen, const void *salt, size_t saltlen,
                                                  const void *personal, size_t personallen,
@@ -59,6 +60,7 @@ VULFSJOR_MUST_USE int vulfsjor_tree_root_threads(void *out, size_t outlen, const
  * if the file became shorter. Bytes that are changed meanwhile are hashed as they were or as they
  * are. Any other file (a pipe, a device, a short file, a file of /proc) is read to its end by the
  * caller's thread. A directory fails with EISDIR. */
+VULFSJOR_WRITES(1, 2) VULFSJOR_READS(4, 5) VULFSJOR_READS(6, 7)
 VULFSJOR_MUST_USE int vulfsjor_tree_root_file(void *out, size_t outlen, const char *path,
                                               const void *salt, size_t saltlen,
                                               const void *personal, size_t personallen,
@@ -66,7 +68,8 @@ VULFSJOR_MUST_USE int vulfsjor_tree_root_file(void *out, size_t outlen, const ch
 
 /* Writes the root of an open file, from its position to its end, to out: outlen bytes, 1 to 64. The
  * position is then at the end; if the call fails, it is unspecified. The descriptor stays open. A
- * file is read as by vulfsjor_tree_root_file. */
+ * file is read as by vulfsjor_tree_root_file, and on Windows as it is, also in text mode. */
+VULFSJOR_WRITES(1, 2) VULFSJOR_READS(4, 5) VULFSJOR_READS(6, 7)
 VULFSJOR_MUST_USE int vulfsjor_tree_root_fd(void *out, size_t outlen, int fd, const void *salt,
                                             size_t saltlen, const void *personal,
                                             size_t personallen, uint32_t leaf_length,
@@ -77,6 +80,7 @@ VULFSJOR_MUST_USE int vulfsjor_tree_root_fd(void *out, size_t outlen, int fd, co
  * open leaf and the last leaf of the input. Fails with EINVAL if the state is null or not ready,
  * if in is null and inlen is not 0, or if the state would have absorbed 2^58 bytes or more. If the
  * call fails, the state is unchanged. */
+VULFSJOR_READS(2, 3)
 VULFSJOR_MUST_USE int vulfsjor_tree_update_threads(vulfsjor_tree_state *S, const void *in,
                                                    size_t inlen, unsigned threads);
 

@@ -3,7 +3,7 @@
  * c/make_libraries.sh puts them and the library into libvulfsjor-libb2.a. They are those of
  * ../include/libb2/blake2.h, for linking, and have the same states.
  *
- * c/LIBB2.md lists the differences from libb2. */
+ * c/PORTING.md lists the differences from libb2. */
 #include "../include/vulfsjor.h"
 
 #pragma GCC visibility push(hidden)

@@ -68,12 +68,12 @@ sums_for_arm() {
 }
 
 test_aarch64() {
-    local library
+    local library hash
     if ! has_compiler "$arm" || ! has qemu-aarch64 || ! has python3; then
         skip "the library for aarch64" "no $arm with a C library, no qemu-aarch64 or no python3"
         return
     fi
-    # test.c takes every eleventh case, since emulation is slow. The other programs run whole.
+    # Of the test vectors every eleventh, since emulation is slow. The other programs run whole.
     all=$cases cases=$work/cases
     mkdir "$cases"
     for family in b s; do awk 'NR % 11 == 1' "$all/$family" >"$cases/$family"; done
@@ -82,28 +82,26 @@ test_aarch64() {
     archive=$prefix/lib/libvulfsjor.a shared=$prefix/lib/libvulfsjor.so
     check "install.sh with CC=$arm" env "CC=$arm" "$here/install.sh" --from "$dist" "$prefix" ||
         return
+    for hash in "${hashes[@]}"; do
+        check "conformance.c, $hash, for aarch64" run_hash conformance $hash -O1 "$archive"
+        check "made_states.c, $hash, for aarch64" run_hash made_states $hash -O1 "$archive"
+        check_huge "conformance.c, $hash, for aarch64, with the shared library" run_hash conformance $hash -O1 "$shared"
+    done
     for family in b s; do
-        check "test.c, blake2$family, for aarch64" compile_and_run "$work/test" -O2 \
-            $(family_words $family) "$archive"
-        check_once "test.c, blake2$family, for aarch64, with the shared library" with_shared_library
         check "edge_cases.c, blake2$family, for aarch64" compare_lines edge_cases -O2 -I"$include"
         check "key_scan.c, blake2$family, for aarch64" scan_for_keys
         check_once "libb2_header.c, blake2$family, for aarch64" compare_lines libb2_header -O2 \
             -I"$libb2"
         check_once "libb2's names, blake2$family, for aarch64" libb2_for_arm
     done
-    for family in bp sp; do
-        check "parallel.c, blake2$family, for aarch64" parallel_cases -O2 "$archive"
-        check "key_scan.c, blake2$family, for aarch64" scan_for_keys
-    done
-    for family in xb xs; do
-        check "xof.c, blake2$family, for aarch64" output_cases "$cases/$family" -O2 "$archive"
+    for family in bp sp xb xs; do
         check "key_scan.c, blake2$family, for aarch64" scan_for_keys
     done
     for library in "$archive" "$shared"; do
         check "calls of a constructor and of threads, for aarch64, ${library##*.}" first_calls_for_arm \
             "$library"
     done
+    check "hidden names, for aarch64" names_are_hidden "$archive" "$include" "$arm"
     check "branch protection, for aarch64" protected_by_bti
     check "marks of the programs, for aarch64" programs_are_marked
     check "tree_parts.c, for aarch64" parts_with "$(turns 500)" -O2

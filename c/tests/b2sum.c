@@ -15,6 +15,7 @@
 #include <string.h>
 #include <sys/prctl.h>
 #include <sys/resource.h>
+#include <sys/stat.h>
 #include <sys/types.h>
 #include <sys/uio.h>
 #include <time.h>
@@ -77,10 +78,12 @@ int __wrap_close(int file) {
 
 static char said[200];
 static int says_input; /* whether what was said is of standard input, and not of a write */
+static int says_first; /* whether it was said before anything was closed */
 int __wrap_dprintf(int file, const char *format, ...) {
     va_list arguments;
 
-    CHECK(file == 2 && closed[closed_count - 1] == (says_input ? 0 : 1));
+    CHECK(file == 2);
+    CHECK(says_first ? !closed_count : closed[closed_count - 1] == (says_input ? 0 : 1));
     va_start(arguments, format);
     vsnprintf(said, sizeof said, format, arguments);
     va_end(arguments);
@@ -243,15 +246,27 @@ static void check_signal(void) {
     CHECK(signal(SIGPIPE, SIG_DFL) == SIG_IGN);
 }
 
-/* What a file is closed by, and the text of an error, as much of it as there is room for. */
+/* What a file is closed by. The first error is said at the end, before anything is closed there. At
+ * the very end, since nothing forgets it. */
+static void check_close(void) {
+    closed_count = error_of_close[0] = error_of_close[1] = 0;
+    CHECK(b2sum_close(2) == 0 && b2sum_close(dup(2)) == 0);
+    error_of_close[2] = EIO;
+    CHECK(b2sum_close(2) == -1 && errno == EIO && closed_count == 2 && closed[1] == 2);
+    error_of_close[2] = EBADF;
+    CHECK(b2sum_close(2) == -1 && errno == EBADF);
+    error_of_close[2] = 0;
+    CHECK(b2sum_close(2) == 0 && closed_count == 4);
+    closed_count = said[0] = 0;
+    says_first = 1;
+    CHECK(b2sum_end(0, called) == 1 && !strncmp(said, "b2sum: close error: I", 21));
+    says_first = 0;
+}
+
+/* The text of an error, as much of it as there is room for. */
 static void check_rest(void) {
     char text[16] = "###############";
 
-    closed_count = 0;
-    error_of_close[2] = EIO;
-    CHECK(b2sum_close(2) == -1 && errno == EIO && closed_count == 1 && closed[0] == 2);
-    error_of_close[2] = 0;
-    CHECK(b2sum_close(2) == 0 && closed_count == 2 && b2sum_close(dup(2)) == 0);
     CHECK(b2sum_strerror(EISDIR, text, 15) == 0 && !strcmp(text, "Is a directory"));
     CHECK(b2sum_strerror(EISDIR, text, 6) == 0 && !memcmp(text, "Is a \0irectory", 15));
 }
@@ -276,6 +291,7 @@ static void check_read(void) {
 /* What the update by threads was called with, by which name; its status, after this many reports. */
 static struct {
     int count, file, status, reports;
+    uint64_t more; /* bytes that each report counts too */
     unsigned threads;
     vulfsjor_tree_state *state;
 } update;
@@ -292,7 +308,7 @@ int vulfsjor_tree_update_fd(vulfsjor_tree_state *S, int fd, unsigned threads,
     CHECK(!progress == !is_shown && !absorbed);
     for (int i = 1; progress && i <= update.reports; i++) {
         time_now += 600;
-        CHECK(progress(context, (uint64_t)i << 20) == 0);
+        CHECK(progress(context, update.more + ((uint64_t)i << 20)) == 0);
     }
     CHECK(lseek(fd, 1, SEEK_CUR) > 0);
     return update.status;
@@ -470,6 +486,33 @@ static int wipes_stack(int is_secret) {
     return 1;
 }
 
+/* What is said at the end after a file of this mode is opened, after a read of standard input or
+ * none. The file is the key's if it is the first that is opened or read since there is a key. */
+static const char *said_of_key(mode_t mode, bool reads) {
+    char byte[1];
+    const int file = fileno(tmpfile());
+
+    CHECK(file > 2 && !fchmod(file, mode) && dup2(file, 9) == 9);
+    hide_memory();
+    next_count = 0;
+    if (reads) b2sum_read(5, byte, 1);
+    CHECK(b2sum_open("a", O_RDONLY) == 9 && b2sum_open("a", O_RDONLY) == 9);
+    __real_close(9);
+    closed_count = said[0] = 0;
+    says_first = 1;
+    CHECK(b2sum_end(0, called) == 0);
+    says_first = 0;
+    return said;
+}
+
+static void check_key_file(void) {
+    const char *shared = "b2sum: WARNING: others may read the key file\n";
+
+    CHECK(!strcmp(said_of_key(0640, 1), "") && !strcmp(said_of_key(0600, 0), ""));
+    CHECK(!strcmp(said_of_key(0440, 0), shared) && !strcmp(said_of_key(0604, 0), shared));
+    CHECK(!strcmp(said_of_key(0733, 0), ""));
+}
+
 /* At the end, since nothing makes the memory visible again. */
 static void check_secrets(void) {
     unsigned char *block;
@@ -479,6 +522,7 @@ static void check_secrets(void) {
     CHECK(frees_as('s') && wipes_stack(0) && !hidden && !limited);
     hide_memory();
     CHECK(hidden == 1 && limited == 1);
+    check_key_file();
     CHECK(frees_as(0) && wipes_stack(1));
     block = block_of('s');
     has_no_memory = 1;
@@ -566,6 +610,11 @@ static void check_tree(void) {
     written[0] = 0;
     update.status = -1;
     CHECK(absorbs(0, 1) && !strcmp(written, "\r\033[K\r-: 3 MiB of 5\033[K\r-: 4 MiB of 5\033[K"));
+    written[0] = 0;
+    update.more = (uint64_t)1 << 40;
+    CHECK(absorbs(0, 1) &&
+          !strcmp(written, "\r\033[K\r-: 1048579 MiB of 5\033[K\r-: 1048580 MiB of 5\033[K"));
+    update.more = 0;
     update.status = update.reports = written[0] = 0;
     time_now += 600;
     next_count = sizeof bytes;
@@ -600,5 +649,6 @@ int checks(void) {
     check_trees();
     CHECK(!strcmp(written, ""));
     check_secrets();
+    check_close();
     return fails ? 1 : 7;
 }

@@ -16,11 +16,11 @@ typedef int call_function(int kind, int operation, void *state, size_t size, uin
 #define OF_FAMILY(x)                                                                           \
     switch (operation) {                                                                       \
         case INIT:                                                                             \
-            return x##_init_salt_personal(state, size, in, length, in + 1, length % 9, in + 2, \
-                                          size % 9);                                           \
+            return x##_init_salt_personal(state, size, length ? in : NULL, length, in + 1,     \
+                                          length % 9, in + 2, size % 9);                       \
         case INIT_NODE:                                                                        \
-            return x##_init_tree(state, size, in, length, in + 3, size % 9, in, length % 9,    \
-                                 &node);                                                       \
+            return x##_init_tree(state, size, length ? in : NULL, length, in + 3, size % 9, in,\
+                                 length % 9, &node);                                           \
         case UPDATE:                                                                           \
             return x##_update(state, in, length);                                              \
         case SET_LAST_NODE:                                                                    \
@@ -86,7 +86,7 @@ static void run(int kind) {
     static vulfsjor_tree_state kept, crossing;
     uint8_t digest[64] = {0}, other[64] = {0};
     size_t size = 1 + random_below(kind == BLAKE2S ? 32 : 64);
-    int home = (int)random_below(2), calls = 2 + (int)random_below(9);
+    int home = (int)random_below(2), calls = 2 + (int)random_below(9), has_key = 0;
 
     for (int i = 0; i < calls; i++) {
         int operation = i == 0          ? (int)random_below(2)
@@ -95,8 +95,9 @@ static void run(int kind) {
         size_t length =
             i == 0 ? random_below(33) : random_below(random_below(2) ? 300 : sizeof data - 8);
         const uint8_t *in = data + random_below(8);
+        if (i == 0) has_key = kind != TREE && length > 0;
         if (kind == TREE && i > 0 && i + 1 < calls) operation = UPDATE;
-        if (operation == FINAL && kind != TREE && random_below(2)) {
+        if (operation == FINAL && has_key && random_below(2)) {
             vulfsjor_tree_state copy = kept; /* its digest is the tag that both are given */
             builds[home](kind, FINAL, &copy, size, digest, in, 0);
             memcpy(other, digest, sizeof other);

@@ -3,6 +3,15 @@
 #include <stdint.h>
 #include <stdio.h>
 
+/* Tests pass null pointers and lengths of which the compiler knows that they are wrong. */
+#if defined(__GNUC__) && !defined(__clang__)
+#pragma GCC diagnostic ignored "-Wnonnull"
+#pragma GCC diagnostic ignored "-Wstringop-overflow"
+#if __GNUC__ >= 11
+#pragma GCC diagnostic ignored "-Wstringop-overread"
+#endif
+#endif
+
 static int checks, fails;
 
 /* Counts a condition, and reports it if it does not hold. */

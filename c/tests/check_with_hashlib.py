@@ -1,5 +1,5 @@
 #!/usr/bin/env python3
-"""Reads the lines of edge_cases.c, tree_parts.c and libb2_header.c from standard input and compares each digest with
+"""Reads the lines of edge_cases.c, hasher.cpp and libb2_header.c from standard input and compares each digest with
 Python's hashlib.
 
 Returns 0 if all agree, the line `end` came, and there were 20 others. A parameter block that hashlib can't say (a
@@ -11,7 +11,7 @@ import sys
 sys.path.append(os.path.join(os.path.dirname(os.path.abspath(__file__)), "..", "..", "tests"))
 from b2_model import bytes_of, compress, words_of  # noqa: E402
 from common import FAMILIES  # noqa: E402
-from oracle import SCALAR, tree_node, tree_root  # noqa: E402
+from oracle import SCALAR  # noqa: E402
 
 BYTES = bytes(i % 251 for i in range(8 * 128 + 64))
 KEY = bytes(i + 100 for i in range(66))
@@ -49,27 +49,12 @@ def node_line(family, fanout, depth, leaf_length, node_offset, node_depth, inner
     return FAMILIES[family].function(BYTES[:20], **place).digest()
 
 
-def root_line(size, saltlen, personalen, leaf, length):
-    """The root of a tree of two levels."""
-    return tree_root(BYTES[:int(length)], int(leaf), int(size), salt=SALT[:int(saltlen)],
-                     person=PERSONA[:int(personalen)])
-
-
-def leaf_line(saltlen, personalen, leaf, offset, is_last, start, length):
-    """A leaf of a tree of two levels."""
-    start = int(start)
-    return tree_node(BYTES[start:start + int(length)], int(leaf), salt=SALT[:int(saltlen)],
-                     person=PERSONA[:int(personalen)], node_offset=int(offset),
-                     last_node=is_last == "1")
-
-
 def block_line(family, block):
     """A hash from a parameter block as it stands."""
     return of_block(family, bytes.fromhex(block), BYTES[:20])
 
 
-KINDS = {"hash": hash_line, "last": last_line, "node": node_line, "root": root_line, "leaf": leaf_line,
-         "block": block_line}
+KINDS = {"hash": hash_line, "last": last_line, "node": node_line, "block": block_line}
 
 
 def wanted(line):

@@ -29,36 +29,6 @@ names_are_one() {
     names_of_object -D --defined-only "$shared" | sed '/^VULFSJOR_0[.]1$/d' | diff "$work/names" -
 }
 
-# One function more or one less in a file is refused before anything is made.
-join_refuses_a_difference() {
-    local copy=$work/copy file edit wanted given
-    mkdir -p "$copy" && cp "${texts[@]}" "$dist/c/vulfsjor.c" "$copy" || return 1
-    while read -r file wanted edit; do
-        cp -R "$here"/{choose.c,thunks.h,vulfsjor.map,threads.c,system.h,make_libraries.sh,include,libb2} "$copy" &&
-            cp "$copy/$file" "$work/kept" && sed -i "$edit" "$copy/$file" &&
-            ! cmp -s "$copy/$file" "$work/kept" || return 1
-        given=("${texts[@]/#*\//$copy/}")
-        [ "$file" != vulfsjor.c ] || given=("$copy/$file")
-        ! "$copy/make_libraries.sh" "$work/refused" "${given[@]}" 2>"$work/said" &&
-            grep -qxF -- "${wanted/_/ }" "$work/said" && [ ! -e "$work/refused/libvulfsjor.a" ] &&
-            cp "$work/kept" "$copy/$file" || { echo "$file: $edit"; return 1; }
-    done < <(
-        echo 'include/vulfsjor.h <_vulfsjor_ffi_forgotten $a void vulfsjor_ffi_forgotten(void);'
-        echo 'choose.c <_vulfsjor_ffi_tree_part /^CALL("vulfsjor_ffi_tree_part")/d'
-        echo 'choose.c >_vulfsjor_ffi_more $a CALL("vulfsjor_ffi_more")'
-        echo 'thunks.h <_vulfsjor_ffi_tree_part /^CALL(vulfsjor_ffi_tree_part,/d'
-        echo 'vulfsjor.map <_vulfsjor_ffi_tree_part /vulfsjor_ffi_tree_part;/d'
-        echo 'vulfsjor.map >_vulfsjor_ffi_more $i vulfsjor_ffi_more;'
-        echo 'thunks.h >_vulfsjor_ffi_more $a CALL(vulfsjor_ffi_more, int, (void), ())'
-        echo 'vulfsjor.c <_vulfsjor_ffi_tree_part /^int32_t NAME(tree_part)(/d'
-        echo 'vulfsjor.c >_vulfsjor_ffi_more $a int NAME(more)(void);'
-        for file in "${texts[@]##*/}"; do
-            echo "$file <_vulfsjor_ffi_tree_part /^\tvj_export\tvulfsjor_ffi_tree_part_/d"
-            echo "$file >_vulfsjor_ffi_more \$a \\\tvj_export\tvulfsjor_ffi_more_$(code_number)_v2"
-        done
-    )
-}
-
 # The shared library: its name, the version of its functions, what it needs, and that no page of it
 # is written and run.
 shared_library_is_right() {
@@ -107,17 +77,6 @@ texts_stand_together() {
         cc -c "$work/all.S" -o "$work/all.o"
 }
 
-# Somebody else's shared library, linked with one of the archives, shows none of its functions.
-names_are_hidden() {
-    local archive=$1
-    printf '%s\n' '#include <vulfsjor.h>' \
-        'int theirs(void *out) { return vulfsjor_blake2b(out, 64, 0, 0, 0, 0); }' \
-        >"$work/theirs.c"
-    cc -fPIC -shared -I"$include" "$work/theirs.c" -Wl,--whole-archive "$archive" \
-        -Wl,--no-whole-archive -o "$work/libtheirs.so" &&
-        [ "$(names_of_object -D --defined-only "$work/libtheirs.so")" = theirs ]
-}
-
 # All archives in a shared library, by a compiler that is not one for PIE by itself.
 archives_for_shared_library() {
     local folder=$work/no_pie
@@ -150,6 +109,21 @@ compile_choose() {
 
 made_up_processors() {
     compile_choose "made_up$1" "-O$1" -DPROCESSOR -I"$tests" && "$work/made_up$1"
+}
+
+# The functions of thunks.h over stand-ins for the builds.
+thunks_choose() {
+    local functions code build
+    functions=$(sed -n 's/^CALL("\(.*\)")$/\1/p' "$here/choose.c")
+    code=$(sed -n 's/^#define CODE "\(.*\)"$/\1/p' "$here/choose.c")
+    printf 'NAME(%s)\n' $functions >"$work/calls.h" &&
+        for build in 2 3 4; do
+            printf ".globl %s_${code}_v$build\n%s_${code}_v$build:\n" \
+                $(for function in $functions; do echo $function $function; done) &&
+                echo "mov \$$build, %eax; ret"
+        done >"$work/stand_ins.s" &&
+        cc -std=gnu99 "${warnings[@]}" -O1 -I"$work" -I"$include" -I"$tests" "$tests/thunks.c" "$work/stand_ins.s" \
+            -Wl,-z,noexecstack -o "$work/thunks" && "$work/thunks"
 }
 
 # The compiler's own test of a processor, where it has one.
@@ -252,11 +226,12 @@ test_emulated() {
 # A library for tests, which takes one build or alternates (c/make_libraries.sh).
 make_build() { "$here/make_libraries.sh" --test "$1" "$work/build_$1" "${texts[@]}"; }
 
-# A test program for a family over such a library, compiled once for all of them: NAME BUILD FAMILY [ARGUMENTS..]
+# A test program for a hash over such a library, compiled once for all of them: NAME BUILD HASH
 run_of_build() {
     local name=$1 build=$2 object=$work/$1_$3.o
-    [ -e "$object" ] || cc -std=gnu99 -O2 -I"$include" $(family_words "$3") -c "$tests/$name.c" -o "$object" || return
-    cc -Wl,-z,now "$object" "$work/build_$build/libvulfsjor.a" -o "$work/of_build" && "$work/of_build" "${@:4}"
+    [ -e "$object" ] || cc -std=gnu99 -O2 -I"$include" $(hash_words "$3") -c "$tests/$name.c" -o "$object" || return
+    cc -Wl,-z,now "$object" "$work/build_$build/libvulfsjor.a" -o "$work/of_build" &&
+        "$work/of_build" "$conforming/$3.txt"
 }
 
 # Two modules, each with one of these builds, and a program whose runs cross between them.
@@ -272,7 +247,7 @@ runs_cross() {
 }
 
 test_builds() {
-    local build family builds=2 alternating=
+    local build hash builds=2 alternating=
     case $level in
         4) builds="2 3 4" alternating=234 ;;
         3) builds="2 3" alternating=23 ;;
@@ -282,23 +257,9 @@ test_builds() {
     [ -z "${VULFSJOR_TEST_HUGE-}" ] || builds+=" $alternating" # else runs that cross between builds stand for it
     for build in $builds; do
         check "a test library with build $build (several: alternating)" make_build $build || return
-        for family in b s; do
-            if has python3; then
-                check "test.c, blake2$family, by build $build" run_of_build test $build $family "$cases/$family"
-            fi
-            check "key_scan.c, blake2$family, by build $build" run_of_build key_scan $build $family
-        done
-        for family in bp sp; do
-            if has python3; then
-                check "parallel.c, blake2$family, by build $build" \
-                    run_of_build parallel $build $family "$cases/$family"
-            fi
-            check "key_scan.c, blake2$family, by build $build" run_of_build key_scan $build $family
-        done
-        for family in xb xs; do
-            ! has python3 ||
-                check "xof.c, blake2$family, by build $build" run_of_build xof $build $family "$cases/$family"
-            check "key_scan.c, blake2$family, by build $build" run_of_build key_scan $build $family
+        for hash in "${hashes[@]}"; do
+            ! has python3 || check "conformance.c, $hash, by build $build" run_of_build conformance $build $hash
+            [ $hash = tree ] || check "key_scan.c, $hash, by build $build" run_of_build key_scan $build $hash
         done
     done
     for build in $(some $(seq "$level" -1 3)); do
@@ -367,8 +328,8 @@ test_choosing() {
     check "the assembly with that of another number" texts_stand_together "${here_texts[@]}"
     check "the archives in a shared library" archives_for_shared_library
     check "what a program takes of the library" programs_take_what_they_call
-    check "hidden names, libvulfsjor.a" names_are_hidden "$archive"
-    check "hidden names, libvulfsjor-libb2.a" names_are_hidden "$prefix/lib/libvulfsjor-libb2.a"
+    check "hidden names, libvulfsjor.a" names_are_hidden "$archive" "$include"
+    check "hidden names, libvulfsjor-libb2.a" names_are_hidden "$prefix/lib/libvulfsjor-libb2.a" "$include"
     needs
     check "calls of a constructor, and of threads" first_calls
     check "first calls of many threads" first_calls -DFIRST_BY_THREADS
@@ -376,9 +337,9 @@ test_choosing() {
         skip "the choice" "the library holds one build"
         return
     fi
-    check "make_libraries.sh refuses another list of functions" join_refuses_a_difference
     check "made-up processors" made_up_processors 0
     check "made-up processors, optimized" made_up_processors 2
+    check "made-up processors, by the functions for Windows and macOS" thunks_choose
     needs clang
     check "the library joined by clang" joined_by clang
     needs

@@ -1,12 +1,12 @@
-# What the parts of the tests of the C library share; a part reads it by `source` and ends with
-# `part FUNCTION`, or `part FUNCTION cases` if it needs the test vectors. It installs the library in
-# a temporary folder:
+# What the parts of the tests of the C library share; a part reads it by `source` and ends with `part FUNCTION`, or
+# `part FUNCTION cases` if it needs the test vectors and the conformance cases. It installs the library in a temporary
+# folder:
 #
 #   c/tests/PART.sh [--cpu CPU] [--from DIST]
 #
 # c/install.sh explains the options. Without DIST the library is that of dist/. Without options it
-# is the one in the folder VULFSJOR_INSTALLED, if that is set, as by ./test, and the test vectors are
-# those in the folder VULFSJOR_VECTORS.
+# is the one in the folder VULFSJOR_INSTALLED, if that is set, as by ./test, the test vectors are those
+# in the folder VULFSJOR_VECTORS, and the conformance cases those in VULFSJOR_CONFORMANCE.
 declare -F part >/dev/null && return
 set -u
 source "$(dirname "$(readlink -f "${BASH_SOURCE[0]}")")/../../tests/tap.sh"
@@ -16,6 +16,9 @@ prefix=$work/installed
 # In these words, so that install.sh does not compare dist/ with the sources each time.
 dist=$top/./dist
 cases=${VULFSJOR_VECTORS:-$work/vectors}
+conforming=${VULFSJOR_CONFORMANCE:-$work/conforming}
+# The hashes of the conformance cases.
+hashes=(blake2b blake2s blake2bp blake2sp blake2xb blake2xs tree)
 cpu=() from=()
 [ $# -gt 0 ] || prefix=${VULFSJOR_INSTALLED:-$prefix}
 while [ $# -gt 0 ]; do
@@ -36,7 +39,7 @@ empty=$work/empty.c
 echo 'int main(void) { return 0; }' >"$empty"
 
 # The level of the processor here, if it is an x86-64.
-level=$("$top/tools/processor.sh")
+level=$("$top/tests/processor.sh")
 level=${level#x86-64-v}
 
 # Whether the library here is for x86-64, and whether it holds all builds, and so chooses.
@@ -67,12 +70,27 @@ are_marked() {
     done
 }
 
+# Somebody else's shared library, linked with one of the archives, shows none of its functions.
+names_are_hidden() {
+    local archive=$1 headers=$2 compiler=${3-cc} binutils=
+    [[ $compiler != *-gcc ]] || binutils=${compiler%gcc}
+    printf '%s\n' '#include <vulfsjor.h>' \
+        'int theirs(void *out) { return vulfsjor_blake2b(out, 64, 0, 0, 0, 0); }' \
+        >"$work/theirs.c"
+    "$compiler" -fPIC -shared -I"$headers" "$work/theirs.c" -Wl,--whole-archive "$archive" \
+        -Wl,--no-whole-archive -o "$work/libtheirs.so" &&
+        [ "$("${binutils}nm" -D --defined-only --format=posix "$work/libtheirs.so" | cut -d ' ' -f 1)" = theirs ]
+}
+
 # The words of a test program for a family: b, s, bp, sp, xb or xs.
 family_words() {
     [[ $1 != *s* ]] || echo -DTEST_S
     [[ $1 != *p ]] || echo -DTEST_P
     [[ $1 != x* ]] || echo -DTEST_X
 }
+
+# The same for a hash of the conformance cases.
+hash_words() { if [ "$1" = tree ]; then echo -DTEST_T; else family_words "${1#blake2}"; fi; }
 
 # The words for a program over a library of this name.
 words_for() {
@@ -101,6 +119,11 @@ write_cases() {
     done
 }
 
+# The conformance cases, unless ./test has written them.
+write_conformance() {
+    [ -d "$conforming" ] || { mkdir "$conforming" && "$top/tests/conformance/write.py" "$conforming"; }
+}
+
 # Runs the tests of a part, unless its file is read by another part for its functions.
 part() {
     [ "${BASH_SOURCE[1]}" = "$0" ] || return 0
@@ -108,7 +131,8 @@ part() {
         skip "all tests" "no C compiler cc"
     elif { [ "$prefix" = "${VULFSJOR_INSTALLED-}" ] ||
         check "install.sh" "$here/install.sh" "${cpu[@]}" "${from[@]}" "$prefix"; } &&
-        { [ $# -eq 1 ] || ! has python3 || check "tests/vectors.json in lines" write_cases; }; then
+        { [ $# -eq 1 ] || ! has python3 || { check "tests/vectors.json in lines" write_cases &&
+            check "the conformance cases are written" write_conformance; }; }; then
         "$1"
     fi
     finish

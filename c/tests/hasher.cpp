@@ -10,6 +10,10 @@
 
 #include "check.h"
 
+#ifdef __linux__
+#include <ucontext.h>
+#endif
+
 #include <new>
 #include <string_view>
 #if __has_include(<span>) && __cplusplus >= 202002L
@@ -52,7 +56,7 @@ template <class H> constexpr bool is_value =
     std::is_nothrow_move_constructible_v<H> && std::is_nothrow_copy_assignable_v<H> &&
     std::is_nothrow_move_assignable_v<H> && std::is_nothrow_swappable_v<H> &&
     !std::is_convertible_v<parameters, H> && noexcept(std::declval<H &>().update(bytes())) &&
-    noexcept(std::declval<H &>().verify(bytes())) && noexcept(H::create(parameters())) &&
+    noexcept(H::create(parameters())) &&
     noexcept(std::declval<H &>().digest_to(nullptr, 0)) &&
     noexcept(std::declval<H &>().template digest<32>());
 static_assert(is_value<blake2b> && is_value<blake2s>);
@@ -63,6 +67,10 @@ template <class T> constexpr bool is_bytes = std::is_convertible_v<T, bytes>;
 static_assert(is_bytes<const char *> && is_bytes<const char (&)[4]> && is_bytes<std::string> &&
               is_bytes<std::string_view> && is_bytes<unsigned char (&)[4]> &&
               is_bytes<std::vector<char>> && is_bytes<const std::array<std::byte, 4> &>);
+static_assert(is_bytes<char *> && is_bytes<std::array<char, 4> &> && !is_bytes<char (&)[4]> &&
+              !is_bytes<char (&&)[4]> && !is_bytes<const char (&&)[4]>);
+static_assert(std::is_aggregate_v<parameters> && std::is_nothrow_default_constructible_v<parameters> &&
+              std::is_nothrow_copy_constructible_v<parameters> && !std::is_trivially_destructible_v<parameters>);
 static_assert(!is_bytes<std::nullptr_t> && !is_bytes<int> && !is_bytes<unsigned char *> &&
               !is_bytes<std::vector<int>> && !is_bytes<std::u16string> &&
               !is_bytes<int (&)[4]> && !is_bytes<std::vector<bool>> && !is_bytes<const void *> &&
@@ -93,7 +101,8 @@ template <class H> void tell(std::size_t size, std::size_t keylen, std::size_t s
     std::printf("hash %s %zu %zu %zu %zu 0 %zu ", name<H>, size, keylen, saltlen, personallen,
                 length);
     print(hasher->digest());
-    CHECK(hasher->verify(hasher->digest()) && hasher->count() == length);
+    CHECK(!keylen || hasher->verify(hasher->digest()));
+    CHECK(hasher->count() == length);
     hasher->reset();
     CHECK(!hasher->count() && hasher->update(bytes(message.data(), length)));
     std::printf("hash %s %zu %zu %zu %zu 0 %zu ", name<H>, size, keylen, saltlen, personallen,
@@ -101,7 +110,7 @@ template <class H> void tell(std::size_t size, std::size_t keylen, std::size_t s
     print(hasher->digest());
 #ifdef __cpp_exceptions
     H constructed(given);
-    CHECK(constructed.update(message.data(), length) && constructed.verify(hasher->digest()));
+    CHECK(constructed.update(message.data(), length) && constructed.digest() == hasher->digest());
     CHECK(H::hash(bytes(message.data(), length), given) == hasher->digest());
 #endif
 }
@@ -143,13 +152,13 @@ template <class H> void nodes() {
 
 /* All ways to say the same bytes. */
 template <class H> void inputs() {
-    char text[] = "a text";
+    const char text[] = "a text";
     const unsigned char array[] = {'a', ' ', 't', 'e', 'x', 't'};
     const std::array<std::byte, 6> of_bytes{std::byte('a'), std::byte(' '), std::byte('t'),
                                             std::byte('e'), std::byte('x'), std::byte('t')};
     const std::vector<char> list(text, text + 6);
     std::vector<H> all(8);
-    CHECK(all[0].update(text) && all[1].update(array) && all[2].update(of_bytes) &&
+    CHECK(all[0].update("a text") && all[1].update(array) && all[2].update(of_bytes) &&
           all[3].update(std::string(text)));
     CHECK(all[4].update(std::string_view("a text, and more", 6)));
     CHECK(all[5].update(list) && all[6].update(array, 6) && all[7].update("a ") &&
@@ -161,6 +170,82 @@ template <class H> void inputs() {
           all[10].update(std::u8string(u8"a text")));
 #endif
     for (const H &each : all) CHECK(each.count() == 6 && each.digest() == all[0].digest());
+    /* Strings of C, and what is no literal and no string. */
+    char buffer[] = {'a', ' ', 't', 'e', 'x', 't', 0, 'x'}, *pointer = buffer, *null = nullptr;
+    H hasher;
+    CHECK(!hasher.update(null) && !hasher.update(static_cast<const char *>(nullptr)) && !hasher.count());
+    CHECK(hasher.update(pointer) && hasher.count() == 6 && hasher.digest() == all[0].digest());
+    CHECK(hasher.update(buffer, sizeof buffer) && hasher.count() == 14);
+    CHECK(hasher.update(bytes(buffer, sizeof buffer)) && hasher.count() == 22);
+    CHECK(hasher.update("ab\0cd") && hasher.count() == 27 && hasher.update("") && hasher.count() == 27);
+    CHECK(hasher.update(u8"abc") && hasher.count() == 30);
+    const unsigned char four[] = "abc";
+    CHECK(hasher.update(four) && hasher.count() == 34);
+#ifdef __cpp_char8_t
+    const char8_t *utf8 = u8"a text", *no_utf8 = nullptr;
+    CHECK(!hasher.update(no_utf8) && hasher.count() == 34);
+    hasher.reset();
+    CHECK(hasher.update(utf8) && hasher.digest() == all[0].digest());
+#endif
+#if __cplusplus < 202002L
+    /* From C++20 on the compiler refuses it. */
+    const char no_literal[] = {'a', 'b', 'c'};
+    parameters given;
+    given.personal = no_literal;
+    CHECK(!hasher.update(no_literal) && hasher.count() == 34 && !H::create(given));
+#endif
+}
+
+/* Parameters are copies: what they were made of may change and be freed. */
+template <class H> void copied_parameters() {
+    const auto tell_of = [](const parameters &given) {
+        const std::optional<H> hasher = H::create(given);
+        CHECK(hasher);
+        std::printf("hash %s %zu 20 5 6 0 0 ", name<H>, longest<H>);
+        print(hasher->digest());
+    };
+    parameters given;
+    given.key = filled(20, 100);
+    given.salt = filled(5, 50);
+    given.personal = "another " + std::string("text");
+    given.personal = filled(6, 200);
+    for (int i = 0; i < 9; i++) CHECK(std::vector<unsigned char>(20, 0xee).back() == 0xee);
+    tell_of(given);
+    std::vector<unsigned char> key = filled(20, 100);
+    unsigned char salt[5];
+    std::memcpy(salt, salts.data(), sizeof salt);
+    parameters changed{{}, key, salt, filled(6, 200), {}};
+    key.assign(20, 0xee);
+    salt[0] = 0;
+    tell_of(changed);
+    const parameters copy = changed;
+    changed.key = filled(3, 1);
+    changed = parameters();
+    CHECK(!changed.key.has_value() && !changed.key.size() && !changed.key.data() && !changed.salt.has_value());
+    tell_of(copy);
+    changed.key = copy.key;
+    changed.key = std::nullopt;
+    CHECK(!changed.key.has_value() && H::create(changed)->digest() == H().digest());
+    changed.key = "";
+    CHECK(changed.key.has_value() && !H::create(changed));
+#ifdef __cpp_designated_initializers
+    CHECK(H::create(parameters{.digest_length = 16})->digest_length() == 16);
+    tell_of({.key = filled(20, 100), .salt = filled(5, 50), .personal = filled(6, 200)});
+#endif
+}
+
+/* Nothing of a key stays where parameters were. */
+void wiped_parameters() {
+    alignas(parameters) unsigned char memory[sizeof(parameters)];
+    std::memset(memory, 0, sizeof memory);
+    parameters *given = ::new (static_cast<void *>(memory)) parameters;
+    given->key = filled(64, 0x31);
+    given->salt = filled(16, 0x31);
+    given->personal = filled(16, 0x31);
+    asm volatile("" : : "r"(given) : "memory"); /* or nothing would be written that nobody reads */
+    given->~parameters();
+    const volatile unsigned char *left = memory;
+    for (std::size_t i = 0; i + 1 < sizeof memory; i++) CHECK(left[i] < 0x31 || left[i + 1] != left[i] + 1);
 }
 
 /* ---- refusals */
@@ -215,7 +300,9 @@ template <class H> void refusals() {
 
 /* Calls that fail, and change nothing. */
 template <class H> void failures() {
-    H hasher;
+    parameters keyed;
+    keyed.key = "key";
+    H hasher = *H::create(keyed);
     std::array<std::uint8_t, longest<H> + 1> out;
     out.fill(0xaa);
     CHECK(hasher.update("abc"));
@@ -241,7 +328,7 @@ template <class H> void failures() {
     }
     CHECK(hasher.digest() == wanted);
 #ifdef __cpp_exceptions
-    CHECK(H::hash("abc") == wanted);
+    CHECK(H::hash("abc", keyed) == wanted);
     try {
         static_cast<void>(H::hash(bytes(nullptr, 1)));
         CHECK(false);
@@ -249,6 +336,29 @@ template <class H> void failures() {
         CHECK(error.what() == std::string("vulfsjor: in is out of range"));
     }
 #endif
+}
+
+/* A digest without a key is no tag: anybody can make it. */
+template <class H> void no_tags() {
+    H plain;
+    CHECK(plain.update("abc"));
+    parameters given;
+    given.personal = "a purpose";
+    given.digest_length = 16;
+    for (const H &each : {plain, *H::create(given)}) {
+        const auto digest = each.digest();
+        CHECK(!vulfsjor_memcmp(digest.data(), each.digest().data(), digest.size()));
+#ifdef __cpp_exceptions
+        try {
+            CHECK(!each.verify(digest) && false);
+        } catch (const std::logic_error &error) {
+            CHECK(std::string_view(error.what()) ==
+                  "vulfsjor: verify needs a key; compare digests by vulfsjor_memcmp");
+        }
+#else
+        CHECK(!each.verify(digest));
+#endif
+    }
 }
 
 /* ---- values */
@@ -285,22 +395,119 @@ template <class H> void wiped() {
     for (std::size_t i = 0; i < sizeof memory; i++) CHECK(left[i] == 0);
 }
 
+/* A count beyond 2^32, by a state whose counter is set. */
+template <class H, class S> void set_counter(H &hasher, S state, std::uint64_t counter) {
+    static_assert(sizeof(H) == sizeof(S) && std::is_standard_layout_v<H>);
+    unsigned char number[8]; /* which is little-endian in a state */
+    for (int i = 0; i < 8; i++) number[i] = static_cast<unsigned char>(counter >> 8 * i);
+    std::memcpy(&state, static_cast<const void *>(&hasher), sizeof state);
+    if constexpr (std::is_same_v<S, vulfsjor_blake2b_state> || std::is_same_v<S, vulfsjor_blake2s_state>)
+        std::memcpy(&state.counter, number, 8);
+    else std::memcpy(&state.lanes.counter, number, 8);
+    std::memcpy(static_cast<void *>(&hasher), &state, sizeof state);
+}
+
+template <class H> void counts() {
+    const std::uint64_t huge = (std::uint64_t(1) << 40) + 8 * H::block_length;
+    H hasher;
+    CHECK(hasher.update(bytes(message.data(), 3)));
+    if constexpr (std::is_same_v<H, blake2b>) set_counter(hasher, vulfsjor_blake2b_state(), huge);
+    else if constexpr (std::is_same_v<H, blake2s>) set_counter(hasher, vulfsjor_blake2s_state(), huge);
+    else if constexpr (std::is_same_v<H, vulfsjor::blake2bp>)
+        set_counter(hasher, vulfsjor_blake2bp_state(), huge / 4);
+    else set_counter(hasher, vulfsjor_blake2sp_state(), huge / 8);
+    CHECK(hasher.count() == huge + 3);
+}
+
+#ifdef __linux__
+/* Whether eight bytes of the key are anywhere in this memory. */
+bool has_key(const unsigned char *memory, std::size_t length, const std::vector<unsigned char> &key) {
+    for (std::size_t i = 0; i + 8 <= length; i++)
+        for (std::size_t k = 0; k + 8 <= key.size(); k++)
+            if (!std::memcmp(memory + i, key.data() + k, 8)) return true;
+    return false;
+}
+
+/* Runs a call on a stack of its own, and returns whether the call leaves a piece of the key there. */
+void (*to_run)();
+void run_it() { to_run(); }
+bool leaves_key(void (*call)(), const std::vector<unsigned char> &key) {
+    static unsigned char stack[1 << 18];
+    ucontext_t here, there;
+    std::memset(stack, 0xa5, sizeof stack);
+    to_run = call;
+    getcontext(&there);
+    there.uc_stack.ss_sp = stack;
+    there.uc_stack.ss_size = sizeof stack;
+    there.uc_link = &here;
+    makecontext(&there, run_it, 0);
+    swapcontext(&here, &there);
+    return has_key(stack, sizeof stack, key);
+}
+
+/* A key that is pending in a state, and the calls that copy that state and end without a digest. */
+template <class H> H *keyed_hasher;
+template <class H> std::uint8_t room[80];
+template <class H> void call_leaves_nothing() {
+    std::vector<unsigned char> key = filled(H::max_digest_length, 77);
+    parameters given;
+    given.key = key;
+    H hasher = *H::create(given);
+    keyed_hasher<H> = &hasher;
+    CHECK(leaves_key([] { /* what is left is seen */
+        unsigned char kept[sizeof(H)];
+        std::memcpy(kept, static_cast<const void *>(keyed_hasher<H>), sizeof kept);
+        asm volatile("" : : "r"(kept) : "memory");
+    }, key));
+    CHECK(!leaves_key([] { CHECK(!keyed_hasher<H>->digest_to(room<H>, 3)); }, key));
+    CHECK(!leaves_key([] { CHECK(!keyed_hasher<H>->digest_to(nullptr, H::max_digest_length)); }, key));
+    CHECK(!leaves_key([] { CHECK(keyed_hasher<H>->digest_to(room<H>, H::max_digest_length)); }, key));
+    CHECK(!leaves_key([] { CHECK(!keyed_hasher<H>->template digest<7>()); }, key));
+    CHECK(!leaves_key([] { CHECK(!keyed_hasher<H>->verify(bytes())); }, key));
+    CHECK(!leaves_key([] { CHECK(!keyed_hasher<H>->verify(bytes(nullptr, 64))); }, key));
+    CHECK(!leaves_key([] { H copy(*keyed_hasher<H>); CHECK(copy.update("abc")); }, key));
+}
+#else
+template <class H> void call_leaves_nothing() {}
+#endif
+
 template <class H> void family() {
     digests<H>();
     nodes<H>();
     inputs<H>();
+    copied_parameters<H>();
     refusals<H>();
     failures<H>();
+    no_tags<H>();
+    counts<H>();
+    call_leaves_nothing<H>();
     values<H>();
     wiped<H>();
 }
 
-/* BLAKE2bp or BLAKE2sp, compared with the call in one of C, which parallel.c tests. */
+/* A salt and a personalization of BLAKE2bp or BLAKE2sp, compared with the calls of C, which conformance.c
+ * tests. */
+template <class H, class S, class I, class U, class F> void labels(I init, U update, F final) {
+    std::vector<std::uint8_t> wanted(H::max_digest_length);
+    S state;
+    CHECK(!init(&state, wanted.size(), nullptr, 0, salts.data(), 3, personals.data(), 4));
+    CHECK(!update(&state, message.data(), 700) && !final(&state, wanted.data(), wanted.size()));
+    parameters given;
+    given.salt = bytes(salts.data(), 3);
+    given.personal = bytes(personals.data(), 4);
+    std::optional<H> hasher = H::create(given);
+    CHECK(hasher && hasher->update(message.data(), 700) && hasher->digest() == wanted);
+}
+
+/* BLAKE2bp or BLAKE2sp, compared with the call in one of C, which conformance.c tests. */
 template <class H, class F> void parallel(F one_call) {
     const std::size_t most = H::max_digest_length;
     parameters given;
     given.digest_length = most - 3;
     given.key = bytes(keys.data(), most);
+    no_tags<H>();
+    counts<H>();
+    call_leaves_nothing<H>();
     std::vector<std::uint8_t> wanted(most - 3), longest_wanted(most);
     const unsigned char *in = message.data();
     const std::size_t length = message.size();
@@ -378,6 +585,11 @@ int main() {
     family<blake2s>();
     parallel<vulfsjor::blake2bp>(vulfsjor_blake2bp);
     parallel<vulfsjor::blake2sp>(vulfsjor_blake2sp);
+    labels<vulfsjor::blake2bp, vulfsjor_blake2bp_state>(
+        vulfsjor_blake2bp_init_salt_personal, vulfsjor_blake2bp_update, vulfsjor_blake2bp_final);
+    labels<vulfsjor::blake2sp, vulfsjor_blake2sp_state>(
+        vulfsjor_blake2sp_init_salt_personal, vulfsjor_blake2sp_update, vulfsjor_blake2sp_final);
+    wiped_parameters();
     std::puts("end");
     return fails ? 1 : 0;
 }

@@ -125,18 +125,29 @@ static void update(void) {
     state_t state;
 
     CHECK(!BLAKE(init)(&state, MAX) && !BLAKE(update)(&state, message, LENGTH));
-    CHECK(BLAKE(count)(&state) == LENGTH && !BLAKE(final)(&state, out, LENGTH));
+    CHECK(BLAKE(count)(&state) == LENGTH && !BLAKE(final)(&state, out, MAX));
     CHECK(is(out, HASH));
+}
+
+/* Lengths that are those of a digest, or of nothing, in 32 bits, and one that is not. */
+static const size_t long_lengths[] = {((size_t)1 << 32) + MAX, (size_t)1 << 32, LENGTH};
+
+/* Room for a digest that is longer than it: refused, and the digest is as it would have been. */
+static void long_room(void) {
+    state_t state;
+
+    CHECK(!BLAKE(init)(&state, MAX) && !ONE_CALL(out, MAX, NULL, 0, NULL, 0));
+    for (size_t i = 0; i < 3; i++) CHECK(BLAKE(final)(&state, other, long_lengths[i]) == -1);
+    CHECK(!BLAKE(final)(&state, other, MAX) && !memcmp(other, out, MAX));
 }
 
 /* A tag that starts with the right bytes, and is longer. */
 static void long_tag(void) {
-    const size_t lengths[] = {((size_t)1 << 32) + MAX, (size_t)1 << 32, LENGTH};
     state_t state;
 
     for (size_t i = 0; i < 3; i++) {
-        CHECK(!BLAKE(init)(&state, MAX) && !ONE_CALL(other, MAX, NULL, 0, NULL, 0));
-        CHECK(BLAKE(verify)(&state, other, lengths[i]) == -1 && !BLAKE(digest_size)(&state));
+        CHECK(!BLAKE(init_key)(&state, MAX, "key", 3) && !ONE_CALL(other, MAX, NULL, 0, "key", 3));
+        CHECK(BLAKE(verify)(&state, other, long_lengths[i]) == -1 && !BLAKE(digest_size)(&state));
     }
 }
 
@@ -189,7 +200,9 @@ static void tree_update(void) {
 
     CHECK(!vulfsjor_tree_init(&state, 64, 0, 0, 0, 0, LEAF));
     CHECK(!vulfsjor_tree_update(&state, message, LENGTH) && vulfsjor_tree_count(&state) == LENGTH);
-    CHECK(!vulfsjor_tree_final(&state, out, LENGTH) && is(out, ROOT));
+    for (size_t i = 0; i < 3; i++)
+        CHECK(vulfsjor_tree_final(&state, other, long_lengths[i]) == -1);
+    CHECK(!vulfsjor_tree_final(&state, out, 64) && is(out, ROOT));
 }
 
 static void leaves(void) {
@@ -317,6 +330,7 @@ int main(void) {
     message = repeated(LENGTH);
     other = repeated(LENGTH);
     for (size_t i = 0; i < PERIOD; i++) message[i] = (uint8_t)(i % 251);
+    long_room();
     long_tag();
     same_bytes();
 #ifndef TEST_S

@@ -104,12 +104,13 @@ package() {
 # Only one build, without the choice, and with the same functions; made where another archive was.
 one_build() {
     local folder=$work/one
-    mkdir "$folder.made" && ar rc "$folder.made/libvulfsjor.a" "$empty" &&
+    mkdir "$folder.made" && ar rc "$folder.made/libvulfsjor.a" "$empty" && touch "$folder.made/libvulfsjor.so.0.0.9" &&
         "$here/install.sh" --cpu x86-64-v2 --from "$dist" --build "$folder.made" &&
         "$here/install.sh" --built "$folder.made" "$folder" && ! ar t "$folder/lib/libvulfsjor.a" | grep empty &&
         grep -qx 'Description: .*, proved, for x86-64-v2' "$folder/lib/pkgconfig/vulfsjor.pc" &&
         files_below "$folder" | diff <(wanted_files lib/) - &&
         words_work "$folder/lib" && ! nm "$folder/lib/libvulfsjor.a" | grep -q vulfsjor_ffi_level &&
+        names_are_hidden "$folder/lib/libvulfsjor.a" "$folder/include" &&
         nm -g --defined-only "$folder/lib/libvulfsjor.a" |
         sed -n 's/.* T \(vulfsjor_ffi_[a-z0-9_]*[a-z]\)$/\1/p' | LC_ALL=C sort |
             diff - <(sed -n 's/^CALL("\(.*\)")$/\1/p' "$here/choose.c" | LC_ALL=C sort)
@@ -123,6 +124,35 @@ installs_again() {
         ln -sf nowhere "$folder/lib/libvulfsjor.so" &&
         install_one "$folder" && words_work "$folder/lib" && [ "$(cat "$work/old")" = old ] &&
         files_below "$folder" | diff <(wanted_files lib/) -
+}
+
+# A program has at most 80 KB, and code of the family that it calls and of no other: PROGRAM FAMILY
+is_small() {
+    local size names
+    size=$(stat -c %s "$1") && names=$(nm "$1") && grep " vulfsjor_ffi_$2_" <<<"$names" >/dev/null || return 1
+    ! sed -n 's/.* vulfsjor_ffi_//p' <<<"$names" | grep -vE "^($2(_|$)|(ask|find|level)(\.|$))" &&
+        ! grep -E 'blake2_(parallel|tree|xof)\.' <<<"$names" &&
+        { [ "$size" -le 81920 ] || { echo "$1 has $size bytes" && return 1; }; }
+}
+
+# Programs that link the archive and have one hash, in one call or in pieces, are small without a flag for it: by
+# pkg-config and by CMake.
+small_programs() {
+    local family first call folder=$work/small words
+    mkdir "$folder" && words=$(PKG_CONFIG_PATH=$prefix/lib/pkgconfig pkg-config --cflags --libs vulfsjor-static) ||
+        return 1
+    while read -r family first call; do
+        printf '%s\n' '#include <vulfsjor.h>' 'int main(void) { unsigned char d[32];' \
+            "vulfsjor_${family}_state s; (void)s; return $call || d[0] != $first; }" >"$folder/program.c" &&
+            eval "cc '$folder/program.c' $words -o '$folder/program'" && "$folder/program" &&
+            is_small "$folder/program" "$family" || return 1
+    done <<'END'
+blake2b 0xbd vulfsjor_blake2b(d, 32, "abc", 3, 0, 0)
+blake2s 0x50 vulfsjor_blake2s(d, 32, "abc", 3, 0, 0)
+blake2b 0xbd vulfsjor_blake2b_init(&s, 32) || vulfsjor_blake2b_update(&s, "abc", 3) || vulfsjor_blake2b_final(&s, d, 32)
+END
+    ! has cmake || { project_by_cmake "list(APPEND CMAKE_PREFIX_PATH \"$prefix\")
+find_package(vulfsjor REQUIRED)" vulfsjor::vulfsjor vulfsjor::threads && is_small "$work/made_program" blake2b; }
 }
 
 # A project of its own that has the library's files as a part, by hand, as c/README.md has it:
@@ -143,8 +173,8 @@ vendored_by_hand() {
 }
 
 # A project for CMake that gets the library by these lines, with a program and one with threads that
-# link these targets, and a shared library: LINES TARGET TARGET [LANGUAGE]. Both programs run, and
-# need these of our shared libraries (in the file `needed`).
+# link these targets, and a shared library: LINES TARGET TARGET [LANGUAGE]. Both programs run; the first one is then
+# `made_program`, and the file `needed` has which of our shared libraries they need.
 project_by_cmake() {
     local folder build language=${4:-C}
     folder=$(mktemp -d "$work/project.XXXX") && build=$folder/build
@@ -167,7 +197,8 @@ if("$3" STREQUAL vulfsjor::threads AND NOT Threads::Threads IN_LIST needed)
 endif()
 END
     cmake -S "$folder" -B "$build" -DCMAKE_BUILD_TYPE=Release &&
-        cmake --build "$build" && "$build/program" && "$build/threads" || return 1
+        cmake --build "$build" && "$build/program" && "$build/threads" && cp "$build/program" "$work/made_program" ||
+        return 1
     readelf -d "$build/program" "$build/threads" "$build/libshared.so" |
         sed -n 's/.*NEEDED.*\[\(libvulfsjor.*\)\]/\1/p' >"$work/needed"
 }
@@ -343,13 +374,14 @@ make_here() { make -C "$top" built="$work/made" "$@"; }
 
 # All files of an installation of programs and library, with this before their names: PREFIX
 files_of_all() {
-    { files_of_program "${1-}b2" && files_of_program "${1-}b2sum" && wanted_files lib/; } | LC_ALL=C sort
+    { files_of_program "${1-}b2" && files_of_program "${1-}b2sum" && wanted_files lib/ &&
+        printf 'share/man/man3/%s.3\n' vulfsjor vulfsjor_tree $(functions_of_headers); } | LC_ALL=C sort
 }
 
 # `make install` and `make uninstall`, below DESTDIR.
 made_by_make() {
     local root="$work/made here" place="$work/made here/opt/a b"
-    (umask 077 && make_here install PREFIX="/opt/a b" DESTDIR="$root" CC="cc -O1") &&
+    (umask 077 && make_here install prefix="/opt/a b" DESTDIR="$root" CC="cc -O1") &&
         files_below "$place" | diff <(files_of_all) - &&
         [ "$(cd "$place" && find . -type f -perm 755 | sort | paste -sd ' ')" = \
             "./bin/b2 ./bin/b2sum ./lib/libvulfsjor.so.$(version)" ] &&
@@ -357,10 +389,10 @@ made_by_make() {
         [ "$(printf abc | "$place/bin/b2" sum b512)" = "$(printf abc | b2sum | cut -c-128)" ] &&
         [ "$(printf abc | "$place/bin/b2sum")" = "$(printf abc | b2sum)" ] &&
         are_copies "$place" && touch "$place/bin/other" &&
-        make_here uninstall PREFIX="/opt/a b" DESTDIR="$root" &&
+        make_here uninstall prefix="/opt/a b" DESTDIR="$root" &&
         [ "$(files_below "$root")" = "opt/a b/bin/other" ] &&
-        refuses 2 "PREFIX must be an absolute path" make_here install PREFIX=opt &&
-        refuses 2 "PREFIX must be an absolute path" make_here uninstall PREFIX=opt &&
+        refuses 2 "prefix must be an absolute path" make_here install prefix=opt &&
+        refuses 2 "prefix must be an absolute path" make_here uninstall prefix=opt &&
         ! make_here -n install PROGRAMS=b2 | grep -q b2sum
 }
 
@@ -376,12 +408,12 @@ variables_of_make() {
     make_here built="$folder/made" all CC="$folder/cc" AR="env $folder/ar" CPPFLAGS=-DASKED=1 \
         CFLAGS="-g -flto" LDFLAGS="-Wl,-z,separate-code -L/asked$more" 2>"$folder/said" || return 1
     # Debug information names no temporary file, so that another build is the same.
-    ! grep -rlaF -e "$folder" -e /text.s "$folder/made" || return 1
+    ! grep -rlaF -e "$folder" -e /text.s --exclude words "$folder/made" || return 1
     # Only objects of the system have no marks.
     ! grep "missing IBT" "$folder/said" | grep -v "ld: /usr/" || return 1
     while read -r line; do
         case " $line" in
-            " -dumpmachine" | " -print-"*) ;;
+            " -dumpmachine" | " -print-"* | " -DASKED=1 -g -flto -E -P -") ;;
             *" -E "*"/macros.h "* | *" -c "*.s\ *) [[ " $line" == *" -DASKED=1 -g -flto "* ]] || return 1 ;;
             *" -c "*) [[ $line == *" -DASKED=1 -g -flto "*" -fno-lto "* ]] || return 1 ;;
             *) [[ " $line" == *" -DASKED=1 -g -flto -Wl,-z,separate-code -L/asked$more "*"-fno-lto "* ]] ||
@@ -389,10 +421,13 @@ variables_of_make() {
         esac
     done <"$folder/cc.calls"
     [ "$(grep -vc -e ' -c ' -e ' -E ' -e -dumpmachine "$folder/cc.calls")" -eq 3 ] &&
-        [ "$(grep -c -e ' -E ' "$folder/cc.calls")" -eq 1 ] &&
+        [ "$(grep -c -e ' -E .*/macros' "$folder/cc.calls")" -eq 1 ] &&
         [ "$(wc -l <"$folder/ar.calls")" -eq 3 ] &&
-        make_here built="$folder/made" -s install CC=false DESTDIR="$root" prefix=/p bindir=/b \
-            libdir=/l includedir=/i mandir=/m datarootdir=/d &&
+        make_here built="$folder/made" -s install DESTDIR="$root" prefix=/p bindir=/b \
+            libdir=/l includedir=/i mandir=/m datarootdir=/d && [ "$(wc -l <"$folder/ar.calls")" -eq 3 ] &&
+        make_here built="$folder/made" -q all CC="$folder/cc" AR="env $folder/ar" CPPFLAGS=-DASKED=1 \
+            CFLAGS="-g -flto" LDFLAGS="-Wl,-z,separate-code -L/asked$more" &&
+        ! make_here built="$folder/made" -q install CC=cc && ! CFLAGS="it's" make_here built="$folder/made" -q all &&
         files_below "$root" | diff <(files_of_all |
             sed 's|^bin/|b/|;s|^include/|i/|;s|^lib/|l/|;s|^share/man/|m/|;s|^share/|d/|' | LC_ALL=C sort) - &&
         [ "$(printf abc | "$root/b/b2sum")" = "$(printf abc | b2sum)" ] &&
@@ -405,34 +440,32 @@ variables_of_make() {
             ! make -C "$top" built="$folder/made" -q -W "${line%:*}" "$folder/made/${line#*:}" ||
             { echo "$line" && return 1; }
     done
-    make_here -n install exec_prefix=/e | grep -qF ' LIBDIR="/e/lib" ' &&
-        make_here -n install LIBDIR=lib/x PREFIX=/p | grep -qF ' LIBDIR="/p/lib/x" ' &&
-        ! make_here -n clean | grep -v '^make\|^rm -rf out$' && make_here -n check | grep -qx ./test
+    make_here built="$folder/made" -s install DESTDIR="$root" prefix=/p exec_prefix=/e &&
+        (cd "$root" && ls -d e/* p/* | paste -sd ' ' | grep -x "e/bin e/lib p/include p/share") &&
+        make_here uninstall DESTDIR="$root" prefix=/p exec_prefix=/e && [ -z "$(files_below "$root")" ] &&
+        [ "$(make_here -n clean | grep -v ^make)" = "rm -rf out" ]
 }
 
-# Next to files of others, in the folders of the system: nothing is installed, unless by another name or
-# if that is asked for; and then the others stay, also when ours go.
+# Next to files of others, in the folders of the system: nothing is installed, unless by another name; and then the
+# others stay, also when ours go.
 made_next_to_others() {
     local root=$work/others place=$work/others/usr name
     mkdir -p "$place/bin" "$place/share/man/man1" && echo coreutils >"$place/bin/b2sum" &&
         echo Boost >"$place/bin/b2" && echo coreutils >"$place/share/man/man1/b2sum.1" || return 1
     for name in "" PROGRAMS=b2sum PROGRAMS=b2; do
-        refuses 2 'is not ours' make_here install PREFIX=/usr DESTDIR="$root" $name &&
+        refuses 2 'is not ours' make_here install prefix=/usr DESTDIR="$root" $name &&
             [ "$(files_below "$root" | wc -l)" -eq 3 ] || return 1
     done
-    make_here install PREFIX=/usr DESTDIR="$root" PROGRAM_PREFIX=vulfsjor- &&
+    make_here install prefix=/usr DESTDIR="$root" PROGRAM_PREFIX=vulfsjor- &&
         files_below "$place" | diff <({ printf '%s\n' bin/b2 bin/b2sum share/man/man1/b2sum.1 &&
             files_of_all vulfsjor-; } | LC_ALL=C sort) - &&
         [ "$(cat "$place"/bin/b2{,sum} "$place/share/man/man1/b2sum.1" | paste -sd ' ')" = \
             "Boost coreutils coreutils" ] && follows_the_prefix "$place" &&
             is_plain "$place/lib/pkgconfig" || return 1
-    make_here install PREFIX=/usr DESTDIR="$root" PROGRAM_PREFIX=vulfsjor- &&
-        make_here uninstall PREFIX=/usr DESTDIR="$root" && [ "$(cat "$place/bin/b2")" = Boost ] &&
-        make_here uninstall PREFIX=/usr DESTDIR="$root" PROGRAM_PREFIX=vulfsjor- &&
-        [ "$(files_below "$root" | wc -l)" -eq 3 ] &&
-        make_here install PREFIX=/usr DESTDIR="$root" OVERWRITE=yes &&
-        [ "$(printf abc | "$place/bin/b2" sum b512)" = "$(printf abc | b2sum | cut -c-128)" ] &&
-        are_copies "$place"
+    make_here install prefix=/usr DESTDIR="$root" PROGRAM_PREFIX=vulfsjor- &&
+        make_here uninstall prefix=/usr DESTDIR="$root" && [ "$(cat "$place/bin/b2")" = Boost ] &&
+        make_here uninstall prefix=/usr DESTDIR="$root" PROGRAM_PREFIX=vulfsjor- &&
+        [ "$(files_below "$root" | wc -l)" -eq 3 ]
 }
 
 # In the folders of the system pkg-config leaves them out.
@@ -470,19 +503,21 @@ unknown_targets() {
 
 # What the other names of the Makefile run, and the list of all.
 run_by_make() {
-    diff <(make -C "$top" -n --no-print-directory test release prove dist bench docs) - <<'END' &&
+    diff <(make -C "$top" -n --no-print-directory test release prove twins dist bench docs) - <<'END' &&
 ./test
 tools/release.sh
 ./test --prove
+tools/twins.py
 tools/dist.sh make
 js/tools/build.mjs
 bench/speed.py
 tools/reference.py
+tests/page_numbers.py --write
 tools/manual.py
 tests/pages.py
 END
         [ "$(make -C "$top" --no-print-directory help | cut -f 1 | cut -d ' ' -f 2 | paste -sd ' ')" = \
-            "all help install uninstall check test clean release prove dist bench docs" ] &&
+            "all help install uninstall test clean release prove twins dist bench docs" ] &&
         [ "$(make_here -n)" = "$(make_here -n all)" ]
 }
 
@@ -495,7 +530,8 @@ choose_by_cmake() {
             -DCMAKE_TRY_COMPILE_TARGET_TYPE=STATIC_LIBRARY "${@:3}" >"$work/configured" 2>&1 ||
         { cat "$work/configured" && return 1; }
     # It has a rule for the assembly of C too.
-    grep -rhoE 'dist/[a-z0-9_-]*/?vulfsjor[v0-9-]*\.[sSc]' "$build" | LC_ALL=C sort -u |
+    grep -hoE 'dist/[a-z0-9_-]*/?vulfsjor[v0-9-]*\.[sSc]' "$build/CMakeFiles/vulfsjor.dir/build.make" |
+        LC_ALL=C sort -u |
         sed '/^dist\/c\/vulfsjor\.s$/d'
 }
 
@@ -541,31 +577,24 @@ relative_folder() {
         "$here/install.sh" --uninstall some/folder && [ -z "$(files_below some/folder)" ]
 }
 
-# A repository of its own whose tools/dist.sh is a stand-in: it notes its words, and leaves what
-# dist/ has.
+# A repository of its own whose tools/dist.sh is a stand-in, which notes its words.
 make_stand_in() {
-    mkdir -p "$1/tools" && cp -R "$here" "$1/c" && cp -R "$dist" "$1/dist" &&
+    mkdir -p "$1/tools" && cp "$top/tools/shell.sh" "$1/tools" && cp -R "$here" "$1/c" && cp -R "$dist" "$1/dist" &&
         cat >"$1/tools/dist.sh" <<END || return 1
 #!/bin/sh
 echo "\$@" >>"$1/calls"
-[ ! -e "$1/refuse" ] || exit 1
-[ "\$1" != make ] || { mkdir "\$2" && cp -R "$1/dist"/* "\$2/"; }
+[ ! -e "$1/refuse" ]
 END
     chmod +x "$1/tools/dist.sh"
 }
 
-# Without a word the library comes from dist/, where that was made from these sources, and with
-# --prove from what tools/dist.sh makes. Where either fails nothing is installed.
+# Without a word the library comes from dist/, where that was made from these sources. Else nothing is installed.
 comes_from() {
     local tree=$work/tree
     make_stand_in "$tree" && "$tree/c/install.sh" "$tree/made" && words_work "$tree/made/lib" &&
-        "$tree/c/install.sh" --cpu x86-64-v3 --prove "$tree/proved" &&
-        words_work "$tree/proved/lib" &&
-        sed 's| /.*/dist | DIST |' "$tree/calls" |
-        diff - <(printf '%s\n' current 'make DIST x86_64/vulfsjor-v3.s') &&
-        touch "$tree/refuse" || return 1
+        [ "$(cat "$tree/calls")" = current ] && touch "$tree/refuse" || return 1
     refuses 1 'dist/ was not made from these sources' "$tree/c/install.sh" "$tree/not_made" &&
-        ! "$tree/c/install.sh" --prove "$tree/not_made" && [ ! -e "$tree/not_made" ]
+        [ ! -e "$tree/not_made" ]
 }
 
 # The status and the words of a call that is refused.
@@ -604,6 +633,23 @@ texts_for() {
     grep -ohE 'dist/[^ ]*/vulfsjor[v0-9-]*\.[sc] ' "$work/compiled" | sort -u | sed 's|.*dist/||;s/ $//'
 }
 
+# A folder of the loader: the programs that link the library start, or a line says what is to be done. A stand-in for
+# ldconfig notes that it is run.
+for_the_loader() {
+    local folder=$work/loader
+    mkdir -p "$folder/bin" && cat >"$folder/bin/ldconfig" <<END && chmod +x "$folder/bin/ldconfig" || return 1
+#!/bin/sh
+case "\$*" in -NXv) echo "$folder/lib: (from x)" ;; "") [ ! -e "$folder/refuse" ] && touch "$folder/run" ;; esac
+END
+    PATH=$folder/bin:$PATH install_one "$folder/other" && [ ! -e "$folder/run" ] &&
+        PATH=$folder/bin:$PATH DESTDIR=$folder/root install_one "$folder" && [ ! -e "$folder/run" ] &&
+        PATH=$folder/bin:$PATH install_one "$folder" && [ -e "$folder/run" ] && touch "$folder/refuse" &&
+        PATH=$folder/bin:$PATH install_one "$folder" 2>&1 | tail -1 | grep -F "run ldconfig" || return 1
+    # After an upgrade nothing is left of the older library.
+    touch "$folder/lib/libvulfsjor.so.0.0.9" && "$here/install.sh" --uninstall "$folder" &&
+        [ -z "$(files_below "$folder/lib")" ]
+}
+
 # What is installed for a machine works, says what it is, and has all functions.
 is_portable() {
     local lib=$work/for_$1/lib
@@ -637,6 +683,55 @@ machines_without_assembly() {
     rm "$work/noting"
 }
 
+# What the preprocessor says of the machine, by -m32; a compiler that does not name its machine; and one with a
+# sanitizer, whose functions are not in the library.
+odd_compilers() {
+    local flags
+    compiler_for && touch "$work/noting" || return 1
+    ! is_x86 || CFLAGS=-m32 texts_for x86_64-linux-gnu | diff <(echo c/vulfsjor.c) - || return 1
+    rm "$work/noting" && printf '#!/bin/sh\nexit 1\n' >"$work/silent" && chmod +x "$work/silent" &&
+        refuses 1 "silent does not know -dumpmachine: use GCC or Clang" env CC="$work/silent" "$here/install.sh" \
+            --from "$dist" "$work/no" &&
+        [ ! -e "$work/no" ] || return 1
+    for flags in "" -fsanitize=address; do
+        rm -f "$work/compiled" && CFLAGS=$flags CC="$work/for $(cc -dumpmachine)" "$here/install.sh" --from "$dist" \
+            "$work/odd" &&
+            [ "$(grep -c -e -Wl,-z,defs "$work/compiled")" -eq "$([ -z "$flags" ] && echo 1 || echo 0)" ] || return 1
+    done
+}
+
+# The package for CMake is for the size of a pointer of what is installed.
+size_of_pointers() {
+    local size other
+    for size in 4 8; do
+        rm -rf "$work/built$size" && install_one "$work/size" && cp -R "$work/built" "$work/built$size" &&
+            sed -i "3s/.*/$size/" "$work/built$size/kind" && "$here/install.sh" --built "$work/built$size" \
+                "$work/size$size" || return 1
+        for other in 4 8; do
+            printf '%s\n' "set(CMAKE_SIZEOF_VOID_P $other)" \
+                "include(\"$work/size$size/lib/cmake/vulfsjor/vulfsjor-config-version.cmake\")" \
+                'message("unsuitable: ${PACKAGE_VERSION_UNSUITABLE}")' >"$work/size.cmake"
+            [ "$(cmake -P "$work/size.cmake" 2>&1)" = "unsuitable: $([ $size = $other ] || echo TRUE)" ] || return 1
+        done
+    done
+    grep -x "$(echo __SIZEOF_POINTER__ | cc -E -P -)" "$work/built/kind"
+}
+
+# CMake optimizes portable C if no type of build does.
+optimized_by_cmake() {
+    local type wanted build
+    while IFS=: read -r type wanted; do
+        build=$work/type$type
+        cmake -S "$here" -B "$build" -DVULFSJOR_PORTABLE=ON -DCMAKE_BUILD_TYPE="$type" &&
+            grep -o -e '-O.' "$build/CMakeFiles/vulfsjor.dir/flags.make" | diff - <(echo "$wanted") || return 1
+    done <<'END'
+:-O2
+Debug:-O2
+Release:-O3
+MinSizeRel:-Os
+END
+}
+
 refusals() {
     local call=("$here/install.sh")
     compiler_for || return 1
@@ -664,8 +759,10 @@ test_installing() {
     check "a folder with a space, moved and uninstalled" folder_with_a_space
     check "DESTDIR and LIBDIR" package
     check "a second installation" installs_again
+    check "a folder of the loader, and an upgrade" for_the_loader
     check "what install.sh refuses" refusals
     check "machines without assembly, and --portable" machines_without_assembly
+    check "compilers for 32 bits, without a name and with a sanitizer" odd_compilers
     check "a folder named from the current one" relative_folder
     check "a project with the files by hand" vendored_by_hand
     check "compilers of several words" compilers_of_words
@@ -673,6 +770,8 @@ test_installing() {
     needs cmake
     check "a project with the files by CMake" vendored_by_cmake
     check "what CMake chooses by the processor" chosen_by_cmake
+    check "how CMake optimizes portable C" optimized_by_cmake
+    check "the size of pointers in the package for CMake" size_of_pointers
     check "find_package of an installation" installed_for_cmake
     check "find_package after cmake --install" installed_by_cmake
     check "find_package after cmake --install of portable C" portable_by_cmake
@@ -686,6 +785,9 @@ test_installing() {
     is_x86 || missing="the processor is not x86-64"
     check "an installation with only one build" one_build
     check "where the library comes from" comes_from
+    needs pkg-config
+    is_x86 || [ "$(uname -m)" = aarch64 ] || missing="portable C is one object"
+    check "a program of one call is small" small_programs
     needs pkg-config
     check "the words of pkg-config" words_are_these
     needs pkg-config cmake

@@ -1,4 +1,4 @@
-/* Looks for copies of a key once a keyed call of vulfsjor.h has returned: for each piece of 8 bytes
+/* Looks for copies of a key once a keyed call of vulfsjor.h has returned: for each piece of 4 bytes
  * of it, in 64 KiB of the dead stack below the caller, and if the library chooses its build for
  * x86-64-v4 also in the vector registers zmm16 to zmm31, which that build clears. Prints for each
  * call how many were found, the largest number over messages of several lengths. A call that leaves
@@ -26,7 +26,7 @@
 #define state_t X(_state)
 #endif
 
-enum { DEPTH = 64 * 1024, PIECE = 8, LONGEST = 1000, ROOM = (LANES + 1) * MAX };
+enum { DEPTH = 64 * 1024, PIECE = 4, LONGEST = 1000, ROOM = (LANES + 1) * MAX };
 
 /* The length of a digest or of an output, and of what is looked for: the key, and behind it for
  * BLAKE2X the root hash and the first block of the output. */
@@ -297,19 +297,20 @@ static int is_zero(const void *memory, size_t size) {
 
 /* ---- Copies to be found. */
 
-/* Copies the first `copied` bytes of the key into its frame. The copy ends `place` bytes below the
- * end of `frame`. */
+/* Copies the first `copied` bytes of the key into its frame, and behind them a byte that is not the
+ * key's. That one ends `place` bytes below the end of `frame`. */
 static size_t place, copied;
 static __attribute__((noinline)) int leave_a_copy(void) {
-    uint8_t frame[DEPTH - 256];
+    uint8_t frame[DEPTH - 256], *behind = frame + sizeof frame - place - 1;
 
-    memcpy(frame + sizeof frame - place - copied, key, copied);
+    memcpy(behind - copied, key, copied);
+    *behind = (uint8_t)~key[copied % SECRETS];
     __asm__ volatile("" : : "r"(frame) : "memory");
     return 0;
 }
 
 static void finds_copies(void) {
-    static const size_t places[] = {0, 1, 7, 4096, 32 * 1024, DEPTH - 256 - SECRETS};
+    static const size_t places[] = {0, 1, 7, 4096, 32 * 1024, DEPTH - 257 - SECRETS};
 
     for (size_t i = 0; i < sizeof places / sizeof *places; i++) {
         for (copied = 0; copied <= SECRETS; copied++) {

@@ -22,6 +22,20 @@ parallel_names_of_libb2() {
         OMP_WAIT_POLICY=passive GOMP_SPINCOUNT=0 "$work/libb2_parallel" "$cases/$family"
 }
 
+# The conformance cases by libb2's names, from a shared library of them. A parameter block may have a depth of 0 and any
+# inner length, as in libb2.
+names_conform() {
+    printf '%s\n' '#define VULFSJOR_LIBB2_FUNCTION' '#include <blake2.h>' >"$work/names.c" &&
+        cc -O1 -shared -fPIC -I"$libb2" "$work/names.c" "$archive" -o "$work/names.so" &&
+        "$top/tests/conformance/others.py" --libb2 "$work/names.so" "$conforming" >"$work/rows" &&
+        diff "$work/rows" - <<'END'
+| libb2 | blake2b | 843 of 2545 | 10 refused-several, 2 refused-inner, 1 refused-depth |
+| libb2 | blake2s | 650 of 2249 | 4 refused-several, 2 refused-inner, 1 refused-depth |
+| libb2 | blake2bp | 475 of 1316 | none |
+| libb2 | blake2sp | 407 of 1140 | none |
+END
+}
+
 # Random cases of BLAKE2bp or BLAKE2sp against libb2, which needs all of its threads.
 random_cases() {
     cc -std=c99 -O2 "${warnings[@]}" $(family_words "$1") -I"$include" \
@@ -30,7 +44,7 @@ random_cases() {
             "$work/against_libb2" "$2" "$3"
 }
 
-# What docs/ and LIBB2.md say of threads: libb2 returns another digest, and no error, if it gets
+# What docs/ and PORTING.md say of threads: libb2 returns another digest, and no error, if it gets
 # fewer threads than it has leaves. The functions here start none.
 too_few_threads() {
     local family=$1 theirs ours wanted
@@ -224,6 +238,7 @@ test_libb2() {
         check "key_scan.c by libb2's names, blake2$family" keys_of_names $family
     done
     needs python3
+    check "the conformance cases by libb2's names" names_conform
     for family in b s; do
         check "libb2's names, blake2$family" names_of_libb2 $family "$beside"
         check "libb2's names by the header here, blake2$family" names_of_libb2 $family \

@@ -1,4 +1,4 @@
-/* Tests libb2's functions of BLAKE2bp by their own names: what c/LIBB2.md says of them and of
+/* Tests libb2's functions of BLAKE2bp by their own names: what PORTING.md says of them and of
  * libb2, row by row, and the hashes of tests/vectors.json. libb2.sh links it with libvulfsjor-libb2.a and,
  * if libb2 is installed, with libb2 itself under LIBB2, so that what the page says of libb2 is
  * tested too.

@@ -5,31 +5,13 @@ source "$(dirname "$(readlink -f "$0")")/common.sh"
 # A test of code that all families share: of BLAKE2s and its kin, which repeat BLAKE2b, only in the full test.
 check_once() { if [[ $family == *s* ]]; then check_huge "$@"; else check "$@"; fi; }
 
-# Compiles test.c to this program with these words.
-compile() {
-    local program=$1
-    shift
-    cc -std=c99 -g "${warnings[@]}" -I"$include" -o "$program" "$tests/test.c" "$@"
+# A test program of a hash of the conformance cases, compiled with these words and run: NAME HASH WORDS..
+run_hash() {
+    local name=$1 hash=$2
+    cc -std=c99 -g "${warnings[@]}" -I"$include" $(hash_words "$hash") "$tests/$name.c" "${@:3}" -o "$work/$name" &&
+        LD_LIBRARY_PATH=$prefix/lib ${run_by-} "$work/$name" "$conforming/$hash.txt"
 }
-
-compile_and_run() {
-    compile "$@" && "$1" "$cases/$family"
-}
-
-with_shared_library() {
-    compile "$work/test_shared" -O2 $(family_words "$family") "$shared" &&
-        LD_LIBRARY_PATH=$prefix/lib "$work/test_shared" "$cases/$family"
-}
-
-# A hundred cases of each kind, which valgrind takes in seconds.
-run_in_valgrind() {
-    { grep ^h "$cases/$family" | awk 'NR % 8 == 0' | head -80
-      grep ^n "$cases/$family" | head -20
-      grep ^r "$cases/$family" | head -20
-      grep ^t "$cases/$family" | head -20; } >"$work/few"
-    compile "$work/test_plain" -O1 $(family_words "$family") "$archive" &&
-        valgrind -q --error-exitcode=9 --leak-check=full "$work/test_plain" "$work/few"
-}
+run_in_valgrind() { run_by="valgrind -q --error-exitcode=9 --leak-check=full" run_hash "$@"; }
 
 # The header alone, in each language that it is for.
 headers_compile() {
@@ -47,6 +29,23 @@ header_compiles_as_cpp() {
             -Wzero-as-null-pointer-constant -I"$include" -I"$libb2" -c "$work/header.cpp" \
             -o /dev/null || return 1
     done
+}
+
+# No warning of clang, of which some are not in -Wall and -Wextra, in the first and the last standard.
+headers_warn_of_nothing() {
+    local standard
+    printf '#include <%s>\n' vulfsjor_threads.h blake2.h >"$work/all.c"
+    for standard in c99 gnu2x; do
+        clang -std=$standard -Weverything -Wno-reserved-id-macro -Wno-reserved-identifier -Werror \
+            -I"$include" -I"$libb2" \
+            -fsyntax-only "$work/all.c" || return 1
+    done
+    for standard in c++11 c++20; do
+        clang++ -std=$standard -Weverything -Wno-c++98-compat{,-pedantic} -Werror -I"$include" -x c++ \
+            -fsyntax-only - <<<'#include <vulfsjor_threads.h>' || return 1
+    done
+    gcc -std=c99 "${warnings[@]}" -Wconversion -Wshadow -Wcast-qual -Wundef -Wswitch-enum -Wswitch-default \
+        -I"$include" -I"$libb2" -fsyntax-only "$work/all.c"
 }
 
 # A program that ignores a status has a warning, except for the inits, which make later calls fail
@@ -94,12 +93,6 @@ all_are_passed() {
         diff - <(sed -n 's/^CALL("\(.*\)")$/\1/p' "$here/choose.c" | LC_ALL=C sort)
 }
 
-# Which argument is refused.
-refused_arguments() {
-    cc -std=c99 -O1 "${warnings[@]}" $(family_words "$1") -I"$include" "$tests/refused_argument.c" \
-        "$archive" -o "$work/refused" && "$work/refused"
-}
-
 # Buffers of more than 2^32 bytes. VULFSJOR_TEST_HUGE in the environment adds those that take long.
 long_buffers() {
     cc -std=gnu99 -O2 "${warnings[@]}" $(family_words "$1") -I"$include" "$tests/huge.c" \
@@ -122,6 +115,12 @@ compile_hasher() {
 hasher_of_cpp() {
     compile_hasher "$@" "$archive" -o "$work/hasher" &&
         "$work/hasher" >"$work/lines" && python3 "$tests/check_with_hashlib.py" <"$work/lines"
+}
+
+# The conformance cases by the header for C++.
+conformance_of_cpp() {
+    c++ -std=c++17 "${warnings[@]}" -I"$include" "$tests/conformance.cpp" "$@" "$archive" -o "$work/conformance" &&
+        "$work/conformance" "$conforming"
 }
 
 # The example in C by a compiler, with the library of this name.
@@ -184,66 +183,47 @@ python_example() {
         python3 "$tests/ctypes_example.py" "$example" "$shared"
 }
 
-# test.c of a family, in each way that a program meets the library.
+# A family's own tests, and libb2's header.
 test_family() {
     local level
     family=$1
-    check "test.c, blake2$family" compile_and_run "$work/test_$family" -O2 $(family_words $family) \
-        "$archive"
-    check_once "test.c, blake2$family, with the shared library" with_shared_library
     check "edge_cases.c, blake2$family" compare_lines edge_cases -O2 -I"$include"
     for level in $(some 2 0); do
         check "libb2_header.c, blake2$family, -O$level" compare_lines libb2_header -O$level \
             -I"$libb2"
     done
     needs_sanitizers
-    check_once "test.c, blake2$family, with sanitizers" compile_and_run "$work/test_san_$family" -O1 \
-        "${sanitizers[@]}" $(family_words $family) "$archive"
     check_once "edge_cases.c, blake2$family, with sanitizers" compare_lines edge_cases -O1 -I"$include" \
         "${sanitizers[@]}"
-    needs valgrind
-    check_once "test.c, blake2$family, in valgrind" run_in_valgrind
     needs
 }
 
-# parallel.c of a family, with these words.
-parallel_cases() {
-    cc -std=c99 -g "${warnings[@]}" -I"$include" $(family_words "$family") \
-        -o "$work/parallel" "$tests/parallel.c" "$@" && LD_LIBRARY_PATH=$prefix/lib \
-        "$work/parallel" "$cases/$family"
+# The authors' vectors of BLAKE2Xb or BLAKE2Xs, as conformance cases, by a program that has been made.
+authors_vectors() {
+    awk '{ key = $3 == "-" ? "" : " key=" $3
+        print "case authors." NR "\nhash '"$1"' " $6 " size=" $2 key " = " $7 }' "$work/authors" >"$work/authors.txt" &&
+        run_hash conformance "$1" -O1 "$archive" && "$work/conformance" "$work/authors.txt"
 }
 
-# BLAKE2bp or BLAKE2sp.
-test_parallel() {
-    family=$1
-    check "parallel.c, blake2$family" parallel_cases -O2 "$archive"
-    check_once "parallel.c, blake2$family, with the shared library" parallel_cases -O2 "$shared"
-    needs_sanitizers
-    check_once "parallel.c, blake2$family, with sanitizers" parallel_cases -O1 "${sanitizers[@]}" \
-        "$archive"
-    needs
-}
-
-# xof.c of a family over test vectors, with these words.
-output_cases() {
-    cc -std=c99 -g "${warnings[@]}" -I"$include" $(family_words "$family") -o "$work/xof" \
-        "$tests/xof.c" "${@:2}" && LD_LIBRARY_PATH=$prefix/lib "$work/xof" "$1"
-}
-
-# BLAKE2Xb or BLAKE2Xs.
-test_outputs() {
-    family=$1
-    check "xof.c, blake2$family" output_cases "$cases/$family" -O2 "$archive"
-    check_once "xof.c, blake2$family, with the shared library" output_cases "$cases/$family" -O2 "$shared"
-    needs_sanitizers
-    check_once "xof.c, blake2$family, with sanitizers" output_cases "$cases/$family" -O1 \
-        "${sanitizers[@]}" "$archive"
-    needs
-    if python3 "$top/tests/vectors.py" --authors "${family#x}" >"$work/authors_$family"; then
-        check "the authors' vectors of BLAKE2X in C, blake2$family" output_cases \
-            "$work/authors_$family" -O2 "$archive"
+# The conformance cases of a hash, and made states: with the archive, and of one hash, or of all in the full test, with
+# the shared library, with sanitizers and in valgrind.
+test_hash() {
+    local hash=$1 name check=check_huge
+    [ "$hash" != blake2b ] || check=check
+    for name in conformance made_states; do
+        check "$name.c, $hash" run_hash $name "$hash" -O2 "$archive"
+        $check "$name.c, $hash, with the shared library" run_hash $name "$hash" -O1 "$shared"
+        needs_sanitizers
+        $check "$name.c, $hash, with sanitizers" run_hash $name "$hash" -O1 "${sanitizers[@]}" "$archive"
+        needs valgrind
+        $check "$name.c, $hash, in valgrind" run_in_valgrind $name "$hash" -O1 "$archive"
+        needs
+    done
+    [[ $hash == blake2x* ]] || return 0
+    if python3 "$top/tests/vectors.py" --authors "${hash#blake2x}" >"$work/authors"; then
+        check "the authors' vectors of BLAKE2X in C, $hash" authors_vectors "$hash"
     else
-        skip "the authors' vectors of BLAKE2X in C, blake2$family" "no golang-golang-x-crypto-dev"
+        skip "the authors' vectors of BLAKE2X in C, $hash" "no golang-golang-x-crypto-dev"
     fi
 }
 
@@ -272,18 +252,29 @@ test_examples() {
 }
 
 test_languages() {
-    local header
+    local header hash
     for header in vulfsjor.h blake2.h; do check "$header in C" headers_compile $header; done
     needs c++
     for header in vulfsjor.h vulfsjor_threads.h blake2.h; do
         check "$header in C++" header_compiles_as_cpp $header
     done
     check "link.cpp" cpp_links
+    needs clang++ gcc
+    check "the headers under all warnings of clang" headers_warn_of_nothing
+    needs gcc python3
+    [ "$(gcc -dumpversion 2>/dev/null | cut -d. -f1)" -ge 11 ] 2>/dev/null || missing=${missing:-"gcc 11"}
+    check "memory that is shorter than its length" python3 "$tests/short_memory.py" gcc "$include"
     needs c++ python3
     # Each standard with exceptions and without, and each compiler with all of these.
     check "hasher.cpp in C++17" hasher_of_cpp c++ c++17 -O1
+    check "conformance.cpp" conformance_of_cpp
     check_huge "hasher.cpp in C++20, compiled" compile_hasher c++ c++20 -fsyntax-only
+    needs g++ python3
+    check "wrong_lines.cpp in C++20, by g++" python3 "$tests/wrong_lines.py" "$include" c++20 g++
+    check_huge "wrong_lines.cpp in C++17, by g++" python3 "$tests/wrong_lines.py" "$include" c++17 g++
     needs clang++ python3
+    check "wrong_lines.cpp in C++17, by clang++" python3 "$tests/wrong_lines.py" "$include" c++17 clang++
+    check_huge "wrong_lines.cpp in C++20, by clang++" python3 "$tests/wrong_lines.py" "$include" c++20 clang++
     check_huge "hasher.cpp in C++17, by clang++, without exceptions, compiled" compile_hasher clang++ \
         c++17 -fno-exceptions -fsyntax-only
     check "hasher.cpp in C++20, by clang++, without exceptions" hasher_of_cpp clang++ c++20 \
@@ -295,15 +286,13 @@ test_languages() {
         check "passed_arguments.c, blake2$family, through thunks.h" passes_by_calls $family
     done
     for family in b s; do
-        check "refused_argument.c, blake2$family" refused_arguments $family
         check "huge.c, blake2$family" long_buffers $family
     done
     check "passed_arguments.c calls each function" all_are_passed
     [ -n "${VULFSJOR_TEST_HUGE-}" ] || skip "huge.c, every call" "VULFSJOR_TEST_HUGE is not set"
     if has python3; then
         for family in b s; do test_family $family; done
-        for family in bp sp; do test_parallel $family; done
-        for family in xb xs; do test_outputs $family; done
+        for hash in "${hashes[@]}"; do test_hash $hash; done
         check "a status that is ignored" ignored_statuses_warn
         test_examples
     else

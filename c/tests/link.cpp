@@ -39,7 +39,10 @@ int main() {
     good = good && !vulfsjor_blake2b_update(&copy, "bc", 2) &&
            !vulfsjor_blake2b_final(&copy, b, 64) && is(b, wanted_b);
     good = good && !vulfsjor_blake2b_update(&run_b, "bc", 2) &&
-           !vulfsjor_blake2b_verify(&run_b, wanted_b, 64);
+           vulfsjor_blake2b_verify(&run_b, wanted_b, 64) == -1; /* it has no key */
+    good = good && !vulfsjor_blake2b(b, 64, "abc", 3, "key", 3) &&
+           !vulfsjor_blake2b_init_key(&run_b, 64, "key", 3) &&
+           !vulfsjor_blake2b_update(&run_b, "abc", 3) && !vulfsjor_blake2b_verify(&run_b, b, 64);
     good = good && !vulfsjor_blake2s_init(&run_s, 32) && !vulfsjor_blake2s_update(&run_s, "abc", 3);
     good = good && vulfsjor_blake2s_digest_size(&run_s) == 32 &&
            !vulfsjor_blake2s_final(&run_s, s, 32) && is(s, wanted_s);

@@ -36,6 +36,7 @@ write_sdk() {
     printf '%s\n' '#include <sys/types.h>' \
         'struct stat { int st_mode; off_t st_size; char more[128]; };' \
         'int fstat(int, struct stat *);' '#define S_ISREG(m) (((m) & 0170000) == 0100000)' \
+        'enum { S_IRGRP = 040, S_IROTH = 04 };' \
         >"$sdk/usr/include/sys/stat.h"
     printf '%s\n' '#include <stddef.h>' '#include <sys/types.h>' \
         'struct iovec { void *iov_base; size_t iov_len; };' \

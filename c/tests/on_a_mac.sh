@@ -1,10 +1,11 @@
 #!/bin/sh
 # Tests the library and the programs on macOS, by the C compiler, python3 and a plain sh: two test
 # programs of the library over the test vectors and next to hashlib, one of its threads, a digest of b2,
-# and digests, roots, a check and messages of b2sum. Prints the system, a line for each test, and what a failed one said. The status is 0 if none failed. It runs
-# on Linux too. docs/PLATFORMS.md says what to do with the lines.
+# and digests, roots, a check and messages of b2sum. Prints the system, a line for each test, and what a failed one
+# said. The status is 0 if none failed. It runs on Linux too. docs/PORTABLE.md says what to do with the lines.
 cd "$(dirname "$0")/../.." || exit 1
 work=$(mktemp -d) || exit 1
+cc=${CC:-cc}
 trap 'rm -rf "$work"' EXIT
 failed=0
 
@@ -18,13 +19,11 @@ try() {
         echo "not ok - $name" && tail -n 20 "$work/log"
     fi
 }
-compile() { cc -std=c99 -O2 $define -Ic/include "c/tests/$1.c" c/choose.c "$work/library.o" -o "$work/$1"; }
-vectors() { python3 tests/vectors.py --lines $family >"$work/lines" &&
-    grep '^[hnrt] ' "$work/lines" >"$work/cases"; }
+compile() { $cc -std=c99 -O2 $define -Ic/include "c/tests/$1.c" c/choose.c "$work/library.o" -o "$work/$1"; }
 edge_cases() { "$work/edge_cases" >"$work/lines" && python3 c/tests/check_with_hashlib.py <"$work/lines"; }
 threads() {
     processors=$(nproc 2>/dev/null || getconf _NPROCESSORS_ONLN)
-    cc -std=gnu99 -O2 -Ic/include c/tests/system.c c/threads.c c/choose.c "$work/library.o" -pthread \
+    $cc -std=gnu99 -O2 -Ic/include c/tests/system.c c/threads.c c/choose.c "$work/library.o" -pthread \
         -o "$work/system" && (cd "$work" && ./system "$processors")
 }
 digest() {
@@ -50,14 +49,14 @@ for name in sys.argv[1:]:
 
 uname -srm
 [ "$(uname -s)" != Darwin ] || sw_vers
-cc --version
-try "the library is assembled" cc -c dist/vulfsjor.S -o "$work/library.o"
+$cc --version
+try "the library is assembled" $cc -c dist/vulfsjor.S -o "$work/library.o"
+try "the conformance cases are written" python3 tests/conformance/write.py "$work"
 for family in b s; do
     define=
     [ $family = b ] || define=-DTEST_S
-    try "the test vectors, blake2$family" vectors
-    try "test.c is compiled, blake2$family" compile test
-    try "test.c, blake2$family" "$work/test" "$work/cases"
+    try "conformance.c is compiled, blake2$family" compile conformance
+    try "conformance.c, blake2$family" "$work/conformance" "$work/blake2$family.txt"
     try "edge_cases.c is compiled, blake2$family" compile edge_cases
     try "edge_cases.c, blake2$family" edge_cases
 done

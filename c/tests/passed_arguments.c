@@ -248,6 +248,8 @@ static void outputs(void) {
            (&state, L1, key, L2, ANY, 0, ANY, 0));
     PASSES(BLAKE(init_salt_personal)(&state, L1, key, L2, salt, L3, persona, L4),
            NAME(init_salt_personal), 8, (&state, L1, key, L2, salt, L3, persona, L4));
+    PASSES(BLAKE(init_mac)(&state, L1, key, L2, salt, L3, persona, L4), NAME(init_salt_personal), 8,
+           (&state, L1, key, L2, salt, L3, persona, L4));
     PASSES(BLAKE(init_salt_personal)(&state, L1, 0, 0, 0, 0, 0, 0), NAME(init_salt_personal), 8,
            (&state, L1, ANY, 0, ANY, 0, ANY, 0));
     PASSES(BLAKE(update)(&state, in, L1), NAME(update), 3, (&state, in, L1));
@@ -273,6 +275,8 @@ static void inits(void) {
     PASSES(BLAKE(init_key)(&state, L1, key, L2), NAME(init_key), 4, (&state, L1, key, L2));
     PASSES(BLAKE(init_salt_personal)(&state, L1, key, L2, salt, L3, persona, L4),
            NAME(init_salt_personal), 8, (&state, L1, key, L2, salt, L3, persona, L4));
+    PASSES(BLAKE(init_mac)(&state, L1, key, L2, salt, L3, persona, L4), NAME(init_salt_personal), 8,
+           (&state, L1, key, L2, salt, L3, persona, L4));
     PASSES(BLAKE(init_salt_personal)(&state, L1, 0, 0, 0, 0, 0, 0), NAME(init_salt_personal), 8,
            (&state, L1, ANY, 0, ANY, 0, ANY, 0));
 }

@@ -29,18 +29,18 @@ library_there() {
 # What a call with a key leaves on the stack is overwritten, by the compiler's own account of it.
 stack_there() { "$top/tests/portable_stack.py" "$source_file" "$work/$processor.su"; }
 
-vectors_there() {
-    run_there test $(family_words "$family") "$tests/test.c" -- "$some/$family"
+# The same of the library that CMake makes for this type of build.
+stack_by_cmake() {
+    local build=$work/$processor-cmake$1
+    cmake -S "$here" -B "$build" -DVULFSJOR_PORTABLE=ON -DCMAKE_SYSTEM_NAME=Linux \
+        -DCMAKE_SYSTEM_PROCESSOR="$processor" \
+        -DCMAKE_C_COMPILER="${compiler[0]}" -DCMAKE_BUILD_TYPE="$1" -DCMAKE_C_FLAGS=-fstack-usage &&
+        cmake --build "$build" --target vulfsjor &&
+        "$top/tests/portable_stack.py" "$source_file" "$(find "$build" -name 'vulfsjor*.su')"
 }
 
-# BLAKE2bp and BLAKE2sp.
-parallel_there() {
-    run_there parallel $(family_words "$family") "$tests/parallel.c" -- "$some/$family"
-}
-
-outputs_there() {
-    run_there xof $(family_words "$family") "$tests/xof.c" -- "$some/$family"
-}
+# A test program of a hash of the conformance cases: NAME HASH
+hash_there() { run_there "$1" $(hash_words "$2") "$tests/$1.c" -- "$conforming/$2.txt"; }
 
 # Whether the lines of a program are right: those of another processor, which were, or each by
 # hashlib.
@@ -60,14 +60,7 @@ libb2_there() {
         >"$work/lines" && lines_are_right "libb2-$family"
 }
 
-tree_parts_there() {
-    run_there tree_parts "$tests/tree_parts.c" -- "$1" >"$work/lines" && lines_are_right tree_parts
-}
-
-random_cases_there() {
-    { [ -e "$work/random-$1" ] || "$top/tests/random_cases.py" 66 "$1" >"$work/random-$1"; } &&
-        run_there random_cases "$tests/random_cases.c" -- <"$work/random-$1"
-}
+tree_parts_there() { run_there tree_parts "$tests/tree_parts.c" -- "$1"; }
 
 # The digests of files, as b2sum prints them, and roots of trees.
 files_there() {
@@ -79,53 +72,41 @@ files_there() {
     run_there sum "$here/examples/sum.c" -- "${names[@]}" | diff - <(sums_by_hashlib "${names[@]}")
 }
 
-# Every eleventh test vector, and all of the fewer ones of BLAKE2bp, BLAKE2sp and BLAKE2X.
-some_of_them() {
-    local family
-    some=$work/some
-    mkdir -p "$some"
-    for family in b s bp sp xb xs; do awk '/^[px]/ || NR % 11 == 1' "$cases/$family" >"$some/$family"; done
-}
-
-# The tests of the library for a processor: of some of the test vectors on an emulator.
+# The tests of the library for a processor.
 test_there() {
-    local level=-O2 turns=100 more=yes
-    processor=$1 some=$cases
-    if [ ${#emulator[@]} -gt 0 ]; then
-        some_of_them
-        if [ -z "${VULFSJOR_TEST_HUGE-}" ]; then
-            level=-O1 turns=20
-            [[ $processor =~ ^(s390x|i386)$ ]] || more=
-        fi
+    local level=-O2 turns=100 more=yes hash
+    processor=$1
+    if [ ${#emulator[@]} -gt 0 ] && [ -z "${VULFSJOR_TEST_HUGE-}" ]; then
+        level=-O1 turns=20
+        [[ $processor =~ ^(s390x|i386)$ ]] || more=
     fi
     check "the file in C, for $processor, without a warning" library_there $level || return
-    for family in b s; do
-        check "test.c, blake2$family, for $processor" vectors_there
-        check "edge_cases.c, blake2$family, for $processor" edge_cases_there
+    for hash in "${hashes[@]}"; do
+        check "conformance.c, $hash, for $processor" hash_there conformance $hash
+        [ -z "$more" ] || check "made_states.c, $hash, for $processor" hash_there made_states $hash
     done
-    check "tree_parts.c, for $processor" tree_parts_there $turns
     if [ -z "$more" ]; then
         skip "other tests for $processor, which is like others" "VULFSJOR_TEST_HUGE is not set"
         return
     fi
-    for family in b s; do check "libb2_header.c, blake2$family, for $processor" libb2_there; done
-    for family in bp sp; do check "parallel.c, blake2$family, for $processor" parallel_there; done
-    for family in xb xs; do check "xof.c, blake2$family, for $processor" outputs_there; done
+    for family in b s; do
+        check "edge_cases.c, blake2$family, for $processor" edge_cases_there
+        check "libb2_header.c, blake2$family, for $processor" libb2_there
+    done
+    check "tree_parts.c, for $processor" tree_parts_there $turns
     check "the stack that is wiped, for $processor" stack_there
+    if has cmake && [ ${#emulator[@]} -gt 0 ]; then
+        check_huge "the stack that is wiped by a build of CMake, for $processor" stack_by_cmake ""
+        check_huge "the stack that is wiped by a debug build of CMake, for $processor" stack_by_cmake Debug
+    fi
     check "files, for $processor" files_there
-    check "300 random cases, for $processor" random_cases_there 300
-    check_huge "10,000 random cases, for $processor" random_cases_there 10000
 }
 
 # The tests where neither the compiler nor the header knows the order of bytes, not optimized.
 unknown_order() {
-    local words=("${words[@]}" -U__BYTE_ORDER__) processor=unknown family
+    local words=("${words[@]}" -U__BYTE_ORDER__) processor=unknown hash
     library_there -O0 || return
-    for family in b s; do vectors_there || return; done
-    [ -n "${VULFSJOR_TEST_HUGE-}" ] || return 0 # not optimized, they take long
-    for family in b s; do edge_cases_there || return; done
-    for family in bp sp; do parallel_there || return; done
-    for family in xb xs; do outputs_there || return; done
+    for hash in $(some "blake2b blake2s" "${hashes[@]:2}"); do hash_there conformance $hash || return; done
 }
 
 # The dialect of MSVC, by clang, over headers that stand in for the C library's.
@@ -166,7 +147,6 @@ test_portable() {
     for family in b s bp sp xb xs; do
         check "key_scan.c, blake2$family, over the file in C" keys_here
     done
-    some_of_them
     check "an unknown order of bytes, with cc -O0" unknown_order
     needs valgrind
     for family in b s bp sp; do

@@ -43,6 +43,11 @@ static void read_text(text *read, const char *digits) {
             (uint8_t)strtoul((char[]){digits[2 * i], digits[2 * i + 1], 0}, NULL, 16);
 }
 
+/* The key, or NULL for none. */
+static const uint8_t *key_or_null(void) {
+    return key.length ? key.bytes : NULL;
+}
+
 static void hide(text *secret) { (void)VALGRIND_MAKE_MEM_UNDEFINED(secret->bytes, secret->length); }
 
 /* Whether these bytes are the expected ones, the first and the last of which memcheck knows for a
@@ -77,7 +82,7 @@ static void absorb(state_t *state, unsigned cut) {
 }
 
 static void one_call(void) {
-    require(!ONE_CALL(out, wanted.length, message.bytes, message.length, key.bytes, key.length) &&
+    require(!ONE_CALL(out, wanted.length, message.bytes, message.length, key_or_null(), key.length) &&
                 is_wanted(out),
             "another digest in one call");
 }
@@ -118,18 +123,18 @@ static void output_case(size_t size) {
     state_t made;
     hide(&key);
     hide(&message);
-    require(!BLAKE(init_salt_personal)(&made, length, key.bytes, key.length, salt.bytes,
+    require(!BLAKE(init_salt_personal)(&made, length, key_or_null(), key.length, salt.bytes,
                                        salt.length, persona.bytes, persona.length),
             "init_salt_personal is refused");
     of_state(&made);
     if (salt.length + persona.length) return;
-    require(key.length ? !BLAKE(init_key)(&made, length, key.bytes, key.length)
+    require(key.length ? !BLAKE(init_key)(&made, length, key_or_null(), key.length)
                        : !BLAKE(init)(&made, length),
             "an init is refused");
     of_state(&made);
     if (!size) return;
     one_call();
-    require(!key.length || (!BLAKE(derive_key)(out, size, key.bytes, key.length, message.bytes,
+    require(!key.length || (!BLAKE(derive_key)(out, size, key_or_null(), key.length, message.bytes,
                                                message.length) &&
                             is_wanted(out)),
             "another derived key");
@@ -144,6 +149,9 @@ static void compared(unsigned long before, int result, int is_right) {
     require(result == (is_right ? 0 : -1), "another result of a comparison");
 }
 
+/* Whether the state has a key, in its own block or in a parameter block. */
+static int has_key;
+
 /* Compares with the right digest, or with one that is wrong in its first or its last byte. */
 static void verify(state_t *state, int wrong) {
     state_t copy = *state;
@@ -151,7 +159,7 @@ static void verify(state_t *state, int wrong) {
     unsigned long before;
     if (wrong) tag.bytes[wrong == 1 ? 0 : tag.length - 1] ^= 1;
     before = VALGRIND_COUNT_ERRORS;
-    compared(before, BLAKE(verify)(&copy, tag.bytes, tag.length), !wrong);
+    compared(before, BLAKE(verify)(&copy, tag.bytes, tag.length), !wrong && has_key);
     require(!BLAKE(final)(state, out, wanted.length), "final is refused");
     before = VALGRIND_COUNT_ERRORS;
     compared(before, vulfsjor_memcmp(out, tag.bytes, tag.length), !wrong);
@@ -190,7 +198,7 @@ static void many(void) {
         messages[i].length = message.length;
     }
     for (size_t count = 1; count <= 9; count += 2) {
-        require(!BLAKE(many)(out, wanted.length, messages, count, key.bytes, key.length, salt.bytes,
+        require(!BLAKE(many)(out, wanted.length, messages, count, key_or_null(), key.length, salt.bytes,
                              salt.length, persona.bytes, persona.length),
                 "many is refused");
         for (size_t i = 0; i < count; i++)
@@ -213,10 +221,11 @@ static void hexadecimal(void) {
 
 static void hash_case(void) {
     state_t made;
+    has_key = key.length > 0;
     hide(&key);
     hide(&message);
     hexadecimal();
-    require(!BLAKE(init_salt_personal)(&made, wanted.length, key.bytes, key.length, salt.bytes,
+    require(!BLAKE(init_salt_personal)(&made, wanted.length, key_or_null(), key.length, salt.bytes,
                                        salt.length, persona.bytes, persona.length),
             "init_salt_personal is refused");
     of_state(&made);
@@ -227,7 +236,7 @@ static void hash_case(void) {
     one_call();
     require(!BLAKE(init)(&made, wanted.length), "init is refused");
     if (key.length)
-        require(!BLAKE(init_key)(&made, wanted.length, key.bytes, key.length),
+        require(!BLAKE(init_key)(&made, wanted.length, key_or_null(), key.length),
                 "init_key is refused");
     of_state(&made);
 }
@@ -249,9 +258,10 @@ static void node_case(const char *numbers) {
     tree.node_offset = node_offset;
     tree.node_depth = (uint8_t)node_depth;
     tree.inner_length = (uint8_t)inner_length;
+    has_key = key.length > 0;
     hide(&key);
     hide(&message);
-    require(!BLAKE(init_tree)(&made, wanted.length, key.bytes, key.length, salt.bytes, salt.length,
+    require(!BLAKE(init_tree)(&made, wanted.length, key_or_null(), key.length, salt.bytes, salt.length,
                               persona.bytes, persona.length, &tree),
             "init_tree is refused");
     require(!BLAKE(set_last_node)(&made, (int)last_node), "set_last_node is refused");
@@ -264,6 +274,7 @@ static void block_case(const char *digits, int last_node) {
     state_t made;
     read_text(&block, digits);
     memcpy(&given, block.bytes, sizeof given);
+    has_key = given.key_length > 0;
     key.length = 0;
     hide(&message);
     require(!BLAKE(init_param)(&made, &given), "init_param is refused");

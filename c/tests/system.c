@@ -17,6 +17,14 @@ enum { BYTES = (3 << 20) + 17, LEAF = 4096, FROM = 1000, ROOT = 64 };
 
 static const char name[] = "caf\xc3\xa9 \xf0\x9f\x98\x80";
 static unsigned char message[BYTES], root[ROOT], wanted[ROOT], wanted_rest[ROOT];
+#ifdef _WIN32
+enum { IS_PASSED = 77 };
+static unsigned char wanted_text[ROOT];
+static thread_result THREAD_CALL end_at_once(void *given) {
+    (void)given;
+    return 0;
+}
+#endif
 
 /* Whether the root is this one, which it then is no longer. */
 static int is_root(const unsigned char *it) {
@@ -141,6 +149,78 @@ static void try_sharing(void) {
     CloseHandle(alone);
 }
 
+/* Files that are open in text mode are read as they are: CR LF, and all after a byte 26. Also a pipe,
+ * which ends when its writer closes it. */
+static void try_text_mode(void) {
+    static const unsigned lengths[] = {0, 1, 1000, (1 << 18) - 1, 1 << 18, 600000};
+    static unsigned char text[600000];
+    vulfsjor_tree_state state;
+    int ends[2];
+
+    for (size_t i = 0; i < sizeof text; i++) text[i] = (unsigned char)"line\r\n\x1a-\n"[i % 9];
+    for (size_t i = 0; i < sizeof lengths / sizeof *lengths; i++) {
+        const unsigned length = lengths[i], from = length < FROM ? 0 : FROM;
+        int file = open("text", O_WRONLY | O_CREAT | O_TRUNC | O_BINARY, 0600);
+
+        CHECK(file >= 0 && write(file, text, length) == (int)length && !close(file));
+        CHECK(!vulfsjor_tree_root(wanted_text, ROOT, text + from, length - from, NULL, 0, NULL, 0, LEAF));
+        for (unsigned threads = 1; threads < 4; threads += 2) {
+            CHECK((file = open("text", O_RDONLY | O_TEXT)) >= 0 && lseek(file, from, SEEK_SET) == (off_t)from);
+            CHECK(!vulfsjor_tree_root_fd(root, ROOT, file, NULL, 0, NULL, 0, LEAF, threads));
+            CHECK(is_root(wanted_text) && lseek(file, 0, SEEK_CUR) == (off_t)length && !close(file));
+            CHECK((file = open("text", O_RDONLY | O_TEXT)) >= 0 && lseek(file, from, SEEK_SET) == (off_t)from);
+            CHECK(!vulfsjor_tree_init(&state, ROOT, NULL, 0, NULL, 0, LEAF) &&
+                  !vulfsjor_tree_update_fd(&state, file, threads, NULL, NULL) &&
+                  vulfsjor_tree_count(&state) == length - from &&
+                  !vulfsjor_tree_final(&state, root, ROOT) && is_root(wanted_text) && !close(file));
+        }
+        CHECK(!vulfsjor_tree_root(wanted_text, ROOT, text, length, NULL, 0, NULL, 0, LEAF));
+        CHECK(!vulfsjor_tree_root_file(root, ROOT, "text", NULL, 0, NULL, 0, LEAF, 2) && is_root(wanted_text));
+    }
+    CHECK(!unlink("text") && !_pipe(ends, 1 << 16, O_TEXT | O_NOINHERIT));
+    CHECK(_setmode(ends[1], O_BINARY) >= 0 && write(ends[1], text, 1000) == 1000 && !close(ends[1]));
+    CHECK(!vulfsjor_tree_root(wanted_text, ROOT, text, 1000, NULL, 0, NULL, 0, LEAF));
+    CHECK(!vulfsjor_tree_root_fd(root, ROOT, ends[0], NULL, 0, NULL, 0, LEAF, 2) && is_root(wanted_text));
+    CHECK(!close(ends[0]));
+}
+
+/* Whether this process was passed a descriptor: the C library passes a number of them, a byte for each,
+ * and their handles. */
+static bool is_passed(int file) {
+    STARTUPINFOW info;
+    int files = 0;
+
+    GetStartupInfoW(&info);
+    if (info.cbReserved2 > sizeof files) memcpy(&files, info.lpReserved2, sizeof files);
+    return file < files && info.lpReserved2[sizeof files + (size_t)file] & 1;
+}
+
+/* Whether a child is passed a descriptor, which it says by its status. */
+static bool is_passed_on(int file) {
+    static wchar_t path[LONGEST_PATH];
+    wchar_t number[12];
+
+    swprintf(number, 12, L"%d", file);
+    return GetModuleFileNameW(NULL, path, LONGEST_PATH) &&
+           _wspawnl(_P_WAIT, path, L"child", L"of", number, NULL) == IS_PASSED;
+}
+
+/* A child does not inherit the files that are opened here, neither as a handle nor as a descriptor, and
+ * the handle of a thread is closed. */
+static void try_handles(void) {
+    const int file = open_path(name), inherited = _wopen(L"inherited", O_RDWR | O_CREAT | O_BINARY, 0600);
+    DWORD flags;
+    thread it;
+
+    CHECK(GetHandleInformation((HANDLE)_get_osfhandle(file), &flags) && !(flags & HANDLE_FLAG_INHERIT));
+    CHECK(file >= 0 && !is_passed_on(file) && inherited >= 0 && is_passed_on(inherited));
+    CHECK(!close(file) && !close(inherited) && !_wunlink(L"inherited"));
+    CHECK(start_threads(&it, 1, end_at_once, NULL) == 1);
+    CHECK(GetHandleInformation(it, &flags));
+    join_thread(it);
+    CHECK(!GetHandleInformation(it, &flags));
+}
+
 /* A byte past 4 GiB, which wine keeps in a file with a hole. */
 static void try_far(void) {
     const int64_t from = ((int64_t)1 << 32) + 5;
@@ -165,6 +245,8 @@ static void try_paths(void) {}
 static void try_sharing(void) {}
 static void try_far(void) {}
 static void try_affinity(void) {}
+static void try_text_mode(void) {}
+static void try_handles(void) {}
 #endif
 
 /* Threads that wait until all run at the same time. */
@@ -190,6 +272,9 @@ int main(int count, char **words) {
     uint64_t word = 88172645463325252u;
     int file;
 
+#ifdef _WIN32
+    if (count == 3) return is_passed(atoi(words[2])) ? IS_PASSED : 0;
+#endif
     for (int i = 0; i < BYTES; i++) {
         word ^= word << 13, word ^= word >> 7, word ^= word << 17;
         message[i] = (unsigned char)(i % 7 ? word : '\n');
@@ -209,6 +294,8 @@ int main(int count, char **words) {
     try_sharing();
     try_far();
     try_affinity();
+    try_text_mode();
+    try_handles();
     try_start(count == 2 ? (unsigned)atoi(words[1]) : 0);
     return fails != 0;
 }

@@ -10,6 +10,7 @@
  *   cc the same without -DLEAST_BYTES=1       tests only what depends on that length */
 #define _GNU_SOURCE
 #include "vulfsjor_threads.h"
+#define LIMIT 180
 #include "time_limit.h"
 
 #include <dirent.h>
@@ -649,6 +650,12 @@ static void progress_ends_calls(void) {
     take((1 << 20) + 1000, 4096, 1);
     expect(root_of_piped_rest, 0);
     CHECK(reported.calls == 1); /* not again at the end of a stream of whole pieces */
+    take(34 << 20, 17 << 20, 1); /* two leaves that are longer than a buffer */
+    expect(root_of_all, 0);
+    CHECK(reported.calls == 34);
+    reported.last_call = 3;
+    CHECK(root_of_all() == -1 && errno == ECANCELED && reported.calls == 3);
+    reported.last_call = 0;
 }
 
 /* ---- how many threads hash */

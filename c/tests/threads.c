@@ -1,5 +1,5 @@
 /* Tests the functions of vulfsjor_threads.h. Compares roots of bytes, files and descriptors with
- * vulfsjor_tree_root of the same bytes (whose values edge_cases.c compares with hashlib), for any
+ * vulfsjor_tree_root of the same bytes (whose values conformance.c compares with hashlib), for any
  * number of threads. Tests files of every kind, each refusal with its errno, signals, cancellation,
  * and calls at the same time. Returns 0 if all is as it should be.
  *
@@ -10,6 +10,7 @@
  * It is also run over threads.c compiled with -DLEAST_BYTES=1, so few bytes have many threads. */
 #define _GNU_SOURCE
 #include "vulfsjor_threads.h"
+#define LIMIT 600 /* of thousands of random messages */
 #include "time_limit.h"
 
 #include <dirent.h>
@@ -194,13 +195,13 @@ static void roots_of_long_leaves(size_t step) {
 
 /* ---- updates */
 
-/* Whether two states have absorbed the same number of bytes and have the same root. */
-static int are_alike(vulfsjor_tree_state a, vulfsjor_tree_state b) {
+/* Whether two states have absorbed as many bytes and have the same root, of this length. */
+static int are_alike(vulfsjor_tree_state a, vulfsjor_tree_state b, size_t outlen) {
     int are = vulfsjor_tree_count(&a) == vulfsjor_tree_count(&b);
 
     memcpy(root, blank, 64);
     memcpy(wanted, blank, 64);
-    are = are && !vulfsjor_tree_final(&a, root, 64) && !vulfsjor_tree_final(&b, wanted, 64);
+    are = are && !vulfsjor_tree_final(&a, root, outlen) && !vulfsjor_tree_final(&b, wanted, outlen);
     return are && !memcmp(root, wanted, 64);
 }
 
@@ -217,7 +218,7 @@ static void compare_updates(size_t length, uint32_t leaf, size_t most, unsigned 
         if (n > length - done) n = length - done;
         CHECK(!vulfsjor_tree_update_threads(&by_threads, n ? message + done : NULL, n, threads));
         CHECK(!vulfsjor_tree_update(&by_one, message + done, n));
-        CHECK(are_alike(by_threads, by_one));
+        CHECK(are_alike(by_threads, by_one, outlen));
         done += n;
     }
     memcpy(root, blank, 64);
@@ -258,21 +259,32 @@ static void updates_at_leaves(void) {
         CHECK((call) == -1 && errno == EINVAL && !memcmp(&state, &before, sizeof state)); \
     } while (0)
 
+/* Wrong arguments go through pointers, for whose types no compiler warns of them. */
+static int (*volatile root_threads)(void *, size_t, const void *, size_t, const void *, size_t,
+                                    const void *, size_t, uint32_t,
+                                    unsigned) = vulfsjor_tree_root_threads;
+static int (*volatile root_file)(void *, size_t, const char *, const void *, size_t, const void *,
+                                 size_t, uint32_t, unsigned) = vulfsjor_tree_root_file;
+static int (*volatile root_fd)(void *, size_t, int, const void *, size_t, const void *, size_t,
+                               uint32_t, unsigned) = vulfsjor_tree_root_fd;
+static int (*volatile update_threads)(vulfsjor_tree_state *, const void *, size_t,
+                                      unsigned) = vulfsjor_tree_update_threads;
+
 static void refused_updates(void) {
     vulfsjor_tree_state state = {0}, before = {0};
 
-    KEPT(vulfsjor_tree_update_threads(&state, message, 5, 2)); /* no init has made it */
-    KEPT(vulfsjor_tree_update_threads(&state, message, 0, 2));
-    KEPT(vulfsjor_tree_update_threads(NULL, message, 5, 2));
-    KEPT(vulfsjor_tree_update_threads(NULL, NULL, 0, 2));
+    KEPT(update_threads(&state, message, 5, 2)); /* no init has made it */
+    KEPT(update_threads(&state, message, 0, 2));
+    KEPT(update_threads(NULL, message, 5, 2));
+    KEPT(update_threads(NULL, NULL, 0, 2));
     CHECK(!vulfsjor_tree_init(&state, 64, 0, 0, 0, 0, 4) &&
           !vulfsjor_tree_update(&state, message, 6));
     before = state;
-    KEPT(vulfsjor_tree_update_threads(&state, NULL, 5, 2));
-    KEPT(vulfsjor_tree_update_threads(&state, message, (size_t)1 << 58, 2));
-    KEPT(vulfsjor_tree_update_threads(&state, message, ((size_t)1 << 58) - 6, 2));
-    KEPT(vulfsjor_tree_update_threads(&state, message, SIZE_MAX, 2));
-    KEPT(vulfsjor_tree_update_threads(&state, message, SIZE_MAX - 5, 2));
+    KEPT(update_threads(&state, NULL, 5, 2));
+    KEPT(update_threads(&state, message, (size_t)1 << 58, 2));
+    KEPT(update_threads(&state, message, ((size_t)1 << 58) - 6, 2));
+    KEPT(update_threads(&state, message, SIZE_MAX, 2));
+    KEPT(update_threads(&state, message, SIZE_MAX - 5, 2));
     CHECK(!vulfsjor_tree_update_threads(&state, NULL, 0, 0) &&
           !memcmp(&state, &before, sizeof state));
 }
@@ -430,18 +442,17 @@ static void special_files(void) {
     } while (0)
 
 static void refused_arguments(void) {
-    REFUSED(EINVAL, vulfsjor_tree_root_threads(root, 0, message, 5, 0, 0, 0, 0, 4, 2));
-    REFUSED(EINVAL, vulfsjor_tree_root_threads(root, 65, message, 5, 0, 0, 0, 0, 4, 2));
-    REFUSED(EINVAL, vulfsjor_tree_root_threads(NULL, 64, message, 5, 0, 0, 0, 0, 4, 2));
-    REFUSED(EINVAL, vulfsjor_tree_root_threads(root, 64, NULL, 5, 0, 0, 0, 0, 4, 2));
-    REFUSED(EINVAL, vulfsjor_tree_root_threads(root, 64, message, 5, message, 17, 0, 0, 4, 2));
-    REFUSED(EINVAL, vulfsjor_tree_root_threads(root, 64, message, 5, NULL, 1, 0, 0, 4, 2));
-    REFUSED(EINVAL, vulfsjor_tree_root_threads(root, 64, message, 5, 0, 0, message, 17, 4, 2));
-    REFUSED(EINVAL, vulfsjor_tree_root_threads(root, 64, message, 5, 0, 0, NULL, 1, 4, 2));
-    REFUSED(EINVAL, vulfsjor_tree_root_threads(root, 64, message, 5, 0, 0, 0, 0, 0, 2));
-    REFUSED(EINVAL,
-            vulfsjor_tree_root_threads(root, 64, message, (size_t)1 << 58, 0, 0, 0, 0, 1, 2));
-    REFUSED(EINVAL, vulfsjor_tree_root_threads(root, 64, message, SIZE_MAX, 0, 0, 0, 0, 1, 1));
+    REFUSED(EINVAL, root_threads(root, 0, message, 5, 0, 0, 0, 0, 4, 2));
+    REFUSED(EINVAL, root_threads(root, 65, message, 5, 0, 0, 0, 0, 4, 2));
+    REFUSED(EINVAL, root_threads(NULL, 64, message, 5, 0, 0, 0, 0, 4, 2));
+    REFUSED(EINVAL, root_threads(root, 64, NULL, 5, 0, 0, 0, 0, 4, 2));
+    REFUSED(EINVAL, root_threads(root, 64, message, 5, message, 17, 0, 0, 4, 2));
+    REFUSED(EINVAL, root_threads(root, 64, message, 5, NULL, 1, 0, 0, 4, 2));
+    REFUSED(EINVAL, root_threads(root, 64, message, 5, 0, 0, message, 17, 4, 2));
+    REFUSED(EINVAL, root_threads(root, 64, message, 5, 0, 0, NULL, 1, 4, 2));
+    REFUSED(EINVAL, root_threads(root, 64, message, 5, 0, 0, 0, 0, 0, 2));
+    REFUSED(EINVAL, root_threads(root, 64, message, (size_t)1 << 58, 0, 0, 0, 0, 1, 2));
+    REFUSED(EINVAL, root_threads(root, 64, message, SIZE_MAX, 0, 0, 0, 0, 1, 1));
 }
 
 /* Each is refused before anything is opened or read. */
@@ -449,19 +460,19 @@ static void refused_arguments_of_files(void) {
     int ends[2];
 
     CHECK(!pipe(ends) && write(ends[1], "a", 1) == 1 && !close(ends[1]));
-    REFUSED(EINVAL, vulfsjor_tree_root_fd(root, 0, ends[0], 0, 0, 0, 0, 4, 2));
-    REFUSED(EINVAL, vulfsjor_tree_root_fd(root, 65, ends[0], 0, 0, 0, 0, 4, 2));
-    REFUSED(EINVAL, vulfsjor_tree_root_fd(NULL, 64, ends[0], 0, 0, 0, 0, 4, 2));
-    REFUSED(EINVAL, vulfsjor_tree_root_fd(root, 64, ends[0], message, 17, 0, 0, 4, 2));
-    REFUSED(EINVAL, vulfsjor_tree_root_fd(root, 64, ends[0], 0, 0, NULL, 1, 4, 2));
-    REFUSED(EINVAL, vulfsjor_tree_root_fd(root, 64, ends[0], 0, 0, 0, 0, 0, 2));
+    REFUSED(EINVAL, root_fd(root, 0, ends[0], 0, 0, 0, 0, 4, 2));
+    REFUSED(EINVAL, root_fd(root, 65, ends[0], 0, 0, 0, 0, 4, 2));
+    REFUSED(EINVAL, root_fd(NULL, 64, ends[0], 0, 0, 0, 0, 4, 2));
+    REFUSED(EINVAL, root_fd(root, 64, ends[0], message, 17, 0, 0, 4, 2));
+    REFUSED(EINVAL, root_fd(root, 64, ends[0], 0, 0, NULL, 1, 4, 2));
+    REFUSED(EINVAL, root_fd(root, 64, ends[0], 0, 0, 0, 0, 0, 2));
     CHECK(read(ends[0], root, 1) == 1 && root[0] == 'a');
-    REFUSED(EINVAL, vulfsjor_tree_root_file(root, 0, other, 0, 0, 0, 0, 4, 2));
-    REFUSED(EINVAL, vulfsjor_tree_root_file(NULL, 64, other, 0, 0, 0, 0, 4, 2));
-    REFUSED(EINVAL, vulfsjor_tree_root_file(root, 64, NULL, 0, 0, 0, 0, 4, 2));
-    REFUSED(EINVAL, vulfsjor_tree_root_file(root, 64, other, NULL, 1, 0, 0, 4, 2));
-    REFUSED(EINVAL, vulfsjor_tree_root_file(root, 64, other, 0, 0, message, 17, 4, 2));
-    REFUSED(EINVAL, vulfsjor_tree_root_file(root, 64, other, 0, 0, 0, 0, 0, 2));
+    REFUSED(EINVAL, root_file(root, 0, other, 0, 0, 0, 0, 4, 2));
+    REFUSED(EINVAL, root_file(NULL, 64, other, 0, 0, 0, 0, 4, 2));
+    REFUSED(EINVAL, root_file(root, 64, NULL, 0, 0, 0, 0, 4, 2));
+    REFUSED(EINVAL, root_file(root, 64, other, NULL, 1, 0, 0, 4, 2));
+    REFUSED(EINVAL, root_file(root, 64, other, 0, 0, message, 17, 4, 2));
+    REFUSED(EINVAL, root_file(root, 64, other, 0, 0, 0, 0, 0, 2));
     close(ends[0]);
 }
 

@@ -1,12 +1,10 @@
 /* A limit of time for a test program: RUN calls a test, and a test that hangs ends the program with
- * status 1 and a line that names it. */
+ * status 1 and a line that names it. LIMIT is in seconds for each test, also with a sanitizer on a
+ * machine under load. */
 #include <signal.h>
 #include <stdio.h>
 #include <string.h>
 #include <unistd.h>
-
-/* In seconds for each test, also with a sanitizer on a machine under load. */
-enum { LIMIT = 600 };
 
 static const char *limited = "";
 

@@ -85,8 +85,8 @@ cc() {
 wanted_for_windows() {
     printf '%s\n' bin/libvulfsjor-0.dll include/vulfsjor-libb2/blake2.h include/vulfsjor.h{,pp} \
         include/vulfsjor_threads.h lib/cmake/vulfsjor/vulfsjor-config{,-version}.cmake \
-        lib/libvulfsjor{,-static,-libb2,-threads,.dll}.a lib/pkgconfig/vulfsjor{,-static,-threads}.pc \
-        lib/vulfsjor-libb2/libb2.a lib/vulfsjor-libb2/pkgconfig/libb2.pc | LC_ALL=C sort
+        lib/libvulfsjor{,-libb2,-threads,.dll}.a lib/pkgconfig/vulfsjor{,-static,-threads}.pc \
+        lib/vulfsjor-libb2/pkgconfig/libb2.pc | LC_ALL=C sort
 }
 
 # What is installed, and that all of it goes again.
@@ -109,16 +109,14 @@ one_build_for_windows() {
     local folder=$work/only_$1
     CC=$mingw "$here/install.sh" --cpu "x86-64-$1" --from "$dist" "$folder" &&
         ! nm "$folder/lib/libvulfsjor.a" | grep -q "vulfsjor_ffi_level" &&
-        archive=$folder/lib/libvulfsjor.a family=b &&
-        compile_and_run "$work/test_one" -O2 "$archive"
+        archive=$folder/lib/libvulfsjor.a && run_hash conformance blake2b -O2 "$archive"
 }
 
 # Over a library for tests that goes from one build to the others, which the first family makes.
 all_builds_for_windows() {
     [ -e "$work/both" ] || CC=$mingw "$here/make_libraries.sh" --test "$(seq -s '' 2 "$level")" "$work/both" \
         "$dist"/x86_64/vulfsjor-v[234].s || return 1
-    archive=$work/both/libvulfsjor.a family=$1 &&
-        compile_and_run "$work/test_both" -O2 $(family_words "$1") "$archive"
+    archive=$work/both/libvulfsjor.a && run_hash conformance "$1" -O2 "$archive"
 }
 
 # The example of c/README.md over a library that has a trap in each function of one build, with
@@ -163,6 +161,12 @@ program_for_windows() {
         python3 "$top/tests/compare_model.py" --program "$work/b2" --unicode --cases "$1" &&
         printf 'a\r\n\032\r\r\n\0b' >"$work/binary" &&
         [ "$("$work/b2" sum b512 <"$work/binary")" = "$(b2sum <"$work/binary" | cut -c-128)" ]
+}
+
+# What b2.c has instead of read and write.
+short_lengths() {
+    "$mingw" -municode -O2 "${warnings[@]}" -DCHOOSE_ONE -DMAIN=check_all "$tests/b2_windows.c" \
+        -o "$work/b2_windows.exe" && { "$by_wine" "$work/b2_windows.exe"; [ $? -eq 7 ]; }
 }
 
 # The program with this build of the library.
@@ -275,7 +279,7 @@ rustc_for_windows() {
 }
 
 test_windows() {
-    local build
+    local build hash check
     if ! has "$mingw" || [ -z "$wine$server" ] || ! has python3 || [ "${level:-0}" -lt 3 ]; then
         skip "the library for Windows" "no $mingw, no wine, no python3 or no x86-64-v3"
         return
@@ -289,12 +293,15 @@ test_windows() {
         return
     check "what is installed for Windows" installs
     check "the DLL" dll_is_right
+    for hash in "${hashes[@]}"; do
+        check_by_wine "conformance.c, $hash, for Windows" run_hash conformance $hash -O1 "$archive"
+        check_huge_by_wine "made_states.c, $hash, for Windows" run_hash made_states $hash -O1 "$archive"
+        check=check_huge_by_wine
+        [ $hash != blake2b ] || check=check_by_wine
+        $check "conformance.c, $hash, for Windows, with the DLL" run_hash conformance $hash -O1 "$shared"
+        $check "conformance.c, $hash, from one build to the others" all_builds_for_windows $hash
+    done
     for family in b s; do
-        check_by_wine "test.c, blake2$family, for Windows" compile_and_run "$work/test" -O2 \
-            $(family_words $family) "$archive"
-        check_once_by_wine "test.c, blake2$family, for Windows, with the DLL" with_shared_library
-        check_once_by_wine "test.c, blake2$family, from one build to the others" \
-            all_builds_for_windows $family
         check_by_wine "edge_cases.c, blake2$family, for Windows" compare_lines edge_cases -O2 -I"$include"
         check_by_wine "passed_arguments.c, blake2$family, for Windows, through thunks.h" \
             passes_by_calls $family
@@ -302,14 +309,7 @@ test_windows() {
         check_once_by_wine "libb2_header.c, blake2$family, for Windows" compare_lines libb2_header -O2 \
             -I"$libb2" "$prefix/lib/libvulfsjor-libb2.a"
     done
-    for family in bp sp; do
-        check_by_wine "parallel.c, blake2$family, for Windows" parallel_cases -O2 "$archive"
-        check_by_wine "passed_arguments.c, blake2$family, for Windows, through thunks.h" \
-            passes_by_calls $family
-    done
-    for family in xb xs; do
-        check_by_wine "xof.c, blake2$family, for Windows" output_cases "$cases/$family" -O2 \
-            "$archive"
+    for family in bp sp xb xs; do
         check_by_wine "passed_arguments.c, blake2$family, for Windows, through thunks.h" \
             passes_by_calls $family
     done
@@ -323,6 +323,7 @@ test_windows() {
     check_huge_by_wine "an older build is chosen if it is asked for" example_with_traps v3 --test 2
     check_by_wine "b2.exe next to the specification" \
         program_for_windows "$([ -n "${VULFSJOR_TEST_HUGE-}" ] && echo 40 || echo 10)"
+    check_by_wine "b2_windows.c" short_lengths
     check_by_wine "trees by threads on Windows" threads_for_windows
     if check "b2sum.exe" build_sums; then
         check_by_wine "b2sum.exe over files" sums_of_files

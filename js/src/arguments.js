@@ -3,13 +3,12 @@
 // nothing.
 
 const TypedArray = Object.getPrototypeOf(Uint8Array);
+const EMPTY = new Uint8Array(0);
 
-// The getter of a built-in property. It reads the object itself, whatever a subclass or another
-// realm defines under that name.
-function getterOf(prototype, name) {
-  const { get } = Object.getOwnPropertyDescriptor(prototype, name);
-  return (value) => Reflect.apply(get, value, []);
-}
+// The getter of a built-in property, as a function of the object. It reads the object itself,
+// whatever a subclass or another realm defines under that name. Engines compile a call to a load.
+const getterOf = (prototype, name) =>
+  Function.prototype.call.bind(Object.getOwnPropertyDescriptor(prototype, name).get);
 
 const ofTyped = {
   buffer: getterOf(TypedArray.prototype, "buffer"),
@@ -21,6 +20,7 @@ const ofDataView = {
   byteOffset: getterOf(DataView.prototype, "byteOffset"),
   byteLength: getterOf(DataView.prototype, "byteLength"),
 };
+// The name of the class of a typed array, whatever its object says, and undefined for all else.
 const nameOfTyped = getterOf(TypedArray.prototype, Symbol.toStringTag);
 const keysOfTyped = TypedArray.prototype.keys;
 const lengthsOfBuffers = [getterOf(ArrayBuffer.prototype, "byteLength")];
@@ -68,11 +68,16 @@ export function partOf(bytes, begin, length) {
   return new Uint8Array(ofTyped.buffer(bytes), ofTyped.byteOffset(bytes) + begin, length);
 }
 
-// Whether this is an object such as {}, of any realm.
+const { hasOwnProperty } = Object.prototype;
+
+// Whether this is an object such as {}, of any realm: one that inherits nothing except from
+// Object.prototype, which alone has isPrototypeOf.
 function isPlain(value) {
   if (typeof value !== "object" || value === null) return false;
   const prototype = Object.getPrototypeOf(value);
-  return prototype === null || Object.getPrototypeOf(prototype) === null;
+  if (prototype === Object.prototype || prototype === null) return true;
+  return Object.getPrototypeOf(prototype) === null &&
+    Reflect.apply(hasOwnProperty, prototype, ["isPrototypeOf"]);
 }
 
 /** What a value is, for an error message. */
@@ -88,10 +93,17 @@ export function kindOf(value) {
 export const isBytes = (value) => ArrayBuffer.isView(value) || isBuffer(value);
 
 /**
+ * Whether a value is a Uint8Array that is not empty, as most are. Nothing else has this name, and
+ * memory that is gone has no length.
+ */
+export const isPlainBytes = (value) => nameOfTyped(value) === "Uint8Array" && lengthOf(value) > 0;
+
+/**
  * The bytes of a message, key, salt or tag: a Uint8Array over the caller's own memory. It may be an
  * instance of a subclass, so only lengthOf, partOf, copyOf and set() of another array read it.
  */
 export function bytesOf(value, caller, what) {
+  if (isPlainBytes(value)) return value;
   if (!isBytes(value)) {
     const hint = typeof value === "string" ? " (utf8() encodes a string)" : "";
     throw new TypeError(
@@ -106,7 +118,7 @@ export function bytesOf(value, caller, what) {
   }
 }
 
-/** The same with a length between the bounds; empty if the value is undefined. */
+// The same with a length between the bounds; empty if the value is undefined.
 function shortBytesOf(value, caller, what, least, most) {
   if (value === undefined) return EMPTY;
   const bytes = bytesOf(value, caller, what);
@@ -116,8 +128,6 @@ function shortBytesOf(value, caller, what, least, most) {
   }
   return bytes;
 }
-
-const EMPTY = new Uint8Array(0);
 
 /** An integer between the bounds, or the default if the value is undefined. */
 export function integerOf(value, caller, what, least, most, otherwise) {
@@ -157,27 +167,45 @@ export function flagOf(value, caller, what) {
   return value === true;
 }
 
+// The options that a call has read, undefined if they are not given. All have their places, so that
+// reading them is fast.
+class Read {
+  digestLength; key; salt; personalization; tree; outputLength; leafLength;
+  first; ends; onProgress; signal; threads; onFallback;
+  fanout; depth; nodeOffset; nodeDepth; innerLength; lastNode;
+}
+
 /**
- * The known options, each read once and from the object itself. An unknown name is refused, since a
- * misspelled key or digestLength would silently return another digest.
+ * The known options, each read once and from the object itself, and undefined if it is not given. An
+ * unknown name is refused, since a misspelled key or digestLength would silently return another
+ * digest. Names that are not enumerable count too. A key that is given and undefined is refused:
+ * under a missing setting anybody could make the tags. Symbols are ignored: they are no misspelled
+ * names, libraries mark objects with them, and a MAC of 64 bytes would take 8% longer to list them.
  */
 function optionsOf(options, caller, what, known) {
-  const read = Object.create(null);
+  const read = new Read();
   if (options === undefined) return read;
   // a promise, a map or bytes have no property of an option, and would pass for none given
   if (!isPlain(options)) {
     throw new TypeError(`${caller}: ${what} must be a plain object, not ${kindOf(options)}`);
   }
-  for (const name of Object.keys(options)) {
-    if (!known.includes(name)) {
+  for (const name of Object.getOwnPropertyNames(options)) {
+    if (!known.includes(name)) refuseUnknown(name, caller, what, known);
+    read[name] = options[name];
+    if (name === "key" && read.key === undefined) {
       throw new TypeError(
-        `${caller}: unknown property ${JSON.stringify(name)} of ${what}; ` +
-          `known are ${known.join(", ")}`,
+        `${caller}: key must not be undefined; for a hash without a key leave the option out`,
       );
     }
-    read[name] = options[name];
   }
   return read;
+}
+
+function refuseUnknown(name, caller, what, known) {
+  throw new TypeError(
+    `${caller}: unknown property ${JSON.stringify(name)} of ${what}; ` +
+      `known are ${known.join(", ")}`,
+  );
 }
 
 const POSITION = [
@@ -207,36 +235,60 @@ export const OPTIONS = Object.freeze({
   leaves: ["leafLength", "first", "ends", "salt", "personalization"],
 });
 
+/** The settings of a hash without options. */
+export const plainSettings = (digestLength) => Object.freeze({
+  digestLength, key: EMPTY, salt: EMPTY, personalization: EMPTY, tree: undefined,
+  leafLength: undefined, node: undefined, isPlain: true,
+});
+
 /**
- * The checked settings of a hash, and the options as they were read. Settings are digestLength,
- * key, salt and personalization (empty if not given), tree (the position of a node), and leafLength
- * if the hash is a tree's. known has the names of the call's options.
+ * The checked settings of a hash: digestLength, key, salt and personalization (empty if not given),
+ * tree (the position of a node), and leafLength if the hash is a tree's. isPlain says that there is
+ * at most a length and a key. All code of the caller runs before a length of bytes is checked: a
+ * getter could take the memory of a key away, and leave a hash without one.
  */
-export function settingsOf(kind, options, caller, known = OPTIONS[kind.options]) {
-  const read = optionsOf(options, caller, "options", known);
-  const most = kind.digestLength;
-  const bytes = (what, least, length) => shortBytesOf(read[what], caller, what, least, length);
-  const settings = {
-    digestLength: integerOf(read.digestLength, caller, "digestLength", 1, most, most),
-    key: bytes("key", 1, kind.keyLength),
-    salt: bytes("salt", 0, kind.saltLength),
-    personalization: bytes("personalization", 0, kind.saltLength),
-    tree: positionOf(read.tree, kind, caller),
-  };
-  if (kind.isTree) {
-    if (read.leafLength === undefined) {
-      throw new TypeError(`${caller}: leafLength must be given`);
-    }
-    settings.leafLength = integerOf(read.leafLength, caller, "leafLength", 1, 2 ** 32 - 1);
-  }
-  return [settings, read];
+export function settingsOf(kind, options, caller) {
+  if (options === undefined && kind.plain !== undefined) return kind.plain;
+  return checkedSettings(kind, optionsOf(options, caller, "options", OPTIONS[kind.options]), caller);
 }
 
-/** Refuses further arguments: other libraries accept a key, a length or an encoding there. */
-export function refuseMore(rest, caller, count, hint = "key, length and so on are options") {
-  if (rest.length > 0) {
-    throw new TypeError(
-      `${caller}: too many arguments, ${count + rest.length} instead of at most ${count}; ${hint}`,
-    );
+/** The same, and all options as they were read. known has the names of the call's options. */
+export function readSettings(kind, options, caller, known = OPTIONS[kind.options]) {
+  const read = optionsOf(options, caller, "options", known);
+  return [checkedSettings(kind, read, caller), read];
+}
+
+/** The checked settings from options that were read, again if code of the caller ran in between. */
+export function checkedSettings(kind, read, caller) {
+  const tree = positionOf(read.tree, kind, caller); // which may have getters
+  const most = kind.digestLength;
+  const shorter = kind.saltLength;
+  const digestLength = integerOf(read.digestLength, caller, "digestLength", 1, most, most);
+  const key = shortBytesOf(read.key, caller, "key", 1, kind.keyLength);
+  const salt = shortBytesOf(read.salt, caller, "salt", 0, shorter);
+  const personalization =
+    shortBytesOf(read.personalization, caller, "personalization", 0, shorter);
+  let { leafLength } = read;
+  if (kind.isTree) {
+    if (leafLength === undefined) throw new TypeError(`${caller}: leafLength must be given`);
+    leafLength = integerOf(leafLength, caller, "leafLength", 1, 2 ** 32 - 1);
   }
+  const isPlain = !kind.isTree && tree === undefined && lengthOf(salt) === 0 &&
+    lengthOf(personalization) === 0;
+  return {
+    digestLength, key, salt, personalization, tree, leafLength, node: undefined, isPlain,
+  };
+}
+
+/** Refuses a method that was called without its object, as after `const { update } = hash`. */
+export function refuseDetached(call, what) {
+  throw new TypeError(`${call}: called without its ${what}; use it as ${what}.${call}`);
+}
+
+/** Refuses this many further arguments: others accept a key, a length or an encoding there. */
+export function refuseMore(more, caller, count, hint = "key, length and so on are options") {
+  if (more <= 0) return;
+  throw new TypeError(
+    `${caller}: too many arguments, ${count + more} instead of at most ${count}; ${hint}`,
+  );
 }

@@ -1,22 +1,54 @@
-// The library in WebAssembly, and the only code that touches its memory.
+// The library in WebAssembly, and the only code that touches its memory, with many.js and leaves.js.
 //
-// The memory is the library's stack and, above it, a slot for one state, places for the short
-// arguments, and a window through which messages are copied. It never grows, and it keeps nothing
+// The memory is the library's stack and, above it, places for the short arguments, a slot for one
+// state, and a window through which messages are copied. It never grows, and it keeps nothing
 // between calls: states are in JavaScript. Each call copies a state in, works on it, copies it out,
 // and sets to zero everything that was written, including the library's stack.
+//
+// A program uses up to three modules: BLAKE2b and BLAKE2s of one message have small ones, so that a
+// bundle has only what its program calls. Each has a memory.
 
-import { lengthOf, partOf } from "./arguments.js";
-import { decode } from "./wasm.js";
+import { lengthOf, partOf, plainSettings } from "./arguments.js";
 
 // How many bytes of the stack a call may write: of BLAKE2b or BLAKE2s for one message, and others.
 const SHALLOW = 3072;
 const DEEP = 8192;
 
+/** How many bytes may wait after the state of a hash, so that short updates make no call. */
+export const WAITING = 1024;
+
 /**
- * The properties of each hash. Lengths are in bytes; those of digest, key and salt are maxima. The
- * options are a name in OPTIONS.
+ * The properties of a hash in a module. Lengths are in bytes; those of digest, key and salt are
+ * maxima. The options are a name in OPTIONS, and plain are the settings without options. After a
+ * state there is room for bytes that wait to be absorbed, as long as the library has absorbed fewer
+ * than certainBelow: it refuses messages of 2^64 bytes, and a call is to be refused at once.
  */
-export const BLAKE2B = Object.freeze({
+export class Kind {
+  constructor(module, given) {
+    const numbers = { __proto__: null, ...given };
+    this.module = module;
+    this.index = module.count++; // of the hashes of its module
+    this.name = numbers.name;
+    this.digestLength = numbers.digestLength;
+    this.keyLength = numbers.keyLength ?? 0;
+    this.saltLength = numbers.saltLength;
+    this.blockLength = numbers.blockLength;
+    this.stateLength = numbers.stateLength;
+    this.stackLength = numbers.stackLength ?? DEEP;
+    this.maxNodeOffset = numbers.maxNodeOffset;
+    this.atOnce = numbers.atOnce;
+    this.options = numbers.options ?? "basic";
+    this.isTree = this.options === "tree";
+    const isOutput = this.options === "output";
+    this.plain = this.isTree || isOutput ? undefined : plainSettings(this.digestLength);
+    this.room = isOutput ? 0 : WAITING;
+    this.certainBelow = 2 ** 53;
+    Object.freeze(this);
+  }
+}
+
+/** Those of BLAKE2b and BLAKE2s, which are in two modules each. */
+export const BLAKE2B_NUMBERS = /* @__PURE__ */ Object.freeze({
   name: "blake2b",
   digestLength: 64,
   keyLength: 64,
@@ -27,9 +59,8 @@ export const BLAKE2B = Object.freeze({
   maxNodeOffset: 2n ** 64n - 1n,
   atOnce: 4,
   options: "hash",
-  isTree: false,
 });
-export const BLAKE2S = Object.freeze({
+export const BLAKE2S_NUMBERS = /* @__PURE__ */ Object.freeze({
   name: "blake2s",
   digestLength: 32,
   keyLength: 32,
@@ -40,139 +71,111 @@ export const BLAKE2S = Object.freeze({
   maxNodeOffset: 2n ** 48n - 1n,
   atOnce: 8,
   options: "hash",
-  isTree: false,
 });
-// Their trees are fixed, so they are used as if they had none.
-export const BLAKE2BP = Object.freeze({
-  name: "blake2bp",
-  digestLength: 64,
-  keyLength: 64,
-  saltLength: 16,
-  blockLength: 128,
-  stateLength: 1632,
-  stackLength: DEEP,
-  options: "basic",
-  isTree: false,
-});
-export const BLAKE2SP = Object.freeze({
-  name: "blake2sp",
-  digestLength: 32,
-  keyLength: 32,
-  saltLength: 8,
-  blockLength: 64,
-  stateLength: 1600,
-  stackLength: DEEP,
-  options: "basic",
-  isTree: false,
-});
-// The length of an output that is not known in advance is digestLength.
-export const BLAKE2XB = Object.freeze({
-  name: "blake2xb",
-  digestLength: 2 ** 32 - 1,
-  keyLength: 64,
-  saltLength: 16,
-  blockLength: 128,
-  stateLength: 544,
-  stackLength: DEEP,
-  options: "output",
-  isTree: false,
-});
-export const BLAKE2XS = Object.freeze({
-  name: "blake2xs",
-  digestLength: 2 ** 16 - 1,
-  keyLength: 32,
-  saltLength: 8,
-  blockLength: 64,
-  stateLength: 304,
-  stackLength: DEEP,
-  options: "output",
-  isTree: false,
-});
-export const TREE = Object.freeze({
-  name: "tree",
-  digestLength: 64,
-  keyLength: 0,
-  saltLength: 16,
-  blockLength: 128,
-  stateLength: 912,
-  stackLength: DEEP,
-  options: "tree",
-  isTree: true,
-});
-
-/** The bytes of a leaf's digest in the tree. */
-export const LEAF_DIGEST = 64;
 
 const PAGE = 65536;
 const GROWN = 8 * PAGE;
-const BATCH = 64; // messages per call of the library, at most
-// Places, counted from the end of the stack. The state is the last of those that each call wipes.
+/** The number of messages per call of the library, at most. */
+export const BATCH = 64;
+// Places, counted from the end of the stack. The state is the last of those that each call wipes,
+// and the window of its messages begins at its end. Calls of several messages and of leaves use
+// the places from RECORDS on.
 const OUT = 0;
 const TAG = 64;
-const KEY = 128;
+/** Places that many.js and leaves.js use too. */
+export const KEY = 128;
 const SALT = 192;
 const PERSONALIZATION = 208;
-const LIMITS = 224;
-const PLAN = 256;
-const PART = 328;
+export const LIMITS = 224;
+export const PLAN = 256;
+export const PART = 328;
 const NODE = 376;
 const STATE = 392;
-const RECORDS = 2048;
-const OUTS = RECORDS + 16 * BATCH;
-const WINDOW = 8192;
-const WINDOW_LENGTH = GROWN - WINDOW;
+export const RECORDS = 2048;
+export const OUTS = RECORDS + 16 * BATCH;
+export const MESSAGES = 8192;
+/** The bytes from MESSAGES to the end. */
+export const WINDOW_LENGTH = GROWN - MESSAGES;
 // How many bytes of a message are copied at a time. A hash's fit into the processor's cache; a
 // tree's are the whole window, so that it holds several leaves, which are hashed in parallel.
 const PIECE = 65536;
 
+// An empty table. It has no prototype, so that nothing is found in it that other code has given to
+// all objects, such as a property "32" by a careless copy of somebody's JSON.
+const newTable = () => Object.create(null);
+
+// A number as the library's argument. Those of short messages are made once.
+const kept = /* @__PURE__ */ newTable();
+const big = (number) => (number > WAITING ? BigInt(number) : (kept[number] ??= BigInt(number)));
+
+// A hash in an engine: its functions, and its places in the memory.
+class Hash {
+  constructor(engine, { name, stateLength }) {
+    const call = (word) => engine.exports[`vulfsjor_ffi_${name}${word}`];
+    this.one = call("");
+    this.many = call("_many");
+    this.init = call("_init");
+    this.initSaltPersonal = call("_init_salt_personal");
+    this.initTree = call("_init_tree");
+    this.setLastNode = call("_set_last_node");
+    this.update = call("_update");
+    this.final = call("_final");
+    this.verify = call("_verify");
+    this.reset = call("_reset");
+    this.squeeze = call("_squeeze");
+    this.left = call("_left");
+    this.window = engine.base + STATE + stateLength;
+    this.atWindow = BigInt(this.window);
+    this.slot = engine.bytes.subarray(engine.base + STATE, this.window);
+  }
+}
+
 class Engine {
   constructor(module) {
     const { exports } = new WebAssembly.Instance(module, {});
+    this.exports = exports;
     this.base = Number(exports.__heap_base.value);
     exports.memory.grow(GROWN / PAGE);
     this.bytes = new Uint8Array(exports.memory.buffer);
     this.view = new DataView(exports.memory.buffer);
     this.isBusy = false;
     this.compare = exports.vulfsjor_ffi_memcmp;
-    this.plan = exports.vulfsjor_ffi_tree_plan;
-    this.part = exports.vulfsjor_ffi_tree_part;
-    const functionsOf = (name, calls) =>
-      Object.fromEntries(calls.map((call) => [call, exports[`vulfsjor_ffi_${name}_${call}`]]));
-    const calls = [
-      "init_salt_personal", "init_tree", "update", "final", "verify", "set_last_node", "reset",
-      "many",
-    ];
-    this.calls = {
-      tree: functionsOf(
-        "tree", ["init", "update", "final", "leaves", "root_of_leaves", "init_leaf", "init_root"]),
-    };
-    for (const { name } of [BLAKE2B, BLAKE2S, BLAKE2BP, BLAKE2SP]) {
-      this.calls[name] = { ...functionsOf(name, calls), one: exports[`vulfsjor_ffi_${name}`] };
-    }
-    for (const { name } of [BLAKE2XB, BLAKE2XS]) {
-      this.calls[name] = functionsOf(name, ["init_salt_personal", "update", "squeeze", "left"]);
-    }
-    this.slots = {};
-    const slot = this.base + STATE;
-    for (const kind of [BLAKE2B, BLAKE2S, BLAKE2BP, BLAKE2SP, BLAKE2XB, BLAKE2XS, TREE]) {
-      this.slots[kind.name] = this.bytes.subarray(slot, slot + kind.stateLength);
-    }
+    this.hashes = newTable();
+    this.digests = newTable(); // views of the place of a digest, by its length
     this.at = {}; // the places as the library's pointers
     for (const [name, place] of Object.entries({
       state: STATE, out: OUT, tag: TAG, key: KEY, salt: SALT, personalization: PERSONALIZATION,
-      limits: LIMITS, plan: PLAN, part: PART, node: NODE, records: RECORDS, outs: OUTS, window: WINDOW,
+      limits: LIMITS, plan: PLAN, part: PART, node: NODE, records: RECORDS, outs: OUTS,
+      messages: MESSAGES,
     })) {
       this.at[name] = BigInt(this.base + place);
     }
   }
 
+  hash(kind) {
+    return (this.hashes[kind.index] ??= new Hash(this, kind));
+  }
+
+  /** A function of trees. */
+  ofTrees(call) {
+    return this.exports[`vulfsjor_ffi_tree_${call}`];
+  }
+
+  /** Copies bytes to a place, and returns their number as the library's argument. */
   put(bytes, place) {
-    this.bytes.set(bytes, this.base + place);
-    return BigInt(lengthOf(bytes));
+    const length = lengthOf(bytes);
+    if (length > 0) this.bytes.set(bytes, this.base + place);
+    return big(length);
   }
 
   read(place, length) {
     return this.bytes.slice(this.base + place, this.base + place + length);
+  }
+
+  /** The digest at OUT, as a new array. */
+  digest(length) {
+    return new Uint8Array(
+      (this.digests[length] ??= this.bytes.subarray(this.base, this.base + length)));
   }
 
   /** Copies salt and personalization, and returns them as the library's arguments. */
@@ -192,405 +195,317 @@ class Engine {
 
   /** Initializes a state in the slot. */
   begin(kind, settings) {
-    const { digestLength, leafLength, node, tree } = settings;
-    const labels = this.putLabels(settings);
-    const calls = this.calls[kind.name];
-    const size = BigInt(digestLength);
-    if (node === "root") {
-      return granted(this.calls.tree.init_root(this.at.state, size, ...labels, leafLength));
-    }
-    if (node !== undefined) {
-      return granted(this.calls.tree.init_leaf(
-        this.at.state, node.first, node.ends ? 1 : 0, ...labels, leafLength));
-    }
-    if (kind.isTree) {
-      return granted(calls.init(this.at.state, size, ...labels, leafLength));
-    }
+    const { digestLength, salt, personalization, tree } = settings;
+    const { at } = this;
+    const hash = this.hash(kind);
+    const size = big(digestLength);
+    if (settings.node !== undefined || kind.isTree) return this.#beginTree(kind, settings);
     const key = this.put(settings.key, KEY);
+    const salted = this.put(salt, SALT);
+    const personal = this.put(personalization, PERSONALIZATION);
     if (tree === undefined) {
-      return granted(calls.init_salt_personal(this.at.state, size, this.at.key, key, ...labels));
+      granted(hash.initSaltPersonal(
+        at.state, size, at.key, key, at.salt, salted, at.personalization, personal));
+      return;
     }
     this.putNode(tree);
-    granted(calls.init_tree(
-      this.at.state, size, this.at.key, key, ...labels, this.at.node));
-    if (tree.lastNode) granted(calls.set_last_node(this.at.state, 1));
+    granted(hash.initTree(
+      at.state, size, at.key, key, at.salt, salted, at.personalization, personal, at.node));
+    if (tree.lastNode) granted(hash.setLastNode(at.state, 1));
   }
 
-  /** Absorbs a message into the state in the slot. Returns false if it is too long. */
-  absorb(kind, message) {
-    const { update } = this.calls[kind.name];
+  #beginTree(kind, settings) {
+    const { digestLength, leafLength, node } = settings;
+    const { state } = this.at;
+    const size = big(digestLength);
+    const words = [...this.putLabels(settings), leafLength];
+    if (node === undefined) granted(this.hash(kind).init(state, size, ...words));
+    else if (node === "root") granted(this.ofTrees("init_root")(state, size, ...words));
+    else granted(this.ofTrees("init_leaf")(state, node.first, node.ends ? 1 : 0, ...words));
+  }
+
+  /**
+   * Absorbs the first bytes of the window, as many as wait there, and then a message into the state
+   * in the slot. Returns false if it is too long.
+   */
+  absorb(kind, waiting, message) {
+    const hash = this.hash(kind);
+    const { window, atWindow } = hash;
     const piece = kind.isTree ? WINDOW_LENGTH : PIECE;
     const length = lengthOf(message);
-    if (length <= piece) {
-      return update(this.at.state, this.at.window, this.put(message, WINDOW)) === 0;
+    if (waiting + length <= piece) {
+      this.bytes.set(message, window + waiting);
+      return hash.update(this.at.state, atWindow, big(waiting + length)) === 0;
     }
-    for (let at = 0; at < length; at += piece) {
-      const part = partOf(message, at, Math.min(piece, length - at));
-      if (update(this.at.state, this.at.window, this.put(part, WINDOW)) !== 0) return false;
+    for (let at = 0, begin = waiting; at < length; begin = 0) {
+      const size = Math.min(piece - begin, length - at);
+      this.bytes.set(partOf(message, at, size), window + begin);
+      if (hash.update(this.at.state, atWindow, big(begin + size)) !== 0) return false;
+      at += size;
     }
     return true;
   }
 
   /** Finalizes the state in the slot, and leaves the digest at OUT. */
   end(kind, digestLength) {
-    granted(this.calls[kind.name].final(this.at.state, this.at.out, BigInt(digestLength)));
+    granted(this.hash(kind).final(this.at.state, this.at.out, big(digestLength)));
   }
 
   /**
-   * Sets to zero what a call has written: the short arguments and the slot, the used bytes of the
-   * window, and the bytes of the stack that it may have used.
+   * Sets to zero what a call has written: the bytes of the stack that it may have used, the short
+   * arguments and the slot, and the used bytes of the window.
    */
-  clean(kind, used, depth = kind.stackLength) {
+  clean(kind, used) {
     const most = kind.isTree ? WINDOW_LENGTH : PIECE;
-    this.bytes.fill(0, this.base - depth, this.base + STATE + kind.stateLength);
-    this.bytes.fill(0, this.base + WINDOW, this.base + WINDOW + Math.min(used, most));
+    this.bytes.fill(0, this.base - kind.stackLength, this.hash(kind).window + Math.min(used, most));
+  }
+
+  /** The same after a call that used this many bytes from MESSAGES on. */
+  cleanAll(used) {
+    this.bytes.fill(0, this.base - DEEP, this.base + MESSAGES + used);
   }
 }
 
-// A refusal here is a bug of this package: the caller's arguments have been checked.
-function granted(status) {
+/** A refusal here is a bug of this package: the caller's arguments have been checked. */
+export function granted(status) {
   if (status !== 0) throw new Error("vulfsjor: the library refused a call");
 }
 
-let compiled;
-let current;
+const modules = [];
 
-/** Compiles the module off the calling thread. */
-export async function load() {
-  compiled ??= await WebAssembly.compile(decode());
+/** A module that this program uses: its bytes, and later what they compile to and its instance. */
+export function newModule(decode) {
+  const module = { decode, compiled: undefined, current: undefined, count: 0, initial: newTable() };
+  modules.push(module);
+  return module;
 }
 
-/** The compiled module. A worker is passed that of the thread that starts it. */
-export function moduleOf(given) {
-  return (compiled ??= given ?? new WebAssembly.Module(decode()));
+/** Compiles the modules that this program uses off the calling thread. */
+export async function load() {
+  await Promise.all(modules.map(async (module) => {
+    module.compiled ??= await WebAssembly.compile(module.decode());
+  }));
+}
+
+/** A compiled module. A worker is passed that of the thread that starts it. */
+export function compile(module, given) {
+  return (module.compiled ??= given ?? new WebAssembly.Module(module.decode()));
 }
 
 /**
- * Runs the work with the engine. A call that throws inside the library, such as on a full
- * JavaScript stack, leaves the instance unusable and its memory half written. So the memory is
- * wiped and the instance dropped: here or, if even that throws, before the next call.
+ * Runs a function of the engine, a kind and these values. A call that throws inside the library,
+ * such as on a full JavaScript stack, leaves the instance unusable and its memory half written. So
+ * the memory is wiped and the instance dropped: here or, if even that throws, before the next call.
+ *
+ * The functions of short calls are outside of their callers, so that no closure is made.
  */
-function withEngine(work) {
-  if (current === undefined || current.isBusy) {
-    drop();
-    current = new Engine(moduleOf());
+export function withEngine(work, kind, a, b, c, d) {
+  const { module } = kind;
+  if (module.current === undefined || module.current.isBusy) {
+    drop(module);
+    module.current = new Engine(compile(module));
   }
-  const engine = current;
+  const engine = module.current;
   engine.isBusy = true;
   try {
-    const result = work(engine);
+    const result = work(engine, kind, a, b, c, d);
     engine.isBusy = false;
     return result;
   } finally {
-    if (engine.isBusy) drop();
+    if (engine.isBusy) drop(module);
   }
 }
 
-function drop() {
-  if (current === undefined) return;
-  current.bytes.fill(0);
-  current = undefined;
+function drop(module) {
+  if (module.current === undefined) return;
+  module.current.bytes.fill(0);
+  module.current = undefined;
 }
 
-/** For tests: the bytes of the memory, or undefined if there is none now. */
-export function memory() {
-  return current?.bytes;
+/** For tests: the bytes of the memories that there are now. */
+export const memories = () => modules.flatMap(({ current }) => current?.bytes ?? []);
+
+/**
+ * States are cut from buffers of this length, since making a buffer takes longer than a short hash.
+ * No part of one is used twice.
+ */
+export const SLAB = 16384;
+let slab;
+let taken = SLAB;
+
+/**
+ * A new state of zeros: the library's, and room after it, of which the first bytes may wait to be
+ * absorbed, and the others are zeros. It is copied to the slot and the window by one call, since the
+ * window follows the slot.
+ */
+export function newState(kind) {
+  const length = kind.stateLength + kind.room;
+  if (length > SLAB - taken) {
+    slab = new ArrayBuffer(SLAB);
+    taken = 0;
+  }
+  taken += length;
+  return new Uint8Array(slab, taken - length, length);
 }
 
-/** A new state, initialized. */
+/** A new state, initialized. Nothing waits after it. */
 export function begin(kind, settings) {
-  return withEngine((engine) => {
-    engine.begin(kind, settings);
-    const state = engine.slots[kind.name].slice();
-    engine.clean(kind, 0);
-    return state;
-  });
+  if (settings !== kind.plain) return withEngine(beginIn, kind, settings);
+  // the same for each hash without options, and no secret
+  const { initial } = kind.module;
+  const state = newState(kind);
+  state.set((initial[kind.index] ??= withEngine(beginIn, kind, settings)));
+  return state;
 }
 
-/** Absorbs a message into a state. Returns false, and changes nothing, if it is too long. */
-export function update(kind, state, message) {
-  return withEngine((engine) => {
-    const slot = engine.slots[kind.name];
-    slot.set(state);
-    const isAbsorbed = engine.absorb(kind, message);
-    if (isAbsorbed) state.set(slot);
-    engine.clean(kind, lengthOf(message));
-    return isAbsorbed;
-  });
+function beginIn(engine, kind, settings) {
+  engine.begin(kind, settings);
+  const state = newState(kind);
+  state.set(engine.hash(kind).slot);
+  engine.clean(kind, 0);
+  return state;
+}
+
+/**
+ * Absorbs the bytes that wait after a state, of this number, and a message. Then nothing waits.
+ * Returns false, and changes nothing, if it is too long.
+ */
+export const update = (kind, state, waiting, message) =>
+  withEngine(updateIn, kind, state, waiting, message);
+
+function updateIn(engine, kind, state, waiting, message) {
+  engine.bytes.set(state, engine.base + STATE);
+  const isAbsorbed = engine.absorb(kind, waiting, message);
+  if (isAbsorbed) {
+    state.set(engine.hash(kind).slot);
+    if (waiting > 0) state.fill(0, kind.stateLength);
+  }
+  engine.clean(kind, waiting + lengthOf(message));
+  return isAbsorbed;
+}
+
+// Puts a state into the slot, and absorbs what waits after it.
+function putWhole(engine, kind, state, waiting) {
+  engine.bytes.set(state, engine.base + STATE);
+  if (waiting === 0) return;
+  const hash = engine.hash(kind);
+  granted(hash.update(engine.at.state, hash.atWindow, big(waiting)));
 }
 
 /** The digest of a state, which is then set to zero. */
-export function final(kind, state, digestLength) {
-  return withEngine((engine) => {
-    engine.slots[kind.name].set(state);
-    engine.end(kind, digestLength);
-    const digest = engine.read(OUT, digestLength);
-    state.fill(0);
-    engine.clean(kind, 0);
-    return digest;
-  });
+export const final = (kind, state, waiting, digestLength) =>
+  withEngine(finalIn, kind, state, waiting, digestLength);
+
+function finalIn(engine, kind, state, waiting, digestLength) {
+  putWhole(engine, kind, state, waiting);
+  engine.end(kind, digestLength);
+  const digest = engine.digest(digestLength);
+  state.fill(0);
+  engine.clean(kind, waiting);
+  return digest;
 }
 
 /** Whether the tag is the digest of a state, which is then set to zero. */
-export function verify(kind, state, digestLength, tag) {
-  return withEngine((engine) => {
-    engine.slots[kind.name].set(state);
-    // a tag of another length is wrong, and the state is finalized all the same
-    const length = lengthOf(tag) === digestLength ? engine.put(tag, TAG) : 0n;
-    let status;
-    if (kind.isTree) {
-      engine.end(kind, digestLength);
-      status = engine.compare(engine.at.out, BigInt(digestLength), engine.at.tag, length);
-    } else {
-      status = engine.calls[kind.name].verify(engine.at.state, engine.at.tag, length);
-    }
-    state.fill(0);
-    engine.clean(kind, 0);
-    return status === 0;
-  });
+export const verify = (kind, state, waiting, digestLength, tag) =>
+  withEngine(verifyIn, kind, state, waiting, digestLength, tag);
+
+function verifyIn(engine, kind, state, waiting, digestLength, tag) {
+  putWhole(engine, kind, state, waiting);
+  // a tag of another length is wrong, and the state is finalized all the same
+  const length = lengthOf(tag) === digestLength ? engine.put(tag, TAG) : 0n;
+  let status;
+  if (kind.isTree) {
+    engine.end(kind, digestLength);
+    status = engine.compare(engine.at.out, BigInt(digestLength), engine.at.tag, length);
+  } else {
+    status = engine.hash(kind).verify(engine.at.state, engine.at.tag, length);
+  }
+  state.fill(0);
+  engine.clean(kind, waiting);
+  return status === 0;
 }
 
-/** The next bytes of the output of a state, or undefined if fewer are left, which changes nothing. */
-export function squeeze(kind, state, length) {
-  return withEngine((engine) => {
-    const slot = engine.slots[kind.name];
-    slot.set(state);
-    const { squeeze: read, left } = engine.calls[kind.name];
-    let output;
-    if (BigInt(length) <= left(engine.at.state)) {
-      output = new Uint8Array(length);
-      for (let at = 0; at < length; at += PIECE) {
-        const size = Math.min(PIECE, length - at);
-        granted(read(engine.at.state, engine.at.window, BigInt(size)));
-        output.set(engine.read(WINDOW, size), at);
-      }
-      state.set(slot);
+/** The next bytes of the output of a state, or undefined, and no change, if fewer are left. */
+export const squeeze = (kind, state, length) => withEngine(squeezeIn, kind, state, length);
+
+function squeezeIn(engine, kind, state, length) {
+  const hash = engine.hash(kind);
+  engine.bytes.set(state, engine.base + STATE);
+  let output;
+  if (BigInt(length) <= hash.left(engine.at.state)) {
+    output = new Uint8Array(length);
+    for (let at = 0; at < length; at += PIECE) {
+      const size = Math.min(PIECE, length - at);
+      granted(hash.squeeze(engine.at.state, hash.atWindow, big(size)));
+      output.set(engine.bytes.subarray(hash.window, hash.window + size), at);
     }
-    engine.clean(kind, length);
-    return output;
-  });
+    state.set(hash.slot);
+  }
+  engine.clean(kind, length);
+  return output;
 }
 
 /** How many bytes of the output of a state are left, as a bigint. */
-export function left(kind, state) {
-  return withEngine((engine) => {
-    engine.slots[kind.name].set(state);
-    const count = engine.calls[kind.name].left(engine.at.state);
-    engine.clean(kind, 0);
-    return count;
-  });
+export const left = (kind, state) => withEngine(leftIn, kind, state);
+
+function leftIn(engine, kind, state) {
+  engine.bytes.set(state, engine.base + STATE);
+  const count = engine.hash(kind).left(engine.at.state);
+  engine.clean(kind, 0);
+  return count;
 }
 
-/** Resets a state to its start. */
-export function reset(kind, state) {
-  withEngine((engine) => {
-    const slot = engine.slots[kind.name];
-    slot.set(state);
-    granted(engine.calls[kind.name].reset(engine.at.state));
-    state.set(slot);
-    engine.clean(kind, 0);
-  });
+/** Resets a state to its start. Nothing waits after it then. */
+export const reset = (kind, state) => withEngine(resetIn, kind, state);
+
+function resetIn(engine, kind, state) {
+  const hash = engine.hash(kind);
+  engine.bytes.set(state, engine.base + STATE);
+  granted(hash.reset(engine.at.state));
+  state.fill(0);
+  state.set(hash.slot);
+  engine.clean(kind, kind.room);
 }
 
 /** The digest of one message. */
-export function hash(kind, message, settings) {
-  return withEngine((engine) => {
-    const { digestLength, salt, personalization, node, tree } = settings;
-    const isPlain = lengthOf(salt) + lengthOf(personalization) === 0 && node === undefined;
-    if (isPlain && tree === undefined && lengthOf(message) <= PIECE && !kind.isTree) {
-      granted(engine.calls[kind.name].one(
-        engine.at.out, BigInt(digestLength), engine.at.window, engine.put(message, WINDOW),
-        engine.at.key, engine.put(settings.key, KEY)));
-    } else {
-      engine.begin(kind, settings);
-      if (!engine.absorb(kind, message)) throw new Error("vulfsjor: the message is too long");
-      engine.end(kind, digestLength);
-    }
-    const digest = engine.read(OUT, digestLength);
-    engine.clean(kind, lengthOf(message));
-    return digest;
-  });
-}
+export const hash = (kind, message, settings) => withEngine(hashIn, kind, message, settings);
 
-// The end of the batch that begins with this message: as many messages as the window and the
-// records have room for, in whole groups of those that are hashed in parallel. It is begin if not
-// even one fits.
-function endOfBatch(kind, messages, begin) {
-  let end = begin;
-  for (let length = 0; end < messages.length && end - begin < BATCH; end++) {
-    length += lengthOf(messages[end]);
-    if (length > WINDOW_LENGTH) break;
+function hashIn(engine, kind, message, settings) {
+  const { digestLength, key, isPlain } = settings;
+  const { at } = engine;
+  const length = lengthOf(message);
+  if (isPlain && length <= PIECE) {
+    const { one, window, atWindow } = engine.hash(kind);
+    engine.bytes.set(message, window);
+    granted(one(
+      at.out, big(digestLength), atWindow, big(length), at.key, engine.put(key, KEY)));
+  } else {
+    engine.begin(kind, settings);
+    if (!engine.absorb(kind, 0, message)) throw new Error("vulfsjor: the message is too long");
+    engine.end(kind, digestLength);
   }
-  const isLast = end === messages.length;
-  const groups = Math.floor((end - begin) / kind.atOnce) * kind.atOnce;
-  return isLast || groups === 0 ? end : begin + groups;
-}
-
-/** The digests of several messages. */
-export function hashMany(kind, messages, settings) {
-  const digests = [];
-  for (let begin = 0; begin < messages.length; ) {
-    const end = endOfBatch(kind, messages, begin);
-    if (end === begin) {
-      digests.push(hash(kind, messages[begin++], settings));
-    } else {
-      for (const digest of hashBatch(kind, messages.slice(begin, end), settings)) {
-        digests.push(digest);
-      }
-      begin = end;
-    }
-  }
-  return digests;
-}
-
-function hashBatch(kind, messages, settings) {
-  return withEngine((engine) => {
-    let at = WINDOW;
-    messages.forEach((message, i) => {
-      const record = engine.base + RECORDS + 16 * i;
-      engine.view.setBigUint64(record, BigInt(engine.base + at), true);
-      engine.view.setBigUint64(record + 8, engine.put(message, at), true);
-      at += lengthOf(message);
-    });
-    const { digestLength } = settings;
-    granted(engine.calls[kind.name].many(
-      engine.at.outs, BigInt(digestLength * messages.length), BigInt(digestLength),
-      engine.at.records, BigInt(messages.length), engine.at.key, engine.put(settings.key, KEY),
-      ...engine.putLabels(settings)));
-    const digests = messages.map((_, i) => engine.read(OUTS + digestLength * i, digestLength));
-    engine.clean(kind, 0, DEEP);
-    engine.bytes.fill(0, engine.base + RECORDS, engine.base + at);
-    return digests;
-  });
-}
-
-/**
- * The plan of a message: its bytes, for partOfPlan, and the number of its parts and of the bytes of
- * their digests. A part has about `part` bytes, and at most `most` unless it is one leaf.
- */
-export function planOf(length, leafLength, part, most) {
-  return withEngine((engine) => {
-    const at = engine.base + PLAN;
-    for (const [i, limit] of [1, 1, part, most].entries()) {
-      engine.view.setBigUint64(engine.base + LIMITS + 8 * i, BigInt(limit), true);
-    }
-    granted(engine.plan(engine.at.plan, 0n, BigInt(length), leafLength, engine.at.limits));
-    const plan = {
-      bytes: engine.read(PLAN, PART - PLAN),
-      count: Number(engine.view.getBigUint64(at + 40, true)),
-      digestsLength: Number(engine.view.getBigUint64(at + 56, true)),
-    };
-    engine.clean(TREE, 0);
-    return plan;
-  });
-}
-
-/**
- * Part i of a plan: the number of its first leaf, a BigInt, its bytes and its digests, and whether
- * it ends the message.
- */
-export function partOfPlan(plan, i) {
-  return withEngine((engine) => {
-    engine.put(plan.bytes, PLAN);
-    granted(engine.part(engine.at.part, engine.at.plan, BigInt(i)));
-    const [first, ...numbers] = [0, 8, 16, 24, 32, 40].map((offset) =>
-      engine.view.getBigUint64(engine.base + PART + offset, true));
-    const [start, length, digestsStart, digestsLength, ends] = numbers.map(Number);
-    engine.clean(TREE, 0);
-    return { first, start, length, digestsStart, digestsLength, ends: ends === 1 };
-  });
-}
-
-// The digest of a node of the tree, whose message may be longer than the window.
-function hashNode({ leafLength, salt, personalization }, digestLength, node, message) {
-  const key = new Uint8Array(0);
-  return hash(BLAKE2B, message, { digestLength, key, salt, personalization, leafLength, node });
-}
-
-// Leaves that fit into the window together with their digests, which come first in it.
-function hashShortLeaves(settings, { first, ends }, message, room) {
-  return withEngine((engine) => {
-    const source = engine.at.window + BigInt(room);
-    granted(engine.calls.tree.leaves(
-      engine.at.window, BigInt(room), first, ends ? 1 : 0, source,
-      engine.put(message, WINDOW + room), ...engine.putLabels(settings), settings.leafLength));
-    const digests = engine.read(WINDOW, room);
-    engine.clean(TREE, room + lengthOf(message));
-    return digests;
-  });
-}
-
-/**
- * The digests of a range of leaves, LEAF_DIGEST bytes each. The range is the number of its first
- * leaf, a BigInt, and whether it ends the message. The message is whole leaves unless it ends, and
- * has at least one byte unless it is all of an empty message.
- */
-export function hashLeaves(settings, range, message) {
-  const { leafLength } = settings;
-  const most = Math.floor(WINDOW_LENGTH / (leafLength + LEAF_DIGEST)) * leafLength;
-  const plan = planOf(lengthOf(message), leafLength, most, most);
-  const digests = new Uint8Array(plan.digestsLength);
-  for (let i = 0; i < plan.count; i++) {
-    const part = partOfPlan(plan, i);
-    const place = { first: range.first + part.first, ends: range.ends && part.ends };
-    const bytes = partOf(message, part.start, part.length);
-    digests.set(
-      part.length <= most
-        ? hashShortLeaves(settings, place, bytes, part.digestsLength)
-        : hashNode(settings, LEAF_DIGEST, place, bytes),
-      part.digestsStart);
-  }
-  return digests;
-}
-
-/** The root over the joined digests of all leaves of a message. */
-export function rootOfLeaves(settings, digests) {
-  const { digestLength, leafLength } = settings;
-  if (lengthOf(digests) > WINDOW_LENGTH) return hashNode(settings, digestLength, "root", digests);
-  return withEngine((engine) => {
-    granted(engine.calls.tree.root_of_leaves(
-      engine.at.out, BigInt(digestLength), engine.at.window, engine.put(digests, WINDOW),
-      ...engine.putLabels(settings), leafLength));
-    const root = engine.read(OUT, digestLength);
-    engine.clean(TREE, lengthOf(digests));
-    return root;
-  });
-}
-
-/**
- * A state of a message's root, which absorbs the digests of all leaves in order. The settings are
- * those of the tree.
- */
-export function beginRoot(settings) {
-  return begin(BLAKE2B, { ...settings, key: new Uint8Array(0), node: "root" });
-}
-
-/** Absorbs the joined digests of the next leaves. */
-export function updateRoot(state, digests) {
-  update(BLAKE2B, state, digests);
-}
-
-/** The root, of digestLength bytes. It ends the state. */
-export function endRoot(state, digestLength) {
-  return final(BLAKE2B, state, digestLength);
+  const digest = engine.digest(digestLength);
+  engine.clean(kind, length);
+  return digest;
 }
 
 /** Whether two arrays are equal, by a comparison that reads all bytes of equal lengths. */
-export function isSame(a, b) {
+export function isSame(kind, a, b) {
   const length = lengthOf(a);
-  if (length !== lengthOf(b)) return false;
-  return withEngine((engine) => {
-    const most = Math.min(length, WINDOW_LENGTH / 2);
-    const second = engine.at.window + BigInt(most);
-    let difference = 0;
-    for (let at = 0; at < length; at += most) {
-      const isWhole = most === length;
-      const size = Math.min(most, length - at);
-      const count = engine.put(isWhole ? a : partOf(a, at, size), WINDOW);
-      engine.put(isWhole ? b : partOf(b, at, size), WINDOW + most);
-      difference |= engine.compare(engine.at.window, count, second, count);
-    }
-    engine.clean(TREE, 2 * most);
-    return difference === 0;
-  });
+  return length === lengthOf(b) && withEngine(isSameIn, kind, a, b, length);
+}
+
+function isSameIn(engine, kind, a, b, length) {
+  const most = Math.min(length, WINDOW_LENGTH / 2);
+  const second = engine.at.messages + BigInt(most);
+  let difference = 0;
+  for (let at = 0; at < length; at += most) {
+    const isWhole = most === length;
+    const size = Math.min(most, length - at);
+    const count = engine.put(isWhole ? a : partOf(a, at, size), MESSAGES);
+    engine.put(isWhole ? b : partOf(b, at, size), MESSAGES + most);
+    difference |= engine.compare(engine.at.messages, count, second, count);
+  }
+  engine.cleanAll(2 * most);
+  return difference === 0;
 }

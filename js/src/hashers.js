@@ -1,56 +1,60 @@
 // Incremental hashes. The state is an array of bytes that the object owns; the library's memory
-// holds it only during a call.
+// holds it only during a call. Short updates only append to the bytes that wait after it.
 
-import { bytesOf, copyOf, lengthOf, refuseMore, settingsOf } from "./arguments.js";
+import {
+  bytesOf, copyOf, isPlainBytes, lengthOf, refuseDetached, refuseMore, settingsOf,
+} from "./arguments.js";
 import * as engine from "./engine.js";
+import { hex } from "./hex.js";
 
-// Passes a copied state to the constructor; nothing outside this file can make one.
-class Copied {
-  constructor(state, digestLength, settings, isKeyed) {
-    Object.assign(this, { state, digestLength, settings, isKeyed });
+// What copy passes to the constructor, in the place of options, and nobody else can.
+const COPY = /* @__PURE__ */ Symbol("copy");
+
+// Wipes keyed states whose objects were collected before digest, verify or wipe.
+const collected = /* @__PURE__ */ new FinalizationRegistry((state) => state.fill(0));
+
+/** Thrown by verify if the tag is wrong. */
+export class InvalidTagError extends Error {
+  get name() {
+    return "InvalidTagError";
   }
 }
 
-// Wipes keyed states whose objects were collected before digest, verify or wipe.
-const collected = new FinalizationRegistry((state) => state.fill(0));
+// What pipes.js may do to a hash, and nobody else: the class below fills it in.
+const ofPipes = {};
 
-const DIGITS = Array.from({ length: 256 }, (_, byte) => byte.toString(16).padStart(2, "0"));
+/** Whether a value is one of these hashes. */
+export const isHasher = (value) => ofPipes.is(value);
 
-/** The bytes as lowercase hexadecimal digits. */
-export function hex(bytes) {
-  let digits = "";
-  const given = bytesOf(bytes, "hex", "bytes");
-  for (let i = 0; i < lengthOf(given); i++) digits += DIGITS[given[i]];
-  return digits;
-}
+/** Refuses a hash with a pipe that has not ended: its digest would be that of a part. */
+export const refusePiped = (hasher, caller) => ofPipes.refuse(hasher, caller);
+
+/** Notes whether a hash has a pipe that has not ended. Only that pipe goes on with the hash. */
+export const setPiped = (hasher, isPiped) => ofPipes.set(hasher, isPiped);
 
 export class Hasher {
   #kind;
   #name;
-  #state;
+  #state; // also after the end, so that wipe reaches what a call that failed has left
+  #hasEnded = false;
+  #waiting = 0; // how many bytes wait after it
+  #count = 0; // how many bytes the library has absorbed
   #digestLength;
   #isKeyed = false;
+  #isPiped = false;
   #settings; // of a tree, which has no key: what reset initializes a new state from
 
-  constructor(kind, name, options, rest) {
+  constructor(kind, name, options, more) {
     this.#kind = kind;
     this.#name = name;
-    if (options instanceof Copied) {
-      this.#state = options.state;
-      this.#digestLength = options.digestLength;
-      this.#settings = options.settings;
-      this.#isKeyed = options.isKeyed;
-    } else {
-      this.#begin(options, rest);
-    }
-    if (this.#isKeyed) collected.register(this, this.#state);
+    if (options !== COPY) this.#begin(options, more);
   }
 
-  #begin(options, rest) {
+  #begin(options, more) {
     const kind = this.#kind;
-    const name = this.#name;
-    refuseMore(rest, `new ${name}`, 1);
-    const [settings] = settingsOf(kind, options, `new ${name}`);
+    const caller = `new ${this.#name}`;
+    refuseMore(more, caller, 1);
+    const settings = settingsOf(kind, options, caller);
     this.#digestLength = settings.digestLength;
     if (kind.isTree) {
       const salt = copyOf(settings.salt);
@@ -59,81 +63,152 @@ export class Hasher {
     }
     this.#state = engine.begin(kind, settings);
     this.#isKeyed = lengthOf(settings.key) > 0;
+    this.#watch();
+  }
+
+  #watch() {
+    if (this.#isKeyed) collected.register(this, this.#state);
+  }
+
+  static {
+    ofPipes.is = (value) => typeof value === "object" && value !== null && #name in value;
+    ofPipes.refuse = (hasher, caller) => {
+      if (!hasher.#isPiped) return;
+      throw new TypeError(`${caller}: a pipe into this hash has not ended; wait for it first`);
+    };
+    ofPipes.set = (hasher, isPiped) => { hasher.#isPiped = isPiped; };
+  }
+
+  // Refuses a call without its hash, which may be any value, and arguments beyond the last. Calls
+  // count theirs, so that no array of those beyond the last is made.
+  static #check(hasher, call, more, most, hint) {
+    if (!isHasher(hasher)) refuseDetached(call, "hash");
+    if (more > 0) refuseMore(more, hasher.#caller(call), most, hint);
+  }
+
+  // How errors name a call.
+  #caller(call) {
+    return `${this.#name}.${call}`;
   }
 
   // The state, if the hash has not ended.
   #open(call) {
-    if (this.#state === undefined) {
+    if (this.#hasEnded) {
       throw new TypeError(
-        `${this.#name}.${call}: this hash has ended, by digest, hex, verify, wipe ` +
+        `${this.#caller(call)}: this hash has ended, by digest, hex, verify, wipe ` +
           "or a failed call",
       );
     }
     return this.#state;
   }
 
-  // The state, which the object gives up.
-  #last(call) {
+  // The same for a call that changes the hash.
+  #own(call) {
     const state = this.#open(call);
-    this.#state = undefined;
+    if (this.#isPiped) refusePiped(this, this.#caller(call));
+    return state;
+  }
+
+  // The same for a call that ends the hash, or does so if it throws.
+  #last(call) {
+    const state = this.#own(call);
+    this.#hasEnded = true;
     return state;
   }
 
   get digestLength() {
+    Hasher.#check(this, "digestLength", 0);
     return this.#digestLength;
   }
 
   get blockLength() {
+    Hasher.#check(this, "blockLength", 0);
     return this.#kind.blockLength;
   }
 
-  update(message, ...rest) {
-    const caller = `${this.#name}.update`;
-    refuseMore(rest, caller, 1);
-    const bytes = bytesOf(message, caller, "message");
-    const state = this.#last("update"); // if the call throws, the hash has ended
-    const isTaken = engine.update(this.#kind, state, bytes);
-    this.#state = state;
-    if (!isTaken) throw new RangeError(`${caller}: the message is too long`);
+  update(message) {
+    Hasher.#check(this, "update", arguments.length - 1, 1);
+    const bytes =
+      isPlainBytes(message) ? message : bytesOf(message, this.#caller("update"), "message");
+    const state = this.#own("update");
+    const { stateLength, room, certainBelow } = this.#kind;
+    const length = lengthOf(bytes);
+    if (this.#waiting + length > room || this.#count >= certainBelow) {
+      return this.#absorb(state, bytes);
+    }
+    state.set(bytes, stateLength + this.#waiting);
+    this.#waiting += length;
     return this;
   }
 
-  digest(...rest) {
-    refuseMore(rest, `${this.#name}.digest`, 0, "use hex() for hexadecimal digits");
-    return engine.final(this.#kind, this.#last("digest"), this.#digestLength);
+  #absorb(state, bytes) {
+    this.#hasEnded = true; // if the call throws
+    const isTaken = engine.update(this.#kind, state, this.#waiting, bytes);
+    this.#hasEnded = false;
+    if (!isTaken) throw new RangeError(`${this.#caller("update")}: the message is too long`);
+    this.#count += this.#waiting + lengthOf(bytes);
+    this.#waiting = 0;
+    return this;
   }
 
-  hex(...rest) {
-    this.#open("hex");
-    refuseMore(rest, `${this.#name}.hex`, 0);
+  digest() {
+    Hasher.#check(this, "digest", arguments.length, 0, "use hex() for hexadecimal digits");
+    const state = this.#last("digest");
+    return engine.final(this.#kind, state, this.#waiting, this.#digestLength);
+  }
+
+  hex() {
+    Hasher.#check(this, "hex", arguments.length, 0);
+    this.#own("hex");
     return hex(this.digest());
   }
 
-  verify(tag, ...rest) {
-    const caller = `${this.#name}.verify`;
-    refuseMore(rest, caller, 1);
-    const bytes = bytesOf(tag, caller, "tag");
-    return engine.verify(this.#kind, this.#last("verify"), this.#digestLength, bytes);
+  verify(tag) {
+    Hasher.#check(this, "verify", arguments.length - 1, 1);
+    const bytes = bytesOf(tag, this.#caller("verify"), "tag");
+    this.#own("verify");
+    if (!this.#isKeyed && !this.#kind.isTree) {
+      throw new TypeError(
+        `${this.#caller("verify")}: this hash has no key, so that anybody can make the tag; ` +
+          "compare digests with equal()",
+      );
+    }
+    const state = this.#last("verify");
+    if (!engine.verify(this.#kind, state, this.#waiting, this.#digestLength, bytes)) {
+      throw new InvalidTagError(`${this.#caller("verify")}: the tag is wrong`);
+    }
   }
 
-  copy(...rest) {
-    refuseMore(rest, `${this.#name}.copy`, 0);
-    const state = this.#open("copy").slice();
-    const copied = new Copied(state, this.#digestLength, this.#settings, this.#isKeyed);
-    return Reflect.construct(Hasher, [this.#kind, this.#name, copied], this.constructor);
+  copy() {
+    Hasher.#check(this, "copy", arguments.length, 0);
+    const copy = Reflect.construct(Hasher, [this.#kind, this.#name, COPY], this.constructor);
+    const state = this.#open("copy"); // after all code of the class, which may be the caller's
+    copy.#waiting = this.#waiting;
+    copy.#count = this.#count;
+    copy.#digestLength = this.#digestLength;
+    copy.#settings = this.#settings;
+    copy.#isKeyed = this.#isKeyed;
+    copy.#state = engine.newState(this.#kind);
+    copy.#watch();
+    copy.#state.set(state);
+    return copy;
   }
 
-  reset(...rest) {
-    refuseMore(rest, `${this.#name}.reset`, 0);
-    const state = this.#open("reset");
+  reset() {
+    Hasher.#check(this, "reset", arguments.length, 0);
+    const state = this.#last("reset");
     if (this.#kind.isTree) state.set(engine.begin(this.#kind, this.#settings));
     else engine.reset(this.#kind, state);
+    this.#waiting = 0;
+    this.#count = 0;
+    this.#hasEnded = false;
     return this;
   }
 
   wipe() {
-    this.#state?.fill(0);
-    this.#state = undefined;
+    Hasher.#check(this, "wipe", 0);
+    this.#hasEnded = true;
+    this.#state.fill(0);
   }
 }
 
@@ -142,33 +217,3 @@ Object.defineProperty(Hasher.prototype, Symbol.dispose ?? Symbol.for("Symbol.dis
   configurable: true,
   writable: true,
 });
-
-export class Blake2b extends Hasher {
-  constructor(options, ...rest) {
-    super(engine.BLAKE2B, "Blake2b", options, rest);
-  }
-}
-
-export class Blake2s extends Hasher {
-  constructor(options, ...rest) {
-    super(engine.BLAKE2S, "Blake2s", options, rest);
-  }
-}
-
-export class Blake2bp extends Hasher {
-  constructor(options, ...rest) {
-    super(engine.BLAKE2BP, "Blake2bp", options, rest);
-  }
-}
-
-export class Blake2sp extends Hasher {
-  constructor(options, ...rest) {
-    super(engine.BLAKE2SP, "Blake2sp", options, rest);
-  }
-}
-
-export class TreeHash extends Hasher {
-  constructor(options, ...rest) {
-    super(engine.TREE, "TreeHash", options, rest);
-  }
-}

@@ -1,30 +1,38 @@
 // Streams that hash what is piped into them.
 
 import { bytesOf, kindOf, refuseMore } from "./arguments.js";
-import { Hasher } from "./hashers.js";
+import { isHasher, refusePiped, setPiped } from "./hashers.js";
 
 // Returns what absorbs a chunk. If it cannot, the hash ends.
 function absorber(hasher, caller, rest) {
-  refuseMore(rest, caller, 1, "options are those of the hash");
-  if (!(hasher instanceof Hasher)) {
+  refuseMore(rest.length, caller, 1, "options are those of the hash");
+  if (!isHasher(hasher)) {
     throw new TypeError(
       `${caller}: hash must be a Blake2b, Blake2s, Blake2bp, Blake2sp or TreeHash, ` +
         `not ${kindOf(hasher)}`,
     );
   }
+  refusePiped(hasher, caller);
   return (chunk) => {
+    setPiped(hasher, false);
     try {
       hasher.update(bytesOf(chunk, caller, "chunk"));
     } catch (fault) {
       hasher.wipe();
       throw fault;
+    } finally {
+      setPiped(hasher, true);
     }
   };
 }
 
 export function hashWritable(hasher, ...rest) {
   const absorb = absorber(hasher, "hashWritable", rest);
-  return new WritableStream({ write: absorb, abort: () => hasher.wipe() });
+  const writable = new WritableStream({
+    write: absorb, close: () => setPiped(hasher, false), abort: () => hasher.wipe(),
+  });
+  setPiped(hasher, true);
+  return writable;
 }
 
 // The two ends of a TransformStream, which is not notified when its readable end is canceled or, while
@@ -70,7 +78,11 @@ export function hashTransform(hasher, ...rest) {
       }
       source.enqueue(chunk);
     },
-    close() { source.close(); },
+    close() {
+      setPiped(hasher, false);
+      source.close();
+    },
   });
+  setPiped(hasher, true);
   return { readable, writable };
 }

@@ -1,7 +1,7 @@
 // Ranges of leaves, as threads.js passes them to workers: their bytes or where they are, in a blob
 // or in a file that is open in this process.
 
-import { hashLeaves } from "./engine.js";
+import { hashLeaves } from "./leaves.js";
 
 function readFile({ fd, at, length }) {
   const { readSync } = globalThis.process.getBuiltinModule("node:fs");

@@ -1,10 +1,9 @@
 // Hashes of what arrives piece by piece: files, blobs, responses, node's streams.
 
 import {
-  OPTIONS, bytesOf, integerOf, isBytes, kindOf, lengthOf, refuseMore, settingsOf,
+  OPTIONS, bytesOf, integerOf, isBytes, kindOf, lengthOf, readSettings, refuseMore,
 } from "./arguments.js";
-import { LONGEST_LEAF, TreeThreads } from "./threads.js";
-import { MOST_THREADS, mayReadBlobs, processorCount } from "./workers.js";
+import { MOST_THREADS, mayReadBlobs, ofNode, processorCount } from "./platform.js";
 
 // How much of a blob is read at a time.
 const SLICE = 4 * 1024 * 1024;
@@ -25,14 +24,19 @@ async function* slicesOf(blob) {
 }
 
 // The reader of a file that is open in node, from its first byte to its end. Its size is that at
-// the call.
+// the call. One of /proc has bytes and the length 0.
 function openFile(handle, caller) {
   let at = 0;
   const reader = {
     async prepare() {
       const stats = await handle.stat();
       if (!stats.isFile()) throw new TypeError(`${caller}: source must be a regular file`);
-      reader.total = stats.size;
+      reader.total = Number(stats.size);
+      if (reader.total > 0) return;
+      const { bytesRead } = await handle.read(new Uint8Array(1), 0, 1, 0);
+      if (bytesRead > 0) {
+        throw new TypeError(`${caller}: source has bytes and the length 0, as a file of /proc`);
+      }
     },
     part: (from, length) => ({ file: { fd: handle.fd, at: from, length } }),
     async next() {
@@ -52,43 +56,97 @@ function openFile(handle, caller) {
 // What to do with a value that is no source, for an error message.
 function adviceOn(source, caller) {
   if (isBytes(source)) return `; use ${caller.replace("Stream", "")}()`;
-  return typeof source?.body?.getReader === "function" ? "; pass its body" : "";
+  if (typeof source?.body?.getReader !== "function") return "";
+  return source.bodyUsed ? "; its body was already read" : "; pass its body";
+}
+
+// Sources that can be read only once and were passed to a call.
+const passed = new WeakSet();
+
+// Whether a stream was read or canceled. A browser shows it only by refusing the stream as a body.
+function wasRead(stream) {
+  const { Readable } = ofNode("stream") ?? {};
+  if (Readable !== undefined) return Readable.isDisturbed(stream);
+  if (typeof ReadableStream === "undefined" || !(stream instanceof ReadableStream)) return false;
+  try {
+    new Response(stream);
+    return false;
+  } catch {
+    return true;
+  }
+}
+
+// The number of readers that wait for the next bytes of a stream of node.
+const readersOf = (stream) => stream.listenerCount?.("readable") ?? 0;
+
+// Refuses a source of which somebody else has some bytes, or may get them.
+function refuseIf(isRead, caller) {
+  if (!isRead) return;
+  throw new TypeError(`${caller}: source was already read, or something else is reading it`);
+}
+
+// Refuses such a source at the call, and from then on for another call.
+function claim(source, caller) {
+  const isRead = source.locked === true || readersOf(source) > 0 || wasRead(source);
+  refuseIf(isRead || passed.has(source), caller);
+  passed.add(source);
+}
+
+// The reader of a stream of the web.
+function openStream(source, caller) {
+  claim(source, caller);
+  const reader = source.getReader();
+  return {
+    next: () => reader.read(),
+    close(isDone, reason) {
+      if (!isDone) reader.cancel(reason).catch(() => {});
+      reader.releaseLock();
+    },
+  };
+}
+
+// The reader of a stream of node, or of another iterable.
+function openIterable(source, caller) {
+  const isStream = typeof source.on === "function";
+  const iterator = (source[Symbol.asyncIterator] ?? source[Symbol.iterator]).call(source);
+  if (isStream || iterator === source) claim(source, caller); // the second is a generator, say
+  return {
+    next() {
+      refuseIf(isStream && readersOf(source) > 1, caller);
+      return iterator.next();
+    },
+    close(isDone) {
+      if (!isDone) (async () => iterator.return?.())().catch(() => {});
+    },
+  };
+}
+
+function openBlob(blob, caller) {
+  return {
+    ...openIterable(slicesOf(blob), caller),
+    total: blob.size,
+    part: mayReadBlobs() ? (at, length) => ({ blob: blob.slice(at, at + length) }) : undefined,
+  };
 }
 
 // A reader of a source: next returns its chunks as an iterator does, total is its length if that is
 // known, and close releases it, before its end if it is not done. prepare, if it is there, is
 // called first. part, if it is there, returns what a worker reads.
 function open(source, caller) {
-  if (typeof source?.getReader === "function") {
-    const reader = source.getReader();
-    return {
-      next: () => reader.read(),
-      close(isDone, reason) {
-        if (!isDone) reader.cancel(reason).catch(() => {});
-        reader.releaseLock();
-      },
-    };
-  }
+  if (typeof source?.getReader === "function") return openStream(source, caller);
   if (typeof source?.fd === "number" && typeof source.stat === "function") {
     return openFile(source, caller);
   }
-  const isBlob = typeof Blob !== "undefined" && source instanceof Blob;
-  if (!isBlob && typeof source?.[Symbol.asyncIterator] !== "function") {
+  if (typeof Blob !== "undefined" && source instanceof Blob) return openBlob(source, caller);
+  const isIterable = [Symbol.asyncIterator, Symbol.iterator].some((name) =>
+    typeof source?.[name] === "function");
+  if (!isIterable || typeof source === "string" || isBytes(source)) {
     throw new TypeError(
-      `${caller}: source must be a Blob, a ReadableStream, a FileHandle or an async iterable of ` +
-        `bytes, not ${kindOf(source)}${adviceOn(source, caller)}`,
+      `${caller}: source must be a Blob, a ReadableStream, a FileHandle or an iterable of bytes, ` +
+        `not ${kindOf(source)}${adviceOn(source, caller)}`,
     );
   }
-  const iterator = (isBlob ? slicesOf(source) : source)[Symbol.asyncIterator]();
-  return {
-    total: isBlob ? source.size : undefined,
-    part: isBlob && mayReadBlobs()
-      ? (at, length) => ({ blob: source.slice(at, at + length) }) : undefined,
-    next: () => iterator.next(),
-    close(isDone) {
-      if (!isDone) (async () => iterator.return?.())().catch(() => {});
-    },
-  };
+  return openIterable(source, caller);
 }
 
 // The result, or what it resolves to, unless the signal aborts first.
@@ -116,17 +174,26 @@ function checkSignal(value, caller) {
   }
 }
 
-/** The digest of all chunks of a source: a hash by Hasher or, with threads, a tree by workers. */
-export async function hashStream(kind, Hasher, caller, source, options, rest) {
-  refuseMore(rest, caller, 2);
+// The options of the hash among those of a call that are given.
+const ownOptions = (kind, read) => Object.fromEntries(
+  OPTIONS[kind.options].filter((name) => read[name] !== undefined)
+    .map((name) => [name, read[name]]));
+
+/**
+ * The digest of all chunks of a source: a hash by Hasher or, with threads, a tree by workers. These
+ * are those of threads.js, which only trees pass, so that other bundles do not have them.
+ */
+export async function hashStream(kind, Hasher, caller, source, options, rest, workers) {
+  refuseMore(rest.length, caller, 2);
   const known = [...OPTIONS[kind.options], "onProgress", "signal"];
   if (kind.isTree) known.push("threads", "onFallback");
-  const [settings, read] = settingsOf(kind, options, caller, known);
-  const { onProgress, onFallback, signal, threads, ...own } = read;
+  const [settings, read] = readSettings(kind, options, caller, known);
+  const { onProgress, onFallback, signal, threads } = read;
   checkCallback(onProgress, caller, "onProgress");
   checkCallback(onFallback, caller, "onFallback");
   checkSignal(signal, caller);
-  const count = integerOf(threads, caller, "threads", 0, MOST_THREADS, 1) || processorCount();
+  const given = integerOf(threads, caller, "threads", 0, MOST_THREADS, 1);
+  const count = workers === undefined ? 1 : given || processorCount();
   const reader = open(source, caller);
   const control = new AbortController(); // aborts with the signal, or if a worker fails
   const follow = () => control.abort(signal.reason);
@@ -138,11 +205,12 @@ export async function hashStream(kind, Hasher, caller, source, options, rest) {
   let isDone = false;
   try {
     control.signal.throwIfAborted();
-    if (reader.prepare) await unlessAborted(reader.prepare(), control.signal);
-    const isShared = count > 1 && settings.leafLength <= LONGEST_LEAF;
+    const isShared = count > 1 && settings.leafLength <= workers.LONGEST_LEAF;
+    // before anything is waited for, so that the caller may wipe its key after the call
     run = isShared
-      ? new TreeThreads(settings, count, caller, { report, onFallback, control })
-      : new Hasher(own);
+      ? new workers.TreeThreads(settings, count, caller, { report, onFallback, control })
+      : new Hasher(ownOptions(kind, { ...read, tree: settings.tree })); // whose getters have run
+    if (reader.prepare) await unlessAborted(reader.prepare(), control.signal);
     if (isShared && reader.part) return await run.digestOf(reader.total, reader.part);
     for (;;) {
       control.signal.throwIfAborted();

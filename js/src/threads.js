@@ -1,7 +1,7 @@
 // The root of a tree by several workers, each of which hashes ranges of leaves.
 
 import { copyOf, lengthOf, partOf } from "./arguments.js";
-import { LEAF_DIGEST, beginRoot, endRoot, partOfPlan, planOf, updateRoot } from "./engine.js";
+import { LEAF_DIGEST, beginRoot, endRoot, partOfPlan, planOf, updateRoot } from "./leaves.js";
 import { RangeWorker } from "./workers.js";
 
 // A range has about this number of bytes, in fours of leaves, unless four leaves are longer than the
@@ -138,13 +138,14 @@ export class TreeThreads {
 
   /** Absorbs bytes. A full range stays here until more comes, since it may end the message. */
   async update(bytes) {
-    for (let at = 0; at < lengthOf(bytes); ) {
+    const length = lengthOf(bytes); // they may be taken away while this waits, and then it throws
+    for (let at = 0; at < length; ) {
       if (this.#range === undefined) this.#begin();
       if (this.#filled === this.#range.length) {
         await this.#sendFilled(false);
         this.#begin();
       }
-      const size = Math.min(lengthOf(bytes) - at, this.#range.length - this.#filled);
+      const size = Math.min(length - at, this.#range.length - this.#filled);
       this.#range.set(partOf(bytes, at, size), this.#filled);
       this.#filled += size;
       at += size;

@@ -1,8 +1,8 @@
 // Hashes ranges of leaves in a worker, for workers.js, which starts it from worker_text.js or from
 // this file.
 
-import { moduleOf } from "./engine.js";
 import { digestsOf } from "./ranges.js";
+import { moduleOf } from "./whole_module.js";
 
 const { parentPort } = globalThis.process?.getBuiltinModule?.("node:worker_threads") ?? {};
 const port = parentPort ?? globalThis;

@@ -1,27 +1,10 @@
 // Workers of node and of the browser. The calling thread does the work of one that cannot be
 // started.
 
-import { moduleOf } from "./engine.js";
+import { ofNode } from "./platform.js";
 import { digestsOf } from "./ranges.js";
+import { moduleOf } from "./whole_module.js";
 import { text } from "./worker_text.js";
-
-/** The maximum number of workers of a call. */
-export const MOST_THREADS = 256;
-
-// A module of node, or undefined in a browser.
-const ofNode = (name) => globalThis.process?.getBuiltinModule?.(`node:${name}`);
-
-/**
- * Whether workers may read blobs. Those of node may not: node refuses to pass a blob that is backed
- * by a file, and ends the process if a worker reads a part of one.
- */
-export const mayReadBlobs = () => ofNode("worker_threads") === undefined;
-
-/** The number of processors that this process may use, at most MOST_THREADS. */
-export function processorCount() {
-  const count = ofNode("os")?.availableParallelism() ?? globalThis.navigator?.hardwareConcurrency;
-  return Math.min(count ?? 1, MOST_THREADS);
-}
 
 // Starts a worker of node from its text. The flags of the process are left out, since some of them
 // are refused for a worker.

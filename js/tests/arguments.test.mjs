@@ -9,23 +9,24 @@ import {
   blake2bpStream, blake2s, blake2sMany, blake2sStream, blake2sp, blake2spStream, equal, fromHex,
   hex, load, treeRoot, treeRootStream, utf8,
 } from "../index.js";
-import { memory } from "../src/engine.js";
+import { memories } from "../src/engine.js";
 import { assertClean, hexOf } from "./common.mjs";
 
 const M = utf8("abc");
 const bytes = (length) => new Uint8Array(length).fill(7);
 
 // Asserts the error of a call, of this class itself and with this text, and that the library's
-// memory was not touched.
+// memories were not touched.
 function refuses(call, Class, message) {
-  blake2b(M);
-  const before = memory();
+  for (const hash of [blake2b, blake2s, blake2bp]) hash(M); // one of each module
+  const before = memories();
   assert.throws(call, (fault) => {
     assert.equal(fault.message, message);
     assert.equal(fault.constructor, Class);
     return true;
   });
-  assert.equal(memory(), before);
+  const after = memories();
+  assert.ok(after.length === before.length && after.every((bytes, i) => bytes === before[i]));
   assertClean();
 }
 
@@ -82,10 +83,9 @@ test("what is not bytes is refused, wherever bytes are expected", () => {
   }
 });
 
-test("an option that is undefined is one that is not given", () => {
+test("an option that is undefined is one that is not given, except a key", () => {
   const nothing = {
-    digestLength: undefined, key: undefined, salt: undefined, personalization: undefined,
-    tree: undefined,
+    digestLength: undefined, salt: undefined, personalization: undefined, tree: undefined,
   };
   assert.deepEqual(blake2b(M, nothing), blake2b(M));
   const { tree, ...others } = nothing;
@@ -249,6 +249,9 @@ for (const [name, hash, Hasher, most, short, offset] of FAMILIES) {
   test(`${name}: unknown options, and more arguments`, () => {
     const known = "known are digestLength, key, salt, personalization" + (offset ? ", tree" : "");
     const others = ["dkLen", "outlen", "person", "personal", "Key", "digest_size", "length"];
+    refuses(() => hash(M, Object.defineProperty({}, "Key", { value: bytes(3) })), TypeError,
+      `${name}: unknown property "Key" of options; ${known}`);
+    assert.equal(hexOf(hash(M, { [Symbol("mark")]: 3 })), hexOf(hash(M)));
     for (const wrong of offset ? others : [...others, "tree", "fanout"]) {
       refuses(() => hash(M, { [wrong]: undefined }), TypeError,
         `${name}: unknown property "${wrong}" of options; ${known}`);
@@ -262,6 +265,10 @@ for (const [name, hash, Hasher, most, short, offset] of FAMILIES) {
       [new Map(), "an instance of Map"],
       [Promise.resolve({}), "an instance of Promise"],
       [Object.create({ digestLength: 3 }), "an instance of Object"],
+      [{ __proto__: { key: bytes(3) } }, "an instance of Object"],
+      [Object.create({ __proto__: null, key: bytes(3) }), "an object"],
+      [Object.create(Object.create(null, { key: { value: bytes(3) } })), "an object"],
+      [new (class Settings { get key() { return bytes(3); } })(), "an instance of Settings"],
     ];
     for (const [value, said] of noOptions) {
       refuses(() => hash(M, value), TypeError,
@@ -303,6 +310,42 @@ test("properties of the prototype of all objects are not options", async () => {
   assert.equal(wanted[0], createHash("blake2b512").update("abc").digest("hex"));
 });
 
+// A program that makes calls before and after Object.prototype has more properties, such as indices.
+const POLLUTED = `
+  const pollute = () => NAMES.forEach((name) => (Object.prototype[name] = "0"));
+  if (IS_BEFORE) pollute();
+  const { Blake2b, Blake2s, Blake2xb, blake2b, blake2bMany, blake2bp, blake2s, equal, treeRoot, utf8 } =
+    await import(INDEX);
+  if (!IS_BEFORE) pollute();
+  const [message, key, salt] = [utf8("a message"), utf8("a key"), utf8("salt")];
+  const digests = [
+    blake2b(message), blake2b(message, { key }), blake2s(message, { digestLength: 7 }),
+    blake2b(message, { key, salt }), new Blake2b({ key, salt }).update(message).digest(),
+    new Blake2s().update(message).digest(), new Blake2s().digest(),
+    blake2bMany([message, salt], { key })[1], treeRoot(message, { leafLength: 5, salt }),
+    new Blake2xb({ key }).update(message).read(9), blake2bp(message, { key }),
+  ];
+  const isEqual = [equal(message, message.slice()), equal(salt, utf8("pepper").subarray(0, 4))];
+  for (const name of NAMES) delete Object.prototype[name];
+  console.log(digests.map((digest) => Buffer.from(digest).toString("hex")).join(), isEqual.join());`;
+
+test("what other code gives to all objects is no length, no state and no digest", () => {
+  const index = JSON.stringify(new URL("../index.js", import.meta.url).href);
+  const run = (names, isBefore) => execFileSync(process.execPath, ["--input-type=module", "-e",
+    `const [INDEX, IS_BEFORE] = [${index}, ${isBefore}]; const NAMES = ${JSON.stringify(names)};` +
+      POLLUTED], { encoding: "utf8" });
+  const wanted = run([], false);
+  assert.match(wanted, / true,false\n$/);
+  const key = hexOf(utf8("a key"));
+  assert.equal(wanted.split(",")[1], execFileSync("python3", ["-c",
+    `import hashlib; print(hashlib.blake2b(b"a message", key=bytes.fromhex("${key}")).hexdigest())`],
+    { encoding: "utf8" }).trim());
+  // lengths of what the calls are passed, of digests and of hashes' tables
+  const names = [...Array(10).keys(), 32, 64, "node", "isPlain", "tree", "leafLength", "options",
+    "keyLength"];
+  for (const isBefore of [true, false]) assert.equal(run(names, isBefore), wanted);
+});
+
 test("it works without SharedArrayBuffer and Blob, as in some browsers", () => {
   const index = new URL("../index.js", import.meta.url).href;
   const program = `delete globalThis.SharedArrayBuffer;
@@ -328,6 +371,45 @@ test("options are read once, and code of theirs may hash", () => {
   };
   assert.deepEqual(blake2b(M, options), blake2b(M, { key: bytes(3) }));
   assert.equal(count, 1);
+});
+
+test("the position of a node is read once, by a stream too", async () => {
+  let count = 0;
+  const tree = { get fanout() { return ++count; } };
+  assert.deepEqual(await blake2bStream(new Blob([M]), { tree }), blake2b(M, { tree: { fanout: 1 } }));
+  assert.equal(count, 1);
+});
+
+test("memory that code of the caller takes away during a call is no key of no bytes", async () => {
+  const take = (view) => structuredClone(0, { transfer: [view.buffer] });
+  const newKey = () => new Uint8Array(new ArrayBuffer(9)).fill(7);
+  const gone = { name: "TypeError", message: /the memory of key is detached or has shrunk$/ };
+  const calls = [
+    (key, tree) => blake2b(M, { key, tree }), (key, tree) => new Blake2b({ tree, key }),
+    (key, tree) => blake2s(M, { tree, key }),
+  ];
+  for (const call of calls) {
+    const key = newKey();
+    assert.throws(() => call(key, { get depth() { take(key); } }), gone, String(call));
+  }
+  for (const many of [blake2bMany, blake2sMany]) {
+    const key = newKey();
+    assert.throws(() => many((function* () { take(key); yield M; })(), { key }), gone);
+    const message = newKey();
+    assert.throws(() => many((function* () { yield message; take(message); })()),
+      { name: "TypeError", message: /the memory of message 0 is detached or has shrunk$/ });
+  }
+  for (const stream of [blake2bStream, blake2sStream]) {
+    const key = newKey();
+    const source = { [Symbol.iterator]() { take(key); return [M][Symbol.iterator](); } };
+    await assert.rejects(stream(source, { key }), gone);
+  }
+  for (const [hash, more] of [[blake2b, {}], [blake2sp, {}], [treeRoot, { leafLength: 5 }]]) {
+    const message = newKey();
+    assert.throws(() => hash(message, { ...more, get salt() { take(message); } }), TypeError);
+    blake2b(M);
+    assertClean();
+  }
 });
 
 test("the tree: leafLength and digestLength", () => {
@@ -418,16 +500,16 @@ test("streams reject what calls refuse", async () => {
       [new Response(), "an instance of Response"], [{}, "an object"],
     ]) {
       await rejects(stream(source, one === "treeRoot" ? { leafLength: 5 } : {}), TypeError,
-        `${stream.name}: source must be a Blob, a ReadableStream, a FileHandle or an async ` +
-          `iterable of bytes, not ${said}`);
+        `${stream.name}: source must be a Blob, a ReadableStream, a FileHandle or an iterable ` +
+          `of bytes, not ${said}`);
     }
   }
   await rejects(blake2sStream("abc"), TypeError,
-    "blake2sStream: source must be a Blob, a ReadableStream, a FileHandle or an async iterable " +
-      "of bytes, not a string");
+    "blake2sStream: source must be a Blob, a ReadableStream, a FileHandle or an iterable of bytes, " +
+      "not a string");
   await rejects(blake2bStream(undefined), TypeError,
-    "blake2bStream: source must be a Blob, a ReadableStream, a FileHandle or an async iterable " +
-      "of bytes, not undefined");
+    "blake2bStream: source must be a Blob, a ReadableStream, a FileHandle or an iterable of bytes, " +
+      "not undefined");
   await rejects(blake2bStream(new Blob(), { dkLen: 3 }), TypeError,
     'blake2bStream: unknown property "dkLen" of options; ' +
       "known are digestLength, key, salt, personalization, tree, onProgress, signal");
@@ -456,7 +538,10 @@ test("utf8, fromHex, hex, equal", () => {
   refuses(() => utf8(5), TypeError, "utf8: text must be a string, not a number");
   assert.deepEqual(fromHex("00fFaB"), Uint8Array.of(0, 255, 171));
   assert.deepEqual(fromHex(""), new Uint8Array(0));
-  for (const text of ["0", "0g", "0x12", " 12", "12 ", "１２"]) {
+  for (const text of [
+    "0", "0g", "0x12", " 12", "12 ", "１２", " abc", "abc ", "\tabc", "abc\n", " ab ", "1 2 ", "-1",
+    "+1", "1.", "1e1_", "\0\0", "aé",
+  ]) {
     refuses(() => fromHex(text), RangeError,
       "fromHex: text must be an even number of hexadecimal digits");
   }

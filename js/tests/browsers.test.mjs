@@ -43,14 +43,30 @@ const THREADS = `const message = Uint8Array.from({ length: 9_000_001 }, (_, i) =
   const { readable, writable } = vulfsjor.hashTransform(ended);
   await readable.cancel();
   await new Promise((resolve) => setTimeout(resolve));
-  try { ended.digest(); } catch (fault) { piped.push(String(fault).split(",")[0]); }`;
+  try { ended.digest(); } catch (fault) { piped.push(String(fault).split(",")[0]); }
+  // streams that were not read, read to the end, read in part, locked, canceled and read here
+  const short = new Blob(["abc"]);
+  const [fresh, whole, part, locked, canceled, again] = Array.from(Array(6), () => short.stream());
+  const own = new ReadableStream({ start(to) { to.enqueue(new Uint8Array(3)); to.close(); } });
+  await new Response(whole).text();
+  const reader = part.getReader();
+  await reader.read();
+  reader.releaseLock();
+  locked.getReader();
+  await canceled.cancel();
+  await vulfsjor.blake2bStream(again);
+  const used = new Response(short);
+  await used.text();
+  const streams = await Promise.all(
+    [fresh, own, whole, part, locked, canceled, again, used.body].map((stream) =>
+      vulfsjor.blake2bStream(stream, { digestLength: 4 }).then(vulfsjor.hex, String)));`;
 const PAGE = `<!DOCTYPE html><title>tests</title><script type="module">
 const send = (answer) => fetch("/done", { method: "POST", body: JSON.stringify(answer) });
 try {
   ${CHECK}
   ${THREADS}
   const worker = new Worker("/worker.js", { type: "module" });
-  worker.onmessage = ({ data }) => send({ page: answer, worker: data, threads, piped });
+  worker.onmessage = ({ data }) => send({ page: answer, worker: data, threads, piped, streams });
   worker.onerror = (event) => send({ fault: "worker: " + event.message });
 } catch (fault) {
   send({ fault: String(fault) });
@@ -120,7 +136,7 @@ for (const [command, wordsOf] of Object.entries(BROWSERS)) {
       return t.skip(`no ${has("python3") ? command : "python3"}`);
     }
     const cases = shortCases();
-    const { fault, page, worker, threads, piped } = await answerOf(command, wordsOf, cases);
+    const { fault, page, worker, threads, piped, streams } = await answerOf(command, wordsOf, cases);
     assert.equal(fault, undefined);
     const [root, byThreads, cause, byOne, failed, ...more] = threads;
     assert.deepEqual(
@@ -128,6 +144,9 @@ for (const [command, wordsOf] of Object.entries(BROWSERS)) {
     assert.match(failed, /^Error: treeRootStream: a worker failed: .*no reason$/);
     assert.deepEqual(
       piped, [...Array(3).fill(piped[0]), "TypeError: Blake2b.digest: this hash has ended"]);
+    // hashlib's of abc, and of three zeros
+    assert.deepEqual(streams, ["63906248", "2daf7f13", ...Array(6).fill(
+      "TypeError: blake2bStream: source was already read, or something else is reading it")]);
     for (const { right, wrong } of [page, worker]) {
       assert.deepEqual(wrong, []);
       assert.equal(right, cases.length);

@@ -5,7 +5,7 @@ import { execFile, spawnSync } from "node:child_process";
 import { cpSync, mkdtempSync, readFileSync, rmSync, writeFileSync } from "node:fs";
 import { createServer } from "node:http";
 import { tmpdir } from "node:os";
-import { extname, join } from "node:path";
+import { basename, dirname, extname, join } from "node:path";
 import test, { after, before } from "node:test";
 import { fileURLToPath } from "node:url";
 import { promisify } from "node:util";
@@ -70,6 +70,76 @@ for (const [command, write] of Object.entries(BUNDLERS)) {
     }));
   });
 }
+
+// A program that imports one hash, and what it prints: hashlib's digests of abc.
+const oneHash = (name) => `import { ${name} } from "vulfsjor";
+  console.log(${name}(Uint8Array.of(97, 98, 99), { digestLength: 4 }).join());`;
+const DIGESTS = { blake2b: "99,144,98,72", blake2s: "223,113,1,211" };
+// The most bytes of a bundle of one hash; not minified, with comments.
+const MOST = 40_000;
+const MOST_LONG = 80_000;
+
+// How each bundler makes a small bundle: a command, its words, and the most bytes of the bundle. The
+// defaults of esbuild and webpack, and rollup with the plugin that finds packages, read in
+// package.json that the files have no side effects.
+const SMALL = [
+  ["esbuild", (from, to) => [from, "--bundle", "--minify", "--format=esm", "--log-level=warning",
+    `--outfile=${to}`], MOST],
+  ["rollup", (from, to) =>
+    ["--plugin", "node-resolve", from, "--silent", "--format", "es", "--file", to], MOST_LONG],
+  ["webpack", (from, to) => ["--mode", "production", "--entry", `./${from}`, "--output-path",
+    dirname(path(to)), "--output-filename", basename(to), "--stats", "errors-warnings"], MOST],
+];
+
+for (const [command, wordsOf, most] of SMALL) {
+  test(`a bundle by ${command} has only the hash that its program imports`, async (t) => {
+    if (!has(command)) return t.skip(`no ${command}`);
+    for (const [name, wanted] of Object.entries(DIGESTS)) {
+      const [from, to] = [`${name}.mjs`, `${command}-${name}/app.mjs`];
+      writeFileSync(path(from), oneHash(name));
+      try {
+        await bundle(command, ...wordsOf(from, to));
+      } catch (fault) {
+        if (!/Cannot find package|Cannot load plugin/.test(fault.stderr)) throw fault;
+        return t.skip(`${command} has no plugin that finds packages`);
+      }
+      const { stdout } = await run(process.execPath, [path(to)]);
+      assert.equal(stdout, `${wanted}\n`);
+      const { length } = readFileSync(path(to));
+      t.diagnostic(`${name}: ${length} bytes`);
+      assert.ok(length <= most, `${length} bytes of ${name} by ${command}`);
+    }
+  });
+}
+
+test("other programs get what they import, too", async (t) => {
+  if (!has("esbuild")) return t.skip("no esbuild");
+  const sizeOf = async (names) => {
+    writeFileSync(path("names.mjs"), `import { ${names} } from "vulfsjor"; console.log(${names});`);
+    await bundle("esbuild", "names.mjs", "--bundle", "--minify", "--format=esm",
+      "--log-level=warning", "--outfile=names/app.mjs");
+    return readFileSync(path("names/app.mjs")).length;
+  };
+  for (const [names, most] of [
+    ["blake2b", MOST], ["blake2s", MOST], ["hex, utf8, fromHex", 5_000],
+    ["Blake2b", 46_000], ["Blake2s", 46_000], ["blake2bStream", 51_000], ["blake2sStream", 51_000],
+    ["blake2b, blake2s", 65_000],
+  ]) {
+    const size = await sizeOf(names);
+    assert.ok(size <= most, `${size} bytes of ${names}`);
+  }
+  assert.ok(await sizeOf("treeRoot") > 300_000); // the module with all functions
+});
+
+test("plain rollup, by a path, leaves out the modules too", async (t) => {
+  if (!has("rollup")) return t.skip("no rollup");
+  writeFileSync(path("plain.mjs"),
+    oneHash("blake2b").replace('"vulfsjor"', '"./node_modules/vulfsjor/index.js"'));
+  await bundle("rollup", "plain.mjs", "--silent", "--format", "es", "--file", "plain-rollup/app.mjs");
+  const { stdout } = await run(process.execPath, [path("plain-rollup/app.mjs")]);
+  assert.equal(stdout, `${DIGESTS.blake2b}\n`);
+  assert.ok(readFileSync(path("plain-rollup/app.mjs")).length <= MOST_LONG);
+});
 
 const TYPES = { "": "text/html", ".js": "text/javascript", ".mjs": "text/javascript" };
 const PAGES = {

@@ -74,6 +74,16 @@ export function leavesOf(vulfsjor, given) {
   return digestOf(vulfsjor, digests);
 }
 
+// What verify says of a tag: right, or the name of its error.
+function verdictOf(hash, tag) {
+  try {
+    hash.verify(tag);
+    return "right";
+  } catch (fault) {
+    return fault.name;
+  }
+}
+
 /** Returns how many cases were right, and those that were not. */
 export async function checkCases(vulfsjor, cases) {
   const { fromHex, hex } = vulfsjor;
@@ -93,7 +103,8 @@ export async function checkCases(vulfsjor, cases) {
       const half = message.length >> 1;
       const run = new vulfsjor[Hasher](options).update(message.subarray(0, half));
       const copy = run.copy().update(message.subarray(half));
-      got.add(copy.verify(fromHex(digest)) ? digest : "verify");
+      if (options.key === undefined && kind !== "root") got.add(copy.hex());
+      else got.add(verdictOf(copy, fromHex(digest)) === "right" ? digest : "verify");
       got.add(run.update(message.subarray(half)).hex());
       if (typeof Blob !== "undefined") {
         got.add(hex(await vulfsjor[stream](new Blob([message]), options)));

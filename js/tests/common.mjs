@@ -2,7 +2,7 @@
 import assert from "node:assert/strict";
 import { execFileSync } from "node:child_process";
 import { fileURLToPath } from "node:url";
-import { memory } from "../src/engine.js";
+import { memories } from "../src/engine.js";
 
 /** Whether this is the full test, and the options of a test that only it has. */
 export const HUGE = Boolean(process.env.VULFSJOR_TEST_HUGE);
@@ -32,12 +32,15 @@ export function sequence(length, seed) {
 
 let zeros = Buffer.alloc(0);
 
-/** Asserts that nothing is left in the library's memory, and that it has not grown. */
+/** Asserts that nothing is left in the library's memories, and that they have not grown. */
 export function assertClean(what = "after a call") {
-  const bytes = memory();
-  assert.equal(bytes.length, 2 ** 20 + 8 * 65536);
-  if (zeros.length !== bytes.length) zeros = Buffer.alloc(bytes.length);
-  if (zeros.compare(bytes) !== 0) {
-    assert.fail(`${what} the memory has a byte at ${bytes.findIndex((byte) => byte !== 0)}`);
+  const all = memories();
+  assert.ok(all.length > 0, "no memory");
+  for (const bytes of all) {
+    assert.equal(bytes.length, 2 ** 20 + 8 * 65536);
+    if (zeros.length !== bytes.length) zeros = Buffer.alloc(bytes.length);
+    if (zeros.compare(bytes) !== 0) {
+      assert.fail(`${what} a memory has a byte at ${bytes.findIndex((byte) => byte !== 0)}`);
+    }
   }
 }

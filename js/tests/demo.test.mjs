@@ -358,19 +358,23 @@ test("a page that cannot hash says why, and hashes nothing", LONG, async (t) => 
   if (missing) return t.skip(missing);
   const text = readFileSync(fileURLToPath(PAGE), "utf8");
   const wrong = join(folder, "wrong.html");
-  for (const [from, to, why] of [
-    ["ba80a53f", "0a80a53f", /^The page cannot hash here: its self-test failed\.$/],
-    ['"AGFzbQEAAAAB', '"AGFzbQIAAAAB', /^The page cannot hash here: WebAssembly.Module\(\): .*\.$/],
-    ['"use strict";\nconst module0', "nothing(); const module0", /nothing is not defined/],
+  const noModule = /^The page cannot hash here: WebAssembly.Module\(\): .*\.$/;
+  for (const [from, to, count, why] of [
+    ["ba80a53f", "0a80a53f", 1, /^The page cannot hash here: its self-test failed\.$/],
+    ['"AGFzbQEAAAAB', '"AGFzbQIAAAAB', 3, noModule], // the start of each module
+    ['"use strict";\nconst module0', "nothing(); const module0", 1, /nothing is not defined/],
   ]) {
-    assert.equal(text.split(from).length, 2, from);
-    writeFileSync(wrong, text.replace(from, to));
-    const page = await chromium.open(pathToFileURL(wrong).href);
-    await page.until("document.getElementById('self').textContent === 'failed.'", 60);
-    assert.match(await page.evaluate("document.getElementById('broken').innerText"), why);
-    await page.setFiles("#files", [join(folder, "one byte")]);
-    await page.evaluate("new Promise((resolve) => setTimeout(resolve, 200))");
-    assert.equal(await page.evaluate("document.querySelectorAll('[data-state=done]').length"), 0);
+    const parts = text.split(from);
+    assert.equal(parts.length, count + 1, from);
+    for (let place = 1; place <= count; place++) { // one of them at a time
+      writeFileSync(wrong, parts.slice(0, place).join(from) + to + parts.slice(place).join(from));
+      const page = await chromium.open(pathToFileURL(wrong).href);
+      await page.until("document.getElementById('self').textContent === 'failed.'", 60);
+      assert.match(await page.evaluate("document.getElementById('broken').innerText"), why);
+      await page.setFiles("#files", [join(folder, "one byte")]);
+      await page.evaluate("new Promise((resolve) => setTimeout(resolve, 200))");
+      assert.equal(await page.evaluate("document.querySelectorAll('[data-state=done]').length"), 0);
+    }
   }
 });
 

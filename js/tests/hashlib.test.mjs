@@ -40,9 +40,14 @@ function checkOne(given) {
   copy.reset().update(message);
   const wrong = bytesOf(digest);
   wrong[seed % wrong.length] ^= 1 << seed % 8;
-  assert.equal(copy.copy().verify(wrong), false);
-  assert.equal(copy.copy().verify(wrong.subarray(1)), false);
-  assert.equal(copy.verify(bytesOf(digest)), true);
+  if (options.key === undefined && Hasher !== vulfsjor.TreeHash) {
+    assert.throws(() => copy.verify(bytesOf(digest)), { name: "TypeError" });
+  } else {
+    for (const tag of [wrong, wrong.subarray(1)]) {
+      assert.throws(() => copy.copy().verify(tag), vulfsjor.InvalidTagError);
+    }
+    assert.equal(copy.verify(bytesOf(digest)), undefined);
+  }
   assertClean();
 }
 

@@ -3,8 +3,8 @@
 //   node tests/keep_key.mjs FORM      writes a line, the key with each byte xored with 0x5a
 import { openSync, readSync, writeSync } from "node:fs";
 import {
-  Blake2b, Blake2bp, Blake2s, Blake2sp, Blake2xb, blake2b, blake2bMany, blake2bp, blake2s, blake2sp,
-  deriveKey, utf8,
+  Blake2b, Blake2bp, Blake2s, Blake2sp, Blake2xb, InvalidTagError, blake2b, blake2bMany, blake2bp,
+  blake2s, blake2sp, deriveKey, utf8,
 } from "../index.js";
 
 const form = process.argv[2];
@@ -18,6 +18,13 @@ const drawn = new Uint8Array(new ArrayBuffer(length));
 const tag = new Uint8Array(key.length);
 const short = utf8("a short message");
 const long = new Uint8Array(1000).fill(3);
+const verify = (run) => {
+  try {
+    run.verify(tag);
+  } catch (fault) {
+    if (!(fault instanceof InvalidTagError)) throw fault;
+  }
+};
 const copyAndReset = (run) => {
   run.update(long).copy().update(short).digest();
   run.reset().update(short).digest();
@@ -35,7 +42,7 @@ const forms = {
     [short, long].forEach((message) => new Blake2s({ key }).update(message).digest()),
   "Blake2b, digest of nothing": () => new Blake2b({ key }).digest(),
   "Blake2b, verify": () =>
-    [short, long].forEach((message) => new Blake2b({ key }).update(message).verify(tag)),
+    [short, long].forEach((message) => verify(new Blake2b({ key }).update(message))),
   "Blake2b, copy and reset": () => copyAndReset(new Blake2b({ key })),
   "blake2bp in one call": () => [short, long].forEach((message) => blake2bp(message, { key })),
   "blake2sp in one call": () => [short, long].forEach((message) => blake2sp(message, { key })),
@@ -44,7 +51,7 @@ const forms = {
   "Blake2sp, digest": () =>
     [short, long].forEach((message) => new Blake2sp({ key }).update(message).digest()),
   "Blake2bp, verify": () =>
-    [short, long].forEach((message) => new Blake2bp({ key }).update(message).verify(tag)),
+    [short, long].forEach((message) => verify(new Blake2bp({ key }).update(message))),
   "Blake2bp, copy and reset": () => copyAndReset(new Blake2bp({ key })),
   "Blake2xb, read and wipe": () => {
     const output = new Blake2xb({ key });

@@ -1,4 +1,4 @@
-// The module of the package: made from that of dist/wasm, and doing the same.
+// The modules of the package: made from that of dist/wasm, and doing the same.
 import assert from "node:assert/strict";
 import { execFileSync, spawnSync } from "node:child_process";
 import { createHash } from "node:crypto";
@@ -14,12 +14,12 @@ import { HUGE } from "./common.mjs";
 const here = (path) => fileURLToPath(new URL(path, import.meta.url));
 const MODULE = here("../../dist/wasm/vulfsjor.wasm");
 
-test("src/wasm.js is what tools/build.mjs makes", () => {
+test("the files of modules in src/ are what tools/build.mjs makes", () => {
   // As a command, as `make dist` runs it.
   execFileSync(here("../tools/build.mjs"), ["--check"]);
 });
 
-test("tools/build.mjs writes and compares src/wasm.js, and writes the page", (t) => {
+test("tools/build.mjs writes and compares the modules, and writes the page", (t) => {
   const folder = mkdtempSync(join(tmpdir(), "vulfsjor-build-"));
   t.after(() => rmSync(folder, { recursive: true }));
   const file = (path) => join(folder, path);
@@ -31,11 +31,12 @@ test("tools/build.mjs writes and compares src/wasm.js, and writes the page", (t)
   for (const path of ["index.js", "package.json", "src", "tools", "demo"]) {
     cpSync(here(`../${path}`), file(`js/${path}`), { recursive: true });
   }
-  cpSync(MODULE, file("dist/wasm/vulfsjor.wasm"));
+  cpSync(here("../../dist"), file("dist"), { recursive: true });
   assert.deepEqual(build("--check"), [0, ""]);
   const made = file("js/src/wasm.js");
   const text = readFileSync(made, "utf8");
-  for (const other of [file("js/src/worker_text.js"), made]) {
+  const others = ["worker_text", "wasm_blake2b", "wasm_blake2s"];
+  for (const other of [...others.map((name) => file(`js/src/${name}.js`)), made]) {
     const before = readFileSync(other, "utf8");
     writeFileSync(other, `${before} `);
     assert.deepEqual(build("--check"), [1, `build: ${other} is not what this script makes\n`]);
@@ -81,6 +82,52 @@ test("the lowered module is valid, and is that of the package", () => {
   assert.ok(WebAssembly.validate(bytes));
   assert.deepEqual(WebAssembly.Module.imports(new WebAssembly.Module(bytes)), []);
   assert.deepEqual(lower(readFileSync(MODULE)), bytes);
+});
+
+// The bodies of a module's functions.
+function bodiesOf(module) {
+  let at = 8;
+  const number = () => {
+    let value = 0;
+    for (let shift = 0; ; shift += 7) {
+      const byte = module[at++];
+      value += (byte & 127) * 2 ** shift;
+      if (byte < 128) return value;
+    }
+  };
+  for (;;) {
+    const id = module[at++];
+    const length = number();
+    if (id === 10) break;
+    at += length;
+  }
+  return Array.from({ length: number() }, () => {
+    const length = number();
+    at += length;
+    return Buffer.from(module.subarray(at - length, at)).toString("hex");
+  });
+}
+
+test("a module of one hash has its functions as they are, and traps instead of the others", async () => {
+  const all = bodiesOf(decode());
+  for (const [name, more] of [["blake2b", ["memcmp"]], ["blake2s", []]]) {
+    const module = (await import(`../src/wasm_${name}.js`)).decode();
+    const calls = ["", "_final", "_init_salt_personal", "_init_tree", "_reset", "_set_last_node",
+      "_update", "_verify"].map((call) => `${name}${call}`);
+    const names = [...calls, ...more].map((call) => `vulfsjor_ffi_${call}`);
+    assert.deepEqual(
+      WebAssembly.Module.exports(new WebAssembly.Module(module)).map((each) => each.name).sort(),
+      ["__heap_base", "memory", ...names].sort());
+    assert.deepEqual(lower(readFileSync(MODULE), names), module);
+    const bodies = bodiesOf(module);
+    assert.equal(bodies.length, all.length);
+    const traps = bodies.filter((body, i) => body !== all[i]);
+    assert.deepEqual(new Set(traps), new Set(["00000b"]));
+    // few are left, so that the bundle is small
+    assert.ok(bodies.length - traps.length < 60, `${bodies.length - traps.length} functions`);
+  }
+  assert.throws(() => lower(readFileSync(MODULE), ["vulfsjor_ffi_blake2b", "no"]),
+    { message: "lower: an export is absent" });
 });
 
 const CALLS = HUGE ? "25000" : "8000";

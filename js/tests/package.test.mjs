@@ -23,12 +23,16 @@ function inFolder(work) {
 
 test("npm packs what programs need, and nothing else", (t) => {
   if (!has("npm")) return t.skip("no npm");
-  const [{ files }] = JSON.parse(
+  const [{ files, size }] = JSON.parse(
     execFileSync("npm", ["pack", "--json", "--dry-run", top], { encoding: "utf8", stdio: "pipe" }));
+  assert.ok(size <= 160_000, `${size} bytes`);
   assert.deepEqual(files.map(({ path }) => path).sort(), [
-    "README.md", "index.d.ts", "index.js", "package.json", "src/arguments.js", "src/engine.js",
-    "src/hashers.js", "src/pipes.js", "src/ranges.js", "src/streams.js", "src/threads.js",
-    "src/vulfsjor_worker.js", "src/wasm.js", "src/worker_text.js", "src/workers.js", "src/xof.js",
+    "README.md", "index.d.ts", "index.js", "package.json", "src/arguments.js", "src/blake2b.js",
+    "src/blake2s.js", "src/engine.js", "src/hashers.js", "src/hex.js", "src/leaves.js",
+    "src/many.js", "src/parallel.js", "src/pipes.js", "src/platform.js", "src/ranges.js",
+    "src/streams.js", "src/threads.js", "src/tree_hash.js", "src/vulfsjor_worker.js",
+    "src/wasm.js", "src/wasm_blake2b.js", "src/wasm_blake2s.js", "src/whole_module.js",
+    "src/worker_text.js", "src/workers.js", "src/xof.js",
   ]);
 });
 

@@ -171,7 +171,9 @@ test("an abort ends the hash", async () => {
 test("only hashes are accepted, and no options", () => {
   for (const [name, helper] of Object.entries(HELPERS)) {
     for (const [value, said] of [
-      [undefined, "undefined"], [{}, "an object"], ["abc", "a string"],
+      [undefined, "undefined"], [{}, "an object"], ["abc", "a string"], [null, "null"],
+      [Object.create(Blake2b.prototype), "an instance of Blake2b"],
+      [new Proxy(new Blake2b(), {}), "an instance of Blake2b"],
     ]) {
       assert.throws(() => helper(value), {
         name: "TypeError",

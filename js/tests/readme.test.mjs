@@ -5,11 +5,15 @@ import { execFileSync } from "node:child_process";
 import { readFileSync } from "node:fs";
 import test from "node:test";
 import { fileURLToPath } from "node:url";
-import { hashRow, rootRow } from "../../bench/javascript.mjs";
+import { callRow, hashRow, rootRow } from "../../bench/javascript.mjs";
 import { blake2b } from "../index.js";
-import { BLAKE2B, BLAKE2BP, BLAKE2S, BLAKE2SP, LEAF_DIGEST, TREE, memory } from "../src/engine.js";
+import { BLAKE2B } from "../src/blake2b.js";
+import { BLAKE2S } from "../src/blake2s.js";
+import { SLAB, WAITING, memories } from "../src/engine.js";
+import { LEAF_DIGEST } from "../src/leaves.js";
+import { MOST_THREADS } from "../src/platform.js";
 import { LONGEST_LEAF } from "../src/threads.js";
-import { MOST_THREADS } from "../src/workers.js";
+import { BLAKE2BP, BLAKE2SP, TREE } from "../src/whole_module.js";
 
 const cwd = fileURLToPath(new URL("..", import.meta.url));
 const read = (path) => readFileSync(new URL(path, import.meta.url), "utf8");
@@ -21,9 +25,8 @@ for (const [page, count] of [["js/README.md", 6], ["README.md", 1]]) {
     for (const [, block] of blocks) {
       const wanted = [...block.matchAll(/; \/\/ (.*)$/gm)].map(([, line]) => line);
       assert.ok(wanted.length > 0, block);
-      const type = /^import \{/m.test(block) ? "module" : "commonjs";
       const got = execFileSync(
-        process.execPath, [`--input-type=${type}`, "-e", block], { cwd, encoding: "utf8" });
+        process.execPath, ["--input-type=module", "-e", block], { cwd, encoding: "utf8" });
       assert.deepEqual(got.trim().split("\n"), wanted);
     }
   });
@@ -58,7 +61,9 @@ test("the numbers in index.d.ts and README.md are those of the code", () => {
     [page, `(1 to ${b.digestLength}, BLAKE2s to ${s.digestLength}), \`key\``, 1],
     [page, `\`key\` (1 to ${b.keyLength} bytes, BLAKE2s to ${s.keyLength})`, 1],
     [page, `(up to ${b.saltLength} bytes, BLAKE2s ${s.saltLength})`, 1],
-    [page, `memory is ${memory().length / 2 ** 20} MiB`, 1],
+    [page, `memory is ${memories()[0].length / 2 ** 20} MiB`, 1],
+    [page, `up to ${WAITING.toLocaleString("en")} bytes of short updates`, 1],
+    [page, `cut from buffers of ${SLAB / 1024} KiB`, 1],
     [page, `node ${JSON.parse(read("../package.json")).engines.node.slice(2)} and later`, 1],
   ]) {
     assert.equal(text.split(part).length - 1, count, part);
@@ -69,6 +74,7 @@ test("bench/javascript.mjs divides our speed by the other one", () => {
   assert.equal(hashRow("hash", 64, [2, 3]), "| hash | 64 | 2000 ns | 3000 ns | 1.50 |\n");
   assert.equal(
     hashRow("hash", 65536, [64, 128]), "| hash | 65536 | 1.02 GB/s | 0.51 GB/s | 2.00 |\n");
+  assert.equal(callRow("call", [0.2, 0.3]), "| call | 200 ns | 300 ns | 1.50 |\n");
   assert.equal(
     rootRow(1, [2, 1, 4]), "| 1 MiB | 0.52 GB/s | 1.05 GB/s | 2.00 | 0.26 GB/s | 0.50 |\n");
 });

@@ -6,10 +6,12 @@ import test from "node:test";
 import v8 from "node:v8";
 import vm from "node:vm";
 import {
-  Blake2b, Blake2bp, Blake2s, Blake2sp, Blake2xb, TreeHash, blake2b, blake2bMany, blake2bp, equal,
-  load, treeRoot, utf8,
+  Blake2b, Blake2bp, Blake2s, Blake2sp, Blake2xb, InvalidTagError, TreeHash, blake2b, blake2bMany,
+  blake2bp, equal, load, treeRoot, utf8,
 } from "../index.js";
-import { BLAKE2B, BLAKE2XB, memory } from "../src/engine.js";
+import { BLAKE2B } from "../src/blake2b.js";
+import { SLAB, memories } from "../src/engine.js";
+import { BLAKE2XB } from "../src/whole_module.js";
 import { assertClean, HUGE, hexOf } from "./common.mjs";
 
 const M = utf8("message");
@@ -25,6 +27,7 @@ const isSmall = (Hasher) => Hasher === Blake2s || Hasher === Blake2sp;
 
 for (const [Hasher, options] of HASHERS) {
   const name = `${Hasher.name} of ${Object.keys(options)}`;
+  const hasVerify = "key" in options || Hasher === TreeHash;
   const digestOf = (...pieces) =>
     pieces.reduce((run, piece) => run.update(piece), new Hasher(options)).hex();
 
@@ -48,7 +51,9 @@ for (const [Hasher, options] of HASHERS) {
   test(`${name}: a run that has ended refuses all but wipe`, () => {
     const ends = {
       digest: (run) => run.digest(), hex: (run) => run.hex(), wipe: (run) => run.wipe(),
-      verify: (run) => run.verify(new Uint8Array(1)),
+      ...(hasVerify && {
+        verify: (run) => assert.throws(() => run.verify(new Uint8Array(1)), InvalidTagError),
+      }),
       dispose: (run) => run[Symbol.dispose ?? Symbol.for("Symbol.dispose")](),
     };
     const calls = {
@@ -77,18 +82,35 @@ for (const [Hasher, options] of HASHERS) {
     assert.throws(() => run.update(M, M), TypeError);
     assert.throws(() => run.digest("hex"), TypeError);
     assert.throws(() => run.verify("text"), TypeError);
+    if (!hasVerify) {
+      // whatever the tag is: anybody can make it
+      for (const tag of [new Hasher(options).update(M).digest(), M, new Uint8Array(0)]) {
+        assert.throws(() => run.verify(tag), {
+          name: "TypeError",
+          message: `${Hasher.name}.verify: this hash has no key, so that anybody can make the tag; ` +
+            "compare digests with equal()",
+        });
+      }
+    }
     assert.equal(run.hex(), digestOf(M));
   });
 
-  test(`${name}: verify accepts only the whole digest`, () => {
+  if (hasVerify) test(`${name}: verify returns nothing for the digest, and throws for all else`, () => {
     const digest = new Hasher(options).update(M).digest();
     const verify = (tag) => new Hasher(options).update(M).verify(tag);
-    assert.equal(verify(digest), true);
-    assert.equal(verify(digest.buffer), true);
+    const refuses = (tag) => assert.throws(() => verify(tag), (fault) => {
+      assert.ok(fault instanceof InvalidTagError && fault instanceof Error);
+      assert.deepEqual(
+        [fault.name, fault.message], ["InvalidTagError", `${Hasher.name}.verify: the tag is wrong`]);
+      assert.equal(String(fault), `InvalidTagError: ${fault.message}`);
+      return true;
+    });
+    assert.equal(verify(digest), undefined);
+    assert.equal(verify(digest.buffer), undefined);
     for (let bit = 0; bit < 8 * digest.length; bit++) {
       const wrong = digest.slice();
       wrong[bit >> 3] ^= 1 << (bit & 7);
-      assert.equal(verify(wrong), false);
+      refuses(wrong);
     }
     const longer = new Uint8Array(digest.length + 1);
     longer.set(digest);
@@ -96,7 +118,7 @@ for (const [Hasher, options] of HASHERS) {
       digest.subarray(1), digest.subarray(0, -1), longer, new Uint8Array(0),
       new Uint8Array(10 ** 6),
     ]) {
-      assert.equal(verify(wrong), false);
+      refuses(wrong);
     }
     assertClean();
   });
@@ -110,7 +132,8 @@ for (const [Hasher, options] of HASHERS) {
       const copy = run.copy();
       copy.digest();
       assertClean("digest");
-      run.copy().verify(M);
+      assert.throws(
+        () => run.copy().verify(M), { name: hasVerify ? "InvalidTagError" : "TypeError" });
       assertClean("verify");
     }
     run.reset();
@@ -152,14 +175,40 @@ test("a subclass keeps its class in a copy", () => {
 });
 
 test("the memory does not grow with messages or with runs", () => {
-  const size = memory().length;
+  const sizes = () => new Set(memories().map((bytes) => bytes.length));
+  const before = sizes();
   const runs = Array.from({ length: 20000 }, () => new Blake2b({ key: KEY }).update(M));
   blake2b(new Uint8Array(2 ** 24));
   treeRoot(new Uint8Array(2 ** 24), { leafLength: 2 ** 20 });
   blake2bMany(Array.from({ length: 5000 }, () => new Uint8Array(3000)));
-  assert.equal(memory().length, size);
+  assert.deepEqual(sizes(), before);
   assert.equal(new Set(runs.map((run) => run.hex())).size, 1);
   assertClean();
+});
+
+test("a method without its object says so", () => {
+  const hash = new Blake2b({ key: KEY });
+  const output = new Blake2xb({ key: KEY });
+  const dispose = Symbol.dispose ?? Symbol.for("Symbol.dispose");
+  for (const [what, object, methods, getters] of [
+    ["hash", hash, ["update", "digest", "hex", "verify", "copy", "reset", "wipe"],
+      ["digestLength", "blockLength"]],
+    ["output", output, ["update", "read", "copy", "wipe"], ["left", "blockLength"]],
+  ]) {
+    const { prototype } = Object.getPrototypeOf(object.constructor);
+    const getterOf = (name) => Object.getOwnPropertyDescriptor(prototype, name).get;
+    for (const [name, call] of [
+      ...methods.map((name) => [name, object[name]]), ["wipe", object[dispose]],
+      ...getters.map((name) => [name, getterOf(name)]),
+    ]) {
+      for (const other of [undefined, null, 5, "hash", {}, M, what === "hash" ? output : hash]) {
+        assert.throws(() => Reflect.apply(call, other, [M]), {
+          name: "TypeError", message: `${name}: called without its ${what}; use it as ${what}.${name}`,
+        });
+      }
+    }
+    object.wipe();
+  }
 });
 
 // Fills the stack of JavaScript, and calls at each depth on the way back, until some calls in a row
@@ -203,18 +252,20 @@ test("a stack that is full ends a call, and not the library", () => {
   ];
   const seen = new Set();
   for (const call of calls) {
-    assert.ok(callOnFullStack(() => { seen.add(memory()); call(); }) > 10);
+    assert.ok(callOnFullStack(() => {
+      memories().forEach((bytes) => seen.add(bytes));
+      call();
+    }) > 10);
     assert.equal(hexOf(blake2b(M)), wanted);
     assertClean();
   }
   // some calls have ended inside the library, whose memory was wiped and given up
-  seen.delete(undefined);
-  assert.ok(seen.size > 1, `${seen.size} memories`);
+  assert.ok(seen.size > 3, `${seen.size} memories`); // more than one of a module
   for (const bytes of seen) assert.ok(bytes.every((byte) => byte === 0));
 });
 
 test("a run that failed on a full stack returns no digest, or that of before", () => {
-  const long = new Uint8Array(300);
+  const long = new Uint8Array(3000); // which does not wait
   const begun = () => new Blake2b({ key: KEY }).update(M);
   const before = begun().hex();
   const after = begun().update(long).hex();
@@ -246,14 +297,115 @@ test("a run that failed on a full stack returns no digest, or that of before", (
     done.length > 0 && ended > 0, `${ended} of ${failed.length} ended, ${done.length} done`);
 });
 
+// Runs some work in which the call of fill or set with this number throws, and notes the states that
+// they touch. Returns whether it has thrown.
+function failAt(number, states, work) {
+  const { fill, set } = Uint8Array.prototype;
+  let count = 0;
+  const failing = (builtIn) => function (...words) {
+    if (this.buffer.byteLength === SLAB) states.add(this);
+    if (count++ === number) throw new RangeError("no stack is left");
+    return Reflect.apply(builtIn, this, words);
+  };
+  Object.assign(Uint8Array.prototype, { fill: failing(fill), set: failing(set) });
+  try {
+    work();
+    return false;
+  } catch (fault) {
+    if (fault.message === "no stack is left") return true;
+    throw fault;
+  } finally {
+    Object.assign(Uint8Array.prototype, { fill, set });
+  }
+}
+
+test("a call that fails anywhere ends its object, and wipe reaches what it has left", () => {
+  const key = KEY;
+  const long = new Uint8Array(3000);
+  const hash = () => new Blake2b({ key }).update(M);
+  const tree = () => new TreeHash({ leafLength: 5 }).update(long).update(M);
+  const output = () => new Blake2xb({ key }).update(M);
+  const verify = (run) => {
+    try {
+      run.verify(new Uint8Array(64));
+    } catch (fault) {
+      if (!(fault instanceof InvalidTagError)) throw fault;
+    }
+  };
+  for (const [make, work, least] of [
+    [hash, (run) => run.update(long), 4], [hash, (run) => run.reset(), 4],
+    [hash, (run) => run.digest(), 4], [hash, (run) => run.hex(), 4], [hash, verify, 4],
+    [tree, (run) => run.update(long), 4], [tree, (run) => run.reset(), 4], [tree, verify, 4],
+    [output, (run) => run.update(M), 4], [output, (run) => run.read(9), 4],
+  ]) {
+    let count = 0;
+    for (let hasFailed = true; hasFailed; count++) {
+      const states = new Set();
+      let run;
+      failAt(-1, states, () => { run = make(); });
+      hasFailed = failAt(count, states, () => work(run));
+      if (hasFailed) {
+        assert.throws(() => run.copy(), /has ended, by|was wiped, or a call failed/, String(work));
+      }
+      run.wipe();
+      const isState = (bytes) => bytes.some((byte) => byte !== 0);
+      if (make !== tree) assert.equal([...states].filter(isState).length, 0, `${work} ${count}`);
+      blake2bp(M); // the memory is wiped before the next call at the latest
+      blake2b(M);
+      assertClean();
+    }
+    assert.ok(count >= least, `${count} calls of fill and set by ${work}`);
+  }
+});
+
+test("a copy or a short update that fails leaves its hash as it was, and nothing behind", () => {
+  const short = (run) => run.update(M);
+  class Strange extends Blake2b {}
+  const strange = (constructor) => {
+    const run = new Strange({ key: KEY }).update(M);
+    return Object.defineProperty(run, "constructor", { value: constructor });
+  };
+  const wanted = new Blake2b({ key: KEY }).update(M).hex();
+  for (const work of [short, (run) => run.copy()]) {
+    for (const run of [new Blake2b({ key: KEY }).update(M), strange(Strange)]) {
+      assert.ok(failAt(0, new Set(), () => work(run)));
+      assert.equal(run.hex(), wanted);
+    }
+  }
+  const isState = (bytes) => bytes.some((byte) => byte !== 0);
+  // classes that are none, or that end the hash in between
+  for (const [other, message] of [
+    [5, /constructor/], [() => {}, /constructor/],
+    [new Proxy(Strange, { get() { throw new Error("no prototype"); } }), /^no prototype$/],
+  ]) {
+    const run = strange(other);
+    const states = new Set();
+    failAt(-1, states, () => assert.throws(() => run.copy(), { message }));
+    assert.deepEqual([...states].filter(isState), []);
+    assert.equal(run.hex(), wanted);
+  }
+  const ended = strange(
+    new Proxy(Strange, { get(...words) { ended.wipe(); return Reflect.get(...words); } }));
+  assert.throws(() => ended.copy(), /^TypeError: Blake2b.copy: this hash has ended/);
+  const output = new Blake2xb({ key: KEY }).update(M);
+  assert.ok(failAt(0, new Set(), () => output.copy()));
+  const same = new Blake2xb({ key: KEY }).update(M).read(9);
+  assert.deepEqual(output.copy().read(9), same);
+  class Mine extends Blake2xb {}
+  const mine = new Mine({ key: KEY });
+  Object.defineProperty(mine, "constructor", { value:
+    new Proxy(Mine, { get(...words) { mine.wipe(); return Reflect.get(...words); } }) });
+  assert.throws(() => mine.copy(), /^TypeError: Blake2xb.copy: this output was wiped/);
+});
+
 test("the state of a run under a key is wiped when its object goes", async () => {
   v8.setFlagsFromString("--expose-gc");
   const collect = vm.runInNewContext("gc");
   const { fill } = Uint8Array.prototype;
   const wiped = [];
-  const lengths = [BLAKE2B.stateLength, BLAKE2XB.stateLength];
+  const lengths = [BLAKE2B, BLAKE2XB].map(({ stateLength, room }) => stateLength + room);
   Uint8Array.prototype.fill = function (...words) {
-    if (this.buffer.byteLength === this.length && lengths.includes(this.length)) {
+    if (lengths.includes(this.length)) {
       wiped.push(this.some((byte) => byte !== 0));
       assert.deepEqual(words, [0]);
     }

@@ -10,6 +10,7 @@ import {
   blake2b, blake2bStream, blake2bp, blake2bpStream, blake2s, blake2sStream, blake2sp,
   blake2spStream, treeRoot, treeRootStream, utf8,
 } from "../index.js";
+import { SLAB } from "../src/engine.js";
 import { hexOf } from "./common.mjs";
 
 const MESSAGE = new Uint8Array(randomBytes(9_000_000));
@@ -211,4 +212,20 @@ test("the key is taken at the call", async () => {
   const promise = blake2bStream(new Blob([MESSAGE]), { key });
   key.fill(0);
   assert.equal(hexOf(await promise), WANTED);
+});
+
+test("a stream under a key that fails leaves no state", async () => {
+  const { set } = Uint8Array.prototype;
+  const states = new Set();
+  Uint8Array.prototype.set = function (...words) {
+    if (this.buffer.byteLength === SLAB) states.add(this);
+    return Reflect.apply(set, this, words);
+  };
+  try {
+    await assert.rejects(blake2bStream([MESSAGE.subarray(0, 9), "text"], { key: KEY }), TypeError);
+  } finally {
+    Uint8Array.prototype.set = set;
+  }
+  assert.ok(states.size > 0);
+  for (const state of states) assert.ok(state.every((byte) => byte === 0));
 });

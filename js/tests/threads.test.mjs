@@ -11,7 +11,7 @@ import v8 from "node:v8";
 import vm from "node:vm";
 import workerThreads from "node:worker_threads";
 import { blake2b, blake2bStream, hex, treeLeaves, treeRoot, treeRootOfLeaves, treeRootStream, utf8 } from "../index.js";
-import { processorCount } from "../src/workers.js";
+import { processorCount } from "../src/platform.js";
 import { assertClean } from "./common.mjs";
 
 const MESSAGE = new Uint8Array(randomBytes(9_000_001));
@@ -414,6 +414,10 @@ test("a file that ends early, is closed or is a folder is refused", async (t) =>
     treeRootStream(source, { leafLength: 65536, threads }), error);
   await rejects(longer, 3, { message: `treeRootStream: a worker failed: ${end}` });
   await rejects(longer, 1, { message: `treeRootStream: ${end}` });
+  const silent = { ...longer, stat: async () => ({ isFile: () => true, size: 0 }) }; // as in /proc
+  for (const threads of [1, 3]) {
+    await rejects(silent, threads, { name: "TypeError", message: /has bytes and the length 0/ });
+  }
   const other = await open(folder);
   for (const threads of [1, 3]) {
     const message = "treeRootStream: source must be a regular file";
@@ -473,7 +477,8 @@ class Fake {
   static made = [];
   static failing = () => undefined;
   constructor(url, options) {
-    Fake.made.push([String(url), options]);
+    this.url = String(url);
+    Fake.made.push([this.url, options]);
     const fault = Fake.failing(String(url));
     if (fault instanceof Error) throw fault;
     setImmediate(() => (fault ? this.onerror(fault) : this.onmessage({ data: "ready" })));
@@ -553,6 +558,13 @@ test("where a text cannot be started a file is, or else the calling thread hashe
   const file = [new URL("../src/vulfsjor_worker.js", import.meta.url).href, { type: "module" }];
   const thrown = new Error("refused");
   const isText = (url) => url.startsWith("blob:");
+  const held = []; // the addresses of texts that workers still hold when they work
+  const Class = class extends Fake {
+    postMessage(job) {
+      if (isText(this.url) && !released.includes(this.url)) held.push(this.url);
+      return super.postMessage(job);
+    }
+  };
   for (const [failing, cause, made] of [
     [() => undefined, undefined, ["text", "stopped"]],
     [(url) => isText(url) && {}, undefined, ["text", "stopped", "file", "stopped"]],
@@ -567,7 +579,7 @@ test("where a text cannot be started a file is, or else the calling thread hashe
       Fake.made.length = 0;
       released.length = 0;
       const [causes, counts] = [[], []];
-      const root = await inBrowser(Fake, 4, () => byThreads(source, {
+      const root = await inBrowser(Class, 4, () => byThreads(source, {
         leafLength: 65536, threads: 2,
         onFallback: (...words) => causes.push(words), onProgress: (count) => counts.push(count),
       }));
@@ -581,6 +593,7 @@ test("where a text cannot be started a file is, or else the calling thread hashe
       assert.deepEqual(Fake.made.filter(([url]) => url === file[0]),
         Array(2 * made.includes("file")).fill(file));
       assert.equal(new Set(released).size, 2);
+      assert.deepEqual(held, []);
       assert.deepEqual([counts.length, counts.at(-1)], [3, MESSAGE.length]);
     }
   }

@@ -54,9 +54,10 @@ test("the values of the README and of the package for Python", () => {
 
 test("the names that the package has", () => {
   assert.deepEqual(Object.keys(vulfsjor).sort(), [
-    "Blake2b", "Blake2bp", "Blake2s", "Blake2sp", "Blake2xb", "Blake2xs", "TreeHash", "blake2b",
-    "blake2bMany", "blake2bStream", "blake2bp", "blake2bpStream", "blake2s", "blake2sMany",
-    "blake2sStream", "blake2sp", "blake2spStream", "deriveKey", "equal", "fromHex",
-    "hashTransform", "hashWritable", "hex", "load", "treeLeaves", "treeRoot", "treeRootOfLeaves", "treeRootStream", "utf8",
+    "Blake2b", "Blake2bp", "Blake2s", "Blake2sp", "Blake2xb", "Blake2xs", "InvalidTagError",
+    "TreeHash", "blake2b", "blake2bMany", "blake2bStream", "blake2bp", "blake2bpStream", "blake2s",
+    "blake2sMany", "blake2sStream", "blake2sp", "blake2spStream", "deriveKey", "equal", "fromHex",
+    "hashTransform", "hashWritable", "hex", "load", "treeLeaves", "treeRoot", "treeRootOfLeaves",
+    "treeRootStream", "utf8",
   ]);
 });

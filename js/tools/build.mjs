@@ -2,10 +2,14 @@
 // Writes what is made from dist/wasm/vulfsjor.wasm, the module that the proved source compiles to:
 //
 //   tools/build.mjs                writes src/wasm.js: the module with a 32-bit memory (memory32.mjs)
-//                                  in base64, and the hashes of both; and src/worker_text.js:
-//                                  the script of a worker, from src/vulfsjor_worker.js
+//                                  in base64, and the hashes of both; src/wasm_blake2b.js and
+//                                  src/wasm_blake2s.js: the same with the functions of one hash; and
+//                                  src/worker_text.js: the script of a worker, from
+//                                  src/vulfsjor_worker.js
 //   tools/build.mjs --check        compares these files with that instead
 //   tools/build.mjs --page FILE    writes the page in one file, from src/ and the files of demo/
+//
+// It refuses a file of dist/ that is not the one that dist/MANIFEST names. `npm pack` runs --check.
 import { createHash } from "node:crypto";
 import { readFileSync, writeFileSync } from "node:fs";
 import { fileURLToPath } from "node:url";
@@ -16,8 +20,30 @@ const here = (path) => fileURLToPath(new URL(path, import.meta.url));
 const MODULE = here("../../dist/wasm/vulfsjor.wasm");
 const sha256 = (bytes, encoding = "hex") => createHash("sha256").update(bytes).digest(encoding);
 
-function wasmOf(module) {
-  const lowered = lower(module);
+function checkDist() {
+  const lines = readFileSync(here("../../dist/MANIFEST"), "utf8").matchAll(/^([0-9a-f]{64}) {2}(.+)$/gm);
+  for (const [, sum, name] of lines) {
+    if (sha256(readFileSync(here(`../../dist/${name}`))) !== sum) {
+      console.error(`build: dist/${name} is not as in dist/MANIFEST`);
+      process.exit(1);
+    }
+  }
+}
+
+// The functions that src/engine.js calls of BLAKE2b and of BLAKE2s.
+const CALLS = [
+  "", "_init_salt_personal", "_init_tree", "_set_last_node", "_update", "_final", "_verify",
+  "_reset",
+];
+const exportsOf = (name) => CALLS.map((call) => `vulfsjor_ffi_${name}${call}`);
+const MODULES = {
+  "wasm.js": undefined, // all functions
+  "wasm_blake2b.js": [...exportsOf("blake2b"), "vulfsjor_ffi_memcmp"],
+  "wasm_blake2s.js": exportsOf("blake2s"),
+};
+
+function wasmOf(module, names) {
+  const lowered = lower(module, names);
   return `// Made by tools/build.mjs from dist/wasm/vulfsjor.wasm. Do not edit.
 // sha256 of that module:       ${sha256(module)}
 // sha256 of the lowered one:   ${sha256(lowered)}
@@ -37,7 +63,8 @@ export function decode() {
 
 // The module comes with the first range, so the text leaves it out.
 function workerText() {
-  const script = shorten(bundle(here("../src/vulfsjor_worker.js"), [here("../src/wasm.js")]));
+  const modules = Object.keys(MODULES).map((name) => here(`../src/${name}`));
+  const script = shorten(bundle(here("../src/vulfsjor_worker.js"), modules));
   return `// Made by tools/build.mjs from vulfsjor_worker.js and what it imports. Do not edit.
 
 /** The script of a worker. */
@@ -79,11 +106,14 @@ function check(name, text) {
   process.exitCode = 1;
 }
 
+checkDist();
 const [option, file] = process.argv.slice(2);
 if (option === "--page" && file !== undefined) writeFileSync(file, pageOf());
 else if (option === undefined || option === "--check") {
   const put = option === undefined ? (name, text) => writeFileSync(here(name), text) : check;
-  put("../src/wasm.js", wasmOf(readFileSync(MODULE)));
+  for (const [name, exports] of Object.entries(MODULES)) {
+    put(`../src/${name}`, wasmOf(readFileSync(MODULE), exports));
+  }
   put("../src/worker_text.js", workerText());
 } else {
   console.error("usage: tools/build.mjs [--check | --page FILE]");

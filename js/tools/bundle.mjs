@@ -33,7 +33,9 @@ export function bundle(file, leftOut = []) {
         return "";
       })
       .replaceAll("import.meta.url", "location.href");
-    if (/^\s*(import|export)\b(?!\()|\bimport\.meta/m.test(text)) {
+    const lists = [...source.matchAll(IMPORT), ...source.matchAll(LIST)].map(([, list]) => list);
+    if (/^\s*(import|export)\b(?!\()|\bimport\.meta/m.test(text) ||
+        lists.some((list) => /\bas\b/.test(list))) {
       throw new Error(`bundle: an unknown form in ${path}`);
     }
     const number = numbers.size;

@@ -9,6 +9,9 @@
 // address can be forgotten: the engine checks the types of the result, and a 64-bit address is not
 // an operand of an access to a 32-bit memory.
 //
+// It can leave out functions too, for programs that use one hash: a function that cannot be called
+// has a body that traps instead, and the others keep their numbers.
+//
 // It refuses what it does not know: imports, tables of code, threads, memory that grows, several
 // memories.
 
@@ -74,6 +77,7 @@ class Body {
     this.out = [];
     this.count = parameters; // of locals so far
     this.added = []; // types of the locals that are added
+    this.calls = []; // the functions that it calls
   }
   // The index of an added local of this type.
   spare(type) {
@@ -158,8 +162,10 @@ function lowerInstruction(reader, body) {
     skipPlace(reader);
   } else if (code >= 0x02 && code <= 0x04) {
     reader.skip(); // the type of a block
-  } else if (code === 0x0c || code === 0x0d || code === 0x10 || (code >= 0x20 && code <= 0x24)) {
-    reader.skip(); // a label, a function, a local or a global
+  } else if (code === 0x10) {
+    body.calls.push(reader.number());
+  } else if (code === 0x0c || code === 0x0d || (code >= 0x20 && code <= 0x24)) {
+    reader.skip(); // a label, a local or a global
   } else if (code === 0x0e) {
     for (let count = reader.number(); count >= 0; count--) reader.skip();
   } else if (code === 0x41 || code === 0x42) {
@@ -188,7 +194,8 @@ function lowerFunction(bytes, parameters) {
   if (bytes[0] !== groups) throw new Error("lower: a number is not in its shortest form");
   while (reader.at < bytes.length) lowerInstruction(reader, body);
   const added = body.added.flatMap((type) => [1, type]);
-  return [...unsigned(groups + body.added.length), ...locals, ...added, ...body.out];
+  const lowered = [...unsigned(groups + body.added.length), ...locals, ...added, ...body.out];
+  return { lowered, calls: body.calls };
 }
 
 // The number of parameters of each type.
@@ -230,8 +237,40 @@ function lowerData(reader) {
   return out;
 }
 
-/** The module with a 32-bit memory, without custom sections such as names. */
-export function lower(bytes) {
+// The exports of functions with these names, or of all, and of all that is no function; and the
+// numbers of the functions.
+function selectExports(reader, names) {
+  const kept = [];
+  const functions = [];
+  for (let count = reader.number(); count > 0; count--) {
+    const begin = reader.at;
+    const name = Buffer.from(reader.take(reader.number())).toString();
+    const isFunction = reader.byte() === 0;
+    const index = reader.number();
+    if (isFunction && !(names?.includes(name) ?? true)) continue;
+    kept.push(reader.bytes.subarray(begin, reader.at));
+    if (isFunction) functions.push(index);
+  }
+  if (functions.length < (names?.length ?? 0)) throw new Error("lower: an export is absent");
+  return { functions, section: [unsigned(kept.length), ...kept].flatMap((part) => [...part]) };
+}
+
+const TRAP = [0, 0x00, 0x0b]; // the body of a function that nothing calls: no locals, and a trap
+
+// The bodies of these functions and of those that they call, and TRAP for the others, so that each
+// keeps its number. No other can run, since there are no tables of code and no function starts by
+// itself.
+function reachable(bodies, functions) {
+  const reached = new Set(functions);
+  for (const index of reached) bodies[index].calls.forEach((callee) => reached.add(callee));
+  return bodies.map((body, index) => (reached.has(index) ? body : { lowered: TRAP }));
+}
+
+/**
+ * The module with a 32-bit memory, without custom sections such as names: with all functions, or
+ * only those that the exports with these names need.
+ */
+export function lower(bytes, names) {
   const reader = new Reader(bytes);
   const out = [...reader.take(8)];
   if (String(out) !== "0,97,115,109,1,0,0,0") {
@@ -239,6 +278,7 @@ export function lower(bytes) {
   }
   let parameters = [];
   let functions = [];
+  let exported = [];
   while (reader.at < bytes.length) {
     const id = reader.byte();
     const length = reader.number();
@@ -250,12 +290,14 @@ export function lower(bytes) {
     else if (id === 1) parameters = readTypes(section);
     else if (id === 3) functions = each(() => parameters[section.number()]);
     else if (id === 5) lowered = lowerMemory(section);
+    else if (id === 7) ({ functions: exported, section: lowered } = selectExports(section, names));
     else if (id === 10) {
-      const bodies = each((i) => lowerFunction(section.take(section.number()), functions[i]));
-      const sized = bodies.map((body) => [...unsigned(body.length), ...body]);
+      const all = each((i) => lowerFunction(section.take(section.number()), functions[i]));
+      const bodies = names === undefined ? all : reachable(all, exported);
+      const sized = bodies.map((body) => [...unsigned(body.lowered.length), ...body.lowered]);
       lowered = [unsigned(bodies.length), ...sized].flat();
     } else if (id === 11) lowered = lowerData(section);
-    else if (id !== 6 && id !== 7) refuse("section", id);
+    else if (id !== 6) refuse("section", id);
     out.push(id, ...unsigned(lowered.length));
     for (const byte of lowered) out.push(byte);
   }

@@ -26,7 +26,7 @@ typedef struct family {
                 const Py_buffer *person, const vulfsjor_tree *tree);
     int (*set_last_node)(void *run);
     int (*update)(void *run, const void *in, size_t length);
-    int (*end)(void *run, uint8_t *out);
+    int (*end)(void *run, uint8_t *out, size_t size);
     int (*verify)(void *run, const void *tag, size_t length);
     void (*wipe)(void *run);
     int (*many)(uint8_t *out, size_t size, const messages *m, const Py_buffer *key,
@@ -38,8 +38,8 @@ typedef struct family {
     static int f##_update(void *S, const void *in, size_t n) {                                     \
         return vulfsjor_##f##_update(S, in, n);                                                    \
     }                                                                                              \
-    static int f##_end(void *S, uint8_t *o) {                                                      \
-        return vulfsjor_##f##_final(S, o, VULFSJOR_##NAME##_OUTBYTES);                             \
+    static int f##_end(void *S, uint8_t *o, size_t n) {                                            \
+        return vulfsjor_##f##_final(S, o, n);                                                      \
     }                                                                                              \
     static int f##_verify(void *S, const void *t, size_t n) {                                      \
         return vulfsjor_##f##_verify(S, t, n);                                                     \
@@ -55,12 +55,12 @@ typedef struct family {
 #define PLAIN(f, NAME, offset)                                                                     \
     static int f##_init(void *S, size_t o, const Py_buffer *k, const Py_buffer *s,                 \
                         const Py_buffer *p, const vulfsjor_tree *t) {                              \
-        return vulfsjor_##f##_init_tree(S, o, TEXT(k), TEXT(s), TEXT(p), t);                       \
+        return vulfsjor_##f##_init_tree(S, o, KEY(k), TEXT(s), TEXT(p), t);                        \
     }                                                                                              \
     static int f##_last(void *S) { return vulfsjor_##f##_set_last_node(S, 1); }                    \
     static int f##_many(uint8_t *out, size_t o, const messages *m, const Py_buffer *k,             \
                         const Py_buffer *s, const Py_buffer *p) {                                  \
-        return vulfsjor_##f##_many(out, o, m->texts, (size_t)m->count, TEXT(k), TEXT(s), TEXT(p)); \
+        return vulfsjor_##f##_many(out, o, m->texts, (size_t)m->count, KEY(k), TEXT(s), TEXT(p));  \
     }                                                                                              \
     FAMILY(f, NAME, "|O$iy*y*y*iiOOiipp", offset, f##_last, f##_many)
 PLAIN(blake2b, BLAKE2B, UINT64_MAX)
@@ -70,7 +70,7 @@ PLAIN(blake2s, BLAKE2S, ((uint64_t)1 << 48) - 1)
     static int f##_init(void *S, size_t o, const Py_buffer *k, const Py_buffer *s,                 \
                         const Py_buffer *p, const vulfsjor_tree *t) {                              \
         (void)t;                                                                                   \
-        return vulfsjor_##f##_init_salt_personal(S, o, TEXT(k), TEXT(s), TEXT(p));                 \
+        return vulfsjor_##f##_init_salt_personal(S, o, KEY(k), TEXT(s), TEXT(p));                  \
     }                                                                                              \
     FAMILY(f, NAME, "|O$iy*y*y*p", 0, NULL, NULL)
 PARALLEL(blake2bp, BLAKE2BP)
@@ -94,24 +94,42 @@ int view_of(PyObject *data, Py_buffer *view) {
     return -1;
 }
 
-int number_of(PyObject *given, const char *name, const char *below, uint64_t *number) {
+/* A number from 0 to 2^64 - 1, or 0 if there is none, with hashlib's exceptions. */
+static int number_of(PyObject *given, uint64_t *number) {
     int beyond;
     long long small;
     *number = 0;
     if (!given) return 0;
     if (!PyLong_Check(given)) {
-        PyErr_Format(PyExc_TypeError, name ? "%s must be an integer" : "an integer is required", name);
+        PyErr_SetString(PyExc_TypeError, "an integer is required");
         return -1;
     }
     small = PyLong_AsLongLongAndOverflow(given, &beyond);
     if (beyond < 0 || (!beyond && small < 0)) {
-        PyErr_SetString(PyExc_ValueError, below);
+        PyErr_SetString(PyExc_ValueError, "value must be positive");
         return -1;
     }
     *number = PyLong_AsUnsignedLongLong(given);
-    if (!PyErr_Occurred()) return 0;
-    if (name) PyErr_Format(PyExc_OverflowError, "%s is too large", name);
+    return PyErr_Occurred() ? -1 : 0;
+}
+
+int range_of(PyObject *given, uint64_t least, uint64_t most, const char *name, uint64_t *number) {
+    if (!PyLong_Check(given)) {
+        PyErr_Format(PyExc_TypeError, "%s must be an integer", name);
+        return -1;
+    }
+    *number = PyLong_AsUnsignedLongLong(given);
+    if (!PyErr_Occurred() && least <= *number && *number <= most) return 0;
+    PyErr_Format(PyExc_ValueError, "%s must be between %llu and %llu", name,
+                 (unsigned long long)least, (unsigned long long)most);
     return -1;
+}
+
+int to_size(PyObject *given, void *size) {
+    Py_ssize_t number = PyNumber_AsSsize_t(given, NULL);
+    if (number == -1 && PyErr_Occurred()) return 0;
+    *(int *)size = number < 0 ? -1 : number > INT_MAX ? INT_MAX : (int)number;
+    return 1;
 }
 
 int check(int number, int least, int most, const char *name, const char *unit) {
@@ -120,7 +138,8 @@ int check(int number, int least, int most, const char *name, const char *unit) {
     return -1;
 }
 
-int check_most(uint64_t number, uint64_t most, const char *name) {
+/* As hashlib refuses it. */
+static int check_most(uint64_t number, uint64_t most, const char *name) {
     if (number <= most) return 0;
     PyErr_Format(PyExc_OverflowError, "%s is too large", name);
     return -1;
@@ -129,6 +148,12 @@ int check_most(uint64_t number, uint64_t most, const char *name) {
 int check_text(const Py_buffer *text, int most, const char *name) {
     if (text->len <= most) return 0;
     PyErr_Format(PyExc_ValueError, "maximum %s length is %d bytes", name, most);
+    return -1;
+}
+
+int check_key(const Py_buffer *key, int most) {
+    if (1 <= key->len && key->len <= most) return 0;
+    PyErr_Format(PyExc_ValueError, "key must have between 1 and %d bytes", most);
     return -1;
 }
 
@@ -151,12 +176,13 @@ typedef union state {
 } state;
 
 /* With the GIL the lock is made at the first update of many bytes: nothing else lets other threads
- * run. The size is that of the digest. */
+ * run. The size is that of the digest. An object of blake2b may have a key, one of blake2b_mac has
+ * one. */
 typedef struct hash {
     PyObject_HEAD
     const family *f;
     PyThread_type_lock lock;
-    Py_ssize_t size;
+    int size, is_keyed;
     state run;
 } hash;
 
@@ -197,11 +223,12 @@ static int take(hash *self, PyObject *data) {
 
 /* A zeroed object. The types have no subclasses, so this and PyObject_Free are their allocator,
  * called without a search for the slot. */
-static hash *empty(PyTypeObject *type, const family *f, Py_ssize_t size) {
+static hash *empty(PyTypeObject *type, const family *f, int size, int is_keyed) {
     hash *self = (hash *)PyType_GenericAlloc(type, 0);
     if (!self) return NULL;
     self->f = f;
     self->size = size;
+    self->is_keyed = is_keyed;
 #ifdef Py_GIL_DISABLED
     if (!(self->lock = PyThread_allocate_lock())) {
         PyErr_NoMemory();
@@ -209,14 +236,6 @@ static hash *empty(PyTypeObject *type, const family *f, Py_ssize_t size) {
     }
 #endif
     return self;
-}
-
-PyObject *blake2b_of(PyObject *module, const vulfsjor_blake2b_state *run) {
-    classes *own = PyModule_GetState(module);
-    Py_ssize_t size = (Py_ssize_t)vulfsjor_blake2b_digest_size(run);
-    hash *self = empty((PyTypeObject *)own->blake2b, &blake2b, size);
-    if (self) self->run.b = *run;
-    return (PyObject *)self;
 }
 
 /* What a hash object is made with. */
@@ -227,12 +246,16 @@ typedef struct given {
     vulfsjor_tree tree;
 } given;
 
+static void release_given(given *g) {
+    release(&g->key);
+    release(&g->salt);
+    release(&g->person);
+}
+
 /* Checks the arguments in hashlib's order, and fills in the tree parameters. */
 static int check_given(given *g, const family *f) {
-    const char *below = "value must be positive";
     uint64_t leaf_size;
-    if (number_of(g->leaf, NULL, below, &leaf_size) ||
-        number_of(g->offset, NULL, below, &g->tree.node_offset) ||
+    if (number_of(g->leaf, &leaf_size) || number_of(g->offset, &g->tree.node_offset) ||
         check(g->size, 1, f->out, "digest_size", " bytes") ||
         check_text(&g->salt, f->salt, "salt") || check_text(&g->person, f->person, "person") ||
         check(g->fanout, 0, 255, "fanout", "") || check(g->depth, 1, 255, "depth", "") ||
@@ -281,11 +304,24 @@ static PyObject *make(PyTypeObject *type, PyObject *args, PyObject *words, const
     } else if (!parse(args, words, f, &g)) {
         return NULL;
     }
-    if (!check_given(&g, f)) self = empty(type, f, g.size);
+    if (!check_given(&g, f)) self = empty(type, f, g.size, g.key.len > 0);
     if (self && begin(self, &g)) Py_CLEAR(self);
-    release(&g.key);
-    release(&g.salt);
-    release(&g.person);
+    release_given(&g);
+    return (PyObject *)self;
+}
+
+/* An object of a message authentication code: the hash with a key, and never without. */
+static PyObject *make_mac(PyTypeObject *type, PyObject *args, PyObject *words, const family *f,
+                          const char *arguments) {
+    static char *names[] = {"key", "data", "digest_size", "salt", "person", NULL};
+    given g = {.size = f->out, .fanout = 1, .depth = 1};
+    hash *self = NULL;
+    if (!PyArg_ParseTupleAndKeywords(args, words, arguments, names, &g.key, &g.data, to_size,
+                                     &g.size, &g.salt, &g.person))
+        return NULL;
+    if (!check_key(&g.key, f->key) && !check_given(&g, f)) self = empty(type, f, g.size, 1);
+    if (self && begin(self, &g)) Py_CLEAR(self);
+    release_given(&g);
     return (PyObject *)self;
 }
 
@@ -311,25 +347,29 @@ static void copy_state(hash *self, state *copied) {
 }
 
 static PyObject *copy(PyObject *object, PyObject *none) {
-    hash *self = (hash *)object, *made = empty(Py_TYPE(object), self->f, self->size);
+    hash *self = (hash *)object;
+    hash *made = empty(Py_TYPE(object), self->f, self->size, self->is_keyed);
     (void)none;
     if (made) copy_state(self, &made->run);
     return (PyObject *)made;
 }
 
-/* The digest, by a copy of the state, which the call wipes. How many bytes it has. */
-static Py_ssize_t digest_of(hash *self, uint8_t out[64]) {
+/* The digest, by a copy of the state, which the call wipes. How many bytes it has, or -1 with an
+ * exception. */
+static int digest_of(hash *self, uint8_t out[64]) {
     state copied;
     copy_state(self, &copied);
-    self->f->end(&copied, out);
-    return self->size;
+    if (!self->f->end(&copied, out, (size_t)self->size)) return self->size;
+    self->f->wipe(&copied);
+    PyErr_SetString(PyExc_SystemError, "the library refuses what was checked");
+    return -1;
 }
 
 static PyObject *digest(PyObject *self, PyObject *none) {
     uint8_t out[64];
-    Py_ssize_t size = digest_of((hash *)self, out);
+    int size = digest_of((hash *)self, out);
     (void)none;
-    return PyBytes_FromStringAndSize((const char *)out, size);
+    return size < 0 ? NULL : PyBytes_FromStringAndSize((const char *)out, size);
 }
 
 PyObject *digits_of(const uint8_t *bytes, Py_ssize_t length) {
@@ -343,26 +383,38 @@ PyObject *digits_of(const uint8_t *bytes, Py_ssize_t length) {
 
 static PyObject *hexdigest(PyObject *self, PyObject *none) {
     uint8_t out[64];
-    Py_ssize_t size = digest_of((hash *)self, out);
+    int size = digest_of((hash *)self, out);
     (void)none;
-    return digits_of(out, size);
+    return size < 0 ? NULL : digits_of(out, size);
+}
+
+/* Whether the view is of the tag, by a copy of the state, which the call wipes. */
+static int is_tag(hash *self, const Py_buffer *view) {
+    state copied;
+    copy_state(self, &copied);
+    return !self->f->verify(&copied, view->buf, (size_t)view->len);
 }
 
 static PyObject *verify(PyObject *object, PyObject *tag) {
+    classes *own = PyType_GetModuleState(Py_TYPE(object));
     hash *self = (hash *)object;
     Py_buffer view;
-    state copied;
-    int status;
+    int is_right;
+    if (!self->is_keyed)
+        return refused(PyExc_ValueError, "verify needs a key: compare digests without one with "
+                                         "hmac.compare_digest");
+    if (PyUnicode_Check(tag))
+        return refused(PyExc_TypeError, "the tag must be bytes, as digest() returns, not a string");
     if (view_of(tag, &view)) return NULL;
-    copy_state(self, &copied);
-    status = self->f->verify(&copied, view.buf, (size_t)view.len);
+    is_right = is_tag(self, &view);
     PyBuffer_Release(&view);
-    return PyBool_FromLong(status == 0);
+    if (!is_right) return refused(own->invalid_tag, "the tag is not that of the message");
+    Py_RETURN_NONE;
 }
 
 static PyObject *name_of(PyObject *self, void *none) {
     (void)none;
-    return PyUnicode_FromString(((hash *)self)->f->name);
+    return PyType_GetName(Py_TYPE(self));
 }
 
 static PyObject *block_of(PyObject *self, void *none) {
@@ -372,7 +424,7 @@ static PyObject *block_of(PyObject *self, void *none) {
 
 static PyObject *size_of(PyObject *self, void *none) {
     (void)none;
-    return PyLong_FromSsize_t(((hash *)self)->size);
+    return PyLong_FromLong(((hash *)self)->size);
 }
 
 static PyMethodDef methods[] = {
@@ -386,9 +438,9 @@ static PyMethodDef methods[] = {
      "Update this hash object's state with the provided bytes-like object."},
     {"verify", verify, METH_O,
      "verify($self, tag, /)\n--\n\n"
-     "Return whether the tag is the whole digest of all input so far.\n\n"
-     "All bytes of a tag of the digest's length are compared, wherever they differ, so use it for\n"
-     "message authentication codes."},
+     "Return None if the tag is the whole digest of all input so far, and raise InvalidTag if not.\n\n"
+     "All bytes of a tag of the digest's length are compared, wherever they differ. An object\n"
+     "without a key raises ValueError: compare its digest with hmac.compare_digest."},
     {NULL, NULL, 0, NULL}};
 
 static PyGetSetDef fields[] = {
@@ -470,6 +522,10 @@ static int is_one(PyObject *data) {
 static PyObject *tuple_of(PyObject *data) {
     if (is_one(data))
         return refused(PyExc_TypeError, "messages must be several, such as a list of bytes, not one");
+    if (PyAnySet_Check(data))
+        return refused(PyExc_TypeError, "messages must be in an order, which a set has not");
+    if (PyDict_Check(data))
+        return refused(PyExc_TypeError, "messages must not be a dict, whose keys they would be");
     return PySequence_Tuple(data);
 }
 
@@ -485,8 +541,8 @@ static PyObject *many(PyObject *args, PyObject *words, const family *f, const ch
     static char *names[] = {"", "digest_size", "key", "salt", "person", NULL};
     given g = {.size = f->out};
     PyObject *tuple = NULL, *list = NULL;
-    if (!PyArg_ParseTupleAndKeywords(args, words, arguments, names, &g.data, &g.size, &g.key,
-                                     &g.salt, &g.person))
+    if (!PyArg_ParseTupleAndKeywords(args, words, arguments, names, &g.data, to_size, &g.size,
+                                     &g.key, &g.salt, &g.person))
         return NULL;
     if (!check(g.size, 1, f->out, "digest_size", " bytes") &&
         !check_text(&g.salt, f->salt, "salt") && !check_text(&g.person, f->person, "person") &&
@@ -494,20 +550,18 @@ static PyObject *many(PyObject *args, PyObject *words, const family *f, const ch
         tuple = tuple_of(g.data);
     if (tuple) list = digests_of_tuple(tuple, &g, f);
     Py_XDECREF(tuple);
-    release(&g.key);
-    release(&g.salt);
-    release(&g.person);
+    release_given(&g);
     return list;
 }
 
 static PyObject *many_b(PyObject *module, PyObject *args, PyObject *words) {
     (void)module;
-    return many(args, words, &blake2b, "O|$iy*y*y*:blake2b_many");
+    return many(args, words, &blake2b, "O|$O&y*y*y*:blake2b_many");
 }
 
 static PyObject *many_s(PyObject *module, PyObject *args, PyObject *words) {
     (void)module;
-    return many(args, words, &blake2s, "O|$iy*y*y*:blake2s_many");
+    return many(args, words, &blake2s, "O|$O&y*y*y*:blake2s_many");
 }
 
 /* ---- The module */
@@ -550,6 +604,28 @@ TYPE(blake2s, 32, 8, TREE, "")
 TYPE(blake2bp, 64, 16, "", EXTENSION("BLAKE2bp"))
 TYPE(blake2sp, 32, 8, "", EXTENSION("BLAKE2sp"))
 
+#define MAC(f, size, longest, more)                                                                \
+    static PyObject *make_##f##_mac(PyTypeObject *type, PyObject *args, PyObject *words) {         \
+        return make_mac(type, args, words, &f, "y*|O$O&y*y*:" #f "_mac");                          \
+    }                                                                                              \
+    static PyType_Slot slots_##f##_mac[] = {                                                       \
+        {Py_tp_new, make_##f##_mac},                                                               \
+        {Py_tp_dealloc, end_of_life},                                                              \
+        {Py_tp_methods, methods},                                                                  \
+        {Py_tp_getset, fields},                                                                    \
+        {Py_tp_doc, #f "_mac(key, data=b'', *, digest_size=" #size ", salt=b'', person=b'')"       \
+                    "\n--\n\nReturn a new object of a message authentication code: " #f            \
+                    " with a key.\n\nThe key has 1 to " #size " bytes, digest_size is 1 to " #size  \
+                    ", salt and person have\nup to " #longest " bytes each." more},                \
+        {0, NULL}};                                                                                \
+    static PyType_Spec spec_##f##_mac = {                                                          \
+        "vulfsjor." #f "_mac", (int)(offsetof(hash, run) + sizeof(vulfsjor_##f##_state)), 0,       \
+        Py_TPFLAGS_DEFAULT, slots_##f##_mac};
+MAC(blake2b, 64, 16, "")
+MAC(blake2s, 32, 8, "")
+MAC(blake2bp, 64, 16, EXTENSION("BLAKE2bp"))
+MAC(blake2sp, 32, 8, EXTENSION("BLAKE2sp"))
+
 /* The class of these classes, so that no program changes them. (The limited API can't set the flag
  * of immutable types on one that has constants.) */
 static int refuse(PyObject *type, PyObject *name, PyObject *value) {
@@ -581,9 +657,9 @@ static int set_numbers(PyObject *at, const char *prefix, const family *f) {
     return failed ? -1 : 0;
 }
 
-/* Returns the class, or NULL with an exception. */
-static PyObject *add_family(PyObject *module, PyObject *type_of_types, PyType_Spec *spec,
-                            const family *f) {
+/* Adds a class, whose numbers are those of the family. Returns it, or NULL with an exception. */
+static PyObject *add_class(PyObject *module, PyObject *type_of_types, PyType_Spec *spec,
+                           const family *f) {
     PyObject *type = PyType_FromModuleAndSpec(module, spec, NULL);
     if (!type || set_numbers(type, "", f)) {
         Py_XDECREF(type);
@@ -591,8 +667,16 @@ static PyObject *add_family(PyObject *module, PyObject *type_of_types, PyType_Sp
     }
     Py_INCREF(type_of_types); /* the class before, `type`, is static, and counts no instances */
     Py_SET_TYPE(type, (PyTypeObject *)type_of_types);
-    if (PyModule_AddObjectRef(module, f->name, type) || set_numbers(module, f->prefix, f))
-        Py_CLEAR(type);
+    if (PyModule_AddObjectRef(module, strchr(spec->name, '.') + 1, type)) Py_CLEAR(type);
+    return type;
+}
+
+/* The class of the exception of a wrong tag, or NULL with an exception. */
+static PyObject *add_invalid_tag(PyObject *module) {
+    PyObject *type = PyErr_NewExceptionWithDoc("vulfsjor.InvalidTag",
+                                               "The tag of a message is wrong: see verify.",
+                                               PyExc_ValueError, NULL);
+    if (type && PyModule_AddObjectRef(module, "InvalidTag", type)) Py_CLEAR(type);
     return type;
 }
 
@@ -630,19 +714,23 @@ static int ask_processor(PyObject *module) {
 
 static int fill(PyObject *module) {
     static const struct {
-        PyType_Spec *spec;
+        PyType_Spec *spec, *mac;
         const family *f;
-    } others[] = {
-        {&spec_blake2s, &blake2s}, {&spec_blake2bp, &blake2bp}, {&spec_blake2sp, &blake2sp}};
+    } all[] = {{&spec_blake2b, &spec_blake2b_mac, &blake2b},
+               {&spec_blake2s, &spec_blake2s_mac, &blake2s},
+               {&spec_blake2bp, &spec_blake2bp_mac, &blake2bp},
+               {&spec_blake2sp, &spec_blake2sp_mac, &blake2sp}};
     PyObject *types = PyType_FromSpecWithBases(&spec_of_types, (PyObject *)&PyType_Type);
     classes *own = PyModule_GetState(module);
     int failed;
     if (!types) return -1;
-    failed = !(own->blake2b = add_family(module, types, &spec_blake2b, &blake2b));
-    for (int i = 0; !failed && i < 3; i++) {
-        PyObject *other = add_family(module, types, others[i].spec, others[i].f);
-        failed = !other;
-        Py_XDECREF(other);
+    failed = !(own->invalid_tag = add_invalid_tag(module));
+    for (int i = 0; !failed && i < 4; i++) {
+        PyObject *type = add_class(module, types, all[i].spec, all[i].f);
+        PyObject *mac = type ? add_class(module, types, all[i].mac, all[i].f) : NULL;
+        failed = !mac || set_numbers(module, all[i].f->prefix, all[i].f);
+        Py_XDECREF(type);
+        Py_XDECREF(mac);
     }
     failed = failed || add_version(module) || PyModule_AddFunctions(module, tree_functions) ||
              add_tree_types(module) || add_output_types(module, types);
@@ -652,15 +740,13 @@ static int fill(PyObject *module) {
 
 static int visit_classes(PyObject *module, visitproc visit, void *arg) {
     classes *own = PyModule_GetState(module);
-    Py_VISIT(own->blake2b);
-    Py_VISIT(own->plain);
+    Py_VISIT(own->invalid_tag);
     return 0;
 }
 
 static int clear_classes(PyObject *module) {
     classes *own = PyModule_GetState(module);
-    Py_CLEAR(own->blake2b);
-    Py_CLEAR(own->plain);
+    Py_CLEAR(own->invalid_tag);
     return 0;
 }
 

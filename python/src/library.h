@@ -1,4 +1,4 @@
-/* What library.c, trees.c and xof.c share. They are C, which no proof covers. They keep to the limited API
+/* What library.c, trees.c, by_threads.c and xof.c share. They are C, which no proof covers. They keep to the limited API
  * of Python 3.11, so that one compiled module serves every later version of CPython. Builds without
  * the GIL have no such API: for them the package is compiled with Py_GIL_DISABLED, for one version.
  *
@@ -16,6 +16,8 @@
 
 /* The pointer and the length of a buffer, as arguments of a call. */
 #define TEXT(buffer) (buffer)->buf, (size_t)(buffer)->len
+/* The same of a key: an empty one is none, as in hashlib, and null in C. */
+#define KEY(buffer) (buffer)->len ? (buffer)->buf : NULL, (size_t)(buffer)->len
 
 /* A function for PyMethodDef that accepts keywords. */
 #define WITH_WORDS(function) (PyCFunction)(void (*)(void))(function), METH_VARARGS | METH_KEYWORDS
@@ -23,21 +25,26 @@
 /* An input of this many bytes is hashed without the GIL. */
 enum { LET_OTHERS_RUN_AT = 2048 };
 
-/* ---- Arguments. Each of these returns 0, or -1 with an exception, which is hashlib's. */
+/* ---- Arguments. Each of these but to_size returns 0, or -1 with an exception. */
 
 /* A view of the bytes of an object. */
 int view_of(PyObject *data, Py_buffer *view);
 
-/* A number from 0 to 2^64 - 1, or 0 if there is none: ValueError with the text `below`, OverflowError
- * above. With a name the other texts name the argument, which hashlib's do not. */
-int number_of(PyObject *given, const char *name, const char *below, uint64_t *number);
+/* A number from least to most: ValueError for each other number, whatever its size. */
+int range_of(PyObject *given, uint64_t least, uint64_t most, const char *name, uint64_t *number);
+
+/* Converts for PyArg_ParseTuple (O&): a number that no int holds becomes one that `check` refuses
+ * too. */
+int to_size(PyObject *given, void *size);
 
 /* The number is from least to most. */
 int check(int number, int least, int most, const char *name, const char *unit);
-int check_most(uint64_t number, uint64_t most, const char *name);
 
 /* The text is not longer than this. */
 int check_text(const Py_buffer *text, int most, const char *name);
+
+/* The key is not empty, and not longer than this. */
+int check_key(const Py_buffer *key, int most);
 
 /* Releases a view, if there is one. */
 void release(Py_buffer *text);
@@ -52,14 +59,11 @@ PyObject *refused(PyObject *exception, const char *why);
 void take_lock(PyThread_type_lock lock);
 void leave_lock(PyThread_type_lock lock);
 
-/* ---- What a module keeps, one in each interpreter: the classes whose objects its functions make. */
+/* ---- What a module keeps, one in each interpreter. */
 
 typedef struct classes {
-    PyObject *blake2b, *plain;
+    PyObject *invalid_tag;
 } classes;
-
-/* A blake2b object of the module with this state, or NULL with an exception. */
-PyObject *blake2b_of(PyObject *module, const vulfsjor_blake2b_state *run);
 
 /* The digits of at most 64 bytes, as a string. */
 PyObject *digits_of(const uint8_t *bytes, Py_ssize_t length);
@@ -67,6 +71,20 @@ PyObject *digits_of(const uint8_t *bytes, Py_ssize_t length);
 /* ---- trees.c: the functions of the tree of two levels, for the module, and its classes. */
 extern PyMethodDef tree_functions[];
 int add_tree_types(PyObject *module);
+
+/* ---- by_threads.c. Each returns 0, or -1 with an exception, and lets other threads of Python run meanwhile. A signal
+ * whose handler raises ends the work. The number of threads is that of vulfsjor_threads.h. */
+
+/* Writes the root of the bytes in a tree like this one. */
+int root_by_threads(const vulfsjor_tree_state *tree, uint8_t *out, const Py_buffer *view, unsigned threads);
+
+/* The same of a regular file, whose first `length` bytes are hashed. `progress`, if it is not NULL, is called with the
+ * number of bytes so far. The position of the file is neither used nor changed. Exceptions have the path. */
+int root_of_regular_file(const vulfsjor_tree_state *tree, uint8_t *out, int file, uint64_t length, unsigned threads,
+                         PyObject *path, PyObject *progress);
+
+/* Absorbs the bytes. After an exception the state is of no use. */
+int update_tree_by_threads(vulfsjor_tree_state *tree, const Py_buffer *view, unsigned threads);
 
 /* ---- xof.c: the classes of BLAKE2X, whose class this is, and derive_key, for the module. */
 int add_output_types(PyObject *module, PyObject *type_of_types);

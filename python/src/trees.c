@@ -8,27 +8,51 @@ typedef struct given {
     Py_buffer salt, person;
     int size;
     uint32_t leaf_length;
+    unsigned threads;
 } given;
+
+/* Converts a number of threads (O&). One that is too large is as good as the largest. */
+static int to_threads(PyObject *object, void *threads) {
+    Py_ssize_t number = PyNumber_AsSsize_t(object, NULL);
+    if (number == -1 && PyErr_Occurred()) return 0;
+    if (number < 0) {
+        PyErr_SetString(PyExc_ValueError, "threads must be 0 or more");
+        return 0;
+    }
+    *(unsigned *)threads = (size_t)number > UINT_MAX ? UINT_MAX : (unsigned)number;
+    return 1;
+}
 
 /* Checks the parameters, in the order of hashlib, and fills in the length of the leaves. */
 static int check_given(given *g) {
-    const char *range = "leaf_size must be between 1 and 4294967295";
     uint64_t leaf_size;
-    if (number_of(g->leaf, "leaf_size", range, &leaf_size) ||
+    if (range_of(g->leaf, 1, UINT32_MAX, "leaf_size", &leaf_size) ||
         check(g->size, 1, VULFSJOR_BLAKE2B_OUTBYTES, "digest_size", " bytes") ||
         check_text(&g->salt, VULFSJOR_BLAKE2B_SALTBYTES, "salt") ||
-        check_text(&g->person, VULFSJOR_BLAKE2B_PERSONALBYTES, "person") ||
-        check_most(leaf_size, UINT32_MAX, "leaf_size"))
+        check_text(&g->person, VULFSJOR_BLAKE2B_PERSONALBYTES, "person"))
         return -1;
     g->leaf_length = (uint32_t)leaf_size;
-    if (leaf_size) return 0;
-    PyErr_SetString(PyExc_ValueError, range);
-    return -1;
+    return 0;
 }
 
-/* The number of a leaf. */
-static int first_of(PyObject *first, uint64_t *number) {
-    return number_of(first, "first", "first must be 0 or more", number);
+/* The number of a leaf. A message has less than 2^58 bytes. */
+static int place_of(PyObject *given, uint64_t leaf_length, const char *name, uint64_t *place) {
+    return range_of(given, 0, (((uint64_t)1 << 58) - 1) / leaf_length, name, place);
+}
+
+/* Converts a flag (O&). An object of another kind, such as where a message ends, would be true too. */
+static int to_flag(PyObject *object, void *flag) {
+    int is_beyond;
+    const long number = PyLong_Check(object) ? PyLong_AsLongAndOverflow(object, &is_beyond) : -1;
+    *(int *)flag = number == 1;
+    if (number == 0 || number == 1) return 1;
+    PyErr_SetString(PyExc_TypeError, "ends must be True or False");
+    return 0;
+}
+
+/* What is raised if leaves end too late. */
+static PyObject *too_far(void) {
+    return refused(PyExc_ValueError, "the data ends at 2^58 bytes or more of the message");
 }
 
 static void release_given(given *g) {
@@ -36,29 +60,51 @@ static void release_given(given *g) {
     release(&g->person);
 }
 
+/* Initializes a state with what was checked. 0, or -1 with an exception. */
+static int init(vulfsjor_tree_state *tree, const given *g) {
+    if (!vulfsjor_tree_init(tree, (size_t)g->size, TEXT(&g->salt), TEXT(&g->person), g->leaf_length))
+        return 0;
+    PyErr_SetString(PyExc_SystemError, "the library refuses what was checked");
+    return -1;
+}
+
 /* ---- In one call */
+
+/* Writes the root of the bytes, by this thread. 0, or -1 with an exception. */
+static int root_by_one(const given *g, uint8_t *out, const Py_buffer *view) {
+    int status;
+    Py_BEGIN_ALLOW_THREADS
+    status = vulfsjor_tree_root(out, (size_t)g->size, TEXT(view), TEXT(&g->salt), TEXT(&g->person),
+                                g->leaf_length);
+    Py_END_ALLOW_THREADS
+    if (status) PyErr_SetString(PyExc_OverflowError, "2^58 bytes or more");
+    return status;
+}
+
+/* The same by several threads. */
+static int root_by_several(const given *g, uint8_t *out, const Py_buffer *view) {
+    vulfsjor_tree_state tree;
+    if (init(&tree, g)) return -1;
+    return root_by_threads(&tree, out, view, g->threads);
+}
 
 static PyObject *root_of(const given *g) {
     uint8_t out[64];
     Py_buffer view;
     int status;
     if (view_of(g->data, &view)) return NULL;
-    Py_BEGIN_ALLOW_THREADS
-    status = vulfsjor_tree_root(out, (size_t)g->size, TEXT(&view), TEXT(&g->salt), TEXT(&g->person),
-                                g->leaf_length);
-    Py_END_ALLOW_THREADS
+    status = g->threads == 1 ? root_by_one(g, out, &view) : root_by_several(g, out, &view);
     PyBuffer_Release(&view);
-    if (status) return refused(PyExc_OverflowError, "2^58 bytes or more");
-    return PyBytes_FromStringAndSize((const char *)out, g->size);
+    return status ? NULL : PyBytes_FromStringAndSize((const char *)out, g->size);
 }
 
 static PyObject *tree_root(PyObject *module, PyObject *args, PyObject *words) {
-    static char *names[] = {"", "leaf_size", "digest_size", "salt", "person", NULL};
-    given g = {.size = VULFSJOR_BLAKE2B_OUTBYTES};
+    static char *names[] = {"", "leaf_size", "digest_size", "salt", "person", "threads", NULL};
+    given g = {.size = VULFSJOR_BLAKE2B_OUTBYTES, .threads = 1};
     PyObject *root = NULL;
     (void)module;
-    if (!PyArg_ParseTupleAndKeywords(args, words, "OO|$iy*y*:tree_root", names, &g.data, &g.leaf,
-                                     &g.size, &g.salt, &g.person))
+    if (!PyArg_ParseTupleAndKeywords(args, words, "OO|$O&y*y*O&:tree_root", names, &g.data, &g.leaf,
+                                     to_size, &g.size, &g.salt, &g.person, to_threads, &g.threads))
         return NULL;
     if (!check_given(&g)) root = root_of(&g);
     release_given(&g);
@@ -88,7 +134,7 @@ static PyObject *digests_of(const given *g, const Py_buffer *view, uint64_t firs
     Py_END_ALLOW_THREADS
     if (!status) return digests;
     Py_DECREF(digests);
-    return refused(PyExc_OverflowError, "2^58 bytes or more");
+    return too_far();
 }
 
 static PyObject *tree_leaves(PyObject *module, PyObject *args, PyObject *words) {
@@ -99,13 +145,14 @@ static PyObject *tree_leaves(PyObject *module, PyObject *args, PyObject *words) 
     uint64_t first_leaf;
     int ends = -1;
     (void)module;
-    if (!PyArg_ParseTupleAndKeywords(args, words, "OO|$Opy*y*:tree_leaves", names, &g.data, &g.leaf,
-                                     &first, &ends, &g.salt, &g.person))
+    if (!PyArg_ParseTupleAndKeywords(args, words, "OO|$OO&y*y*:tree_leaves", names, &g.data, &g.leaf,
+                                     &first, to_flag, &ends, &g.salt, &g.person))
         return NULL;
     if (!first || ends < 0)
         PyErr_SetString(PyExc_TypeError,
                         "tree_leaves() requires the keyword arguments first and ends");
-    else if (!check_given(&g) && !first_of(first, &first_leaf) && !view_of(g.data, &view)) {
+    else if (!check_given(&g) && 
+             !place_of(first, g.leaf_length, "first", &first_leaf) && !view_of(g.data, &view)) {
         digests = digests_of(&g, &view, first_leaf, ends);
         PyBuffer_Release(&view);
     }
@@ -135,8 +182,8 @@ static PyObject *tree_root_of_leaves(PyObject *module, PyObject *args, PyObject 
     given g = {.size = VULFSJOR_BLAKE2B_OUTBYTES};
     PyObject *root = NULL;
     (void)module;
-    if (!PyArg_ParseTupleAndKeywords(args, words, "OO|$iy*y*:tree_root_of_leaves", names, &g.data,
-                                     &g.leaf, &g.size, &g.salt, &g.person))
+    if (!PyArg_ParseTupleAndKeywords(args, words, "OO|$O&y*y*:tree_root_of_leaves", names, &g.data,
+                                     &g.leaf, to_size, &g.size, &g.salt, &g.person))
         return NULL;
     if (!check_given(&g)) root = root_over(&g);
     release_given(&g);
@@ -150,143 +197,12 @@ static PyObject *tree_leaf_count(PyObject *module, PyObject *args, PyObject *wor
     (void)module;
     if (!PyArg_ParseTupleAndKeywords(args, words, "OO:tree_leaf_count", names, &g.data, &g.leaf))
         return NULL;
-    if (number_of(g.data, "length", "length must be 0 or more", &length) || check_given(&g))
+    if (range_of(g.data, 0, UINT64_MAX, "length", &length) || check_given(&g))
         return NULL;
     return PyLong_FromUnsignedLongLong(vulfsjor_tree_leaf_count(length, g.leaf_length));
 }
 
-/* ---- Nodes, for leaves and digests that come in pieces */
-
-static PyObject *tree_leaf(PyObject *module, PyObject *args, PyObject *words) {
-    static char *names[] = {"leaf_size", "first", "ends", "salt", "person", NULL};
-    given g = {.size = VULFSJOR_BLAKE2B_OUTBYTES};
-    vulfsjor_blake2b_state run;
-    PyObject *first, *leaf = NULL;
-    uint64_t place;
-    int ends;
-    if (!PyArg_ParseTupleAndKeywords(args, words, "OOp|$y*y*:tree_leaf", names, &g.leaf, &first,
-                                     &ends, &g.salt, &g.person))
-        return NULL;
-    if (!check_given(&g) && !first_of(first, &place)) {
-        vulfsjor_tree_init_leaf(&run, place, ends, TEXT(&g.salt), TEXT(&g.person), g.leaf_length);
-        leaf = blake2b_of(module, &run);
-    }
-    release_given(&g);
-    return leaf;
-}
-
-static PyObject *tree_top(PyObject *module, PyObject *args, PyObject *words) {
-    static char *names[] = {"leaf_size", "digest_size", "salt", "person", NULL};
-    given g = {.size = VULFSJOR_BLAKE2B_OUTBYTES};
-    vulfsjor_blake2b_state run;
-    PyObject *top = NULL;
-    if (!PyArg_ParseTupleAndKeywords(args, words, "O|$iy*y*:tree_top", names, &g.leaf, &g.size,
-                                     &g.salt, &g.person))
-        return NULL;
-    if (!check_given(&g)) {
-        vulfsjor_tree_init_root(&run, (size_t)g.size, TEXT(&g.salt), TEXT(&g.person),
-                                g.leaf_length);
-        top = blake2b_of(module, &run);
-    }
-    release_given(&g);
-    return top;
-}
-
-/* ---- A plan for threads: its bytes are a vulfsjor_plan. */
-
-/* What a plan says, and the plan. */
-static PyObject *planned(const vulfsjor_plan *plan, int status) {
-    if (status) return refused(PyExc_OverflowError, "2^58 bytes or more");
-    return Py_BuildValue("KKKKy#", (unsigned long long)plan->threads,
-                         (unsigned long long)plan->part_count, (unsigned long long)plan->start,
-                         (unsigned long long)plan->end, (const char *)plan,
-                         (Py_ssize_t)sizeof *plan);
-}
-
-static PyObject *tree_plan(PyObject *module, PyObject *args) {
-    unsigned long long length, threads, least, part, most;
-    unsigned int leaf_size;
-    vulfsjor_limits limits;
-    vulfsjor_plan plan;
-    (void)module;
-    if (!PyArg_ParseTuple(args, "KIKKKK:tree_plan", &length, &leaf_size, &threads, &least, &part,
-                          &most))
-        return NULL;
-    limits = (vulfsjor_limits){threads, least, part, most};
-    return planned(&plan, vulfsjor_tree_plan(&plan, 0, length, leaf_size, &limits));
-}
-
-static PyObject *tree_part(PyObject *module, PyObject *args) {
-    vulfsjor_part part;
-    vulfsjor_plan plan;
-    unsigned long long place;
-    Py_buffer given_plan;
-    int status = -1;
-    (void)module;
-    if (!PyArg_ParseTuple(args, "y*K:tree_part", &given_plan, &place)) return NULL;
-    if (given_plan.len == sizeof plan) {
-        memcpy(&plan, given_plan.buf, sizeof plan);
-        status = vulfsjor_tree_part(&part, &plan, place);
-    }
-    PyBuffer_Release(&given_plan);
-    if (status) return refused(PyExc_IndexError, "the plan has no such part");
-    return Py_BuildValue("KKKN", (unsigned long long)part.first, (unsigned long long)part.start,
-                         (unsigned long long)part.length, PyBool_FromLong(part.ends != 0));
-}
-
-/* ---- The bytes of an object, whatever its format and dimensions, for memoryview. */
-
-typedef struct plain {
-    PyObject_HEAD
-    Py_buffer view;
-} plain;
-
-static PyObject *make_plain(PyObject *module, PyObject *data) {
-    classes *own = PyModule_GetState(module);
-    plain *self = (plain *)PyType_GenericAlloc((PyTypeObject *)own->plain, 0);
-    if (self && view_of(data, &self->view)) {
-        self->view.obj = NULL;
-        Py_CLEAR(self);
-    }
-    return (PyObject *)self;
-}
-
-static int plain_buffer(PyObject *object, Py_buffer *view, int flags) {
-    plain *self = (plain *)object;
-    return PyBuffer_FillInfo(view, object, self->view.buf, self->view.len, 1, flags);
-}
-
-static void end_of_plain(PyObject *object) {
-    PyTypeObject *type = Py_TYPE(object);
-    release(&((plain *)object)->view);
-    PyObject_Free(object);
-    Py_DECREF(type);
-}
-
-static PyType_Slot plain_slots[] = {
-    {Py_bf_getbuffer, plain_buffer}, {Py_tp_dealloc, end_of_plain}, {0, NULL}};
-static PyType_Spec plain_spec = {"vulfsjor._PlainBytes", sizeof(plain), 0,
-                                 Py_TPFLAGS_DEFAULT | Py_TPFLAGS_DISALLOW_INSTANTIATION,
-                                 plain_slots};
-
 PyMethodDef tree_functions[] = {
-    {"plain_bytes", make_plain, METH_O,
-     "plain_bytes($module, data, /)\n--\n\n"
-     "Return an object whose buffer has the bytes of the data, without format."},
-    {"tree_leaf", WITH_WORDS(tree_leaf),
-     "tree_leaf($module, leaf_size, first, ends, *, salt=b'', person=b'')\n--\n\n"
-     "Return a blake2b object for the bytes of leaf first, which ends the message or not."},
-    {"tree_top", WITH_WORDS(tree_top),
-     "tree_top($module, leaf_size, *, digest_size=64, salt=b'', person=b'')\n--\n\n"
-     "Return a blake2b object for the digests of all leaves. Its digest is the root."},
-    {"tree_plan", tree_plan, METH_VARARGS,
-     "tree_plan($module, length, leaf_size, threads, least, part, most, /)\n--\n\n"
-     "Return the threads of a plan, the number of its parts, where its leaves begin and end, and\n"
-     "the plan."},
-    {"tree_part", tree_part, METH_VARARGS,
-     "tree_part($module, plan, place, /)\n--\n\n"
-     "Return the first leaf of a part, where its bytes begin, how many they are, and whether it\n"
-     "ends the message."},
     {"tree_leaf_count", WITH_WORDS(tree_leaf_count),
      "tree_leaf_count(length, leaf_size)\n--\n\n"
      "Return the number of leaves of a message of length bytes, which is at least one."},
@@ -299,8 +215,15 @@ PyMethodDef tree_functions[] = {
      "ranges of a message, joined in order, are what tree_root_of_leaves accepts. The GIL is\n"
      "released meanwhile."},
     {"tree_root", WITH_WORDS(tree_root),
-     "tree_root(data, /, leaf_size, *, digest_size=64, salt=b'', person=b'')\n--\n\n"
-     "Return the root of the data in a tree of two levels over BLAKE2b, as bytes."},
+     "tree_root(data, /, leaf_size, *, digest_size=64, salt=b'', person=b'', threads=1)\n--\n\n"
+     "Return the root of the data in a tree of two levels over BLAKE2b, as bytes.\n\n"
+     "The data is cut into leaves of leaf_size bytes, and the root hashes their digests of 64\n"
+     "bytes (the BLAKE2 document, section 2.10: fanout 0, depth 2, inner size 64, and the\n"
+     "last-node flag on the last leaf and the root). It is not a BLAKE2b digest of the data.\n\n"
+     "threads is the number of threads that hash, the caller's among them, at most 256; 0 is one\n"
+     "for each processor that the caller's thread may run on. Fewer are started for data of less\n"
+     "than 256 KiB for each, or if the system refuses to start them. The root is the same for any\n"
+     "number. The GIL is released meanwhile. With several threads KeyboardInterrupt ends the call."},
     {"tree_root_of_leaves", WITH_WORDS(tree_root_of_leaves),
      "tree_root_of_leaves(digests, /, leaf_size, *, digest_size=64, salt=b'', person=b'')\n--\n\n"
      "Return the root over the joined digests of all leaves of a message: its tree_root.\n\n"
@@ -312,12 +235,13 @@ PyMethodDef tree_functions[] = {
 typedef struct tree {
     PyObject_HEAD
     PyThread_type_lock lock;
-    Py_ssize_t leaf_size, digest_size;
+    uint32_t leaf_size;
+    int digest_size;
     vulfsjor_tree_state run;
 } tree;
 
 /* An object with a lock and a zeroed state. */
-static tree *empty(PyTypeObject *type, Py_ssize_t leaf_size, Py_ssize_t digest_size) {
+static tree *empty(PyTypeObject *type, uint32_t leaf_size, int digest_size) {
     allocfunc allocate = (allocfunc)PyType_GetSlot(type, Py_tp_alloc);
     tree *self = (tree *)allocate(type, 0);
     if (!self) return NULL;
@@ -334,12 +258,11 @@ static PyObject *make(PyTypeObject *type, PyObject *args, PyObject *words) {
     static char *names[] = {"leaf_size", "digest_size", "salt", "person", NULL};
     given g = {.size = VULFSJOR_BLAKE2B_OUTBYTES};
     tree *self = NULL;
-    if (!PyArg_ParseTupleAndKeywords(args, words, "O|$iy*y*:TreeHasher", names, &g.leaf, &g.size,
-                                     &g.salt, &g.person))
+    if (!PyArg_ParseTupleAndKeywords(args, words, "O|$O&y*y*:TreeHasher", names, &g.leaf, to_size,
+                                     &g.size, &g.salt, &g.person))
         return NULL;
-    if (!check_given(&g) && (self = empty(type, g.leaf_length, g.size)))
-        vulfsjor_tree_init(&self->run, (size_t)g.size, TEXT(&g.salt), TEXT(&g.person),
-                           g.leaf_length);
+    if (!check_given(&g)) self = empty(type, g.leaf_length, g.size);
+    if (self && init(&self->run, &g)) Py_CLEAR(self);
     release_given(&g);
     return (PyObject *)self;
 }
@@ -371,21 +294,73 @@ static int absorb(tree *self, const Py_buffer *digests, const Py_buffer *view) {
     return status;
 }
 
-static PyObject *update(PyObject *object, PyObject *data) {
-    Py_buffer view, none = {0};
-    int status;
-    if (view_of(data, &view)) return NULL;
-    status = absorb((tree *)object, &none, &view);
-    PyBuffer_Release(&view);
-    if (status) return refused(PyExc_OverflowError, "2^58 bytes or more");
-    Py_RETURN_NONE;
-}
-
 /* Writes the state as it is now. */
 static void copy_state(tree *self, vulfsjor_tree_state *copied) {
     take_lock(self->lock);
     *copied = self->run;
     leave_lock(self->lock);
+}
+
+/* Absorbs the data by threads, which work on a copy: an interrupted call changes nothing. 0, or -1 with an
+ * exception. */
+static int absorb_by_threads(tree *self, const Py_buffer *view, unsigned threads) {
+    vulfsjor_tree_state copied;
+    uint64_t count;
+    int status;
+    copy_state(self, &copied);
+    count = vulfsjor_tree_count(&copied);
+    status = update_tree_by_threads(&copied, view, threads);
+    take_lock(self->lock);
+    if (!status && vulfsjor_tree_count(&self->run) != count) {
+        PyErr_SetString(PyExc_RuntimeError, "another thread has updated the hasher meanwhile");
+        status = -1;
+    }
+    if (!status) self->run = copied;
+    leave_lock(self->lock);
+    vulfsjor_tree_wipe(&copied);
+    return status;
+}
+
+static int absorb_data(tree *self, const Py_buffer *view) {
+    const Py_buffer none = {0};
+    int status = absorb(self, &none, view);
+    if (status) PyErr_SetString(PyExc_OverflowError, "2^58 bytes or more");
+    return status;
+}
+
+static PyObject *update(PyObject *object, PyObject *args, PyObject *words) {
+    static char *names[] = {"", "threads", NULL};
+    unsigned threads = 1;
+    PyObject *data;
+    Py_buffer view;
+    int status;
+    if (!PyArg_ParseTupleAndKeywords(args, words, "O|$O&:update", names, &data, to_threads, &threads) ||
+        view_of(data, &view))
+        return NULL;
+    status = threads == 1 ? absorb_data((tree *)object, &view)
+                          : absorb_by_threads((tree *)object, &view, threads);
+    PyBuffer_Release(&view);
+    if (status) return NULL;
+    Py_RETURN_NONE;
+}
+
+/* For tree_root_file of Python. */
+static PyObject *root_of_file(PyObject *object, PyObject *args) {
+    PyObject *path, *progress;
+    unsigned long long length;
+    vulfsjor_tree_state copied;
+    unsigned threads;
+    uint8_t out[64];
+    int file, status;
+    if (!PyArg_ParseTuple(args, "OiKO&O:_root_of_file", &path, &file, &length, to_threads, &threads,
+                          &progress))
+        return NULL;
+    copy_state((tree *)object, &copied);
+    status = root_of_regular_file(&copied, out, file, length, threads, path,
+                                  progress == Py_None ? NULL : progress);
+    vulfsjor_tree_wipe(&copied);
+    if (status) return NULL;
+    return PyBytes_FromStringAndSize((const char *)out, ((tree *)object)->digest_size);
 }
 
 static int is_at_boundary(const vulfsjor_tree_state *run) {
@@ -445,7 +420,7 @@ static PyObject *hash_next(const vulfsjor_tree_state *run, uint64_t skip, const 
     Py_END_ALLOW_THREADS
     if (!status) return digests;
     Py_DECREF(digests);
-    return refused(PyExc_OverflowError, "2^58 bytes or more");
+    return too_far();
 }
 
 static PyObject *next_leaves(PyObject *object, PyObject *args, PyObject *words) {
@@ -453,49 +428,16 @@ static PyObject *next_leaves(PyObject *object, PyObject *args, PyObject *words) 
     PyObject *data, *skip = NULL, *digests;
     vulfsjor_tree_state copied;
     Py_buffer view;
-    uint64_t skipped;
+    uint64_t skipped = 0;
     if (!PyArg_ParseTupleAndKeywords(args, words, "O|O:next_leaves", names, &data, &skip) ||
-        number_of(skip, "skip", "skip must be 0 or more", &skipped) || view_of(data, &view))
+        (skip && place_of(skip, ((tree *)object)->leaf_size, "skip", &skipped)) ||
+        view_of(data, &view))
         return NULL;
     copy_state((tree *)object, &copied);
     digests = hash_next(&copied, skipped, &view);
     vulfsjor_tree_wipe(&copied);
     PyBuffer_Release(&view);
     return digests;
-}
-
-/* Takes over the state of another hasher, if this one still has this count: an update by threads
- * worked on a copy. */
-static PyObject *replace(PyObject *object, PyObject *args) {
-    tree *self = (tree *)object, *other;
-    vulfsjor_tree_state copied;
-    unsigned long long count;
-    int is_same;
-    if (!PyArg_ParseTuple(args, "O!K:_replace", Py_TYPE(object), &other, &count)) return NULL;
-    copy_state(other, &copied);
-    take_lock(self->lock);
-    is_same = vulfsjor_tree_count(&self->run) == count;
-    if (is_same) self->run = copied;
-    leave_lock(self->lock);
-    vulfsjor_tree_wipe(&copied);
-    if (!is_same)
-        return refused(PyExc_RuntimeError, "another thread has updated the hasher meanwhile");
-    Py_RETURN_NONE;
-}
-
-static PyObject *plan(PyObject *object, PyObject *args) {
-    unsigned long long length, threads, least, part, most;
-    vulfsjor_tree_state copied;
-    vulfsjor_limits limits;
-    vulfsjor_plan made;
-    int status;
-    if (!PyArg_ParseTuple(args, "KKKKK:_plan", &length, &threads, &least, &part, &most))
-        return NULL;
-    limits = (vulfsjor_limits){threads, least, part, most};
-    copy_state((tree *)object, &copied);
-    status = vulfsjor_tree_plan_update(&made, &copied, length, &limits);
-    vulfsjor_tree_wipe(&copied);
-    return planned(&made, status);
 }
 
 static PyObject *copy(PyObject *object, PyObject *none) {
@@ -505,35 +447,38 @@ static PyObject *copy(PyObject *object, PyObject *none) {
     return (PyObject *)made;
 }
 
-/* The root, by a copy of the state, which the call wipes. Returns the number of its bytes. */
-static Py_ssize_t digest_of(tree *self, uint8_t out[64]) {
+/* The root, by a copy of the state, which the call wipes. How many bytes it has, or -1 with an
+ * exception. */
+static int digest_of(tree *self, uint8_t out[64]) {
     vulfsjor_tree_state copied;
     copy_state(self, &copied);
-    return vulfsjor_tree_final(&copied, out, 64) ? 0 : self->digest_size;
+    if (!vulfsjor_tree_final(&copied, out, (size_t)self->digest_size)) return self->digest_size;
+    PyErr_SetString(PyExc_SystemError, "the library refuses what was checked");
+    return -1;
 }
 
 static PyObject *digest(PyObject *self, PyObject *none) {
     uint8_t out[64];
-    Py_ssize_t size = digest_of((tree *)self, out);
+    int size = digest_of((tree *)self, out);
     (void)none;
-    return PyBytes_FromStringAndSize((const char *)out, size);
+    return size < 0 ? NULL : PyBytes_FromStringAndSize((const char *)out, size);
 }
 
 static PyObject *hexdigest(PyObject *self, PyObject *none) {
     uint8_t out[64];
-    Py_ssize_t size = digest_of((tree *)self, out);
+    int size = digest_of((tree *)self, out);
     (void)none;
-    return digits_of(out, size);
+    return size < 0 ? NULL : digits_of(out, size);
 }
 
 static PyObject *digest_size(PyObject *self, void *none) {
     (void)none;
-    return PyLong_FromSsize_t(((tree *)self)->digest_size);
+    return PyLong_FromLong(((tree *)self)->digest_size);
 }
 
 static PyObject *leaf_size(PyObject *self, void *none) {
     (void)none;
-    return PyLong_FromSsize_t(((tree *)self)->leaf_size);
+    return PyLong_FromUnsignedLong(((tree *)self)->leaf_size);
 }
 
 static PyObject *count(PyObject *object, void *none) {
@@ -547,11 +492,10 @@ static PyObject *count(PyObject *object, void *none) {
 }
 
 static PyMethodDef methods[] = {
-    {"_plan", plan, METH_VARARGS,
-     "_plan($self, length, threads, least, part, most, /)\n--\n\n"
-     "Return what tree_plan does, for an update with data of this length."},
-    {"_replace", replace, METH_VARARGS,
-     "_replace($self, other, count, /)\n--\n\nTake over the state of a copy."},
+    {"_root_of_file", root_of_file, METH_VARARGS,
+     "_root_of_file($self, path, file, length, threads, progress, /)\n--\n\n"
+     "Return the root of a regular file of this length, by its descriptor, in a tree like this.\n"
+     "The path is for errors. See tree_root_file."},
     {"next_leaves", WITH_WORDS(next_leaves),
      "next_leaves($self, data, /, skip=0)\n--\n\n"
      "Return the digests of whole leaves that follow all data so far, 64 bytes each, as bytes.\n\n"
@@ -569,10 +513,12 @@ static PyMethodDef methods[] = {
     {"hexdigest", hexdigest, METH_NOARGS,
      "hexdigest($self, /)\n--\n\n"
      "Return the root of all data so far, as a string of hexadecimal digits."},
-    {"update", update, METH_O,
-     "update($self, data, /)\n--\n\nAbsorb the data after all earlier data.\n\n"
+    {"update", WITH_WORDS(update),
+     "update($self, data, /, *, threads=1)\n--\n\nAbsorb the data after all earlier data.\n\n"
      "Pieces of many leaves are fastest, since whole leaves that more data follows are hashed\n"
-     "four at a time."},
+     "four at a time. threads is as in tree_root: threads hash the whole leaves of the data that\n"
+     "more data follows. If the call is interrupted, the hasher is unchanged. If another thread\n"
+     "updates it meanwhile, the call raises RuntimeError and does not absorb the data."},
     {NULL, NULL, 0, NULL}};
 
 static PyGetSetDef fields[] = {
@@ -593,10 +539,8 @@ static PyType_Spec spec = {"vulfsjor.TreeHasher", sizeof(tree), 0,
                            Py_TPFLAGS_DEFAULT | Py_TPFLAGS_BASETYPE, slots};
 
 int add_tree_types(PyObject *module) {
-    classes *own = PyModule_GetState(module);
     PyObject *type = PyType_FromModuleAndSpec(module, &spec, NULL);
     int status = type ? PyModule_AddObjectRef(module, "TreeHasher", type) : -1;
     Py_XDECREF(type);
-    if (!status) own->plain = PyType_FromModuleAndSpec(module, &plain_spec, NULL);
-    return own->plain ? 0 : -1;
+    return status;
 }

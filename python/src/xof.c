@@ -21,7 +21,7 @@ typedef struct kind {
 #define KIND(f, NAME, block, longest, salt)                                                        \
     static int f##_init(void *S, uint64_t length, const Py_buffer *k, const Py_buffer *s,          \
                         const Py_buffer *p) {                                                      \
-        return vulfsjor_##f##_init_salt_personal(S, (size_t)length, TEXT(k), TEXT(s), TEXT(p));    \
+        return vulfsjor_##f##_init_salt_personal(S, (size_t)length, KEY(k), TEXT(s), TEXT(p));     \
     }                                                                                              \
     static int f##_update(void *S, const void *in, size_t length) {                                \
         return vulfsjor_##f##_update(S, in, length);                                               \
@@ -83,12 +83,7 @@ static int take(output *self, PyObject *data) {
 /* A length from 1 to `most`, or `otherwise` for None. 0, or -1 with an exception. */
 static int length_of(PyObject *given, uint64_t otherwise, uint64_t most, uint64_t *length) {
     *length = otherwise;
-    if (!given || given == Py_None) return 0;
-    if (number_of(given, "length", "length must be positive", length)) return -1;
-    if (*length >= 1 && *length <= most) return 0;
-    PyErr_Format(PyExc_ValueError, "length must be between 1 and %llu bytes",
-                 (unsigned long long)most);
-    return -1;
+    return given && given != Py_None ? range_of(given, 1, most, "length", length) : 0;
 }
 
 static PyObject *make(PyTypeObject *type, PyObject *args, PyObject *words, const kind *k) {
@@ -144,6 +139,21 @@ static PyObject *copy(PyObject *object, PyObject *none) {
     return (PyObject *)made;
 }
 
+/* The next bytes of this output, or NULL with an exception. The GIL is released meanwhile. */
+static PyObject *squeezed(const kind *k, state *run, size_t length) {
+    PyObject *out = PyBytes_FromStringAndSize(NULL, (Py_ssize_t)length);
+    char *bytes;
+    int status;
+    if (!out) return NULL;
+    bytes = PyBytes_AsString(out);
+    Py_BEGIN_ALLOW_THREADS
+    status = k->squeeze(run, bytes, length);
+    Py_END_ALLOW_THREADS
+    if (!status) return out;
+    Py_DECREF(out);
+    return refused(PyExc_SystemError, "the library refuses what was checked");
+}
+
 /* The first bytes of the output, by a copy of the state. */
 static PyObject *digest(PyObject *object, PyObject *given) {
     output *self = (output *)object;
@@ -151,17 +161,10 @@ static PyObject *digest(PyObject *object, PyObject *given) {
     PyObject *out = NULL;
     uint64_t length, left;
     state copied;
-    if (number_of(given, "length", "value must be positive", &length)) return NULL;
     copy_state(self, &copied);
     left = k->left(&copied);
-    if (length > left || length > PY_SSIZE_T_MAX)
-        PyErr_Format(PyExc_ValueError, "the output has only %llu bytes", (unsigned long long)left);
-    else if ((out = PyBytes_FromStringAndSize(NULL, (Py_ssize_t)length))) {
-        char *bytes = PyBytes_AsString(out);
-        Py_BEGIN_ALLOW_THREADS
-        (void)!k->squeeze(&copied, bytes, (size_t)length);
-        Py_END_ALLOW_THREADS
-    }
+    if (left > PY_SSIZE_T_MAX) left = PY_SSIZE_T_MAX;
+    if (!range_of(given, 0, left, "length", &length)) out = squeezed(k, &copied, (size_t)length);
     k->wipe(&copied);
     return out;
 }
@@ -239,12 +242,8 @@ static PyObject *derive_key(PyObject *module, PyObject *args, PyObject *words) {
     (void)module;
     if (!PyArg_ParseTupleAndKeywords(args, words, "y*y*O:derive_key", names, &key, &context, &given))
         return NULL;
-    if (key.len < 1 || key.len > blake2xb.key)
-        PyErr_Format(PyExc_ValueError, "key must have between 1 and %d bytes", blake2xb.key);
-    else if (!length_of(given, 0, blake2xb.unknown - 1, &length)) {
-        if (!length) PyErr_SetString(PyExc_TypeError, "length must be an integer");
-        else out = derived((size_t)length, &key, &context);
-    }
+    if (!check_key(&key, blake2xb.key) && !range_of(given, 1, blake2xb.unknown - 1, "length", &length))
+        out = derived((size_t)length, &key, &context);
     release(&key);
     release(&context);
     return out;

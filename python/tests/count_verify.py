@@ -10,4 +10,8 @@ mac = library.blake2b(b"message", key=b"key")
 for place in [0, 31, 63] * 10:
     wrong = bytearray(mac.digest())
     wrong[place] ^= 1
-    assert not mac.verify(wrong)
+    try:
+        mac.verify(wrong)
+    except library.InvalidTag:
+        continue
+    raise AssertionError

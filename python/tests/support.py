@@ -21,7 +21,9 @@ import zipfile
 HERE = os.path.dirname(os.path.abspath(__file__))
 TOP = os.path.dirname(os.path.dirname(HERE))
 WITHOUT_GIL = bool(sysconfig.get_config_var("Py_GIL_DISABLED"))
-BACKEND = os.path.join(TOP, "python", "build_package.py")
+BACKEND = os.path.join(os.path.dirname(HERE), "build_package.py")
+# Whether this is a clone of the repository, or a source distribution, which has not all that the tests need.
+IS_CLONE = os.path.isdir(os.path.join(TOP, "c", "tests"))
 HUGE = os.environ.get("VULFSJOR_TEST_HUGE") == "1"
 # A test that takes seconds of processor time, and whose subject shorter ones have too.
 long = unittest.skipUnless(HUGE, "VULFSJOR_TEST_HUGE is not 1")
@@ -36,6 +38,12 @@ def absent(*modules, tools=()):
                 continue
         found.append(name)
     return " and ".join(f"no {name}" for name in found)
+
+
+def needs_clone():
+    """Skips the file of tests that calls this in a source distribution."""
+    if not IS_CLONE:
+        raise unittest.SkipTest("this is not a clone of the repository")
 
 
 def cannot_build():

@@ -4,6 +4,7 @@ VULFSJOR_TEST_CALLS is the number of random calls.
 """
 import array
 import ctypes
+import functools
 import itertools
 import mmap
 import os
@@ -212,14 +213,17 @@ def share_among_threads(make):
     """Many threads update one hasher with long and short pieces of one message, and copy it
     meanwhile. Each copy has hashed a prefix of the message, since all pieces are whole periods."""
     piece, hasher, prefixes = b"12345678" * 1000, make(), make()
-    pieces, digests, beginnings = [piece[:1000], piece], [], {make().digest()}
+    pieces, digests, refused, beginnings = [piece[:1000], piece], [], [], {make().digest()}
 
     def work():
         for turn in range(200):
             hasher.update(pieces[turn % 2])
             digests.append(hasher.copy().digest())
             digests.append(hasher.digest())
-            assert not hasher.verify(b"")
+            try:
+                hasher.verify(b"")
+            except vulfsjor.InvalidTag:
+                refused.append(turn)
 
     threads = [threading.Thread(target=work) for _ in range(4)]
     for thread in threads:
@@ -230,7 +234,7 @@ def share_among_threads(make):
         prefixes.update(piece[:1000])
         beginnings.add(prefixes.digest())
     assert hasher.digest() == prefixes.digest() == make(piece * 450).digest()
-    assert len(digests) == 1600 and set(digests) <= beginnings
+    assert len(digests) == 1600 and set(digests) <= beginnings and len(refused) == 800
 
 
 class Compare(unittest.TestCase):
@@ -246,7 +250,7 @@ class Compare(unittest.TestCase):
 
     def test_threads_share_an_object(self):
         for make in (vulfsjor.blake2b, vulfsjor.blake2s, vulfsjor.blake2bp, vulfsjor.blake2sp):
-            share_among_threads(make)
+            share_among_threads(functools.partial(make, key=b"key"))
 
 
 if __name__ == "__main__":

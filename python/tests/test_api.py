@@ -1,29 +1,24 @@
-"""Tests of what test_against_hashlib.py can't compare: verify, several messages, the tree root,
-what is left of a key, threads, views that are let go, and the names and signatures of the
-package."""
+"""Tests of what test_against_hashlib.py can't compare: several messages, the tree root, what is left
+of a key, threads, and views that are let go."""
 import array
-import ast
 import collections
+import contextlib
 import ctypes
-import doctest
 import gc
 import hashlib
 import importlib.util
-import inspect
+import io
 import mmap
-import operator
 import os
 import random
-import re
 import sys
-import tempfile
 import threading
 import time
 import tracemalloc
 import unittest
 import weakref
 
-from support import HERE, WITHOUT_GIL
+from support import WITHOUT_GIL
 from test_parallel import parallel
 import oracle
 import vectors
@@ -36,6 +31,14 @@ FAMILIES = (*PLAIN, ("blake2bp", vulfsjor.blake2bp, parallel("b"), None, 64),
             ("blake2sp", vulfsjor.blake2sp, parallel("s"), None, 32))
 OUTPUTS = (("blake2xb", vulfsjor.blake2xb, 64), ("blake2xs", vulfsjor.blake2xs, 32))
 LONG = bytes(1 << 26)
+
+
+def accepts(mac, tag):
+    """Whether `verify` accepts the tag."""
+    with contextlib.suppress(vulfsjor.InvalidTag):
+        mac.verify(tag)
+        return True
+    return False
 
 
 class KnownAnswers(unittest.TestCase):
@@ -58,38 +61,6 @@ class KnownAnswers(unittest.TestCase):
             self.assertEqual(found.hex(), case["digest"], case)
             met[case["kind"]] += 1
         self.assertEqual(met, {"hash": 1744, "many": 60, "root": 207, "parallel": 234})
-
-
-class Verify(unittest.TestCase):
-    """The comparison of tags."""
-
-    def test_every_size_and_every_bit(self):
-        for _, make, theirs, _, longest in FAMILIES:
-            for size in range(1, longest + 1):
-                mac = make(b"message", key=b"key", digest_size=size)
-                tag = theirs(b"message", key=b"key", digest_size=size).digest()
-                self.assertIs(mac.verify(tag), True)
-                for bit in range(8 * size):
-                    wrong = (int.from_bytes(tag, "big") ^ 1 << bit).to_bytes(size, "big")
-                    self.assertIs(mac.verify(wrong), False)
-                for other in (tag[:-1], tag + b"\0", b"", tag + tag, tag[1:]):
-                    self.assertIs(mac.verify(other), False)
-
-    def test_it_does_not_end_the_run(self):
-        for _, make, theirs, _, _ in FAMILIES:
-            mac = make(b"a", key=b"key")
-            self.assertTrue(mac.verify(theirs(b"a", key=b"key").digest()))
-            self.assertFalse(mac.verify(b"wrong"))
-            mac.update(b"b")
-            self.assertTrue(mac.verify(bytearray(theirs(b"ab", key=b"key").digest())))
-            self.assertTrue(mac.verify(memoryview(mac.digest())))
-
-    def test_what_is_no_bytes_is_refused(self):
-        for _, make, _, _, _ in FAMILIES:
-            for tag in ("text", None, 1, [1], make().hexdigest()):
-                self.assertRaises(TypeError, make().verify, tag)
-            self.assertRaises(TypeError, make().verify)
-            self.assertRaises(BufferError, make().verify, memoryview(bytes(64))[::2])
 
 
 class Many(unittest.TestCase):
@@ -128,14 +99,30 @@ class Many(unittest.TestCase):
                           {"person": bytes(longest // 4 + 1)}):
                 for messages in ([], [b"x"]):
                     self.assertRaises(ValueError, many, messages, **words)
+            for size in (2**31, 2**32 + 1, 2**63, 2**70, -(2**70)):
+                self.assertRaises(ValueError, many, [b"x"], digest_size=size)
             for messages in (None, 1, ["text"], [b"a", None], [1], array.array("d", [1])):
                 self.assertRaises(TypeError, many, messages)
+            for messages in (set(), {b"a", b"b"}, frozenset([b"a"])):
+                with self.assertRaisesRegex(TypeError, "^messages must be in an order"):
+                    many(messages)
+            with self.assertRaisesRegex(TypeError, "^messages must not be a dict"):
+                many({b"name": b"message"})
+            self.assertEqual(many({b"name": b"message"}.values()), many([b"message"]))
             for words in ({"key": "text"}, {"digest_size": "1"}, {"other": 1}, {"messages": []}):
                 self.assertRaises(TypeError, many, [b"x"], **words)
             self.assertRaises(TypeError, many)
             self.assertRaises(TypeError, many, [b"x"], 32)
             self.assertRaises(BufferError, many, [b"x", memoryview(b"abcd")[::2]])
 
+    def test_many_messages(self):
+        """More than any number of lanes, of bits and of bytes would hold."""
+        messages = [bytes([i & 255]) * (i % 3 + 1) for i in range(70_000)]
+        for _, _, theirs, many, _ in PLAIN:
+            found = many(messages)
+            self.assertEqual(len(found), len(messages))
+            for place in (*range(0, 1100), *range(65_500, 65_600), 69_999):
+                self.assertEqual(found[place], theirs(messages[place]).digest())
 
     def test_one_message_is_refused(self):
         """A buffer of single bytes, or a string. One of longer items may be messages."""
@@ -178,10 +165,14 @@ class TreeRoot(unittest.TestCase):
         root = vulfsjor.tree_root
         for words in ({"leaf_size": 0}, {"leaf_size": -1}, {"leaf_size": 1, "digest_size": 0},
                       {"leaf_size": 1, "digest_size": 65}, {"leaf_size": 1, "salt": bytes(17)},
-                      {"leaf_size": 1, "person": bytes(17)}, {"leaf_size": -(2**70)}):
+                      {"leaf_size": 1, "person": bytes(17)}):
             self.assertRaises(ValueError, root, b"x", **words)
-        for leaf_size in (2**32, 2**32 + 1, 2**63 + 1, 2**64, 2**64 + 1, 2**70 + 1):
-            self.assertRaises(OverflowError, root, b"x", leaf_size)
+        far = (2**32, 2**32 + 1, 2**63 + 1, 2**64, 2**64 + 1, 2**70 + 1, 0, -1, -(2**63), -(2**70))
+        for size in (*far, -(2**32) + 5):
+            with self.assertRaisesRegex(ValueError, "^leaf_size must be between 1 and 4294967295$"):
+                root(b"x", size)
+            with self.assertRaisesRegex(ValueError, "^digest_size must be between 1 and 64 bytes$"):
+                root(b"x", 1, digest_size=size)
         for words in ({}, {"leaf_size": None}, {"leaf_size": 1.0}, {"leaf_size": 1, "salt": "text"},
                       {"leaf_size": 1, "key": b"k"}):
             self.assertRaises(TypeError, root, b"x", **words)
@@ -258,7 +249,8 @@ class Secrets(unittest.TestCase):
                 lambda: mac.hexdigest(*size),
                 lambda: mac.copy().digest(*size),
                 *([lambda: mac.digest(99)] if size else [
-                    lambda: mac.verify(b"x"), lambda: mac.verify(mac.digest())]),
+                    lambda: self.assertRaises(vulfsjor.InvalidTag, mac.verify, b"x"),
+                    lambda: mac.verify(mac.digest())]),
             ):
                 deep(call)
                 new = places_of(key) - before
@@ -320,7 +312,11 @@ class Views(unittest.TestCase):
                     lambda **words: make("text", **words), ("key", "salt", "person"), **words
                 )
             self.grows(lambda data: make().update(data), ("data",))
-            self.grows(lambda data: make().verify(data), ("data",))
+            for tag in (make(key=b"key").digest(), b"wrong"):
+                view = bytearray(tag)
+                with contextlib.suppress(vulfsjor.InvalidTag):
+                    make(key=b"key").verify(view)
+                view.append(1)
             for words in ({}, {"digest_size": 0}) if many else ():
                 self.grows(lambda **words: many([b"x", words.pop("data", b"x")], **words),
                            ("data", "key", "salt", "person"), **words)
@@ -349,12 +345,21 @@ class Views(unittest.TestCase):
 
     def test_nothing_is_kept(self):
         def work():
-            for _, make, _, many, _ in FAMILIES:
+            for name, make, _, many, _ in FAMILIES:
+                make_mac = getattr(vulfsjor, f"{name}_mac")
                 for _ in range(400):
                     hasher = make(b"x", key=b"key")
                     hasher.copy().update(bytes(3000))
-                    hasher.digest(), hasher.hexdigest(), hasher.verify(b"x")
+                    hasher.digest(), hasher.hexdigest(), hasher.verify(hasher.digest())
+                    make_mac(b"key", bytes(3000)).verify(make_mac(b"key", bytes(3000)).digest())
+                    vulfsjor.file_digest(io.BytesIO(b"x"), make_mac, key=b"key").copy()
                     for call in (
+                        lambda: hasher.verify(b"x"),
+                        lambda: hasher.verify("x"),
+                        lambda: make().verify(b"x"),
+                        lambda: make_mac(b""),
+                        lambda: make_mac(b"k", "x"),
+                        lambda: make_mac(b"k", digest_size=0),
                         lambda: make("x"),
                         lambda: make(digest_size=0),
                         lambda: make(depth=0),
@@ -367,15 +372,65 @@ class Views(unittest.TestCase):
                         many([b"x"] * 5)
                         self.assertRaises(TypeError, many, [b"x", "x"])
 
+        self.keeps_nothing(work)
+
+    def test_nothing_of_outputs_is_kept(self):
+        def work():
+            for _, make, _ in OUTPUTS:
+                for _ in range(400):
+                    found = make(b"x", key=b"key", length=3000)
+                    found.copy().update(bytes(3000))
+                    found.digest(3000), found.hexdigest(3000)
+                    vulfsjor.derive_key(b"key", b"", 3000)
+                    for call in (
+                        lambda: make("x"), lambda: make(length=0), lambda: found.digest(3001),
+                        lambda: found.hexdigest(-1), lambda: found.digest("x"),
+                        lambda: vulfsjor.derive_key(b"", b"", 1),
+                    ):
+                        self.assertRaises((TypeError, ValueError), call)
+
+        self.keeps_nothing(work)
+
+    def test_nothing_of_trees_is_kept(self):
+        data = bytes(1 << 21)
+
+        def work():
+            for _ in range(400):
+                hasher = vulfsjor.TreeHasher(10, digest_size=5, salt=b"salt")
+                hasher.update(bytes(5000))
+                hasher.copy().update_leaves(hasher.next_leaves(bytes(20)), b"x")
+                hasher.digest(), hasher.hexdigest(), hasher.count
+                front = vulfsjor.tree_leaves(bytes(20), 10, first=0, ends=False)
+                vulfsjor.tree_root_of_leaves(front, 10), vulfsjor.tree_leaf_count(5, 10)
+                for call in (
+                    lambda: vulfsjor.TreeHasher(0), lambda: hasher.update("x"),
+                    lambda: hasher.next_leaves(b"x"), lambda: hasher.update_leaves(b"x", b""),
+                    lambda: vulfsjor.tree_leaves(b"", 10, first=1, ends=True),
+                    lambda: vulfsjor.tree_root_of_leaves(b"", 10),
+                ):
+                    self.assertRaises((TypeError, ValueError), call)
+            for _ in range(100):
+                vulfsjor.tree_root(data, 4096, threads=2)
+                vulfsjor.TreeHasher(4096).update(data, threads=2)
+
+        self.keeps_nothing(work)
+
+    def keeps_nothing(self, work):
+        """Work that was done before needs no more memory, nor one reference more to a class."""
+        kinds = [thing for module in (vulfsjor._library, vulfsjor) for thing in vars(module).values()
+                 if isinstance(thing, type)]
         work()
-        references = [sys.getrefcount(make) for _, make, _, _, _ in FAMILIES]
+        references = [sys.getrefcount(kind) for kind in kinds]
         tracemalloc.start()
+        work()  # what the tracing itself and the first threads keep
+        gc.collect()
         before = tracemalloc.get_traced_memory()[0]
         work()
+        gc.collect()
         grown = tracemalloc.get_traced_memory()[0] - before
         tracemalloc.stop()
         self.assertLess(grown, 8000)
-        self.assertEqual([sys.getrefcount(make) for _, make, _, _, _ in FAMILIES], references)
+        self.assertEqual([sys.getrefcount(kind) for kind in kinds], references)
 
 
 class Threads(unittest.TestCase):
@@ -416,6 +471,9 @@ class Threads(unittest.TestCase):
                 self.assert_lets_others_run(call)
         for _, make, _ in OUTPUTS:
             self.assert_lets_others_run(lambda: make().update(LONG))
+            self.assert_lets_others_run(lambda: make().digest(1 << 24))
+            self.assert_lets_others_run(lambda: make().hexdigest(1 << 24))
+        self.assert_lets_others_run(lambda: vulfsjor.derive_key(b"key", b"", 1 << 24))
         for call in (
             lambda: vulfsjor.derive_key(b"key", LONG, 9),
             lambda: vulfsjor.TreeHasher(4096).update_leaves(LONG, b"x"),
@@ -435,9 +493,11 @@ class Threads(unittest.TestCase):
             for call in (
                 lambda hasher: hasher.copy().digest() == wanted,
                 lambda hasher: hasher.digest() == wanted,
-                lambda hasher: hasher.verify(wanted),
             ):
                 self.assertTrue(any(self.is_met(call, make()) for _ in range(100)))
+            tag = make(LONG, key=b"key").digest()  # test_mac.py knows that it is right
+            self.assertTrue(any(self.is_met(lambda mac: accepts(mac, tag), make(key=b"key"))
+                                for _ in range(100)))
         for _, make, _ in OUTPUTS:
             wanted = make(LONG).digest(9)
             for call in (lambda output: output.copy().digest(9) == wanted,
@@ -509,9 +569,23 @@ class Shared(unittest.TestCase):
             length = self.shared(hasher, call)
             self.assertEqual(hasher.digest(), theirs(bytes(length)).digest())
 
+    def test_outputs(self):
+        """The bytes are those of an object that absorbs them by itself; test_xof.py has these."""
+        for _, make, _ in OUTPUTS:
+            hasher = make()
+
+            def call():
+                self.assertEqual(len(hasher.digest(9)), 9)
+                hasher.copy().update(b"x")
+
+            length = self.shared(hasher, call)
+            self.assertEqual(hasher.digest(99), make(bytes(length)).digest(99))
+
     def test_few_bytes(self):
         """No thread has ever updated with many."""
-        for _, make, wanted, _, _ in FAMILIES:
+        for make, size, wanted in (
+                *((make, (), wanted) for _, make, wanted, _, _ in FAMILIES),
+                *((make, (99,), make) for _, make, _ in OUTPUTS)):
             hasher, barrier = make(), threading.Barrier(4)
 
             def work():
@@ -524,7 +598,7 @@ class Shared(unittest.TestCase):
                 thread.start()
             for thread in threads:
                 thread.join()
-            self.assertEqual(hasher.digest(), wanted(bytes(4 * 3000 * 99)).digest())
+            self.assertEqual(hasher.digest(*size), wanted(bytes(4 * 3000 * 99)).digest(*size))
 
     def test_trees(self):
         """A count meanwhile never becomes less."""
@@ -547,24 +621,6 @@ class Shared(unittest.TestCase):
             counts.add(hasher.count)
         self.assertEqual({count % len(piece) for count in counts}, {0})
 
-    def test_replacing_waits_for_an_update(self):
-        """Whenever a state is refused since another thread has updated the hasher, that update is
-        over: the number of its closed leaves is the whole one."""
-        refused = 0
-        for _ in range(10):
-            hasher, other = vulfsjor.TreeHasher(64), vulfsjor.TreeHasher(64)
-            closed = ctypes.c_uint64.from_address(id(hasher) + object.__basicsize__ + 24 + 2 * 424)
-            thread = threading.Thread(target=hasher.update, args=(bytes(1 << 22),))
-            thread.start()
-            time.sleep(0.001)
-            try:
-                hasher._replace(other, 0)
-            except RuntimeError:
-                refused += 1
-                self.assertEqual(closed.value, (1 << 16) - 1)
-            thread.join()
-        self.assertGreater(refused, 0)
-
 
 class Modules(unittest.TestCase):
     """What a module keeps."""
@@ -579,15 +635,13 @@ class Modules(unittest.TestCase):
         spec = importlib.util.spec_from_file_location("vulfsjor._library", path)
         made = importlib.util.module_from_spec(spec)
         spec.loader.exec_module(made)
-        hash_type = made.blake2b
-        made.blake2b = made.TreeHasher = int
-        self.assertIs(type(made.tree_top(5)), hash_type)
-        self.assertIs(type(made.tree_leaf(5, 0, True)), hash_type)
+        hash_type, invalid_tag, mac = made.blake2b, made.InvalidTag, made.blake2b_mac(b"key")
+        made.blake2b = made.TreeHasher = made.InvalidTag = int
+        self.assertRaises(invalid_tag, mac.verify, b"")
         self.assertIsNot(hash_type, vulfsjor.blake2b)
-        plain = made.plain_bytes(b"abc")
-        self.assertEqual(bytes(memoryview(plain)), b"abc")
-        gone = [weakref.ref(each) for each in (made, hash_type, type(plain))]
-        del made, hash_type, plain, spec
+        self.assertIsNot(invalid_tag, vulfsjor.InvalidTag)
+        gone = [weakref.ref(each) for each in (made, hash_type, invalid_tag)]
+        del made, hash_type, invalid_tag, mac, spec
         gc.collect()
         gc.collect()  # the class of the classes, which is free once they are
         self.assertEqual(([each() for each in gone], classes()), ([None] * 3, before))
@@ -606,158 +660,6 @@ class Modules(unittest.TestCase):
         slots = (Slot * 2).from_address(first)
         self.assertEqual([(slot.number, slot.value) for slot in slots], [(4, 1), (3, 2)])
 
-
-class Words(unittest.TestCase):
-    """The names, signatures and types of the package."""
-
-    def found(self, path, pattern):
-        """What the groups of a pattern match in a file of the package."""
-        with open(os.path.join(HERE, "..", path), encoding="utf-8") as file:
-            found = re.search(pattern, " ".join(file.read().split()))
-        self.assertTrue(found, pattern)
-        return found[1] if found.re.groups == 1 else found.groups()
-
-    def test_versions_agree(self):
-        self.assertEqual(self.found("pyproject.toml", r' version = "(.*?)"'), vulfsjor.__version__)
-
-    def test_numbers_of_the_page(self):
-        """The README's numbers that no example prints. test_build.py has those of glibc and of
-        processors."""
-        self.assertEqual(self.found("README.md", r"CPython (3\.\d+) or later"),
-                         self.found("pyproject.toml", r'requires-python = ">=([\d.]+)"'))
-        self.assertEqual(self.found("README.md", r"requires glibc (2\.\d+) or later"), "2.14")
-        without = r"at least ([\d,]+) bytes are hashed without the GIL"
-        self.assertEqual(self.found("README.md", without),
-                         f"{int(self.found('src/library.h', 'LET_OTHERS_RUN_AT = ([0-9]+) ')):,}")
-        self.assertEqual(self.found("README.md", r"at most (\d+) MiB in memory for each thread"),
-                         str(vulfsjor._threads._MOST_BUFFER_BYTES >> 20))
-        self.assertIn("buffer of up to 16 MiB", " ".join(vulfsjor.tree_root_file.__doc__.split()))
-        self.assertEqual(vulfsjor._threads._MOST_BUFFER_BYTES, 16 << 20)
-        self.assertIn("less than 1 MiB for each", " ".join(vulfsjor.tree_root.__doc__.split()))
-        self.assertEqual(vulfsjor._threads._LEAST_BYTES, 1 << 20)
-        for name, make, _, many, longest in FAMILIES:
-            self.assertEqual((make.MAX_DIGEST_SIZE, make.MAX_KEY_SIZE), (longest, longest))
-            self.assertIn(f"digest_size is 1 to {longest}, a key has up to {longest} bytes, salt and "
-                          f"person up to {make.SALT_SIZE} each.", make.__doc__)
-            if many:
-                lanes = {64: "four", 32: "eight"}[longest]
-                self.assertIn(f"hashed {lanes} in parallel", many.__doc__)
-            else:
-                self.assertIn(f"the BLAKE2 document gives BLAKE{name[5:]} neither.", make.__doc__)
-
-    def test_signatures_are_those_of_hashlib(self):
-        positional = inspect.Parameter.POSITIONAL_ONLY
-        for name, make, theirs, _, _ in PLAIN:
-            # From 3.13.4 on, hashlib accepts the data by two names too.
-            wanted = [each.replace(kind=positional) if each.name == "data" else each
-                      for each in inspect.signature(theirs).parameters.values()
-                      if each.name != "string"]
-            self.assertEqual(list(inspect.signature(make).parameters.values()), wanted)
-            self.assertEqual(
-                (make.__module__, make.__name__, make().name), ("vulfsjor", name, name)
-            )
-            for method in ("copy", "digest", "hexdigest", "update"):
-                signature = inspect.signature(getattr(make, method))
-                self.assertEqual(signature, inspect.signature(getattr(theirs, method)))
-
-    def test_salt_and_person_are_keywords(self):
-        met = 0
-        for name in [*vulfsjor.__all__, "_threads._Tree"]:
-            thing = operator.attrgetter(name)(vulfsjor)
-            parameters = inspect.signature(thing).parameters
-            self.assertFalse({"persona", "personal", "personalization"} & set(parameters))
-            self.assertEqual("person" in parameters, "salt" in parameters)
-            for parameter in ("salt", "person", "key", "digest_size"):
-                if parameter in parameters and name != "derive_key":
-                    self.assertIs(parameters[parameter].kind, inspect.Parameter.KEYWORD_ONLY, name)
-                    met += 1
-        self.assertEqual(met, 47)
-
-    def test_all_is_documented(self):
-        self.assertTrue(vulfsjor.__doc__)
-        for name in vulfsjor.__all__:
-            thing = getattr(vulfsjor, name)
-            self.assertTrue(thing.__doc__)
-            for member in (
-                name for name in dir(thing) if inspect.isclass(thing) and name.islower()
-            ):
-                if not member.startswith("_"):
-                    self.assertTrue(getattr(thing, member).__doc__, member)
-
-    def stub(self):
-        """The declarations in the stubs, as nodes of the syntax tree."""
-        path = os.path.join(os.path.dirname(vulfsjor.__file__), "_library.pyi")
-        with open(path) as file:
-            return ast.parse(file.read()).body
-
-    def test_the_stubs_declare_what_is_there(self):
-        declared = set()
-        for node in self.stub():
-            if isinstance(node, ast.ClassDef):
-                declared.add(node.name)
-                members = {
-                    part.target.id if isinstance(part, ast.AnnAssign) else part.name
-                    for part in node.body
-                }
-                there = {
-                    name for name in dir(getattr(vulfsjor, node.name)) if not name.startswith("_")
-                }
-                self.assertEqual(members - {"_plan", "_replace"}, there | {"__new__"})
-                for part in node.body:
-                    if isinstance(part, ast.FunctionDef) and not part.decorator_list:
-                        self.same_signature(part, getattr(vulfsjor._library, node.name), part.name)
-            elif isinstance(node, ast.FunctionDef):
-                declared.add(node.name)
-                self.same_signature(node, vulfsjor._library, node.name)
-            elif isinstance(node, ast.AnnAssign):
-                declared.add(node.target.id)
-        there = {
-            name
-            for name in dir(vulfsjor._library)
-            if not name.startswith("_") or name == "__version__"
-        }
-        self.assertEqual(declared, there)
-        self.assertEqual(set(vulfsjor.__all__) - declared, {"tree_root_file"})
-        self.assertEqual(set(vulfsjor.__all__), {
-            name for name, thing in vars(vulfsjor).items() if callable(thing) and name[0] != "_"})
-
-    def same_signature(self, node, owner, name):
-        """Compares the names, kinds and defaults of a function's arguments with the stub."""
-        theirs = inspect.signature(
-            owner if name == "__new__" else getattr(owner, name)
-        ).parameters.values()
-        mine, args = [], node.args
-        first = [arg.arg for arg in args.posonlyargs + args.args]
-        plain = args.posonlyargs + args.args
-        defaults = [None] * (len(plain) - len(args.defaults)) + args.defaults
-        for arg, default in zip(plain, defaults):
-            mine.append((arg.arg, None if default is None else ast.literal_eval(default)))
-        for arg, default in zip(args.kwonlyargs, args.kw_defaults):
-            mine.append((arg.arg, None if default is None else ast.literal_eval(default)))
-        names = [parameter.name for parameter in theirs]
-        if first[0] == "cls" or first[0] == "self" and "self" not in names:
-            mine = mine[1:]
-        empty = inspect.Parameter.empty
-        self.assertEqual(
-            mine,
-            [
-                (parameter.name, None if parameter.default is empty else parameter.default)
-                for parameter in theirs
-            ],
-            name,
-        )
-
-    def test_examples(self):
-        failed, tried = doctest.testmod(vulfsjor, verbose=False)
-        self.assertEqual((failed, tried > 4), (0, True))
-        here = os.getcwd()
-        with tempfile.TemporaryDirectory() as folder:
-            os.chdir(folder)
-            failed, tried = doctest.testfile(
-                os.path.join(HERE, "..", "README.md"), module_relative=False, verbose=False
-            )
-            os.chdir(here)
-        self.assertEqual((failed, tried > 20), (0, True))
 
 
 if __name__ == "__main__":

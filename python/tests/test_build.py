@@ -23,21 +23,25 @@ import zipfile
 import support
 from support import FOLDER, HERE, HUGE, TOP, absent, cannot_compile, long, run
 
+support.needs_clone()
 MODULE = os.path.join(FOLDER, "vulfsjor", "_library.abi3.so")
-PACKAGE = {"__init__.py", "_library.abi3.so", "_library.pyi", "_threads.py", "py.typed"}
+PACKAGE = {"__init__.py", "_files.py", "_library.abi3.so", "_library.pyi", "py.typed"}
 X86 = platform.machine() == "x86_64"
 NO_ARM = cannot_compile("aarch64-linux-gnu-gcc")
 with open(os.path.join(TOP, "CHANGELOG.md"), encoding="utf-8") as PAGE:
     VERSION = re.search(r"^## ([0-9.]+)", PAGE.read(), re.MULTILINE)[1]
 ABOUT = f"vulfsjor-{VERSION}.dist-info"
 # The files that the package shares with the repository, by their names in a source distribution.
-SHARED = {"src/vulfsjor.h": "c/include/vulfsjor.h", "src/choose.c": "c/choose.c",
-          "src/thunks.h": "c/thunks.h", "src/portable.c": "dist/c/vulfsjor.c",
+SHARED = {"src/vulfsjor.h": "c/include/vulfsjor.h", "src/choose.c": "c/choose.c", "src/system.h": "c/system.h",
+          "src/threads.c": "c/threads.c", "src/vulfsjor_threads.h": "c/include/vulfsjor_threads.h",
+          "src/thunks.h": "c/thunks.h", "src/portable.c": "dist/c/vulfsjor.c", "src/MANIFEST": "dist/MANIFEST",
           **{f"src/{name}": f"dist/{name}" for name in (
               "aarch64/vulfsjor.s", "x86_64/vulfsjor-v2.s",
               "x86_64/vulfsjor-v3.s", "x86_64/vulfsjor-v4.s", "aarch64/coff.inc",
               "aarch64/elf.inc", "aarch64/macho.inc", "x86_64/coff.inc", "x86_64/elf.inc",
               "x86_64/macho.inc")}}
+FOR_TESTS = {"tests/read_sources.py": "tools/read_sources.py", **{f"tests/{name}": f"tests/{name}" for name in (
+    "b2_model.py", "common.py", "oracle.py", "vectors.json", "vectors.py")}}
 # A compiler that writes to the file that it should make what a command prints.
 FAKE = """#!/bin/sh
 for word; do [ "$last" = -o ] && made=$word; last=$word; done
@@ -90,10 +94,10 @@ class Build(Test):
         if support.cannot_build():
             self.skipTest(support.cannot_build())
 
-    def copied(self, name):
-        """The folder of the package in a new copy of the sources."""
+    def copied(self, name, *more):
+        """The folder of the package in a new copy of the sources, and of more folders."""
         folder = os.path.join(self.folder, name)
-        for part in ("c", "dist", "python"):
+        for part in ("c", "dist", "python", *more):
             shutil.copytree(os.path.join(TOP, part), os.path.join(folder, part),
                             ignore=shutil.ignore_patterns("__pycache__", "*.so"))
         return os.path.join(folder, "python")
@@ -144,7 +148,7 @@ class Build(Test):
                 names = [name for name in wheel.namelist() if name.startswith("vulfsjor/_library")]
                 words = wheel.read(names[0]).decode().splitlines()
             self.assertEqual([word for word in words if word.endswith((".c", ".s"))],
-                             ["src/library.c", "src/trees.c", "src/xof.c", "src/portable.c"])
+                             ["src/library.c", "src/by_threads.c", "src/trees.c", "src/xof.c", "src/portable.c"])
         with zipfile.ZipFile(self.made("wheel", os.path.join(TOP, "python"), VULFSJOR_PORTABLE="1",
                                        CFLAGS="-O0")) as wheel:
             wheel.extractall(os.path.join(self.folder, "portable"))
@@ -205,7 +209,7 @@ class Build(Test):
 
     def test_the_words_of_a_platform(self):
         """Those that the compiler gets, and the name of the wheel."""
-        fake, linux = f"'{self.fake()}' -x", "-shared -Wl,--gc-sections -Wl,-z,relro,-z,now"
+        fake, linux = f"'{self.fake()}' -x", "-shared -pthread -Wl,--gc-sections -Wl,-z,relro,-z,now"
         mac = "-bundle -undefined dynamic_lookup -Wl,-dead_strip -arch {} -mmacosx-version-min={}"
         windows = f"-shared -L{sys.base_prefix}/libs -L{sys.base_prefix}/lib"
         for name, options in (
@@ -223,7 +227,7 @@ class Build(Test):
             self.assertEqual(os.path.basename(wheel),
                              f"vulfsjor-{VERSION}-cp311-abi3-{platform_name}.whl")
             self.assertEqual([word for word in words if word.endswith((".c", ".s", ".S"))],
-                             ["src/library.c", "src/trees.c", "src/xof.c", "src/choose.c",
+                             ["src/library.c", "src/by_threads.c", "src/trees.c", "src/xof.c", "src/choose.c",
                               "src/vulfsjor.s"])
             self.assertEqual((words[0], words[-1]),
                              ("-x", "-lpython3" if options == windows else "-lz"))
@@ -307,9 +311,9 @@ class Build(Test):
                     self.assertEqual(file.read(f"{ABOUT}/{name}"), other.read())
         self.assertTrue(os.path.exists(os.path.join(folder, "vulfsjor", "_library.abi3.so")))
 
-    def pip(self, word, *more):
+    def pip(self, word, *more, **environment):
         self.succeeds(sys.executable, "-m", "pip", "--disable-pip-version-check", word,
-                      "--no-index", *more, cwd=self.folder)
+                      "--no-index", *more, cwd=self.folder, env={**os.environ, **environment})
 
     @staticmethod
     def time_of(act):
@@ -331,7 +335,7 @@ class Build(Test):
         with open(path, "rb") as file:
             first = file.read()
         folder = os.path.join(self.folder, f"vulfsjor-{VERSION}")
-        with open(os.path.join(self.copied("a clone"), "vulfsjor", "_library.abi3.so"), "wb"):
+        with open(os.path.join(self.copied("a clone", "tests", "tools"), "vulfsjor", "_library.abi3.so"), "wb"):
             pass  # as an editable install leaves one
         self.made("sdist", os.path.join(self.folder, "a clone", "python"), TZ="Asia/Tokyo")
         with open(path, "rb") as file:
@@ -340,20 +344,30 @@ class Build(Test):
             self.assertEqual({(each.mode, each.uid, each.mtime) for each in file},
                              {(0o644, 0, 315532800)})
             file.extractall(self.folder)
-        own = {"README.md", "build_package.py", "pyproject.toml", "src/library.c", "src/library.h",
-               "src/trees.c", "src/xof.c", *glob.glob("tests/*.py", root_dir=os.path.join(TOP, "python")),
+        own = {"README.md", "build_package.py", "pyproject.toml", "src/by_threads.c", "src/library.c",
+               "src/library.h", "src/trees.c", "src/xof.c",
+               *glob.glob("tests/*.py", root_dir=os.path.join(TOP, "python")),
                *(f"vulfsjor/{name}" for name in PACKAGE if name != "_library.abi3.so")}
         found = {os.path.relpath(os.path.join(place, name), folder)
                  for place, _, names in os.walk(folder) for name in names}
-        self.assertEqual(found, {"PKG-INFO", *own, *SHARED})
-        for name in own | set(SHARED):
-            source = os.path.join(TOP, SHARED.get(name, f"python/{name}"))
+        shared = {**SHARED, **FOR_TESTS}
+        self.assertEqual(found, {"PKG-INFO", *own, *shared})
+        for name in own | set(shared):
+            source = os.path.join(TOP, shared.get(name, f"python/{name}"))
             with open(os.path.join(folder, name), "rb") as ours, open(source, "rb") as theirs:
                 self.assertEqual(ours.read(), theirs.read(), name)
         with open(os.path.join(folder, "PKG-INFO"), encoding="utf-8") as file:
             self.assertIn(f"\nVersion: {VERSION}\n", file.read())
         for name in ("c", "dist"):  # what is beside it
             shutil.copytree(os.path.join(TOP, name), os.path.join(self.folder, name))
+        for name, place in SHARED.items():
+            path = pathlib.Path(folder, name)
+            text = path.read_bytes()
+            if place.startswith("dist/") and name != "src/MANIFEST":
+                path.write_bytes(text + b"\n")
+                self.assertEqual(self.refused(folder), f"build_package.py: {place} is not as in dist/MANIFEST, "
+                                 "so it is not what was tested")
+                path.write_bytes(text)
         os.remove(os.path.join(folder, "src", "choose.c"))
         self.assertIn("build_package.py: src/choose.c is missing", self.refused(folder))
 
@@ -372,13 +386,13 @@ class Build(Test):
                 f"{self.folder}/a clone/**", recursive=True, include_hidden=True)}
 
         before = state()
-        wheel = self.made("wheel", folder)
+        wheel = self.made("wheel", folder, CFLAGS="-g")  # which names the folder of the compiler
         self.assertEqual(state(), before)
         with open(wheel, "rb") as file:
             first = file.read()
         os.remove(wheel)
         source = self.made("sdist", os.path.join(TOP, "python"))
-        self.pip("wheel", source)
+        self.pip("wheel", source, CFLAGS="-g")
         with open(wheel, "rb") as file:
             self.assertEqual(file.read(), first)
         self.pip("install", "--target", installed, wheel)

@@ -7,8 +7,9 @@ import tempfile
 import unittest
 from unittest import mock
 
-from support import FOLDER, TOP, absent, long
+from support import FOLDER, TOP, absent, long, needs_clone
 
+needs_clone()
 if absent("distributed"):
     raise unittest.SkipTest(absent("distributed"))
 EXAMPLES = os.path.join(TOP, "python", "examples")

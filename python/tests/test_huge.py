@@ -42,11 +42,11 @@ class Cheap(unittest.TestCase):
                             (vulfsjor.blake2bp,), (vulfsjor.blake2sp,)):
             mac = make(b"message", key=b"key")
             data[:mac.digest_size] = mac.digest()
-            self.assertTrue(mac.verify(memoryview(data)[:mac.digest_size]))
-            self.assertFalse(mac.verify(memoryview(data)[:2**32 + mac.digest_size]))
+            self.assertIsNone(mac.verify(memoryview(data)[:mac.digest_size]))
+            self.assertRaises(vulfsjor.InvalidTag, mac.verify, memoryview(data)[:2**32 + mac.digest_size])
             for length in (2**31, 2**31 + 1, 2**32, 2**32 + 8):
                 view = memoryview(data)[:length]
-                self.assertFalse(mac.verify(view))
+                self.assertRaises(vulfsjor.InvalidTag, mac.verify, view)
                 for name in ("key", "salt", "person"):
                     for call in (partial(make, b"message"),
                                  *(partial(each, [b"message"]) for each in many)):
@@ -78,7 +78,7 @@ class Cheap(unittest.TestCase):
         hasher.update(b"x")
         with self.assertRaisesRegex(ValueError, "^the hasher is not at a leaf boundary$"):
             hasher.update_leaves(data, b"x")
-        with self.assertRaisesRegex(OverflowError, r"^2\^58 bytes or more$"):
+        with self.assertRaisesRegex(ValueError, r"^the data ends at 2\^58 bytes or more of the message$"):
             vulfsjor.tree_leaves(data, 1 << 31, first=2**27 - 1, ends=True)
         self.assertEqual(hasher.digest(), oracle.tree_root(b"x", 3 * MIB))
 
@@ -92,11 +92,6 @@ class Cheap(unittest.TestCase):
         data = (ctypes.c_char * 2**57).from_address(id(self))
         self.assertRaises(MemoryError, vulfsjor.tree_leaves, data, 1, first=0, ends=True)
         self.assertRaises(MemoryError, vulfsjor.TreeHasher(1).next_leaves, data)
-
-    def test_plain_bytes(self):
-        data = mapping(2**32 + 5)
-        view = memoryview(vulfsjor._library.plain_bytes(data))
-        self.assertEqual((view.nbytes, view.readonly), (2**32 + 5, True))
 
 
 def tree(data, leaf_size):

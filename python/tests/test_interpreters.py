@@ -58,7 +58,7 @@ class Interpreters(unittest.TestCase):
         """The same module returns what hashlib does in each version."""
         for version, python in interpreters().items():
             if not version[2] and version[:2] != sys.version_info[:2]:
-                for file in ("test_against_hashlib.py", "test_parallel.py"):
+                for file in ("test_against_hashlib.py", "test_mac.py", "test_parallel.py", "test_tree_*.py"):
                     with self.subTest(python=python, file=file):
                         self.succeeds(python, "-m", "unittest", "discover", HERE, file,
                                       VULFSJOR_PACKAGE=FOLDER, VULFSJOR_TEST_CALLS="500")
@@ -76,8 +76,8 @@ class Interpreters(unittest.TestCase):
                 self.succeeds(python, "-c", f"import sys; sys.path.insert(0, {folder!r}); "
                               "import vulfsjor; assert not sys._is_gil_enabled()")
                 self.succeeds(python, os.path.join(HERE, "in_subinterpreters.py"), folder)
-                for file in ("test_against_hashlib.py", "test_api.py", "test_parallel.py",
-                             "test_trees.py"):
+                for file in ("test_against_hashlib.py", "test_api.py", "test_mac.py", "test_parallel.py",
+                             "test_tree_*.py"):
                     self.succeeds(python, "-m", "unittest", "discover", HERE, file,
                                   VULFSJOR_PACKAGE=folder, VULFSJOR_TEST_CALLS="500")
 

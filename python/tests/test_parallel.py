@@ -80,8 +80,10 @@ class Digests(unittest.TestCase):
             digest = wanted(message, **words).digest()
             found = {make(message, **words).digest(), *digests_in_pieces(make, words, message)}
             self.assertEqual(found, {digest}, (name, words, message))
-            self.assertTrue(make(message, **words).verify(digest))
-            self.assertFalse(make(message, **words).verify(bytes([digest[0] ^ 1]) + digest[1:]))
+            if words.get("key"):
+                self.assertIsNone(make(message, **words).verify(digest))
+                wrong = bytes([digest[0] ^ 1]) + digest[1:]
+                self.assertRaises(vulfsjor.InvalidTag, make(message, **words).verify, wrong)
 
     def test_long_messages(self):
         """Against leaves and a root by hashlib, in pieces of each kind."""

@@ -1,5 +1,5 @@
-"""BLAKE2Xb, BLAKE2Xs and derived keys: the test vectors and the authors' vectors in pieces, copies, threads, and what is
-refused."""
+"""BLAKE2Xb, BLAKE2Xs and derived keys: the test vectors and the authors' vectors in pieces, copies, threads, and what
+is refused."""
 import random
 import threading
 import unittest
@@ -74,27 +74,22 @@ class Outputs(unittest.TestCase):
         for wrong in (b"", bytes(65)):
             with self.assertRaisesRegex(ValueError, "key must have between 1 and 64 bytes"):
                 vulfsjor.derive_key(wrong, b"", 1)
-        for wrong in (0, 2**32 - 1, 2**64 - 1):
-            with self.assertRaisesRegex(ValueError, "length must be between 1 and 4294967294 bytes"):
+        for wrong in (0, 2**32 - 1, 2**32 + 1, 2**64 - 1, 2**64, 2**64 + 1, 2**70, -1, -(2**70)):
+            with self.assertRaisesRegex(ValueError, "^length must be between 1 and 4294967294$"):
                 vulfsjor.derive_key(key, b"", wrong)
-        with self.assertRaisesRegex(ValueError, "length must be positive"):
-            vulfsjor.derive_key(key, b"", -1)
         for words in ((key, b"", None), (key, b"", 1.0), (key, "text", 1), ("text", b"", 1), (key, b"")):
             self.assertRaises(TypeError, vulfsjor.derive_key, *words)
-        self.assertRaises(OverflowError, vulfsjor.derive_key, key, b"", 2**64)
 
     def test_ends(self):
         for _, make, _, _, _, _, whole in FAMILIES:
             self.assertEqual(len(make(length=9).digest(9)), 9)
-            for wrong in (10, 2**63, 2**64 - 1):
-                with self.assertRaisesRegex(ValueError, "the output has only 9 bytes"):
-                    make(length=9).digest(wrong)
-            with self.assertRaisesRegex(ValueError, f"the output has only {whole} bytes"):
-                make().digest(whole + 1)
-            with self.assertRaisesRegex(ValueError, "value must be positive"):
-                make().digest(-1)
-            with self.assertRaisesRegex(OverflowError, "length is too large"):
-                make().digest(2**64)
+            for wrong in (10, 2**63, 2**64 - 1, 2**64, 2**64 + 1, 2**70, -1, -(2**70)):
+                for call in (make(length=9).digest, make(length=9).hexdigest):
+                    with self.assertRaisesRegex(ValueError, "^length must be between 0 and 9$"):
+                        call(wrong)
+            for wrong in (whole + 1, 2**64 + 1, -1):
+                with self.assertRaisesRegex(ValueError, f"^length must be between 0 and {whole}$"):
+                    make().digest(wrong)
             self.assertRaises(TypeError, make().digest)
             with self.assertRaisesRegex(TypeError, "length must be an integer"):
                 make().hexdigest(1.0)
@@ -110,11 +105,9 @@ class Outputs(unittest.TestCase):
                 with self.assertRaisesRegex(ValueError, f"maximum {word} length is {limit} bytes"):
                     make(**{word: bytes(limit + 1)})
             make(length=most)
-            for wrong in (0, most + 1, most + 2):
-                with self.assertRaisesRegex(ValueError, f"length must be between 1 and {most} bytes"):
+            for wrong in (0, most + 1, most + 2, 2**64, 2**64 + 1, 2**70, -1, -(2**70)):
+                with self.assertRaisesRegex(ValueError, f"^length must be between 1 and {most}$"):
                     make(length=wrong)
-            with self.assertRaisesRegex(ValueError, "length must be positive"):
-                make(length=-1)
             with self.assertRaisesRegex(TypeError, "length must be an integer"):
                 make(length=1.0)
             for wrong in ("text", [b""], 1):

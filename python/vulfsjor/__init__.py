@@ -5,12 +5,14 @@ functions, with the interface of hashlib.
     >>> vulfsjor.blake2b(b"hello world", digest_size=16).hexdigest()
     'e9a804b2e527fd3601d2ffc0bb023cd6'
 
-A message authentication code. `verify` compares all bytes of the tag:
+A message authentication code. `verify` compares all bytes of the tag, and raises InvalidTag:
 
-    >>> mac = vulfsjor.blake2b(b"message", key=bytes(32), person=b"my program")
+    >>> mac = vulfsjor.blake2b_mac(bytes(32), b"message", person=b"my program")
     >>> tag = mac.digest()
-    >>> mac.verify(tag), mac.verify(tag[:16])
-    (True, False)
+    >>> mac.verify(tag)
+    >>> mac.verify(tag[:16])
+    Traceback (most recent call last):
+    vulfsjor.InvalidTag: the tag is not that of the message
 
 BLAKE2bp and BLAKE2sp hash long messages faster than BLAKE2b and BLAKE2s, to other digests:
 
@@ -49,23 +51,32 @@ from vulfsjor._library import (
     BLAKE2SP_MAX_KEY_SIZE as BLAKE2SP_MAX_KEY_SIZE,
     BLAKE2SP_PERSON_SIZE as BLAKE2SP_PERSON_SIZE,
     BLAKE2SP_SALT_SIZE as BLAKE2SP_SALT_SIZE,
+    InvalidTag,
+    TreeHasher,
     __version__ as __version__,
     blake2b,
+    blake2b_mac,
     blake2b_many,
     blake2bp,
+    blake2bp_mac,
     blake2s,
+    blake2s_mac,
     blake2s_many,
     blake2sp,
+    blake2sp_mac,
     blake2xb,
     blake2xs,
     derive_key,
     tree_leaf_count,
     tree_leaves,
+    tree_root,
     tree_root_of_leaves,
 )
-from vulfsjor._threads import TreeHasher, tree_root, tree_root_file
+from vulfsjor._files import file_digest, tree_root_file
 
 __all__ = [
-    "TreeHasher", "blake2b", "blake2b_many", "blake2bp", "blake2s", "blake2s_many", "blake2sp",
-    "blake2xb", "blake2xs", "derive_key", "tree_leaf_count", "tree_leaves", "tree_root", "tree_root_file", "tree_root_of_leaves",
+    "InvalidTag", "TreeHasher", "blake2b", "blake2b_mac", "blake2b_many", "blake2bp",
+    "blake2bp_mac", "blake2s", "blake2s_mac", "blake2s_many", "blake2sp", "blake2sp_mac",
+    "blake2xb", "blake2xs", "derive_key", "file_digest", "tree_leaf_count", "tree_leaves",
+    "tree_root", "tree_root_file", "tree_root_of_leaves",
 ]

@@ -8,6 +8,9 @@
 //! does not: it requires one that compresses each block as soon as the block is full. BLAKE2 needs
 //! no HMAC construction: use [`Blake2bMac`].
 //!
+//! With the feature `std`, which is on by default, all types that absorb input are
+//! `std::io::Write`, and the readers of outputs `std::io::Read`.
+//!
 //! It is a separate crate, so that `vulfsjor` builds without a registry.
 //!
 //! ```
@@ -21,6 +24,9 @@
 #![no_std]
 #![forbid(unsafe_code)]
 #![deny(missing_docs)]
+
+#[cfg(feature = "std")]
+extern crate std;
 
 #[cfg(feature = "serde")]
 pub mod serde;
@@ -43,10 +49,28 @@ use digest::{
 };
 use vulfsjor::Params;
 
+// `std::io::Write` of a type that absorbs input, by that of `vulfsjor`.
+macro_rules! write_by {
+    ($type:ident $(<$n:ident>)?) => {
+        /// Absorbs all that is written. A write never fails.
+        #[cfg(feature = "std")]
+        impl $(<$n>)? std::io::Write for $type $(<$n>)? {
+            fn write(&mut self, bytes: &[u8]) -> std::io::Result<usize> {
+                std::io::Write::write(&mut self.0, bytes)
+            }
+
+            fn flush(&mut self) -> std::io::Result<()> {
+                std::io::Write::flush(&mut self.0)
+            }
+        }
+    };
+}
+
 macro_rules! family {
     ($name:literal, $hasher:ident, $mac:ident, $var:ident, $max:ty, $block:ty, $build:ident) => {
         #[doc = concat!("The hash function ", $name, " with digests of `N` bytes, a number of")]
         #[doc = concat!("`typenum` from 1 to `", stringify!($max), "`.")]
+        #[must_use = "its input is lost with it"]
         #[derive(Clone)]
         pub struct $hasher<N>(vulfsjor::$hasher, PhantomData<N>);
 
@@ -88,6 +112,7 @@ macro_rules! family {
         }
 
         #[doc = concat!("The MAC of ", $name, " with tags of `N` bytes.")]
+        #[must_use = "its input is lost with it"]
         #[derive(Clone)]
         pub struct $mac<N>(vulfsjor::$mac, PhantomData<N>);
 
@@ -140,6 +165,7 @@ macro_rules! family {
         family!(@both concat!($name, "Mac"), $mac, $max, $block);
 
         #[doc = concat!($name, " with a size that is chosen at run time.")]
+        #[must_use = "its input is lost with it"]
         #[derive(Clone)]
         pub struct $var(vulfsjor::$hasher, usize);
 
@@ -148,6 +174,8 @@ macro_rules! family {
                 self.0.update(data);
             }
         }
+
+        write_by!($var);
 
         impl Reset for $var {
             fn reset(&mut self) {
@@ -221,6 +249,8 @@ macro_rules! family {
             }
         }
 
+        write_by!($type<N>);
+
         impl<N> Reset for $type<N> {
             fn reset(&mut self) {
                 self.0.reset();
@@ -256,6 +286,7 @@ macro_rules! xof {
     ($name:literal, $hasher:ident, $reader:ident, $max:ty, $block:ty, $build:ident) => {
         #[doc = concat!("The extendable output function ", $name, ". `default` has an output whose")]
         /// length is not known in advance.
+        #[must_use = "its input is lost with it"]
         #[derive(Clone, Default)]
         pub struct $hasher(vulfsjor::$hasher);
 
@@ -301,6 +332,8 @@ macro_rules! xof {
             }
         }
 
+        write_by!($hasher);
+
         impl Reset for $hasher {
             fn reset(&mut self) {
                 self.0.reset();
@@ -330,12 +363,21 @@ macro_rules! xof {
         }
 
         #[doc = concat!("The output of ", $name, ". `read` panics past the end.")]
+        #[must_use = "nothing is read from it"]
         #[derive(Clone)]
         pub struct $reader(vulfsjor::$reader);
 
         impl XofReader for $reader {
             fn read(&mut self, buffer: &mut [u8]) {
                 self.0.read(buffer).expect("bytes that are left");
+            }
+        }
+
+        /// Reads as many bytes as there is room for, or as are left: 0 at the end.
+        #[cfg(feature = "std")]
+        impl std::io::Read for $reader {
+            fn read(&mut self, buffer: &mut [u8]) -> std::io::Result<usize> {
+                std::io::Read::read(&mut self.0, buffer)
             }
         }
 

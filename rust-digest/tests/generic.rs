@@ -12,6 +12,8 @@ use digest::{
     KeyInit, Mac, Output, OutputSizeUser, Reset, Update, VariableOutput, VariableOutputReset,
     XofReader,
 };
+#[cfg(feature = "std")]
+use std::io::{self, Write};
 use vulfsjor::Tree;
 use vulfsjor_digest::*;
 
@@ -206,6 +208,25 @@ macro_rules! family {
                 );
             }
 
+            // Files and streams are copied into a hasher.
+            #[test]
+            #[cfg(feature = "std")]
+            fn writes() {
+                let bytes: Vec<u8> = (0..100_000u32).map(|i| i as u8).collect();
+                let mut hasher = $hasher::<$longest>::default();
+                assert_eq!(io::copy(&mut &bytes[..], &mut hasher).unwrap(), 100_000);
+                let wanted = vulfsjor::$hasher::digest(&bytes);
+                assert_eq!(wanted, hasher.finalize()[..]);
+                let mut hasher = $var::new($max).unwrap();
+                assert_eq!(hasher.write(&bytes).unwrap(), bytes.len());
+                hasher.flush().unwrap();
+                assert_eq!(wanted, *hasher.finalize_boxed());
+                let mut mac = <$mac<$longest> as KeyInit>::new_from_slice(b"key").unwrap();
+                io::copy(&mut &bytes[..], &mut mac).unwrap();
+                let wanted = vulfsjor::$mac::tag(b"key", &bytes).unwrap();
+                mac.verify_slice(wanted.as_bytes()).unwrap();
+            }
+
             // Checks that other crates over these types agree with Python's hmac and hashlib.
             #[test]
             fn hmac_hkdf_and_pbkdf2() {
@@ -377,7 +398,12 @@ fn outputs() {
         output_by_all_ways(Blake2xs::with_params(&params).unwrap(), &message, &wanted);
     }
     assert!(Blake2xs::with_params(&vulfsjor::Params::new().output_size(0)).is_err());
-    assert!(<Blake2xb as KeyInit>::new_from_slice(&[0; 65]).is_err());
+    for length in 0..=65 {
+        let key = &[1; 65][..length];
+        let is_key = |max| (1..=max).contains(&length);
+        assert_eq!(<Blake2xb as KeyInit>::new_from_slice(key).is_ok(), is_key(64));
+        assert_eq!(<Blake2xs as KeyInit>::new_from_slice(key).is_ok(), is_key(32));
+    }
     let _hasher = <Blake2xb as KeyInit>::new(&GenericArray::default());
     let _hasher = <Blake2xs as KeyInit>::new(&GenericArray::default());
     assert_eq!((Blake2xb::block_size(), Blake2xs::block_size()), (128, 64));
@@ -385,6 +411,28 @@ fn outputs() {
     assert_eq!((name_of::<Blake2xb>(), name_of::<Blake2xs>()), ("Blake2xb".into(), "Blake2xs".into()));
     let text = format!("{:?} {:?}", Blake2xb::default(), Blake2xs::default().finalize_xof());
     assert_eq!(text, "Blake2xb { .. } Blake2xsReader { .. }");
+}
+
+// A stream is copied into a hasher, and its output out of the reader, to the end.
+#[test]
+#[cfg(feature = "std")]
+fn outputs_are_streams() {
+    use std::io::Read;
+    let mut wanted = [0; 100];
+    let params = vulfsjor::Params::new().output_size(100);
+    let reader = params.blake2xb().unwrap().update(b"abc").finalize_xof();
+    reader.take(100).read_exact(&mut wanted).unwrap();
+    let mut hasher = Blake2xb::with_params(&params).unwrap();
+    io::copy(&mut &b"abc"[..], &mut hasher).unwrap();
+    hasher.flush().unwrap();
+    let (mut reader, mut output) = (hasher.finalize_xof(), Vec::new());
+    assert_eq!(io::copy(&mut reader, &mut output).unwrap(), 100);
+    assert_eq!((output, Read::read(&mut reader, &mut [0]).unwrap()), (wanted.to_vec(), 0));
+    let mut hasher = Blake2xs::default();
+    assert_eq!(hasher.write(b"abc").unwrap(), 3);
+    let mut other = Blake2xs::default();
+    Update::update(&mut other, b"abc");
+    assert_eq!(hasher.finalize_boxed(50), other.finalize_boxed(50));
 }
 
 #[test]

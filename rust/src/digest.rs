@@ -25,6 +25,7 @@ use crate::{library, HexError, InvalidArgument};
 /// assert_eq!(format!("{digest:X}")[..16], *"508C5E8C327C14E2");
 /// # Ok::<(), vulfsjor::InvalidArgument>(())
 /// ```
+#[must_use = "a digest that nothing compares or keeps is lost"]
 #[derive(Clone, Copy)]
 pub struct Digest {
     pub(crate) bytes: [u8; 64],
@@ -42,6 +43,7 @@ impl Digest {
     }
 
     /// Returns the bytes.
+    #[must_use]
     #[inline]
     pub fn as_bytes(&self) -> &[u8] {
         &self.bytes[..self.size]
@@ -104,6 +106,7 @@ impl Digest {
 
 /// The hexadecimal digits of a [`Digest`], which [`Digest::to_hex`] returns: a `str` of 2 to 128
 /// characters.
+#[must_use]
 #[derive(Clone, Copy, PartialEq, Eq, Hash)]
 pub struct HexString {
     text: [u8; 128],
@@ -112,6 +115,7 @@ pub struct HexString {
 
 impl HexString {
     /// Returns the digits.
+    #[must_use]
     #[inline]
     pub fn as_str(&self) -> &str {
         core::str::from_utf8(&self.text[..self.length]).expect("digits are ASCII")

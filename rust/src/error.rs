@@ -61,18 +61,21 @@ pub struct InvalidArgument {
 impl InvalidArgument {
     /// Returns the name of the argument: `output_size`, `key.len()`, `salt.len()`,
     /// `persona.len()`, `leaf_length`, `tree.depth` and so on.
+    #[must_use]
     #[inline]
     pub fn argument(&self) -> &'static str {
         self.argument
     }
 
     /// Returns the number that was passed. A flag is 1 if it was set.
+    #[must_use]
     #[inline]
     pub fn value(&self) -> u64 {
         self.value
     }
 
     /// Returns the numbers that the call accepts, given its other arguments.
+    #[must_use]
     #[inline]
     pub fn bounds(&self) -> Bounds {
         self.bounds

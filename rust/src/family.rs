@@ -18,6 +18,7 @@ macro_rules! family {
         #[doc = concat!("A ", $family, " hash in progress. It is wiped when it is dropped.")]
         ///
         /// A clone is independent: each absorbs its own further input.
+        #[must_use = "its input is lost with it"]
         pub struct $hasher {
             pub(crate) state: $state,
         }
@@ -89,8 +90,9 @@ macro_rules! family {
                 // Safety: the state has initialized bytes.
                 let mut digest = Digest::zeros(unsafe { library::$digest_size(&copy.state) });
                 // Safety: the output has this length, and does not overlap the state.
-                let status =
-                    unsafe { library::$end(&mut copy.state, digest.bytes.as_mut_ptr(), 64) };
+                let status = unsafe {
+                    library::$end(&mut copy.state, digest.bytes.as_mut_ptr(), digest.size)
+                };
                 assert_eq!(status, 0, "a state that new has made");
                 digest
             }
@@ -112,6 +114,7 @@ macro_rules! family {
             }
 
             /// Returns the number of bytes of input since the last reset, without the key.
+            #[must_use]
             #[inline]
             pub fn count(&self) -> u64 {
                 // Safety: the state has initialized bytes.
@@ -150,6 +153,7 @@ macro_rules! family {
         ///
         /// Compare tags with `verify`. The project's README, "Use it safely", has the rules for
         /// keys, tags and personalization.
+        #[must_use = "its input is lost with it"]
         #[derive(Clone)]
         pub struct $mac($hasher);
 
@@ -236,6 +240,7 @@ macro_rules! family {
             }
 
             /// Returns the number of bytes of input since the last reset, without the key.
+            #[must_use]
             #[inline]
             pub fn count(&self) -> u64 {
                 self.0.count()

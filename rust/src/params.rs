@@ -73,6 +73,7 @@ impl Default for Tree {
 /// The default is the longest digest, and none of the others. Lengths are checked when a hasher is
 /// made, not here. The persona is what the BLAKE2 document calls personalization. `Debug` shows the
 /// length of the key, and no byte of it.
+#[must_use = "a setter returns new parameters and leaves the old ones as they are"]
 #[derive(Clone, Copy)]
 pub struct Params<'a> {
     pub(crate) output_size: Option<usize>,
@@ -147,6 +148,9 @@ impl<'a> Params<'a> {
 
     /// Returns a BLAKE2b hasher with these parameters.
     ///
+    /// With a key its digests are tags. [`Blake2bMac::with_params`](crate::Blake2bMac::with_params)
+    /// returns a MAC, which also compares them by `verify`.
+    ///
     /// # Errors
     ///
     /// [`InvalidArgument`] exactly if a length or a tree parameter is out of BLAKE2b's range.
@@ -174,6 +178,9 @@ impl<'a> Params<'a> {
 
     /// Returns a BLAKE2s hasher with these parameters.
     ///
+    /// With a key its digests are tags. [`Blake2sMac::with_params`](crate::Blake2sMac::with_params)
+    /// returns a MAC, which also compares them by `verify`.
+    ///
     /// # Errors
     ///
     /// [`InvalidArgument`] exactly if a length or a tree parameter is out of BLAKE2s's range.
@@ -200,6 +207,9 @@ impl<'a> Params<'a> {
     }
 
     /// Returns a BLAKE2bp hasher with these parameters.
+    ///
+    /// With a key its digests are tags. [`Blake2bpMac::with_params`](crate::Blake2bpMac::with_params)
+    /// returns a MAC, which also compares them by `verify`.
     ///
     /// # Errors
     ///
@@ -229,6 +239,9 @@ impl<'a> Params<'a> {
     }
 
     /// Returns a BLAKE2sp hasher with these parameters.
+    ///
+    /// With a key its digests are tags. [`Blake2spMac::with_params`](crate::Blake2spMac::with_params)
+    /// returns a MAC, which also compares them by `verify`.
     ///
     /// # Errors
     ///

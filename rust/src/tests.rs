@@ -270,8 +270,8 @@ mod threads {
     use crate::read_all::BUFFER_BYTES;
     use crate::threads::{LEAST_BYTES, PART_BYTES};
     use std::collections::HashSet;
-    use std::sync::atomic::{AtomicUsize, Ordering::SeqCst};
-    use std::sync::Mutex;
+    use std::sync::atomic::{AtomicU64, AtomicUsize, Ordering::SeqCst};
+    use std::sync::{mpsc, Mutex};
     use std::time::{Duration, Instant};
     use std::vec::Vec;
     use std::{thread, vec};
@@ -296,6 +296,17 @@ mod threads {
 
     fn plan_of(length: u64, leaf_length: u32, threads: usize, most: u64) -> Plan {
         Plan::of_message(length, leaf_length, &Limits::of(threads, most)).unwrap()
+    }
+
+    // What a call returns. A call that waits for ever fails here.
+    fn in_time<R: Send + 'static>(call: impl FnOnce() -> R + Send + 'static) -> R {
+        let (sender, receiver) = mpsc::channel();
+        let thread = thread::spawn(move || sender.send(call()));
+        match receiver.recv_timeout(Duration::from_secs(30)) {
+            Ok(result) => result,
+            Err(mpsc::RecvTimeoutError::Timeout) => panic!("a call waits for ever"),
+            Err(_) => std::panic::resume_unwind(thread.join().expect_err("a panic")),
+        }
     }
 
     // What the proof of a plan does not say: the numbers that it gets here.
@@ -337,9 +348,10 @@ mod threads {
             }
             let params = TreeParams::new(1 << 25);
             let [mut digest, mut wanted] = [[0; 64]; 2];
-            params.leaves(&bytes, 9, true, &mut wanted).unwrap();
+            let first = (1 << 32) + 9;
+            params.leaves(&bytes, first, true, &mut wanted).unwrap();
             let mut part = Part::default();
-            (part.first, part.start, part.length, part.ends) = (9, start, length, 1);
+            (part.first, part.start, part.length, part.ends) = (first, start, length, 1);
             let hashed = params.hash_part(&file, &part, &mut digest, &mut Vec::new());
             assert!(hashed.is_ok() && digest == wanted, "{length}");
             file.set_len(0).unwrap();
@@ -376,37 +388,98 @@ mod threads {
         assert_eq!(parts_of((8 << 18) + 5, leaf, 2), wanted);
     }
 
+    // Each thread keeps its buffer, and a part is reported when it is hashed, not before.
+    #[test]
+    fn a_thread_keeps_its_buffer_and_reports_what_is_hashed() {
+        for threads in [1, 3] {
+            let plan = plan_of(1 << 26, 1 << 20, threads, u64::MAX);
+            let (bytes, buffers) = (AtomicU64::new(0), AtomicUsize::new(0));
+            let hash = |part: &Part, _: &mut [u8], buffer: &mut Vec<u8>| {
+                buffers.fetch_add(usize::from(buffer.is_empty()), SeqCst);
+                buffer.push(1);
+                thread::sleep(Duration::from_millis(1));
+                bytes.fetch_add(part.length, SeqCst);
+                Ok::<(), ()>(())
+            };
+            let mut last = 0;
+            let report = |reported| {
+                assert!((1..=bytes.load(SeqCst)).contains(&reported));
+                last = reported;
+                Ok(())
+            };
+            let hashed = plan.hash(&mut vec![0; plan.room()], hash, |_| (), report);
+            assert_eq!((hashed, last), (Ok(()), 1 << 26));
+            assert!((1..=threads).contains(&buffers.load(SeqCst)));
+        }
+    }
+
+    // Parts whose first leaves have more than 32 bits, in a plan and in each call that hashes one.
+    #[test]
+    fn parts_past_2_to_the_32_leaves() {
+        let plan = plan_of((1 << 32) + (1 << 15), 1, 3, u64::MAX);
+        let hash = |part: &Part, out: &mut [u8], _: &mut Vec<u8>| {
+            out[..8].copy_from_slice(&part.first.to_le_bytes());
+            Ok::<(), ()>(())
+        };
+        let mut next = 0;
+        let absorb = |digests: &[u8]| {
+            let first = u64::from_le_bytes(digests[..8].try_into().unwrap());
+            assert_eq!(first, next);
+            next += digests.len() as u64 / 64;
+        };
+        let hashed = plan.hash(&mut vec![0; plan.room()], hash, absorb, |_| Ok(()));
+        assert_eq!((hashed, next), (Ok(()), (1 << 32) + (1 << 15)));
+
+        let (params, bytes) = (TreeParams::new(100), [7; 300]);
+        for first in [3, (1 << 32) + 3] {
+            let mut part = Part::default();
+            (part.first, part.length) = (first, 300);
+            let mut wanted = [0; 192];
+            params.leaves(&bytes, first, false, &mut wanted).unwrap();
+            let mut out = [0; 192];
+            params.hash_leaves(&part, &bytes, &mut out).unwrap();
+            assert_eq!(out, wanted);
+            out.fill(0);
+            let hasher = params.hasher().unwrap();
+            hasher.hash_leaves(&part, &bytes, &mut out);
+            assert_eq!(out, wanted);
+            part.ends = 1;
+            params.leaves(&bytes, first, true, &mut wanted).unwrap();
+            params.hash_leaves(&part, &bytes, &mut out).unwrap();
+            assert_eq!(out, wanted);
+        }
+    }
+
     // After an error of one thread, or of the report, no part is begun: the 4,096 parts of a
     // millisecond are not all begun.
     #[test]
     fn errors_stop_the_threads() {
-        let plan = plan_of(1 << 34, 1 << 20, 3, u64::MAX);
-        let begun = Mutex::new(0);
-        let run = |wrong: u64, report: &dyn Fn() -> Result<(), &'static str>| {
-            *begun.lock().unwrap() = 0;
-            let hash = |part: &Part, _: &mut [u8], _: &mut Vec<u8>| {
-                *begun.lock().unwrap() += 1;
-                thread::sleep(Duration::from_millis(1));
-                if part.first == wrong {
-                    Err("a part")
-                } else {
-                    Ok(())
-                }
-            };
-            plan.hash(&mut vec![0; plan.room()], hash, |_| (), |_| report())
-        };
-        assert_eq!(run(20, &|| Ok(())), Err("a part"));
-        assert!(*begun.lock().unwrap() < 4096);
-        assert_eq!(run(1, &|| Err("a report")), Err("a report"));
-        assert!(*begun.lock().unwrap() < 4096);
-        assert_eq!(panic_of(|| run(1, &|| panic!("a report"))), "a report");
-        assert!(*begun.lock().unwrap() < 4096);
+        fn run(wrong: u64, report: fn() -> Result<(), &'static str>) -> &'static str {
+            in_time(move || {
+                let plan = plan_of(1 << 34, 1 << 20, 3, u64::MAX);
+                assert_eq!(plan.part_count, 4096);
+                let begun = AtomicUsize::new(0);
+                let hash = |part: &Part, _: &mut [u8], _: &mut Vec<u8>| {
+                    assert!(begun.fetch_add(1, SeqCst) < 2048, "nothing stops the threads");
+                    thread::sleep(Duration::from_millis(1));
+                    if part.first == wrong {
+                        Err("a part")
+                    } else {
+                        Ok(())
+                    }
+                };
+                let hashed = plan.hash(&mut vec![0; plan.room()], hash, |_| (), |_| report());
+                hashed.unwrap_err()
+            })
+        }
+        assert_eq!(run(20, || Ok(())), "a part");
+        assert_eq!(run(1, || Err("a report")), "a report");
+        assert_eq!(panic_of(|| run(1, || panic!("a report"))), "a report");
     }
 
     // While the first part is hashed, the others are, as far as there is room for their digests.
-    // Then it fails, and no thread waits for it.
-    #[test]
-    fn threads_wait_for_the_first_part() {
+    // Then this part fails, or another one later, and no thread waits for it.
+    fn failing(wrong: u64) -> (&'static str, u8) {
         let plan = plan_of(1 << 34, 1 << 10, 3, u64::MAX);
         let rooms = plan.room() >> 16; // of 1,024 digests each
         assert_eq!((rooms, plan.part_count), (16, 1 << 14));
@@ -419,11 +492,12 @@ mod threads {
                 while begun.load(SeqCst) < rooms && start.elapsed() < Duration::from_secs(20) {
                     thread::yield_now();
                 }
-                thread::sleep(Duration::from_millis(20));
+                // The others wait for room now.
+                thread::sleep(Duration::from_millis(300));
                 assert_eq!(begun.load(SeqCst), rooms);
             }
-            if part.first >> 10 == 100 {
-                return Err("part 100");
+            if part.first >> 10 == wrong {
+                return Err("a part");
             }
             Ok(())
         };
@@ -434,8 +508,15 @@ mod threads {
             next += 1;
         };
         let result = plan.hash(&mut vec![0; plan.room()], hash, absorb, |_| Ok(()));
-        assert_eq!(result, Err("part 100"));
-        assert!(next <= 100 && next as usize + rooms > 100, "{next}");
+        (result.unwrap_err(), next)
+    }
+
+    #[test]
+    fn threads_wait_for_the_first_part() {
+        assert_eq!(in_time(|| failing(0)), ("a part", 0));
+        let (error, absorbed) = in_time(|| failing(100));
+        assert_eq!(error, "a part");
+        assert!((85..=100).contains(&absorbed), "{absorbed}");
     }
 
     // A message that is longer needs no more room for digests.

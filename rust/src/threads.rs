@@ -257,13 +257,23 @@ impl TreeParams<'_> {
             .expect("a message of fewer than 2^58 bytes");
         let mut root = self.root_hasher();
         let hash = |part: &Part, bytes: &[u8], out: &mut [u8]| {
-            self.leaves(bytes, part.first, part.ends != 0, out)
+            self.hash_leaves(part, bytes, out)
                 .expect("a range of the leaves");
         };
         plan.hash_bytes(message, hash, |digests| {
             root.update(digests);
         });
         Ok(root.finalize())
+    }
+
+    // Writes the digests of the leaves of a part, which are these bytes.
+    pub(crate) fn hash_leaves(
+        &self,
+        part: &Part,
+        bytes: &[u8],
+        out: &mut [u8],
+    ) -> Result<(), InvalidArgument> {
+        self.leaves(bytes, part.first, part.ends != 0, out)
     }
 
     // A hasher of the root, which absorbs the digests of all leaves.
@@ -307,12 +317,14 @@ impl TreeHasher {
             Plan::of_update(self, input.len() as u64, &limits).expect("an input of 2^58 bytes");
         self.update(&input[..plan.start as usize]);
         let mut digests = Vec::with_capacity(plan.digests_length as usize);
-        let hash = |part: &Part, bytes: &[u8], out: &mut [u8]| {
-            self.next_leaves(part.first, bytes, out)
-                .expect("whole leaves that others follow");
-        };
+        let hash = |part: &Part, bytes: &[u8], out: &mut [u8]| self.hash_leaves(part, bytes, out);
         plan.hash_bytes(input, hash, |more| digests.extend_from_slice(more));
         self.update_leaves(&digests, &input[plan.end as usize..])
             .expect("digests of whole leaves")
+    }
+    // Writes the digests of the leaves of a part, which are these bytes.
+    pub(crate) fn hash_leaves(&self, part: &Part, bytes: &[u8], out: &mut [u8]) {
+        self.next_leaves(part.first, bytes, out)
+            .expect("whole leaves that others follow");
     }
 }

@@ -10,6 +10,7 @@ use crate::InvalidArgument;
 /// It allocates no memory. Whole leaves after the open one are hashed four at a time, if more
 /// input follows them, so pieces of several leaves suit it best. A hasher is wiped when it is
 /// dropped.
+#[must_use = "its input is lost with it"]
 pub struct TreeHasher {
     pub(crate) state: TreeState,
 }
@@ -116,12 +117,14 @@ impl TreeHasher {
         // Safety: the state has initialized bytes.
         let mut root = Digest::zeros(unsafe { library::tree_digest_size(&copy.state) });
         // Safety: the output has this length, and does not overlap the state.
-        let status = unsafe { library::tree_final(&mut copy.state, root.bytes.as_mut_ptr(), 64) };
+        let status =
+            unsafe { library::tree_final(&mut copy.state, root.bytes.as_mut_ptr(), root.size) };
         assert_eq!(status, 0, "a state that new has made");
         root
     }
 
     /// Returns the number of bytes of all input.
+    #[must_use]
     #[inline]
     pub fn count(&self) -> u64 {
         // Safety: the state has initialized bytes.
@@ -129,6 +132,7 @@ impl TreeHasher {
     }
 
     /// Returns the number of bytes in a leaf.
+    #[must_use]
     #[inline]
     pub fn leaf_length(&self) -> u32 {
         // Safety: the state has initialized bytes.

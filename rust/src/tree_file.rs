@@ -162,7 +162,7 @@ impl TreeParams<'_> {
         }
         buffer.resize(part.length as usize, 0);
         read_exact_at(file, buffer, part.start)?;
-        Ok(self.leaves(buffer, part.first, part.ends != 0, out)?)
+        Ok(self.hash_leaves(part, buffer, out)?)
     }
 
     // Writes the digest of a leaf that is longer than a buffer.

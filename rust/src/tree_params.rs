@@ -25,6 +25,7 @@ pub(crate) const MOST_BYTES: u64 = (1 << 58) - 1;
 /// assert_eq!(error.to_string(), "leaf_length is 0, and must be 1 to 4294967295");
 /// # Ok::<(), vulfsjor::InvalidArgument>(())
 /// ```
+#[must_use = "a setter returns new parameters and leaves the old ones as they are"]
 #[derive(Clone, Copy, Debug)]
 pub struct TreeParams<'a> {
     pub(crate) leaf_length: u32,
@@ -144,6 +145,7 @@ impl<'a> TreeParams<'a> {
 
     /// Returns the number of leaves of a message of this number of bytes, which is at least 1; 0 if
     /// the leaf length is 0. The other parameters change nothing.
+    #[must_use]
     #[inline]
     pub fn leaf_count(&self, message_length: u64) -> u64 {
         // Safety: the call accepts any two numbers.

@@ -14,6 +14,7 @@ macro_rules! xof {
         /// when it is dropped.
         ///
         /// A clone is independent: each absorbs its own further input.
+        #[must_use = "its input is lost with it"]
         pub struct $hasher {
             pub(crate) state: $state,
         }
@@ -110,6 +111,7 @@ macro_rules! xof {
             }
 
             /// Returns the number of bytes of input since the last reset, without the key.
+            #[must_use]
             #[inline]
             pub fn count(&self) -> u64 {
                 // Safety: the state has initialized bytes.
@@ -189,6 +191,7 @@ macro_rules! xof {
 
         #[doc = concat!("The output of ", $family, ", which is read in pieces. It is wiped when it")]
         /// is dropped.
+        #[must_use = "nothing is read from it"]
         pub struct $reader {
             state: $state,
         }
@@ -212,6 +215,7 @@ macro_rules! xof {
             }
 
             /// Returns how many bytes of the output are left to read.
+            #[must_use]
             #[inline]
             pub fn left(&self) -> u64 {
                 // Safety: the state has initialized bytes.

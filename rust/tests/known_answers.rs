@@ -188,6 +188,17 @@ macro_rules! family {
                 is_its
             }
 
+            // More messages than any number of bits or of messages in one call of the library holds.
+            #[test]
+            fn a_thousand_messages() {
+                let messages: Vec<_> = (0..1000u32).map(|i| i.to_le_bytes()).collect();
+                let mut digests = vec![[0; $max]; 1000];
+                $hasher::digest_many(&Params::new(), &messages, &mut digests).unwrap();
+                for (message, digest) in messages.iter().zip(digests) {
+                    assert_eq!($hasher::digest(message), digest, "{message:?}");
+                }
+            }
+
             #[test]
             fn several_messages() {
                 let lines = lines($letter, "m");

@@ -19,7 +19,7 @@
 set -u
 here=$(dirname "$(readlink -f "$0")")
 source "$here/../tap.sh"
-cpu=$("$top/tools/processor.sh")
+cpu=$("$top/tests/processor.sh")
 [ "${1-}" != --cpu ] || cpu=${2-}
 [[ $#,$cpu =~ ^[02],x86-64-v[234]$ ]] ||
     { echo "usage: tests/key_scan/run.sh [--cpu x86-64-v2|x86-64-v3|x86-64-v4]" >&2 && exit 2; }

@@ -15,13 +15,15 @@ from typing import Any, Callable, Iterator
 import program as programs
 import call_specification as S
 import constant_time
+import examples
+import facts
 import rfc7693 as R
 import terms as T
 from constant_time import STACK
+from facts import Facts
 from symbolic import MODELS, Buffer, Cells, fresh
 from taint import Aligned, reset
 from machine import image
-from ranges import parts
 from terms import CannotShow, IsWrong
 from whole_calls import Calls, Terms
 
@@ -35,23 +37,23 @@ class Setup:
     """A call: its arguments, its memory, and what is known of its numbers."""
 
     arguments: list
-    ranges: dict
 
     def __init__(self, calls: Calls, kind: R.Kind, alignment: tuple) -> None:
         self.calls, self.kind, self.alignment = calls, kind, alignment
-        self.sp, self.arguments, self.ranges = T.var(64, "sp", T.PUBLIC), [], {}
+        self.sp, self.arguments, self.known = T.var(64, "sp", T.PUBLIC), [], Facts()
         self.regions: dict = {image(): Cells(0, 1 << 32, calls.program.constant, False, (4096, 0))}
         self.state_at: Any = None
         self.out: Any = None
         self.cells: list = []
-        self.reads_key: tuple = ()     # the condition of must_scrub
+        self.reads_key: tuple = ()     # the condition of must_scrub, if the call absorbs bytes
 
     def number(self, name: str, low: int = 0, high: int = MOST) -> T.Term:
         """A variable between two numbers, or a number."""
         if low == high:
             return T.const(64, low)
         t = T.var(64, name, T.PUBLIC)
-        self.ranges[t] = low, high, 1
+        if (low, high) != FREE:
+            self.bound((t,), low, high)
         return t
 
     def pass_number(self, name: str, low: int = 0, high: int = MOST) -> T.Term:
@@ -59,18 +61,20 @@ class Setup:
         self.arguments.append(t)
         return t
 
+    def address(self, name: str) -> T.Term:
+        """Where an argument is: not at 0."""
+        return self.number(name + " address", 1, 1 << 63)
+
     def pass_struct(self, name: str, data: list) -> None:
         """A pointer to bytes that are only read."""
-        address = T.var(64, name + " address", T.PUBLIC)
-        self.ranges[address] = 1, 1 << 63, 1
+        address = self.address(name)
         self.regions[address] = Cells(0, len(data), lambda k: data[k], False)
         self.arguments.append(address)
 
     def pass_buffer(self, name: str, length: Any, taint: int = T.SECRET,
                     writable: bool = False) -> Buffer:
         """A pointer to a buffer, and its length."""
-        address = T.var(64, name + " address", T.PUBLIC)
-        self.ranges[address] = 1, 1 << 63, 1
+        address = self.address(name)
         buffer = Buffer(name, length, taint, writable)
         self.regions[address] = buffer
         self.arguments += [address, length]
@@ -88,8 +92,7 @@ class Setup:
         self.state = S.State(words("chain"), words("first"), *numbers,
                              secret("pending", kind.block), secret("start", kind.block))
         self.cells = self.bytes_of(self.state)
-        self.state_at = T.var(64, "state address", T.PUBLIC)
-        self.ranges[self.state_at] = 1, 1 << 63, 1
+        self.state_at = self.address("state")
         self.regions[self.state_at] = Cells(0, len(self.cells), lambda k: self.cells[k])
         self.arguments.append(self.state_at)
         return self.state
@@ -106,22 +109,9 @@ class Setup:
 
     def bound(self, numbers: tuple, low: int, high: int) -> bool:
         """Lets a sum be between two numbers. Returns whether that may be."""
-        constant, total = 0, []
-        for t in numbers:
-            sign, t = t if isinstance(t, tuple) else (1, t)
-            c, items = (t, {}) if isinstance(t, int) else T.linear(t)
-            constant += sign * c
-            total += [(sign * k, u) for u, k in items.items()]
-        rest = T.add(total[0][1].w, *total) if total else T.const(64, 0)
-        if rest.op == "const":
-            return low <= constant <= high
-        _, sign, rest = parts(rest)
-        if sign < 0:
-            low, high, constant = -high, -low, -constant
-        old = self.ranges.get(rest, (low - constant, high - constant, 1))
-        found = max(old[0], low - constant), min(old[1], high - constant)
-        self.ranges[rest] = found + (1,)
-        return found[0] <= found[1]
+        pairs = [t if isinstance(t, tuple) else (1, t) for t in numbers]
+        self.known = self.known.between(pairs, low, high)
+        return self.known.are_possible()
 
     def run(self, name: str, expected: Callable) -> int:
         """Executes the call, and compares each of its ends."""
@@ -133,7 +123,7 @@ class Setup:
         self.regions[self.sp] = Cells(-STACK, len(above), lambda k: above[k] if k >= 0 else fresh(
             "stack", T.JUNK)[0], True, self.alignment)
         m = model(self.regions, {})
-        m.begin(self.alignment, self.ranges, self.kind.block)
+        m.begin(self.alignment, self.known, self.kind.block)
         m.start(self.sp, back, self.arguments)
         ends = self.calls.run(name, m)
         if not ends:
@@ -141,9 +131,17 @@ class Setup:
         for end in ends:
             a = Terms(self.calls, end)
             self.compare(end, expected(a))
-            if self.reads_key and S.must_scrub(a, *self.reads_key) and not end.is_scrubbed:
-                raise IsWrong("scrub_stack is not called at the end")
+            if not self.reads_key or S.must_scrub(a, *self.reads_key):
+                self.need_clean_stack(end)
+            end.need_vectors()
         return len(ends)
+
+    def need_clean_stack(self, m: Any) -> None:
+        """Refuses a secret on the stack after a call, and a call that absorbs one without scrub_stack."""
+        if m.secrets:
+            raise IsWrong("a secret may be left on the stack, at %+d" % max(m.secrets))
+        if self.reads_key and not m.is_scrubbed:
+            raise IsWrong("scrub_stack is not called at the end")
 
     def compare(self, m: Any, expected: tuple) -> None:
         """What a call has left, and what it should."""
@@ -158,7 +156,11 @@ class Setup:
             found = [m.memory.get((self.state_at, k), b) for k, b in enumerate(self.cells)]
             self.need("the state", m, found, self.bytes_of(state))
         written = {at for base, at in m.memory if base is self.out}
-        if self.out is not None:
+        if callable(out):
+            out(m)
+        elif m.pieces:
+            raise CannotShow("it writes at %r" % m.pieces[0].offset)
+        elif self.out is not None:
             old = self.regions[self.out]
             n = max(written | {len(out) - 1}) + 1
             self.need("the output", m, [m.memory.get((self.out, k), old(k)) for k in range(n)],
@@ -166,14 +168,21 @@ class Setup:
 
     def need(self, what: str, m: Any, found: list, wanted: list) -> None:
         """Refuses other bytes than are wanted."""
-        single = {t: T.const(t.w, low) for t, (low, high, _) in m.ranges.items()
-                  if low == high and t.op == "var"}
         memo: dict = {}
         settle = lambda b: b if isinstance(b, int) else T.split(T.substitute(
-            b[0], single, memo))[b[1]]
+            b[0], m.path_facts.values(), memo))[b[1]]
         for k, (x, y) in enumerate(zip(found, wanted)):
-            if x != y and settle(x) != settle(y):
-                raise IsWrong("byte %d of %s is %s, not %s" % (k, what, shown(x), shown(y)))
+            if x == y or settle(x) == settle(y) or self.is_same(m, x, y):
+                continue
+            text = "byte %d of %s is %s, not %s" % (k, what, shown(x), shown(y))
+            inputs = examples.difference(m.path_facts, self.calls.results, x, y)
+            raise IsWrong("%s: for %s" % (text, inputs)) if inputs else CannotShow(text)
+
+    @staticmethod
+    def is_same(m: Any, x: T.Byte, y: T.Byte) -> bool:
+        """Whether two public bytes are the same by what the path knows."""
+        a, b = T.word([x]), T.word([y])
+        return not (a.taint | b.taint) & ~T.PUBLIC and m.is_always("==", a, b)
 
 
 def shown(b: Any) -> Any:
@@ -195,6 +204,7 @@ class Cases:
         """With only some numbers of pending bytes before an update, and some sizes of tags, if
         these are given."""
         self.calls, self.kind = Calls(program), KINDS[family]
+        self.calls.measure(self.kind)
         self.prefix = "vulfsjor_ffi_" + family
         self.pending = range(self.kind.block + 1) if pending is None else pending
         self.sizes = range(1, self.kind.w + 1) if sizes is None else sizes
@@ -322,7 +332,7 @@ class Cases:
                 setup.reads_key = s.counter, s.start_length
                 room = setup.number("room")
                 out = self.out(setup, room)
-                hold(setup, S.fits(s.output_size, room))
+                hold(setup, S.is_length(s.output_size, room))
 
                 def expected(a: Any) -> tuple:
                     found, state = S.final(a, kind, s, out)
@@ -330,14 +340,15 @@ class Cases:
                 return expected
             yield case
 
-        def refused(setup: Setup) -> Callable:
-            """no room"""
-            s = self.add_ready(setup)
-            room = setup.number("room")
-            self.out(setup, room)
-            fail(setup, S.fits(s.output_size, room)[0], 0)
-            return lambda a: (REFUSED, s, [])
-        yield refused
+        for side, name in enumerate(("less room", "more room")):
+            def refused(setup: Setup) -> Callable:
+                s = self.add_ready(setup)
+                room = setup.number("room")
+                self.out(setup, room)
+                fail(setup, S.is_length(s.output_size, room)[0], side)
+                return lambda a: (REFUSED, s, [])
+            refused.__doc__ = name
+            yield refused
         yield from self.unready(lambda setup: self.out(setup, setup.number("room")))
 
     def verify(self) -> Iterator:
@@ -366,6 +377,7 @@ class Cases:
                 def other(setup: Setup) -> Callable:
                     """a tag of another length"""
                     s = self.add_ready(setup, last_node=node)
+                    setup.reads_key = s.counter, s.start_length
                     n = setup.number("n")
                     setup.pass_buffer("tag", n)
                     low, high = ((1, MOST), (-MOST, -1))[side]
@@ -442,7 +454,6 @@ class Cases:
         def read(setup: Any, key: Any) -> Any:
             given, conditions = self.lengths(setup, key)
             tree = {name: T.var(8 * size, name, T.PUBLIC) for name, size in S.TREE_FIELDS}
-            setup.ranges.update({t: (0, (1 << t.w) - 1, 1) for t in tree.values()})
             if is_struct:
                 setup.pass_struct("tree", [b for t in tree.values() for b in T.split(t)])
             for name in () if is_struct else S.TREE:
@@ -460,7 +471,6 @@ class Cases:
             setup.pass_state()
             block = setup.pass_buffer("block", length, T.PUBLIC)
             first, second = (block.initial(k)[0] for k in (0, 1))
-            setup.ranges.update({t: (0, 255, 1) for t in (first, second)})
             return block, [((first,), 1, n), ((second,), 0, n)]
 
         def accepted(setup: Setup) -> Callable:
@@ -526,7 +536,7 @@ class Cases:
             def case(setup: Setup) -> Callable:
                 s = self.add_ready(setup)
                 on = T.var(32, "on", T.PUBLIC) if high else T.const(32, 0)
-                setup.ranges.update({on: (low_, high, 1)} if high else {})
+                setup.bound((on,), low_, high)
                 setup.arguments.append(wide(on))
                 return lambda a: (0, S.set_last_node(s, high > 0), [])
             yield case
@@ -585,6 +595,10 @@ def hold(setup: Setup, conditions: list) -> None:
 def main(arguments: list) -> Any:
     if len(arguments) != 3 or arguments[1] not in KINDS:
         print(__doc__, file=sys.stderr)
+        return 2
+    facts.run_with_z3(__file__, arguments)
+    if not facts.z3:
+        print("call_cases.py: Python's module z3 is absent (Debian's python3-z3)", file=sys.stderr)
         return 2
     path, family, export = arguments
     cases = Cases(programs.read(path), family)

@@ -69,14 +69,14 @@ def admits(kind: Kind, output_size: Term, key_size: Any, salt_size: Any, persona
             ((salt_size,), 0, kind.w // 4), ((persona_size,), 0, kind.w // 4)]
 
 
-def admits_tree(kind: Kind, depth: Term, node_offset: Term, inner_length: Term) -> list:
+def admits_tree(kind: Kind, depth: Any, node_offset: Any, inner_length: Any) -> list:
     most = 2 ** 64 - 1 if kind.w == 64 else 2 ** 48 - 1
     return [((depth,), 1, 255), ((node_offset,), 0, most), ((inner_length,), 0, kind.w)]
 
 
-def fits(n: Term, room: Term) -> list:
-    """n bytes fit into `room` bytes: room - n is not negative."""
-    return [((room, (-1, n)), 0, MOST_COUNTED)]
+def is_length(n: Term, room: Term) -> list:
+    """The output has room for n bytes exactly: room - n is 0."""
+    return [((room, (-1, n)), 0, 0)]
 
 
 def is_counted(*numbers: Term | int) -> list:
@@ -184,7 +184,7 @@ def digest(a: Any, kind: Kind, s: State) -> list:
 
 
 def final(a: Any, kind: Kind, s: State, out: Buffer) -> tuple:
-    """The output after a call, and the state: the digest, and what was behind it."""
+    """The output after a call, and the state: the digest, which is as long as the output."""
     whole = digest(a, kind, s)
     return [a.below(j, s.output_size, b, out(j)) for j, b in enumerate(whole)], zeros(kind)
 

@@ -1,5 +1,5 @@
 #!/usr/bin/env python3
-"""Shows, for the code in dist/ and the module in js/src/wasm.js, that each function that compresses
+"""Shows, for the code in dist/ and the modules in js/src/wasm*.js, that each function that compresses
 computes F of RFC 7693 (section 3.2) for all inputs, in constant time; that calls of BLAKE2b and
 BLAKE2s write what the RFC says; and that no branch and no address of a whole call depends on a
 secret. Prints TAP; the status is 1 if something failed. docs/MACHINE.md says what is shown and how
@@ -12,24 +12,28 @@ to read the output.
                                       files, all rules and more runs of each instruction, whole
                                       functions against hashlib, the types of the tool, and the
                                       changes that must be refused; the same as VULFSJOR_TEST_HUGE=1
+    tests/machine/check.py --forms    writes forms.txt, after a change of the files or the models
     tests/machine/check.py FILE..     only the proofs of these files, by their paths from the root,
                                       with all cases
 
 Needs Python, a C compiler, ld and objdump; for ARM aarch64-linux-gnu-gcc and binutils, and
-qemu-aarch64 to run instructions; python3-z3 for the rules; node to run those of WebAssembly. What
-is missing is skipped.
+qemu-aarch64 to run instructions; python3-z3 for whole calls and the rules; node to run the
+instructions of WebAssembly. What is missing is skipped.
 """
 
 from __future__ import annotations
 
 import multiprocessing
 import os
+import platform
 import shutil
 import subprocess
 import sys
 from typing import Any, Callable, Iterator
 
 import call_cases
+import check_contracts
+import check_decisions
 import check_digests
 import check_instructions
 import check_ranges
@@ -39,6 +43,9 @@ import check_taint
 import check_wasm_instructions
 import compression
 import constant_time
+import facts
+import families
+import forms
 import functions
 import mutations
 import program as programs
@@ -60,7 +67,7 @@ SHORT = ("dist/x86_64/vulfsjor-v3.s", "dist/aarch64/vulfsjor.s", "js/src/wasm.js
 SHORT_MANY = {entry: SHORT[k % 3] for k, entry in enumerate(
     entry for entry in functions.LIBRARY if entry[2] > 1)}
 SHORT_FOLLOWED = {part: SHORT[k % 2] for k, part in enumerate(FOLLOWED)}
-SHORT_WRITTEN = {family: SHORT[(k + 1) % 2] for k, family in enumerate(FAMILIES)}
+SHORT_WRITTEN = {"blake2b": SHORT[1], "blake2s": SHORT[0], "": SHORT[0]}
 SHORT_WIDTHS = (8,)
 LONG_CALLS = ("vulfsjor_ffi_tree_root", "vulfsjor_ffi_tree_update_leaves")
 LONG_CHANGES = (mutations.secret_forgotten, mutations.carry_forgotten)
@@ -71,6 +78,11 @@ def missing(path: str) -> Any:
     compiler, prefix, _ = programs.TOOLS.get(functions.architecture(path), ([], None, []))
     needed = compiler[:1] + ([prefix + "ld", prefix + "objdump"] if compiler else [])
     return next((tool for tool in needed if not shutil.which(tool)), None)
+
+
+def without_solver() -> str | None:
+    """What is missing to decide how the numbers of whole calls compare, or None."""
+    return None if facts.z3 else "python3-z3"
 
 
 def prove(paths: Any, entry: Any) -> Any:
@@ -159,7 +171,7 @@ def instructions(path: str) -> Any:
         return [("skip", title, "no " + missed)]
     is_wasm = functions.architecture(path) == "wasm"
     check = check_wasm_instructions.check if is_wasm else check_instructions.check
-    verdict, why = check(path, 20 if HUGE in os.environ else 4)
+    verdict, why = check(path, 20 if HUGE in os.environ else 4)[:2]
     return [(verdict, title, why)]
 
 
@@ -169,7 +181,7 @@ def symbolic_model(path: str) -> Any:
     missed = not_runnable(path)
     if missed:
         return [("skip", title, "no " + missed)]
-    verdict, why = check_symbolic.run(path, 12 if HUGE in os.environ else 4)
+    verdict, why, _ = check_symbolic.run(path, 12 if HUGE in os.environ else 4)
     return [(verdict, title, why)]
 
 
@@ -179,8 +191,42 @@ def public_bytes(path: str) -> Any:
     missed = not_runnable(path)
     if missed:
         return [("skip", title, "no " + missed)]
-    verdict, why = check_taint.run(path, 10 if HUGE in os.environ else 2)
+    verdict, why, _ = check_taint.run(path, 10 if HUGE in os.environ else 2)
     return [(verdict, title, why)]
+
+
+def write_forms() -> int:
+    """Writes the forms of instructions that the tests of all files run. Returns the status."""
+    os.environ[forms.WRITES] = "1"
+    found: set = set()
+    for path in functions.FILES:
+        if functions.architecture(path) != "wasm":
+            tests: list = [check_instructions.check, check_symbolic.run]
+            tests += [check_taint.run] * (path not in constant_time.NOT_FOLLOWED)
+            for test in tests:
+                missed = not_runnable(path)
+                verdict, why, run = ("not ok", "no " + missed, None) if missed else test(path, 4)
+                if verdict != "ok":
+                    print("check.py: %s: %s" % (path, why), file=sys.stderr)
+                    return 1
+                found |= run
+    forms.write(found)
+    return 0
+
+
+def table_of_forms(kind: str) -> Any:
+    """That each form of the table is one of a shipped file, whose tests run it."""
+    paths = [p for p in functions.FILES if functions.architecture(p) == kind]
+    title = "each form of an instruction for %s is run" % kind
+    gone = next(filter(None, map(missing, paths)), None)
+    if gone:
+        return [("skip", title, "no " + gone)]
+    used: set = set()
+    for program in map(programs.read, paths):
+        for user, names in check_symbolic.executed(program):
+            used |= {(kind, user, forms.form(kind, text)) for name in names for text in program.texts(name)}
+    extra = sorted(f for f in forms.known() if f[0] == kind and f not in used)
+    return [("not ok" if extra else "ok", title, " ".join(extra[0]) if extra else "")]
 
 
 def has_flag(name: str) -> bool:
@@ -211,28 +257,27 @@ def follow(path: str, family: str, left_out: tuple = ()) -> Any:
         if entry[0] in left_out:
             continue
         try:
-            found = constant_time.show(program, *entry)
+            found = constant_time.follow(program, entry)
         except T.Refused as e:
-            if (path, entry[0]) in constant_time.NOT_SHOWN:
-                continue
             return [("not ok", title, "%s: %s" % (T.kind_of(e), e))]
-        if (path, entry[0]) in constant_time.NOT_SHOWN:
-            return [("not ok", title, "%s is shown: take it out of NOT_SHOWN" % entry[0])]
+        if found is None:
+            continue
         count, reached = count + 1, reached | found.reached
     return [("ok", title, "%d functions, which reach %d instructions besides those that compress"
              % (count, len(reached)))]
 
 
-def write_and_return(path: str, family: str, exports: Any, pending: Any, sizes: Any) -> Any:
+def write_and_return(path: str, family: str, exports: Any, *numbers: Any) -> Any:
     """That whole calls of some functions of a family write and return what they must."""
     title = "%s: what calls of %s write and return: %s" % (
-        path, FAMILIES[family], " ".join(e.lstrip("_") or "in one" for e in exports))
-    if missing(path):
-        return [("skip", title, "no " + missing(path))]
+        path, families.TITLES[family], " ".join(e.lstrip("_") or "in one" for e in exports))
+    gone = missing(path) or without_solver()
+    if gone:
+        return [("skip", title, "no " + gone)]
     cases = paths = 0
     try:
         for export in exports:
-            found = call_cases.Cases(programs.read(path), family, pending, sizes).show(export)
+            found = families.cases(programs.read(path), family, *numbers).show(export)
             cases, paths = cases + found[0], paths + found[1]
     except T.Refused as e:
         return [("not ok", title, "%s: %s" % (T.kind_of(e), e))]
@@ -241,11 +286,11 @@ def write_and_return(path: str, family: str, exports: Any, pending: Any, sizes: 
 
 def parts_of_calls(path: str, is_short: bool) -> Iterator:
     """The arguments of write_and_return for a file: all cases in parts, or some."""
-    for family in FAMILIES:
-        exports = [e for e in constant_time.EXPORTS if e not in constant_time.NOT_COMPUTED]
-        if is_short:
-            if path == SHORT_WRITTEN[family]:
-                yield (path, family, exports) + call_cases.some(family)
+    for family in families.TITLES:
+        exports = [] if missing(path) else families.exports(programs.read(path), family)
+        if is_short or not family:
+            if not is_short or path == SHORT_WRITTEN[family]:
+                yield (path, family, exports) + families.some(family)
             continue
         pending = list(range(call_cases.KINDS[family].block + 1))
         for numbers in (pending[k::4] for k in range(4)):
@@ -261,10 +306,29 @@ def specification() -> Any:
     return [(verdict, "the specification of whole calls agrees with hashlib", why)]
 
 
+def contracts() -> Any:
+    """The specification of whole calls, and the library."""
+    title = "the specification of whole calls agrees with the library"
+    gone = missing(check_contracts.PATH) or not_runnable(check_contracts.PATH)
+    if gone or platform.machine() != "x86_64":
+        return [("skip", title, "no %s" % (gone or "x86-64"))]
+    verdict, why = check_contracts.check(300 if HUGE in os.environ else 12)
+    return [(verdict, title, why)]
+
+
 def numbers_in_ranges() -> Any:
     """The ranges of the machines that follow secrets, over numbers."""
     verdict, why = check_ranges.check(2000 if HUGE in os.environ else 100)
     return [(verdict, "the ranges of words that are followed have their numbers", why)]
+
+
+def numbers_decided(seed: int) -> Any:
+    """What the machines of whole calls decide, over numbers."""
+    title = "comparisons of whole calls are decided right"
+    if without_solver():
+        return [("skip", title, "no " + str(without_solver()))]
+    verdict, why = check_decisions.check(seed, 25000 if HUGE in os.environ else 500)
+    return [(verdict, title, why)]
 
 
 def scrub(path: str) -> Any:
@@ -297,13 +361,10 @@ def types() -> Any:
 
 
 def rules(width: int) -> Any:
-    """The rules of terms.py, in a process of a Python that has z3."""
-    for python in (sys.executable, "/usr/bin/python3"):
-        if subprocess.run([python, "-c", "import z3"], stderr=subprocess.DEVNULL).returncode == 0:
-            break
-    else:
-        return [("skip", "the rules of terms at %d bits" % width, "no python3-z3")]
-    command = [python, os.path.join(HERE, "check_terms.py"), str(width)]
+    """The rules of terms.py."""
+    if without_solver():
+        return [("skip", "the rules of terms at %d bits" % width, "no " + str(without_solver()))]
+    command = [sys.executable, os.path.join(HERE, "check_terms.py"), str(width)]
     run = subprocess.run(command, stdout=subprocess.PIPE, text=True)
     found = []
     for line in run.stdout.splitlines():
@@ -337,7 +398,9 @@ def jobs(arguments: list) -> Any:
                  for part in reversed(FOLLOWED) for path in followed
                  if path == SHORT_FOLLOWED[part] or not is_short]
     if not arguments:
-        found += [(specification, ()), (numbers_in_ranges, ())]
+        found += [(specification, ()), (contracts, ()), (numbers_in_ranges, ())]
+        found += [(table_of_forms, (kind,)) for kind in ("x86_64", "aarch64")]
+        found[:0] = [(numbers_decided, (seed,)) for seed in range(1 if is_short else 4)]
         found[:0] = [(rules, (width,)) for width in (64, 32, 16, 8)
                      if width in SHORT_WIDTHS or not is_short]
         found += [(instructions, (path,)) for path in functions.FILES
@@ -408,6 +471,9 @@ def main(arguments: list) -> Any:
     if set(arguments) & {"-h", "--help"}:
         print(__doc__.strip())
         return 0
+    given = arguments
+    if arguments == ["--forms"]:
+        return write_forms()
     if arguments == ["--long"]:
         os.environ[HUGE] = "1"
         arguments = []
@@ -417,6 +483,7 @@ def main(arguments: list) -> Any:
     if unknown:
         print("check.py: there is no list of functions for %s" % unknown[0], file=sys.stderr)
         return 2
+    facts.run_with_z3(__file__, given)
     read_all(arguments or functions.FILES)
     with multiprocessing.Pool() as pool:
         found = (r for results in pool.imap(run, jobs(arguments), chunksize=1) for r in results)

@@ -12,6 +12,7 @@ import subprocess
 import tempfile
 from typing import Any, TYPE_CHECKING
 
+import forms
 import functions
 import terms as T
 import x86
@@ -22,8 +23,6 @@ if TYPE_CHECKING:
     from program import Program
 
 BUFFER = 4096                          # bytes on each side of the base of an access
-SKIPPED = {"push", "pop", "ret", "jmp", "je", "jne", "nop", "adrp", "cbz", "cbnz", "b.ne", "b.eq",
-           "b"}                        # push to adrp are part of whole functions only
 SETS_FLAGS = ("add", "sub", "dec", "xor", "test", "shr", "shl", "cmp", "subs", "tst")
 C = """
 #include <stdint.h>
@@ -62,30 +61,31 @@ EXTRA = {
 
 
 def form(kind: str, i: Any) -> Any:
-    """The instruction without the numbers of its registers and without its addresses."""
-    text = i.text.partition("#" if kind == "x86_64" else "//")[0].strip()
-    if i.name in SKIPPED:
+    """The instruction without the numbers of its registers and without its addresses, and its form. None
+    if it is part of whole functions only."""
+    text, found = i.text.partition("#" if kind == "x86_64" else "//")[0].strip(), forms.form(kind, i.text)
+    if forms.CONTROL[kind].fullmatch(found):
         return None
     if kind == "aarch64":
         text = re.sub(r"\b([xwvqsd])\d+\b", r"\1", text)
         text = re.sub(r" \[(\w+)", " [base", text)
-        return re.sub(r"(base, #)-?\w+", r"\1n", text)
+        return re.sub(r"(base, #)-?\w+", r"\1n", text), found
     if i.name == "lea":
-        return re.sub(r"\br\w+\b", "r", text)
+        return re.sub(r"\br\w+\b", "r", text), found
     text = re.sub(r"\b([xyz]mm|k)\d+", r"\1", re.sub(r"\[.*\]", "[]", text))
     size = lambda m: x86.GENERAL.get(m[0], (0, 0))[1]
-    return re.sub(r"\b\w+\b", lambda m: "g%d" % size(m) if size(m) else m[0], text)
+    return re.sub(r"\b\w+\b", lambda m: "g%d" % size(m) if size(m) else m[0], text), found
 
 
 def rewritten(kind: str, i: Any) -> tuple:
     """An instruction over a base register of its own for memory: its text, and the register."""
     if kind == "aarch64":
         text = i.text.partition("//")[0].strip().replace("\t", " ")
-        m = re.search(r" \[(\w+)", text)
-        used = {int(n) for n in re.findall(r"\b[xw](\d+)\b", text)}
-        base = next(n for n in (28, 27, 26, 25) if n not in used)
-        if m:
-            return text.replace(" [" + m[1], " [x%d" % base), base
+        used = {int(n) for n in re.findall(r"\b[xw](\d+)\b", re.sub(r"\[.*\]", "", text))}
+        base, index = [n for n in range(28, 20, -1) if n not in used][:2]
+        if " [" in text:
+            text = re.sub(r" \[\w+, x\d+", " [x%d, x%d" % (base, index), text)
+            return re.sub(r" \[\w+", " [x%d" % base, text), base
         return re.sub(r"\bsp\b", "x%d" % base, text), base
     text = i.text.partition("#")[0].strip()
     if i.name == "lea":
@@ -209,17 +209,29 @@ def difference(program: Program, m: Any, buf: T.Term, before: bytes, after: byte
     return None
 
 
-def state(rng: Any, text: str, is_plain: bool) -> Any:
-    """Random registers and memory; or such that results are often zero."""
+def state(rng: Any, text: str, is_plain: bool, is_zero: bool = False) -> Any:
+    """Random registers and memory; or such that results are often zero; or zeros."""
     data = bytearray(rng.randbytes(SIZE))
     data[ZERO] = rng.randrange(2)
     if is_plain:
         return data
     numbers = [int(n, 0) for n in re.findall(r"(?<!\w)(?:0x[0-9a-f]+|\d+)(?!\w)", text)] or [1]
-    value = rng.choice([0, 1, numbers[-1], -numbers[-1]]) & (1 << 64) - 1
+    value = 0 if is_zero else rng.choice([0, 1, numbers[-1], -numbers[-1]]) & (1 << 64) - 1
     data[:256] = value.to_bytes(8, "little") * 32
     data[MEMORY:] = bytes([rng.choice((0, 1, 2))]) * (2 * BUFFER)
     return data
+
+
+def fit(kind: str, text: str, data: Any, rng: Any) -> None:
+    """Makes numbers such that an instruction does not fault: small indices, and a division whose
+    quotient has room."""
+    indices = re.findall(r"\[x\d+, x(\d+)", text) + [n for n in (12, 13) if "r15+r%d" % n in text]
+    for j in map(int, indices):
+        data[8 * j:8 * j + 8] = bytes([rng.randrange(64)] + [0] * 7)
+    if text.startswith("div"):
+        data[:256] = (bytes([1 + rng.randrange(255)]) * 8) * 32
+        data[16:24] = bytes(8)
+        data[MEMORY:] = bytes([7]) * (2 * BUFFER)
 
 
 def chosen(program: Program, entries: tuple, rng: Any, count: int) -> tuple:
@@ -232,7 +244,17 @@ def chosen(program: Program, entries: tuple, rng: Any, count: int) -> tuple:
                 found.setdefault(f, set()).add(rewritten(program.kind, i))
     tests = [t for f in sorted(found)
              for t in rng.sample(sorted(found[f]), min(count, len(found[f])))]
-    return len(found), tests + EXTRA[program.kind]
+    return {f[1] for f in found}, tests + EXTRA[program.kind]
+
+
+def compared(path: str, user: str, used: set, tests: list, what: str) -> tuple:
+    """The verdict of the tests of a model, over the forms that its functions have and the texts that it
+    was run with; and the forms that were run."""
+    kind = functions.architecture(path)
+    run = {f for text in tests for f in (forms.form(kind, part) for part in text.split("; ")) if f in used}
+    why = None if forms.WRITES in os.environ else forms.compare(kind, user, used, run)
+    return "not ok" if why else "ok", why or "%d forms, %s" % (len(used), what), {
+        (kind, user, f) for f in run}
 
 
 def execute(kind: str, tests: list, vectors: tuple, inputs: list) -> list:
@@ -251,15 +273,15 @@ def execute(kind: str, tests: list, vectors: tuple, inputs: list) -> list:
 
 
 def check(path: str, rounds: int) -> tuple:
-    """Whether the model agrees with the processor: a verdict, and the numbers or what differs."""
+    """Whether the model agrees with the processor: a verdict, the numbers or what differs, and the
+    forms that were run."""
     program, rng = read(path), random.Random(1)
-    forms, tests = chosen(program, functions.FILES[path], rng, 3 if rounds > 4 else 1)
+    used, tests = chosen(program, functions.FILES[path], rng, 3 if rounds > 4 else 1)
     inputs = []
     for k, (text, _) in enumerate(tests):
         for n in range(rounds + 6 * text.startswith(SETS_FLAGS)):
-            data = state(rng, text, n < rounds // 2 or not text.startswith(SETS_FLAGS))
-            if "r15+r1" in text:
-                data[96:112] = bytes([rng.randrange(64)] + [0] * 7) * 2
+            data = state(rng, text, n < rounds // 2 or not text.startswith(SETS_FLAGS), n == rounds)
+            fit(program.kind, text, data, rng)
             inputs.append((k, bytes(data)))
     flags: dict = {}
     found = execute(program.kind, tests, vectors_of(path), inputs)
@@ -270,9 +292,10 @@ def check(path: str, rounds: int) -> tuple:
         m, buf = model(program, text, base, before)
         wrong = difference(program, m, buf, before, after)
         if wrong:
-            return "not ok", "%s: in the model %s" % (tests[k][0], wrong)
+            return "not ok", "%s: in the model %s" % (tests[k][0], wrong), set()
         flags.setdefault(tests[k][0].split()[0], set()).add(after[ZERO])
     once = [name for name in SETS_FLAGS if flags.get(name, {0, 1}) != {0, 1}]
     if once:
-        return "not ok", "the zero flag of %s was never seen both 0 and 1" % once[0]
-    return "ok", "%d forms, %d instructions, %d runs" % (forms, len(tests), len(inputs))
+        return "not ok", "the zero flag of %s was never seen both 0 and 1" % once[0], set()
+    return compared(path, "F", used, [text for text, _ in tests], "%d instructions, %d runs" % (
+        len(tests), len(inputs)))

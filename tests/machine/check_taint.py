@@ -6,6 +6,7 @@ each instruction that sets some, and after one that sets them and another that k
 from __future__ import annotations
 
 import random
+import re
 import struct
 from typing import Any, Iterator, TYPE_CHECKING
 
@@ -20,11 +21,7 @@ if TYPE_CHECKING:
     from program import Program
 
 SPAN = (-check.BUFFER, check.BUFFER)
-# Not run alone: other control, what moves the stack pointer, and what may fault or wait.
-SKIPPED = check.SKIPPED | {"call", "bl", "div", "udiv", "mul", "imul", "mulx",
-                            "madd", "msub", "umulh", "pause", "isb", "leave", "brk", "ud2"}
-SKIPPED |= {"j" + c for c in constant_time.taint_x86.CONDITIONS}
-SKIPPED |= {"b." + c for c in constant_time.taint_arm.CONDITIONS} | {"tbz", "tbnz", "br"}
+PRODUCTS = ("div", "udiv", "mul", "imul", "mulx", "madd", "msub", "umulh")      # only of public words
 
 
 # Instructions that set flags, that keep some or all, and that read them.
@@ -84,15 +81,11 @@ def chosen(program: Program, count: int, rng: Any, names: list | None = None) ->
     model = constant_time.MODELS[kind]
     for name in names or reached(program):
         for i in program.code(name, model.Instruction):
-            has_index = kind == "aarch64" and any(getattr(o, "index", None) and o.kind == "memory"
-                                                  for o in i.operands)
-            if i.name not in SKIPPED and not has_index and not (
-                    i.name == "lea" and "[rip" in i.text):
-                form = check.form(kind, i)
-                if form is not None:
-                    found.setdefault(form, set()).add(check.rewritten(kind, i))
-    return len(found), [t for f in sorted(found)
-                        for t in rng.sample(sorted(found[f]), min(count, len(found[f])))]
+            form = check.form(kind, i)
+            if form is not None:
+                found.setdefault(form, set()).add(check.rewritten(kind, i))
+    return {f[1] for f in found}, [t for f in sorted(found)
+                                   for t in rng.sample(sorted(found[f]), min(count, len(found[f])))]
 
 
 def hidden(rng: Any, size: int) -> set:
@@ -161,16 +154,21 @@ def wrong(program: Program, m: Any, buf: T.Term, one: bytes, two: bytes) -> Any:
 
 
 def run(path: str, rounds: int) -> tuple:
-    """Whether the abstract machine agrees with the processor: a verdict, and what differs."""
+    """Whether the abstract machine agrees with the processor: a verdict, what differs, and the forms
+    that were run."""
     program, rng = read(path), random.Random(3)
-    forms, tests = chosen(program, 2 if rounds > 4 else 1, rng)
+    used, tests = chosen(program, 2 if rounds > 4 else 1, rng)
     flags = list(readers(program.kind, tests, rng))
     tests, compared = tests + flags, set()
     vectors, inputs, hiding = check.vectors_of(path), [], []
     for k, (text, _) in enumerate(tests):
         for n in range(rounds):
             data = check.state(rng, text, n % 2 == 0)
-            places, other = hidden(rng, vectors[1]), bytearray(data)
+            check.fit(program.kind, text, data, rng)
+            indices = [int(j) for j in re.findall(r"\[x\d+, x(\d+)", text)]
+            places = set() if text.split()[0] in PRODUCTS else hidden(rng, vectors[1])
+            places -= {8 * j + k for j in indices for k in range(8)}
+            other = bytearray(data)
             for at, b in zip(sorted(places), rng.randbytes(len(places))):
                 other[at] = b
             inputs += [(k, bytes(data)), (k, bytes(other))]
@@ -190,9 +188,10 @@ def run(path: str, rounds: int) -> tuple:
         compared.add(k)
         why = wrong(program, m, buf, after[2 * n], after[2 * n + 1])
         if why:
-            return "not ok", "%s: %s" % (tests[k][0], why)
+            return "not ok", "%s: %s" % (tests[k][0], why), set()
     if len(compared) < len(tests) * 9 // 10:
         return "not ok", "the flags of %d of %d tests were never public" % (
-            len(tests) - len(compared), len(flags))
-    return "ok", "%d forms, %d instructions, %d with a reader of flags, %d runs" % (
-        forms, len(tests) - len(flags), len(flags), len(inputs))
+            len(tests) - len(compared), len(flags)), set()
+    return check.compared(path, "T", used, [tests[k][0] for k in compared],
+                          "%d instructions, %d with a reader of flags, %d runs" % (
+                              len(tests) - len(flags), len(flags), len(inputs)))

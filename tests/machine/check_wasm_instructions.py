@@ -12,9 +12,8 @@ from typing import Any
 import functions
 import terms as T
 import wasm
-import wasm_format
 from machine import Region
-from program import read
+from program import read, wasm_format
 
 SKIPPED = ("block", "loop", "end", "br", "br_if", "return", "unreachable", "local.get",
            "local.set", "local.tee", "global.get", "i64.lt_s")

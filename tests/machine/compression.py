@@ -15,6 +15,7 @@ if TYPE_CHECKING:
     from program import Program
 
 STACK = 16384
+FRAMES: dict = {}                      # what frame() has returned, by the content of the function
 
 
 def memory_of_words(words: list) -> Callable:
@@ -243,6 +244,7 @@ class Runner:
         self.code = {i.address: i for i in code}
         self.first = code[0].address
         self.count, self.paths, self.branches, self.addresses = 0, 0, 0, 0
+        self.deepest = 0               # the lowest place of the stack that was used
         self.at: Any = None
         self.visited: set = set()
 
@@ -256,6 +258,8 @@ class Runner:
             pc = machine.execute(self.at)
             self.visited.add(self.at.address)
             self.count += 1
+            if pc is not None:
+                self.deepest = min(self.deepest, machine.lowest())
             if pc is None or pc == stop:
                 return pc
             if self.count > 200000:
@@ -460,7 +464,7 @@ def show(program: Program, name: str, kind: R.Kind, lanes: int) -> tuple:
     """Proves the claim for a function, or raises Refused. Returns the runner, and the seconds."""
     T.reset()
     started = time.time()
-    runner = Runner(program.code(name))
+    runner = Runner(program.code(name, user="F"))
     try:
         if lanes == 1 or call_of(name) is EachCall:
             show_one(program, name, kind, lanes, runner)
@@ -473,3 +477,12 @@ def show(program: Program, name: str, kind: R.Kind, lanes: int) -> tuple:
         at = " ".join(runner.at.text.split()) if runner.at else "the entry"
         raise type(e)("at %s: %s" % (at, e))
     return runner, time.time() - started
+
+
+def frame(program: Program, name: str, kind: R.Kind) -> int:
+    """How many bytes of the stack below its return address a function that compresses one block uses,
+    by its proof. All terms are forgotten."""
+    content = program.content(name) or (program, name)
+    if content not in FRAMES:
+        FRAMES[content] = -show(program, name, kind, 1)[0].deepest
+    return FRAMES[content]

@@ -90,12 +90,11 @@ FINALIZING, ANSWERING = (tuple(name % family for family in FAMILIES)
 # Of these whole_calls.py does not show what they write. The last three are of BLAKE2Xb and
 # BLAKE2Xs.
 NOT_COMPUTED = ("_many", "_derive_key", "_left", "_squeeze")
-OF_C = ("memcpy", "memmove", "memset")
+OF_C = programs.OF_C
 NOT_FOLLOWED = ("dist/x86_64/vulfsjor-v4.s",)   # masks of AVX-512 are not followed
 # What is not shown, as pairs of a file and a function: those whose pointers have bounds that are
 # too hard for the ranges.
-NOT_SHOWN = {(path, "vulfsjor_ffi_blake2bp")
-             for path in ("dist/x86_64/vulfsjor-v3.s", "dist/x86_64/vulfsjor-v2.s")}
+NOT_SHOWN = {("dist/x86_64/vulfsjor-v3.s", "vulfsjor_ffi_blake2bp")}
 
 
 class Call:
@@ -174,7 +173,7 @@ class Analysis:
     def code(self, name: str) -> tuple:
         """The instructions of a function by address, and where its blocks begin."""
         if name not in self.codes:
-            found = self.program.code(name, MODELS[self.program.kind].Instruction)
+            found = self.program.code(name, MODELS[self.program.kind].Instruction, "T")
             starts = {i.target for i in found if i.target is not None}
             self.codes[name] = {i.address: i for i in found}, starts, found[0].address
         return self.codes[name]
@@ -384,6 +383,21 @@ def show(program: programs.Program, name: str, kinds: tuple, family: str) -> Ana
         raise CannotShow("%s does not call %s: the compiler may have inlined it, or it has another "
                          "name now: see tests/machine/functions.py" % (name, missed[0] % family))
     return analysis
+
+
+def follow(program: programs.Program, entry: tuple) -> Analysis | None:
+    """The same, or None for a function of NOT_SHOWN for which no bound is known. Refuses one that is
+    shown after all."""
+    name = entry[0]
+    try:
+        found = show(program, *entry)
+    except CannotShow as e:
+        if (program.path, name) in NOT_SHOWN and ": no bound is known for " in str(e):
+            return None
+        raise
+    if (program.path, name) in NOT_SHOWN:
+        raise CannotShow("%s is shown: take it out of NOT_SHOWN" % name)
+    return found
 
 
 def check(call: Call, after: Any, name: str) -> None:

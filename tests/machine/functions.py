@@ -20,19 +20,20 @@ EIGHT_B = ("blake2_compress..many..blake2b..eight..compress_blocks", R.BLAKE2B, 
 # Of the leaves of BLAKE2bp and BLAKE2sp: one block of each, with a counter for each, and stripes.
 EACH_B = ("blake2_compress..many..blake2b..compress_each", R.BLAKE2B, 4)
 EACH_S = ("blake2_compress..many..blake2s..compress_each", R.BLAKE2S, 8)
-STRIPES_B = ("blake2_parallel..lanes..blake2b..compress_in_lanes", R.BLAKE2B, 4)
-STRIPES_S = ("blake2_parallel..lanes..blake2s..compress_in_lanes", R.BLAKE2S, 8)
+STRIPES_B = ("blake2_parallel..lanes..blake2bp..compress_in_lanes", R.BLAKE2B, 4)
+STRIPES_S = ("blake2_parallel..lanes..blake2sp..compress_in_lanes", R.BLAKE2S, 8)
 SCRUB_STACK = "blake2_digest..wiping..scrub_stack.."
 SETTLE = "blake2_digest..wiping..settle.."
 # What `_final` and `_verify` call, by the family: the first zeroes the state, and the answer of the
 # second is public.
 FINALIZE = "blake2_ffi..%s..finalize"
 IS_DIGEST_OF = "blake2_ffi..%s..is_digest_of"
+MEMCMP = "vulfsjor_ffi_memcmp"
 
 # What the programs call of the library's text, besides what C programs call.
 SHARED = (ONE_B[0], ONE_S[0], "blake2_tree..nodes..Nodes..hash_next",
           *("blake2_parallel..lanes..%s..Lanes..%s" % (family, call)
-            for family in ("blake2b", "blake2s") for call in ("outputs", "update")))
+            for family in ("blake2bp", "blake2sp") for call in ("outputs", "update")))
 
 LIBRARY = (ONE_B, MANY_B, ONE_S, MANY_S, EACH_B, EACH_S, STRIPES_B, STRIPES_S)
 FILES = {
@@ -42,6 +43,8 @@ FILES = {
     "dist/aarch64/vulfsjor.s": LIBRARY,
     "dist/wasm/vulfsjor.wasm": LIBRARY,
     "js/src/wasm.js": LIBRARY,
+    "js/src/wasm_blake2b.js": (ONE_B,),
+    "js/src/wasm_blake2s.js": (ONE_S,),
 }
 
 

@@ -33,5 +33,6 @@ def lines_of(line: str, kind: str) -> list[str]:
 
 def expanded(text: str, kind: str) -> str:
     """A text for ELF without macros, with the marks that dist/macros.h gives it."""
-    lines = [*macros(kind)[1], *lines_of("\tvj_marks", kind), *(part for line in text.split("\n") for part in lines_of(line, kind))]
+    lines = [*macros(kind)[1], *lines_of("\tvj_marks", kind),
+             *(part for line in text.split("\n") for part in lines_of(line, kind))]
     return "\n".join(lines)

@@ -8,11 +8,15 @@ import re
 from typing import Any, Callable
 
 import call_cases
+import check_contracts
 import check_ranges
 import check_specification
+import check_symbolic
 import check_taint
 import compression
 import constant_time
+import families
+import forms
 import functions
 import program as programs
 import ranges
@@ -90,7 +94,7 @@ def refuse(short: str, function: Any, number: Any, old: Any, new: Any) -> Any:
     if what == "scrub":
         count, _, name = count.partition(" ")
         name, show, rest = name or functions.SCRUB_STACK + count, show_scrub, [count]
-    elif what == "whole":
+    elif what in ("whole", "right"):
         exported, _, name = count.partition(" ")
         exported = "vulfsjor_ffi_" + exported
         name, show, rest = name or exported, compute_call, [exported]
@@ -103,7 +107,8 @@ def refuse(short: str, function: Any, number: Any, old: Any, new: Any) -> Any:
     else:
         name, *rest = ENTRIES[function.removesuffix(" data")]
         name, show = functions.in_file(path, name), compression.show
-    title = "refused: %s, %s: %s => %s" % (path, function, old, new or "nothing")
+    title = "%s: %s, %s: %s => %s" % ("not called wrong" if what == "right" else "refused", path, function,
+                                      old, new or "nothing")
     change = int(number), old, new
     edit = (edit_module(name, *change) if functions.architecture(path) == "wasm"
             else edit_text(name, is_data, *change) if name else edit_file(*change))
@@ -117,8 +122,9 @@ def refuse(short: str, function: Any, number: Any, old: Any, new: Any) -> Any:
     except programs.NotAssembled as e:
         return [("not ok", title, "the assembler refuses the new instruction: %s" % e)]
     except T.Refused as e:
-        return [("ok", title, "%s: %s" % (T.kind_of(e), e))]
-    return [("not ok", title, "the proof accepts the change")]
+        is_right = what != "right" or isinstance(e, T.CannotShow)
+        return [("ok" if is_right else "not ok", title, "%s: %s" % (T.kind_of(e), e))]
+    return [("ok" if what == "right" else "not ok", title, "the proof accepts the change")]
 
 
 def is_same(program: programs.Program, name: str) -> Any:
@@ -135,7 +141,7 @@ def follow_call(program: programs.Program, name: str, exported: str) -> None:
     """Follows a call of an exported function that reaches the changed one."""
     for entry in constant_time.exports(program):
         if entry[0] == exported:
-            constant_time.show(program, *entry)
+            constant_time.follow(program, entry)
 
 
 def show_scrub(program: Any, _: Any, count: Any) -> None:
@@ -145,9 +151,8 @@ def show_scrub(program: Any, _: Any, count: Any) -> None:
 
 def compute_call(program: programs.Program, name: str, exported: str) -> None:
     """Shows what a call of an exported function of a family writes, in some cases."""
-    family = programs.found(r"vulfsjor_ffi_(blake2[bs])", exported)[1]
-    call_cases.Cases(program, family, *call_cases.some(family)).show(
-        exported[len("vulfsjor_ffi_" + family):])
+    family = programs.found(r"vulfsjor_ffi_(blake2[bs]|)", exported)[1]
+    families.cases(program, family, *families.some(family)).show(exported[len(families.PREFIX + family):])
 
 
 def look(program: programs.Program, _: Any = None) -> None:
@@ -214,7 +219,7 @@ def secret_forgotten() -> Any:
     """Operations whose result does not depend on their operands, for whole calls."""
     follower = constant_time.taint_arm.Model
     verdict, why = _with(follower, "mixed", lambda self, data: constant_time.unknown(),
-                         lambda: check_taint.run(SHORT["arm"], 2))
+                         lambda: check_taint.run(SHORT["arm"], 2)[:2])
     return _seen("an operation that forgets secrets fails", verdict == "not ok" and why)
 
 
@@ -223,7 +228,7 @@ def carry_forgotten() -> Any:
     count = lambda self, to, step: self.binary_word(
         "other", lambda a, b: T.add(a.w, (1, a), (step, b)), to, constant_time.taint_x86.ONE)
     verdict, why = _with(constant_time.taint_x86.Model, "count", count,
-                         lambda: check_taint.run(SHORT["v3"], 2))
+                         lambda: check_taint.run(SHORT["v3"], 2)[:2])
     return _seen("a carry that inc sets fails", verdict == "not ok" and why)
 
 
@@ -243,6 +248,23 @@ def step_forgotten() -> Any:
     return _seen("a range that begins between two steps fails", verdict == "not ok" and why)
 
 
+def form_not_run() -> Any:
+    """A test of the models that leaves out the instructions of a form."""
+    right = check_taint.chosen
+    def less(program: Any, count: int, rng: Any, names: Any = None) -> tuple:
+        used, tests = right(program, count, rng, names)
+        return used, [t for t in tests if not t[0].startswith("ubfiz")]
+    verdict, why = _with(check_taint, "chosen", less, lambda: check_symbolic.run(SHORT["arm"], 1)[:2])
+    return _seen("a form that is not run is noticed", verdict == "not ok" and why)
+
+
+def form_left_out() -> list:
+    """A table of forms that has one less."""
+    less = forms.known() - {("aarch64", "F", "ror x,x,#24")}
+    return _seen("a form left out of the table is refused",
+                 _with(forms, "known", lambda: less, lambda: _on_arm(functions.ONE_B)))
+
+
 def wrong_specification() -> Any:
     """A specification of whole calls whose last block is not the last."""
     digest = lambda a, kind, s: a.compress(
@@ -251,6 +273,14 @@ def wrong_specification() -> Any:
                          lambda: check_specification.check(1))
     return _seen("a specification without the last block's flag fails",
                  verdict == "not ok" and why)
+
+
+def wrong_refusal() -> Any:
+    """A specification of whole calls that accepts an output of one byte too many."""
+    right = check_contracts.S.admits
+    admits = lambda kind, size, *rest: [((size,), 1, kind.w + 1)] + right(kind, size, *rest)[1:]
+    verdict, why = _with(check_contracts.S, "admits", admits, lambda: check_contracts.check(30))
+    return _seen("a specification that accepts too long an output fails", verdict == "not ok" and why)
 
 
 def wrong_choice() -> Any:
@@ -309,4 +339,4 @@ def _seen(title: str, why: Any) -> list:
 
 OF_THE_TOOL = (wrong_model, wrong_rule, function_left_out, secret_forgotten, call_left_out,
                name_changed, carry_forgotten, path_forgotten, step_forgotten, wrong_specification,
-               wrong_choice)
+               wrong_refusal, wrong_choice, form_not_run, form_left_out)

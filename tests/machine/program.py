@@ -8,19 +8,22 @@ import os
 import re
 import struct
 import subprocess
+import sys
 import tempfile
 from typing import Any
 
 import arm
 import elf
+import forms
 import functions
 import macros
 import wasm
-import wasm_format
 import x86
 from terms import CannotShow, IsWrong
 
 ROOT = os.path.dirname(os.path.dirname(os.path.dirname(os.path.abspath(__file__))))
+sys.path.append(os.path.join(ROOT, "tools"))
+import wasm_format  # noqa: E402
 TOOLS: dict = {"x86_64": ([os.environ.get("CC", "cc")], "", ["-M", "intel"]),
          "aarch64": (["aarch64-linux-gnu-gcc"], "aarch64-linux-gnu-", [])}
 MODELS = {"x86_64": x86, "aarch64": arm, "wasm": wasm}
@@ -34,7 +37,8 @@ MARKS = {"x86_64": (0xc0000002, 3), "aarch64": (0xc0000000, 1)}
 # The directives that the files use. Each means the same to all assemblers, in all folders.
 DIRECTIVES = frozenset("ascii asciz byte file globl hidden hword ident long p2align popsection quad "
                        "pushsection section short size type weak word xword zero".split())
-DIRECTIVE = re.compile(r"(?:^|[;/]|(?<!:lo12):)\s*\.([a-z]\w*)\b(?!\s*[:.])", re.I | re.M)
+DIRECTIVE = re.compile(r"(?:^|[;/]|(?<!:lo12):)\s*\.([a-z]\w*)\b(?![\w.$]*\s*:)", re.I | re.M)
+OF_C = ("memcpy", "memmove", "memset")            # functions of the C library that the code calls
 # The kinds of relocation that fill in 4 bytes of constants, R_X86_64_PC32 and R_AARCH64_PREL32.
 # Any other fills in at most 8.
 OF_FOUR_BYTES = (2, 261)
@@ -43,6 +47,7 @@ OF_CALLS = ("R_X86_64_PLT32", "R_X86_64_PC32", "R_AARCH64_CALL26", "R_AARCH64_JU
 # What the linker fills in where the code has the address of a constant.
 OF_CONSTANTS = ("R_X86_64_PC32", "R_AARCH64_ADR_PREL_PG_HI21", "R_AARCH64_ADD_ABS_LO12_NC",
                 "R_AARCH64_LDST64_ABS_LO12_NC", "R_AARCH64_LDST128_ABS_LO12_NC")
+PREFIX = re.compile(r"66|67|f[023]|26|2e|36|3e|6[45]|4")     # of an instruction for x86-64
 LINE = re.compile(r"\s*([0-9a-f]+):\t([0-9a-f ]+?)\s*\t(.*)")
 
 
@@ -54,6 +59,22 @@ class NotAssembled(Exception):
 def read(path: str) -> Program:
     """The program of a file, which is read once."""
     return Program(path)
+
+
+def module_in(script: str) -> bytes:
+    """The module in src/wasm.js."""
+    try:
+        return wasm_format.module_of_script(script)
+    except wasm_format.CannotRead as why:
+        raise CannotShow(str(why)) from why
+
+
+def module_of(data: bytes) -> Any:
+    """The module with these bytes."""
+    try:
+        return wasm_format.Module(data)
+    except wasm_format.CannotRead as why:
+        raise CannotShow(str(why)) from why
 
 
 class Program:
@@ -76,12 +97,12 @@ class Program:
         """The functions of a module. One without names has those of the module that it was made
         from, function by function."""
         if self.path.endswith(".js"):
-            data = wasm_format.module_of_script(data.decode())
-        module = wasm_format.Module(data)
+            data = module_in(data.decode())
+        module = module_of(data)
         names = module.names
         if not names:
             with open(os.path.join(ROOT, "dist/wasm/vulfsjor.wasm"), "rb") as f:
-                original = wasm_format.Module(f.read())
+                original = module_of(f.read())
             names = original.names
             if len(original.functions) != len(module.functions):
                 raise CannotShow("%s has %d functions, and dist/wasm/vulfsjor.wasm has %d" % (
@@ -141,6 +162,8 @@ class Program:
                 raise IsWrong("the section %s has data, or code that may be overwritten, that "
                               "another file may replace, or that runs at the start" % s.name)
         for symbol in file.symbols:
+            if symbol.section != elf.UNDEFINED and without_version(symbol.name) in OF_C:
+                raise IsWrong("%s has the name of a function of the C library" % symbol.name)
             if symbol.binding != elf.LOCAL and symbol.section != elf.UNDEFINED and (
                     not symbol.is_hidden):
                 raise IsWrong("another file may define %s too" % symbol.name)
@@ -164,7 +187,7 @@ class Program:
 
     def target(self, i: Any, external: tuple) -> str:
         """The name without version of the function that a call or a jump goes to: to its start, or
-        to one of these functions of another file."""
+        to one of these functions of another file, of whose names the file itself has none."""
         shown = found(r"<(.*)>", i.text)[1]
         name = without_version(shown)
         if self.is_external(shown):
@@ -176,8 +199,9 @@ class Program:
             raise IsWrong("it goes to %s, not to the start of a function" % shown)
         return name
 
-    def code(self, name: str, instruction: type | None = None) -> list:
-        """The instructions of a function, by the model's class for them or another."""
+    def code(self, name: str, instruction: type | None = None, user: str | None = None) -> list:
+        """The instructions of a function, by the model's class for them or another. `user` is the
+        model of forms.txt that executes them: each must have a form of the table."""
         if name not in self.functions:
             raise CannotShow("%s has no function %s: the compiler may have inlined it, or it has "
                              "another name now: see tests/machine/functions.py" % (self.path, name))
@@ -190,6 +214,10 @@ class Program:
             if m and start <= int(m[1], 16) < end:
                 found.append((instruction or self.model.Instruction)(int(m[1], 16), m[3].strip()))
                 found[-1].next = found[-1].address + len(m[2].replace(" ", "")) // 2
+                if user:
+                    forms.check(self.kind, user, m[3])
+                if found[-1].target is not None and PREFIX.match(m[2]) and self.kind == "x86_64":
+                    raise CannotShow("there is a prefix before a jump or a call: %s" % m[3])
             elif not m and start <= int(line.partition(":")[0], 16) < end:
                 if found[-1] in filled:
                     raise CannotShow("the linker fills in two numbers of " + found[-1].text)

@@ -5,17 +5,19 @@ byte by byte. A branch that is not decided is taken both ways."""
 from __future__ import annotations
 
 import itertools
-from typing import Any, Callable, Iterator
+from typing import Any, Callable, Iterator, NamedTuple
 
 import terms as T
 import x86
 from machine import bitwise, chunks, image, joined, need_public
+from facts import Facts
 from ranges import OPPOSITE, signed
 from taint import Aligned, Taint, is_secret, secret, unknown
 from taint_arm import TaintArm
 from taint_x86 import TaintX86
 from terms import CannotShow, IsWrong
 
+OR_OF_XOR, OR_OF_ALL = 0xf6, 0xfe      # of three operands, by vpternlog
 _COUNT = itertools.count()             # for names of variables that are used once
 
 
@@ -28,14 +30,14 @@ class Undecided(Exception):
 
 
 def fresh(what: str, taint: int, n: int = 1) -> list:
-    """Bytes of which nothing is known: those of one variable."""
-    t = T.var(8 * n, "%s%d" % (what, next(_COUNT)), taint)
+    """Bytes of which nothing is known: those of one variable. A name with ~ is that of no input."""
+    t = T.var(8 * n, "%s~%d" % (what, next(_COUNT)), taint)
     return [(t, k) for k in range(n)]
 
 
 def below(machine: Any, j: int, n: T.Term, a: T.Byte, b: T.Byte) -> T.Byte:
     """The byte a if j is below n, and otherwise b."""
-    low, high = machine.unsigned(n)
+    low, high = machine.path_facts.range(n)
     if j < low or a == b:
         return a
     if j >= high:
@@ -46,7 +48,10 @@ def below(machine: Any, j: int, n: T.Term, a: T.Byte, b: T.Byte) -> T.Byte:
 def choice(j: int, n: T.Term, a: T.Byte, b: T.Byte) -> T.Byte:
     if a == b:
         return a
-    return T.var(8, ("below", j, n, a, b), T.PUBLIC | T.SECRET), 0
+    taint = T.PUBLIC | T.SECRET
+    for x in (a, b):
+        taint |= 0 if isinstance(x, int) else x[0].taint
+    return T.var(8, ("below", j, n, a, b), taint), 0
 
 
 def chosen_of(b: T.Byte, j: int, n: T.Term, which: int) -> T.Byte:
@@ -79,6 +84,16 @@ class Buffer:
     __call__ = initial
 
 
+class Piece(NamedTuple):
+    """What was written to a buffer at an offset, a term: the first bytes of some, or one byte over and
+    over, up to a length."""
+
+    base: T.Term
+    offset: T.Term
+    data: Any
+    length: T.Term
+
+
 class Cells:
     """Memory of a number of bytes, or of the stack, from `low` to `high`."""
 
@@ -88,26 +103,35 @@ class Cells:
         self.writable, self.alignment = writable, alignment
 
 
+def extent(base: T.Term, region: Any) -> tuple:
+    """Where a region begins, and how many bytes it has."""
+    low, size = (0, region.length) if isinstance(region, Buffer) else (
+        region.low, T.const(64, region.high - region.low))
+    return T.add(64, (1, base), (1, T.const(64, low))), size
+
+
 class Exact(Taint):
     """What the models for both processors have in common."""
 
     general: list
     vector: list
-    decisions: dict
+    path_facts: Any
+    apart: frozenset
     secret_of: Any
+    secrets: set
     compared_bytes: Any
+    pieces: tuple
 
-    def begin(self, alignment: tuple, ranges: dict, block: int, longest: int = 0) -> None:
-        super().begin(alignment, ranges, block, longest)
-        self.decisions, self.secret_of, self.where, self.compared_bytes = {}, None, "exact", None
-        # The lowest place of the stack that was used, and whether all below the frame of the call
-        # was overwritten since.
-        self.deepest, self.is_scrubbed = 0, False
-
-    def copy(self) -> Any:
-        other = super().copy()
-        other.decisions = dict(self.decisions)
-        return other
+    def begin(self, alignment: tuple, known: Any, block: int, longest: int = 0) -> None:
+        super().begin(alignment, {}, block, longest)
+        self.path_facts, self.apart = known or Facts(), frozenset()
+        self.secret_of, self.where, self.compared_bytes = None, "exact", None
+        # The lowest place of the stack that was used, the places where a secret may be, also below
+        # the stack pointer, and whether scrub_stack has overwritten all below the frame of the call.
+        self.deepest, self.secrets, self.is_scrubbed = 0, set(), False
+        self.is_kept: Callable = is_secret_byte        # which bytes are secret there
+        self.caller_vectors = [list(r) for r in self.vector]
+        self.pieces = ()               # what was written to buffers at offsets that are terms, in order
 
     def enter(self, i: Any) -> T.Term:
         link = super().enter(i)
@@ -118,25 +142,41 @@ class Exact(Taint):
         """Uses the stack down to a place."""
         self.deepest, self.is_scrubbed = min(self.deepest, low), False
 
-    def scrub(self, count: int) -> None:
-        """A call of scrub_stack, which overwrites this many bytes below its caller's frame. Of what
-        the frames above keep, nothing may be secret."""
-        if self.deepest < self.lowest() - count or any(
-                base is self.stack and is_secret_byte(b) for (base, _), b in self.memory.items()):
-            raise IsWrong("scrub_stack overwrites %d bytes, and the call has used more" % count)
-        self.is_scrubbed = True
+    def compressed(self, frame: int) -> None:
+        """A compression has used so many bytes of the stack, for secrets."""
+        low = self.lowest()
+        self.go_down(low - frame)
+        self.secrets.update(range(low - frame, low))
+        self.clobber(True)
 
-    def clobber(self) -> None:
+    def put(self, base: T.Term, places: Any, data: list) -> None:
+        """Writes bytes at places that are numbers."""
+        self.memory.update(((base, at), b) for at, b in zip(places, data))
+        if base is self.stack:
+            self.is_scrubbed = False
+            self.secrets.difference_update(places)
+            self.secrets.update(at for at, b in zip(places, data) if self.is_kept(b))
+
+    def copy(self) -> Any:
+        other = super().copy()
+        other.secrets = set(self.secrets)
+        return other
+
+    def need_vectors(self) -> None:
+        """Refuses what a call may not leave in vector registers, besides those of its caller."""
+
+    def clobber(self, is_compression: bool = False) -> None:
+        """What a function may leave in registers: `after` is what one of the C library leaves."""
         super().clobber()
         for name in self.FILES:
             for at, data in enumerate(getattr(self, name)):
                 if secret() in data:
-                    new = fresh("after", T.SECRET, len(data))
+                    new = fresh("new" if is_compression else "after", T.SECRET, len(data))
                     getattr(self, name)[at] = [
                         y if x is secret() else x for x, y in zip(data, new)]
 
     def new(self, w: int, what: str = "", limits: Any = None) -> T.Term:
-        return self.renew(T.var(w, "new%d" % next(_COUNT), T.PUBLIC), limits)
+        return T.var(w, "new~%d" % next(_COUNT), T.PUBLIC)
 
     def cleaned(self, data: list, is_word: bool) -> list:
         return [b if isinstance(b, int) or b not in (secret(), unknown()) else
@@ -144,21 +184,16 @@ class Exact(Taint):
 
     # Numbers.
 
-    def single(self) -> dict:
-        """The variables of which the value is known."""
-        return {v: T.const(v.w, low) for v, (low, high, _) in self.ranges.items()
-                if low == high and v.op == "var"}
-
     def settled(self, t: T.Term) -> T.Term:
         """A word, in which variables of which the value is known are numbers."""
-        return T.substitute(t, self.single(), {})
+        return T.substitute(t, self.path_facts.values(), {})
 
     def settler(self) -> Callable:
         """The same for a byte, if it is public."""
-        single = self.single()
+        values = self.path_facts.values()
         memo: dict = {}
         return lambda b: b if isinstance(b, int) or b[0].taint != T.PUBLIC else T.split(
-            T.substitute(b[0], single, memo))[b[1]]
+            T.substitute(b[0], values, memo))[b[1]]
 
     def settle(self) -> None:
         """The same of all bytes that a path has made, after it has learnt something."""
@@ -176,138 +211,36 @@ class Exact(Taint):
         return (first > 0 or found[0] is self.settled(entry[0])) and found[1] is entry[1] and (
             [[byte(b) for b in r] for r in found[2]] == saved)
 
-    def range_of(self, t: T.Term) -> tuple:
-        bs = T.split(t)
-        while bs and bs[-1] == 0:
-            bs.pop()
-        if t.op in ("cat", "slice") and bs and not isinstance(bs[0], int):
-            u, k = bs[0]
-            if k and bs == [(u, j) for j in range(k, u.w // 8)]:      # a shift to the right
-                low, high = self.unsigned(u)
-                return low >> 8 * k, high >> 8 * k, 1
-        if t.op in ("xor", "ror", "shr", "zero", "nonzero"):
-            return 0, (1 << t.w) - 1, 1
-        if t.op != "cat":
-            return super().range_of(t)
-        low = high = 0
-        for k, b in enumerate(t.args):
-            p, q = (b, b) if isinstance(b, int) else self.range_of_byte(b)
-            low, high = low + (p << 8 * k), high + (q << 8 * k)
-        return low, high, 1
+    def learn(self, relation: str, a: T.Term, b: T.Term, holds: bool) -> bool:
+        self.path_facts = self.path_facts.plus(relation if holds else OPPOSITE[relation], a, b)
+        return self.path_facts.are_possible()
 
-    def range_of_byte(self, b: Any) -> Any:
-        low, high = self.unsigned(b[0]) if b[1] == 0 and b[0].op != "cat" else (0, 255)
-        return (low, high) if high <= 255 else (0, 255)
+    def decide(self, relation: str, a: T.Term, b: T.Term) -> bool | None:
+        """Whether two words are so related, if that is known. Arguments do not overlap."""
+        bases = tuple(sorted({u for t in (a, b) for u in T.linear(t)[1] if u in self.regions},
+                             key=lambda u: u.serial))
+        if len(bases) == 2 and bases not in self.apart:
+            self.apart = self.apart | {bases}
+            (x, n), (y, m) = (extent(u, self.regions[u]) for u in bases)
+            self.path_facts = self.path_facts.apart(x, n, y, m)
+        return self.path_facts.decide(relation, a, b)
 
-    def integer(self, t: T.Term) -> tuple | None:
-        """A word as a number plus the sum of variables with coefficients, if it does not wrap."""
-        constant, sign, rest = self.parts(t)
-        low, high, _ = self.range_of(t)
-        if low >> t.w != high >> t.w:
-            return None
-        return constant - (low >> t.w << t.w), sign, rest
+    def is_always(self, relation: str, a: T.Term, b: Any) -> bool:
+        """Whether a word is so related to another, or to a number."""
+        return self.path_facts.imply(relation, a, T.const(a.w, b) if isinstance(b, int) else b)
 
-    @staticmethod
-    def parts(t: T.Term) -> tuple:
-        constant, items = T.linear(t)
-        if not items:
-            return signed(t.w, t.args) if t.w == 64 else t.args, 1, T.const(t.w, 0)
-        return signed(t.w, constant), 1, T.add(t.w, *[(k, u) for u, k in items.items()])
+    def need(self, text: str, *wanted: tuple) -> None:
+        """Refuses a path on which one of some comparisons may not hold."""
+        for relation, a, b in wanted:
+            if not self.is_always(relation, a, b):
+                inputs = self.path_facts.against(relation, a, b)
+                raise IsWrong("%s: for %s" % (text, inputs)) if inputs else CannotShow(text)
 
-    def range_of_combination(self, *words: tuple) -> tuple | None:
-        """The range of a sum of words with signs, as integers, or None."""
-        constant, total = 0, []
-        for sign, t in words:
-            found = self.integer(t)
-            if found is None:
-                return None
-            constant += sign * found[0]
-            total.append((sign * found[1], found[2]))
-        t = T.add(words[0][1].w, *total)
-        if t.op == "const":
-            return constant, constant
-        extra, items = T.linear(t)
-        if extra:
-            return None
-        low, high, _ = self.range_of_integer(t)
-        negative = self.ranges.get(T.add(t.w, (-1, t)))
-        if negative:
-            low, high = max(low, -negative[1]), min(high, -negative[0])
-        return constant + low, constant + high
-
-    def decided(self, relation: str, a: T.Term, b: T.Term) -> bool | None:
-        """Whether a relation of two words holds, or None."""
-        if (relation, a, b) in self.decisions:
-            return self.decisions[relation, a, b]
-        if relation in ("carry", "no carry"):
-            found = self.range_of_combination((1, a), (1, b))
-            if found is None:
-                return None
-            least = 1 << a.w
-            answer = True if found[0] >= least else False if found[1] < least else None
-            return answer if relation == "carry" or answer is None else not answer
-        if a is b:
-            return relation in ("==", "<=", ">=")
-        if relation in ("<", ">=") and self.are_apart(a, b):
-            return relation == ">="
-        found = self.range_of_combination((1, a), (-1, b))
-        if found is None:
-            return None
-        low, high = found
-        holds, fails = {"<": (high < 0, low >= 0), "<=": (high <= 0, low > 0),
-                        "==": (low == high == 0, low > 0 or high < 0)}[
-                            relation if relation in ("<", "<=", "==") else OPPOSITE[relation]]
-        if relation not in ("<", "<=", "=="):
-            holds, fails = fails, holds
-        return True if holds else False if fails else None
-
-    def are_apart(self, a: T.Term, b: T.Term) -> bool:
-        """Whether a is the difference of two places in memory that both have b bytes. Arguments do
-        not overlap, so it is then not below b."""
-        items = T.linear(a)[1]
-        bases = {u: k for u, k in items.items() if u in self.regions}
-        if sorted(signed(a.w, k) for k in bases.values()) != [-1, 1]:
-            return False
-        (first,), (second,) = ([u for u, k in bases.items() if signed(a.w, k) == s]
-                               for s in (1, -1))
-        offset = T.add(a.w, (1, a), (-1, first), (1, second))
-        return self.has_room(first, second, offset, b)
-
-    def has_room(self, first: T.Term, second: T.Term, offset: T.Term, n: T.Term) -> bool:
-        """Whether there are two places with n bytes each in two regions, which differ by an
-        offset. One in a region of a known size is a number."""
-        region, other = self.regions[first], self.regions[second]
-        constant = T.const(64, T.linear(offset)[0])
-        rest, zero = T.add(64, (1, offset), (-1, constant)), T.const(64, 0)
-        if isinstance(region, Cells):
-            at, there = constant, rest
-        elif isinstance(other, Cells):
-            at, there = rest, constant
-        else:
-            at, there = offset, zero
-        there = T.add(64, (-1, there)) if there is not zero else there
-        return self.inside(region, at, n) and self.inside(other, there, n)
-
-    def inside(self, region: Cells, at: T.Term, n: T.Term) -> bool:
-        """Whether n bytes from an offset on are in a region."""
-        if isinstance(region, Buffer):
-            low, high = 0, region.length
-        else:
-            low, high = region.low, T.const(64, region.high)
-            if not self.range_of(at)[0] >= low:
-                return False
-            return self.range_of(T.add(64, (1, high), (-1, at), (-1, n)))[0] >= 0
-        found = self.range_of_combination((1, high), (-1, at), (-1, n))
-        start = self.integer(at)
-        return start is not None and found is not None and found[0] >= 0
-
-    def assume(self, relation: str, a: T.Term, b: T.Term) -> bool:
-        answer = self.decided(relation, a, b)
-        if answer is not None:
-            return answer
-        self.decisions[relation, a, b] = True
-        self.decisions[OPPOSITE[relation], a, b] = False
-        return relation in ("carry", "no carry") or super().assume(relation, a, b)
+    def need_inside(self, text: str, region: Any, at: T.Term, n: T.Term) -> None:
+        """Refuses n bytes from an offset on that may not be in a region."""
+        start, size = extent(T.const(64, 0), region)
+        at = T.add(64, (1, at), (-1, start))
+        self.need(text, ("<=", n, size), ("<=", at, T.add(64, (1, size), (-1, n))))
 
     # Flags.
 
@@ -332,7 +265,7 @@ class Exact(Taint):
         compared = self.compared(condition)
         if compared is None:
             raise CannotShow("a condition that is not modelled: %s" % condition)
-        answer = self.decided(*compared)
+        answer = self.decide(*compared)
         if answer is None:
             raise Undecided(compared)
         return answer
@@ -357,7 +290,7 @@ class Exact(Taint):
             raise CannotShow("a condition that is not modelled: %s" % i.name)
         need_public(compared[1], "a branch")
         need_public(compared[2], "a branch")
-        answer = self.decided(*compared)
+        answer = self.decide(*compared)
         if answer is None:
             raise Undecided(compared)
         self.by_numbers = False
@@ -376,12 +309,16 @@ class Exact(Taint):
         constant, items = T.linear(t)
         data = list(constant.to_bytes(t.w // 8, "little"))
         for u, k in items.items():
-            place = (k.bit_length() - 1) // 8
-            size = (self.unsigned(u)[1].bit_length() + 7) // 8
+            place, size = (k.bit_length() - 1) // 8, self.size_of(u)
             if k != 1 << 8 * place or any(data[place:place + size]) or place + size > len(data):
                 return T.split(t)
             data[place:place + size] = T.split(u)[:size]
         return data
+
+    def size_of(self, t: T.Term) -> int:
+        """How many of the lowest bytes of a word may have another value than 0."""
+        most = t.w // 8
+        return next((n for n in range(most) if self.is_always("<", t, 1 << 8 * n)), most)
 
     def normal(self, t: T.Term) -> list:
         return [self.norm(b) for b in T.split(t)]
@@ -401,18 +338,14 @@ class Exact(Taint):
         return T.split(T.either(8, T.word([x]), T.word([y])))[0]
 
     def divided(self, t: T.Term, m: int) -> Any:
-        """A sum as a multiple of m and a rest between 0 and m - 1, or None."""
+        """A sum as a multiple of m, which is a power of two, and a rest below m; or None."""
         constant, items = T.linear(t)
-        constant = signed(t.w, constant)
-        other = {u: k for u, k in items.items() if k % m}
-        extra = constant % m
-        rest = T.add(t.w, (1, T.const(t.w, extra)), *[(k, u) for u, k in other.items()])
-        low = self.range_of(rest)[0]
-        rest = T.add(t.w, (1, rest), (-1, T.const(t.w, low // m * m)))
-        low, high, _ = self.range_of(rest)
-        if not 0 <= low <= high < m:
-            return None
-        return T.add(t.w, (1, t), (-1, rest)), rest
+        rest = T.add(t.w, *[(k, u) for u, k in items.items() if k % m])
+        for extra in {constant % m, constant % m - m}:
+            found = T.add(t.w, (1, rest), (1, T.const(t.w, extra)))
+            if self.is_always("<", found, m):
+                return T.add(t.w, (1, t), (-1, found)), found
+        return None
 
     def masked(self, a: Any, b: Any) -> Any:
         if a is b:
@@ -425,18 +358,21 @@ class Exact(Taint):
                 return self.aligned_stack(t, low)
             if low & low - 1 == 0 and self.divided(t, low):
                 return self.divided(t, low)[0]
-            if u.args & u.args + 1 == 0 and self.divided(t, u.args + 1):
-                return self.divided(t, u.args + 1)[1]
+            unit = u.args & -u.args
+            if unit and u.args & u.args + unit == 0 and self.divided(t, u.args + unit):
+                rest = self.divided(t, u.args + unit)[1]
+                return self.masked(rest, T.const(t.w, -unit)) if unit > 1 else rest
         return T.both(a.w, T.word(self.normal(a)), T.word(self.normal(b)))
 
     def shifted_right(self, a: Any, k: Any) -> Any:
         found = self.divided(a, 1 << k) if a.op in ("add", "var") and not a.taint & ~T.PUBLIC else None
-        low, high, _ = self.range_of(found[0]) if found else (-1, 0, 0)
-        if not 0 <= low <= high < 1 << a.w:
-            return T.shr(a.w, a, k)
-        constant, items = T.linear(found[0])
-        return T.add(a.w, (1, T.const(a.w, signed(a.w, constant) >> k)),
-                     *[(signed(a.w, c) >> k, u) for u, c in items.items()])
+        if found:
+            constant, items = T.linear(found[0])
+            r = T.add(a.w, (1, T.const(a.w, signed(a.w, constant) >> k)),
+                      *[(signed(a.w, c) >> k, u) for u, c in items.items()])
+            if self.is_always("<", r, 1 << a.w - k):
+                return r               # r 2^k is the multiple, and does not wrap
+        return T.shr(a.w, a, k)
 
     def combined(self, name: str, x: list, y: list) -> list:
         if name not in ("eor", "orr"):
@@ -452,8 +388,8 @@ class Exact(Taint):
     def place(self, address: T.Term, size: int, aligned: bool) -> tuple:
         """The base, the offset as a term, and the region of an access."""
         base, offset, region = self.region_of(address)
-        if not self.inside(region, offset, T.const(64, size)):
-            raise IsWrong("the access of %d bytes at %r is outside of its memory" % (size, address))
+        self.need_inside("the access of %d bytes at %r may be outside of its memory" % (size, address),
+                         region, offset, T.const(64, size))
         if aligned:
             self.check_aligned(region, offset, size, address)
         return base, offset, region
@@ -481,7 +417,7 @@ class Exact(Taint):
 
     def byte_at(self, base: T.Term, offset: int, region: Cells) -> T.Byte:
         """The byte at an offset: a number, or a term in memory that is only read."""
-        if isinstance(offset, T.Term) and region.writable:
+        if region.writable and (isinstance(offset, T.Term) or any(p.base is base for p in self.pieces)):
             raise CannotShow("it reads at an offset that is not a number: %r" % offset)
         found = self.memory.get((base, offset))
         return region.initial(offset) if found is None else found
@@ -493,12 +429,16 @@ class Exact(Taint):
     def store(self, address: T.Term, data: list, aligned: bool = False) -> None:
         base, offset, region = self.place(address, len(data), aligned)
         self.check_writable(region, address)
-        data = self.cleaned(data, False)
-        self.is_scrubbed &= base is not self.stack
         if base_of(offset) is None:
+            self.add_piece(base, offset, region, data, T.const(64, len(data)))
+            return
+        self.put(base, offsets(offset, len(data)), self.cleaned(data, False))
+
+    def add_piece(self, base: T.Term, offset: T.Term, region: Any, data: Any, length: T.Term) -> None:
+        """Writes the first bytes of some, or one byte over and over, at an offset that is a term."""
+        if not isinstance(region, Buffer):
             raise CannotShow("it writes at an offset that is not a number: %r" % offset)
-        for at, b in zip(offsets(offset, len(data)), data):
-            self.memory[base, at] = b
+        self.pieces += Piece(base, offset, data, length),
 
     def check_writable(self, region: Any, address: T.Term) -> None:
         if not region.writable:
@@ -510,9 +450,10 @@ class Exact(Taint):
         """Refuses a function that may write to bytes that it reads, of two places with at most so
         many bytes. Arguments do not overlap."""
         (base, at, _), (other, start, _) = self.region_of(to), self.region_of(source)
-        low, high, _ = self.range_of(T.add(64, (1, at), (-1, start)))
-        if base is other and size and length and -size < high and low < length:
-            raise IsWrong("%s of %d bytes to %r, from %r" % (what, size, to, source))
+        apart = T.add(64, (1, at), (-1, start))
+        if base is other and size and length:
+            self.need("%s of %d bytes to %r, from %r, which may overlap" % (what, size, to, source), (
+                ">=", apart, T.const(64, length)), ("<=", apart, T.const(64, -size)))
 
     def copy_memory(self, to: T.Term, source: T.Term, length: T.Term) -> None:
         if length.op == "const":
@@ -530,6 +471,11 @@ class Exact(Taint):
                 self.store(to, [byte] * length.args)
             return
         base, offset, region = self.region_of(to)
+        if isinstance(region, Buffer):
+            self.check_inside(region, offset, length, to)
+            self.check_writable(region, to)
+            self.add_piece(base, offset, region, byte, length)
+            return
         if base_of(offset) is None:
             self.fill_from(base, offset, region, byte, length, to)
             return
@@ -539,16 +485,18 @@ class Exact(Taint):
                   to: T.Term) -> None:
         """Fills to an end that is a number, from an offset that is not."""
         end = T.add(64, (1, offset), (1, length))
-        low, high = self.range_of(offset)[:2]
-        if base_of(end) is None or high - low > 128:
+        first = T.const(64, region.low)
+        low, high = (region.low + n for n in self.path_facts.range(T.add(64, (1, offset), (-1, first))))
+        constant, items = T.linear(offset)
+        size = T.add(64, *[(k, u) for u, k in items.items()])
+        # Without a wrap, a place is before the offset if it is less than the number and the rest.
+        if base_of(end) is None or high - low > 128 or not self.is_always("<=", size, 1 << 32):
             raise CannotShow("a fill of %r bytes at %r" % (length, to))
         self.check_inside(region, offset, length, to)
         self.check_writable(region, to)
-        constant, items = T.linear(offset)
-        size = T.add(64, *[(k, u) for u, k in items.items()])
-        for k in range(low, base_of(end)):
-            j = k - signed(64, constant)
-            self.memory[base, k] = below(self, j, size, self.byte_at(base, k, region), byte)
+        places = range(low, base_of(end))
+        self.put(base, places, [below(self, k - signed(64, constant), size,
+                                      self.byte_at(base, k, region), byte) for k in places])
 
     def write_some(self, to: T.Term, data: list, length: T.Term) -> None:
         base, offset, region = self.region_of(to)
@@ -556,20 +504,19 @@ class Exact(Taint):
         self.check_writable(region, to)
         if base_of(offset) is None:
             raise CannotShow("a copy of %r bytes to %r" % (length, to))
-        for j, at in enumerate(offsets(offset, len(data))):
-            old = self.byte_at(base, at, region)
-            self.memory[base, at] = below(self, j, length, data[j], old)
+        places = offsets(offset, len(data))
+        self.put(base, places, [below(self, j, length, data[j], self.byte_at(base, at, region))
+                                for j, at in enumerate(places)])
 
     def most(self, length: T.Term) -> int:
         need_public(length, "a length")
-        high = self.unsigned(length)[1]
-        if high > 256:
+        if length.op != "const" and not self.is_always("<=", length, 256):
             raise CannotShow("a copy of %r bytes" % length)
-        return high
+        return self.path_facts.range(length)[1]
 
     def check_inside(self, region: Any, offset: T.Term, length: T.Term, address: T.Term) -> None:
-        if not self.inside(region, offset, length):
-            raise IsWrong("%r bytes at %r are not all in its memory" % (length, address))
+        self.need_inside("%r bytes at %r may not all be in its memory" % (length, address), region,
+                         offset, length)
 
 
 def base_of(offset: T.Term) -> Any:
@@ -612,6 +559,34 @@ class ExactX86(Exact, TaintX86):
 
     BITWISE = {"pxor": "xor", "xorps": "xor", "por": "or", "orps": "or"}
 
+    @staticmethod
+    def uppers() -> Iterator:
+        """The number of each vector register, and the first of its bytes that a call may only zero."""
+        for j in range(x86.VECTORS):
+            yield j, 0 if j in x86.UPPER else 16
+
+    def is_upper(self, j: int, data: list) -> bool:
+        """Whether the last bytes of a register are zero, as at the entry, or what a function of the C
+        library has left."""
+        entry = self.caller_vectors[j][-len(data):]
+        return all(b in (0, old) or isinstance(b, tuple) and str(b[0].args).startswith("after~")
+                   for b, old in zip(data, entry))
+
+    def need_vectors(self) -> None:
+        for j, start in self.uppers():
+            if not self.is_upper(j, self.vector[j][start:]):
+                raise IsWrong("the vector register %d from byte %d on is neither zero nor as before"
+                              % (j, start))
+
+    def clobber(self, is_compression: bool = False) -> None:
+        """A compression leaves zero or what there was where compression.py shows that."""
+        old = self.vector
+        super().clobber(is_compression)
+        for j, start in self.uppers() if is_compression else ():
+            what = "after" if self.is_upper(j, old[j][start:]) else "new"
+            data = fresh(what, T.SECRET, x86.WIDTH - start)
+            self.vector[j][start:] = [x if x == 0 else y for x, y in zip(old[j][start:], data)]
+
     def compared(self, condition: str) -> tuple | None:
         if self.flags and self.flags[0] == "add" and condition in ("b", "ae"):
             return ("carry" if condition == "b" else "no carry",) + self.flags[1:3]
@@ -626,7 +601,7 @@ class ExactX86(Exact, TaintX86):
 
     def mix(self, name: str, ops: list, vex: bool) -> None:
         sources = [o for o in (ops[1:] if vex else ops) if o.kind != "number"]
-        data = [self.read(o, ops[0].size) for o in sources]
+        data = [self.read(o, ops[0].size, not vex) for o in sources]
         count = ops[-1].value if ops[-1].kind == "number" else None
         if name in self.BITWISE and len(data) == 2:
             x, y = ([self.norm(b) for b in d] for d in data)
@@ -647,7 +622,13 @@ class ExactX86(Exact, TaintX86):
 
     def vector_step(self, i: Any) -> None:
         name = i.name[i.name.startswith("v"):]
-        if name in (*x86.PERMUTATIONS, *x86.ROTATIONS, *x86.TERNARY):
+        if any(o.mask is not None or o.kind == "mask" for o in i.operands):
+            raise x86.unknown(i)
+        if name in x86.TERNARY and i.operands[-1].value in (OR_OF_XOR, OR_OF_ALL):
+            a, b, c = (self.read(o, i.operands[0].size) for o in i.operands[:3])
+            b = self.combined("eor" if i.operands[-1].value == OR_OF_XOR else "orr", b, c)
+            self.write(i.operands[0], self.combined("orr", a, b), True)
+        elif name in (*x86.PERMUTATIONS, *x86.ROTATIONS, *x86.TERNARY):
             x86.X86.vector_step(self, i)
         else:
             super().vector_step(i)

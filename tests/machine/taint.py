@@ -104,6 +104,7 @@ class Taint(Ranges, Machine):
     KNOWN = ("memory", "ranges", "residues")
     ARGUMENTS: tuple = ()              # the registers of arguments
     RELATIONS: dict = {}               # what a condition compares, see compared()
+    SIGNED: dict = {}                  # the same of numbers with a sign
     flags: Any
     facts: dict
     bounds: frozenset
@@ -184,8 +185,14 @@ class Taint(Ranges, Machine):
             raise CannotShow("the flags are not known")
         kind, a, b, r = self.flags
         relation = self.RELATIONS.get(condition)
-        if kind == "sub" and relation:
-            return relation, a, b
+        if kind == "sub" and condition in {**self.RELATIONS, **self.SIGNED}:
+            on_stack = all(T.linear(t)[1] == {self.stack: 1} for t in (a, b))
+            if on_stack:               # its addresses are all on one side of 0, and of a half
+                a, b = (T.const(a.w, T.linear(t)[0]) for t in (a, b))
+            if on_stack or not relation:                    # with all numbers moved by a half of them
+                half = T.const(a.w, 1 << a.w - 1)
+                a, b = (T.add(t.w, (1, t), (1, half)) for t in (a, b))
+            return relation or self.SIGNED[condition], a, b
         if relation in ("==", "!=") or kind == "logic" and relation:
             return relation, r, T.const(r.w, 0)
         return None
@@ -387,7 +394,12 @@ class Taint(Ranges, Machine):
         """Writes at a place that is not known: each byte may be an old one or a new one."""
         new = secret() if any(map(is_secret, data)) else unknown()
         for k in range(low, high):
-            self.memory[base, k] = joined_byte(self.byte(base, k, region), new)
+            old = self.byte(base, k, region)
+            if base is self.stack and is_secret(new) and not isinstance(old, int) and (
+                    not is_secret(old) and old is not unknown()):
+                raise CannotShow("no bound is known for a place: a secret may overwrite %r at %+d of "
+                                 "the stack" % (old[0], k))
+            self.memory[base, k] = joined_byte(old, new)
 
     def copy_memory(self, to: T.Term, source: T.Term, length: T.Term) -> None:
         """memcpy and memmove."""

@@ -9,7 +9,6 @@ from typing import Any, Callable
 import arm
 import terms as T
 from machine import CannotShow, IsWrong, chunks, image, joined, need_public
-from ranges import signed
 from taint import Taint, secret, unknown
 
 CONDITIONS = "eq ne cs cc hi ls mi pl vs vc ge lt gt le".split()
@@ -80,6 +79,7 @@ class Instruction(arm.Instruction):
 class TaintArm(Taint, arm.Arm):
     ARGUMENTS: tuple = tuple(range(8))
     RELATIONS = {"eq": "==", "ne": "!=", "cc": "<", "cs": ">=", "hi": ">", "ls": "<="}
+    SIGNED = {"lt": "<", "ge": ">=", "gt": ">", "le": "<="}
 
     def is_jump(self, i: arm.Instruction) -> bool:
         return i.name == "b"
@@ -266,6 +266,8 @@ class TaintArm(Taint, arm.Arm):
         if name == "udiv":             # only public numbers, because the time depends on them
             need_public(T.word(rest[0] + rest[1]), "the time of a division")
             self.write(to, [unknown()] * size)
+        elif name == "bfi":            # the other bits stay
+            self.write(to, self.quietly(lambda a, b: None, self.read(to, size), rest[0]))
         elif name in ("madd", "msub"):
             product = self.quietly(times, rest[0], rest[1], "product")
             self.write(to, self.quietly(plus(1 if name == "madd" else -1), rest[2], product))
@@ -336,18 +338,7 @@ class TaintArm(Taint, arm.Arm):
             raise IsWrong("a branch depends on secret data")
         if self.flags is not None and self.flags[0] == "ccmp":
             return None
-        return self.signed_difference(i.name[2:]) or self.compared(i.name[2:])
-
-    def signed_difference(self, condition: str) -> Any:
-        """A comparison with a sign, of two words whose difference is known, as one that is true
-        or false."""
-        if condition not in ("gt", "le") or self.flags is None or self.flags[0] != "sub":
-            return None
-        _, a, b, r = self.flags
-        if r.op != "const":
-            return None
-        holds = (signed(r.w, r.args) > 0) == (condition == "gt")
-        return "==", T.const(r.w, 0), T.const(r.w, 1 - holds)
+        return self.compared(i.name[2:])
 
     # Vectors.
 
@@ -358,6 +349,10 @@ class TaintArm(Taint, arm.Arm):
         n = getattr(to, "n", to.kind == "vector" and to.size)
         if name in ("ld1", "ld1r", "ld4"):
             return self.load_lanes(name, ops)
+        if name == "st1" and to.lane is not None:
+            self.store(self.place_of(ops[1]), self.read(to, n))
+            self.move_base(ops[1])
+            return True
         if name in ("eor", "orr", "and", "add"):
             same = name == "eor" and ops[1].index == ops[2].index
             self.write(to, [0] * to.size if same else self.combined(name, *data)[:to.size])

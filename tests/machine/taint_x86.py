@@ -25,6 +25,7 @@ class TaintX86(Taint, x86.X86):
     ARGUMENTS: tuple = x86.ARGUMENTS
     # What a condition compares after `cmp`. Others are not followed: both ways may be taken.
     RELATIONS = {"e": "==", "ne": "!=", "b": "<", "ae": ">=", "a": ">", "be": "<="}
+    SIGNED = {"l": "<", "ge": ">=", "g": ">", "le": "<="}
 
     def is_jump(self, i: Any) -> Any:
         return i.name == "jmp"
@@ -222,7 +223,10 @@ class TaintX86(Taint, x86.X86):
         self.of_public((x86.RAX, x86.RDX), source)
 
     def of_public(self, registers: Any, source: Any) -> None:
-        """A product or a division, whose time may depend on the operands: these must be public."""
+        """A product or a division, whose time may depend on the operands: these must be public. One
+        of bytes has all of its result in ax, and is not modelled."""
+        if source.size == 1:
+            raise CannotShow("a product or a division of bytes")
         pair = [x86.Operand("general", r, source.size) for r in (x86.RAX, x86.RDX)]
         for o in [o for o in pair if o.index in registers] + [source]:
             need_public(T.word(self.read(o)), "the time of a product or a division")
@@ -243,10 +247,10 @@ class TaintX86(Taint, x86.X86):
         if any(o.mask is not None or o.kind == "mask" for o in ops):
             raise x86.unknown(i)
         if name == "ptest":
-            data = self.read(ops[0]) + self.read(ops[1], 16)
+            data = self.read(ops[0]) + self.read(ops[1], 16, not vex)
             r = self.new(64) if any(data) else T.const(64, 0)
             self.flags = ("secret",) if any(map(is_secret, data)) else (
-                ("logic" if r.op == "const" else "other",) + (r,) * 3)
+                ("other",) + (r,) * 3)       # the carry is not as after an and of words
         elif name in ("movss", "movsd") or name == "movlps" and ops[0].kind == "memory":
             self.move_low(4 if name == "movss" else 8, ops, vex)
         elif re.fullmatch("pextr[bwdq]|extractps", name):
@@ -263,7 +267,8 @@ class TaintX86(Taint, x86.X86):
             self.write(ops[0], x86.joined(p + [0] * n for p in x86.chunks(data, n)), vex)
         elif name == "psrldq":
             parts = x86.chunks(self.read(ops[vex]), 16)
-            self.write(ops[0], x86.joined((p + [0] * 16)[ops[-1].value:][:16] for p in parts), vex)
+            self.write(ops[0], x86.joined((p + [0] * 16)[min(ops[-1].value, 16):][:16] for p in parts),
+                       vex)
         elif name in MIXES or name in ("permd", "permps") and not all(
                 isinstance(b, int) for b in self.read(ops[1])):
             self.mix(name, ops, vex)
@@ -293,7 +298,7 @@ class TaintX86(Taint, x86.X86):
         if "xor" in name and same(sources[0], sources[-1]):
             self.write(ops[0], [0] * ops[0].size, vex)
             return
-        data = [b for o in sources for b in self.read(o, ops[0].size)]
+        data = [b for o in sources for b in self.read(o, ops[0].size, not vex)]
         if "blend" in name and not vex:
             data += self.vector[0][:16]
         new = 0 if all(b == 0 for b in data) else self.mixed(data)

@@ -4,9 +4,10 @@ shows what it computes. docs/MACHINE.md says what is shown."""
 
 from __future__ import annotations
 
-import re
 from typing import Any, TYPE_CHECKING
 
+import comparisons
+import compression
 import constant_time
 import functions
 import program as programs
@@ -21,9 +22,6 @@ if TYPE_CHECKING:
     from rfc7693 import Kind
 
 PATHS, LIMIT = 200, 200000             # of a call: paths at a time, and instructions
-# What takes memory of the stack in a compression, and how much: 8 bytes if there is no number.
-MOVES_STACK = re.compile(r"(?!add\b)\w+\s+r?sp,")
-TAKES = re.compile(r"\bsub\s+(?:rsp,|sp, sp, #)(0x[0-9a-f]+|\d+)$|\bpush\b|\[sp, #-(\d+)\]!")
 INSTRUCTIONS = {kind: module.Instruction for kind, module in constant_time.MODELS.items()}
 
 
@@ -59,14 +57,14 @@ class Terms:
 
     def difference(self, a: T.Term, b: T.Term) -> Any:
         a, b = self.word(a), self.word(b)
-        is_less = self.machine.decided("<", a, b)
+        is_less = self.machine.path_facts.decide("<", a, b)
         if is_less is None:
             raise CannotShow("whether %r < %r is not known" % (a, b))
         return 0 if is_less else T.add(64, (1, a), (-1, b))
 
     def may_be_less(self, a: T.Byte | T.Term, b: T.Term) -> bool:
         """Whether a < b, unless it is known that it is not."""
-        return self.machine.decided("<", self.word(a), self.word(b)) is not False
+        return self.machine.path_facts.decide("<", self.word(a), self.word(b)) is not False
 
     def xor(self, data: bytes | list, other: list) -> list:
         return bitwise(T.xor, list(data), list(other))
@@ -74,10 +72,10 @@ class Terms:
     def is_zero(self, n: Any) -> bool:
         if isinstance(n, int):
             return n == 0
-        low, high = self.machine.unsigned(n)
-        if low == 0 < high:
+        is_zero = self.machine.path_facts.decide("==", n, T.const(n.w, 0))
+        if is_zero is None:
             raise CannotShow("whether %r is 0 is not known" % n)
-        return high == 0
+        return is_zero
 
     def is_on(self, n: T.Term | int) -> int:
         return int(not self.is_zero(n))
@@ -129,14 +127,14 @@ class Loop:
         self.count = T.add(64, (1, left), (1, T.const(64, 1)))
         self.propose(self.start.cells(), second.cells(), one)
         kind, size = one["kind"], one["kind"].block
-        low, high, _ = self.start.range_of(self.count)
-        if not 0 < low <= high * size < 1 << 64:
+        if not (self.start.is_always(">", self.count, 0) and
+                self.start.is_always("<=", self.count, ((1 << 64) - 1) // size)):
             raise CannotShow("the number of blocks is not known: %r" % self.count)
-        j = self.start.new(64, "", (0, high - 1, 1))
+        j = self.start.new(64)
         i = T.add(64, (1, left), (-1, j))
         chain = fresh("chain", T.SECRET, len(one["result"]))
         general = self.machine(i, chain)
-        if not general.limit(T.add(64, (size, self.count), (-size, j)), size, size * high):
+        if not general.learn("<", j, self.count, True):
             raise CannotShow("no iteration is possible")
         after, end, call = self.iterate(general)
         if end is not j:
@@ -157,7 +155,12 @@ class Loop:
         before = T.add(64, (1, counter), (-1, T.const(64, size)))
         words = Terms(self.calls, self.start).compress_all(
             kind, one["chain"], buffer, start, self.count, before)
-        return self.machine(self.count, words)
+        end = self.machine(self.count, words)
+        for m in (second, after):      # of the stack an iteration has used
+            end.deepest = min(end.deepest, m.deepest)
+            end.secrets |= m.secrets
+        end.is_scrubbed = False
+        return end
 
     def propose(self, first: dict, second: dict, call: dict) -> None:
         """The words that grow, the bytes of the chaining words, and the rest of what changes."""
@@ -214,18 +217,24 @@ class Calls:
 
     codes: dict
     scrubs: dict
-    frames: dict
     results: dict
     compressed: list
     at: Any
 
     def __init__(self, program: programs.Program, exported: str = "") -> None:
         self.program, self.codes, self.at, self.count = program, {}, None, 0
-        self.exported, self.scrubs, self.frames = exported, functions.scrubs(program), {}
+        self.exported, self.scrubs = exported, functions.scrubs(program)
         self.listed = {functions.in_file(program.path, name): (kind, lanes)
                        for name, kind, lanes in functions.FILES[program.path]}
         self.answering = tuple(functions.IS_DIGEST_OF % f for f in ("blake2b", "blake2s"))
+        self.frames: dict = {}
         self.forget()
+
+    def measure(self, kind: Kind) -> None:
+        """Finds how much of the stack the functions use that compress one block, before a call."""
+        for name, (other, lanes) in self.listed.items():
+            if other is kind and lanes == 1:
+                self.frames[name] = compression.frame(self.program, name, kind)
 
     def forget(self) -> None:
         self.results, self.compressed, self.count = {}, [], 0
@@ -238,15 +247,15 @@ class Calls:
                 for b in T.split(T.var(kind.w, "%s%d.%d" % (what, n, j), T.SECRET))]
 
     def code(self, name: str) -> tuple:
-        """The instructions of a function by address, the first, and its loops that compress: the
-        address of the head and of the jump back."""
+        """The instructions of a function by address, the first, and its loops that compress or compare:
+        the address of the head and of the jump back."""
         if name not in self.codes:
-            found = self.program.code(name, INSTRUCTIONS[self.program.kind])
+            found = self.program.code(name, INSTRUCTIONS[self.program.kind], "W")
             code, loops = {i.address: i for i in found}, {}
             for i in found:
                 if i.target in code and i.target <= i.address:
                     body = [j for j in found if i.target <= j.address <= i.address]
-                    if self.compresses(body):
+                    if name == functions.MEMCMP or self.compresses(body):
                         loops[i.target] = i.address
             self.codes[name] = code, found[0].address, loops
         return self.codes[name]
@@ -277,7 +286,8 @@ class Calls:
                 raise IsWrong("%s goes on behind its end" % name)
             i = self.at = code[pc]
             if pc in loops and pc != inside:
-                m = Loop(self, name, pc, loops[pc], m).show()
+                loop: Any = comparisons.Differences if name == functions.MEMCMP else Loop
+                m = loop(self, name, pc, loops[pc], m).show()
                 waiting.append((m, code[loops[pc]].next))
                 continue
             inside = None
@@ -313,6 +323,8 @@ class Calls:
                 m.deepest = min(m.deepest, m.lowest())
                 m.forget_below()
             waiting.append((m, i.next))
+        elif name == functions.MEMCMP and not m.is_jump(i) and m.flags == ("secret",):
+            waiting += self.compared(m, i, code)
         else:
             (n, jumps), = [(m, True)] if m.is_jump(i) else m.outcomes(i)
             pc = i.target if jumps else i.next
@@ -336,23 +348,48 @@ class Calls:
         to, source, length = (m.argument(k) for k in range(3))
         if name in self.listed:
             self.compress(m, *self.listed[name])
-        elif name == "memset":
+            return [m]
+        if name == "memset":
             m.fill_memory(to, T.split(source)[0], length)
         elif name in OF_C:
             if name == "memcpy" and length is not T.const(64, 0):
-                size = m.unsigned(length)[1]
+                size = m.most(length)
                 m.check_disjoint(name, to, size, source, size)
             m.copy_memory(to, source, length)
-        elif name not in self.scrubs:
-            ends = self.run(name, m)
-            return ends if name not in self.answering else [
-                other for end in ends for other in self.answers(end)]
         else:
-            m.scrub(self.scrubs[name])
+            return self.run_inner(name, m)
         m.clobber()
         if name in OF_C:
             m.answer()[:] = T.split(to)
         return [m]
+
+    def run_inner(self, name: str, m: Any) -> list:
+        """The machines after a call of a function whose code is executed."""
+        if name in self.scrubs and m.deepest < m.lowest() - self.scrubs[name]:
+            raise IsWrong("scrub_stack overwrites %d bytes, and the call has used more"
+                          % self.scrubs[name])
+        ends = self.run(name, m)
+        if name in self.answering:
+            return [other for end in ends for other in self.answers(end)]
+        for end in ends if name in self.scrubs else ():
+            if end.secrets:
+                raise IsWrong("scrub_stack leaves bytes of the stack in which a secret may be, the first "
+                              "at %+d" % max(end.secrets))
+            end.is_scrubbed = True
+        return ends
+
+    def compared(self, m: Any, i: Any, code: dict) -> list:
+        """Both ways of the branch by which a comparison returns: where all it has collected is zero, and
+        where not."""
+        if i.name not in ("je", "b.eq") or m.compared_bytes or not all(
+                m.only_returns(code, pc) for pc in (i.target, i.next)):
+            raise IsWrong("a branch depends on secret data")
+        found = []
+        for value, pc in ((1, i.target), (0, i.next)):
+            n = m.copy()
+            n.compared_bytes, n.flags = (is_zero(m.secret_of[1]), value), None
+            found.append((n, pc))
+        return found
 
     def answers(self, m: Any) -> list:
         """The answer of a comparison is public: 1 or 0. A call compares once."""
@@ -369,24 +406,11 @@ class Calls:
             found.append(n)
         return found
 
-    def frame(self, name: str) -> int:
-        """How many bytes of the stack a compression uses: those that it takes, in no loop."""
-        if name not in self.frames:
-            code, taken = self.program.code(name), 0
-            for i in code:
-                m = TAKES.search(i.text)
-                if MOVES_STACK.match(i.text) and not m or m and any(
-                        j.target is not None and j.target <= i.address <= j.address for j in code):
-                    raise CannotShow("it is not known what %s takes of the stack" % i.text)
-                taken += int(m[1] or m[2] or "8", 0) if m else 0
-            self.frames[name] = taken
-        return self.frames[name]
-
     def compress(self, m: Any, kind: Kind, lanes: int) -> None:
         """A call of F: of one message."""
         if lanes != 1:
             raise CannotShow("a compression of several messages")
-        m.go_down(m.lowest() - self.frame(self.program.target(self.at, OF_C)))
+        name = self.program.target(self.at, OF_C)
         h, block, counter, last, node = (m.argument(k) for k in range(5))
         need_public(counter, "the counter")
         flags = [T.split(t)[0] for t in (last, node)]
@@ -400,4 +424,4 @@ class Calls:
                                 "flags": flags, "region": region, "offset": offset,
                                 "result": result})
         m.store(h, result)
-        m.clobber()
+        m.compressed(self.frames[name])

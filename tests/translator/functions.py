@@ -1,5 +1,5 @@
 """Random functions of WebAssembly with all instructions that tools/wasm_to_c.py knows, as lines of text in the form of
-tests/machine/wasm_format.py, and modules of them. Not a program.
+tools/wasm_format.py, and modules of them. Not a program.
 
 A function is called with a buffer of 64 bytes and two numbers. It reads and writes the buffer, its locals and its part
 of the stack, calls functions before it, and returns a number of all its locals, or writes that to the buffer.
@@ -9,7 +9,7 @@ import random
 import sys
 
 TOP = os.path.dirname(os.path.dirname(os.path.dirname(os.path.abspath(__file__))))
-sys.path[:0] = [os.path.join(TOP, "tests", "machine"), os.path.join(TOP, "tools")]
+sys.path.insert(0, os.path.join(TOP, "tools"))
 from wasm_format import MORE, PLAIN  # noqa: E402
 
 TYPES = {"i32": 0x7f, "i64": 0x7e}
@@ -350,7 +350,8 @@ class Maker:
         """A local that is an address on the stack at first, and a small number in the next turn of a loop."""
         return [f"local.get {FRAME}", f"local.set {ALIAS}", "block", "loop", f"local.get {FUEL}", "i32.eqz", "br_if 1",
                 f"local.get {FUEL}", "i32.const 1", "i32.sub", f"local.set {FUEL}", f"local.get {ALIAS}",
-                "i64.const 99", "i64.lt_s", "br_if 1", "i64.const 5", f"local.set {ALIAS}", "br 0", "end", "end", "block",
+                "i64.const 99", "i64.lt_s", "br_if 1", "i64.const 5", f"local.set {ALIAS}", "br 0", "end", "end",
+                "block",
                 f"local.get {self.local('i64')}", "i64.const 5", "i64.gt_u", "br_if 0", f"local.get {FRAME}",
                 f"local.set {ALIAS}", "end", f"local.get {ALIAS}", "i64.const 99", f"i64.{self.one_of('lt_s', 'gt_s')}",
                 "i64.extend_i32_u"] + self.mix("i64")

@@ -17,7 +17,7 @@
  *   - init_param returns -1 for a digest of 0 bytes or of more than 64 (BLAKE2s: 32), and for a key
  *     of more than 64 (32). libb2 accepts them.
  *
- * c/LIBB2.md of the repository has the complete list of differences. */
+ * c/PORTING.md of the repository has the complete list of differences. */
 #ifndef VULFSJOR_LIBB2_BLAKE2_H
 #define VULFSJOR_LIBB2_BLAKE2_H
 
@@ -60,6 +60,7 @@ typedef vulfsjor_blake2s_param blake2s_param;
                                   size_t inlen, size_t keylen) {                                   \
         uint8_t digest[longest];                                                                   \
         if (!out || outlen > sizeof digest) return -1;                                             \
+        if (!keylen) key = VULFSJOR_NULL; /* which is no key in libb2, wherever key points */      \
         if (vulfsjor_##x(digest, outlen, in, inlen, key, keylen)) return -1;                       \
         memcpy(out, digest, outlen);                                                               \
         return 0;                                                                                  \

@@ -24,6 +24,11 @@ static void fill(uint8_t *bytes, size_t count) {
     for (size_t i = 0; i < count; i++) bytes[i] = (uint8_t)(random_number() >> 33);
 }
 
+/* The key, or NULL for none. */
+static inline const uint8_t *key_or_null(void) {
+    return key_length ? key : NULL;
+}
+
 /* A call of a family whose digests and keys have this many bytes at most. */
 static void draw(size_t longest) {
     length = from_to(0, from_to(0, 3) ? 300 : sizeof message);

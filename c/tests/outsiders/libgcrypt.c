@@ -23,8 +23,8 @@ static int compare(int number) {
     need(gcry_md_get_algo_dlen(algorithm) == size, "the digest's length");
     memcpy(theirs, gcry_md_read(handle, algorithm), size);
     gcry_md_close(handle);
-    need(!(small ? vulfsjor_blake2s(ours, size, message, length, key, key_length)
-                 : vulfsjor_blake2b(ours, size, message, length, key, key_length)),
+    need(!(small ? vulfsjor_blake2s(ours, size, message, length, key_or_null(), key_length)
+                 : vulfsjor_blake2b(ours, size, message, length, key_or_null(), key_length)),
          "a call in one");
     return !memcmp(ours, theirs, size);
 }

@@ -29,14 +29,14 @@ static int mac(int small) {
     EVP_MAC_CTX_free(context);
     if (small) {
         vulfsjor_blake2s_state run;
-        need(!vulfsjor_blake2s_init_salt_personal(&run, size, key, key_length, salt, salt_length,
+        need(!vulfsjor_blake2s_init_salt_personal(&run, size, key_or_null(), key_length, salt, salt_length,
                                                   persona, persona_length),
              "init");
         IN_PIECES(need(!vulfsjor_blake2s_update(&run, piece, n), "update"))
         return !vulfsjor_blake2s_verify(&run, theirs, size);
     }
     vulfsjor_blake2b_state run;
-    need(!vulfsjor_blake2b_init_salt_personal(&run, size, key, key_length, salt, salt_length,
+    need(!vulfsjor_blake2b_init_salt_personal(&run, size, key_or_null(), key_length, salt, salt_length,
                                               persona, persona_length),
          "init");
     IN_PIECES(need(!vulfsjor_blake2b_update(&run, piece, n), "update"))

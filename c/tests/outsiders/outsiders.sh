@@ -41,7 +41,7 @@ run_calls() {
 # The builds that this processor runs, and their choice.
 texts=("$top"/dist/x86_64/vulfsjor-v{2,3,4}.s)
 join=$top/c/make_libraries.sh builds=chosen
-cpu=$("$top/tools/processor.sh")
+cpu=$("$top/tests/processor.sh")
 for level in $(seq 2 "${cpu#x86-64-v}"); do
     "$join" "$work/x86-64-v$level" "${texts[level - 2]}" || exit 2
     builds+=" x86-64-v$level"

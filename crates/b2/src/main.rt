@@ -1,4 +1,5 @@
-//! `b2`: digests, scripts, transcripts and witnesses of BLAKE2b and BLAKE2s, and roots of trees.
+//! `b2`: digests, scripts, transcripts and witnesses of BLAKE2b and BLAKE2s, roots of trees, and
+//! outputs of BLAKE2X.
 
 #![tactic(auto)]
 
@@ -11,8 +12,12 @@ use std::{env, io};
 fn main(rt: HostRuntime) -> ExitCode {
     let mut source = IoSource::new(rt.stdin());
     let mut sink = IoSink::new(rt.stdout());
+    let mut notes = IoSink::new(rt.stderr());
     let status = match arguments(&rt) {
-        Ok(words) => run(rt.alloc(), words.as_slice(), &mut source, &mut sink),
+        Ok(words) => {
+            let words = words.as_slice();
+            run(rt.alloc(), words, &mut source, &mut sink, &mut notes)
+        }
         Err(_) => Fault::NoMemory.report(&mut sink),
     };
     ExitCode::from(status)

@@ -1,9 +1,12 @@
 mod Accepting
+mod Digits
 mod Filling
 mod Hashing
 mod LineLemmas
+mod OutputLaws
 mod Printing
 mod PrintedRoot
 mod ScriptLemmas
 mod Statuses
+mod Unread
 mod WordLemmas

@@ -11,7 +11,8 @@ use Rattle.blake2_streams.specs.declared.stream.StreamFault.{StreamFault}
 use Rattle.blake2_streams.specs.declared.stream.StreamFault.TheVariants.{Read, Write}
 use Rattle.blake2_streams.specs.declared.stream.StreamFault.TheVariants.{TooLong as StreamTooLong}
 use Rattle.b2_commands.specs.Words.{Task, task_of, IsReadingFault}
-use Rattle.b2_commands.specs.Tasks.{IsRefusedTask, IsTooLongFor, IsFaultOfScript, TakesMemory}
+use Rattle.b2_commands.specs.Tasks.{IsRefusedInput, IsRefusedTask, IsTooLongFor, IsFaultOfScript}
+use Rattle.b2_commands.specs.Tasks.{TakesMemory}
 
 -- The error of the program for an error of a stream that is hashed.
 abbrev pub fault_of_stream : StreamFault → Fault
@@ -70,9 +71,9 @@ IsScriptFault fault task left = (¬ IsRefusedTask task) × IfSome left (IsFaultO
 
 -- The cause of an error, once the arguments are read: the task that they name, what the source had
 -- left, and whether a read has failed. Lengths are checked first, and the input is read only if
--- they are right.
+-- they are right. That of a key which is the input is checked after it is read.
 abbrev pub IsDue : Fault → Task → Option (List ℕ) → Bool → Type 0
-IsDue WrongLength task left failed = IsRefusedTask task
+IsDue WrongLength task left failed = IsRefusedTask task ⊎ IfSome left (IsRefusedInput task)
 IsDue (WrongLine number) task left failed = IsScriptFault (WrongLine number) task left
 IsDue (NoSuchSlot number) task left failed = IsScriptFault (NoSuchSlot number) task left
 IsDue (LineTooLong number) task left failed = IsScriptFault (LineTooLong number) task left

@@ -1,3 +1,4 @@
+pub mod Advice
 pub mod Ends
 pub mod Faults
 pub mod Inputs
@@ -9,6 +10,6 @@ pub mod Parsed
 pub mod Reading
 pub mod Scripts
 pub mod Tasks
-pub mod Trees
+pub mod TreeFaults
 pub mod Witnesses
 pub mod Words

@@ -3,15 +3,18 @@ use Rattle.std.specs.Prelude.{◌≡◌, ℕ, ◌+◌, ◌<◌, ◌≤◌, ◌^�
 use Rattle.std.specs.Prelude.{unwrap_or, IfSome, Result, Err, IsOkAnd}
 use Rattle.std.specs.List.{flat_map}
 use Rattle.std.specs.Io.KnownBytes.{Appends}
-use Rattle.blake2.specs.Family.{Family}
+use Rattle.blake2.specs.Family.{Family, blake2b}
 use Rattle.blake2.specs.Hash.{Input, sequential}
 use Rattle.blake2.specs.Keys.{key_count, IsRefused}
 use Rattle.blake2.specs.States.{digest_of, node_digest_of, input as input_of_parts}
 use Rattle.blake2.specs.Streams.{line_of}
 use Rattle.blake2_tree.specs.TreeRoot.{tree_parameters, tree_root}
+use Rattle.blake2_xof.specs.Xof.{derived, settings, xof}
 use Rattle.b2_commands.specs.declared.fault.Fault.{Fault}
+use Rattle.b2_commands.specs.declared.help.TheConstants.{HELP, VERSION}
 use Rattle.b2_commands.specs.Words.{Given, nothing_given, Task}
 use Rattle.b2_commands.specs.Words.Task.{to_sum, to_script, to_steps, to_witness, to_tree}
+use Rattle.b2_commands.specs.Words.Task.{to_xof, to_derive, to_help, to_version}
 use Rattle.b2_commands.specs.Lines.{transcript_lines}
 use Rattle.b2_commands.specs.Scripts.{script_digests}
 use Rattle.b2_commands.specs.Witnesses.{PrintsWitness}
@@ -49,6 +52,14 @@ abbrev pub input_with : Given → List ℕ → Input
 input_with given message =
     input_of_parts (unwrap_or given.salt []) (unwrap_or given.persona []) given.key message
 
+-- The BLAKE2X output of n bytes with the salt, the personalization and the key that are given, as a
+-- function of the message.
+abbrev pub output_with : Family → ℕ → Given → List ℕ → List ℕ
+output_with f n given message =
+    xof f
+    (settings n (unwrap_or given.key []) (unwrap_or given.salt []) (unwrap_or given.persona []))
+    message
+
 -- A key, a salt or a personalization of the task has a length that is not accepted.
 abbrev pub IsRefusedTask : Task → Type 0
 IsRefusedTask (to_sum kind given) = IsRefusedBy kind.family given
@@ -56,23 +67,34 @@ IsRefusedTask (to_script kind given) = IsRefusedBy kind.family given
 IsRefusedTask (to_steps kind given) = IsRefusedBy kind.family given
 IsRefusedTask (to_witness kind a b) = ⊥
 IsRefusedTask (to_tree kind leaf_length given) = IsRefusedByTree given
+IsRefusedTask (to_xof f n given) = IsRefusedBy f given
+IsRefusedTask (to_derive n context) = ⊥
+IsRefusedTask to_help = ⊥
+IsRefusedTask to_version = ⊥
+
+-- The input of the task is a key of a length that is not accepted: `derive` needs 1 to 64 bytes.
+abbrev pub IsRefusedInput : Task → List ℕ → Type 0
+IsRefusedInput (to_derive n context) key = (length key ≡ 0) ⊎ (64 < length key)
+IsRefusedInput task input = ⊥
 
 -- The bytes of an input, with those of a key's block, are 2^64 or above.
 abbrev pub IsTooLongBy : Family → Given → List ℕ → Type 0
 IsTooLongBy f given input = 2 ^ 64 ≤ key_count f given.key + length input
 
--- The input is too long for a task. A script counts the bytes of each slot, `witness` reads no
--- input, and a tree accepts fewer than 2^58 bytes.
+-- The input is too long for a task. A script counts the bytes of each slot, a tree accepts fewer
+-- than 2^58 bytes, and `witness`, `--help` and `--version` read no input.
 abbrev pub IsTooLongFor : Task → List ℕ → Type 0
 IsTooLongFor (to_sum kind given) input = IsTooLongBy kind.family given input
 IsTooLongFor (to_script kind given) input = ⊥
 IsTooLongFor (to_steps kind given) input = IsTooLongBy kind.family given input
 IsTooLongFor (to_witness kind a b) input = ⊥
 IsTooLongFor (to_tree kind leaf_length given) input = 2 ^ 58 ≤ length input
+IsTooLongFor (to_xof f n given) input = IsTooLongBy f given input
+IsTooLongFor task input = ⊥
 
 -- The task allocates memory after its arguments are read. `script` and `steps` hold the input, and
--- `tree` holds a piece of it. `sum` passes the input on in pieces of a fixed length, and `witness`
--- needs no memory.
+-- `tree` holds a piece of it. `sum` and `xof` pass the input on in pieces of a fixed length, and
+-- the others need no memory.
 abbrev pub TakesMemory : Task → Type 0
 TakesMemory (to_script kind given) = ⊤
 TakesMemory (to_steps kind given) = ⊤
@@ -90,7 +112,8 @@ IsFaultOfScript fault (to_script kind given) input =
     script_answer kind.family kind.bytes given input ≡ Err fault
 IsFaultOfScript fault task input = ⊥
 
--- The sink accepted the output of a task on what a source had left. `witness` reads no input.
+-- The sink accepted the output of a task on what a source had left. `witness`, `--help` and
+-- `--version` read no input.
 abbrev pub Outputs : Task → Option (List ℕ) → Option (List ℕ) → Option (List ℕ) → Type 0
 Outputs (to_sum kind given) left old new =
     IfSome left (λ input. Appends old new
@@ -107,10 +130,17 @@ Outputs (to_witness kind a b) left old new =
 Outputs (to_tree kind leaf_length given) left old new =
     IfSome left (λ input. Appends old new
     (line_of (root_with kind.bytes leaf_length given input)))
+Outputs (to_xof f n given) left old new =
+    IfSome left (λ input. Appends old new (line_of (output_with f n given input)))
+Outputs (to_derive n context) left old new =
+    IfSome left (λ key. Appends old new (line_of (derived blake2b key context n)))
+Outputs to_help left old new = Appends old new HELP.now
+Outputs to_version left old new = Appends old new VERSION.now
 
--- The task is done: it is not refused, the input that a source had left is not too long for it, and
--- the sink accepted the whole output.
+-- The task is done: neither it nor the input that a source had left is refused, the input is not
+-- too long for it, and the sink accepted the whole output.
 pub record IsDone (task : Task) (left old new : Option (List ℕ)) : Type 0 where
   pub not_refused : ¬ IsRefusedTask task
+  pub accepted : IfSome left (λ input. ¬ IsRefusedInput task input)
   pub fits : IfSome left (λ input. ¬ IsTooLongFor task input)
   pub output : Outputs task left old new

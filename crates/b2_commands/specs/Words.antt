@@ -8,6 +8,7 @@ use Rattle.std.specs.Result.{result_map_both}
 use Rattle.std.specs.Str.{bytes_eq}
 use Rattle.hex.specs.Hex.{decode_of}
 use Rattle.blake2.specs.Family.{Family, blake2b, blake2s}
+use Rattle.blake2_xof.specs.Xof.{unknown_length}
 use Rattle.b2_commands.specs.Numbers.{number_value}
 use Rattle.b2_commands.specs.declared.fault.Fault.{Fault}
 use Rattle.b2_commands.specs.declared.fault.Fault.TheVariants.{WrongWords, WrongHex, NoMemory}
@@ -83,6 +84,23 @@ some_leaf (Some n) = if nat_lt 0 n && nat_lt n (2 ^ 32) then Ok n else Err Wrong
 abbrev pub leaf_value : List ℕ → Result ℕ Fault
 leaf_value digits = some_leaf (number_value 10 digits)
 
+-- The family that the KIND of `xof` names: that of BLAKE2Xb or BLAKE2Xs.
+abbrev pub output_family_of : List ℕ → Result Family Fault
+output_family_of word =
+    if bytes_eq word (codes "xb") then Ok blake2b
+    else if bytes_eq word (codes "xs") then Ok blake2s
+    else Err WrongWords
+
+-- The number as the length of an output in bytes, if it is one that BLAKE2X has.
+abbrev pub some_length : Family → Option ℕ → Result ℕ Fault
+some_length f None = Err WrongWords
+some_length f (Some n) = if nat_lt 0 n && nat_lt n (unknown_length f) then Ok n else Err WrongWords
+
+-- The length of an output in bytes, as the argument LENGTH names it: in decimal digits with no
+-- leading zero.
+abbrev pub length_value : Family → List ℕ → Result ℕ Fault
+length_value f digits = some_length f (number_value 10 digits)
+
 -- The bytes of HEX as a message: an even number of hexadecimal digits, at least two, or `-` for no
 -- bytes.
 abbrev pub message_value : List ℕ → Result (List ℕ) Fault
@@ -106,8 +124,13 @@ abbrev pub first_value : Option (List ℕ) → List ℕ → Result (List ℕ) Fa
 first_value None digits = hex_value digits
 first_value (Some bytes) digits = Err WrongWords
 
--- The options with one more argument NAME=HEX, whose name is checked before HEX (61 is `=`). `key`
--- is a name only if a key is accepted.
+-- The bytes of TEXT, for an option that was not given before.
+abbrev pub first_text : Option (List ℕ) → List ℕ → Result (List ℕ) Fault
+first_text None text = Ok text
+first_text (Some bytes) text = Err WrongWords
+
+-- The options with one more argument NAME=HEX or NAME=TEXT, whose name is checked before the value
+-- (61 is `=`). `key` is a name only if a key is accepted.
 abbrev pub with_word : Bool → Given → List ℕ → Result Given Fault
 with_word takes_key given word =
     let name = before_first (λ b. b == 61) word in
@@ -118,6 +141,8 @@ with_word takes_key given word =
     else if bytes_eq name (codes "salt") then and_then (first_value given.salt digits)
     (λ bytes. Ok (record given { salt = Some bytes }))
     else if bytes_eq name (codes "persona") then and_then (first_value given.persona digits)
+    (λ bytes. Ok (record given { persona = Some bytes }))
+    else if bytes_eq name (codes "persona-text") then and_then (first_text given.persona digits)
     (λ bytes. Ok (record given { persona = Some bytes }))
     else Err WrongWords
     ) else Err WrongWords
@@ -140,6 +165,14 @@ pub data Task : Type 0 where
   to_witness : Kind → List ℕ → List ℕ → Task
   -- `tree KIND LEAF [salt=HEX] [persona=HEX]`
   to_tree : Kind → ℕ → Given → Task
+  -- `xof KIND LENGTH [key=HEX] [salt=HEX] [persona=HEX]`
+  to_xof : Family → ℕ → Given → Task
+  -- `derive LENGTH CONTEXT`
+  to_derive : ℕ → List ℕ → Task
+  -- `--help`
+  to_help : Task
+  -- `--version`
+  to_version : Task
 
 -- The task of the arguments after a command's name: KIND and the options.
 abbrev pub given_task : (Kind → Given → Task) → List (List ℕ) → Result Task Fault
@@ -181,6 +214,34 @@ abbrev pub tree_task : List (List ℕ) → Result Task Fault
 tree_task [] = Err WrongWords
 tree_task (word ∷ words) = and_then (tree_kind_of word) (λ kind. leaf_task kind words)
 
+-- The task of the arguments after KIND of `xof`.
+abbrev pub output_task_of : Family → List (List ℕ) → Result Task Fault
+output_task_of f [] = Err WrongWords
+output_task_of f (word ∷ words) =
+    and_then (length_value f word)
+    (λ n. and_then (with_words true nothing_given words) (λ given. Ok (to_xof f n given)))
+
+-- The task of the arguments after `xof`.
+abbrev pub xof_task : List (List ℕ) → Result Task Fault
+xof_task [] = Err WrongWords
+xof_task (word ∷ words) = and_then (output_family_of word) (λ f. output_task_of f words)
+
+-- The task of the arguments after LENGTH of `derive`: one, which is the context.
+abbrev pub context_task : ℕ → List (List ℕ) → Result Task Fault
+context_task n [] = Err WrongWords
+context_task n (context ∷ []) = Ok (to_derive n context)
+context_task n (context ∷ word ∷ words) = Err WrongWords
+
+-- The task of the arguments after `derive`.
+abbrev pub derive_task : List (List ℕ) → Result Task Fault
+derive_task [] = Err WrongWords
+derive_task (word ∷ words) = and_then (length_value blake2b word) (λ n. context_task n words)
+
+-- The task of an argument that no other follows.
+abbrev pub only : Task → List (List ℕ) → Result Task Fault
+only task [] = Ok task
+only task (word ∷ words) = Err WrongWords
+
 -- The task of a command line.
 abbrev pub task_of : List (List ℕ) → Result Task Fault
 task_of [] = Err WrongWords
@@ -190,4 +251,8 @@ task_of (command ∷ words) =
     else if bytes_eq command (codes "steps") then given_task to_steps words
     else if bytes_eq command (codes "witness") then witness_task words
     else if bytes_eq command (codes "tree") then tree_task words
+    else if bytes_eq command (codes "xof") then xof_task words
+    else if bytes_eq command (codes "derive") then derive_task words
+    else if bytes_eq command (codes "--help") then only to_help words
+    else if bytes_eq command (codes "--version") then only to_version words
     else Err WrongWords

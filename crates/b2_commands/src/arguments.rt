@@ -1,7 +1,7 @@
 //! The arguments of a command, read from left to right.
 
 ghost use Rattle.std.specs.Prelude.{◌≡◌, ◌≢◌, ◌<◌, ◌↔◌, [], length, map, unwrap_or, IsTrue};
-ghost use Rattle.std.specs.Prelude.{IfOk, IfErr, OnOk};
+ghost use Rattle.std.specs.Prelude.{IfOk, IfErr, OnOk, IsOkUnless};
 ghost use Rattle.std.specs.String.{string_bytes};
 ghost use Rattle.blake2.specs.Views.{key_of};
 ghost use Rattle.b2_commands.specs.Words.{hex_value, message_value, IsReadingFault};
@@ -72,11 +72,11 @@ impl Options {
     ghost use Rattle.b2_commands.specs.Words.{nothing_given, with_word, with_words, IsReadingFault};
 
     /// Reads the arguments NAME=HEX from left to right, and returns their bytes. The names are
-    /// `salt`, `persona` and, if `takes_key` is true, `key`. They come in any order, each at most
-    /// once. The error is a `Fault`, that of the first bad argument, whose name is checked before
-    /// its HEX: `WrongWords` if it has no `=`, or its name is unknown or comes again; `WrongHex`
-    /// if its HEX is not an even number of hexadecimal digits; `NoMemory` if an allocation for
-    /// its bytes fails.
+    /// `salt`, `persona` and, if `takes_key` is true, `key`. `persona-text=TEXT` is a persona of
+    /// these bytes. They come in any order, each at most once. The error is a `Fault`, that of the
+    /// first bad argument, whose name is checked before its HEX: `WrongWords` if it has no `=`, or
+    /// its name is unknown or comes again; `WrongHex` if its HEX is not an even number of
+    /// hexadecimal digits; `NoMemory` if an allocation for its bytes fails.
     pub(crate) fn from_words(
         alloc: Global,
         takes_key: bool,
@@ -101,8 +101,8 @@ impl Options {
         Ok(options)
     }
 
-    // Adds the bytes of the argument NAME=HEX, whose name must be new. The errors are those of
-    // `from_words`.
+    // Adds the bytes of the argument NAME=HEX or NAME=TEXT, whose name must be new. The errors are
+    // those of `from_words`.
     fn take_word(&mut self, alloc: Global, takes_key: bool, word: &str) -> Result<(), Fault>
         ensures taken { OnOk result
             (with_word takes_key (given_of self.old) word.now ≡ Ok (given_of self.new)) }
@@ -121,6 +121,9 @@ impl Options {
                 alloc,
                 digits.as_bytes(),
             )?),
+            "persona-text" if self.persona.is_none() => {
+                self.persona = Some(copy_of(alloc, digits.as_bytes())?)
+            }
             _ => return Err(Fault::WrongWords),
         }
         Ok(())
@@ -131,6 +134,26 @@ impl Options {
         ensures { key_of result ≡ (given_of self.now).key }
     {
         self.key.as_ref().map(|key| key.as_slice())
+    }
+
+    /// Returns the bytes of the key, or no bytes if it is absent.
+    pub(crate) fn key_bytes(&self) -> &[u8]
+        ensures { result.now ≡ unwrap_or (given_of self.now).key [] }
+    {
+        match &self.key {
+            Some(key) => key.as_slice(),
+            None => &[],
+        }
+    }
+
+    /// Returns whether there is a key, and it has no bytes.
+    pub(crate) fn has_empty_key(&self) -> bool
+        ensures { IsTrue result ↔ ((given_of self.now).key ≡ Some []) }
+    {
+        match &self.key {
+            Some(key) => key.is_empty(),
+            None => false,
+        }
     }
 
     /// Returns the salt, or no bytes if it is absent.
@@ -159,6 +182,16 @@ impl Options {
     {
         matches!((&self.key, &self.salt, &self.persona), (None, None, None))
     }
+}
+
+// Returns a copy of these bytes. The error is `Fault::NoMemory`, if an allocation fails.
+pub(crate) fn copy_of(alloc: Global, text: &[u8]) -> Result<Vec<u8>, Fault>
+    ensures bytes { IfOk result (λ bytes. bytes.items ≡ text.now) }
+    ensures fault { IsOkUnless result Fault.NoMemory }
+{
+    let mut bytes = Vec::new(alloc);
+    bytes.extend_from_slice(text)?;
+    Ok(bytes)
 }
 
 /// Returns the bytes of HEX as a message: an even number of hexadecimal digits, at least two, or

@@ -1,15 +1,19 @@
 //! The run of a command.
 
-ghost use Rattle.std.specs.Prelude.{◌≡◌, ◌≢◌, ◌≤◌, ◌↔◌, false, map, IsTrue, IsOkAnd, IfErr, OnOk};
+ghost use Rattle.std.specs.Prelude.{◌≡◌, ◌≢◌, ◌≤◌, ◌↔◌, ◌⊎◌, false, map, IsTrue, IsOk, IsErr};
+ghost use Rattle.std.specs.Prelude.{IsOkAnd, IfErr, OnOk};
 ghost use Rattle.std.specs.Io.KnownBytes.{Appends};
 ghost use Rattle.std.specs.Result.{IsErrOf};
 ghost use Rattle.std.specs.String.{string_bytes};
+ghost use Rattle.b2_commands.specs.Advice.{advice};
 ghost use Rattle.b2_commands.specs.Words.{task_of};
 ghost use Rattle.b2_commands.specs.Tasks.{IsDone};
 ghost use Rattle.b2_commands.specs.Faults.{IsTold, status_of, fault_line};
 
 use crate::digests::hash;
 use crate::fault::Fault;
+use crate::help::{HELP, VERSION, advise, print_text};
+use crate::outputs::{derive, xof};
 use crate::task::Task;
 use crate::tree::tree;
 use crate::witness::witness;
@@ -17,12 +21,20 @@ use blake2::streams::{Sink, Source};
 use std::alloc::Global;
 
 /// Runs the command that the arguments name, over the source and the sink. The arguments come
-/// without the program's name, and neither device may have failed before. Returns the status: 0
+/// without the program's name, and no device may have failed before. Returns the status: 0
 /// for success, 1 if a device or an allocation fails, and 2 for wrong arguments or wrong input.
-/// With a status other than 0 it prints only the line of the error, unless a write fails.
-pub fn run<S: Source, K: Sink>(alloc: Global, words: &[String], source: &mut S, sink: &mut K) -> u8
+/// With a status other than 0 it prints only the line of the error, unless a write fails. If the
+/// arguments name no task, it writes the usage to `notes`; whether that fails changes nothing.
+pub fn run<S: Source, K: Sink, N: Sink>(
+    alloc: Global,
+    words: &[String],
+    source: &mut S,
+    sink: &mut K,
+    notes: &mut N,
+) -> u8
     requires source { S.failed source.old ≡ false }
     requires sink { K.failed sink.old ≡ false }
+    requires notes { N.failed notes.old ≡ false }
     ensures status { result ≤ 2 }
     ensures read { IsTrue (S.failed source.new) → result ≡ 1 }
     ensures write { IsTrue (K.failed sink.new) → result ≡ 1 }
@@ -34,6 +46,12 @@ pub fn run<S: Source, K: Sink>(alloc: Global, words: &[String], source: &mut S, 
     ensures told { result ≢ 0 → K.failed sink.new ≡ false → IsTold (map string_bytes words.now)
         (S.left source.old) (S.left source.new) (S.failed source.new) result
         (K.held sink.old) (K.held sink.new) }
+    // The notes accepted the advice for arguments that name no task, unless a write failed.
+    ensures advised { result ≡ 2 → IsErr (task_of (map string_bytes words.now))
+        → N.failed notes.new ≡ false → Appends (N.held notes.old) (N.held notes.new)
+        (advice (map string_bytes words.now)) }
+    ensures quiet { (result ≢ 2) ⊎ IsOk (task_of (map string_bytes words.now))
+        → notes.new ≡ notes.old }
 {
     match Task::from_words(alloc, words) {
         Ok(Task::Hash(output, kind, options)) => {
@@ -48,7 +66,23 @@ pub fn run<S: Source, K: Sink>(alloc: Global, words: &[String], source: &mut S, 
             let end = tree(alloc, &root, source, sink);
             status_after(end, sink)
         }
-        Err(fault) => fault.report(sink),
+        Ok(Task::Xof(output)) => {
+            let end = xof(&output, source, sink);
+            status_after(end, sink)
+        }
+        Ok(Task::Derive(derivation)) => {
+            let end = derive(&derivation, source, sink);
+            status_after(end, sink)
+        }
+        Ok(Task::Help) => status_after(print_text(HELP, sink), sink),
+        Ok(Task::Version) => status_after(print_text(VERSION, sink), sink),
+        Err(fault) => {
+            let status = fault.report(sink);
+            if status == 2 {
+                advise(words, notes);
+            }
+            status
+        }
     }
 }
 

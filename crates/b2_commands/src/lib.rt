@@ -1,6 +1,6 @@
-//! The commands of `b2`: digests, scripts, transcripts and witnesses of BLAKE2b and BLAKE2s, and
-//! roots of trees. They read a source of bytes and print to a sink. The program passes standard
-//! input and standard output to them.
+//! The commands of `b2`: digests, scripts, transcripts and witnesses of BLAKE2b and BLAKE2s, roots
+//! of trees, and outputs of BLAKE2X. They read a source of bytes and print to a sink. The program
+//! passes standard input and standard output to them.
 
 #![tactic(auto)]
 
@@ -8,13 +8,16 @@ mod arguments;
 mod digests;
 mod dispatch;
 mod fault;
+mod help;
 mod input;
 mod numbers;
+mod output_arguments;
+mod outputs;
 mod print;
 mod script;
 mod script_lines;
+mod steps;
 mod task;
-mod transcript;
 mod tree;
 mod witness;
 mod witness_arguments;

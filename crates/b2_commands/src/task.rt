@@ -1,12 +1,13 @@
 //! The task that the arguments of a command line name.
 
-ghost use Rattle.std.specs.Prelude.{◌≡◌, ◌<◌, ◌≤◌, length, map, IfOk, IfErr};
+ghost use Rattle.std.specs.Prelude.{◌≡◌, ◌≢◌, ◌<◌, ◌≤◌, length, map, IfOk, IfErr};
 ghost use Rattle.std.specs.String.{string_bytes};
 ghost use Rattle.b2_commands.specs.Words.{task_of, IsReadingFault};
 
 use crate::arguments::{Blake2bKind, Kind, Options};
 use crate::fault::Fault;
 use crate::numbers::number_of;
+use crate::output_arguments::{Derivation, Extended};
 use crate::witness_arguments::Comparison;
 use std::alloc::Global;
 
@@ -39,11 +40,19 @@ pub(crate) enum Task {
     Compare(Comparison),
     /// `tree`.
     Tree(Root),
+    /// `xof`.
+    Xof(Extended),
+    /// `derive`.
+    Derive(Derivation),
+    /// `--help`.
+    Help,
+    /// `--version`.
+    Version,
 }
 
 impl Task {
     ghost use Rattle.b2_commands.specs.Parsed.{output_task, task_value};
-    ghost use Rattle.b2_commands.specs.Words.{given_task};
+    ghost use Rattle.b2_commands.specs.Words.{given_task, only};
 
     /// Reads the arguments from left to right, the command, its KIND and then the rest, and
     /// returns the task. The error is a `Fault`, that of the first bad argument: `WrongWords` if
@@ -65,6 +74,10 @@ impl Task {
             "steps" => Output::Transcript,
             "witness" => return Ok(Task::Compare(Comparison::from_words(alloc, words)?)),
             "tree" => return Ok(Task::Tree(Root::from_words(alloc, words)?)),
+            "xof" => return Ok(Task::Xof(Extended::from_words(alloc, words)?)),
+            "derive" => return Ok(Task::Derive(Derivation::from_words(alloc, words)?)),
+            "--help" => return Self::alone(Task::Help, words),
+            "--version" => return Self::alone(Task::Version, words),
             _ => return Err(Fault::WrongWords),
         };
         let Some((kind, words)) = words.split_first() else {
@@ -73,6 +86,21 @@ impl Task {
         let kind = Kind::from_word(kind.as_str())?;
         let options = Options::from_words(alloc, true, words)?;
         Ok(Task::Hash(output, kind, options))
+    }
+
+    // Returns the task, which no argument may follow. The error is `Fault::WrongWords`, if one
+    // does.
+    fn alone(task: Task, words: &[String]) -> Result<Task, Fault>
+        ensures task { IfOk result (λ same.
+            only (task_value task) (map string_bytes words.now) ≡ Ok (task_value same)) }
+        ensures fault { IfErr result (λ fault.
+            IsReadingFault fault (only (task_value task) (map string_bytes words.now))) }
+        ensures memory { result ≢ Err Fault.NoMemory }
+    {
+        match words.split_first() {
+            None => Ok(task),
+            Some(_) => Err(Fault::WrongWords),
+        }
     }
 }
 

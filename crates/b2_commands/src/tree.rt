@@ -12,7 +12,7 @@ ghost use Rattle.b2_commands.specs.Ends.{EndsTask};
 ghost use Rattle.b2_commands.specs.Options.{given_of};
 ghost use Rattle.b2_commands.specs.Parsed.{root_task};
 ghost use Rattle.b2_commands.specs.Tasks.{IsRefusedByTree, root_with};
-ghost use Rattle.b2_commands.specs.Trees.{IsFaultOfTree};
+ghost use Rattle.b2_commands.specs.TreeFaults.{IsFaultOfTree};
 
 use crate::arguments::{Blake2bKind, Options};
 use crate::fault::Fault;

@@ -6,9 +6,11 @@
 
 mod devices;
 mod failing_outputs;
+mod help;
 mod input_lengths;
 mod large;
 mod memory;
+mod outputs;
 mod refusals;
 mod script;
 mod sum;
@@ -17,7 +19,7 @@ mod tree;
 mod witness;
 
 use b2_commands::run;
-use blake2::streams::{IoSink, SliceSource};
+use blake2::streams::{IoSink, SliceSink, SliceSource};
 use blake2::{Blake2b256, Digest};
 use std::alloc::{AllocError, Global};
 use std::process::Abort;
@@ -42,7 +44,8 @@ fn run_over(
     let words = words_of(alloc, text)?;
     let mut source = SliceSource::new(input, 4096, fail_at);
     let mut sink = IoSink::new(Vec::new(alloc));
-    let status = run(alloc, words.as_slice(), &mut source, &mut sink);
+    let mut notes = SliceSink::new(&mut [], 1, None);
+    let status = run(alloc, words.as_slice(), &mut source, &mut sink, &mut notes);
     Ok((status, sink.into_inner()))
 }
 

@@ -1,12 +1,13 @@
 //! The files of the system, by names of any bytes.
 
-ghost use Rattle.std.specs.Prelude.{◌≡◌, ◌<◌, ◌||◌, None, true, false, is_some, is_err};
+ghost use Rattle.std.specs.Prelude.{◌≡◌, ◌||◌, ◌∷◌, [], None, true, false, is_some, is_err};
+ghost use Rattle.std.specs.Prelude.{IfOk};
 ghost use Rattle.std.specs.Io.{ReadsAtMost};
 ghost use Rattle.blake2_streams.specs.Devices.{Gives};
 ghost use Rattle.b2sum.specs.Reading.{rest_of};
 
 use b2sum_commands::{Disk, OpenFile, Output};
-use blake2::streams::{DeviceError, Sink, Source};
+use blake2::streams::{DeviceError, Sink};
 use std::alloc::{AllocError, Global};
 use std::fs::{File, Files};
 use std::io::{self, Read, Stdin, Write};
@@ -21,45 +22,68 @@ pub struct System<R> {
 
 /// A file that is open for reading, or standard input.
 #[derive(Drop)]
-pub enum Reader<F> {
+pub enum Reader<F, I> {
     /// A file.
     File(F),
     /// Standard input.
-    Input(Stdin),
+    Input(I),
 }
 
-/// An open file, and the error of the read that failed, if one has.
+/// An open file by its name, and the error of the read that failed, if one has.
 #[derive(Drop)]
-pub struct Opened<F> {
-    reader: Reader<F>,
+pub struct Opened<F, I> {
+    reader: Reader<F, I>,
+    name: Vec<u8>,
     error: Option<io::Error>,
 }
 
-impl<F: Read> Opened<F> {
-    /// Returns standard input, which has not failed.
-    pub fn input(input: Stdin) -> Opened<F> {
-        Opened {
-            reader: Reader::Input(input),
-            error: None,
-        }
+impl<F: Read + AsRawFd, I: Read + AsRawFd + Drop> Opened<F, I> {
+    /// Returns standard input, which has not failed, by the name `-`. The error is that of the
+    /// allocator, for the name.
+    pub fn input(alloc: Global, input: I) -> Result<Opened<F, I>, AllocError>
+        ensures unfailed { IfOk result
+            (λ file. ⟦<Opened<F, I> as OpenFile>⟧.failed file ≡ false) }
+        ensures named { IfOk result
+            (λ file. ⟦<Opened<F, I> as OpenFile>⟧.named file ≡ 45 ∷ []) }
+        ensures reader { IfOk result (λ file. rest_of F.remaining I.remaining file.reader
+            ≡ I.remaining input) }
+    {
+        let name = Vec::from_slice(alloc, b"-")?;
+        Ok(fresh(Reader::Input(input), name))
     }
 }
 
-impl<F: Read> Source for Opened<F> {
-    ghost use Rattle.std.specs.Prelude.{None, is_some};
+// Returns an open file by its name, which has not failed.
+fn fresh<F, I>(reader: Reader<F, I>, name: Vec<u8>) -> Opened<F, I>
+    ensures reader { result.reader ≡ reader }
+    ensures name { result.name ≡ name }
+    ensures error { result.error ≡ None }
+{
+    Opened {
+        reader,
+        name,
+        error: None,
+    }
+}
 
-    ghost left = { λ _. None };
+impl<F: Read + AsRawFd, I: Read + AsRawFd> OpenFile for Opened<F, I> {
+    ghost use Rattle.std.specs.Prelude.{is_some};
+    ghost use Rattle.b2sum.specs.Reading.{rest_of};
+
+    ghost left = { λ s. rest_of F.remaining I.remaining s.reader };
 
     ghost failed = { λ s. is_some s.error };
 
+    ghost named = { λ s. s.name.items };
+
     fn read(&mut self, buf: &mut [u8]) -> Result<usize, DeviceError>
         ensures bound { ReadsAtMost result buf.new }
-        ensures bytes { Gives None None result buf.new }
         ensures fails { is_some self.new.error ≡ (is_some self.old.error || is_err result) }
+        ensures name { self.new.name.items ≡ self.old.name.items }
 
-        // It returns the next bytes of the file, and none only at the end.
-        ensures passes { Gives (rest_of F.remaining self.old.reader)
-            (rest_of F.remaining self.new.reader) result buf.new }
+        // It returns the next bytes of the file or of standard input, and none only at the end.
+        ensures bytes { Gives (rest_of F.remaining I.remaining self.old.reader)
+            (rest_of F.remaining I.remaining self.new.reader) result buf.new }
     {
         let result = match &mut self.reader {
             Reader::File(file) => file.read(buf),
@@ -77,9 +101,7 @@ impl<F: Read> Source for Opened<F> {
     fn failed(&self) -> bool {
         self.error.is_some()
     }
-}
 
-impl<F: Read + AsRawFd> OpenFile for Opened<F> {
     fn reason(&self) -> io::Error {
         match self.error {
             Some(error) => error,
@@ -114,9 +136,9 @@ where
       lacks = λ _. true;
     } };
 
-    type File = Opened<R::File>;
+    type File = Opened<R::File, Stdin>;
 
-    fn keep_secrets(&self) {
+    fn hide_memory(&self) {
         hide_memory();
     }
 
@@ -124,13 +146,11 @@ where
         show_progress();
     }
 
-    fn open(&self, alloc: Global, name: &[u8]) -> io::Result<Opened<R::File>> {
-        let name = text_of(alloc, name)?;
-        let file = File::open(&self.files, name.as_str())?;
-        Ok(Opened {
-            reader: Reader::File(file),
-            error: None,
-        })
+    fn open(&self, alloc: Global, name: &[u8]) -> io::Result<Opened<R::File, Stdin>> {
+        let path = text_of(alloc, name)?;
+        let name = Vec::from_slice(alloc, name)?;
+        let file = File::open(&self.files, path.as_str())?;
+        Ok(fresh(Reader::File(file), name))
     }
 }
 

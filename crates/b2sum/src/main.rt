@@ -4,6 +4,7 @@
 
 mod disk;
 mod hashes;
+mod states;
 
 use b2sum_commands::{Host, Program, Session, run};
 use blake2::streams::write_whole;
@@ -24,7 +25,9 @@ fn main(rt: HostRuntime) -> ExitCode {
     };
     let output = Writer::new(rt.stdout());
     let messages = Writer::new(rt.stderr());
-    let input = Opened::input(rt.stdin());
+    let Ok(input) = Opened::input(rt.alloc(), rt.stdin()) else {
+        return exhausted(rt.stderr(), program.name.as_slice());
+    };
     let session = Session::new(rt.alloc(), input, output, messages);
     let words = arguments(&rt, rt.alloc());
     match (session, words) {

@@ -1,10 +1,9 @@
 -- Tasks that are done by the options of a choice.
 use Rattle.std.proofs.Common.{◌≡◌, ◌⊎◌, ℕ, Bool, true, false, List, Option, inl, inr, sym, subst}
 use Rattle.std.proofs.Common.{if◌then◌else◌}
-use Rattle.b2sum_lines.specs.declared.entry.Spacing.TheVariants.{Open}
 use Rattle.b2sum_commands.specs.declared.options.Options.{Options}
-use Rattle.b2sum_commands.specs.Found.{Streams}
-use Rattle.b2sum_commands.specs.World.{World, AllInTurn, IsNoKey}
+use Rattle.b2sum_commands.specs.World.{Streams}
+use Rattle.b2sum_commands.specs.World.{World, AllInTurn, IsNoKey, HasFailed}
 use Rattle.b2sum_commands.specs.Sums.{IsSum, is_dash}
 use Rattle.b2sum_commands.specs.Checks.{IsChecked}
 use Rattle.b2sum_commands.specs.CommandLine.{Choice}
@@ -14,7 +13,7 @@ use Rattle.b2sum_commands.specs.Runs.{AreDone, DoesTask, HasKey, AfterKey, Lacks
 -- A check of manifests is the task of a choice.
 pub checks_done : (w : World) (c : Choice) (o : Options) (names : List (List ℕ))
     (old keyed begun new : Streams) (end : Option Bool) → AreOptions c o × HasKey w old.left c o
-    → AfterKey c.key_file old keyed → o.checks ≡ true → begun ≡ record keyed { spacing = Open }
+    → AfterKey c.key_file old keyed → o.checks ≡ true → begun ≡ keyed
     → AllInTurn (IsChecked w o) names begun new end → DoesTask w c names old new end
 checks_done w c o names old keyed begun new end are after checks at done = (
   o,
@@ -43,25 +42,26 @@ sums_done w c o names old keyed begun new end are after checks at done = (
 
 -- Standard input has no key.
 pub input_lacks_key : (w : World) (left : Option (List ℕ)) (most : ℕ) (name : List ℕ)
-    → is_dash name ≡ true → IsNoKey left most ⊎ w.breaks → LacksKey w left most name
+    → is_dash name ≡ true → IsNoKey left most ⊎ w.breaks name → LacksKey w left most name
 input_lacks_key w left most name dash (inl none) =
     inr (subst (λ (b : Bool). IsNoKey (if b then left else w.files.holds name) most) (sym dash) none)
 input_lacks_key w left most name dash (inr broken) = inl (inr broken)
 
 -- An open file has no key, or a read of it failed.
-pub opened_lacks_key : {F : Type 0} (failed : F → Bool) (file : F) (held left : Option (List ℕ))
-    (most limit : ℕ) → held ≡ left → most ≡ limit
-    → IsNoKey held most ⊎ (failed file ≡ true)
-    → IsNoKey left limit ⊎ ((f : F) × (failed f ≡ true))
-opened_lacks_key failed file held left most limit from is (inl none) =
+pub opened_lacks_key : {F : Type 0} (named : F → List ℕ) (failed : F → Bool) (file : F)
+    (name : List ℕ) (held left : Option (List ℕ)) (most limit : ℕ) → named file ≡ name
+    → held ≡ left → most ≡ limit → IsNoKey held most ⊎ (failed file ≡ true)
+    → IsNoKey left limit ⊎ HasFailed named failed name
+opened_lacks_key named failed file name held left most limit same from is (inl none) =
     inl (subst (λ (l : Option (List ℕ)). IsNoKey l limit) from
     (subst (λ (n : ℕ). IsNoKey held n) is none))
-opened_lacks_key failed file held left most limit from is (inr broken) = inr (file, broken)
+opened_lacks_key named failed file name held left most limit same from is (inr broken) =
+    inr (file, same, broken)
 
 -- A file has no key.
 pub file_lacks_key : (w : World) (left : Option (List ℕ)) (most : ℕ) (name : List ℕ)
     → is_dash name ≡ false
-    → (w.files.refuses name ≡ true) ⊎ (IsNoKey (w.files.holds name) most ⊎ w.breaks)
+    → (w.files.refuses name ≡ true) ⊎ (IsNoKey (w.files.holds name) most ⊎ w.breaks name)
     → LacksKey w left most name
 file_lacks_key w left most name dash (inl refused) = inl (inl (dash, refused))
 file_lacks_key w left most name dash (inr (inl none)) =

@@ -1,47 +1,24 @@
--- Verdicts, and the counts of them.
+-- Verdicts.
 use Rattle.std.proofs.Common.{◌≡◌, ◌≢◌, ◌⊎◌, ℕ, ◌&&◌, ◌||◌, Bool, true, false, not, List, [], ◌∷◌, ◌++◌}
 use Rattle.std.proofs.Common.{Option, Some, inl, inr, refl, ap, ◌∙◌, sym, subst, length, arith}
-use Rattle.std.proofs.Common.{Result, Ok, Err, IfOk}
+use Rattle.std.proofs.Common.{Result, Ok, Err, IfOk, true≢false}
 use Rattle.std.proofs.KnownBytes.{Consumes-nil}
 use Rattle.std.specs.Io.KnownBytes.{Appends}
-use Rattle.std.specs.List.{list_all, list_any}
 use Rattle.b2sum_lines.specs.Lines.{Line}
-use Rattle.b2sum_commands.specs.Found.{Streams}
+use Rattle.b2sum_commands.specs.World.{Streams}
 use Rattle.b2sum_commands.specs.World.{World, IsTold}
-use Rattle.b2sum_commands.specs.Checks.{AreCounted, Adds, IsBegun}
-use Rattle.b2sum_commands.specs.Manifests.{IsVerdict, is_equal, is_fine, is_formed, holds_by}
+use Rattle.b2sum_commands.specs.Checks.{IsBegun}
+use Rattle.b2sum_commands.specs.Manifests.{IsVerdict, is_silent}
 use Rattle.b2sum_commands.specs.Manifests.{item, spacing_after, verdict_line, IsItem, IsLine}
 use Rattle.b2sum_commands.specs.Manifests.{listed_function}
 use Rattle.b2sum_commands.specs.Sums.{is_dash, ReadsAs, Leaves, CannotSum}
-use Rattle.b2sum_commands.specs.declared.check.Counts.{Counts}
 use Rattle.b2sum_commands.specs.declared.check.Verdict.{Verdict}
 use Rattle.b2sum_commands.specs.declared.check.Verdict.TheVariants.{Equal, Different, Unread}
-use Rattle.b2sum_commands.specs.declared.check.Verdict.TheVariants.{Skipped, Malformed, Comment}
+use Rattle.b2sum_commands.specs.declared.check.Verdict.TheVariants.{Skipped, Malformed, Unmet, Comment}
 use Rattle.b2sum_commands.specs.declared.hashes.Function.{Function}
 use Rattle.b2sum_commands.specs.declared.options.Options.{Options}
 use Rattle.b2sum_commands.specs.declared.sums.Read.{Read}
 use Rattle.b2sum_commands.specs.declared.sums.Read.TheVariants.{Whole, Missing, Failed}
-use Rattle.b2sum_commands.proofs.Joining.{all_more, any_more}
-
--- The counts with one more verdict.
-pub count_step : (vs : List Verdict) (v : Verdict) (old new : Counts) → AreCounted vs old
-    → Adds v old new → AreCounted (vs ++ (v ∷ [])) new
-count_step vs v old new c a = record {
-  equal = a.equal ∙ ap (λ b. b || is_equal v) c.equal ∙ sym (any_more is_equal vs v);
-  fine = a.fine ∙ ap (λ b. b && is_fine v) c.fine ∙ sym (all_more is_fine vs v);
-  formed = a.formed ∙ ap (λ b. b && is_formed v) c.formed ∙ sym (all_more is_formed vs v);
-}
-
--- The result by the counts is that by the verdicts.
-pub counted_holds : (strict : Bool) (vs : List Verdict) (counts : Counts) (b : Bool)
-    → AreCounted vs counts
-    → b ≡ (counts.any_equal && (counts.all_fine && (not strict || counts.all_formed)))
-    → b ≡ holds_by strict vs
-counted_holds strict vs counts b c is =
-    is
-    ∙ ap (λ x. x && (counts.all_fine && (not strict || counts.all_formed))) c.equal
-    ∙ ap (λ x. list_any is_equal vs && (x && (not strict || counts.all_formed))) c.fine
-    ∙ ap (λ x. list_any is_equal vs && (list_all is_fine vs && (not strict || x))) c.formed
 
 -- What a file that is not there, and is to be ignored, is known to be.
 abbrev pub IsAbsent : World → Options → List ℕ → Type 0
@@ -68,15 +45,15 @@ pub entry_verdict : (w : World) (o : Options) (left after : Option (List ℕ)) (
     → (v ≡ Equal → found ≡ e.digest) → (v ≡ Different → found ≢ e.digest)
     → (v ≡ Skipped → IsAbsent w o e.name)
     → (v ≡ Unread → CannotSum w o (listed_function e) e.name)
-    → v ≢ Malformed → v ≢ Comment
-    → IsVerdict w o left (Some e) v after
-entry_verdict w o left after e Equal found leaves whole same other absent unread formed entry =
+    → v ≢ Malformed → v ≢ Unmet → v ≢ Comment
+    → IsVerdict w o left (Ok e) v after
+entry_verdict w o left after e Equal found leaves whole same other absent unread formed met entry =
     let read = whole (inl refl) in (read.0, read.1, sym read.2 ∙ same refl)
-entry_verdict w o left after e Different found leaves whole same other absent unread formed entry =
+entry_verdict w o left after e Different found leaves whole same other absent unread formed met entry =
     let read = whole (inr refl) in (read.0, read.1, λ is. other refl (read.2 ∙ is))
-entry_verdict w o left after e Unread found leaves whole same other absent unread formed entry =
+entry_verdict w o left after e Unread found leaves whole same other absent unread formed met entry =
     (leaves, unread refl)
-entry_verdict w o left after e Skipped found leaves whole same other absent unread formed entry =
+entry_verdict w o left after e Skipped found leaves whole same other absent unread formed met entry =
     let is = absent refl in (
       is.0,
       is.1,
@@ -84,32 +61,39 @@ entry_verdict w o left after e Skipped found leaves whole same other absent unre
       is.2,
       is.3,
     )
-entry_verdict w o left after e Malformed found leaves whole same other absent unread formed entry =
+entry_verdict w o left after e Malformed found leaves whole same other absent unread formed met entry =
     absurd (formed refl)
-entry_verdict w o left after e Comment found leaves whole same other absent unread formed entry =
+entry_verdict w o left after e Unmet found leaves whole same other absent unread formed met entry =
+    absurd (met refl)
+entry_verdict w o left after e Comment found leaves whole same other absent unread formed met entry =
     absurd (entry refl)
 
 pub no_bytes : (xs : List ℕ) → length xs ≡ 0 → xs ≡ []
 no_bytes [] h = refl
 no_bytes (x ∷ xs) h = absurd (omega (arith, h))
 
+speaks : (v : Verdict) → is_silent v ≡ true → v ≢ Unread
+speaks v silent is = true≢false (sym silent ∙ ap is_silent is)
+
 -- The line of an entry is checked.
 pub entry_line : {E : Type 0} (w : World) (o : Options) (input : Bool) (line : List ℕ)
     (old mid new : Streams) (e : Line) (r : Result Verdict E)
-    → item o input old.spacing line ≡ Some (Some e)
+    → item o input old.spacing line ≡ Some (Ok e)
     → mid ≡ record old { spacing = spacing_after old.spacing e.style }
-    → IfOk r (λ v. IsVerdict w o mid.left (Some e) v new.left)
-    → IfOk r (λ v. Appends mid.held new.held (verdict_line o.report (Some e) v))
-    → IfOk r (λ v. v ≡ Unread → IsTold mid new) → new.spacing ≡ mid.spacing
+    → IfOk r (λ v. IsVerdict w o mid.left (Ok e) v new.left)
+    → IfOk r (λ v. Appends mid.held new.held (verdict_line o.report (Ok e) v))
+    → IfOk r (λ v. v ≡ Unread → IsTold mid new)
+    → IfOk r (λ v. v ≢ Unread → new.told ≡ mid.told) → new.spacing ≡ mid.spacing
     → IfOk r (IsLine w o input line old new)
-entry_line w o input line old mid new e (Ok v) is at verdict printed told spaced =
+entry_line w o input line old mid new e (Ok v) is at verdict printed told silent spaced =
     subst (λ i. IsItem w o i old new v) (sym is) (
       spaced ∙ ap (λ s. s.spacing) at,
-      subst (λ (s : Streams). IsVerdict w o s.left (Some e) v new.left) at verdict,
-      subst (λ (s : Streams). Appends s.held new.held (verdict_line o.report (Some e) v)) at printed,
+      subst (λ (s : Streams). IsVerdict w o s.left (Ok e) v new.left) at verdict,
+      subst (λ (s : Streams). Appends s.held new.held (verdict_line o.report (Ok e) v)) at printed,
       subst (λ (s : Streams). v ≡ Unread → IsTold s new) at told,
+      λ quiet. silent (speaks v quiet) ∙ ap (λ (s : Streams). s.told) at,
     )
-entry_line w o input line old mid new e (Err error) is at verdict printed told spaced = tt
+entry_line w o input line old mid new e (Err error) is at verdict printed told silent spaced = tt
 
 -- Nothing is a beginning of each text.
 pub nothing_begins : (input : Bool) (held left : Option (List ℕ)) → IsBegun input held left []

@@ -1,11 +1,16 @@
-pub mod Joining
+pub mod OneMore
+pub mod Dash
+pub mod Known
 pub mod Turns
 pub mod Judging
+pub mod Counting
 pub mod Cutting
 pub mod Reading
 pub mod ReadBack
 pub mod Stopping
 pub mod Doing
 pub mod Telling
+pub mod Reporting
 pub mod Stops
 pub mod Naming
+pub mod CommandLines

@@ -4,7 +4,7 @@ use Rattle.std.proofs.Common.{refl, ap, ◌∙◌, sym, subst, length, drop, tak
 use Rattle.std.proofs.Common.{drop-cons, length-drop}
 use Rattle.std.proofs.lemmas.List.{take-append-drop, take_all}
 use Rattle.std.specs.List.{list_any}
-use Rattle.b2sum_commands.specs.Name.{is_slash, last_part}
+use Rattle.b2sum_commands.specs.ProgramName.{is_slash, last_part}
 
 or_true : (b : Bool) → (b || true) ≡ true
 or_true true = refl

@@ -20,11 +20,11 @@ use Rattle.b2sum_lines.proofs.RoundTrip.{entry_read_by}
 use Rattle.blake2_streams.specs.Streams.{GivesAll}
 use Rattle.b2sum_commands.specs.declared.check.Verdict.{Verdict}
 use Rattle.b2sum_commands.specs.declared.check.Verdict.TheVariants.{Equal, Different, Unread}
-use Rattle.b2sum_commands.specs.declared.check.Verdict.TheVariants.{Skipped, Malformed, Comment}
+use Rattle.b2sum_commands.specs.declared.check.Verdict.TheVariants.{Skipped, Malformed, Unmet, Comment}
 use Rattle.b2sum_commands.specs.declared.options.Options.{Options}
 use Rattle.b2sum_commands.specs.declared.options.Shape.{Shape}
 use Rattle.b2sum_commands.specs.declared.options.Shape.TheVariants.{Named}
-use Rattle.b2sum_commands.specs.Found.{Streams}
+use Rattle.b2sum_commands.specs.World.{Streams}
 use Rattle.b2sum_commands.specs.World.{World, InTurn, AllInTurn, Ends}
 use Rattle.b2sum_commands.specs.Sums.{entry_of, ended_line, is_dash, printed, printed_function, IsSum}
 use Rattle.b2sum_commands.specs.Sums.{ReadsAs}
@@ -74,16 +74,16 @@ record Readable (c : Options) (input : Bool) (e : Line) : Type 0 where
   writable : IsWritable e
   marked : e.style ≢ Bare
   algorithm : is_tagged e.style ≡ false → c.algorithm ≡ e.algorithm
-  accepted : checkable c input (Some e) ≡ Some e
+  accepted : checkable c input (Some e) ≡ Ok e
 
 line_item : (c : Options) (input : Bool) (s : Spacing) (e : Line) → Readable c input e → s ≢ One
-    → item c input s (entry_line e) ≡ Some (Some e)
+    → item c input s (entry_line e) ≡ Some (Ok e)
 line_item c input s e r two =
     ap (option_map (λ (body : List ℕ). checkable c input (line_entry c.algorithm s body)))
     (trimmed_is (entry_line e) (line_begins e r.writable) (line_clear e r.writable))
     ∙ ap (λ (o : Option Line). Some (checkable c input o))
     (entry_read_by e r.writable r.marked c.algorithm r.algorithm s (λ _. two))
-    ∙ ap (λ (o : Option Line). Some o) r.accepted
+    ∙ ap (λ (o : Result Line Verdict). Some o) r.accepted
 
 two_after : (s : Spacing) (style : Style) → s ≢ One → style ≢ Bare → spacing_after s style ≢ One
 two_after s (Tagged needs) two marked = two
@@ -109,13 +109,13 @@ lines_read c input s [] all two = refl
 lines_read c input s (e ∷ es) all two =
     let rest = lines_of (flat_map (ended_line false) es) in
     ap (items c input s) (lines_cut e es all.0.writable)
-    ∙ ap (λ (i : Option (Option Line)). i ∷ items c input (spacing_past s i) rest)
+    ∙ ap (λ (i : Option (Result Line Verdict)). i ∷ items c input (spacing_past s i) rest)
     (line_item c input s e all.0 two)
-    ∙ ap (λ (is : List (Option (Option Line))). Some (Some e) ∷ is)
+    ∙ ap (λ (is : List (Option (Result Line Verdict))). Some (Ok e) ∷ is)
     (lines_read c input (spacing_after s e.style) es all.1 (two_after s e.style two all.0.marked))
 
 readable : (w : World) (c o : Options) (input : Bool) (name text : List ℕ) → AreReadable w o
-    → Accepts c o → AreNames input (name ∷ []) → Readable c input (entry_of w o name text)
+    → Accepts c o → AreNames (input || c.input_is_key) (name ∷ []) → Readable c input (entry_of w o name text)
 readable w c o input name text are accepts names =
     let e = entry_of w o name text in
     let is = names 0 name (omega arith) in
@@ -134,12 +134,12 @@ readable w c o input name text are accepts names =
       };
       marked = are.marked;
       algorithm = accepts.algorithm;
-      accepted = rw (demanded, accepts.needs, accepts.keyed, is.2) refl;
+      accepted = rw is.2 (rw (demanded, accepts.needs, accepts.keyed) refl);
     }
 
 all_readable : (w : World) (c o : Options) (input : Bool) (names : List (List ℕ))
     (old new : Streams) (found : List (Option Line)) → AreReadable w o → Accepts c o
-    → AreNames input names → InTurn (IsEntry w o) names old new found
+    → AreNames (input || c.input_is_key) names → InTurn (IsEntry w o) names old new found
     → AllByRecursion (Readable c input) (entries_in found)
 all_readable w c o input [] old new [] are accepts named done = tt
 all_readable w c o input [] old new (f ∷ found) are accepts named done = absurd done
@@ -154,7 +154,7 @@ all_readable w c o input (name ∷ names) old new (Some e ∷ found) are accepts
       (λ k d below. named (suc k) d (omega (arith, below))) done.2,
 )
   where
-    first : AreNames input (name ∷ [])
+    first : AreNames (input || c.input_is_key) (name ∷ [])
     first zero d below = named 0 d (omega arith)
     first (suc k) d below = absurd (omega (arith, below))
 
@@ -214,13 +214,14 @@ all_kept w c o (name ∷ names) old new (Some e ∷ found) are same kept done = 
 )
 
 verdict_kept : (w : World) (c : Options) (left after : Option (List ℕ)) (e : Line) (v : Verdict)
-    → Kept w c e → IsVerdict w c left (Some e) v after → is_kept v ≡ true
+    → Kept w c e → IsVerdict w c left (Ok e) v after → is_kept v ≡ true
 verdict_kept w c left after e Equal kept is = refl
 verdict_kept w c left after e Different kept is =
     absurd (is.2 (kept.same left after is.0 is.1))
 verdict_kept w c left after e Unread kept is = refl
 verdict_kept w c left after e Skipped kept is = refl
 verdict_kept w c left after e Malformed kept is = absurd is
+verdict_kept w c left after e Unmet kept is = absurd is
 verdict_kept w c left after e Comment kept is = absurd is
 
 -- The lines of entries whose files are the same have verdicts that say so.
@@ -252,8 +253,8 @@ verdicts_kept w c input (e ∷ es) lines before after vs all kept two are done =
         → (list_all is_kept vs ≡ true) × (length vs ≡ length (e ∷ es))
     some [] done again = absurd done
     some (v ∷ vs) done again =
-        let is : IsItem w c (Some (Some e)) before done.0 v =
-        subst (λ (i : Option (Option Line)). IsItem w c i before done.0 v)
+        let is : IsItem w c (Some (Ok e)) before done.0 v =
+        subst (λ (i : Option (Result Line Verdict)). IsItem w c i before done.0 v)
         (line_item c input before.spacing e all.0 two) done.1 in
         let spaced : done.0.spacing ≢ One =
         λ one. two_after before.spacing e.style two all.0.marked (sym is.0 ∙ one) in
@@ -285,15 +286,15 @@ find w o [] old new (well ∷ each) shape ends done = absurd done
 find w o (name ∷ names) old new [] shape ends done = absurd done
 find w o (name ∷ names) old new (true ∷ each) shape ends done =
     let rest = find w o names done.0 new each shape ends done.2 in
-    let e = entry_of w o name done.1.0 in
+    let e = entry_of w o name done.1.0.0 in
     record {
       found = Some e ∷ rest.found;
-      are_entries = (done.0, (done.1.0, done.1.1, refl), rest.are_entries);
+      are_entries = (done.0, (done.1.0.0, done.1.0.1, refl), rest.are_entries);
       all = rest.all;
       printed = Appends-trans old.held done.0.held new.held (ended_line false e) _
           (subst (λ (shape : Shape). Appends old.held done.0.held (printed shape false e)) shape
           (subst (λ (zero : Bool). Appends old.held done.0.held (printed o.shape zero e)) ends
-          done.1.2)) rest.printed;
+          done.1.0.2)) rest.printed;
     }
 find w o (name ∷ names) old new (false ∷ each) shape ends done =
     let rest = find w o names done.0 new each shape ends done.2 in

@@ -1,6 +1,6 @@
 -- Lines that are checked as they are read.
 use Rattle.std.proofs.Common.{◌≡◌, ◌≢◌, ℕ, ◌<◌, ◌==◌, ◌&&◌, Bool, true, false, not, List, [], ◌∷◌, ◌++◌}
-use Rattle.std.proofs.Common.{Option, Some, None, if◌then◌else◌, refl, ap, ◌∙◌, sym, subst, length}
+use Rattle.std.proofs.Common.{Option, Some, None, Result, Ok, Err, if◌then◌else◌, refl, ap, ◌∙◌, sym, subst, length}
 use Rattle.std.proofs.Common.{append_assoc, append-nil, is_none, inr, arith}
 use Rattle.std.proofs.KnownBytes.{Consumes-nil, Consumes-trans}
 use Rattle.std.proofs.lemmas.List.Splits.{slice_split_at, slice_split_none, length-slice_split}
@@ -13,21 +13,21 @@ use Rattle.b2sum_lines.specs.Lines.{Line, line_entry}
 use Rattle.b2sum_lines.specs.declared.entry.Spacing.{Spacing}
 use Rattle.b2sum_commands.specs.declared.check.Verdict.{Verdict}
 use Rattle.b2sum_commands.specs.declared.check.Verdict.TheVariants.{Equal, Different, Unread}
-use Rattle.b2sum_commands.specs.declared.check.Verdict.TheVariants.{Skipped, Malformed, Comment}
+use Rattle.b2sum_commands.specs.declared.check.Verdict.TheVariants.{Skipped, Malformed, Unmet, Comment}
 use Rattle.b2sum_commands.specs.declared.options.Options.{Options}
-use Rattle.b2sum_commands.specs.Found.{Streams}
-use Rattle.b2sum_commands.specs.World.{World, InTurn, IsQuiet}
+use Rattle.b2sum_commands.specs.World.{Streams}
+use Rattle.b2sum_commands.specs.World.{World, HasFailed, InTurn, IsQuiet}
 use Rattle.b2sum_commands.specs.Sums.{is_dash, ReadsAs, Leaves}
-use Rattle.b2sum_commands.specs.Manifests.{item, checkable, trimmed, has_demanded_length, IsItem}
-use Rattle.b2sum_commands.specs.Manifests.{has_algorithm, has_needs}
+use Rattle.b2sum_commands.specs.Manifests.{item, checkable, trimmed, meets, IsItem}
 use Rattle.b2sum_commands.specs.Manifests.{IsLine, IsVerdict, holds_by}
 use Rattle.b2sum_commands.specs.LineReads.{IsOneLine, IsCutOff, IsAfter, source_left}
-use Rattle.b2sum_commands.specs.Checks.{read_to, AreRead, EndsAt, AreCounted, Adds, IsText, IsBegun}
+use Rattle.b2sum_commands.specs.Reports.{AreCounted, Adds, IsReported}
+use Rattle.b2sum_commands.specs.Checks.{read_to, AreRead, EndsAt, IsText, IsBegun}
 use Rattle.b2sum_commands.specs.Checks.{IsJudged, IsCut}
 use Rattle.b2sum_commands.specs.declared.check.Counts.{Counts}
 use Rattle.b2sum_commands.specs.declared.line_reader.LineEnd.{LineEnd}
 use Rattle.b2sum_commands.specs.declared.line_reader.LineEnd.TheVariants.{Newline, Last, Failure}
-use Rattle.b2sum_commands.proofs.Judging.{count_step}
+use Rattle.b2sum_commands.proofs.Counting.{count_step}
 
 -- ---- lines
 
@@ -64,25 +64,20 @@ turn_more does (w ∷ xs) x old mid new (z ∷ ys) y before one =
 -- ---- entries of a manifest on standard input
 
 -- The entry of a line, if it has one, is not for standard input.
-abbrev pub IsOther : Option (Option Line) → Type 0
+abbrev pub IsOther : Option (Result Line Verdict) → Type 0
 IsOther None = ⊤
-IsOther (Some None) = ⊤
-IsOther (Some (Some e)) = is_dash e.name ≡ false
+IsOther (Some (Err v)) = ⊤
+IsOther (Some (Ok e)) = is_dash e.name ≡ false
 
 checked_other : (o : Options) (e : Option Line) → IsOther (Some (checkable o true e))
 checked_other o None = tt
-checked_other o (Some e) =
-    go (has_demanded_length o e.digest) (has_needs o e.style) (has_algorithm o e.algorithm)
-    (is_dash e.name) refl
+checked_other o (Some e) = go (is_dash e.name) (meets o e) refl
   where
-    go : (length needs algorithm dash : Bool) → is_dash e.name ≡ dash
-        → IsOther (Some (if length && (needs && (algorithm && not (true && dash))) then Some e
-        else None))
-    go true true true false is = is
-    go true true true true is = tt
-    go true true false dash is = tt
-    go true false algorithm dash is = tt
-    go false needs algorithm dash is = tt
+    go : (dash met : Bool) → is_dash e.name ≡ dash
+        → IsOther (Some (if dash then Err Malformed else if met then Ok e else Err Unmet))
+    go true met is = tt
+    go false true is = is
+    go false false is = tt
 
 pub item_other : (o : Options) (s : Spacing) (line : List ℕ) → IsOther (item o true s line)
 item_other o s line = go (trimmed line)
@@ -98,25 +93,26 @@ reads_moved true held left after now text is read = absurd (grind (arith, is))
 reads_moved false held left after now text is read = (refl, read.1, read.2)
 
 -- A verdict on another file does not depend on what is left of standard input.
-pub verdict_moved : (w : World) (o : Options) (left after now : Option (List ℕ)) (i : Option Line)
+pub verdict_moved : (w : World) (o : Options) (left after now : Option (List ℕ)) (i : Result Line Verdict)
     (v : Verdict) → IsOther (Some i) → IsVerdict w o left i v after → IsVerdict w o now i v now
-verdict_moved w o left after now None v other is = (is.0, refl)
-verdict_moved w o left after now (Some e) Equal other is =
+verdict_moved w o left after now (Err verdict) v other is = (is.0, refl)
+verdict_moved w o left after now (Ok e) Equal other is =
     (is.0, reads_moved (is_dash e.name) (w.files.holds e.name) left after now is.0 other is.1, is.2)
-verdict_moved w o left after now (Some e) Different other is =
+verdict_moved w o left after now (Ok e) Different other is =
     (is.0, reads_moved (is_dash e.name) (w.files.holds e.name) left after now is.0 other is.1, is.2)
-verdict_moved w o left after now (Some e) Unread other is =
+verdict_moved w o left after now (Ok e) Unread other is =
     (subst (λ (b : Bool). Leaves b now now) (sym other) refl, is.1)
-verdict_moved w o left after now (Some e) Skipped other is = (is.0, is.1, refl, is.3, is.4)
-verdict_moved w o left after now (Some e) Malformed other is = absurd is
-verdict_moved w o left after now (Some e) Comment other is = absurd is
+verdict_moved w o left after now (Ok e) Skipped other is = (is.0, is.1, refl, is.3, is.4)
+verdict_moved w o left after now (Ok e) Malformed other is = absurd is
+verdict_moved w o left after now (Ok e) Unmet other is = absurd is
+verdict_moved w o left after now (Ok e) Comment other is = absurd is
 
-item_moved : (w : World) (o : Options) (left : Option (List ℕ)) (i : Option (Option Line))
+item_moved : (w : World) (o : Options) (left : Option (List ℕ)) (i : Option (Result Line Verdict))
     (old new : Streams) (v : Verdict) → IsOther i → IsItem w o i old new v
     → IsItem w o i (read_to true left old) (read_to true left new) v
 item_moved w o left None old new v other is = (is.0, ap (read_to true left) is.1)
 item_moved w o left (Some i) old new v other is =
-    (is.0, verdict_moved w o old.left new.left left i v other is.1, is.2, is.3)
+    (is.0, verdict_moved w o old.left new.left left i v other is.1, is.2, is.3, is.4)
 
 -- The check of a line does not depend on how far its manifest is read.
 line_moved : (w : World) (o : Options) (input : Bool) (line : List ℕ) (left : Option (List ℕ))
@@ -131,20 +127,21 @@ reads_left : (dash : Bool) (held left after : Option (List ℕ)) (text : List �
 reads_left true held left after text is read = absurd (grind (arith, is))
 reads_left false held left after text is read = read.0
 
-verdict_left : (w : World) (o : Options) (left after : Option (List ℕ)) (i : Option Line)
+verdict_left : (w : World) (o : Options) (left after : Option (List ℕ)) (i : Result Line Verdict)
     (v : Verdict) → IsOther (Some i) → IsVerdict w o left i v after → after ≡ left
-verdict_left w o left after None v other is = is.1
-verdict_left w o left after (Some e) Equal other is =
+verdict_left w o left after (Err verdict) v other is = is.1
+verdict_left w o left after (Ok e) Equal other is =
     reads_left (is_dash e.name) (w.files.holds e.name) left after is.0 other is.1
-verdict_left w o left after (Some e) Different other is =
+verdict_left w o left after (Ok e) Different other is =
     reads_left (is_dash e.name) (w.files.holds e.name) left after is.0 other is.1
-verdict_left w o left after (Some e) Unread other is =
+verdict_left w o left after (Ok e) Unread other is =
     subst (λ (b : Bool). Leaves b left after) other is.0
-verdict_left w o left after (Some e) Skipped other is = is.2
-verdict_left w o left after (Some e) Malformed other is = absurd is
-verdict_left w o left after (Some e) Comment other is = absurd is
+verdict_left w o left after (Ok e) Skipped other is = is.2
+verdict_left w o left after (Ok e) Malformed other is = absurd is
+verdict_left w o left after (Ok e) Unmet other is = absurd is
+verdict_left w o left after (Ok e) Comment other is = absurd is
 
-item_left : (w : World) (o : Options) (i : Option (Option Line)) (old new : Streams)
+item_left : (w : World) (o : Options) (i : Option (Result Line Verdict)) (old new : Streams)
     (v : Verdict) → IsOther i → IsItem w o i old new v → new.left ≡ old.left
 item_left w o None old new v other is = ap (λ (s : Streams). s.left) is.1
 item_left w o (Some i) old new v other is = verdict_left w o old.left new.left i v other is.1
@@ -368,6 +365,22 @@ found_line w o input before old unread rest now vs Last more line unread' rest' 
 found_line w o input before old unread rest now vs Failure more line unread' rest' left failed mid new v counts sums r counted taken cut after newline same checked adds =
     absurd (grind (arith, newline))
 
+-- A read of a manifest, whose name stays the same.
+pub read_at : {F : Type 0} (named : F → List ℕ) (failed : F → Bool) (end : LineEnd)
+    (before left : Option (List ℕ)) (unread line unread' : List ℕ) (now first : List ℕ)
+    → now ≡ first
+    → (more : List ℕ) × (rest : Option (List ℕ)) × Consumes before rest more
+    × IsCutOff end unread more line unread' × IsAfter end rest left (HasFailed named failed now)
+    → (more : List ℕ) × (rest : Option (List ℕ)) × Consumes before rest more
+    × IsCutOff end unread more line unread' × IsAfter end rest left (HasFailed named failed first)
+read_at named failed end before left unread line unread' now first same read = (
+  read.0,
+  read.1,
+  read.2,
+  read.3,
+  subst (λ (n : List ℕ). IsAfter end read.1 left (HasFailed named failed n)) same read.4,
+)
+
 -- ---- the check of a manifest
 
 is_text : (dash : Bool) (held left : Option (List ℕ)) (opened : Streams) (after : Option (List ℕ))
@@ -406,8 +419,9 @@ pub is_judged : (w : World) (o : Options) (name : List ℕ) (old opened mid new 
     → IsQuiet old opened → opened.left ≡ old.left
     → AreRead w o (is_dash name) before rest opened mid vs → rest ≡ at → IsAtEnd at
     → (is_dash name ≡ true → at ≡ mid.left) → IsQuiet mid new → new.left ≡ mid.left
-    → result ≡ holds_by o.is_strict vs → IsJudged w o name old new result
-is_judged w o name old opened mid new vs result before rest at from quiet same read is ends input told left holds = record {
+    → result ≡ holds_by o.is_strict vs → IsReported w o name vs mid new
+    → IsJudged w o name old new result
+is_judged w o name old opened mid new vs result before rest at from quiet same read is ends input told left holds reported = record {
   text = read.text;
   start = read_to (is_dash name) mid.left opened;
   verdicts = vs;
@@ -416,13 +430,14 @@ is_judged w o name old opened mid new vs result before rest at from quiet same r
   quiet = quiet_to (is_dash name) mid.left old opened quiet;
   are_judged = record { end = mid; lines = read.lines; quiet = told; left = left };
   is_result = holds;
+  reported = reported;
 }
 
 -- A manifest of which a read failed.
 pub is_cut_short : (w : World) (o : Options) (name : List ℕ) (old opened mid new : Streams)
     (vs : List Verdict) (before rest : Option (List ℕ))
     → before ≡ (if is_dash name then old.left else w.files.holds name)
-    → IsQuiet old opened → AreRead w o (is_dash name) before rest opened mid vs → w.breaks
+    → IsQuiet old opened → AreRead w o (is_dash name) before rest opened mid vs → w.breaks name
     → IsQuiet mid new → new.left ≡ mid.left → IsCut w o name old new
 is_cut_short w o name old opened mid new vs before rest from quiet read broken told left = record {
   text = read.text;

@@ -13,14 +13,14 @@ use Rattle.b2sum_commands.specs.declared.check.Verdict.{Verdict}
 use Rattle.b2sum_commands.specs.declared.line_reader.LineEnd.{LineEnd}
 use Rattle.b2sum_commands.specs.declared.line_reader.LineEnd.TheVariants.{Newline, Last, Failure}
 use Rattle.b2sum_commands.specs.declared.options.Options.{Options}
-use Rattle.b2sum_commands.specs.Found.{Streams}
+use Rattle.b2sum_commands.specs.World.{Streams}
 use Rattle.b2sum_commands.specs.World.{World, IsQuiet, StopsIn}
 use Rattle.b2sum_commands.specs.Sums.{is_dash, Leaves, ReadsAs, IsSum, printed, entry_of}
 use Rattle.b2sum_commands.specs.Manifests.{item, IsVerdict, verdict_line, BeginsVerdict, BeginsItem}
 use Rattle.b2sum_commands.specs.Manifests.{BeginsLine}
 use Rattle.b2sum_commands.specs.LineReads.{IsOneLine, IsCutOff, IsAfter}
 use Rattle.b2sum_commands.specs.Checks.{read_to, AreRead, EndsAt, AreWhole, AreStopped, manifest_bytes}
-use Rattle.b2sum_commands.specs.Checks.{IsChecked}
+use Rattle.b2sum_commands.specs.Checks.{GoesOn}
 use Rattle.b2sum_commands.proofs.Reading.{Reading, line_first, line_only, IsOther, item_other}
 use Rattle.b2sum_commands.proofs.Reading.{verdict_moved, quiet_to}
 
@@ -51,28 +51,28 @@ sum_stops w o name old new text read (inl same) = inl same
 sum_stops w o name old new text read (inr part) = inr (text, read, part)
 
 -- A part of the line of a verdict is printed, or nothing.
-pub verdict_stops : (w : World) (o : Options) (i : Option Line) (old new : Streams) (v : Verdict)
+pub verdict_stops : (w : World) (o : Options) (i : Result Line Verdict) (old new : Streams) (v : Verdict)
     → IsVerdict w o old.left i v new.left
     → StopsIn old.held new.held (verdict_line o.report i v) → BeginsVerdict w o i old new
 verdict_stops w o i old new v right (inl same) = inl same
 verdict_stops w o i old new v right (inr part) = inr (v, right, part)
 
 -- Nothing is printed for a line.
-pub unprinted : (w : World) (o : Options) (i : Option (Option Line)) (old new : Streams)
+pub unprinted : (w : World) (o : Options) (i : Option (Result Line Verdict)) (old new : Streams)
     → new.held ≡ old.held → BeginsItem w o i old new
 unprinted w o None old new same = same
 unprinted w o (Some i) old new same = inl same
 
 -- An error ended the check of an entry, and so of its line.
 pub entry_stops : (w : World) (o : Options) (input : Bool) (line : List ℕ) (old mid new : Streams)
-    (e : Line) (spacing : Spacing) → item o input old.spacing line ≡ Some (Some e)
-    → mid ≡ record old { spacing = spacing } → BeginsVerdict w o (Some e) mid new
+    (e : Line) (spacing : Spacing) → item o input old.spacing line ≡ Some (Ok e)
+    → mid ≡ record old { spacing = spacing } → BeginsVerdict w o (Ok e) mid new
     → BeginsLine w o input line old new
 entry_stops w o input line old mid new e spacing is at begun =
-    subst (λ (i : Option (Option Line)). BeginsItem w o i old new) (sym is)
-    (subst (λ (s : Streams). BeginsVerdict w o (Some e) s new) at begun)
+    subst (λ (i : Option (Result Line Verdict)). BeginsItem w o i old new) (sym is)
+    (subst (λ (s : Streams). BeginsVerdict w o (Ok e) s new) at begun)
 
-item_moved_to : (w : World) (o : Options) (i : Option (Option Line)) (old new : Streams)
+item_moved_to : (w : World) (o : Options) (i : Option (Result Line Verdict)) (old new : Streams)
     → IsOther i → BeginsItem w o i old new → BeginsItem w o i (read_to true new.left old) new
 item_moved_to w o None old new other is = is
 item_moved_to w o (Some i) old new other (inl same) = inl same
@@ -117,11 +117,11 @@ held_to true left s = refl
 held_to false left s = refl
 
 -- An error came before the next line.
-pub stopped_between : (w : World) (o : Options) (input : Bool) (before : Option (List ℕ))
+pub stopped_between : (w : World) (o : Options) (name : List ℕ) (input : Bool) (before : Option (List ℕ))
     (old : Streams) (unread : List ℕ) (rest : Option (List ℕ)) (now new : Streams)
     (vs : List Verdict) → Reading w o input before old unread rest now vs → new.held ≡ now.held
-    → AreStopped w o input before old new
-stopped_between w o input before old unread rest now new vs r same =
+    → AreStopped w o name input before old new
+stopped_between w o name input before old unread rest now new vs r same =
     let first = consumes_first before rest r.done unread r.passed in
     record {
       text = r.done;
@@ -142,14 +142,14 @@ stopped_between w o input before old unread rest now new vs r same =
       };
     }
 
-stopped_line : (w : World) (o : Options) (input : Bool) (before : Option (List ℕ)) (old : Streams)
+stopped_line : (w : World) (o : Options) (name : List ℕ) (input : Bool) (before : Option (List ℕ)) (old : Streams)
     (unread : List ℕ) (rest : Option (List ℕ)) (now : Streams) (vs : List Verdict)
     (line text : List ℕ) (rest' : Option (List ℕ)) (mid new : Streams)
     (r : Reading w o input before old unread rest now vs) → Consumes before rest' text
-    → lines_of text ≡ lines_of r.done ++ (line ∷ []) → AreWhole text ⊎ (IsAtEnd rest' ⊎ w.breaks)
+    → lines_of text ≡ lines_of r.done ++ (line ∷ []) → AreWhole text ⊎ (IsAtEnd rest' ⊎ w.breaks name)
     → ((left : Option (List ℕ)) → read_to input left mid ≡ read_to input left now)
-    → BeginsLine w o input line mid new → AreStopped w o input before old new
-stopped_line w o input before old unread rest now vs line text rest' mid new r passed all whole same begun = record {
+    → BeginsLine w o input line mid new → AreStopped w o name input before old new
+stopped_line w o name input before old unread rest now vs line text rest' mid new r passed all whole same begun = record {
   text = text;
   rest = rest';
   passed = passed;
@@ -174,15 +174,15 @@ last_is [] none = absurd (omega (arith, none))
 last_is (x ∷ xs) some = refl
 
 -- The line has no newline after it.
-stopped_last : (w : World) (o : Options) (input : Bool) (before : Option (List ℕ)) (old : Streams)
+stopped_last : (w : World) (o : Options) (name : List ℕ) (input : Bool) (before : Option (List ℕ)) (old : Streams)
     (unread : List ℕ) (rest : Option (List ℕ)) (now : Streams) (vs : List Verdict)
     (more line : List ℕ) (rest' : Option (List ℕ)) (mid new : Streams)
     → Reading w o input before old unread rest now vs → Consumes rest rest' more
-    → IsOneLine line × (unread ++ more ≡ line) → 0 < length line → IsAtEnd rest' ⊎ w.breaks
+    → IsOneLine line × (unread ++ more ≡ line) → 0 < length line → IsAtEnd rest' ⊎ w.breaks name
     → ((left : Option (List ℕ)) → read_to input left mid ≡ read_to input left now)
-    → BeginsLine w o input line mid new → AreStopped w o input before old new
-stopped_last w o input before old unread rest now vs more line rest' mid new r taken cut some ends same begun =
-    stopped_line w o input before old unread rest now vs line (r.done ++ line) rest' mid new r
+    → BeginsLine w o input line mid new → AreStopped w o name input before old new
+stopped_last w o name input before old unread rest now vs more line rest' mid new r taken cut some ends same begun =
+    stopped_line w o name input before old unread rest now vs line (r.done ++ line) rest' mid new r
     (subst (Consumes before rest') (append_assoc r.done unread more ∙ ap (λ x. r.done ++ x) cut.1)
     (Consumes-trans before rest rest' (r.done ++ unread) more r.passed taken))
     (r.cuts line ∙ ap (λ x. lines_of r.done ++ x) (line_only line cut.0 ∙ last_is line some))
@@ -201,15 +201,15 @@ whole_line text line whole one = λ rest.
     (sym (whole shut ∙ ap (λ x. lines_of text ++ x) (line_first line [] one)))
 
 -- An error ended the check of the next line.
-pub stopped_in : (w : World) (o : Options) (input : Bool) (before : Option (List ℕ)) (old : Streams)
+pub stopped_in : (w : World) (o : Options) (name : List ℕ) (input : Bool) (before : Option (List ℕ)) (old : Streams)
     (unread : List ℕ) (rest : Option (List ℕ)) (now : Streams) (vs : List Verdict) (end : LineEnd)
     (more line unread' : List ℕ) (rest' left : Option (List ℕ)) (mid new : Streams)
     → Reading w o input before old unread rest now vs → Consumes rest rest' more
-    → IsCutOff end unread more line unread' → IsAfter end rest' left w.breaks
+    → IsCutOff end unread more line unread' → IsAfter end rest' left (w.breaks name)
     → (end ≡ Newline) ⊎ (0 < length line)
     → ((l : Option (List ℕ)) → read_to input l mid ≡ read_to input l now)
-    → BeginsLine w o input line mid new → AreStopped w o input before old new
-stopped_in w o input before old unread rest now vs Newline more line unread' rest' left mid new r taken cut after some same begun =
+    → BeginsLine w o input line mid new → AreStopped w o name input before old new
+stopped_in w o name input before old unread rest now vs Newline more line unread' rest' left mid new r taken cut after some same begun =
     let shut : List ℕ = line ++ (10 ∷ []) in
     let text : List ℕ = r.done ++ shut in
     let first = consumes_first before rest' text unread' (subst (Consumes before rest')
@@ -217,18 +217,18 @@ stopped_in w o input before old unread rest now vs Newline more line unread' res
     ∙ ap (λ x. r.done ++ x) (cut.1 ∙ sym (append_assoc line (10 ∷ []) unread'))
     ∙ sym (append_assoc r.done shut unread'))
     (Consumes-trans before rest rest' (r.done ++ unread) more r.passed taken)) in
-    stopped_line w o input before old unread rest now vs line text first.0 mid new r first.1
+    stopped_line w o name input before old unread rest now vs line text first.0 mid new r first.1
     (r.cuts shut ∙ ap (λ x. lines_of r.done ++ x) (line_first line [] cut.0))
     (inl (whole_line r.done line r.cuts cut.0)) same begun
-stopped_in w o input before old unread rest now vs Last more line unread' rest' left mid new r taken cut after some same begun =
-    stopped_last w o input before old unread rest now vs more line rest' mid new r taken cut
+stopped_in w o name input before old unread rest now vs Last more line unread' rest' left mid new r taken cut after some same begun =
+    stopped_last w o name input before old unread rest now vs more line rest' mid new r taken cut
     (other some) (inl (subst IsAtEnd (sym after.0) after.1)) same begun
   where
     other : (Last ≡ Newline) ⊎ (0 < length line) → 0 < length line
     other (inl is) = absurd (grind (arith, is))
     other (inr some) = some
-stopped_in w o input before old unread rest now vs Failure more line unread' rest' left mid new r taken cut after some same begun =
-    stopped_last w o input before old unread rest now vs more line rest' mid new r taken cut
+stopped_in w o name input before old unread rest now vs Failure more line unread' rest' left mid new r taken cut after some same begun =
+    stopped_last w o name input before old unread rest now vs more line rest' mid new r taken cut
     (other some) (inr after) same begun
   where
     other : (Failure ≡ Newline) ⊎ (0 < length line) → 0 < length line
@@ -237,7 +237,7 @@ stopped_in w o input before old unread rest now vs Failure more line unread' res
 
 -- An error came before a manifest was read.
 pub unstarted : (w : World) (o : Options) (name : List ℕ) (old new : Streams)
-    → new.held ≡ old.held → IsChecked w o name old new None
+    → new.held ≡ old.held → GoesOn w o name old new None
 unstarted w o name old new same = record {
   text = [];
   rest = manifest_bytes w old.left name;
@@ -261,11 +261,11 @@ unstarted w o name old new same = record {
 pub stopped_opened : (w : World) (o : Options) (name : List ℕ) (old opened new : Streams)
     (input : Bool) (before : Option (List ℕ)) → input ≡ is_dash name
     → before ≡ manifest_bytes w old.left name → IsQuiet old opened → opened.left ≡ old.left
-    → AreStopped w o input before opened new → IsChecked w o name old new None
+    → AreStopped w o name input before opened new → GoesOn w o name old new None
 stopped_opened w o name old opened new input before is from quiet same stopped =
-    let s : AreStopped w o (is_dash name) (manifest_bytes w old.left name) opened new =
-    subst (λ (b : Bool). AreStopped w o b (manifest_bytes w old.left name) opened new) is
-    (subst (λ (l : Option (List ℕ)). AreStopped w o input l opened new) from stopped) in
+    let s : AreStopped w o name (is_dash name) (manifest_bytes w old.left name) opened new =
+    subst (λ (b : Bool). AreStopped w o name b (manifest_bytes w old.left name) opened new) is
+    (subst (λ (l : Option (List ℕ)). AreStopped w o name input l opened new) from stopped) in
     record {
       text = s.text;
       rest = s.rest;
@@ -286,15 +286,15 @@ ends_all None vs rest at failed ends = inr ends
 ends_all (Some counts) vs rest at failed ends = inl (subst IsAtEnd (sym ends.1) ends.2)
 
 -- An error came after the last line of a manifest.
-pub stopped_after : (w : World) (o : Options) (input : Bool) (before rest at : Option (List ℕ))
+pub stopped_after : (w : World) (o : Options) (name : List ℕ) (input : Bool) (before rest at : Option (List ℕ))
     (old mid new : Streams) (vs : List Verdict) (found : Option Counts)
-    → AreRead w o input before rest old mid vs → EndsAt found vs rest at w.breaks
-    → new.held ≡ mid.held → AreStopped w o input before old new
-stopped_after w o input before rest at old mid new vs found read ends same = record {
+    → AreRead w o input before rest old mid vs → EndsAt found vs rest at (w.breaks name)
+    → new.held ≡ mid.held → AreStopped w o name input before old new
+stopped_after w o name input before rest at old mid new vs found read ends same = record {
   text = read.text;
   rest = rest;
   passed = read.passed;
-  whole = inr (ends_all found vs rest at w.breaks ends);
+  whole = inr (ends_all found vs rest at (w.breaks name) ends);
   start = read_to input mid.left old;
   quiet = quiet_to input mid.left old old (record { held = refl; spacing = refl });
   left = left_to input mid.left old;

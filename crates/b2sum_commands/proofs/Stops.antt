@@ -10,7 +10,7 @@ use Rattle.b2sum_commands.specs.declared.options.Stop.TheVariants.{Help, Version
 use Rattle.b2sum_commands.specs.declared.options.Stop.TheVariants.{NoMemory}
 use Rattle.b2sum_commands.specs.CommandLine.{Choice, Next, State, End, Helped, Versioned, Refused}
 use Rattle.b2sum_commands.specs.CommandLine.{with_option, read_any, read_long, read_letters}
-use Rattle.b2sum_commands.specs.Found.{Streams}
+use Rattle.b2sum_commands.specs.World.{Streams}
 use Rattle.b2sum_commands.specs.Readers.{StopsBy, IsPrinted}
 use Rattle.b2sum_commands.specs.World.{World}
 use Rattle.b2sum_commands.specs.Runs.{DoesLine, DoesChoice, IsRefused}

@@ -7,7 +7,7 @@ use Rattle.std.proofs.KnownBytes.{Appends-nil, Appends-trans}
 use Rattle.std.specs.Io.KnownBytes.{Appends}
 use Rattle.b2sum_commands.specs.World.{World, IsWritten, HasMessage, HasMore, IsTold, IsEnded}
 use Rattle.b2sum_commands.specs.CommandLine.{Choice, End, Refused}
-use Rattle.b2sum_commands.specs.Found.{Streams}
+use Rattle.b2sum_commands.specs.World.{Streams}
 use Rattle.b2sum_commands.specs.Runs.{DoesLine, RunsLine, IsRefused, status_of}
 
 both_accepted : (b c : Bool) (x y z : Option (List ℕ)) (first second : List ℕ)

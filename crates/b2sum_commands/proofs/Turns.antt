@@ -3,7 +3,7 @@ use Rattle.std.proofs.Common.{◌≡◌, ℕ, ◌+◌, ◌<◌, ◌≤◌, List,
 use Rattle.std.proofs.Common.{subst, append_assoc, append-nil, length, map, drop, get_or, add-one}
 use Rattle.std.proofs.Common.{drop-cons, Vec, Global}
 use Rattle.std.proofs.lemmas.List.{drop_all}
-use Rattle.b2sum_commands.specs.Found.{Streams}
+use Rattle.b2sum_commands.specs.World.{Streams}
 use Rattle.b2sum_commands.specs.World.{InTurn, IsStopped}
 use Rattle.b2sum_commands.proofs.Reading.{turn_more}
 

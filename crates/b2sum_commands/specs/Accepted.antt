@@ -1,7 +1,7 @@
 -- Choices of options that are accepted, and the options that they give.
 use Rattle.std.specs.Prelude.{◌≡◌, ℕ, ◌*◌, ◌/◌, ◌==◌, ◌&&◌, ◌||◌, nat_le, Bool, true, false, not}
 use Rattle.std.specs.Prelude.{if◌then◌else◌, List, [], length, map}
-use Rattle.std.specs.Prelude.{Option, Some, None, is_some, is_none, Result, Ok, Err}
+use Rattle.std.specs.Prelude.{Option, Some, None, is_some, is_none, unwrap_or, Result, Ok, Err}
 use Rattle.std.specs.List.{list_any}
 use Rattle.std.specs.Option.{option_map}
 use Rattle.b2sum_lines.specs.Lines.{max_bytes}
@@ -57,11 +57,11 @@ has_labels c =
     && nat_le (4 * length c.persona) (max_bytes c.algorithm)
 
 -- The options go with those of a tree: BLAKE2b without a key, and no `--text` unless it checks.
+-- Without a tree there are no threads, unless it checks.
 abbrev pub goes_with_tree : Choice → Bool
 goes_with_tree c =
-    is_none c.leaf
-    || (has_trees c.algorithm
-    && (is_none c.key_file && (c.checks || not (is_text c.is_binary))))
+    if is_none c.leaf then is_none c.threads || c.checks
+    else has_trees c.algorithm && (is_none c.key_file && (c.checks || not (is_text c.is_binary)))
 
 -- The options go with a check: none is only for digests that are printed.
 abbrev pub goes_with_check : Choice → Bool
@@ -124,12 +124,15 @@ chosen_style c =
     else if is_binary c.is_binary then Binary else Text
 
 -- The options of a choice. The key is that of the key file, or none. A check demands a length of
--- digests if one is given, and under a key.
+-- digests if one is given, and under a key, and an algorithm if one is given, or a tree. It is
+-- strict under a key.
 pub record AreOptions (c : Choice) (o : Options) : Type 0 where
   pub algorithm : o.algorithm ≡ with_leaf c.algorithm c.leaf
   pub bytes : o.bytes ≡ (if c.bits == 0 then max_bytes c.algorithm else c.bits / 8)
   pub demands_length : o.demands_length ≡ (not (c.bits == 0) || is_some c.key_file)
+  pub demands_algorithm : o.demands_algorithm ≡ (c.names_algorithm || is_some c.leaf)
   pub key : c.key_file ≡ None → o.key.items ≡ []
+  pub input_is_key : o.input_is_key ≡ is_input c.key_file
   pub needs : o.needs ≡ chosen_needs c
   pub salt : o.salt.items ≡ c.salt
   pub persona : o.persona.items ≡ c.persona
@@ -139,8 +142,8 @@ pub record AreOptions (c : Choice) (o : Options) : Type 0 where
   pub ends_zero : o.ends_zero ≡ c.ends_zero
   pub ignores_missing : o.ignores_missing ≡ c.ignores_missing
   pub report : o.report ≡ c.report
-  pub is_strict : o.is_strict ≡ c.is_strict
-  pub threads : o.threads ≡ c.threads
+  pub is_strict : o.is_strict ≡ (c.is_strict || is_some c.key_file)
+  pub threads : o.threads ≡ unwrap_or c.threads 0
   pub shows_progress : o.shows_progress ≡ c.shows_progress
 
 -- A choice and files, if the choice is accepted.

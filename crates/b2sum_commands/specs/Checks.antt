@@ -1,46 +1,36 @@
 -- What the check of a manifest returns and prints.
-use Rattle.std.specs.Prelude.{◌≡◌, ◌⊎◌, ◌&&◌, ◌||◌, ℕ, Bool, true, false, List, ⊤}
-use Rattle.std.specs.Prelude.{Option, Some, None, ◌++◌, if◌then◌else◌}
+use Rattle.std.specs.Prelude.{◌≡◌, ◌⊎◌, ℕ, Bool, true, false, List, ⊤}
+use Rattle.std.specs.Prelude.{Option, Some, None, Result, Ok, Err, ◌++◌, if◌then◌else◌}
 use Rattle.std.specs.Io.KnownBytes.{Consumes, IsAtEnd}
-use Rattle.std.specs.List.{list_any, list_all}
 use Rattle.text_lines.specs.Cuts.{lines_of}
 use Rattle.b2sum_lines.specs.Entries.{entry_value}
 use Rattle.b2sum_lines.specs.Lines.{Line}
 use Rattle.b2sum_lines.specs.declared.entry.Entry.{Entry}
 use Rattle.b2sum_commands.specs.declared.check.Counts.{Counts}
 use Rattle.b2sum_commands.specs.declared.check.Item.{Item}
-use Rattle.b2sum_commands.specs.declared.check.Item.TheVariants.{Comment, Listed, Malformed}
+use Rattle.b2sum_commands.specs.declared.check.Item.TheVariants.{Comment, Listed, Malformed, Unmet}
 use Rattle.b2sum_commands.specs.declared.check.Verdict.{Verdict}
+use Rattle.b2sum_commands.specs.declared.check.Verdict.TheVariants as verdict
 use Rattle.b2sum_commands.specs.declared.options.Options.{Options}
-use Rattle.b2sum_commands.specs.Found.{Streams}
+use Rattle.b2sum_commands.specs.World.{Streams}
 use Rattle.b2sum_commands.specs.World.{World, InTurn, IsQuiet, IsStopped}
 use Rattle.b2sum_commands.specs.Sums.{is_dash, CannotGet, Leaves}
-use Rattle.b2sum_commands.specs.Manifests.{IsLine, BeginsLine, is_equal, is_fine, is_formed}
-use Rattle.b2sum_commands.specs.Manifests.{holds_by}
+use Rattle.b2sum_commands.specs.Manifests.{IsLine, BeginsLine, first_spacing, holds_by}
+use Rattle.b2sum_commands.specs.Reports.{AreCounted, IsReported}
 
 -- What a line is, as `item` has it.
-abbrev pub item_value : Item → Option (Option Line)
+abbrev pub item_value : Item → Option (Result Line Verdict)
 item_value Comment = None
-item_value (Listed e) = Some (Some (entry_value e))
-item_value (Malformed lacks) = Some None
+item_value (Listed e) = Some (Ok (entry_value e))
+item_value Malformed = Some (Err verdict.Malformed)
+item_value (Unmet lacks) = Some (Err verdict.Unmet)
 
 -- Whether the entry of this line has the property. A line without an entry has it.
 abbrev pub IfListed : Item → (Entry → Type 0) → Type 0
 IfListed Comment holds = ⊤
 IfListed (Listed e) holds = holds e
-IfListed (Malformed lacks) holds = ⊤
-
--- The counts are those of verdicts.
-pub record AreCounted (vs : List Verdict) (counts : Counts) : Type 0 where
-  pub equal : counts.any_equal ≡ list_any is_equal vs
-  pub fine : counts.all_fine ≡ list_all is_fine vs
-  pub formed : counts.all_formed ≡ list_all is_formed vs
-
--- The counts with one more verdict.
-pub record Adds (v : Verdict) (old new : Counts) : Type 0 where
-  pub equal : new.any_equal ≡ (old.any_equal || is_equal v)
-  pub fine : new.all_fine ≡ (old.all_fine && is_fine v)
-  pub formed : new.all_formed ≡ (old.all_formed && is_formed v)
+IfListed Malformed holds = ⊤
+IfListed (Unmet lacks) holds = ⊤
 
 -- The text of a manifest is all that standard input or a file returned.
 abbrev pub IsText : Bool → Option (List ℕ) → Option (List ℕ) → Option (List ℕ) → List ℕ → Type 0
@@ -84,7 +74,8 @@ pub record AreJudged (w : World) (o : Options) (input : Bool) (text : List ℕ)
   pub quiet : IsQuiet end new
   pub left : new.left ≡ end.left
 
--- A manifest that was read is checked by the options, with this result: whether it holds.
+-- A manifest that was read is checked by the options, with this result: whether it holds. The last
+-- messages are those of its counts.
 pub record IsJudged (w : World) (o : Options) (name : List ℕ) (old new : Streams) (result : Bool)
     : Type 0 where
   pub text : List ℕ
@@ -94,6 +85,7 @@ pub record IsJudged (w : World) (o : Options) (name : List ℕ) (old new : Strea
   pub quiet : IsQuiet old start
   pub are_judged : AreJudged w o (is_dash name) text start new verdicts
   pub is_result : result ≡ holds_by o.is_strict verdicts
+  pub reported : IsReported w o name verdicts are_judged.end new
 
 -- A manifest was not read to its end, for a cause. Then the lines of its beginning are checked.
 pub record IsCut (w : World) (o : Options) (name : List ℕ) (old new : Streams) : Type 0 where
@@ -111,12 +103,12 @@ AreWhole text = (more : List ℕ) → lines_of (text ++ more) ≡ lines_of text 
 
 -- An error ended the check of a manifest, which had `before` left, one line after the other. These
 -- are whole lines, unless it was read to its end, or a read failed.
-pub record AreStopped (w : World) (o : Options) (input : Bool) (before : Option (List ℕ))
-    (old new : Streams) : Type 0 where
+pub record AreStopped (w : World) (o : Options) (name : List ℕ) (input : Bool)
+    (before : Option (List ℕ)) (old new : Streams) : Type 0 where
   pub text : List ℕ
   pub rest : Option (List ℕ)
   pub passed : Consumes before rest text
-  pub whole : AreWhole text ⊎ (IsAtEnd rest ⊎ w.breaks)
+  pub whole : AreWhole text ⊎ (IsAtEnd rest ⊎ w.breaks name)
   pub start : Streams
   pub quiet : IsQuiet old start
   pub left : Leaves input old.left start.left
@@ -126,10 +118,16 @@ pub record AreStopped (w : World) (o : Options) (input : Bool) (before : Option 
 abbrev pub manifest_bytes : World → Option (List ℕ) → List ℕ → Option (List ℕ)
 manifest_bytes w left name = if is_dash name then left else w.files.holds name
 
--- The manifest of this name is checked, or it was not read to its end, and does not hold. If there
--- is no result, an error ended the check.
-abbrev pub IsChecked : World → Options → List ℕ → Streams → Streams → Option Bool → Type 0
-IsChecked w o name old new (Some result) =
+-- The manifest of this name is checked from here on, or it was not read to its end, and does not
+-- hold. If there is no result, an error ended the check.
+abbrev pub GoesOn : World → Options → List ℕ → Streams → Streams → Option Bool → Type 0
+GoesOn w o name old new (Some result) =
     ((result ≡ false) × IsCut w o name old new) ⊎ IsJudged w o name old new result
-IsChecked w o name old new None =
-    AreStopped w o (is_dash name) (manifest_bytes w old.left name) old new
+GoesOn w o name old new None =
+    AreStopped w o name (is_dash name) (manifest_bytes w old.left name) old new
+
+-- The manifest of this name is checked. Which spacing its lines have does not depend on other
+-- manifests.
+abbrev pub IsChecked : World → Options → List ℕ → Streams → Streams → Option Bool → Type 0
+IsChecked w o name old new end =
+    GoesOn w o name (record old { spacing = first_spacing o }) new end

@@ -33,10 +33,11 @@ pub data End : Type 0 where
   Versioned : End
   Refused : End
 
--- What the options choose. A length of 0 bits is the algorithm's longest. `is_binary` is that of
--- the last of `--binary`, `--text` and `--tag`.
+-- What the options choose. `names_algorithm` is that there is `--algorithm`. A length of 0 bits is
+-- the algorithm's longest. `is_binary` is that of the last of `--binary`, `--text` and `--tag`.
 pub record Choice : Type 0 where
   pub algorithm : entry.Algorithm
+  pub names_algorithm : Bool
   pub leaf : Option ℕ
   pub bits : ℕ
   pub key_file : Option (List ℕ)
@@ -49,7 +50,7 @@ pub record Choice : Type 0 where
   pub ignores_missing : Bool
   pub report : Report
   pub is_strict : Bool
-  pub threads : ℕ
+  pub threads : Option ℕ
   pub shows_progress : Bool
   pub has_no_names : Bool
   pub is_raw : Bool
@@ -58,6 +59,7 @@ pub record Choice : Type 0 where
 abbrev pub no_choice : Choice
 no_choice = record {
   algorithm = Blake2b;
+  names_algorithm = false;
   leaf = None;
   bits = 0;
   key_file = None;
@@ -70,7 +72,7 @@ no_choice = record {
   ignores_missing = false;
   report = Each;
   is_strict = false;
-  threads = 0;
+  threads = None;
   shows_progress = false;
   has_no_names = false;
   is_raw = false;
@@ -134,9 +136,10 @@ algorithm_in value =
     else if bytes_eq value (codes "blake2sp") then Some Blake2sp
     else None
 
--- The bytes that hexadecimal digits of either case write.
+-- The bytes that hexadecimal digits of either case write: at least one.
 abbrev pub bytes_in : List ℕ → Option (List ℕ)
-bytes_in value = result_ok (decode_of value)
+bytes_in [] = None
+bytes_in (digit ∷ digits) = result_ok (decode_of (digit ∷ digits))
 
 -- ---- options
 
@@ -172,13 +175,14 @@ with_value (Some value) choose = Ok (choose value)
 
 -- The choice with one more option and its value.
 abbrev pub set_value : Flag → List ℕ → Choice → Result Choice End
-set_value Algorithm v c = with_value (algorithm_in v) (λ a. record c { algorithm = a })
+set_value Algorithm v c =
+    with_value (algorithm_in v) (λ a. record c { algorithm = a; names_algorithm = true })
 set_value Length v c = with_value (bits_in v) (λ n. record c { bits = n })
 set_value KeyFile v c = Ok (record c { key_file = Some v })
 set_value Personal v c = with_value (bytes_in v) (λ bytes. record c { persona = bytes })
 set_value Salt v c = with_value (bytes_in v) (λ bytes. record c { salt = bytes })
 set_value Tree v c = with_value (leaf_in v) (λ n. record c { leaf = Some n })
-set_value Threads v c = with_value (threads_in v) (λ n. record c { threads = n })
+set_value Threads v c = with_value (threads_in v) (λ n. record c { threads = Some n })
 set_value Progress v c = Ok c
 set_value NoNames v c = Ok c
 set_value Raw v c = Ok c

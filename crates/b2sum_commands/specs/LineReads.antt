@@ -1,5 +1,5 @@
 -- The lines of what a source returns.
-use Rattle.std.specs.Prelude.{◌≡◌, ℕ, ◌==◌, false, List, ◌∷◌, ◌++◌, Option, Some, None}
+use Rattle.std.specs.Prelude.{◌≡◌, ℕ, ◌==◌, false, List, [], ◌∷◌, ◌++◌, Option, Some, None}
 use Rattle.std.specs.Io.KnownBytes.{IsAtEnd}
 use Rattle.std.specs.List.{All}
 use Rattle.b2sum_commands.specs.declared.line_reader.LineEnd.{LineEnd}
@@ -22,6 +22,11 @@ abbrev pub IsAfter : LineEnd → Option (List ℕ) → Option (List ℕ) → Typ
 IsAfter Newline rest left failed = rest ≡ left
 IsAfter Last rest left failed = (rest ≡ left) × IsAtEnd left
 IsAfter Failure rest left failed = failed
+
+-- The name of a manifest: that of its file, or of standard input if it has none.
+abbrev pub source_name : {F : Type 0} → (F → List ℕ) → Option F → List ℕ
+source_name named None = 45 ∷ []
+source_name named (Some file) = named file
 
 -- What is left of a manifest: of its file, or of standard input if it has none.
 abbrev pub source_left : {F : Type 0} → (F → Option (List ℕ)) → Option F → Option (List ℕ)

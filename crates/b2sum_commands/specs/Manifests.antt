@@ -1,7 +1,7 @@
 -- The check of a manifest: its lines, what becomes of each, and when it holds.
 use Rattle.std.specs.Prelude.{◌≡◌, ◌≢◌, ℕ, ◌+◌, ◌-◌, ◌==◌, ◌&&◌, ◌||◌, Bool, true, false, not}
 use Rattle.std.specs.Prelude.{if◌then◌else◌, List, [], ◌∷◌, ◌++◌, length, take, get_or, codes}
-use Rattle.std.specs.Prelude.{Option, Some, None, ◌⊎◌}
+use Rattle.std.specs.Prelude.{Option, Some, None, Result, Ok, Err, ◌⊎◌}
 use Rattle.std.specs.Io.KnownBytes.{Appends}
 use Rattle.std.specs.List.{list_any, list_all}
 use Rattle.std.specs.Option.{option_map}
@@ -12,18 +12,19 @@ use Rattle.b2sum_lines.specs.declared.entry.Algorithm.TheVariants.{Blake2b, Blak
 use Rattle.b2sum_lines.specs.declared.entry.Algorithm.TheVariants.{Blake2sp, Tree}
 use Rattle.b2sum_lines.specs.declared.entry.Needs.{Needs}
 use Rattle.b2sum_lines.specs.declared.entry.Spacing.{Spacing}
-use Rattle.b2sum_lines.specs.declared.entry.Spacing.TheVariants.{Two, One}
+use Rattle.b2sum_lines.specs.declared.entry.Spacing.TheVariants.{Open, Two, One}
 use Rattle.b2sum_lines.specs.declared.entry.Style.{Style}
 use Rattle.b2sum_lines.specs.declared.entry.Style.TheVariants.{Tagged, Text, Binary, Bare}
 use Rattle.b2sum_commands.specs.declared.check.Verdict.{Verdict}
 use Rattle.b2sum_commands.specs.declared.check.Verdict.TheVariants.{Equal, Different, Unread}
-use Rattle.b2sum_commands.specs.declared.check.Verdict.TheVariants.{Skipped, Malformed, Comment}
+use Rattle.b2sum_commands.specs.declared.check.Verdict.TheVariants.{Skipped, Malformed, Unmet}
+use Rattle.b2sum_commands.specs.declared.check.Verdict.TheVariants.{Comment}
 use Rattle.b2sum_commands.specs.declared.hashes.Function.{Function}
 use Rattle.b2sum_commands.specs.declared.options.Options.{Options}
 use Rattle.b2sum_commands.specs.declared.options.Report.{Report}
 use Rattle.b2sum_commands.specs.declared.options.Report.TheVariants.{Each, Warnings, Failures}
 use Rattle.b2sum_commands.specs.declared.options.Report.TheVariants.{Nothing}
-use Rattle.b2sum_commands.specs.Found.{Streams}
+use Rattle.b2sum_commands.specs.World.{Streams}
 use Rattle.b2sum_commands.specs.World.{World, IsTold}
 use Rattle.b2sum_commands.specs.Sums.{is_dash, ReadsAs, Leaves, CannotSum}
 
@@ -74,28 +75,37 @@ has_needs o Text = true
 has_needs o Binary = true
 has_needs o Bare = true
 
--- A digest that needs a key, a salt or a personalization is of the algorithm of the options, which
--- they are for. Others are of any.
+-- There is a key, a salt or a personalization.
+abbrev pub has_any : Needs → Bool
+has_any needs = needs.key || (needs.salt || needs.personal)
+
+-- A digest is of the algorithm of the options, if they demand that, or have a key, a salt or a
+-- personalization, which is for that algorithm. Otherwise it is of any.
 abbrev pub has_algorithm : Options → Algorithm → Bool
 has_algorithm o a =
-    not (o.needs.key || (o.needs.salt || o.needs.personal))
+    not (o.demands_algorithm || has_any o.needs)
     || (algorithm_number a == algorithm_number o.algorithm)
 
--- An entry that can be checked: its digest has the length that is demanded, and needs what the
--- options have. A manifest on standard input has none for standard input.
-abbrev pub checkable : Options → Bool → Option Line → Option Line
-checkable o input None = None
+-- The options are those that an entry needs: its digest has the length and the algorithm that they
+-- demand, and needs what they have.
+abbrev pub meets : Options → Line → Bool
+meets o e =
+    has_demanded_length o e.digest && (has_needs o e.style && has_algorithm o e.algorithm)
+
+-- The entry of a line that can be checked, or the verdict on a line that cannot. Standard input
+-- that has the manifest, or had the key, is no file.
+abbrev pub checkable : Options → Bool → Option Line → Result Line Verdict
+checkable o input None = Err Malformed
 checkable o input (Some e) =
-    if has_demanded_length o e.digest
-    && (has_needs o e.style && (has_algorithm o e.algorithm && not (input && is_dash e.name)))
-    then Some e else None
+    if (input || o.input_is_key) && is_dash e.name then Err Malformed
+    else if meets o e then Ok e else Err Unmet
 
 -- The hash function of an entry: the algorithm, and the length of the digest.
 abbrev pub listed_function : Line → Function
 listed_function e = record { algorithm = e.algorithm; bytes = length e.digest }
 
--- What a line is: none for a comment, and else its entry, which is none if it is malformed.
-abbrev pub item : Options → Bool → Spacing → List ℕ → Option (Option Line)
+-- What a line is: none for a comment, and else its entry, or the verdict if that cannot be checked.
+abbrev pub item : Options → Bool → Spacing → List ℕ → Option (Result Line Verdict)
 item o input s line =
     option_map (λ body. checkable o input (line_entry o.algorithm s body)) (trimmed line)
 
@@ -107,31 +117,36 @@ spacing_after s Binary = Two
 spacing_after s Bare = One
 
 -- The spacing after a line that is no comment.
-abbrev pub next_spacing : Spacing → Option Line → Spacing
-next_spacing s None = s
-next_spacing s (Some e) = spacing_after s e.style
+abbrev pub next_spacing : Spacing → Result Line Verdict → Spacing
+next_spacing s (Err v) = s
+next_spacing s (Ok e) = spacing_after s e.style
+
+-- The spacing with which a manifest begins: any, but under a key only that of two bytes.
+abbrev pub first_spacing : Options → Spacing
+first_spacing o = if o.needs.key then Two else Open
 
 -- ---- verdicts
 
--- The verdict on an entry, or on a malformed line, is right: the digest of the text that the source
--- returned is that of the entry, or it is not, or there is a cause. Only a file that is not there
--- is skipped, and only if the options say so.
-abbrev pub IsVerdict : World → Options → Option (List ℕ) → Option Line → Verdict → Option (List ℕ)
-    → Type 0
-IsVerdict w o left None v after = (v ≡ Malformed) × (after ≡ left)
-IsVerdict w o left (Some e) Equal after =
+-- The verdict on an entry, or on a line that cannot be checked, is right: the digest of the text
+-- that the source returned is that of the entry, or it is not, or there is a cause. Only a file
+-- that is not there is skipped, and only if the options say so.
+abbrev pub IsVerdict : World → Options → Option (List ℕ) → Result Line Verdict → Verdict
+    → Option (List ℕ) → Type 0
+IsVerdict w o left (Err verdict) v after = (v ≡ verdict) × (after ≡ left)
+IsVerdict w o left (Ok e) Equal after =
     (text : List ℕ) × ReadsAs (is_dash e.name) (w.files.holds e.name) left after text
     × (w.hashing.digest o (listed_function e) text ≡ e.digest)
-IsVerdict w o left (Some e) Different after =
+IsVerdict w o left (Ok e) Different after =
     (text : List ℕ) × ReadsAs (is_dash e.name) (w.files.holds e.name) left after text
     × (w.hashing.digest o (listed_function e) text ≢ e.digest)
-IsVerdict w o left (Some e) Unread after =
+IsVerdict w o left (Ok e) Unread after =
     Leaves (is_dash e.name) left after × CannotSum w o (listed_function e) e.name
-IsVerdict w o left (Some e) Skipped after =
+IsVerdict w o left (Ok e) Skipped after =
     (o.ignores_missing ≡ true) × (is_dash e.name ≡ false) × (after ≡ left)
     × (w.files.refuses e.name ≡ true) × (w.files.lacks e.name ≡ true)
-IsVerdict w o left (Some e) Malformed after = ⊥
-IsVerdict w o left (Some e) Comment after = ⊥
+IsVerdict w o left (Ok e) Malformed after = ⊥
+IsVerdict w o left (Ok e) Unmet after = ⊥
+IsVerdict w o left (Ok e) Comment after = ⊥
 
 -- ---- when a manifest holds
 
@@ -142,6 +157,7 @@ is_equal Different = false
 is_equal Unread = false
 is_equal Skipped = false
 is_equal Malformed = false
+is_equal Unmet = false
 is_equal Comment = false
 
 -- The verdict does not fail a check that is not strict.
@@ -151,6 +167,7 @@ is_fine Different = false
 is_fine Unread = false
 is_fine Skipped = true
 is_fine Malformed = true
+is_fine Unmet = false
 is_fine Comment = true
 
 -- The line is that of an entry.
@@ -160,10 +177,11 @@ is_formed Different = true
 is_formed Unread = true
 is_formed Skipped = true
 is_formed Malformed = false
+is_formed Unmet = true
 is_formed Comment = true
 
--- A manifest holds: a file has its digest, none has another or cannot be read, and if the check is
--- strict, no line is malformed.
+-- A manifest holds: a file has its digest, none has another or cannot be read, no line needs other
+-- options, and if the check is strict, no line is malformed.
 abbrev pub holds_by : Bool → List Verdict → Bool
 holds_by strict vs =
     list_any is_equal vs && (list_all is_fine vs && (not strict || list_all is_formed vs))
@@ -184,6 +202,7 @@ outcome Warnings Unread = codes ": FAILED open or read\n"
 outcome Failures Unread = codes ": FAILED open or read\n"
 outcome r Skipped = []
 outcome r Malformed = []
+outcome r Unmet = []
 outcome r Comment = []
 
 -- A name as it is printed, escaped if it has a newline.
@@ -195,31 +214,44 @@ abbrev pub with_name : List ℕ → List ℕ → List ℕ
 with_name name [] = []
 with_name name (b ∷ text) = shown_name name ++ (b ∷ text)
 
--- The line of an entry with this verdict. A malformed line has none.
-abbrev pub verdict_line : Report → Option Line → Verdict → List ℕ
-verdict_line r None v = []
-verdict_line r (Some e) v = with_name e.name (outcome r v)
+-- The line of an entry with this verdict. A line that cannot be checked has none.
+abbrev pub verdict_line : Report → Result Line Verdict → Verdict → List ℕ
+verdict_line r (Err verdict) v = []
+verdict_line r (Ok e) v = with_name e.name (outcome r v)
 
--- A line is checked: its entry, or that it is malformed, has a verdict, whose line is printed. A
--- file that cannot be read has a message.
-abbrev pub IsItem : World → Options → Option (Option Line) → Streams → Streams → Verdict → Type 0
+-- The verdict has no message.
+abbrev pub is_silent : Verdict → Bool
+is_silent Equal = true
+is_silent Different = true
+is_silent Unread = false
+is_silent Skipped = true
+is_silent Malformed = false
+is_silent Unmet = false
+is_silent Comment = true
+
+-- A line is checked: its entry has a verdict, or the line has one that cannot be checked, and the
+-- line of that is printed. A file that cannot be read has a message, and one that was read has
+-- none.
+abbrev pub IsItem : World → Options → Option (Result Line Verdict) → Streams → Streams → Verdict
+    → Type 0
 IsItem w o None old new v = (v ≡ Comment) × (new ≡ old)
 IsItem w o (Some i) old new v =
     (new.spacing ≡ next_spacing old.spacing i) × IsVerdict w o old.left i v new.left
     × Appends old.held new.held (verdict_line o.report i v) × (v ≡ Unread → IsTold old new)
+    × (is_silent v ≡ true → new.told ≡ old.told)
 
 -- A line of a manifest is checked. `input` says that the manifest is standard input.
 abbrev pub IsLine : World → Options → Bool → List ℕ → Streams → Streams → Verdict → Type 0
 IsLine w o input line old new v = IsItem w o (item o input old.spacing line) old new v
 
 -- Nothing is printed for an entry, or a part of the line of a verdict that is right.
-abbrev pub BeginsVerdict : World → Options → Option Line → Streams → Streams → Type 0
+abbrev pub BeginsVerdict : World → Options → Result Line Verdict → Streams → Streams → Type 0
 BeginsVerdict w o i old new = (new.held ≡ old.held)
     ⊎ ((v : Verdict) × IsVerdict w o old.left i v new.left
     × TakesPart old.held new.held (verdict_line o.report i v))
 
 -- An error ended the check of a line.
-abbrev pub BeginsItem : World → Options → Option (Option Line) → Streams → Streams → Type 0
+abbrev pub BeginsItem : World → Options → Option (Result Line Verdict) → Streams → Streams → Type 0
 BeginsItem w o None old new = new.held ≡ old.held
 BeginsItem w o (Some i) old new = BeginsVerdict w o i old new
 

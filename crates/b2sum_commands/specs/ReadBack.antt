@@ -1,6 +1,6 @@
 -- What a check reads of a manifest that was printed.
 use Rattle.std.specs.Prelude.{◌≡◌, ◌≢◌, ◌&&◌, ◌||◌, ◌==◌, ◌<◌, ◌≤◌, ℕ, Bool, false, true, not, List}
-use Rattle.std.specs.Prelude.{[], ◌∷◌, map, length, Option, Some, None, is_some}
+use Rattle.std.specs.Prelude.{[], ◌∷◌, map, length, Option, Some, None, is_some, Result, Ok}
 use Rattle.std.specs.Io.KnownBytes.{Appends}
 use Rattle.std.specs.List.{All, list_all}
 use Rattle.hex.specs.Hex.{IsBytes}
@@ -11,28 +11,29 @@ use Rattle.b2sum_lines.specs.declared.entry.Spacing.TheVariants.{One}
 use Rattle.b2sum_lines.specs.declared.entry.Style.TheVariants.{Bare}
 use Rattle.b2sum_commands.specs.declared.check.Verdict.{Verdict}
 use Rattle.b2sum_commands.specs.declared.check.Verdict.TheVariants.{Equal, Different, Unread}
-use Rattle.b2sum_commands.specs.declared.check.Verdict.TheVariants.{Skipped, Malformed, Comment}
+use Rattle.b2sum_commands.specs.declared.check.Verdict.TheVariants.{Skipped, Malformed, Unmet}
+use Rattle.b2sum_commands.specs.declared.check.Verdict.TheVariants.{Comment}
 use Rattle.b2sum_commands.specs.declared.hashes.Function.{Function}
 use Rattle.b2sum_commands.specs.declared.options.Options.{Options}
-use Rattle.b2sum_commands.specs.Found.{Streams}
+use Rattle.b2sum_commands.specs.World.{Streams}
 use Rattle.b2sum_commands.specs.World.{World, InTurn}
 use Rattle.b2sum_commands.specs.Sums.{is_dash, ReadsAs, IsSum, entry_of, printed_function}
 use Rattle.b2sum_commands.specs.Manifests.{item, next_spacing, has_needs, has_algorithm, IsLine}
 
 -- The spacing after a line, of which this is read.
-abbrev pub spacing_past : Spacing → Option (Option Line) → Spacing
+abbrev pub spacing_past : Spacing → Option (Result Line Verdict) → Spacing
 spacing_past s None = s
 spacing_past s (Some i) = next_spacing s i
 
 -- What a check reads of lines, one after the other.
-abbrev pub items : Options → Bool → Spacing → List (List ℕ) → List (Option (Option Line))
+abbrev pub items : Options → Bool → Spacing → List (List ℕ) → List (Option (Result Line Verdict))
 items c input s [] = []
 items c input s (line ∷ lines) =
     item c input s line ∷ items c input (spacing_past s (item c input s line)) lines
 
 -- The lines are read as these entries, in this order, and as nothing else.
 abbrev pub AreReadAs : Options → Bool → Spacing → List (List ℕ) → List Line → Type 0
-AreReadAs c input s lines entries = items c input s lines ≡ map (λ e. Some (Some e)) entries
+AreReadAs c input s lines entries = items c input s lines ≡ map (λ e. Some (Ok e)) entries
 
 -- The entry of a file: its name, and the digest of all its text. A file that cannot be read has
 -- none.
@@ -60,15 +61,15 @@ pub record AreReadable (w : World) (o : Options) : Type 0 where
   pub marked : o.style ≢ Bare
 
 -- A check by the options `c` accepts digests that were printed by the options `o`: it has what they
--- need, is of their algorithm if no tag names it, and demands no other length.
+-- need, is of their algorithm if no tag names it, and demands no other length and algorithm.
 pub record Accepts (c o : Options) : Type 0 where
   pub algorithm : is_tagged o.style ≡ false → c.algorithm ≡ o.algorithm
   pub length : (not c.demands_length || (o.bytes == c.bytes)) ≡ true
   pub needs : has_needs c o.style ≡ true
   pub keyed : has_algorithm c o.algorithm ≡ true
 
--- Files can have these names: they are not empty, and no byte is zero. A manifest on standard input
--- has no name of that.
+-- Files can have these names: they are not empty, and no byte is zero. If standard input has the
+-- manifest, or had the key, none is that.
 abbrev pub AreNames : Bool → List (List ℕ) → Type 0
 AreNames input names = All (λ name. (0 < length name) × (has_zero name ≡ false)
     × ((input && is_dash name) ≡ false)) names
@@ -92,6 +93,7 @@ is_kept Different = false
 is_kept Unread = true
 is_kept Skipped = true
 is_kept Malformed = false
+is_kept Unmet = false
 is_kept Comment = false
 
 -- A manifest is printed for these names: one entry for each file that was read, in order. A check
@@ -105,9 +107,10 @@ pub record IsManifest (w : World) (o : Options) (names : List (List ℕ)) (old n
   pub text : List ℕ
   pub printed : Appends old.held new.held text
   pub read_back : (c : Options) (input : Bool) (s : Spacing) → AreReadable w o → Accepts c o
-      → AreNames input names → s ≢ One → AreReadAs c input s (lines_of text) (entries_in found)
+      → AreNames (input || c.input_is_key) names → s ≢ One
+      → AreReadAs c input s (lines_of text) (entries_in found)
   pub kept : (c : Options) (input : Bool) (before after : Streams) (verdicts : List Verdict)
-      → AreReadable w o → Accepts c o → HaveSameDigests w c o → AreNames input names
-      → AreKept w names → before.spacing ≢ One
+      → AreReadable w o → Accepts c o → HaveSameDigests w c o
+      → AreNames (input || c.input_is_key) names → AreKept w names → before.spacing ≢ One
       → InTurn (IsLine w c input) (lines_of text) before after verdicts
       → (list_all is_kept verdicts ≡ true) × (length verdicts ≡ length (entries_in found))

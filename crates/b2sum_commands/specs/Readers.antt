@@ -7,7 +7,7 @@ use Rattle.b2sum_commands.specs.declared.options.Stop.TheVariants.{Help, Version
 use Rattle.b2sum_commands.specs.declared.options.Stop.TheVariants.{Value}
 use Rattle.b2sum_commands.specs.declared.options.Next as next
 use Rattle.b2sum_commands.specs.declared.options.Next.TheVariants.{Any, Awaited, File}
-use Rattle.b2sum_commands.specs.Found.{Streams}
+use Rattle.b2sum_commands.specs.World.{Streams}
 use Rattle.b2sum_commands.specs.Runs.{PrintsText, IsRefused}
 use Rattle.b2sum_commands.specs.CommandLine.{Choice, End, Helped, Versioned, Refused}
 use Rattle.b2sum_commands.specs.CommandLine.{Next, Anything, ValueOf, OnlyFile, State}
@@ -16,6 +16,7 @@ use Rattle.b2sum_commands.specs.CommandLine.{Next, Anything, ValueOf, OnlyFile, 
 abbrev pub choice_of : Reader → Choice
 choice_of r = record {
   algorithm = r.algorithm;
+  names_algorithm = r.names_algorithm;
   leaf = r.leaf;
   bits = r.bits;
   key_file = option_map (λ v. v.items) r.key_file;

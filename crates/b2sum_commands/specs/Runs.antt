@@ -1,11 +1,10 @@
 -- What a run did for its command line.
 use Rattle.std.specs.Prelude.{◌≡◌, ℕ, Bool, true, false, if◌then◌else◌, List, ◌++◌, codes, Option}
 use Rattle.std.specs.Prelude.{Result, Ok, Err, Some, None, IfSome, ◌⊎◌}
-use Rattle.std.specs.Io.KnownBytes.{Appends}
+use Rattle.std.specs.Io.KnownBytes.{Appends, Consumes, IsAtEnd}
 use Rattle.b2sum_lines.specs.Lines.{max_bytes}
-use Rattle.b2sum_lines.specs.declared.entry.Spacing.TheVariants.{Open}
 use Rattle.b2sum_commands.specs.declared.options.Options.{Options}
-use Rattle.b2sum_commands.specs.Found.{Streams}
+use Rattle.b2sum_commands.specs.World.{Streams}
 use Rattle.b2sum_commands.specs.World.{World, AllInTurn, IsKey, IsNoKey, IsTold}
 use Rattle.b2sum_commands.specs.World.{StopsIn, IsEnded, HasMore}
 use Rattle.b2sum_commands.specs.Sums.{IsSum, is_dash, CannotGet}
@@ -17,8 +16,7 @@ use Rattle.b2sum_commands.specs.Accepted.{AreOptions, is_input}
 -- or was read. There is none if an error ended it.
 abbrev pub AreDone : Bool → World → Options → List (List ℕ) → Streams → Streams → Option Bool
     → Type 0
-AreDone true w o names old new end =
-    AllInTurn (IsChecked w o) names (record old { spacing = Open }) new end
+AreDone true w o names old new end = AllInTurn (IsChecked w o) names old new end
 AreDone false w o names old new end = AllInTurn (IsSum w o) names old new end
 
 -- The bytes of the key file of this name: those that are left of standard input for `-`.
@@ -30,11 +28,15 @@ abbrev pub HasKey : World → Option (List ℕ) → Choice → Options → Type 
 HasKey w left c o =
     IfSome c.key_file (λ name. IsKey (key_bytes w left name) (max_bytes o.algorithm) o.key.items)
 
--- The key is read. If it is not on standard input, that stays as it is.
+-- Standard input is at its end after the key, if that is there, and else as it was.
+abbrev pub IsPastKey : Bool → Option (List ℕ) → Option (List ℕ) → Type 0
+IsPastKey true old new = (key : List ℕ) × Consumes old new key × IsAtEnd new
+IsPastKey false old new = new ≡ old
+
+-- The key is read, and nothing else is changed.
 abbrev pub AfterKey : Option (List ℕ) → Streams → Streams → Type 0
-AfterKey file old new =
-    (left : Option (List ℕ)) × (new ≡ record old { left = left })
-    × (is_input file ≡ false → left ≡ old.left)
+AfterKey file old new = (left : Option (List ℕ)) × (new ≡ record old { left = left })
+    × IsPastKey (is_input file) old.left left
 
 -- The key file of this name has no key: it is not read to its end, or has too few bytes or too
 -- many.

@@ -10,7 +10,7 @@ use Rattle.b2sum_commands.specs.declared.hashes.Function.{Function}
 use Rattle.b2sum_commands.specs.declared.options.Options.{Options}
 use Rattle.b2sum_commands.specs.declared.options.Shape.{Shape}
 use Rattle.b2sum_commands.specs.declared.options.Shape.TheVariants.{Named, Digits, Bytes}
-use Rattle.b2sum_commands.specs.Found.{Streams}
+use Rattle.b2sum_commands.specs.World.{Streams}
 use Rattle.b2sum_commands.specs.World.{World, IsTold}
 
 -- The name of standard input.
@@ -29,10 +29,10 @@ abbrev pub Leaves : Bool → Option (List ℕ) → Option (List ℕ) → Type 0
 Leaves true left after = ⊤
 Leaves false left after = after ≡ left
 
--- A file is not read to its end: it cannot be opened, or a read of an open file failed.
+-- The file of this name is not read to its end: it cannot be opened, or a read of it failed.
 abbrev pub CannotGet : World → List ℕ → Type 0
 CannotGet w name =
-    ((is_dash name ≡ false) × (w.files.refuses name ≡ true)) ⊎ w.breaks
+    ((is_dash name ≡ false) × (w.files.refuses name ≡ true)) ⊎ w.breaks name
 
 -- A file has no digest: it is not read to its end, or the hash function refuses it.
 abbrev pub CannotSum : World → Options → Function → List ℕ → Type 0
@@ -73,11 +73,13 @@ HasSum accepts w o name old new =
     (text : List ℕ) × ReadsAs (is_dash name) (w.files.holds name) old.left new.left text
     × accepts old.held new.held (printed o.shape o.ends_zero (entry_of w o name text))
 
--- The line of the file of this name is printed. If the result is false, nothing is printed, since
--- the file cannot be read, as a message says; if files that do not exist are ignored, there may be
--- none. If there is no result, an error ended it, and nothing or a part of the line is printed.
+-- The line of the file of this name is printed, and no message. If the result is false, nothing is
+-- printed, since the file cannot be read, as a message says; if files that do not exist are
+-- ignored, there may be none. If there is no result, an error ended it, and nothing or a part of
+-- the line is printed.
 abbrev pub IsSum : World → Options → List ℕ → Streams → Streams → Option Bool → Type 0
-IsSum w o name old new (Some true) = HasSum Appends w o name old new
+IsSum w o name old new (Some true) =
+    HasSum Appends w o name old new × (new.told ≡ old.told)
 IsSum w o name old new (Some false) =
     Leaves (is_dash name) old.left new.left × (new.held ≡ old.held)
     × CannotSum w o (printed_function o) name

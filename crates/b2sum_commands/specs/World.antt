@@ -4,21 +4,53 @@ use Rattle.std.specs.Prelude.{◌≤◌, ◌++◌, length, codes, Some, None}
 use Rattle.std.specs.Io.KnownBytes.{Appends, Consumes, IsAtEnd}
 use Rattle.std.specs.List.{list_all}
 use Rattle.blake2_streams.specs.Streams.{TakesPart}
-use Rattle.b2sum_commands.specs.Found.{Files, Hashing, Streams}
+use Rattle.b2sum_lines.specs.declared.entry.Spacing.{Spacing}
+use Rattle.b2sum_commands.specs.declared.hashes.Function.{Function}
+use Rattle.b2sum_commands.specs.declared.options.Options.{Options}
 
--- What a run finds: the files, the hash functions, and whether there is an open file of which a
--- read failed.
+-- Files by their names: the bytes of a file, if that is known, whether it may be that the file
+-- cannot be opened, and whether it may be that there is none.
+pub record Files : Type 0 where
+  pub holds : List ℕ → Option (List ℕ)
+  pub refuses : List ℕ → Bool
+  pub lacks : List ℕ → Bool
+
+-- Hash functions, with the parameters of options: the digest of a text, and whether a digest may be
+-- refused.
+pub record Hashing : Type 0 where
+  pub digest : Options → Function → List ℕ → List ℕ
+  pub rejects : Options → Function → Bool
+
+-- What goes on from one file to the next: the bytes that are left of standard input, the bytes that
+-- standard output holds and those of messages, if that is known, whether a write to either failed,
+-- and the spacing of the lines of manifests.
+pub record Streams : Type 0 where
+  pub left : Option (List ℕ)
+  pub held : Option (List ℕ)
+  pub told : Option (List ℕ)
+  pub output_failed : Bool
+  pub messages_failed : Bool
+  pub spacing : Spacing
+
+-- There is an open file of this name of which a read failed.
+abbrev pub HasFailed : {F : Type 0} → (F → List ℕ) → (F → Bool) → List ℕ → Type 0
+HasFailed {F} named failed name = (file : F) × (named file ≡ name) × (failed file ≡ true)
+
+-- What a run finds: the name of the program, the files, the hash functions, and whether there is an
+-- open file of a name of which a read failed.
 pub record World : Type 1 where
+  pub program : List ℕ
   pub files : Files
   pub hashing : Hashing
-  pub breaks : Type 0
+  pub breaks : List ℕ → Type 0
 
--- The world of these files and hash functions.
-abbrev pub world_of : {F : Type 0} → (F → Bool) → Files → Hashing → World
-world_of {F} failed files hashing = record {
+-- The world of the program of this name, with open files that have names and may have failed.
+abbrev pub world_of : {F : Type 0} → List ℕ → (F → List ℕ) → (F → Bool) → Files → Hashing → World
+world_of program named failed files hashing = record {
+  program = program;
   files = files;
   hashing = hashing;
-  breaks = (file : F) × (failed file ≡ true);
+  breaks = HasFailed named failed;
 }
 
 -- The bytes are all those of a file, which holds `held` if that is known, and at least one and at

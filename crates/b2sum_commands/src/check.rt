@@ -2,32 +2,37 @@
 
 ghost use Rattle.std.specs.Prelude.{◌≡◌, ◌≢◌, ◌⊎◌, ℕ, ◌<◌, ◌≤◌, ◌&&◌, ◌||◌, List, length};
 ghost use Rattle.std.specs.Prelude.{Option, Some, None, not, true, false, IfOk, IfSome, OnOk};
-ghost use Rattle.std.specs.Prelude.{[], is_none, if◌then◌else◌, IsErr, IsErrOf, OnErr, map};
+ghost use Rattle.std.specs.Prelude.{[], ◌∷◌, ◌==◌, codes, Ok, is_none, if◌then◌else◌, IsErr};
+ghost use Rattle.std.specs.Prelude.{IsErrOf, OnErr, map};
 ghost use Rattle.std.specs.Prelude.{IsOkUnless};
 ghost use Rattle.std.specs.Io.KnownBytes.{Appends, Consumes};
 ghost use Rattle.std.specs.Option.{option_map};
 ghost use Rattle.std.specs.Result.{result_ok};
 ghost use Rattle.b2sum_lines.specs.Entries.{entry_value};
 ghost use Rattle.b2sum_commands.specs.World.{world_of, AllInTurn, IsQuiet, IsTold, StopsIn};
+ghost use Rattle.b2sum_commands.specs.World.{HasFailed, IsWritten};
 ghost use Rattle.b2sum_commands.specs.Sums.{is_dash};
-ghost use Rattle.b2sum_commands.specs.LineReads.{IsCutOff, IsAfter, source_left};
+ghost use Rattle.b2sum_commands.specs.LineReads.{IsCutOff, IsAfter, source_left, source_name};
 ghost use Rattle.b2sum_commands.specs.Manifests.{trimmed, item, spacing_after, IsVerdict};
-ghost use Rattle.b2sum_commands.specs.Manifests.{has_demanded_length, IsLine};
+ghost use Rattle.b2sum_commands.specs.Manifests.{IsLine};
 ghost use Rattle.b2sum_commands.specs.Manifests.{BeginsLine, BeginsVerdict};
-ghost use Rattle.b2sum_commands.specs.Manifests.{has_algorithm, has_needs};
+ghost use Rattle.b2sum_commands.specs.Quoting.{quoted_name};
+ghost use Rattle.b2sum_commands.specs.Reports.{AreCounted, Adds, has_no_entry, title_of, warnings};
+ghost use Rattle.b2sum_commands.specs.Reports.{holds_counted, is_nothing, message_if, report_text};
 ghost use Rattle.b2sum_commands.specs.Manifests.{outcome, with_name, verdict_line};
-ghost use Rattle.b2sum_commands.specs.Checks.{item_value, IfListed, Adds, IsChecked};
+ghost use Rattle.b2sum_commands.specs.Checks.{item_value, IfListed, IsChecked, GoesOn};
 ghost use Rattle.b2sum_commands.specs.Checks.{AreRead, EndsAt, AreStopped};
 ghost use Rattle.b2sum_commands.specs.declared.line_reader.LineEnd.TheVariants.{Failure};
 ghost use Rattle.b2sum_commands.specs.declared.check.Verdict.TheVariants.{Equal, Different};
 ghost use Rattle.b2sum_commands.specs.declared.check.Verdict.TheVariants.{Skipped, Malformed};
+ghost use Rattle.b2sum_commands.specs.declared.check.Verdict.TheVariants.{Unmet};
 ghost use Rattle.b2sum_commands.specs.declared.check.Verdict.TheVariants.{Unread, Comment};
 ghost use Rattle.b2sum_commands.specs.declared.check.Verdict as verdict;
 ghost use Rattle.b2sum_commands.specs.declared.sums.Read.TheVariants.{Whole, Missing, Failed};
 
 use crate::devices::{Disk, Fault, OpenFile, Output, put};
 use crate::hashes::{Function, Hashes};
-use crate::line_needs::{Lacks, has_algorithm, has_needs, tell_lacks};
+use crate::line_needs::{Lacks, meets, tell_lacks};
 use crate::line_reader::{LineEnd, LineReader};
 use crate::messages::{warn, warn_of_count, warn_of_file};
 use crate::options::{Options, Report};
@@ -36,7 +41,7 @@ use crate::session::{Host, Program, Session};
 use crate::sums::{Read, digest_file, is_dash};
 use b2sum_lines::{Entry, Spacing, Style, push_escaped, read_line};
 use blake2_digest::constant_time_eq;
-use blake2_streams::{Sink, Source};
+use blake2_streams::Sink;
 use std::alloc::{AllocError, Global};
 use text_lines::push_decimal;
 
@@ -53,11 +58,13 @@ pub enum Verdict {
     Skipped,
     /// The line is not that of an entry.
     Malformed,
+    /// The line is that of an entry that needs other options.
+    Unmet,
     /// The line is a comment, or has nothing.
     Comment,
 }
 
-/// What the lines of a manifest came to.
+/// How many lines of a manifest came to what. Each count stops at 2^64 - 1.
 #[derive(Clone, Copy, Debug, PartialEq, Eq)]
 pub struct Counts {
     /// Lines of files that have the digest.
@@ -70,19 +77,13 @@ pub struct Counts {
     pub skipped: u64,
     /// Lines that are not those of an entry.
     pub malformed: u64,
-    /// A file has its digest.
-    pub any_equal: bool,
-    /// No file has another digest, and none cannot be read.
-    pub all_fine: bool,
-    /// All lines are those of an entry.
-    pub all_formed: bool,
+    /// Lines that need other options.
+    pub unmet: u64,
 }
 
 impl Counts {
     fn none() -> Counts
-        ensures equal { result.any_equal ≡ false }
-        ensures fine { result.all_fine ≡ true }
-        ensures formed { result.all_formed ≡ true }
+        ensures { AreCounted [] result }
     {
         Counts {
             equal: 0,
@@ -90,9 +91,7 @@ impl Counts {
             unread: 0,
             skipped: 0,
             malformed: 0,
-            any_equal: false,
-            all_fine: true,
-            all_formed: true,
+            unmet: 0,
         }
     }
 
@@ -101,43 +100,40 @@ impl Counts {
         ensures { Adds verdict self.old self.new }
     {
         match verdict {
-            Verdict::Equal => {
-                self.equal = self.equal.saturating_add(1);
-                self.any_equal = true;
-            }
-            Verdict::Different => {
-                self.different = self.different.saturating_add(1);
-                self.all_fine = false;
-            }
-            Verdict::Unread => {
-                self.unread = self.unread.saturating_add(1);
-                self.all_fine = false;
-            }
+            Verdict::Equal => self.equal = self.equal.saturating_add(1),
+            Verdict::Different => self.different = self.different.saturating_add(1),
+            Verdict::Unread => self.unread = self.unread.saturating_add(1),
             Verdict::Skipped => self.skipped = self.skipped.saturating_add(1),
-            Verdict::Malformed => {
-                self.malformed = self.malformed.saturating_add(1);
-                self.all_formed = false;
-            }
+            Verdict::Malformed => self.malformed = self.malformed.saturating_add(1),
+            Verdict::Unmet => self.unmet = self.unmet.saturating_add(1),
             Verdict::Comment => {}
         }
     }
 
     // Returns whether no line is that of an entry.
-    fn has_no_entry(&self) -> bool {
-        self.equal == 0 && self.different == 0 && self.unread == 0 && self.skipped == 0
+    fn has_no_entry(&self) -> bool
+        ensures { result ≡ has_no_entry self.now }
+    {
+        self.equal == 0
+            && self.different == 0
+            && self.unread == 0
+            && self.skipped == 0
+            && self.unmet == 0
     }
 
     // Returns whether a file has its digest, and no line fails the check.
     fn holds(&self, is_strict: bool) -> bool
-        ensures { result ≡ (self.now.any_equal
-            && (self.now.all_fine && (not is_strict || self.now.all_formed))) }
+        ensures { result ≡ holds_counted is_strict self.now }
     {
-        self.any_equal && self.all_fine && (!is_strict || self.all_formed)
+        self.equal > 0
+            && self.different == 0
+            && self.unread == 0
+            && self.unmet == 0
+            && (!is_strict || self.malformed == 0)
     }
 }
 
-/// Checks each manifest, from the first to the last. Returns whether all hold. The spacing of the
-/// lines goes on from one to the next.
+/// Checks each manifest, from the first to the last. Returns whether all hold.
 pub fn check_manifests<H: Hashes, D: Disk, K: Output, E: Sink>(
     host: &Host<H, D>,
     options: &Options,
@@ -145,7 +141,8 @@ pub fn check_manifests<H: Hashes, D: Disk, K: Output, E: Sink>(
     names: &[Vec<u8>],
 ) -> Result<bool, Fault>
     ensures checked { AllInTurn (IsChecked
-        (world_of D.File.failed (D.files host.now.disk) H.hashing) options.now)
+        (world_of host.now.program.name.items D.File.named D.File.failed
+        (D.files host.now.disk) H.hashing) options.now)
         (map (λ name. name.items) names.now) session.old session.new (result_ok result) }
     ensures write { IsErrOf result Fault.WriteFailed → session.new.output_failed ≡ true }
 {
@@ -158,15 +155,33 @@ pub fn check_manifests<H: Hashes, D: Disk, K: Output, E: Sink>(
 }
 
 /// Checks the manifest of this name, or standard input for `-`, line by line as it is read. Returns
-/// whether it has an entry that is equal and none that differs or cannot be read. After an error
-/// the lines before it are printed, and of the next nothing or a part.
+/// whether it has an entry that is equal, none that differs, cannot be read or needs other options,
+/// and, if the check is strict, no line that is not that of an entry. After an error the lines
+/// before it are printed, and of the next nothing or a part.
 pub fn check_manifest<H: Hashes, D: Disk, K: Output, E: Sink>(
     host: &Host<H, D>,
     options: &Options,
     session: &mut Session<D::File, K, E>,
     name: &[u8],
 ) -> Result<bool, Fault>
-    ensures checked { IsChecked (world_of D.File.failed (D.files host.now.disk) H.hashing)
+    ensures checked { IsChecked (world_of host.now.program.name.items D.File.named D.File.failed
+        (D.files host.now.disk) H.hashing)
+        options.now name.now session.old session.new (result_ok result) }
+    ensures write { IsErrOf result Fault.WriteFailed → session.new.output_failed ≡ true }
+{
+    session.begin_manifest(options);
+    check_on(host, options, session, name)
+}
+
+// Checks the manifest of this name, with the spacing that the session has.
+fn check_on<H: Hashes, D: Disk, K: Output, E: Sink>(
+    host: &Host<H, D>,
+    options: &Options,
+    session: &mut Session<D::File, K, E>,
+    name: &[u8],
+) -> Result<bool, Fault>
+    ensures checked { GoesOn (world_of host.now.program.name.items D.File.named D.File.failed
+        (D.files host.now.disk) H.hashing)
         options.now name.now session.old session.new (result_ok result) }
     ensures write { IsErrOf result Fault.WriteFailed → session.new.output_failed ≡ true }
 {
@@ -176,25 +191,12 @@ pub fn check_manifest<H: Hashes, D: Disk, K: Output, E: Sink>(
     let found = check_lines(host, options, session, &mut manifest)?;
     let title = manifest.title.as_slice();
     let lacks = session.lacks;
-    session.lacks = Lacks::none();
-    tell_lacks(&host.program, options, title, lacks, &mut session.messages)?;
+    let messages = &mut session.messages;
     let Some(counts) = found else {
-        warn(
-            &host.program,
-            &mut session.messages,
-            title,
-            b": ",
-            b"read error",
-        )?;
+        warn(&host.program, messages, title, b": ", b"read error")?;
         return Ok(false);
     };
-    report(
-        &host.program,
-        options,
-        title,
-        &counts,
-        &mut session.messages,
-    )?;
+    report(&host.program, options, title, &counts, lacks, messages)?;
     Ok(counts.holds(options.is_strict))
 }
 
@@ -218,12 +220,16 @@ impl<F: OpenFile> Manifest<F> {
 
     // Reads the next line, as `LineReader::read_line` does, from the file or from standard input.
     fn read_line(&mut self, input: &mut F, line: &mut Vec<u8>) -> Result<LineEnd, AllocError>
+        requires { F.named input.old ≡ 45 ∷ [] }
         ensures passes { IfOk result (λ end. (more : List ℕ) × (rest : Option (List ℕ))
             × Consumes (source_left F.left self.old.file (F.left input.old)) rest more
             × IsCutOff end self.old.lines more line.new.items self.new.lines
             × IsAfter end rest (source_left F.left self.new.file (F.left input.new))
-            ((file : F) × (F.failed file ≡ true))) }
+            (HasFailed F.named F.failed (source_name F.named self.old.file))) }
         ensures same { is_none self.new.file ≡ is_none self.old.file }
+        ensures name { source_name F.named self.new.file ≡ source_name F.named self.old.file }
+        ensures title { self.new.title ≡ self.old.title }
+        ensures input { F.named input.new ≡ 45 ∷ [] }
         ensures other { is_none self.old.file ≡ false → input.new ≡ input.old }
     {
         match &mut self.file {
@@ -245,9 +251,14 @@ fn open_manifest<H, D: Disk, K: Output, E: Sink>(
         → (is_dash name.now ≡ false) × ((D.files host.now.disk).refuses name.now ≡ true)) }
     ensures input { IfOk result (λ found. IfSome found
         (λ m. is_none m.file ≡ is_dash name.now)) }
+    ensures name { IfOk result (λ found. IfSome found
+        (λ m. source_name D.File.named m.file ≡ name.now)) }
+    ensures title { IfOk result (λ found. IfSome found
+        (λ m. m.title.items ≡ title_of name.now)) }
     ensures start { IfOk result (λ found. IfSome found (λ m. (m.lines ≡ [])
-        × (source_left D.File.left m.file session.old.left ≡ (if is_dash name.now
-        then session.old.left else (D.files host.now.disk).holds name.now)))) }
+        × (is_dash name.now ≡ false → IfSome ((D.files host.now.disk).holds name.now)
+        (λ _. source_left D.File.left m.file session.old.left
+        ≡ (D.files host.now.disk).holds name.now)))) }
     ensures memory { IsOkUnless result Fault.NoMemory }
 {
     let title = quoted_name(host.program.alloc, title_of(name))?;
@@ -273,7 +284,9 @@ fn open_manifest<H, D: Disk, K: Output, E: Sink>(
 }
 
 // Returns the name of a manifest as messages have it, before it is quoted.
-fn title_of(name: &[u8]) -> &[u8] {
+fn title_of(name: &[u8]) -> &[u8]
+    ensures { quoted_name result.now ≡ title_of name.now }
+{
     if is_dash(name) {
         b"standard input"
     } else {
@@ -291,17 +304,20 @@ fn check_lines<H: Hashes, D: Disk, K: Output, E: Sink>(
 ) -> Result<Option<Counts>, Fault>
     requires { manifest.old.lines ≡ [] }
     ensures lines { IfOk result (λ found. (rest : Option (List ℕ)) × (vs : List verdict.Verdict)
-        × AreRead (world_of D.File.failed (D.files host.now.disk) H.hashing) options.now
+        × AreRead (world_of host.now.program.name.items D.File.named D.File.failed
+        (D.files host.now.disk) H.hashing) options.now
         (is_none manifest.old.file)
         (source_left D.File.left manifest.old.file session.old.left) rest
         session.old session.new vs
         × EndsAt found vs rest (source_left D.File.left manifest.new.file session.new.left)
-        ((file : D.File) × (D.File.failed file ≡ true))) }
+        (HasFailed D.File.named D.File.failed (source_name D.File.named manifest.old.file))) }
     ensures stopped { IsErr result → AreStopped
-        (world_of D.File.failed (D.files host.now.disk) H.hashing) options.now
-        (is_none manifest.old.file)
+        (world_of host.now.program.name.items D.File.named D.File.failed
+        (D.files host.now.disk) H.hashing) options.now
+        (source_name D.File.named manifest.old.file) (is_none manifest.old.file)
         (source_left D.File.left manifest.old.file session.old.left) session.old session.new }
     ensures file { is_none manifest.new.file ≡ is_none manifest.old.file }
+    ensures title { manifest.new.title ≡ manifest.old.title }
     ensures write { IsErrOf result Fault.WriteFailed → session.new.output_failed ≡ true }
 {
     let mut counts = Counts::none();
@@ -342,10 +358,12 @@ fn check_line<H: Hashes, D: Disk, K: Output, E: Sink>(
     number: u64,
 ) -> Result<Verdict, Fault>
     ensures checked { IfOk result (IsLine
-        (world_of D.File.failed (D.files host.now.disk) H.hashing)
+        (world_of host.now.program.name.items D.File.named D.File.failed
+        (D.files host.now.disk) H.hashing)
         options.now (is_none manifest.now.file) line.now session.old session.new) }
     ensures begun { IsErr result → BeginsLine
-        (world_of D.File.failed (D.files host.now.disk) H.hashing)
+        (world_of host.now.program.name.items D.File.named D.File.failed
+        (D.files host.now.disk) H.hashing)
         options.now (is_none manifest.now.file) line.now session.old session.new }
     ensures write { IsErrOf result Fault.WriteFailed → session.new.output_failed ≡ true }
 {
@@ -353,11 +371,14 @@ fn check_line<H: Hashes, D: Disk, K: Output, E: Sink>(
     let item = read_item(host.program.alloc, options, session.spacing, is_input, line)?;
     match item {
         Item::Comment => Ok(Verdict::Comment),
-        Item::Malformed(lacks) => {
-            session.lacks.add(lacks);
+        Item::Malformed => {
             let title = manifest.title.as_slice();
             warn_of_line(&host.program, options, title, number, &mut session.messages)?;
             Ok(Verdict::Malformed)
+        }
+        Item::Unmet(lacks) => {
+            session.lacks.add(lacks);
+            Ok(Verdict::Unmet)
         }
         Item::Listed(entry) => {
             session.spacing = spacing_after(session.spacing, entry.style);
@@ -373,12 +394,14 @@ enum Item {
     Comment,
     /// The line of an entry.
     Listed(Entry),
-    /// Another line, and what it lacks to be checked, if anything can be said of that.
-    Malformed(Lacks),
+    /// The line of an entry that needs other options, and what it needs.
+    Unmet(Lacks),
+    /// Another line.
+    Malformed,
 }
 
-// Returns what a line is. An entry has the length that the options demand. In a manifest on
-// standard input, no entry is for standard input.
+// Returns what a line is. An entry is one that the options can check. None is for standard input,
+// if that has the manifest, or had the key.
 fn read_item(
     alloc: Global,
     options: &Options,
@@ -395,24 +418,17 @@ fn read_item(
         return Ok(Item::Comment);
     };
     match read_line(alloc, options.algorithm, spacing, line)? {
-        Some(entry) if is_checkable(options, is_input, &entry) => Ok(Item::Listed(entry)),
-        Some(entry) => Ok(Item::Malformed(Lacks::of(options, &entry))),
-        None => Ok(Item::Malformed(Lacks::none())),
+        None => Ok(Item::Malformed),
+        Some(entry) => {
+            if (is_input || options.input_is_key) && is_dash(entry.name.as_slice()) {
+                return Ok(Item::Malformed);
+            }
+            if meets(options, &entry) {
+                return Ok(Item::Listed(entry));
+            }
+            Ok(Item::Unmet(Lacks::of(options, &entry)))
+        }
     }
-}
-
-// Returns whether the entry can be checked.
-fn is_checkable(options: &Options, is_input: bool, entry: &Entry) -> bool
-    ensures { result ≡ (has_demanded_length options.now entry.now.digest.items
-        && (has_needs options.now entry.now.style
-        && (has_algorithm options.now entry.now.algorithm
-        && not (is_input && is_dash entry.now.name.items)))) }
-{
-    let has_length = !options.demands_length || entry.digest.len() == options.bytes;
-    has_length
-        && has_needs(options, entry.style)
-        && has_algorithm(options, entry.algorithm)
-        && !(is_input && is_dash(entry.name.as_slice()))
 }
 
 // Returns the line without a carriage return at its end, or `None` for a comment and for an empty
@@ -452,16 +468,44 @@ fn check_entry<H: Hashes, D: Disk, K: Output, E: Sink>(
 ) -> Result<Verdict, Fault>
     requires { length entry.now.digest.items ≤ 64 }
     ensures verdict { IfOk result (λ v. IsVerdict
-        (world_of D.File.failed (D.files host.now.disk) H.hashing) options.now session.old.left
-        (Some (entry_value entry.now)) v session.new.left) }
+        (world_of host.now.program.name.items D.File.named D.File.failed
+        (D.files host.now.disk) H.hashing) options.now session.old.left
+        (Ok (entry_value entry.now)) v session.new.left) }
     ensures line { IfOk result (λ v. Appends session.old.held session.new.held
-        (verdict_line options.now.report (Some (entry_value entry.now)) v)) }
+        (verdict_line options.now.report (Ok (entry_value entry.now)) v)) }
     ensures told { IfOk result (λ v. v ≡ Unread → IsTold session.old session.new) }
+    ensures silent { IfOk result (λ v. v ≢ Unread → session.new.told ≡ session.old.told) }
     ensures begun { IsErr result → BeginsVerdict
-        (world_of D.File.failed (D.files host.now.disk) H.hashing) options.now
-        (Some (entry_value entry.now)) session.old session.new }
+        (world_of host.now.program.name.items D.File.named D.File.failed
+        (D.files host.now.disk) H.hashing) options.now
+        (Ok (entry_value entry.now)) session.old session.new }
     ensures spacing { session.new.spacing ≡ session.old.spacing }
     ensures write { IsErrOf result Fault.WriteFailed → session.new.output_failed ≡ true }
+{
+    let verdict = judge_entry(host, options, session, entry)?;
+    let outcome = outcome_of(options.report, verdict);
+    let name = entry.name.as_slice();
+    print_outcome(host.program.alloc, &mut session.output, name, outcome)?;
+    Ok(verdict)
+}
+
+// Compares the file of an entry. Returns the verdict, and prints nothing but the message of a file
+// that cannot be read.
+fn judge_entry<H: Hashes, D: Disk, K: Output, E: Sink>(
+    host: &Host<H, D>,
+    options: &Options,
+    session: &mut Session<D::File, K, E>,
+    entry: &Entry,
+) -> Result<Verdict, Fault>
+    requires { length entry.now.digest.items ≤ 64 }
+    ensures verdict { IfOk result (λ v. IsVerdict
+        (world_of host.now.program.name.items D.File.named D.File.failed
+        (D.files host.now.disk) H.hashing) options.now session.old.left
+        (Ok (entry_value entry.now)) v session.new.left) }
+    ensures told { IfOk result (λ v. v ≡ Unread → IsTold session.old session.new) }
+    ensures silent { IfOk result (λ v. v ≢ Unread → session.new.told ≡ session.old.told) }
+    ensures quiet { IsQuiet session.old session.new }
+    ensures memory { IsOkUnless result Fault.NoMemory }
 {
     let mut digest = [0u8; 64];
     let size = entry.digest.len();
@@ -472,10 +516,7 @@ fn check_entry<H: Hashes, D: Disk, K: Output, E: Sink>(
     };
     let read = digest_file(host, options, session, name, function, &mut digest)?;
     let all = &digest[..];
-    let verdict = verdict_of(read, &all[..size], entry.digest.as_slice());
-    let outcome = outcome_of(options.report, verdict);
-    print_outcome(host.program.alloc, &mut session.output, name, outcome)?;
-    Ok(verdict)
+    Ok(verdict_of(read, &all[..size], entry.digest.as_slice()))
 }
 
 // Returns the verdict on a file with this digest, whose entry has another or the same. The time of
@@ -487,6 +528,7 @@ fn verdict_of(read: Read, digest: &[u8], listed: &[u8]) -> Verdict
     ensures skipped { result ≡ Skipped → read ≡ Missing }
     ensures unread { result ≡ Unread → read ≡ Failed }
     ensures formed { result ≢ Malformed }
+    ensures met { result ≢ Unmet }
     ensures entry { result ≢ Comment }
 {
     match read {
@@ -567,35 +609,83 @@ fn warn_of_line<E: Sink>(
     Ok(())
 }
 
-// Prints the messages of a manifest that was read.
+// Prints the messages of a manifest that was read: what its lines need, and how many came to what.
 fn report<E: Sink>(
     program: &Program,
     options: &Options,
     title: &[u8],
     counts: &Counts,
+    lacks: Lacks,
     messages: &mut E,
 ) -> Result<(), Fault>
+    ensures told { OnOk result ((needs : List ℕ) × IsWritten (E.failed messages.old)
+        (E.failed messages.new) (E.held messages.old) (E.held messages.new)
+        (report_text program.now.name.items title.now options.now counts.now needs)) }
     ensures memory { IsOkUnless result Fault.NoMemory }
 {
     if counts.has_no_entry() {
-        warn(
-            program,
-            messages,
-            title,
-            b": no properly formatted checksum lines found",
-            b"",
-        )?;
+        let text = b": no properly formatted checksum lines found";
+        warn(program, messages, title, text, b"")?;
         return Ok(());
     }
-    if options.report == Report::Nothing {
+    if is_nothing(options.report) {
         return Ok(());
     }
+    tell_lacks(program, title, counts.unmet, lacks, messages)?;
+    warn_of_counts(program, counts, messages)?;
+    warn_of_none(program, options, title, counts, messages)?;
+    Ok(())
+}
+
+// Returns whether messages are not wanted.
+fn is_nothing(report: Report) -> bool
+    ensures { result ≡ is_nothing report }
+{
+    matches!(report, Report::Nothing)
+}
+
+// Prints the message that no file was verified, if files that do not exist are ignored.
+fn warn_of_none<E: Sink>(
+    program: &Program,
+    options: &Options,
+    title: &[u8],
+    counts: &Counts,
+    messages: &mut E,
+) -> Result<(), AllocError>
+    ensures { OnOk result (IsWritten (E.failed messages.old) (E.failed messages.new)
+        (E.held messages.old) (E.held messages.new)
+        (message_if (options.now.ignores_missing && (counts.now.equal == 0))
+        program.now.name.items title.now (codes ": no file was verified") [])) }
+{
+    if !options.ignores_missing || counts.equal != 0 {
+        return Ok(());
+    }
+    warn(program, messages, title, b": no file was verified", b"")?;
+    Ok(())
+}
+
+// Prints a warning for each count of lines that failed.
+fn warn_of_counts<E: Sink>(
+    program: &Program,
+    counts: &Counts,
+    messages: &mut E,
+) -> Result<(), AllocError>
+    ensures { OnOk result (IsWritten (E.failed messages.old) (E.failed messages.new)
+        (E.held messages.old) (E.held messages.new) (warnings program.now.name.items counts.now)) }
+{
     warn_of_count(
         program,
         messages,
         counts.malformed,
         b" line is improperly formatted",
         b" lines are improperly formatted",
+    )?;
+    warn_of_count(
+        program,
+        messages,
+        counts.unmet,
+        b" line needs other options",
+        b" lines need other options",
     )?;
     warn_of_count(
         program,
@@ -611,8 +701,5 @@ fn report<E: Sink>(
         b" computed checksum did NOT match",
         b" computed checksums did NOT match",
     )?;
-    if options.ignores_missing && counts.equal == 0 {
-        warn(program, messages, title, b": no file was verified", b"")?;
-    }
     Ok(())
 }

@@ -11,6 +11,7 @@ ghost use Rattle.b2sum_commands.specs.Accepted.{accepted, has_length, has_labels
 ghost use Rattle.b2sum_commands.specs.Accepted.{goes_with_check, goes_with_sums, goes_with_files};
 ghost use Rattle.b2sum_commands.specs.Accepted.{chosen_needs, chosen_style, chosen_shape};
 ghost use Rattle.b2sum_commands.specs.Accepted.{has_bytes, has_trees, with_leaf, AreOptions};
+ghost use Rattle.b2sum_commands.specs.Accepted.{is_input};
 ghost use Rattle.b2sum_commands.specs.Sums.{is_dash};
 ghost use Rattle.b2sum_commands.specs.Readers.{choice_of, IsUnfit};
 
@@ -31,63 +32,53 @@ pub(crate) fn finish(alloc: Global, reader: Reader, files: Vec<Vec<u8>>) -> Resu
     ensures stop { IfErr result
         (IsUnfit (accepted (choice_of reader) (map (λ file. file.items) files.items))) }
 {
-    check_length(alloc, &reader)?;
-    if let Some(text) = conflict(&reader) {
-        return Err(Stop::Usage(joined(alloc, text, b"", b"")?));
-    }
-    check_labels(alloc, &reader)?;
-    if let Some(text) = conflict_of_files(&reader, files.as_slice()) {
-        return Err(Stop::Usage(joined(alloc, text, b"", b"")?));
-    }
-    let bytes = output_bytes(&reader);
-    let demands_length = reader.bits != 0 || reader.key_file.is_some();
-    let shape = shape_of(&reader);
-    let needs = needs_of(&reader);
-    let style = style_of(&reader);
-    let chosen = chosen_algorithm(&reader);
-    let Reader {
-        algorithm: _,
-        leaf: _,
-        bits: _,
-        bits_text: _,
-        key_file,
-        salt,
-        persona,
-        checks,
-        is_binary: _,
-        is_tagged: _,
-        ends_zero,
-        ignores_missing,
-        report,
-        is_strict,
-        threads,
-        shows_progress,
-        has_no_names: _,
-        is_raw: _,
-    } = reader;
+    check_choice(alloc, &reader, files.as_slice())?;
     let options = Options {
-        algorithm: chosen,
-        bytes,
-        demands_length,
+        algorithm: chosen_algorithm(&reader),
+        bytes: output_bytes(&reader),
+        demands_length: reader.bits != 0 || reader.key_file.is_some(),
+        demands_algorithm: reader.names_algorithm || reader.leaf.is_some(),
+        input_is_key: has_input_key(&reader),
         key: Vec::new(alloc),
-        needs,
-        salt,
-        persona,
-        checks,
-        shape,
-        style,
-        ends_zero,
-        ignores_missing,
-        report,
-        is_strict,
-        threads,
-        shows_progress,
+        needs: needs_of(&reader),
+        shape: shape_of(&reader),
+        style: style_of(&reader),
+        checks: reader.checks,
+        ends_zero: reader.ends_zero,
+        ignores_missing: reader.ignores_missing,
+        report: reader.report,
+        is_strict: reader.is_strict || reader.key_file.is_some(),
+        threads: reader.threads.unwrap_or(0),
+        shows_progress: reader.shows_progress,
+        salt: reader.salt,
+        persona: reader.persona,
     };
     Ok(Arguments {
         options,
         files,
-        key_file,
+        key_file: reader.key_file,
     })
+}
+
+// Refuses options that do not go together, or not with these files.
+fn check_choice(alloc: Global, reader: &Reader, files: &[Vec<u8>]) -> Result<(), Stop>
+    ensures accepted { OnOk result
+        (accepted (choice_of reader.now) (map (λ file. file.items) files.now) ≡ true) }
+    ensures bits { OnOk result (reader.now.bits ≤ 8 * max_bytes reader.now.algorithm) }
+    ensures tree { OnOk result
+        (reader.now.leaf ≢ None → has_trees reader.now.algorithm ≡ true) }
+    ensures stop { IfErr result
+        (IsUnfit (accepted (choice_of reader.now) (map (λ file. file.items) files.now))) }
+{
+    check_length(alloc, reader)?;
+    if let Some(text) = conflict(reader) {
+        return Err(Stop::Usage(joined(alloc, text, b"", b"")?));
+    }
+    check_labels(alloc, reader)?;
+    if let Some(text) = conflict_of_files(reader, files) {
+        return Err(Stop::Usage(joined(alloc, text, b"", b"")?));
+    }
+    Ok(())
 }
 
 // Returns the algorithm, with the leaves of a tree.
@@ -130,6 +121,16 @@ fn shape_of(reader: &Reader) -> Shape
         Shape::Digits
     } else {
         Shape::Named
+    }
+}
+
+// Returns whether the key is read from standard input.
+fn has_input_key(reader: &Reader) -> bool
+    ensures { result ≡ is_input (choice_of reader.now).key_file }
+{
+    match &reader.key_file {
+        Some(name) => is_dash(name.as_slice()),
+        None => false,
     }
 }
 
@@ -245,6 +246,8 @@ fn conflict(reader: &Reader) -> Option<&'static [u8]>
         if reader.is_binary == Some(false) && !reader.checks {
             return Some(b"--tree does not support --text mode");
         }
+    } else if reader.threads.is_some() && !reader.checks {
+        return Some(b"the --threads option is meaningful only with --tree");
     }
     if reader.checks {
         conflict_of_check(reader)
@@ -281,10 +284,7 @@ fn conflict_of_files(reader: &Reader, files: &[Vec<u8>]) -> Option<&'static [u8]
     if reader.is_raw && files.len() != 1 {
         return Some(b"the --raw option needs one file");
     }
-    if let Some(name) = &reader.key_file
-        && is_dash(name.as_slice())
-        && has_dash(files)
-    {
+    if has_input_key(reader) && has_dash(files) {
         return Some(b"standard input is the key, and cannot be a file too");
     }
     None

@@ -1,18 +1,43 @@
 //! Files by name, and what is printed where.
 
-ghost use Rattle.std.specs.Prelude.{◌≡◌, true, false, IfOk, IfErr, IsErr, OnOk, OnErr};
+ghost use Rattle.std.specs.Prelude.{◌≡◌, ◌||◌, ℕ, List, Option, Bool, IfOk, IfErr, IfSome};
+ghost use Rattle.std.specs.Prelude.{true, false, IsErr, OnOk, OnErr, is_err};
+ghost use Rattle.std.specs.Io.{ReadsAtMost};
+ghost use Rattle.blake2_streams.specs.Devices.{Gives};
 ghost use Rattle.std.specs.Io.KnownBytes.{Appends};
 ghost use Rattle.std.specs.IoError.{error_kind};
 ghost use Rattle.std.specs.declared.io.ErrorKind.TheVariants.{NotFound};
 ghost use Rattle.b2sum_commands.specs.World.{IsWritten, StopsIn};
 ghost use Rattle.b2sum_commands.specs.declared.devices.Fault.TheVariants.{NoMemory, WriteFailed};
 
-use blake2_streams::{DeviceError, Sink, Source, write_whole};
+use blake2_streams::{DeviceError, Sink, write_whole};
 use std::alloc::{AllocError, Global};
 use std::io;
 
-/// Sources that know why a read failed.
-pub trait OpenFile: Source {
+/// Files that are open for reading, which know their name, and why a read failed.
+pub trait OpenFile {
+    // The bytes that reads will return from here on, if that is known.
+    ghost left: { Self → Option (List ℕ) };
+
+    // A read has returned an error.
+    ghost failed: { Self → Bool };
+
+    // The name by which the file was opened, and `-` for standard input.
+    ghost named: { Self → List ℕ };
+
+    /// Reads the next bytes into the front of the buffer, and returns how many: at most the
+    /// buffer's length. Zero for a buffer that is not empty means the end. The error is
+    /// `DeviceError`, if the read fails. After an error nothing is promised about the bytes.
+    fn read(&mut self, buf: &mut [u8]) -> Result<usize, DeviceError>
+        ensures bound { ReadsAtMost result buf.new }
+        ensures bytes { Gives (left self.old) (left self.new) result buf.new }
+        ensures fails { failed self.new ≡ (failed self.old || is_err result) }
+        ensures name { named self.new ≡ named self.old };
+
+    /// Returns whether a read has returned an error.
+    fn failed(&self) -> bool
+        ensures { result ≡ failed self.now };
+
     /// Returns the error of the last read that failed.
     fn reason(&self) -> io::Error;
 
@@ -28,7 +53,7 @@ pub trait Output: Sink {
 
 /// Files that are opened by names of any bytes.
 pub trait Disk {
-    ghost use Rattle.b2sum_commands.specs.Found.{Files};
+    ghost use Rattle.b2sum_commands.specs.World.{Files};
 
     // The files by their names.
     ghost files: { Self → Files };
@@ -38,7 +63,7 @@ pub trait Disk {
 
     /// Keeps what the program holds from now on from others, as far as the system can. It is called
     /// before a key is read.
-    fn keep_secrets(&self);
+    fn hide_memory(&self);
 
     /// Shows the progress of long reads from now on, as far as the system can. It is called before
     /// a file is opened.
@@ -49,9 +74,10 @@ pub trait Disk {
         ensures refused { IsErr result → (files self.now).refuses name.now ≡ true }
         ensures missing { IfErr result (λ error. error_kind error ≡ NotFound
             → (files self.now).lacks name.now ≡ true) }
-        ensures bytes { IfOk result
-            (λ file. Self.File.left file ≡ (files self.now).holds name.now) }
-        ensures unfailed { IfOk result (λ file. Self.File.failed file ≡ false) };
+        ensures bytes { IfOk result (λ file. IfSome ((files self.now).holds name.now)
+            (λ _. Self.File.left file ≡ (files self.now).holds name.now)) }
+        ensures unfailed { IfOk result (λ file. Self.File.failed file ≡ false) }
+        ensures named { IfOk result (λ file. Self.File.named file ≡ name.now) };
 }
 
 /// Why a command ends early.

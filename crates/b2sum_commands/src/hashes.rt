@@ -21,7 +21,7 @@ pub struct Function {
 
 /// Hash functions of what sources return.
 pub trait Hashes {
-    ghost use Rattle.b2sum_commands.specs.Found.{Hashing};
+    ghost use Rattle.b2sum_commands.specs.World.{Hashing};
 
     // The digests of texts.
     ghost hashing: { Hashing };
@@ -48,7 +48,8 @@ pub trait Hashes {
         ensures whole { OnOk result ((text : List ℕ)
             × GivesAll (S.left source.old) (S.left source.new) text
             × (take function.bytes out.new
-            ≡ hashing.digest options.now function text)) };
+            ≡ hashing.digest options.now function text)) }
+        ensures name { S.named source.new ≡ S.named source.old };
 
     /// Returns the best length of a buffer, in bytes.
     fn piece_bytes(&self, options: &Options) -> usize

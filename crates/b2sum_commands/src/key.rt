@@ -3,12 +3,13 @@
 ghost use Rattle.std.specs.Prelude.{◌≡◌, ◌⊎◌, ◌≤◌, length, true, None, IfOk, IfSome};
 ghost use Rattle.std.specs.Prelude.{IsOkUnless};
 ghost use Rattle.std.specs.Io.KnownBytes.{Consumes, IsAtEnd};
-ghost use Rattle.b2sum_commands.specs.World.{HasMessage, IsKey, IsNoKey};
+ghost use Rattle.b2sum_commands.specs.World.{HasFailed, HasMessage, IsKey, IsNoKey};
+ghost use Rattle.b2sum_commands.specs.Runs.{IsPastKey};
 
 use crate::devices::{Disk, Fault, OpenFile};
 use crate::messages::{warn_of_file, warn_of_name};
 use crate::session::Program;
-use blake2_streams::{Sink, Source};
+use blake2_streams::Sink;
 use std::alloc::Global;
 
 /// Returns the bytes of the key's file, all of them, at least 1 and at most `most`. For another
@@ -25,7 +26,7 @@ pub(crate) fn read_key<D: Disk, E: Sink>(
     ensures cause { IfOk result (λ key. key ≡ None
         → ((D.files disk.now).refuses name.now ≡ true)
         ⊎ (IsNoKey ((D.files disk.now).holds name.now) most
-        ⊎ ((file : D.File) × (D.File.failed file ≡ true)))) }
+        ⊎ HasFailed D.File.named D.File.failed name.now)) }
     ensures kept { IfOk result (λ key. IfSome key (λ _. messages.new ≡ messages.old)) }
     ensures told { IfOk result (λ key. key ≡ None → HasMessage (E.failed messages.old)
         (E.failed messages.new) (E.held messages.old) (E.held messages.new)) }
@@ -51,6 +52,9 @@ pub(crate) fn read_key_from<F: OpenFile, E: Sink>(
 ) -> Result<Option<Vec<u8>>, Fault>
     ensures key { IfOk result (λ key. IfSome key
         (λ bytes. IsKey (F.left file.old) most bytes.items)) }
+    ensures end { IfOk result (λ key. IfSome key
+        (λ _. IsPastKey true (F.left file.old) (F.left file.new))) }
+    ensures name { F.named file.new ≡ F.named file.old }
     ensures cause { IfOk result (λ key. key ≡ None
         → IsNoKey (F.left file.old) most ⊎ (F.failed file.new ≡ true)) }
     ensures kept { IfOk result (λ key. IfSome key (λ _. messages.new ≡ messages.old)) }
@@ -78,7 +82,7 @@ pub(crate) fn read_key_from<F: OpenFile, E: Sink>(
 // `None` if a read failed. It has a separate frame, so that what it leaves of the key on the stack
 // is below the next read, where C wipes it.
 #[inline(never)]
-fn read_bytes<S: Source>(
+fn read_bytes<S: OpenFile>(
     alloc: Global,
     source: &mut S,
     most: usize,
@@ -88,6 +92,7 @@ fn read_bytes<S: Source>(
     ensures whole { IfOk result (λ found. IfSome found
         (λ bytes. length bytes.items ≤ most → IsAtEnd (S.left source.new))) }
     ensures failed { IfOk result (λ found. found ≡ None → S.failed source.new ≡ true) }
+    ensures name { S.named source.new ≡ S.named source.old }
     ensures memory { IsOkUnless result Fault.NoMemory }
 {
     let mut bytes = Vec::with_capacity(alloc, most)?;

@@ -1,9 +1,11 @@
-//! A law of manifests: a check reads what was printed.
+//! Laws: a check reads what was printed, and which command lines mean the same.
 
 ghost use Rattle.std.specs.Prelude.{◌≡◌, ◌≤◌, map, true, false, IfOk, IsErrOf};
 ghost use Rattle.b2sum_commands.specs.declared.options.Shape.TheVariants.{Named};
 ghost use Rattle.b2sum_commands.specs.World.{world_of};
 ghost use Rattle.b2sum_commands.specs.ReadBack.{IsManifest};
+ghost use Rattle.b2sum_commands.specs.CommandLineLaws.{FilesFollow, LettersAreWords};
+ghost use Rattle.b2sum_commands.specs.CommandLineLaws.{LettersHaveValues, NamesHaveValues};
 
 use crate::devices::{Disk, Fault, Output};
 use crate::hashes::Hashes;
@@ -32,9 +34,33 @@ pub fn print_manifest<H: Hashes, D: Disk, K: Output, E: Sink>(
     requires named { options.now.shape ≡ Named }
     requires lines { options.now.ends_zero ≡ false }
     ensures manifest { IfOk result (IsManifest
-        (world_of D.File.failed (D.files host.now.disk) H.hashing) options.now
+        (world_of host.now.program.name.items D.File.named D.File.failed
+        (D.files host.now.disk) H.hashing) options.now
         (map (λ name. name.items) names.now) session.old session.new) }
     ensures write { IsErrOf result Fault.WriteFailed → session.new.output_failed ≡ true }
 {
     print_sums(host, options, session, names)
 }
+
+/// Does nothing. Its contract says that letters may stand in one word or in several: `-ab` is
+/// `-a -b`, if `a` is the letter of an option without a value.
+pub fn letters_are_words()
+    ensures { LettersAreWords }
+{}
+
+/// Does nothing. Its contract says that the value of a letter may follow it, or be the next word:
+/// `-aVALUE` is `-a VALUE`.
+pub fn letters_have_values()
+    ensures { LettersHaveValues }
+{}
+
+/// Does nothing. Its contract says that the value of a long option may follow `=`, or be the next
+/// word: `--name=VALUE` is `--name VALUE`, also if the name is cut short.
+pub fn names_have_values()
+    ensures { NamesHaveValues }
+{}
+
+/// Does nothing. Its contract says that after `--` each word is a file, whatever it begins with.
+pub fn files_follow()
+    ensures { FilesFollow }
+{}

@@ -4,7 +4,8 @@ ghost use Rattle.std.specs.Prelude.{◌≡◌, ℕ, List, Option, [], true, leng
 ghost use Rattle.std.specs.Io.KnownBytes.{Consumes, IsAtEnd};
 ghost use Rattle.b2sum_commands.specs.LineReads.{IsCutOff, IsAfter};
 
-use blake2_streams::{DeviceError, Source};
+use crate::devices::OpenFile;
+use blake2_streams::DeviceError;
 use std::alloc::{AllocError, Global};
 use std::marker::Model;
 use text_lines::split_once;
@@ -58,15 +59,16 @@ impl LineReader {
 
     /// Reads the next line of the source into `line`, without its newline. Returns what comes after
     /// it: if that is no newline, the line is what is left, which may be nothing.
-    pub(crate) fn read_line<S: Source>(
+    pub(crate) fn read_line<S: OpenFile>(
         &mut self,
         source: &mut S,
         line: &mut Vec<u8>,
     ) -> Result<LineEnd, AllocError>
-        ensures { IfOk result (λ end. (more : List ℕ) × (rest : Option (List ℕ))
+        ensures line { IfOk result (λ end. (more : List ℕ) × (rest : Option (List ℕ))
             × Consumes (S.left source.old) rest more
             × IsCutOff end self.old more line.new.items self.new
             × IsAfter end rest (S.left source.new) (S.failed source.new ≡ true)) }
+        ensures name { S.named source.new ≡ S.named source.old }
     {
         line.clear();
         for _ in 0..u64::MAX {
@@ -88,12 +90,13 @@ impl LineReader {
 
     // Reads the next bytes of the source, in the place of those that were read before. Returns how
     // many they are: 0 at the end. The error is that of the read.
-    fn read_piece<S: Source>(&mut self, source: &mut S) -> Result<usize, DeviceError>
+    fn read_piece<S: OpenFile>(&mut self, source: &mut S) -> Result<usize, DeviceError>
         ensures count { IfOk result (λ n. n ≡ length self.new) }
         ensures bytes { IfOk result
             (λ _. Consumes (S.left source.old) (S.left source.new) self.new) }
         ensures end { IfOk result (λ n. n ≡ 0 → IsAtEnd (S.left source.new)) }
         ensures failed { IsErr result → S.failed source.new ≡ true }
+        ensures name { S.named source.new ≡ S.named source.old }
     {
         self.start = 0;
         self.end = 0;

@@ -2,6 +2,7 @@
 
 ghost use Rattle.std.specs.Prelude.{◌≡◌, ◌++◌, ◌∷◌, [], codes, IsErr, OnOk};
 ghost use Rattle.b2sum_commands.specs.World.{IsWritten, HasMessage};
+ghost use Rattle.b2sum_commands.specs.Reports.{message, count_line};
 
 use crate::devices::tell;
 use crate::quoting::quoted_name;
@@ -22,8 +23,7 @@ pub(crate) fn warn<E: Sink>(
     ensures unsaid { IsErr result → sink.new ≡ sink.old }
     ensures line { OnOk result (IsWritten (E.failed sink.old) (E.failed sink.new)
         (E.held sink.old) (E.held sink.new)
-        (program.now.name.items ++ codes ": " ++ first.now ++ second.now ++ third.now
-        ++ (10 ∷ []))) }
+        (message program.now.name.items first.now second.now third.now)) }
 {
     let mut line = Vec::new(program.alloc);
     line.extend_from_slice(program.name.as_slice())?;
@@ -91,7 +91,10 @@ pub(crate) fn warn_of_count<E: Sink>(
     count: u64,
     one: &[u8],
     several: &[u8],
-) -> Result<(), AllocError> {
+) -> Result<(), AllocError>
+    ensures { OnOk result (IsWritten (E.failed sink.old) (E.failed sink.new) (E.held sink.old)
+        (E.held sink.new) (count_line program.now.name.items count one.now several.now)) }
+{
     if count == 0 {
         return Ok(());
     }

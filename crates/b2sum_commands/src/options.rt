@@ -51,8 +51,12 @@ pub struct Options {
     pub bytes: usize,
     /// A check accepts only digests of `bytes` bytes.
     pub demands_length: bool,
+    /// A check accepts only digests of `algorithm`.
+    pub demands_algorithm: bool,
     /// The key, which has no bytes if there is none.
     pub key: Vec<u8>,
+    /// Standard input is the key, and so is no file.
+    pub input_is_key: bool,
     /// What the digests need besides a file: whether there is a key, a salt and a persona.
     pub needs: Needs,
     /// The salt: at most 16 bytes, or 8 for BLAKE2s and BLAKE2sp.
@@ -71,7 +75,7 @@ pub struct Options {
     pub ignores_missing: bool,
     /// What a check prints.
     pub report: Report,
-    /// A check fails for lines that are not properly formatted.
+    /// A check fails for lines that are not properly formatted. It always does under a key.
     pub is_strict: bool,
     /// The number of threads that read a large file for a tree, 0 for one on each processor.
     pub threads: u32,
@@ -127,6 +131,7 @@ pub(crate) fn joined(alloc: Global, a: &[u8], b: &[u8], c: &[u8]) -> Result<Vec<
 #[derive(Drop)]
 pub(crate) struct Reader {
     pub(crate) algorithm: Algorithm,
+    pub(crate) names_algorithm: bool,
     pub(crate) leaf: Option<u32>,
     pub(crate) bits: u64,
     pub(crate) bits_text: Vec<u8>,
@@ -140,7 +145,7 @@ pub(crate) struct Reader {
     pub(crate) ignores_missing: bool,
     pub(crate) report: Report,
     pub(crate) is_strict: bool,
-    pub(crate) threads: u32,
+    pub(crate) threads: Option<u32>,
     pub(crate) shows_progress: bool,
     pub(crate) has_no_names: bool,
     pub(crate) is_raw: bool,
@@ -152,6 +157,7 @@ impl Reader {
     {
         Reader {
             algorithm: Algorithm::Blake2b,
+            names_algorithm: false,
             leaf: None,
             bits: 0,
             bits_text: Vec::new(alloc),
@@ -165,7 +171,7 @@ impl Reader {
             ignores_missing: false,
             report: Report::Each,
             is_strict: false,
-            threads: 0,
+            threads: None,
             shows_progress: false,
             has_no_names: false,
             is_raw: false,
@@ -436,12 +442,15 @@ fn take_value(alloc: Global, reader: &mut Reader, flag: Flag, value: &[u8]) -> R
     ensures stop { IfErr result (StopsBy (set_value flag value.now (choice_of reader.old))) }
 {
     match flag {
-        Flag::Algorithm => reader.algorithm = algorithm_of(alloc, value)?,
+        Flag::Algorithm => {
+            reader.algorithm = algorithm_of(alloc, value)?;
+            reader.names_algorithm = true;
+        }
         Flag::KeyFile => reader.key_file = Some(copied(alloc, value)?),
         Flag::Personal => reader.persona = bytes_of(alloc, b"invalid personalization: ", value)?,
         Flag::Salt => reader.salt = bytes_of(alloc, b"invalid salt: ", value)?,
         Flag::Tree => reader.leaf = Some(leaf_of(alloc, value)?),
-        Flag::Threads => reader.threads = threads_of(alloc, value)?,
+        Flag::Threads => reader.threads = Some(threads_of(alloc, value)?),
         Flag::Length => {
             reader.bits = bits_of(alloc, value)?;
             reader.bits_text = quoted_value(alloc, value)?;

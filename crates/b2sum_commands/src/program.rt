@@ -70,7 +70,8 @@ pub fn run<H: Hashes, D: Disk, K: Output, E: Sink>(
 ) -> u8
     ensures status { result ≤ 1 }
     ensures line { (end : Option Bool) × (result ≡ status_of end) × RunsLine
-        host.now.program.name.items (world_of D.File.failed (D.files host.now.disk) H.hashing)
+        host.now.program.name.items (world_of host.now.program.name.items D.File.named D.File.failed
+        (D.files host.now.disk) H.hashing)
         (help_of host.now.program.name.items HELP.now) VERSION.now
         (command_line (map (λ word. word.items) words.now)) session.old session.new end }
     ensures refused { command_line (map (λ word. word.items) words.now) ≡ Err Refused
@@ -113,7 +114,8 @@ fn run_words<H: Hashes, D: Disk, K: Output, E: Sink>(
     words: &[Vec<u8>],
 ) -> Result<bool, Fault>
     ensures line { DoesLine
-        (world_of D.File.failed (D.files host.now.disk) H.hashing)
+        (world_of host.now.program.name.items D.File.named D.File.failed
+        (D.files host.now.disk) H.hashing)
         (help_of host.now.program.name.items HELP.now) VERSION.now
         (command_line (map (λ word. word.items) words.now)) session.old session.new
         (result_ok result) }
@@ -203,7 +205,8 @@ fn run_task<H: Hashes, D: Disk, K: Output, E: Sink>(
     requires { arguments.options.bytes ≤ 64 }
     ensures choice { (c : Choice) → AreOptions c arguments.options
         → option_map (λ name. name.items) arguments.key_file ≡ c.key_file
-        → DoesChoice (world_of D.File.failed (D.files host.now.disk) H.hashing) c
+        → DoesChoice (world_of host.now.program.name.items D.File.named D.File.failed
+        (D.files host.now.disk) H.hashing) c
         (map (λ name. name.items) arguments.files.items) session.old session.new
         (result_ok result) }
     ensures write { IsErrOf result Fault.WriteFailed → session.new.output_failed ≡ true }
@@ -222,7 +225,6 @@ fn run_task<H: Hashes, D: Disk, K: Output, E: Sink>(
     session.make_room(host.program.alloc, host.hashes.piece_bytes(&options))?;
     let names = files.as_slice();
     if options.checks {
-        session.begin_checks();
         check_manifests(host, &options, session, names)
     } else {
         print_sums(host, &options, session, names)
@@ -240,14 +242,16 @@ fn with_key<H: Hashes, D: Disk, K: Output, E: Sink>(
     ensures options { (c : Choice) → AreOptions c options
         → option_map (λ name. name.items) key_file ≡ c.key_file
         → IfOk result (λ found. IfSome found (λ o. AreOptions c o
-        × HasKey (world_of D.File.failed (D.files host.now.disk) H.hashing) session.old.left
+        × HasKey (world_of host.now.program.name.items D.File.named D.File.failed
+        (D.files host.now.disk) H.hashing) session.old.left
         c o)) }
     ensures bytes { IfOk result (λ found. IfSome found (λ o. o.bytes ≡ options.bytes)) }
     ensures held { session.new.held ≡ session.old.held }
     ensures kept { IfOk result (λ found. IfSome found (λ _. AfterKey
         (option_map (λ name. name.items) key_file) session.old session.new)) }
     ensures keyless { IfOk result (λ found. found ≡ None → IsKeyless
-        (world_of D.File.failed (D.files host.now.disk) H.hashing)
+        (world_of host.now.program.name.items D.File.named D.File.failed
+        (D.files host.now.disk) H.hashing)
         (option_map (λ name. name.items) key_file) (max_bytes options.algorithm)
         session.old session.new) }
     ensures memory { IsOkUnless result Fault.NoMemory }
@@ -257,7 +261,7 @@ fn with_key<H: Hashes, D: Disk, K: Output, E: Sink>(
     };
     let most = options.algorithm.max_bytes();
     let name = name.as_slice();
-    host.disk.keep_secrets();
+    host.disk.hide_memory();
     let messages = &mut session.messages;
     let found = if is_dash(name) {
         read_key_from(&host.program, &mut session.input, name, most, messages)?

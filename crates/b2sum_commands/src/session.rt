@@ -1,13 +1,15 @@
 //! What a run works with.
 
-ghost use Rattle.std.specs.Prelude.{◌≡◌, ◌<◌, ◌≤◌, ◌^◌, length, IfOk};
-ghost use Rattle.b2sum_commands.specs.Name.{last_part, program_name};
+ghost use Rattle.std.specs.Prelude.{◌≡◌, ◌<◌, ◌≤◌, ◌^◌, ◌∷◌, [], length, IfOk};
+ghost use Rattle.b2sum_commands.specs.Manifests.{first_spacing};
+ghost use Rattle.b2sum_commands.specs.ProgramName.{last_part, program_name};
 ghost use Rattle.b2sum_lines.specs.declared.entry.Spacing.TheVariants.{Open};
 
 use crate::devices::{OpenFile, Output};
 use crate::line_needs::Lacks;
+use crate::options::Options;
 use b2sum_lines::Spacing;
-use blake2_streams::{Sink, Source};
+use blake2_streams::Sink;
 use std::alloc::{AllocError, Global};
 use std::marker::Model;
 
@@ -75,8 +77,8 @@ pub struct Session<F: OpenFile, K: Output, E: Sink> {
 }
 
 impl<F: OpenFile, K: Output, E: Sink> Model for Session<F, K, E> {
-    ghost use Rattle.std.specs.Prelude.{◌<◌, ◌≤◌, ◌^◌, length};
-    ghost use Rattle.b2sum_commands.specs.Found.{Streams};
+    ghost use Rattle.std.specs.Prelude.{◌≡◌, ◌<◌, ◌≤◌, ◌^◌, ◌∷◌, [], length};
+    ghost use Rattle.b2sum_commands.specs.World.{Streams};
 
     ghost Value = { Streams };
 
@@ -89,13 +91,15 @@ impl<F: OpenFile, K: Output, E: Sink> Model for Session<F, K, E> {
       spacing = s.spacing;
     } };
 
-    ghost invariant = { λ s. (0 < length s.buffer.items) × (length s.buffer.items ≤ 2 ^ 24) };
+    ghost invariant = { λ s. (0 < length s.buffer.items) × (length s.buffer.items ≤ 2 ^ 24)
+        × (F.named s.input ≡ 45 ∷ []) };
 }
 
 impl<F: OpenFile + Drop, K: Output + Drop, E: Sink + Drop> Session<F, K, E> {
-    /// Returns a session with this standard input, output and messages. The error is that of the
-    /// allocator, for a buffer of 64 KiB.
+    /// Returns a session with this standard input, which has the name `-`, output and messages. The
+    /// error is that of the allocator, for a buffer of 64 KiB.
     pub fn new(alloc: Global, input: F, output: K, messages: E) -> Result<Self, AllocError>
+        requires { F.named input ≡ 45 ∷ [] }
         ensures { IfOk result (λ s. s ≡ record {
           left = F.left input;
           held = K.held output;
@@ -118,11 +122,17 @@ impl<F: OpenFile + Drop, K: Output + Drop, E: Sink + Drop> Session<F, K, E> {
 }
 
 impl<F: OpenFile, K: Output, E: Sink> Session<F, K, E> {
-    /// Begins the check of manifests, whose spacing is not known yet.
-    pub(crate) fn begin_checks(&mut self)
-        ensures { self.new ≡ record self.old { spacing = Open } }
+    /// Begins the check of a manifest, whose spacing is not known yet. Under a key it has two bytes
+    /// before each name.
+    pub(crate) fn begin_manifest(&mut self, options: &Options)
+        ensures { self.new ≡ record self.old { spacing = first_spacing options.now } }
     {
-        self.spacing = Spacing::Open;
+        self.spacing = if options.needs.key {
+            Spacing::Two
+        } else {
+            Spacing::Open
+        };
+        self.lacks = Lacks::none();
     }
 
     /// Makes room for reads of this many bytes.

@@ -3,7 +3,7 @@
 ghost use Rattle.std.specs.Prelude.{◌++◌, ◌∷◌, []};
 ghost use Rattle.hex.specs.Hex.{encode_lower};
 ghost use Rattle.b2sum_commands.specs.Sums.{printed, end_of};
-ghost use Rattle.std.specs.Prelude.{◌≡◌, ℕ, ◌≤◌, List, length, map, take, true, false, IfOk};
+ghost use Rattle.std.specs.Prelude.{◌≡◌, ◌≢◌, ℕ, ◌≤◌, List, length, map, take, true, false, IfOk};
 ghost use Rattle.std.specs.Prelude.{IsErrOf, IsOkUnless};
 ghost use Rattle.std.specs.Result.{result_ok};
 ghost use Rattle.b2sum_commands.specs.declared.sums.Read.TheVariants.{Whole, Missing, Failed};
@@ -16,7 +16,7 @@ use crate::messages::warn_of_file;
 use crate::options::{Options, Shape};
 use crate::session::{Host, Session};
 use b2sum_lines::{Entry, write_line, write_plain_line};
-use blake2_streams::{Sink, Source};
+use blake2_streams::Sink;
 use std::alloc::Global;
 use std::io;
 
@@ -49,9 +49,11 @@ pub(crate) fn digest_file<H: Hashes, D: Disk, K: Output, E: Sink>(
         × (is_dash name.now ≡ false) × ((D.files host.now.disk).refuses name.now ≡ true)
         × ((D.files host.now.disk).lacks name.now ≡ true)) }
     ensures failed { IfOk result (λ read. read ≡ Failed → CannotSum
-        (world_of D.File.failed (D.files host.now.disk) H.hashing)
+        (world_of host.now.program.name.items D.File.named D.File.failed
+        (D.files host.now.disk) H.hashing)
         options.now function name.now) }
     ensures told { IfOk result (λ read. read ≡ Failed → IsTold session.old session.new) }
+    ensures silent { IfOk result (λ read. read ≢ Failed → session.new.told ≡ session.old.told) }
     ensures leaves { Leaves (is_dash name.now) session.old.left session.new.left }
     ensures quiet { IsQuiet session.old session.new }
     ensures memory { IsOkUnless result Fault.NoMemory }
@@ -104,7 +106,8 @@ pub fn print_sums<H: Hashes, D: Disk, K: Output, E: Sink>(
 ) -> Result<bool, Fault>
     requires { options.now.bytes ≤ 64 }
     ensures lines { AllInTurn (IsSum
-        (world_of D.File.failed (D.files host.now.disk) H.hashing) options.now)
+        (world_of host.now.program.name.items D.File.named D.File.failed
+        (D.files host.now.disk) H.hashing) options.now)
         (map (λ name. name.items) names.now) session.old session.new (result_ok result) }
     ensures write { IsErrOf result Fault.WriteFailed → session.new.output_failed ≡ true }
 {
@@ -124,7 +127,8 @@ fn print_sum<H: Hashes, D: Disk, K: Output, E: Sink>(
     name: &[u8],
 ) -> Result<bool, Fault>
     requires { options.now.bytes ≤ 64 }
-    ensures line { IsSum (world_of D.File.failed (D.files host.now.disk) H.hashing)
+    ensures line { IsSum (world_of host.now.program.name.items D.File.named D.File.failed
+        (D.files host.now.disk) H.hashing)
         options.now name.now session.old session.new (result_ok result) }
     ensures write { IsErrOf result Fault.WriteFailed → session.new.output_failed ≡ true }
 {

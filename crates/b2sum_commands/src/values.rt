@@ -51,11 +51,14 @@ pub(crate) fn algorithm_of(alloc: Global, value: &[u8]) -> Result<Algorithm, Sto
     Err(Stop::Usage(text))
 }
 
-// Returns the bytes that hexadecimal digits write.
+// Returns the bytes that hexadecimal digits write: at least one.
 pub(crate) fn bytes_of(alloc: Global, line: &[u8], value: &[u8]) -> Result<Vec<u8>, Stop>
     ensures bytes { IfOk result (λ bytes. bytes_in value.now ≡ Some bytes.items) }
     ensures stop { IfErr result (IsWrong (bytes_in value.now)) }
 {
+    if value.is_empty() {
+        return Err(wrong_value(alloc, line, value, b"the value has no digits"));
+    }
     match hex::decode(alloc, value) {
         Ok(bytes) => Ok(bytes),
         Err(FromHexError::OutOfMemory) => Err(Stop::NoMemory),

@@ -125,7 +125,8 @@ fn entry_with(
 ) -> Result<Option<Entry>, AllocError>
     requires { length digest.items ≤ 64 }
     ensures entry { IfOk result (λ entry. option_map entry_value entry
-        ≡ entry_with algorithm is_escaped digest.items (record { style = style; text = text.now })) }
+        ≡ entry_with algorithm is_escaped digest.items
+        (record { style = style; text = text.now })) }
     ensures fits { IfOk result (λ entry. IfSome entry (λ e. length e.digest.items ≤ 64)) }
 {
     let Some(name) = name_of(alloc, is_escaped, text)? else {
@@ -139,7 +140,8 @@ fn entry_with(
     }))
 }
 
-// Returns the digest of hexadecimal digits, or `None` if they are none of the algorithm.
+// Returns the digest of hexadecimal digits, or `None` if they are none of the algorithm. More
+// digits than the longest digest has are not decoded, so that a long line costs no memory.
 fn digest_of(
     alloc: Global,
     algorithm: Algorithm,
@@ -149,6 +151,9 @@ fn digest_of(
         (λ digest. option_map (λ d. d.items) digest ≡ digest_of algorithm digits.now) }
     ensures fits { IfOk result (λ digest. IfSome digest (λ d. length d.items ≤ 64)) }
 {
+    if digits.len() > 2 * algorithm.max_bytes() {
+        return Ok(None);
+    }
     match hex::decode(alloc, digits) {
         Ok(digest) => {
             if digest.is_empty() || digest.len() > algorithm.max_bytes() {

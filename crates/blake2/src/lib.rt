@@ -47,6 +47,7 @@ pub use blake2_digest as digest;
 pub use blake2_digest::{Digest, LastNode};
 pub use blake2_replay::calls;
 pub use blake2_simd::rows;
+pub use blake2_streams as engine;
 pub use blake2_streams as streams;
 pub use cores::blake2b::Blake2bVarCore;
 pub use cores::blake2s::Blake2sVarCore;
@@ -54,6 +55,7 @@ pub use hashers::blake2b::Blake2b;
 pub use hashers::blake2s::Blake2s;
 pub use macs::blake2b::Blake2bMac;
 pub use macs::blake2s::Blake2sMac;
+pub use transcripts as steps;
 
 /// BLAKE2b with digests of 16 bytes.
 pub type Blake2b128 = Blake2b<16>;

@@ -7,7 +7,7 @@ pub mod RunSizes
 pub mod Runs
 pub mod JoinedBlocks
 pub mod Sigma
-pub mod Cells
+pub mod WordsByIndex
 pub mod Marks
 pub mod ParameterTexts
 pub mod Loads

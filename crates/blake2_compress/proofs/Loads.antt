@@ -7,7 +7,7 @@ use Rattle.blake2_simd.specs.Family.{Family, blake2b, blake2s, word, word_bytes}
 use Rattle.blake2_simd.specs.Rows.{four, word_at}
 use Rattle.blake2_compress.specs.Hash.{words_of}
 use Rattle.blake2_simd.proofs.Words.{cells-drop}
-use Rattle.blake2_compress.proofs.Cells.{words_of-at}
+use Rattle.blake2_compress.proofs.WordsByIndex.{words_of-at}
 use Rattle.blake2_compress.proofs.ByteSizes.{length-words_of}
 
 -- A part of a part.

@@ -7,4 +7,5 @@ mod building_blocks;
 mod hashes;
 mod macs;
 mod run_time_sizes;
+mod runs;
 mod trees;

@@ -1,6 +1,6 @@
 //! BLAKE2b with sizes that are chosen at run time.
 
-ghost use Rattle.std.specs.Prelude.{◌≡◌, ◌↔◌, ◌+◌, ◌-◌, ◌^◌, ◌<◌, ◌≤◌, ◌++◌, [], length, drop};
+ghost use Rattle.std.specs.Prelude.{◌≡◌, ◌↔◌, ◌+◌, ◌-◌, ◌^◌, ◌<◌, ◌≤◌, [], length};
 ghost use Rattle.std.specs.Prelude.{slice_index, pos, negsuc, None, IsTrue};
 ghost use Rattle.blake2.specs.Cores.{node_parameters};
 ghost use Rattle.blake2.specs.Family.{blake2b};
@@ -11,7 +11,7 @@ ghost use Rattle.blake2_digest.specs.States.{Fresh, NodeSet, Updated, StartedAga
 ghost use Rattle.blake2_state.specs.Arguments.{given_key, given_count, digest_given, Admits};
 ghost use Rattle.blake2_state.specs.Arguments.{parameters_given};
 ghost use Rattle.blake2_state.specs.Blake2b.{IsReady, IsReadyFor, meaning, zeros};
-ghost use Rattle.blake2_state.specs.Blocks.{block_digest, AdmitsBlock};
+ghost use Rattle.blake2_state.specs.RawParameterBlocks.{block_digest, AdmitsBlock};
 ghost use Rattle.blake2_state.specs.States.{is_on};
 ghost use Rattle.blake2_ffi.specs.Status.{Returns};
 ghost use Rattle.blake2_ffi.specs.Trees.{given_tree};
@@ -25,7 +25,7 @@ use blake2_state::StateParameters;
 use blake2_state::blake2b::State;
 
 // Bytes of the stack that `initialize` and `write_keyed` reach with all that they call, rounded
-// up, as built by LLVM for x86-64-v2 and for x86-64-v3.
+// up, as built by LLVM for x86-64-v2, v3 and v4, and for 64-bit ARM.
 const INIT_BYTES: usize = 1024;
 
 const WRITE_BYTES: usize = 3072;
@@ -295,28 +295,27 @@ pub extern "C" fn vulfsjor_ffi_blake2b_update(state: &mut State, input: &[u8]) -
 #[inline(never)]
 fn finalize(state: &mut State, out: &mut [u8])
     requires ready { IsReady state.old }
-    requires room { state.old.output_size ≤ length out.old }
-    ensures output { out.new ≡ digest_now meaning state.old ++ drop state.old.output_size out.old }
+    requires whole { length out.old ≡ state.old.output_size }
+    ensures output { out.new ≡ digest_now meaning state.old }
     ensures wiped { state.new ≡ zeros }
 {
     state.write_digest(out);
     state.wipe();
 }
 
-/// Writes the digest at the beginning of `out`, and wipes the state, which is then not ready.
-/// What is in `out` after the digest stays as it is. Returns 0, or -1 if the state is not ready
-/// or `out` has less room than the digest; nothing is then written, and the state stays as it is.
+/// Writes the digest to `out`, and wipes the state, which is then not ready. Returns 0, or -1 if
+/// the state is not ready or `out` is longer or shorter than the digest; nothing is then written,
+/// and the state stays as it is.
 #[unsafe(no_mangle)]
 pub extern "C" fn vulfsjor_ffi_blake2b_final(state: &mut State, out: &mut [u8]) -> i32
     ensures status { Returns result
-        (IsReady state.old × (state.old.output_size ≤ length out.old)) }
-    ensures output { result ≡ pos 0
-        → out.new ≡ digest_now meaning state.old ++ drop state.old.output_size out.old }
+        (IsReady state.old × (length out.old ≡ state.old.output_size)) }
+    ensures output { result ≡ pos 0 → out.new ≡ digest_now meaning state.old }
     ensures wiped { result ≡ pos 0 → state.new ≡ zeros }
     ensures same { result ≡ negsuc 0 → state.new ≡ state.old }
     ensures nothing { result ≡ negsuc 0 → out.new ≡ out.old }
 {
-    if !state.is_ready() || out.len() < state.output_size {
+    if !state.is_ready() || out.len() != state.output_size {
         return -1;
     }
     let has_key = has_key_pending(state);

@@ -1,27 +1,27 @@
 //! BLAKE2bp with sizes that are chosen at run time.
 
-ghost use Rattle.std.specs.Prelude.{◌≡◌, ◌↔◌, ◌+◌, ◌-◌, ◌^◌, ◌<◌, ◌≤◌, ◌++◌, [], length, drop};
+ghost use Rattle.std.specs.Prelude.{◌≡◌, ◌↔◌, ◌+◌, ◌-◌, ◌^◌, ◌<◌, ◌≤◌, [], length};
 ghost use Rattle.std.specs.Prelude.{pos, negsuc, IsTrue};
 ghost use Rattle.blake2.specs.Family.{blake2b};
 ghost use Rattle.blake2_digest.specs.States.{Fresh, Updated, StartedAgain, digest_now};
-ghost use Rattle.blake2_parallel.specs.Blake2b.{IsReady, IsReadyFor, meaning, zeros};
+ghost use Rattle.blake2_parallel.specs.Blake2bp.{IsReady, IsReadyFor, meaning, zeros};
 ghost use Rattle.blake2_parallel.specs.Parallel.{Admits, digests, key_count, parallel_digest};
 ghost use Rattle.blake2_parallel.specs.Parallel.{settings};
 ghost use Rattle.blake2_ffi.specs.Status.{Returns};
 
 use blake2_digest::scrub_stack;
-use blake2_parallel::blake2b::State;
+use blake2_parallel::blake2bp::State;
 
 // Bytes of the stack that `initialize` and `write` reach with all that they call, rounded up, as
-// built by LLVM for x86-64-v2, v3 and v4.
-const INIT_BYTES: usize = 2304;
+// built by LLVM for x86-64-v2, v3 and v4, and for 64-bit ARM.
+const INIT_BYTES: usize = 5120;
 
-const WRITE_BYTES: usize = 7168;
+const WRITE_BYTES: usize = 8704;
 
 // The same of `absorb`, of `finalize` and `is_digest_of`, and of `start_again`.
 const UPDATE_BYTES: usize = 3072;
 
-const FINAL_BYTES: usize = 4096;
+const FINAL_BYTES: usize = 5632;
 
 const RESET_BYTES: usize = 1792;
 
@@ -198,28 +198,27 @@ pub extern "C" fn vulfsjor_ffi_blake2bp_update(state: &mut State, input: &[u8]) 
 #[inline(never)]
 fn finalize(state: &mut State, out: &mut [u8])
     requires ready { IsReady state.old }
-    requires room { state.old.output_size ≤ length out.old }
-    ensures output { out.new ≡ digest_now meaning state.old ++ drop state.old.output_size out.old }
+    requires whole { length out.old ≡ state.old.output_size }
+    ensures output { out.new ≡ digest_now meaning state.old }
     ensures wiped { state.new ≡ zeros }
 {
     state.write_digest(out);
     state.wipe();
 }
 
-/// Writes the digest at the beginning of `out`, and wipes the state, which is then not ready.
-/// What is in `out` after the digest stays as it is. Returns 0, or -1 if the state is not ready
-/// or `out` has less room than the digest; nothing is then written, and the state stays as it is.
+/// Writes the digest to `out`, and wipes the state, which is then not ready. Returns 0, or -1 if
+/// the state is not ready or `out` is longer or shorter than the digest; nothing is then written,
+/// and the state stays as it is.
 #[unsafe(no_mangle)]
 pub extern "C" fn vulfsjor_ffi_blake2bp_final(state: &mut State, out: &mut [u8]) -> i32
     ensures status { Returns result
-        (IsReady state.old × (state.old.output_size ≤ length out.old)) }
-    ensures output { result ≡ pos 0
-        → out.new ≡ digest_now meaning state.old ++ drop state.old.output_size out.old }
+        (IsReady state.old × (length out.old ≡ state.old.output_size)) }
+    ensures output { result ≡ pos 0 → out.new ≡ digest_now meaning state.old }
     ensures wiped { result ≡ pos 0 → state.new ≡ zeros }
     ensures same { result ≡ negsuc 0 → state.new ≡ state.old }
     ensures nothing { result ≡ negsuc 0 → out.new ≡ out.old }
 {
-    if !state.is_ready() || out.len() < state.output_size {
+    if !state.is_ready() || out.len() != state.output_size {
         return -1;
     }
     let has_key = has_key_pending(state);

@@ -1,23 +1,24 @@
+// Made by tools/twins.py from src/blake2xb.rt.
 //! BLAKE2Xs: outputs of any length, which are read in pieces, and keys derived from a key.
 
 ghost use Rattle.std.specs.Prelude.{◌≡◌, ◌+◌, ◌-◌, ◌^◌, ◌<◌, ◌≤◌, [], length, take, drop};
-ghost use Rattle.std.specs.Prelude.{pos, negsuc};
+ghost use Rattle.std.specs.Prelude.{pos, negsuc, replicate};
 ghost use Rattle.blake2_simd.specs.Family.{blake2s};
 ghost use Rattle.blake2_digest.specs.States.{Fresh, Updated, StartedAgain};
 ghost use Rattle.blake2_state.specs.Arguments.{given_count};
 ghost use Rattle.blake2_state.specs.Blake2s as Root;
-ghost use Rattle.blake2_xof.specs.Blake2s.{HasSqueezed, IsAbsorbing, IsReady, length_of, meaning};
-ghost use Rattle.blake2_xof.specs.Blake2s.{output_now, zeros};
+ghost use Rattle.blake2_xof.specs.Blake2xs.{HasSqueezed, IsAbsorbing, IsReady, length_of, meaning};
+ghost use Rattle.blake2_xof.specs.Blake2xs.{output_now, zeros};
 ghost use Rattle.blake2_xof.specs.Xof.{Admits, CanDerive, IsKnown, derived, outputs, settings, xof};
 ghost use Rattle.blake2_ffi.specs.Status.{Returns};
 
 use blake2_digest::scrub_stack;
 use blake2_state::blake2s as root;
-use blake2_xof::blake2s::State;
-use blake2_xof::reader::blake2s::UNKNOWN_LENGTH;
+use blake2_xof::blake2xs::State;
+use blake2_xof::reader::blake2xs::UNKNOWN_LENGTH;
 
 // Bytes of the stack that `initialize` and `write` reach with all that they call, rounded up, as
-// built by LLVM for x86-64-v2, v3 and v4.
+// built by LLVM for x86-64-v2, v3 and v4, and for 32-bit ARM.
 const INIT_BYTES: usize = 2304;
 
 const WRITE_BYTES: usize = 7168;
@@ -244,12 +245,14 @@ fn start_again(state: &mut State)
     ensures absorbing { IsAbsorbing state.new }
     ensures xof_length { state.new.reader.xof_length ≡ state.old.reader.xof_length }
     ensures reset { StartedAgain meaning state.old state.new }
+    ensures root_hash { state.new.reader.root ≡ replicate 32 0 }
 {
     state.reset();
 }
 
 /// Brings the state back to its start: it has then absorbed no message, under the same parameters
-/// and key. Returns 0, or -1 if the state is not ready; the state then stays as it is.
+/// and key. A root hash that was read is overwritten with zeros. Returns 0, or -1 if the state is
+/// not ready; the state then stays as it is.
 #[unsafe(no_mangle)]
 pub extern "C" fn vulfsjor_ffi_blake2xs_reset(state: &mut State) -> i32
     ensures status { Returns result (IsReady state.old) }
@@ -257,6 +260,7 @@ pub extern "C" fn vulfsjor_ffi_blake2xs_reset(state: &mut State) -> i32
     ensures xof_length { result ≡ pos 0
         → state.new.reader.xof_length ≡ state.old.reader.xof_length }
     ensures reset { result ≡ pos 0 → StartedAgain meaning state.old state.new }
+    ensures root_hash { result ≡ pos 0 → state.new.reader.root ≡ replicate 32 0 }
     ensures same { result ≡ negsuc 0 → state.new ≡ state.old }
 {
     if !state.is_ready() {

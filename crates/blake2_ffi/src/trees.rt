@@ -1,6 +1,6 @@
 //! The root of a tree of hashes with two levels over BLAKE2b, as the crate `blake2_tree` has it.
 
-ghost use Rattle.std.specs.Prelude.{◌≡◌, ℕ, ◌<◌, ◌≤◌, ◌^◌, ◌*◌, ◌%◌, List, [], ◌++◌, length, drop};
+ghost use Rattle.std.specs.Prelude.{◌≡◌, ℕ, ◌<◌, ◌≤◌, ◌^◌, ◌*◌, ◌%◌, List, [], length};
 ghost use Rattle.std.specs.Prelude.{◌+◌, pos, negsuc, false};
 ghost use Rattle.blake2_simd.specs.Family.{blake2b};
 ghost use Rattle.blake2_compress.specs.Hash.{digest};
@@ -212,21 +212,19 @@ pub extern "C" fn vulfsjor_ffi_tree_update_leaves(
     0
 }
 
-/// Writes the root of all that was absorbed at the beginning of `out`, and wipes the state, which
-/// is then not ready. What is in `out` after the root stays as it is. Returns 0, or -1 if the
-/// state is not ready or `out` has less room than the root; nothing is then written, and the
-/// state stays as it is.
+/// Writes the root of all that was absorbed to `out`, and wipes the state, which is then not ready.
+/// Returns 0, or -1 if the state is not ready or `out` is longer or shorter than the root; nothing
+/// is then written, and the state stays as it is.
 #[unsafe(no_mangle)]
 pub extern "C" fn vulfsjor_ffi_tree_final(state: &mut TreeState, out: &mut [u8]) -> i32
     ensures status { Returns result
-        (IsReady state.old × (state.old.root.output_size ≤ length out.old)) }
-    ensures output { result ≡ pos 0
-        → out.new ≡ future state.old [] ++ drop state.old.root.output_size out.old }
+        (IsReady state.old × (length out.old ≡ state.old.root.output_size)) }
+    ensures output { result ≡ pos 0 → out.new ≡ future state.old [] }
     ensures wiped { result ≡ pos 0 → state.new ≡ zeros }
     ensures same { result ≡ negsuc 0 → state.new ≡ state.old }
     ensures nothing { result ≡ negsuc 0 → out.new ≡ out.old }
 {
-    if !state.is_ready() || out.len() < state.root.output_size {
+    if !state.is_ready() || out.len() != state.root.output_size {
         return -1;
     }
     state.write_root(out);

@@ -1,5 +1,5 @@
-//! The examples of the README, word for word (`tests/pages.py` compares them), and what
-//! they return.
+//! The examples of `crates/blake2/CALLING.md`, word for word (`tests/pages.py` compares them), and
+//! what they return.
 
 use crate::checks::check_digits;
 use blake2::digest::{InvalidLength, Mac};

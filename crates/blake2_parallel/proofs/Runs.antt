@@ -153,15 +153,12 @@ leaf_chain-held f h c n x y j lane whole fits =
 
 -- One more block.
 pub one_more : (f : Family) (flags : Flags) (h new : List ℕ) (c d : ℕ) (y block rest : List ℕ)
-    → block_bytes f < length y → block ≡ padded (block_bytes f) (take (block_bytes f) y)
+    → block_bytes f < length y → block ≡ take (block_bytes f) y
     → new ≡ compress f h block d inner → d ≡ c + block_bytes f → rest ≡ drop (block_bytes f) y
     → last_chain f new d rest flags ≡ last_chain f h c y flags
 one_more f flags h new c d y block rest more is compressed counted left =
-    let whole : block ≡ take (block_bytes f) y =
-    is ∙ padded-whole (block_bytes f) (take (block_bytes f) y)
-    (length-take-le (block_bytes f) y (omega arith)) in
     (λ i. last_chain f (compressed i) d (left i) flags)
-    ∙ (λ i. last_chain f (compress f h (whole i) (counted i) inner) (counted i)
+    ∙ (λ i. last_chain f (compress f h (is i) (counted i) inner) (counted i)
     (drop (block_bytes f) y) flags)
     ∙ sym (last_chain-block f flags h c y more)
 

@@ -2,12 +2,12 @@
 use Rattle.std.specs.Prelude.{ℕ}
 use Rattle.blake2_simd.specs.Family.{blake2b, blake2s}
 use Rattle.blake2_digest.specs.States.{Meaning}
-use Rattle.blake2_parallel.specs.declared.hashers.blake2b.Blake2bp.{Blake2bp}
-use Rattle.blake2_parallel.specs.declared.hashers.blake2s.Blake2sp.{Blake2sp}
-use Rattle.blake2_parallel.specs.declared.macs.blake2b.Blake2bpMac.{Blake2bpMac}
-use Rattle.blake2_parallel.specs.declared.macs.blake2s.Blake2spMac.{Blake2spMac}
-use Rattle.blake2_parallel.specs.Blake2b as B
-use Rattle.blake2_parallel.specs.Blake2s as S
+use Rattle.blake2_parallel.specs.declared.hashers.blake2bp.Blake2bp.{Blake2bp}
+use Rattle.blake2_parallel.specs.declared.hashers.blake2sp.Blake2sp.{Blake2sp}
+use Rattle.blake2_parallel.specs.declared.macs.blake2bp.Blake2bpMac.{Blake2bpMac}
+use Rattle.blake2_parallel.specs.declared.macs.blake2sp.Blake2spMac.{Blake2spMac}
+use Rattle.blake2_parallel.specs.Blake2bp as B
+use Rattle.blake2_parallel.specs.Blake2sp as S
 use Rattle.blake2_parallel.specs.States.{meaning_by}
 
 -- The meaning of a BLAKE2bp hasher: the digests of n bytes that it will return, and the bytes that

@@ -1,4 +1,4 @@
 //! The hashers.
 
-pub mod blake2b;
-pub mod blake2s;
+pub mod blake2bp;
+pub mod blake2sp;

@@ -4,13 +4,13 @@
 
 #![tactic(auto)]
 
-pub mod blake2b;
-pub mod blake2s;
+pub mod blake2bp;
+pub mod blake2sp;
 pub mod hashers;
 pub mod lanes;
 pub mod macs;
 
-pub use hashers::blake2b::Blake2bp;
-pub use hashers::blake2s::Blake2sp;
-pub use macs::blake2b::Blake2bpMac;
-pub use macs::blake2s::Blake2spMac;
+pub use hashers::blake2bp::Blake2bp;
+pub use hashers::blake2sp::Blake2sp;
+pub use macs::blake2bp::Blake2bpMac;
+pub use macs::blake2sp::Blake2spMac;

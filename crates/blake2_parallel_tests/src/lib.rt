@@ -3,9 +3,9 @@
 #![tactic(auto)]
 
 #[cfg(test)]
-mod blake2b;
+mod blake2bp;
 #[cfg(test)]
-mod blake2s;
+mod blake2sp;
 #[cfg(test)]
 mod checks;
 #[cfg(test)]

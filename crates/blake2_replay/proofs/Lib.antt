@@ -4,4 +4,4 @@ mod LiveCalls
 mod Placing
 mod Playing
 mod SlotPlaces
-mod Standing
+mod StandsForLaws

@@ -17,7 +17,7 @@ use Rattle.blake2_replay.specs.Play.{count_of, slot_of, leaves, play_live, play_
 use Rattle.blake2_replay.specs.Holding.{SlotHolds, HasPlayed, PlaysOrFails}
 use Rattle.blake2_replay.proofs.CallsOnSlots.{Live}
 use Rattle.blake2_replay.proofs.SlotPlaces.{AllHold-set, AllHold-push}
-use Rattle.blake2_replay.proofs.Standing.{StandsFor-updated, StandsFor-reset, digest_stands}
+use Rattle.blake2_replay.proofs.StandsForLaws.{StandsFor-updated, StandsFor-reset, digest_stands}
 
 -- What a call on a live slot leaves, by its kind.
 module _ {S : Type 0} {m : Meaning S} {first : S} {slots : Slots} {states : List

@@ -1,3 +1,4 @@
+-- Made by tools/twins.py from specs/Blake2b.antt.
 -- What a plain state of BLAKE2s means.
 use Rattle.std.specs.Prelude.{◌≡◌, ℕ, ◌+◌, ◌^◌, ◌<◌, ◌≤◌, take, replicate}
 use Rattle.blake2_simd.specs.Family.{blake2s}

@@ -1,6 +1,6 @@
 pub mod Arguments
 pub mod Blake2b
 pub mod Blake2s
-pub mod Blocks
+pub mod RawParameterBlocks
 pub mod States
 pub mod TreeStates

@@ -8,7 +8,7 @@ ghost use Rattle.blake2_compress.specs.Views.{given_parameters, tree_of};
 ghost use Rattle.blake2_digest.specs.States.{Fresh, NodeSet, Updated, StartedAgain, digest_now};
 ghost use Rattle.blake2_state.specs.Arguments.{Admits, given_count, digest_given, digest_under};
 ghost use Rattle.blake2_state.specs.Arguments.{parameters_given};
-ghost use Rattle.blake2_state.specs.Blocks.{block_digest, AdmitsBlock};
+ghost use Rattle.blake2_state.specs.RawParameterBlocks.{block_digest, AdmitsBlock};
 ghost use Rattle.blake2_state.specs.Blake2b.{IsReady, meaning, zeros};
 ghost use Rattle.blake2_state.specs.States.{is_on};
 
@@ -169,8 +169,9 @@ impl State {
         Self::init_tree(given, &Tree::sequential())
     }
 
-    /// Returns whether BLAKE2b accepts these tree parameters: at least one level and an inner
-    /// node's digest of at most 64 bytes (the BLAKE2 document, 2.8 and 2.10).
+    /// Returns whether BLAKE2b accepts these tree parameters: at least one level, a node offset
+    /// below 2^64, and an inner node's digest of at most 64 bytes (the BLAKE2 document, 2.8 and
+    /// 2.10).
     pub fn admits_tree(tree: &Tree) -> bool
         ensures { IsTrue result ↔ AdmitsTree blake2b (tree_of tree.now) }
     {

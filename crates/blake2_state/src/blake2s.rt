@@ -1,3 +1,4 @@
+// Made by tools/twins.py from src/blake2b.rt.
 //! BLAKE2s, with a state of plain numbers.
 
 ghost use Rattle.std.specs.Prelude.{◌≡◌, ◌+◌, ◌^◌, ◌<◌, ◌≤◌, ◌↔◌, [], ◌∷◌, ◌++◌, length, drop};
@@ -8,7 +9,7 @@ ghost use Rattle.blake2_compress.specs.Views.{given_parameters, tree_of};
 ghost use Rattle.blake2_digest.specs.States.{Fresh, NodeSet, Updated, StartedAgain, digest_now};
 ghost use Rattle.blake2_state.specs.Arguments.{Admits, given_count, digest_given, digest_under};
 ghost use Rattle.blake2_state.specs.Arguments.{parameters_given};
-ghost use Rattle.blake2_state.specs.Blocks.{block_digest, AdmitsBlock};
+ghost use Rattle.blake2_state.specs.RawParameterBlocks.{block_digest, AdmitsBlock};
 ghost use Rattle.blake2_state.specs.Blake2s.{IsReady, meaning, zeros};
 ghost use Rattle.blake2_state.specs.States.{is_on};
 
@@ -157,8 +158,8 @@ impl State {
     }
 
     /// Returns a state of these parameters that has absorbed no message: a digest of 1 to 32
-    /// bytes, a key of up to 32 (no bytes mean no key), a salt and a persona of up to 8 each. The
-    /// last-node flag is off. The error is `InvalidLength`, exactly for other lengths.
+    /// bytes, a key of up to 32 (no bytes mean no key), a salt and a persona of up to 8 each.
+    /// The last-node flag is off. The error is `InvalidLength`, exactly for other lengths.
     pub fn init_salt_personal(given: &StateParameters<'_>) -> Result<Self, InvalidLength>
         ensures refused { IsErr result ↔ ¬ Admits blake2s (parameters_given given.now sequential) }
         ensures ready { IfOk result (λ s. IsReady s) }

@@ -5,7 +5,8 @@ ghost use Rattle.std.specs.Prelude.{◌≡◌, ◌↔◌, ◌≤◌, ◌||◌, l
 ghost use Rattle.std.specs.Prelude.{true, false};
 ghost use Rattle.std.specs.Io.{WritesAtMost};
 ghost use Rattle.std.specs.Io.KnownBytes.{WriteAppends};
-ghost use Rattle.blake2_streams.specs.Devices.{is_failed_write, SinkState, write_count, taken_state};
+ghost use Rattle.blake2_streams.specs.Devices.{is_failed_write, SinkState, write_count};
+ghost use Rattle.blake2_streams.specs.Devices.{taken_state};
 
 use super::device::{DeviceError, Sink};
 use std::marker::Model;

@@ -6,5 +6,5 @@ pub mod Pairs
 pub mod RunEntries
 pub mod KeyAndMessage
 pub mod Readable
-pub mod Front
+pub mod LastDifference
 pub mod EqualTranscripts

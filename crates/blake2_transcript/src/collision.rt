@@ -4,4 +4,4 @@
 
 pub mod blake2b;
 pub mod blake2s;
-mod inputs;
+mod same_inputs;

@@ -11,7 +11,7 @@ use Rattle.blake2_compress.proofs.RunSizes.{length-bytes_of, length-digest}
 use Rattle.blake2_compress.proofs.WordSizes.{length-compress}
 use Rattle.blake2_xof.specs.Xof.{Settings, block_input, block_parameters, block_size, output_block}
 use Rattle.blake2_xof.specs.Xof.{output_blocks, output_length, stream}
-use Rattle.blake2_xof.proofs.Joined.{drop-joined, joined, joined-range, read-joined, read_whole-joined}
+use Rattle.blake2_xof.proofs.JoinedLists.{drop-joined, joined, joined-range, read-joined, read_whole-joined}
 
 one_block : (f : Family) (n : ℕ) → n ≤ block_bytes f → block_count f n ≡ 1
 one_block blake2b n fits = omega arith

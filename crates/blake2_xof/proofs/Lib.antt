@@ -1,4 +1,4 @@
-pub mod Joined
+pub mod JoinedLists
 pub mod Blocks
 pub mod Reading
 pub mod Texts

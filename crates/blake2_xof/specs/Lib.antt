@@ -1,4 +1,4 @@
 pub mod Xof
 pub mod States
-pub mod Blake2b
-pub mod Blake2s
+pub mod Blake2xb
+pub mod Blake2xs

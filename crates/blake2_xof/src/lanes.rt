@@ -1,4 +1,4 @@
 //! Several blocks in parallel, one in each lane of the vectors.
 
-pub mod blake2b;
-pub mod blake2s;
+pub mod blake2xb;
+pub mod blake2xs;

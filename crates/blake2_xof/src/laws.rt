@@ -6,11 +6,11 @@ ghost use Rattle.blake2_xof.specs.Xof.{DerivationsDiffer};
 
 /// States the law that two derivations of BLAKE2Xb hash the same only if they have the same key,
 /// context and length.
-pub fn derivations_differ_blake2b()
+pub fn derivations_differ_blake2xb()
     ensures { DerivationsDiffer blake2b }
 {}
 
 /// States the same law of BLAKE2Xs.
-pub fn derivations_differ_blake2s()
+pub fn derivations_differ_blake2xs()
     ensures { DerivationsDiffer blake2s }
 {}

@@ -2,8 +2,8 @@
 
 #![tactic(auto)]
 
-pub mod blake2b;
-pub mod blake2s;
+pub mod blake2xb;
+pub mod blake2xs;
 mod lanes;
 pub mod laws;
 pub mod reader;

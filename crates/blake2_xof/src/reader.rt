@@ -1,4 +1,4 @@
 //! The output, which is read in pieces.
 
-pub mod blake2b;
-pub mod blake2s;
+pub mod blake2xb;
+pub mod blake2xs;

@@ -4,8 +4,8 @@
 #![tactic(auto)]
 
 #[cfg(test)]
-mod blake2b;
+mod blake2xb;
 #[cfg(test)]
-mod blake2s;
+mod blake2xs;
 #[cfg(test)]
 mod checks;

@@ -1,9 +1,8 @@
 // Compiles, and each line marked as an error is one.
 import {
-  Blake2b, Blake2bp, Blake2s, Blake2sp, Blake2xb, Blake2xs, TreeHash, blake2b, blake2bMany,
-  blake2bStream, blake2bp, blake2bpStream, blake2s, blake2sp, blake2spStream, deriveKey, equal,
-  fromHex,
-  hashTransform, hashWritable, hex, load, treeLeaves, treeRoot, treeRootOfLeaves, treeRootStream, utf8, type Bytes, type FileHandleLike,
+  Blake2b, Blake2bp, Blake2s, Blake2sp, Blake2xb, Blake2xs, InvalidTagError, TreeHash, blake2b,
+  blake2bMany, blake2bStream, blake2bp, blake2bpStream, blake2s, blake2sMany, blake2sStream,
+  blake2sp, blake2spStream, deriveKey, equal, fromHex, hashTransform, hashWritable, hex, load, treeLeaves, treeRoot, treeRootOfLeaves, treeRootStream, utf8, type Bytes, type FileHandleLike,
   type HashOptions, type ManyOptions, type ParallelOptions,
 } from "vulfsjor";
 
@@ -14,7 +13,13 @@ const options: HashOptions = {
 };
 const text: string = new Blake2b(options).update(digest).copy().reset().hex();
 const copy: Blake2s = new Blake2s().copy();
-const isSame: boolean = equal(digest, fromHex(hex(digest))) && copy.verify(utf8(text));
+const isSame: boolean = equal(digest, fromHex(hex(digest)));
+try {
+  const nothing: void = copy.verify(utf8(text));
+  console.log(nothing);
+} catch (fault) {
+  if (fault instanceof InvalidTagError) console.log(fault.name, fault.message);
+}
 const roots: Uint8Array[] = [
   treeRoot(digest, { leafLength: 5 }), new TreeHash({ leafLength: 5 }).digest(),
 ];
@@ -60,9 +65,7 @@ new Counted().update(digest).copy().reset().count++;
 new Blake2b().digestLength = 32;
 
 // what is undefined is not given
-const none = {
-  digestLength: undefined, key: undefined, salt: undefined, personalization: undefined,
-};
+const none = { digestLength: undefined, salt: undefined, personalization: undefined };
 const no = undefined;
 blake2b(digest, { ...none, tree: no });
 blake2b(digest, {
@@ -71,12 +74,52 @@ blake2b(digest, {
     lastNode: no,
   },
 });
-new Blake2xb({ outputLength: no, key: no, salt: no, personalization: no });
+new Blake2xb({ outputLength: no, salt: no, personalization: no });
+// a key that may be missing is an error, in each call that has one
+declare const config: { key?: Uint8Array; length: number };
+// @ts-expect-error
+blake2b(digest, { key: config.key });
+// @ts-expect-error
+blake2s(digest, { key: config.key });
+// @ts-expect-error
+blake2bp(digest, { key: config.key });
+// @ts-expect-error
+blake2sp(digest, { key: config.key });
+// @ts-expect-error
+new Blake2b({ key: config.key });
+// @ts-expect-error
+new Blake2sp({ key: no });
+// @ts-expect-error
+new Blake2xb({ key: config.key });
+// @ts-expect-error
+new Blake2xs({ key: no });
+// @ts-expect-error
+blake2bMany([digest], { key: config.key });
+// @ts-expect-error
+blake2sMany([digest], { key: no });
+// @ts-expect-error
+blake2bStream([digest], { key: config.key });
+// @ts-expect-error
+deriveKey(config.key, digest, 32);
 treeLeaves(digest, { leafLength: 5, first: 0, ends: true, salt: no, personalization: no });
 treeRootStream(new Blob([]), {
   leafLength: 5, digestLength: no, salt: no, personalization: no, threads: no, onFallback: no,
   onProgress: no, signal: no,
 });
+
+// sources that are pieces
+blake2bStream([digest, new ArrayBuffer(3)]);
+blake2sStream((function* () { yield digest; })());
+blake2sStream(new Set([digest]));
+// @ts-expect-error pieces of text
+blake2bStream(["text"]);
+// @ts-expect-error a string
+blake2bStream("text");
+// a file whose numbers are bigints
+declare const big: {
+  fd: number; stat(): Promise<{ isFile(): boolean; size: bigint }>; read: FileHandleLike["read"];
+};
+blake2bStream(big);
 
 // a source of node
 declare const handle: FileHandleLike;
@@ -131,10 +174,22 @@ new TreeHash({ leafLength: 5, key: digest });
 new Blake2b().digest("hex");
 // @ts-expect-error a tag is bytes
 new Blake2b().verify("00");
+// @ts-expect-error a check has no value
+if (new Blake2b({ key: digest }).verify(digest)) console.log();
+// @ts-expect-error nor is it compared
+export const isRight: boolean = new TreeHash({ leafLength: 5 }).verify(digest);
 // @ts-expect-error the tree of BLAKE2bp is fixed
 blake2bp(digest, { tree: {} });
 // @ts-expect-error the tree of BLAKE2sp is fixed
+blake2sp(digest, { tree: {} });
+// @ts-expect-error the tree of BLAKE2bp is fixed
+new Blake2bp({ tree: {} });
+// @ts-expect-error the tree of BLAKE2sp is fixed
 new Blake2sp({ tree: {} });
+// @ts-expect-error the tree of BLAKE2bp is fixed
+blake2bpStream(new Blob([]), { tree: {} });
+// @ts-expect-error the tree of BLAKE2sp is fixed
+blake2spStream(new Blob([]), { tree: {} });
 // @ts-expect-error only trees have threads
 blake2bpStream(new Blob([]), { threads: 2 });
 // @ts-expect-error several messages have no place in a tree

@@ -54,6 +54,32 @@ steps s128 persona=000000000000000000||b2: wrong length\n\
 steps b128 persona=0000000000000000000000000000000000||b2: wrong length\n\
 steps s256 key=000102030405060708090a0b0c0d0e0f101112131415161718191a1b1c1d1e1f20||\
 b2: wrong length\n\
+xof||b2: wrong words\n\
+xof xb||b2: wrong words\n\
+xof b512 8||b2: wrong words\n\
+xof xb 0||b2: wrong words\n\
+xof xb 01||b2: wrong words\n\
+xof xb 8x||b2: wrong words\n\
+xof xb 4294967295||b2: wrong words\n\
+xof xs 65535||b2: wrong words\n\
+xof xb 99999999999||b2: wrong words\n\
+xof xb 8 foo||b2: wrong words\n\
+derive||b2: wrong words\n\
+derive 32||b2: wrong words\n\
+derive 0 a||b2: wrong words\n\
+derive 4294967295 a||b2: wrong words\n\
+derive 32 a b||b2: wrong words\n\
+--help sum||b2: wrong words\n\
+--version sum||b2: wrong words\n\
+--hel||b2: wrong words\n\
+sum b512 persona=01 persona-text=a||b2: wrong words\n\
+sum b512 persona-text=a persona-text=a||b2: wrong words\n\
+tree b512 4 key-text=a||b2: wrong words\n\
+xof xb 8 key=1||b2: wrong hex\n\
+xof xb 8 key=||b2: wrong length\n\
+xof xs 8 salt=000000000000000000||b2: wrong length\n\
+sum s256 persona-text=123456789||b2: wrong length\n\
+xof xs 8 key=000102030405060708090a0b0c0d0e0f101112131415161718191a1b1c1d1e1f20||b2: wrong length\n\
 witness||b2: wrong words\n\
 witness b9 61 61||b2: wrong words\n\
 witness b512||b2: wrong words\n\
@@ -107,7 +133,8 @@ fn run_no_digits(alloc: Global, room: &mut [u8]) -> Result<(u8, usize), AllocErr
     words.push(String::new(alloc))?;
     let mut source = SliceSource::new(b"", 4096, Some(0));
     let mut sink = SliceSink::new(room, 4096, None);
-    let status = run(alloc, words.as_slice(), &mut source, &mut sink);
+    let mut notes = SliceSink::new(&mut [], 1, None);
+    let status = run(alloc, words.as_slice(), &mut source, &mut sink, &mut notes);
     Ok((status, sink.written()))
 }
 

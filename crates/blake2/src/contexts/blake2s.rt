@@ -1,3 +1,4 @@
+// Made by tools/twins.py from src/contexts/blake2b.rt.
 //! The context of a BLAKE2s run.
 
 ghost use Rattle.std.specs.Prelude.{◌≡◌, ℕ, ◌+◌, ◌-◌, ◌*◌, ◌^◌, ◌<◌, ◌≤◌, List, [], length, take};

@@ -47,8 +47,9 @@ impl Model for Blake2bVarCore {
 }
 
 impl Blake2bVarCore {
-    /// Returns whether BLAKE2b accepts these tree parameters: at least one level and an inner
-    /// node's digest of at most 64 bytes (the BLAKE2 document, 2.8 and 2.10).
+    /// Returns whether BLAKE2b accepts these tree parameters: at least one level, a node offset
+    /// below 2^64, and an inner node's digest of at most 64 bytes (the BLAKE2 document, 2.8 and
+    /// 2.10).
     pub fn admits_tree(tree: &Tree) -> bool
         ensures { IsTrue result ↔ AdmitsTree blake2b (tree_of tree.now) }
     {

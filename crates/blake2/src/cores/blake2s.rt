@@ -1,3 +1,4 @@
+// Made by tools/twins.py from src/cores/blake2b.rt.
 //! The block core of BLAKE2s.
 
 ghost use Rattle.std.specs.Prelude.{◌≡◌, ⊤, ◌<◌, ◌≤◌, ◌↔◌, false, [], length, IfOk, IsErr, IsTrue};

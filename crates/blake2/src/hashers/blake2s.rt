@@ -1,3 +1,4 @@
+// Made by tools/twins.py from src/hashers/blake2b.rt.
 //! The hasher of BLAKE2s.
 
 ghost use Rattle.std.specs.Prelude.{◌≡◌, ⊤, ◌≤◌, [], length, None};

@@ -1,3 +1,4 @@
+// Made by tools/twins.py from src/macs/blake2b.rt.
 //! The MAC of BLAKE2s.
 
 ghost use Rattle.std.specs.Prelude.{◌≡◌, ⊤, ◌<◌, ◌≤◌, ◌↔◌, ◌⊎◌, [], length, false, None, Some};

@@ -1,3 +1,4 @@
+// Made by tools/twins.py from src/transcripts/blake2b.rt.
 //! The steps of BLAKE2s.
 
 ghost use Rattle.std.specs.Prelude.{◌≡◌, ◌≤◌, ◌↔◌, map, IsTrue, IsOk, IsSome, IfOk, IfErr, IfSome};
@@ -17,8 +18,8 @@ use blake2_transcript::steps::blake2s as run;
 use std::alloc::{AllocError, Global};
 
 impl Blake2sVarCore {
-    /// Returns whether BLAKE2s accepts the input: salt and persona have at most 8 bytes each, the
-    /// key is absent or has 1 to 32 bytes, `admits_tree` is true of the tree parameters, and
+    /// Returns whether BLAKE2s accepts the input: salt and persona have at most 8 bytes each,
+    /// the key is absent or has 1 to 32 bytes, `admits_tree` is true of the tree parameters, and
     /// fewer than 2^64 bytes are counted, those of the message with 64 for a key (RFC 7693, 2.1;
     /// the BLAKE2 document, 2.8).
     pub fn accepts(input: &Input<'_>) -> bool
@@ -48,9 +49,9 @@ impl Blake2sVarCore {
     }
 
     /// Returns the input and the output size that have this transcript, with salt and persona
-    /// padded with zeros to 8 bytes, or `None` if no accepted input at a size of at most 32 bytes
-    /// has it. The error is `AllocError`, if an allocation fails. It comes only if some input has
-    /// the transcript. The transcript stays as it is.
+    /// padded with zeros to 8 bytes, or `None` if no accepted input at a size of at most 32
+    /// bytes has it. The error is `AllocError`, if an allocation fails. It comes only if some
+    /// input has the transcript. The transcript stays as it is.
     pub fn read_transcript(
         alloc: Global,
         transcript: &Transcript<u32, 64>,

@@ -1,3 +1,4 @@
+// Made by tools/twins.py from src/laws/blake2b.rt.
 //! Laws of BLAKE2s.
 
 ghost use Rattle.std.specs.Prelude.{◌≡◌, ◌≢◌, ℕ, ◌<◌, ◌≤◌, length, slice_index};
@@ -56,8 +57,8 @@ pub fn round_keeps_apart(a: &mut [u32x4; 4], b: &mut [u32x4; 4], m: &[u32; 16], 
     u32x4::unround(&mut before, m, s);
 }
 
-/// Returns a salt or persona with zeros up to 8 bytes. It must have at most 8. Zeros after a salt
-/// or a persona, within its 8 bytes, leave each digest as it is (the BLAKE2 document, 2.8).
+/// Returns a salt or persona with zeros up to 8 bytes. It must have at most 8. Zeros after a
+/// salt or a persona, within its 8 bytes, leave each digest as it is (the BLAKE2 document, 2.8).
 pub fn padded_text(text: &[u8]) -> [u8; 8]
     requires { length text.now ≤ 8 }
     ensures padding { result ≡ Hash.padded 8 text.now }

@@ -67,6 +67,17 @@ pub fn rows_of(words: &[[u64; 8]; 4]) -> [u64x4; 8]
     ]
 }
 
+/// Returns the chaining words of message `j`, those in its lane, as two rows.
+#[inline(always)]
+pub fn lane_words(rows: &[u64x4; 8], j: usize) -> [u64x4; 2]
+    requires { j < 4 }
+    ensures { eight result ≡ in_lane j rows.now }
+{
+    let low = u64x4::transpose([rows[0], rows[1], rows[2], rows[3]]);
+    let high = u64x4::transpose([rows[4], rows[5], rows[6], rows[7]]);
+    [low[j], high[j]]
+}
+
 // The four words of a block from word k on.
 #[inline(always)]
 fn four_words(words: &[u64; 16], k: usize) -> u64x4

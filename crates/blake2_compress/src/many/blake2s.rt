@@ -74,6 +74,16 @@ pub fn rows_of(words: &[[u32; 8]; 8]) -> [u32x8; 8]
     ]
 }
 
+/// Returns the chaining words of message `j`, those in its lane, as two rows.
+#[inline(always)]
+pub fn lane_words(rows: &[u32x8; 8], j: usize) -> [u32x4; 2]
+    requires { j < 8 }
+    ensures { eight result ≡ in_lane j rows.now }
+{
+    let words = u32x8::transpose(*rows);
+    to_rows(&words[j].to_array())
+}
+
 // The eight words of a block from word k on.
 #[inline(always)]
 fn eight_words(words: &[u32; 16], k: usize) -> u32x8

@@ -13,8 +13,8 @@ use crate::compress::blake2b::{to_rows, to_words, xor_rows};
 use crate::consts::BLAKE2B_IV;
 use blake2_simd::rows::u64x4;
 
-/// Returns whether BLAKE2b accepts these tree parameters: at least one level and an inner node's
-/// digest of at most 64 bytes (the BLAKE2 document, 2.8 and 2.10).
+/// Returns whether BLAKE2b accepts these tree parameters: at least one level, a node offset below
+/// 2^64, and an inner node's digest of at most 64 bytes (the BLAKE2 document, 2.8 and 2.10).
 pub fn admits_tree(tree: &Tree) -> bool
     ensures { IsTrue result ↔ AdmitsTree blake2b (tree_of tree.now) }
 {

@@ -1,3 +1,4 @@
+// Made by tools/twins.py from src/params/blake2b.rt.
 //! BLAKE2s: a parameter block of 32 bytes, eight words of 32 bits.
 
 ghost use Rattle.std.specs.Prelude.{◌≡◌, ◌↔◌, IsTrue, length};

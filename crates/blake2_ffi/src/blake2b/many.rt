@@ -72,7 +72,8 @@ fn write_eight(out: &mut [u8], given: &StateParameters<'_>, messages: &[Text<'_>
     requires size { given.now.output_size ≤ 64 }
     requires enough { 8 ≤ length messages.now }
     requires room { 8 * given.now.output_size ≤ length out.old }
-    ensures digests { IsTrue result → out.new ≡ digests_given blake2b given.now (take 8 messages.now)
+    ensures digests { IsTrue result
+        → out.new ≡ digests_given blake2b given.now (take 8 messages.now)
         ++ drop (8 * given.now.output_size) out.old }
     ensures nothing { result ≡ false → out.new ≡ out.old }
 {

@@ -12,7 +12,7 @@ ghost use Rattle.blake2_compress.specs.Views.{input_of};
 ghost use Rattle.blake2_transcript.specs.StepViews.{entry_of, step_of};
 ghost use Rattle.blake2_compress.specs.Run;
 
-use super::inputs::same;
+use super::same_inputs::same;
 use crate::steps::entries::entry_at;
 use crate::steps::{Entry, Step};
 use blake2_compress::compress::{Flags, blake2b as words};
@@ -155,7 +155,7 @@ fn last_pair(
 ///
 /// The signature is that of `transcript` and `read_transcript`, which allocate memory. This call
 /// allocates none and never fails: it does not look at `_alloc`, and its result is always `Ok`.
-#[tactic(auto, using(crate::proofs::Front::same_number))]
+#[tactic(auto, using(crate::proofs::LastDifference::same_number))]
 pub fn witness(
     _alloc: Global,
     a: &Input<'_>,

@@ -1,3 +1,4 @@
+// Made by tools/twins.py from src/collision/blake2b.rt.
 //! The witness of BLAKE2s: steps of eight words of 32 bits and blocks of 64 bytes.
 
 ghost use Rattle.std.specs.Prelude.{◌≡◌, ◌≤◌, ◌↔◌, IsTrue, IsOk, IsSome, IfOk, IfSome, MatchOption};
@@ -12,7 +13,7 @@ ghost use Rattle.blake2_compress.specs.Views.{input_of};
 ghost use Rattle.blake2_transcript.specs.StepViews.{entry_of, step_of};
 ghost use Rattle.blake2_compress.specs.Run;
 
-use super::inputs::same;
+use super::same_inputs::same;
 use crate::steps::entries::entry_at;
 use crate::steps::{Entry, Step};
 use blake2_compress::compress::{Flags, blake2s as words};
@@ -155,7 +156,7 @@ fn last_pair(
 ///
 /// The signature is that of `transcript` and `read_transcript`, which allocate memory. This call
 /// allocates none and never fails: it does not look at `_alloc`, and its result is always `Ok`.
-#[tactic(auto, using(crate::proofs::Front::same_number))]
+#[tactic(auto, using(crate::proofs::LastDifference::same_number))]
 pub fn witness(
     _alloc: Global,
     a: &Input<'_>,

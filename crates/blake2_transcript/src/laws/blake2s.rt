@@ -1,3 +1,4 @@
+// Made by tools/twins.py from src/laws/blake2b.rt.
 //! What a transcript of BLAKE2s shows about its input.
 
 ghost use Rattle.std.specs.Prelude.{◌≡◌, ◌↔◌, IsTrue};

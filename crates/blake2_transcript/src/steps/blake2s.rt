@@ -1,3 +1,4 @@
+// Made by tools/twins.py from src/steps/blake2b.rt.
 //! The steps of BLAKE2s: blocks of 64 bytes, words of 32 bits, salts and personas of 8 bytes.
 
 ghost use Rattle.std.specs.Prelude.{◌≡◌, ◌≤◌, ◌↔◌, map, IsTrue, IsSome, IfOk, IfErr, IfSome};

@@ -26,6 +26,13 @@ fn sized(size: usize, message: &[u8]) -> Result<Vec<u8>, Box<dyn std::error::Err
     Ok(digest)
 }
 
+// The recipe for files of that crate.
+fn file(path: &str) -> std::io::Result<[u8; 32]> {
+    let mut hasher = Blake2s256::new();
+    std::io::copy(&mut std::fs::File::open(path)?, &mut hasher)?;
+    Ok(hasher.finalize().into())
+}
+
 fn main() -> Result<(), Box<dyn std::error::Error>> {
     let mut hasher = Blake2b512::new();
     hasher.update(b"hello ");
@@ -41,5 +48,6 @@ fn main() -> Result<(), Box<dyn std::error::Error>> {
     mac.verify_slice(b"wrong").unwrap_err();
     let mac = Blake2bMac::<U10>::new_with_salt_and_personal(b"key", b"salt", b"persona")?;
     print(mac.chain_update(b"my input").finalize_fixed());
+    print(file("Cargo.toml")?);
     Ok(())
 }

@@ -32,6 +32,9 @@ fn binary_has_bytes() {
     assert_eq!(written, [2, 0, 0, 0, 0, 0, 0, 0, 7, 8]);
     let Field(read) = bincode::deserialize(&written).unwrap();
     assert_eq!(read, [7, 8]);
+    // A reader, whose bytes are not borrowed.
+    let Field(read) = bincode::deserialize_from(std::io::Cursor::new(&written)).unwrap();
+    assert_eq!(read, [7, 8]);
     let none = bincode::deserialize::<Field>(&[0; 8]).err().unwrap().to_string();
     assert_eq!(none, "the slice's length is 0, and must be 1 to 64");
 }

@@ -1,3 +1,4 @@
+-- Made by tools/twins.py from proofs/digests/hash_blake2b/Answers.antt.
 use Rattle.std.proofs.Common.{◌≡◌, Ok, rules}
 use Rattle.blake2.specs.Family.{blake2s}
 use Rattle.blake2.specs.Keys.{key_count}

@@ -34,3 +34,15 @@ returns-in-Ok-Tree-clause-told g c =
     let told = c.status_after-in-Ok-Tree.ensures in
     told_by (map string_bytes c.args.words.now) _ c.tree-end.result _ _ _ _ _ _ _ _ _
     c.in-Ok-Tree.ensures.task (search rules) (search rules) told.printed told.failed
+
+pub returns-in-Ok-Xof-clause-told : goal.returns-in-Ok-Xof-clause-told
+returns-in-Ok-Xof-clause-told g c =
+    let told = c.status_after-in-Ok-Xof.ensures in
+    told_by (map string_bytes c.args.words.now) _ c.xof-end.result _ _ _ _ _ _ _ _ _
+    c.in-Ok-Xof.ensures.task (search rules) (search rules) told.printed told.failed
+
+pub returns-in-Ok-Derive-clause-told : goal.returns-in-Ok-Derive-clause-told
+returns-in-Ok-Derive-clause-told g c =
+    let told = c.status_after-in-Ok-Derive.ensures in
+    told_by (map string_bytes c.args.words.now) _ c.derive-end.result _ _ _ _ _ _ _ _ _
+    c.in-Ok-Derive.ensures.task (search rules) (search rules) told.printed told.failed

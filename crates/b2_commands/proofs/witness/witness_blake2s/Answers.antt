@@ -1,3 +1,4 @@
+-- Made by tools/twins.py from proofs/witness/witness_blake2b/Answers.antt.
 use Rattle.std.proofs.Common.{refl}
 use Rattle.blake2.specs.Family.{blake2s}
 use Rattle.b2_commands.proofs.Printing.{pair_printed}

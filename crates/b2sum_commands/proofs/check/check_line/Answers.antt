@@ -1,6 +1,6 @@
-use Rattle.std.proofs.Common.{◌≡◌, Some, is_none, ap, ◌∙◌, sym}
+use Rattle.std.proofs.Common.{◌≡◌, Some, Ok, is_none, ap, ◌∙◌, sym}
 use Rattle.b2sum_lines.specs.Entries.{entry_value}
-use Rattle.b2sum_commands.specs.Found.{Streams}
+use Rattle.b2sum_commands.specs.World.{Streams}
 use Rattle.b2sum_commands.specs.World.{world_of}
 use Rattle.b2sum_commands.specs.Manifests.{item, spacing_after}
 use Rattle.b2sum_commands.specs.Checks.{item_value}
@@ -10,7 +10,8 @@ use Rattle.b2sum_commands.proofs.check.check_line.Goals as goal
 
 pub returns-in-Listed-clause-checked : goal.returns-in-Listed-clause-checked
 returns-in-Listed-clause-checked g c =
-    let w = world_of g.D.File.Source.failed (g.D.Disk.files c.args.host.now.disk)
+    let w = world_of c.args.host.now.program.name.items
+    g.D.File.OpenFile.named g.D.File.OpenFile.failed (g.D.Disk.files c.args.host.now.disk)
     g.H.Hashes.hashing in
     let o = c.args.options.now in
     let input = is_none c.args.manifest.now.file in
@@ -19,7 +20,7 @@ returns-in-Listed-clause-checked g c =
     let entry = c.in-Listed.entry in
     let spacing : c.session.inside.spacing ≡ old.spacing =
     ap (λ (s : Streams). s.spacing) c.session.view_is in
-    let is : item o input old.spacing line ≡ Some (Some (entry_value entry)) =
+    let is : item o input old.spacing line ≡ Some (Ok (entry_value entry)) =
     ap (λ s. item o input s line) (sym spacing)
     ∙ ap (λ b. item o b c.session.inside.spacing line) (sym c.is_input-is_input.ensures)
     ∙ sym c.in_ok-item.ensures.is
@@ -31,11 +32,13 @@ returns-in-Listed-clause-checked g c =
     ∙ ap (λ s. record old { spacing = s }) (c.spacing_after-session-inside.ensures
     ∙ ap (λ s. spacing_after s entry.style) spacing))
     c.check_entry.ensures.verdict c.check_entry.ensures.line c.check_entry.ensures.told
+    c.check_entry.ensures.silent
     c.check_entry.ensures.spacing
 
 pub returns-in-Listed-clause-begun : goal.returns-in-Listed-clause-begun
 returns-in-Listed-clause-begun g c = λ error.
-    let w = world_of g.D.File.Source.failed (g.D.Disk.files c.args.host.now.disk)
+    let w = world_of c.args.host.now.program.name.items
+    g.D.File.OpenFile.named g.D.File.OpenFile.failed (g.D.Disk.files c.args.host.now.disk)
     g.H.Hashes.hashing in
     let o = c.args.options.now in
     let input = is_none c.args.manifest.now.file in
@@ -44,7 +47,7 @@ returns-in-Listed-clause-begun g c = λ error.
     let entry = c.in-Listed.entry in
     let spacing : c.session.inside.spacing ≡ old.spacing =
     ap (λ (s : Streams). s.spacing) c.session.view_is in
-    let is : item o input old.spacing line ≡ Some (Some (entry_value entry)) =
+    let is : item o input old.spacing line ≡ Some (Ok (entry_value entry)) =
     ap (λ s. item o input s line) (sym spacing)
     ∙ ap (λ b. item o b c.session.inside.spacing line) (sym c.is_input-is_input.ensures)
     ∙ sym c.in_ok-item.ensures.is

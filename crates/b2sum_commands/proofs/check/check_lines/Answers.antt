@@ -1,14 +1,14 @@
 use Rattle.std.proofs.Common.{◌≡◌, ◌⊎◌, ◌==◌, inl, inr, ◌<◌, Bool, true, length, [], List, ℕ, Option, refl, ap, ◌∙◌, subst, is_none, rules}
 use Rattle.std.specs.Io.KnownBytes.{Consumes}
-use Rattle.b2sum_commands.specs.Found.{Streams}
-use Rattle.b2sum_commands.specs.LineReads.{source_left, IsAfter}
+use Rattle.b2sum_commands.specs.World.{Streams}
+use Rattle.b2sum_commands.specs.LineReads.{source_left, source_name, IsAfter}
 use Rattle.b2sum_commands.specs.Manifests.{IsLine, BeginsLine}
 use Rattle.b2sum_commands.specs.declared.line_reader.LineEnd.TheVariants.{Newline}
 use Rattle.b2sum_commands.proofs.Stopping.{stopped_between, stopped_in, some_bytes}
-use Rattle.b2sum_commands.specs.World.{world_of}
+use Rattle.b2sum_commands.specs.World.{world_of, HasFailed}
 use Rattle.b2sum_commands.proofs.Judging.{no_bytes}
 use Rattle.b2sum_commands.proofs.Reading.{reading_start, same_streams, found_end, found_last}
-use Rattle.b2sum_commands.proofs.Reading.{found_line, line_left}
+use Rattle.b2sum_commands.proofs.Reading.{found_line, line_left, read_at}
 use Rattle.b2sum_commands.proofs.check.check_lines.Goals.{
   else-ne-via-then-ne+else-is_empty,
   else-ne-via-else-ne,
@@ -18,25 +18,25 @@ use Rattle.b2sum_commands.proofs.check.check_lines.Goals as goal
 pub loop-number-init : goal.loop-number-init
 loop-number-init g c = record {
   file = refl;
+  name = refl;
+  title = refl;
   read = (
     [],
     reading_start _ _ _ _ _ _ c.requires,
-    record {
-      equal = c.none-counts.ensures.equal;
-      fine = c.none-counts.ensures.fine;
-      formed = c.none-counts.ensures.formed;
-    },
+    c.none-counts.ensures,
   );
 }
 
 pub returns-then-is_empty-clause-lines : goal.returns-then-is_empty-clause-lines
 returns-then-is_empty-clause-lines g c =
     let before = c.loop-number.invariant.read in
-    let left = g.D.File.Source.left in
+    let left = g.D.File.OpenFile.left in
     let now = c.loop-number.session in
     let at : left c.session.inside.input ≡ now.left =
     ap (λ (s : Streams). s.left) c.session.view_is in
-    let read = c.in_ok-end.ensures.passes in
+    let read = read_at g.D.File.OpenFile.named g.D.File.OpenFile.failed _ _ _ _ _ _ _
+    (source_name g.D.File.OpenFile.named c.args.manifest.now.file) c.loop-number.invariant.name
+    c.in_ok-end.ensures.passes in
     let same = same_streams (is_none c.args.manifest.now.file) _ now (left c.read_line.new.input)
     (ap (λ (s : Streams). record s { left = left c.read_line.new.input }) c.session.view_is)
     (λ file. ap left (c.in_ok-end.ensures.other (c.loop-number.invariant.file ∙ file)) ∙ at) in
@@ -50,15 +50,18 @@ returns-then-is_empty-clause-lines g c =
 pub returns-then-ne-2-clause-lines : goal.returns-then-ne-2-clause-lines
 returns-then-ne-2-clause-lines g c =
     let before = c.loop-number.invariant.read in
-    let left = g.D.File.Source.left in
+    let left = g.D.File.OpenFile.left in
     let now = c.loop-number.session in
     let at : left c.session.inside.input ≡ now.left =
     ap (λ (s : Streams). s.left) c.session.view_is in
-    let read = c.in_ok-end.ensures.passes in
+    let read = read_at g.D.File.OpenFile.named g.D.File.OpenFile.failed _ _ _ _ _ _ _
+    (source_name g.D.File.OpenFile.named c.args.manifest.now.file) c.loop-number.invariant.name
+    c.in_ok-end.ensures.passes in
     let same = same_streams (is_none c.args.manifest.now.file) _ now (left c.read_line.new.input)
     (ap (λ (s : Streams). record s { left = left c.read_line.new.input }) c.session.view_is)
     (λ file. ap left (c.in_ok-end.ensures.other (c.loop-number.invariant.file ∙ file)) ∙ at) in
-    let w = world_of g.D.File.Source.failed (g.D.Disk.files c.args.host.now.disk)
+    let w = world_of c.args.host.now.program.name.items
+    g.D.File.OpenFile.named g.D.File.OpenFile.failed (g.D.Disk.files c.args.host.now.disk)
     g.H.Hashes.hashing in
     let o = c.args.options.now in
     let input : Bool = is_none c.args.manifest.now.file in
@@ -90,7 +93,8 @@ returns-then-ne-2-clause-lines g c =
     before.2 (subst (λ (l : Option (List ℕ)). Consumes
     (source_left left c.loop-number.manifest.file l) read.1 read.0) at read.2) read.3
     (subst (λ (l : Option (List ℕ)). IsAfter c.in_ok-end.end read.1 l
-    ((f : g.row.D-File.Denot) × (g.D.File.Source.failed f ≡ true))) stays read.4)
+    (HasFailed g.D.File.OpenFile.named g.D.File.OpenFile.failed
+    (source_name g.D.File.OpenFile.named c.args.manifest.now.file))) stays read.4)
     (λ is. search (rules, is)) some (record {
       last = c.counted-then-ne-2.ensures.last;
       failure = c.counted-then-ne-2.ensures.failure;
@@ -99,15 +103,18 @@ returns-then-ne-2-clause-lines g c =
 pub loop-number-preserved : goal.loop-number-preserved
 loop-number-preserved g c =
     let before = c.loop-number.invariant.read in
-    let left = g.D.File.Source.left in
+    let left = g.D.File.OpenFile.left in
     let now = c.loop-number.session in
     let at : left c.session.inside.input ≡ now.left =
     ap (λ (s : Streams). s.left) c.session.view_is in
-    let read = c.in_ok-end.ensures.passes in
+    let read = read_at g.D.File.OpenFile.named g.D.File.OpenFile.failed _ _ _ _ _ _ _
+    (source_name g.D.File.OpenFile.named c.args.manifest.now.file) c.loop-number.invariant.name
+    c.in_ok-end.ensures.passes in
     let same = same_streams (is_none c.args.manifest.now.file) _ now (left c.read_line.new.input)
     (ap (λ (s : Streams). record s { left = left c.read_line.new.input }) c.session.view_is)
     (λ file. ap left (c.in_ok-end.ensures.other (c.loop-number.invariant.file ∙ file)) ∙ at) in
-    let w = world_of g.D.File.Source.failed (g.D.Disk.files c.args.host.now.disk)
+    let w = world_of c.args.host.now.program.name.items
+    g.D.File.OpenFile.named g.D.File.OpenFile.failed (g.D.Disk.files c.args.host.now.disk)
     g.H.Hashes.hashing in
     let o = c.args.options.now in
     let input : Bool = is_none c.args.manifest.now.file in
@@ -131,34 +138,40 @@ loop-number-preserved g c =
     let stays = line_left left c.read_line.new.self.file w o input items mid new v file line in
     record {
       file = file;
+      name = c.in_ok-end.ensures.name ∙ c.loop-number.invariant.name;
+      title = c.in_ok-end.ensures.title ∙ c.loop-number.invariant.title;
       read = found_line w o input _ c.args.session.now _ _ now before.0 c.in_ok-end.end read.0
           items _ read.1 _ _ mid new v
           c.loop-number.counts c.add.new.self before.1
           before.2 (subst (λ (l : Option (List ℕ)). Consumes
           (source_left left c.loop-number.manifest.file l) read.1 read.0) at read.2) read.3
           (subst (λ (l : Option (List ℕ)). IsAfter c.in_ok-end.end read.1 l
-          ((f : g.row.D-File.Denot) × (g.D.File.Source.failed f ≡ true))) stays read.4)
+          (HasFailed g.D.File.OpenFile.named g.D.File.OpenFile.failed
+          (source_name g.D.File.OpenFile.named c.args.manifest.now.file))) stays read.4)
           (search rules) same line c.add.ensures;
     }
 
 pub returns-in_err-end-clause-stopped : goal.returns-in_err-end-clause-stopped
 returns-in_err-end-clause-stopped g c = λ _.
     let before = c.loop-number.invariant.read in
-    stopped_between _ _ _ _ c.args.session.now _ _ c.loop-number.session _ before.0 before.1
+    stopped_between _ _ _ _ _ c.args.session.now _ _ c.loop-number.session _ before.0 before.1
     (ap (λ (s : Streams). s.held) c.session.view_is)
 
 pub returns-in_err-verdict-clause-stopped : goal.returns-in_err-verdict-clause-stopped
 returns-in_err-verdict-clause-stopped g c = λ _.
     let before = c.loop-number.invariant.read in
-    let left = g.D.File.Source.left in
+    let left = g.D.File.OpenFile.left in
     let now = c.loop-number.session in
     let at : left c.session.inside.input ≡ now.left =
     ap (λ (s : Streams). s.left) c.session.view_is in
-    let read = c.in_ok-end.ensures.passes in
+    let read = read_at g.D.File.OpenFile.named g.D.File.OpenFile.failed _ _ _ _ _ _ _
+    (source_name g.D.File.OpenFile.named c.args.manifest.now.file) c.loop-number.invariant.name
+    c.in_ok-end.ensures.passes in
     let same = same_streams (is_none c.args.manifest.now.file) _ now (left c.read_line.new.input)
     (ap (λ (s : Streams). record s { left = left c.read_line.new.input }) c.session.view_is)
     (λ file. ap left (c.in_ok-end.ensures.other (c.loop-number.invariant.file ∙ file)) ∙ at) in
-    let w = world_of g.D.File.Source.failed (g.D.Disk.files c.args.host.now.disk)
+    let w = world_of c.args.host.now.program.name.items
+    g.D.File.OpenFile.named g.D.File.OpenFile.failed (g.D.Disk.files c.args.host.now.disk)
     g.H.Hashes.hashing in
     let o = c.args.options.now in
     let input : Bool = is_none c.args.manifest.now.file in
@@ -186,7 +199,7 @@ returns-in_err-verdict-clause-stopped g c = λ _.
           (w.is_empty.ensures ∙ ap (λ (n : ℕ). n == 0) len) w.if-is_empty.false)
       | else-ne-via-else-ne w ↦ inl (search (rules, w.if-ne))
     ] in
-    stopped_in w o input _ c.args.session.now _ _ now before.0 c.in_ok-end.end read.0 items
+    stopped_in w o _ input _ c.args.session.now _ _ now before.0 c.in_ok-end.end read.0 items
     c.read_line.new.self.lines read.1 _ mid new before.1
     (subst (λ (l : Option (List ℕ)). Consumes
     (source_left left c.loop-number.manifest.file l) read.1 read.0) at read.2) read.3 read.4 some
@@ -195,4 +208,4 @@ returns-in_err-verdict-clause-stopped g c = λ _.
 pub returns-clause-stopped : goal.returns-clause-stopped
 returns-clause-stopped g c = λ _.
     let before = c.loop-number.invariant.read in
-    stopped_between _ _ _ _ c.args.session.now _ _ c.loop-number.session _ before.0 before.1 refl
+    stopped_between _ _ _ _ _ c.args.session.now _ _ c.loop-number.session _ before.0 before.1 refl

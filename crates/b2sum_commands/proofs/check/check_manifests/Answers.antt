@@ -1,5 +1,5 @@
 use Rattle.std.proofs.Common.{Bool, ◌&&◌, [], ◌∷◌, ◌++◌, refl, ap, ◌∙◌, sym, arith}
-use Rattle.b2sum_commands.proofs.Joining.{all_more}
+use Rattle.b2sum_commands.proofs.OneMore.{all_more}
 use Rattle.b2sum_commands.proofs.Stopping.{stops}
 use Rattle.b2sum_commands.proofs.Turns.{sofar_start, name_step, name_stops, names_end, items_of}
 use Rattle.b2sum_commands.specs.World.{world_of, AllInTurn, Ends, Stops}
@@ -31,7 +31,8 @@ returns-clause-checked g c =
 
 pub returns-in_err-holds-clause-checked : goal.returns-in_err-holds-clause-checked
 returns-in_err-holds-clause-checked g c =
-    let w = world_of g.D.File.Source.failed (g.D.Disk.files c.args.host.now.disk)
+    let w = world_of c.args.host.now.program.name.items
+    g.D.File.OpenFile.named g.D.File.OpenFile.failed (g.D.Disk.files c.args.host.now.disk)
     g.H.Hashes.hashing in
     let does = IsChecked w c.args.options.now in
     let names = c.args.names.now in

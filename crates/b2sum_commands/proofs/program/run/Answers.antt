@@ -1,7 +1,7 @@
 use Rattle.std.proofs.Common.{true, false, None, refl, subst, rules}
 use Rattle.b2sum_commands.specs.declared.program.TheConstants.{HELP, VERSION}
 use Rattle.b2sum_commands.specs.Accepted.{command_line}
-use Rattle.b2sum_commands.specs.Found.{Streams}
+use Rattle.b2sum_commands.specs.World.{Streams}
 use Rattle.b2sum_commands.specs.Runs.{help_of}
 use Rattle.b2sum_commands.specs.World.{IsEnded, world_of}
 use Rattle.b2sum_commands.proofs.Telling.{HasRun, done_run, ended_run, memory_ended, refused_run}
@@ -21,7 +21,7 @@ returns-in-Ok-false-clause-line g c =
 pub returns-in-Err-WriteFailed-clause-refused : goal.returns-in-Err-WriteFailed-clause-refused
 returns-in-Err-WriteFailed-clause-refused g c =
     let new : Streams = record {
-      left = g.D.File.Source.left c.session.inside.input;
+      left = g.D.File.OpenFile.left c.session.inside.input;
       held = g.K.Sink.held c.session.inside.output;
       told = g.E.Sink.held c.warn_of_write.new.messages;
       output_failed = g.K.Sink.failed c.session.inside.output;
@@ -29,7 +29,8 @@ returns-in-Err-WriteFailed-clause-refused g c =
       spacing = c.session.inside.spacing;
     } in
     let name = c.args.host.now.program.name.items in
-    let run : HasRun name (world_of g.D.File.Source.failed (g.D.Disk.files c.args.host.now.disk)
+    let run : HasRun name (world_of c.args.host.now.program.name.items
+    g.D.File.OpenFile.named g.D.File.OpenFile.failed (g.D.Disk.files c.args.host.now.disk)
     g.H.Hashes.hashing) (help_of name HELP.now) VERSION.now
     (command_line (items_of c.args.words.now)) c.args.session.now new 1 = search rules in
     refused_run _ _ _ _ _ c.args.session.now new 1 run
@@ -38,7 +39,7 @@ pub returns-in-Err-NoMemory-clause-line : goal.returns-in-Err-NoMemory-clause-li
 returns-in-Err-NoMemory-clause-line g c =
     let name = c.args.host.now.program.name.items in
     let new : Streams = record {
-      left = g.D.File.Source.left c.session.inside.input;
+      left = g.D.File.OpenFile.left c.session.inside.input;
       held = g.K.Sink.held c.session.inside.output;
       told = g.E.Sink.held c.tell_named.new.sink;
       output_failed = g.K.Sink.failed c.session.inside.output;
@@ -54,7 +55,7 @@ returns-in-Err-NoMemory-clause-line g c =
 pub returns-in-Err-NoMemory-clause-refused : goal.returns-in-Err-NoMemory-clause-refused
 returns-in-Err-NoMemory-clause-refused g c =
     let new : Streams = record {
-      left = g.D.File.Source.left c.session.inside.input;
+      left = g.D.File.OpenFile.left c.session.inside.input;
       held = g.K.Sink.held c.session.inside.output;
       told = g.E.Sink.held c.tell_named.new.sink;
       output_failed = g.K.Sink.failed c.session.inside.output;
@@ -62,7 +63,8 @@ returns-in-Err-NoMemory-clause-refused g c =
       spacing = c.session.inside.spacing;
     } in
     let name = c.args.host.now.program.name.items in
-    let run : HasRun name (world_of g.D.File.Source.failed (g.D.Disk.files c.args.host.now.disk)
+    let run : HasRun name (world_of c.args.host.now.program.name.items
+    g.D.File.OpenFile.named g.D.File.OpenFile.failed (g.D.Disk.files c.args.host.now.disk)
     g.H.Hashes.hashing) (help_of name HELP.now) VERSION.now
     (command_line (items_of c.args.words.now)) c.args.session.now new 1 =
     returns-in-Err-NoMemory-clause-line g c in

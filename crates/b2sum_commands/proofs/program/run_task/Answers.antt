@@ -1,9 +1,8 @@
 use Rattle.std.proofs.Common.{◌≡◌, List, Vec, ℕ, Global, inl, inr, refl, IfSome, subst, ap, ◌∙◌, rules}
 use Rattle.b2sum_lines.specs.Lines.{max_bytes}
 use Rattle.std.specs.Result.{result_ok}
-use Rattle.b2sum_lines.specs.declared.entry.Spacing.TheVariants.{Open}
 use Rattle.b2sum_commands.specs.declared.options.Options.{Options}
-use Rattle.b2sum_commands.specs.Found.{Streams}
+use Rattle.b2sum_commands.specs.World.{Streams}
 use Rattle.b2sum_commands.specs.World.{world_of, AllInTurn}
 use Rattle.b2sum_commands.specs.Sums.{IsSum}
 use Rattle.b2sum_commands.specs.Checks.{IsChecked}
@@ -20,14 +19,16 @@ returns-in_default-clause-choice g c = λ ch are given. inr (
   refl,
   c.args.arguments.options,
   are,
-  subst (λ file. IsKeyless (world_of g.D.File.Source.failed (g.D.Disk.files c.args.host.now.disk)
+  subst (λ file. IsKeyless (world_of c.args.host.now.program.name.items
+      g.D.File.OpenFile.named g.D.File.OpenFile.failed (g.D.Disk.files c.args.host.now.disk)
       g.H.Hashes.hashing) file (max_bytes c.args.arguments.options.algorithm) c.args.session.now
       c.with_key.new.session) given (c.in_ok-options.ensures.keyless (search rules)),
 )
 
 pub returns-then-options-2-clause-choice : goal.returns-then-options-2-clause-choice
 returns-then-options-2-clause-choice g c = λ ch are given.
-    let w = world_of g.D.File.Source.failed (g.D.Disk.files c.args.host.now.disk)
+    let w = world_of c.args.host.now.program.name.items
+    g.D.File.OpenFile.named g.D.File.OpenFile.failed (g.D.Disk.files c.args.host.now.disk)
     g.H.Hashes.hashing in
     let o = c.in-Some.options in
     let old = c.args.session.now in
@@ -39,20 +40,19 @@ returns-then-options-2-clause-choice g c = λ ch are given.
     (subst (λ found. IfSome found (λ (x : Options). AfterKey
     (option_map (λ (n : Vec ℕ Global). n.items) c.args.arguments.key_file) old keyed)) c.in-Some.is
     c.in_ok-options.ensures.kept) in
-    let begun : c.begin_checks.new.self ≡ record keyed { spacing = Open } =
-    c.begin_checks.ensures ∙ ap (λ (s : Streams). record s { spacing = Open })
-    c.make_room.ensures in
+    let begun : c.make_room.new.self ≡ keyed = c.make_room.ensures in
     let end = result_ok c.check_manifests.result in
     inl (checks_done w ch o
-    (items_of c.args.arguments.files.items) old keyed c.begin_checks.new.self
+    (items_of c.args.arguments.files.items) old keyed c.make_room.new.self
     c.check_manifests.new.session end chosen after c.if-options-2.true begun
     (subst (λ (ns : List (Vec ℕ Global)). AllInTurn (IsChecked w o) (items_of ns)
-    c.begin_checks.new.self c.check_manifests.new.session end) c.as_slice-names.ensures.value
+    c.make_room.new.self c.check_manifests.new.session end) c.as_slice-names.ensures.value
     c.check_manifests.ensures.checked))
 
 pub returns-clause-choice : goal.returns-clause-choice
 returns-clause-choice g c = λ ch are given.
-    let w = world_of g.D.File.Source.failed (g.D.Disk.files c.args.host.now.disk)
+    let w = world_of c.args.host.now.program.name.items
+    g.D.File.OpenFile.named g.D.File.OpenFile.failed (g.D.Disk.files c.args.host.now.disk)
     g.H.Hashes.hashing in
     let o = c.in-Some.options in
     let old = c.args.session.now in
@@ -75,7 +75,8 @@ returns-clause-choice g c = λ ch are given.
 
 pub returns-in_err-options-clause-choice : goal.returns-in_err-options-clause-choice
 returns-in_err-options-clause-choice g c = λ ch are given.
-    let w = world_of g.D.File.Source.failed (g.D.Disk.files c.args.host.now.disk)
+    let w = world_of c.args.host.now.program.name.items
+    g.D.File.OpenFile.named g.D.File.OpenFile.failed (g.D.Disk.files c.args.host.now.disk)
     g.H.Hashes.hashing in
     stops (DoesChoice w ch (items_of c.args.arguments.files.items) c.args.session.now
     c.with_key.new.session) _ _ c.from_residual.ensures.1
@@ -83,7 +84,8 @@ returns-in_err-options-clause-choice g c = λ ch are given.
 
 pub returns-in_err-make_room-clause-choice : goal.returns-in_err-make_room-clause-choice
 returns-in_err-make_room-clause-choice g c = λ ch are given.
-    let w = world_of g.D.File.Source.failed (g.D.Disk.files c.args.host.now.disk)
+    let w = world_of c.args.host.now.program.name.items
+    g.D.File.OpenFile.named g.D.File.OpenFile.failed (g.D.Disk.files c.args.host.now.disk)
     g.H.Hashes.hashing in
     stops (DoesChoice w ch (items_of c.args.arguments.files.items) c.args.session.now
     c.make_room.new.self) _ _ c.from_residual-in_err-make_room.ensures.1

@@ -1,6 +1,6 @@
 use Rattle.std.proofs.Common.{◌≡◌, ◌≤◌, false, length, drop}
 use Rattle.std.specs.List.{list_any}
-use Rattle.b2sum_commands.specs.Name.{is_slash}
+use Rattle.b2sum_commands.specs.ProgramName.{is_slash}
 use Rattle.b2sum_commands.proofs.session.last_part.Given as goal
 
 abbrev pub invariant-part : goal.invariant-part

@@ -1,6 +1,6 @@
 use Rattle.std.proofs.Common.{[], length, ◌∙◌}
 use Rattle.blake2.specs.Family.{blake2b}
-use Rattle.blake2_parallel.specs.Blake2b.{meaning}
+use Rattle.blake2_parallel.specs.Blake2bp.{meaning}
 use Rattle.blake2_parallel.specs.Parallel.{digests, settings}
 use Rattle.blake2_ffi.proofs.Digests.{whole_written}
 use Rattle.blake2_ffi.proofs.blake2bp.write.Goals as goal

@@ -1,6 +1,7 @@
+-- Made by tools/twins.py from proofs/blake2bp/write/Answers.antt.
 use Rattle.std.proofs.Common.{[], length, ◌∙◌}
 use Rattle.blake2.specs.Family.{blake2s}
-use Rattle.blake2_parallel.specs.Blake2s.{meaning}
+use Rattle.blake2_parallel.specs.Blake2sp.{meaning}
 use Rattle.blake2_parallel.specs.Parallel.{digests, settings}
 use Rattle.blake2_ffi.proofs.Digests.{whole_written}
 use Rattle.blake2_ffi.proofs.blake2sp.write.Goals as goal

@@ -2,7 +2,7 @@ use Rattle.std.proofs.Common.{◌≡◌, [], ◌∷◌, ◌⊎◌, Some, Err, sy
 use Rattle.std.proofs.lemmas.Result.{err_from_is_err_and}
 use Rattle.blake2_replay.specs.declared.calls.ReplayFault.TheVariants.{Memory}
 use Rattle.blake2_replay.specs.Play.{since_beginning, play}
-use Rattle.blake2_replay.proofs.Standing.{StandsFor-first}
+use Rattle.blake2_replay.proofs.StandsForLaws.{StandsFor-first}
 use Rattle.blake2_replay.proofs.Playing.{after_none, memory_alone, play_on, play_stops, play_ends}
 use Rattle.blake2_replay.proofs.Placing.{names_first_bad}
 use Rattle.blake2_replay.proofs.Beginning.{play_same, play_at_start}

@@ -16,10 +16,11 @@ loop-init g c = record {
     Consumes-nil _,
     append-nil c.args.self.now ∙ ap (λ xs. xs ++ c.args.self.now) (sym c.clear.ensures.items),
   );
+  name = refl;
 }
 
-pub returns-in-Some : goal.returns-in-Some
-returns-in-Some g c =
+pub returns-in-Some-clause-line : goal.returns-in-Some-clause-line
+returns-in-Some-clause-line g c =
     let before = c.loop.invariant in
     let r = c.self.inside in
     let unread : List ℕ = drop r.start (take r.end r.piece.items) in
@@ -46,8 +47,8 @@ returns-in-Some g c =
       refl,
     )
 
-pub returns-in-Err : goal.returns-in-Err
-returns-in-Err g c =
+pub returns-in-Err-clause-line : goal.returns-in-Err-clause-line
+returns-in-Err-clause-line g c =
     let before = c.loop.invariant in
     let r = c.self.inside in
     let unread : List ℕ = drop r.start (take r.end r.piece.items) in
@@ -62,8 +63,8 @@ returns-in-Err g c =
     line before.passed.2 c.self.view_is slice c.in_ok-extend_from_slice-2.ensures.items before.one one in
     (before.passed.0, _, before.passed.1, grown, search rules)
 
-pub returns-in-Ok-eq0 : goal.returns-in-Ok-eq0
-returns-in-Ok-eq0 g c =
+pub returns-in-Ok-eq0-clause-line : goal.returns-in-Ok-eq0-clause-line
+returns-in-Ok-eq0-clause-line g c =
     let before = c.loop.invariant in
     let r = c.self.inside in
     let unread : List ℕ = drop r.start (take r.end r.piece.items) in
@@ -113,4 +114,5 @@ loop-preserved g c =
         Consumes-trans _ _ _ more read before.passed.1 (search rules),
         sym (append_assoc c.args.self.now more read) ∙ ap (λ xs. xs ++ read) grown.1,
       );
+      name = c.read_piece.ensures.name ∙ before.name;
     }

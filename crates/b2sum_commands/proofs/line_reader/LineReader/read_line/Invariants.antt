@@ -7,6 +7,7 @@ abbrev pub invariant-loop : goal.invariant-loop
 invariant-loop g l = record {
   one : IsOneLine l.line.items;
   passed : (more : List ℕ)
-      × Consumes (g.S.Source.left l.fn.source) (g.S.Source.left l.source) more
+      × Consumes (g.S.OpenFile.left l.fn.source) (g.S.OpenFile.left l.source) more
       × (l.fn.self ++ more ≡ l.line.items ++ l.self);
+  name : g.S.OpenFile.named l.source ≡ g.S.OpenFile.named l.fn.source;
 }

@@ -1,3 +1,4 @@
+-- Made by tools/twins.py from proofs/compress/blake2b/round_at/Answers.antt.
 use Rattle.blake2_compress.proofs.Sigma.{sigma_below}
 use Rattle.blake2_compress.proofs.compress.blake2s.round_at.Goals as goal
 

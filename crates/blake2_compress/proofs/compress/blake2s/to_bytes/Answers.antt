@@ -1,3 +1,4 @@
+-- Made by tools/twins.py from proofs/compress/blake2b/to_bytes/Answers.antt.
 use Rattle.std.proofs.Common.{◌∙◌}
 use Rattle.blake2_simd.specs.Family.{blake2s}
 use Rattle.blake2_compress.proofs.RowBytes.{rows_written}

@@ -1,3 +1,4 @@
+-- Made by tools/twins.py from proofs/laws/blake2b/unround_undoes_round/Answers.antt.
 use Rattle.std.proofs.Common.{ℕ, rules, refl, sym, get_or, Fits, w32}
 use Rattle.blake2_simd.specs.Family.{blake2s}
 use Rattle.blake2_simd.specs.Round.{AreWords}

@@ -1,3 +1,4 @@
+-- Made by tools/twins.py from proofs/many/blake2b/eight/absorb/Answers.antt.
 use Rattle.std.proofs.Common.{◌-◌, ℕ, length, ap, arith}
 use Rattle.blake2_simd.specs.Family.{blake2s}
 use Rattle.blake2_compress.specs.Hash.{block_count, input_data}

@@ -1,3 +1,4 @@
+-- Made by tools/twins.py from proofs/many/blake2b/eight/accepts_eight/Answers.antt.
 use Rattle.std.proofs.Common.{arith, rules}
 use Rattle.blake2_simd.specs.Family.{blake2s}
 use Rattle.blake2_compress.proofs.ManyMessages.{first_accepted, next_accepted}

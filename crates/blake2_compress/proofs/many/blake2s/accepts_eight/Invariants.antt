@@ -1,3 +1,4 @@
+-- Made by tools/twins.py from proofs/many/blake2b/eight/accepts_eight/Invariants.antt.
 use Rattle.blake2_simd.specs.Family.{blake2s}
 use Rattle.blake2_compress.specs.Lanes.{AcceptsAtOnce}
 use Rattle.blake2_compress.proofs.many.blake2s.accepts_eight.Given as goal

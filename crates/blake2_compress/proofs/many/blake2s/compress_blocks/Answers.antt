@@ -1,3 +1,4 @@
+-- Made by tools/twins.py from proofs/many/blake2b/eight/compress_blocks/Answers.antt.
 use Rattle.std.proofs.Common.{◌≡◌, ℕ, [], length, slice_index_or, arith, rules}
 use Rattle.blake2_simd.specs.Family.{blake2s}
 use Rattle.blake2_simd.proofs.Lanes.{listed_in_eight}

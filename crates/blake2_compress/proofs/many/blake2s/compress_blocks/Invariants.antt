@@ -1,3 +1,4 @@
+-- Made by tools/twins.py from proofs/many/blake2b/eight/compress_blocks/Invariants.antt.
 use Rattle.std.proofs.Common.{◌≡◌, ◌<◌, ℕ, [], slice_index_or}
 use Rattle.blake2_simd.specs.Family.{blake2s}
 use Rattle.blake2_simd.specs.Lanes.{in_lane}

@@ -1,3 +1,4 @@
+-- Made by tools/twins.py from proofs/many/blake2b/eight/finish/Answers.antt.
 use Rattle.std.proofs.Common.{arith, rules}
 use Rattle.blake2_compress.proofs.Lanes.{xored_lanes}
 use Rattle.blake2_compress.proofs.ManyMessages.{filled_all, filled_more, xored_row}

@@ -1,3 +1,4 @@
+-- Made by tools/twins.py from proofs/many/blake2b/eight/finish/Invariants.antt.
 use Rattle.std.proofs.Common.{[]}
 use Rattle.blake2_compress.proofs.ManyMessages.{Filled, Xored}
 use Rattle.blake2_compress.proofs.many.blake2s.finish.Given as goal

@@ -1,3 +1,4 @@
+-- Made by tools/twins.py from proofs/many/blake2b/eight/hash_eight_sized/Answers.antt.
 use Rattle.std.proofs.Common.{rules}
 use Rattle.blake2_simd.specs.Family.{blake2s}
 use Rattle.blake2_compress.proofs.ManyMessages.{sized_digests}

@@ -1,3 +1,4 @@
+-- Made by tools/twins.py from proofs/many/blake2b/eight/outputs/Answers.antt.
 use Rattle.std.proofs.Common.{◌≡◌, ℕ, List, length, take, ap, ◌∙◌, arith, rules}
 use Rattle.blake2_simd.specs.Family.{blake2s}
 use Rattle.blake2_compress.specs.Hash.{bytes_of}

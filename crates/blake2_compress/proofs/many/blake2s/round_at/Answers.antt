@@ -1,3 +1,4 @@
+-- Made by tools/twins.py from proofs/many/blake2b/eight/round_at/Answers.antt.
 use Rattle.blake2_compress.proofs.Sigma.{sigma_below}
 use Rattle.blake2_compress.proofs.many.blake2s.round_at.Goals as goal
 

@@ -1,3 +1,4 @@
+-- Made by tools/twins.py from proofs/many/blake2b/eight/rounds/Answers.antt.
 use Rattle.std.proofs.Common.{refl}
 use Rattle.blake2_compress.specs.Hash.{after_rounds}
 use Rattle.blake2_compress.proofs.many.blake2s.rounds.Goals as goal

@@ -1,3 +1,4 @@
+-- Made by tools/twins.py from proofs/many/blake2b/eight/rows_of/Answers.antt.
 use Rattle.std.proofs.Common.{◌≡◌, [], slice_index, slice_index_or}
 use Rattle.blake2_compress.proofs.ManyMessages.{eight_of}
 use Rattle.blake2_compress.proofs.many.blake2s.rows_of.Goals as goal

@@ -1,3 +1,4 @@
+-- Made by tools/twins.py from proofs/params/blake2b/block_rows/Answers.antt.
 use Rattle.std.proofs.Common.{sym, arith}
 use Rattle.std.proofs.lemmas.List.{length-take-le}
 use Rattle.blake2_simd.specs.Family.{blake2s}

@@ -1,3 +1,4 @@
+-- Made by tools/twins.py from proofs/params/blake2b/parameters_in/Answers.antt.
 use Rattle.std.proofs.Common.{◌≡◌, ◌∙◌, ℕ, List, ap, arith, drop, get_or, length-drop, take}
 use Rattle.std.proofs.lemmas.List.{take_all}
 use Rattle.blake2_compress.proofs.params.blake2s.parameters_in.Goals as goal

@@ -1,3 +1,4 @@
+-- Made by tools/twins.py from proofs/blake2b/many/write_all/Answers.antt.
 use Rattle.std.proofs.Common.{rules}
 use Rattle.blake2_ffi.proofs.Digests.{more_written}
 use Rattle.blake2_ffi.proofs.blake2s.many.write_all.Goals as goal

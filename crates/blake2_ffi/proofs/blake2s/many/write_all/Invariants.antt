@@ -1,3 +1,4 @@
+-- Made by tools/twins.py from proofs/blake2b/many/write_all/Invariants.antt.
 use Rattle.std.proofs.Common.{◌≡◌, ◌-◌, ◌*◌, ◌≤◌, ◌++◌, length, take, drop}
 use Rattle.blake2.specs.Family.{blake2s}
 use Rattle.blake2_ffi.specs.Many.{digests_given}

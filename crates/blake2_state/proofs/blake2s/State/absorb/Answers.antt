@@ -1,3 +1,4 @@
+-- Made by tools/twins.py from proofs/blake2b/State/absorb/Answers.antt.
 use Rattle.std.proofs.Common.{refl, arith}
 use Rattle.std.proofs.lemmas.List.{length-take-le}
 use Rattle.blake2_state.proofs.StateLaws.{Updated_absorbed}

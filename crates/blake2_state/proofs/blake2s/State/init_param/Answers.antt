@@ -1,3 +1,4 @@
+-- Made by tools/twins.py from proofs/blake2b/State/init_param/Answers.antt.
 use Rattle.std.proofs.Common.{refl, ◌∙◌}
 use Rattle.blake2_state.proofs.StateLaws.{Fresh_block}
 use Rattle.blake2_state.proofs.blake2s.State.init_param.Goals as goal

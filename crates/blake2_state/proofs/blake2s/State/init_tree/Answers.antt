@@ -1,3 +1,4 @@
+-- Made by tools/twins.py from proofs/blake2b/State/init_tree/Answers.antt.
 use Rattle.std.proofs.Common.{sym, ◌∙◌}
 use Rattle.blake2_state.proofs.StateLaws.{Fresh-given_none, Fresh-given_some}
 use Rattle.blake2_state.proofs.blake2s.State.init_tree.Goals as goal

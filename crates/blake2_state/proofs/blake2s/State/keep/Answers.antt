@@ -1,3 +1,4 @@
+-- Made by tools/twins.py from proofs/blake2b/State/keep/Answers.antt.
 use Rattle.std.proofs.Common.{ℕ, ◌+◌, ◌-◌, ◌++◌, List, length, take, refl, sym, ap, ◌∙◌, arith}
 use Rattle.std.proofs.lemmas.List.{length-take}
 use Rattle.std.proofs.lemmas.Slice.{take-put_mid}

@@ -1,3 +1,4 @@
+-- Made by tools/twins.py from proofs/blake2b/State/keep_byte/Answers.antt.
 use Rattle.std.proofs.Common.{ℕ, List, refl, arith}
 use Rattle.std.proofs.lemmas.List.{length-take, take_more_set}
 use Rattle.blake2_state.proofs.StateLaws.{Updated_kept}

@@ -1,3 +1,4 @@
+-- Made by tools/twins.py from proofs/blake2b/State/reset/Answers.antt.
 use Rattle.std.proofs.Common.{refl}
 use Rattle.blake2_state.proofs.StateLaws.{StartedAgain_sized}
 use Rattle.blake2_state.proofs.blake2s.State.reset.Goals as goal

@@ -1,3 +1,4 @@
+-- Made by tools/twins.py from proofs/blake2b/State/set_last_node/Answers.antt.
 use Rattle.std.proofs.Common.{◌≡◌, refl, sym, ap, ◌∙◌}
 use Rattle.blake2.specs.States.{node_set}
 use Rattle.blake2_state.specs.Blake2s.{state_of}

@@ -1,3 +1,4 @@
+-- Made by tools/twins.py from proofs/blake2b/State/under_key/Answers.antt.
 use Rattle.std.proofs.Common.{refl}
 use Rattle.blake2_compress.specs.Views.{given_parameters}
 use Rattle.blake2_state.proofs.StateLaws.{Fresh_keyed}

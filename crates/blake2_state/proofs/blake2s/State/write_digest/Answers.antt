@@ -1,3 +1,4 @@
+-- Made by tools/twins.py from proofs/blake2b/State/write_digest/Answers.antt.
 use Rattle.std.proofs.Common.{ℕ, ◌++◌, List, take, drop, ap, ◌∙◌, arith}
 use Rattle.std.proofs.lemmas.List.{length-take}
 use Rattle.blake2_simd.specs.Family.{blake2s}

@@ -1,6 +1,6 @@
 use Rattle.std.proofs.Common.{arith, inl, inr}
 use Rattle.blake2_simd.specs.Family.{blake2b}
-use Rattle.blake2_transcript.proofs.Front.{walk_starts, walk_on, walk_witness}
+use Rattle.blake2_transcript.proofs.LastDifference.{walk_starts, walk_on, walk_witness}
 use Rattle.blake2_transcript.proofs.collision.blake2b.last_pair.Goals as goal
 use Rattle.blake2_transcript.proofs.collision.blake2b.last_pair.Goals.{then-not-same_step}
 use Rattle.blake2_transcript.proofs.collision.blake2b.last_pair.Goals.{else-not-same_step}

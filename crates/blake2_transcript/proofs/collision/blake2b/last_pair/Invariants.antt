@@ -1,7 +1,7 @@
 use Rattle.blake2_simd.specs.Family.{blake2b}
 use Rattle.blake2_simd.specs.Rows.{eight}
 use Rattle.blake2_compress.specs.Views.{input_of}
-use Rattle.blake2_transcript.proofs.Front.{Walk}
+use Rattle.blake2_transcript.proofs.LastDifference.{Walk}
 use Rattle.blake2_transcript.proofs.collision.blake2b.last_pair.Given as goal
 
 abbrev pub ghost-step_count : goal.ghost-step_count

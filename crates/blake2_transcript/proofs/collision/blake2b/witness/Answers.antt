@@ -1,5 +1,5 @@
 use Rattle.blake2_simd.specs.Family.{blake2b}
-use Rattle.blake2_transcript.proofs.Front.{last_witness}
+use Rattle.blake2_transcript.proofs.LastDifference.{last_witness}
 use Rattle.blake2_transcript.proofs.collision.blake2b.witness.Goals as goal
 
 pub returns-then-not-same_step-clause-pair : goal.returns-then-not-same_step-clause-pair

@@ -1,3 +1,4 @@
+-- Made by tools/twins.py from proofs/collision/blake2b/bytes_after/Answers.antt.
 use Rattle.std.proofs.Common.{ap, ◌∙◌}
 use Rattle.blake2_simd.specs.Family.{blake2s}
 use Rattle.blake2_compress.specs.Hash.{bytes_of}

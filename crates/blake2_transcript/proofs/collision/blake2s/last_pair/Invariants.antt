@@ -1,7 +1,8 @@
+-- Made by tools/twins.py from proofs/collision/blake2b/last_pair/Invariants.antt.
 use Rattle.blake2_simd.specs.Family.{blake2s}
 use Rattle.blake2_simd.specs.Rows.{eight}
 use Rattle.blake2_compress.specs.Views.{input_of}
-use Rattle.blake2_transcript.proofs.Front.{Walk}
+use Rattle.blake2_transcript.proofs.LastDifference.{Walk}
 use Rattle.blake2_transcript.proofs.collision.blake2s.last_pair.Given as goal
 
 abbrev pub ghost-step_count : goal.ghost-step_count

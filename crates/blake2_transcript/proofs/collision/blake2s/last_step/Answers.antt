@@ -1,7 +1,8 @@
+-- Made by tools/twins.py from proofs/collision/blake2b/last_step/Answers.antt.
 use Rattle.std.proofs.Common.{arith}
 use Rattle.blake2_simd.specs.Family.{blake2s}
 use Rattle.blake2_compress.specs.Views.{input_of}
-use Rattle.blake2_transcript.proofs.Front.{first_chain, next_chain, last_chain}
+use Rattle.blake2_transcript.proofs.LastDifference.{first_chain, next_chain, last_chain}
 use Rattle.blake2_transcript.proofs.collision.blake2s.last_step.Goals as goal
 
 pub loop-i-init : goal.loop-i-init

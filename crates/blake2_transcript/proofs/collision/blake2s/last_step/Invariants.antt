@@ -1,3 +1,4 @@
+-- Made by tools/twins.py from proofs/collision/blake2b/last_step/Invariants.antt.
 use Rattle.std.proofs.Common.{◌≡◌}
 use Rattle.blake2_simd.specs.Family.{blake2s}
 use Rattle.blake2_simd.specs.Rows.{eight}

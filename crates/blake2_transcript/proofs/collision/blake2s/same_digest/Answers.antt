@@ -1,3 +1,4 @@
+-- Made by tools/twins.py from proofs/collision/blake2b/same_digest/Answers.antt.
 use Rattle.std.proofs.Common.{◌≡◌, ◌↔◌, ℕ, take, sym, ap, ◌∙◌, rules, IsTrue}
 use Rattle.blake2_simd.specs.Family.{blake2s}
 use Rattle.blake2_transcript.proofs.Pairs.{digest_after}

@@ -1,5 +1,6 @@
+-- Made by tools/twins.py from proofs/collision/blake2b/witness/Answers.antt.
 use Rattle.blake2_simd.specs.Family.{blake2s}
-use Rattle.blake2_transcript.proofs.Front.{last_witness}
+use Rattle.blake2_transcript.proofs.LastDifference.{last_witness}
 use Rattle.blake2_transcript.proofs.collision.blake2s.witness.Goals as goal
 
 pub returns-then-not-same_step-clause-pair : goal.returns-then-not-same_step-clause-pair

@@ -1,3 +1,4 @@
+-- Made by tools/twins.py from proofs/collision/blake2b/witness/Invariants.antt.
 use Rattle.blake2_simd.specs.Family.{blake2s}
 use Rattle.blake2_transcript.proofs.collision.blake2s.witness.Given as goal
 

@@ -1,3 +1,4 @@
+-- Made by tools/twins.py from proofs/steps/blake2b/is_readable/Invariants.antt.
 use Rattle.blake2_simd.specs.Family.{blake2s}
 use Rattle.blake2_transcript.proofs.steps.blake2s.is_readable.Given as goal
 

@@ -1,3 +1,4 @@
+-- Made by tools/twins.py from proofs/steps/blake2b/read_transcript/Answers.antt.
 use Rattle.std.proofs.Common.{ap, map, refl, rules}
 use Rattle.blake2_simd.specs.Family.{blake2s}
 use Rattle.blake2_transcript.specs.StepViews.{entry_of}

@@ -1,3 +1,4 @@
+-- Made by tools/twins.py from proofs/contexts/blake2b/Blake2bContext/update/Answers.antt.
 use Rattle.std.proofs.Common.{[], refl}
 use Rattle.blake2_simd.specs.Family.{blake2s}
 use Rattle.blake2.specs.Contexts.{blake2s_context_state}

@@ -1,3 +1,4 @@
+-- Made by tools/twins.py from proofs/cores/blake2b/Blake2bVarCoreUpdateCore128/update_blocks/Answers.antt.
 use Rattle.std.proofs.Common.{sym, ap, ◌∙◌, arith}
 use Rattle.blake2_simd.specs.Family.{blake2s}
 use Rattle.blake2_simd.specs.Rows.{eight}

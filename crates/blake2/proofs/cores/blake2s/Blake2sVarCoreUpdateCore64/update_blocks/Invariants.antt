@@ -1,3 +1,4 @@
+-- Made by tools/twins.py from proofs/cores/blake2b/Blake2bVarCoreUpdateCore128/update_blocks/Invariants.antt.
 use Rattle.std.proofs.Common.{◌≡◌, ◌+◌, ◌*◌, take}
 use Rattle.blake2_simd.specs.Family.{blake2s}
 use Rattle.blake2_simd.specs.Rows.{eight}

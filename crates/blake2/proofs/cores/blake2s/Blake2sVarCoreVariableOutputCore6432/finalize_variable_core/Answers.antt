@@ -1,3 +1,4 @@
+-- Made by tools/twins.py from proofs/cores/blake2b/Blake2bVarCoreVariableOutputCore12864/finalize_variable_core/Answers.antt.
 use Rattle.std.proofs.Common.{ap, ◌∙◌}
 use Rattle.blake2_simd.specs.Family.{blake2s}
 use Rattle.blake2_simd.specs.Rows.{eight}

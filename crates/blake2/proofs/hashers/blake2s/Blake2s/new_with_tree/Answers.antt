@@ -1,3 +1,4 @@
+-- Made by tools/twins.py from proofs/hashers/blake2b/Blake2b/new_with_tree/Answers.antt.
 use Rattle.std.proofs.Common.{None, refl, ◌∙◌}
 use Rattle.blake2_simd.specs.Family.{blake2s}
 use Rattle.blake2_compress.specs.Hash.{key_block}

@@ -1,3 +1,4 @@
+-- Made by tools/twins.py from proofs/hashers/blake2b/Blake2bLastNode/set_last_node/Answers.antt.
 use Rattle.std.proofs.Common.{refl}
 use Rattle.blake2_simd.specs.Family.{blake2s}
 use Rattle.blake2.specs.Hashers.{blake2s_state}

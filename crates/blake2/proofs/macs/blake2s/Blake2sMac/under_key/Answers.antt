@@ -1,3 +1,4 @@
+-- Made by tools/twins.py from proofs/macs/blake2b/Blake2bMac/under_key/Answers.antt.
 use Rattle.std.proofs.Common.{◌≡◌, Some, ◌∙◌}
 use Rattle.blake2_simd.specs.Family.{blake2s}
 use Rattle.blake2_compress.specs.Hash.{key_block, sequential}

@@ -1,3 +1,4 @@
+-- Made by tools/twins.py from proofs/macs/blake2b/Blake2bMac/unkeyed/Answers.antt.
 use Rattle.std.proofs.Common.{None, refl, ◌∙◌}
 use Rattle.blake2_simd.specs.Family.{blake2s}
 use Rattle.blake2_compress.specs.Hash.{key_block, sequential}

@@ -1,3 +1,4 @@
+-- Made by tools/twins.py from proofs/macs/blake2b/Blake2bMacUpdate/update/Answers.antt.
 use Rattle.std.proofs.Common.{[], ◌∙◌, rules}
 use Rattle.blake2.proofs.macs.blake2s.Blake2sMacUpdate.update.Goals as goal
 

@@ -1,0 +1,126 @@
+-- When an output is refused, what its key counts for, and what is printed of a whole output.
+use Rattle.std.proofs.Common.{◌≡◌, ℕ, ◌<◌, ◌≤◌, List, [], ◌∷◌, Option, Some, None, Result, Ok, Err}
+use Rattle.std.proofs.Common.{◌+◌, ◌^◌, refl, sym, ap, ◌∙◌, subst, arith, length, take, drop}
+use Rattle.std.specs.Prelude.{◌↔◌, IfSome, IsOkUnless, OnOk, unwrap_or}
+use Rattle.std.specs.Io.KnownBytes.{Appends}
+use Rattle.blake2.specs.Family.{Family}
+use Rattle.blake2.specs.Keys.{key_count, IsRefused}
+use Rattle.blake2.specs.Streams.{line_of}
+use Rattle.blake2_digest.specs.States.{Fresh, Meaning, Updated, digest_now}
+use Rattle.blake2_state.specs.Arguments.{given_count}
+use Rattle.blake2_xof.specs.Xof.{Admits, IsKnown, Settings, outputs, settings, unknown_length, xof}
+use Rattle.blake2_xof.proofs.Outputs.{whole_output}
+use Rattle.b2_commands.specs.declared.fault.Fault.{Fault}
+use Rattle.b2_commands.specs.declared.fault.Fault.TheVariants.{WriteFailed}
+use Rattle.b2_commands.specs.Ends.{EndsBy}
+
+-- A key of no bytes is refused.
+pub empty_refused : (f : Family) (salt persona : List ℕ) → IsRefused f (Some []) salt persona
+unfolding IsRefused
+empty_refused f salt persona admits = absurd (omega (arith, admits.key_fits.0))
+
+-- Any other is refused as the lengths of an output are.
+pub refused_with : (f : Family) (n : ℕ) (key : Option (List ℕ)) (salt persona : List ℕ)
+    → (key ≡ Some [] → ⊥) → 1 ≤ n → n < unknown_length f
+    → (Admits f (settings n (unwrap_or key []) salt persona) → ⊥) ↔ IsRefused f key salt persona
+unfolding IsRefused
+refused_with f n None salt persona other some known = (
+  λ no fits. no (record {
+    some = some;
+    xof_length = omega (arith, known);
+    key = omega arith;
+    salt = fits.salt_fits;
+    persona = fits.persona_fits;
+  }),
+  λ no fits. no (record { key_fits = tt; salt_fits = fits.salt; persona_fits = fits.persona }),
+)
+refused_with f n (Some []) salt persona other some known = absurd (other refl)
+refused_with f n (Some (b ∷ key)) salt persona other some known = (
+  λ no fits. no (record {
+    some = some;
+    xof_length = omega (arith, known);
+    key = fits.key_fits.1;
+    salt = fits.salt_fits;
+    persona = fits.persona_fits;
+  }),
+  λ no fits. no (record {
+    key_fits = (omega arith, fits.key);
+    salt_fits = fits.salt;
+    persona_fits = fits.persona;
+  }),
+)
+
+-- A key that is not empty counts for a block, and no key for nothing.
+pub counts_for : (f : Family) (key : Option (List ℕ)) → (key ≡ Some [] → ⊥)
+    → given_count f (unwrap_or key []) ≡ key_count f key
+counts_for f None other = refl
+counts_for f (Some []) other = absurd (other refl)
+counts_for f (Some (b ∷ key)) other = refl
+
+-- The arguments of an output are the given ones.
+pub record AreGiven (key : Option (List ℕ)) (salt persona k s p : List ℕ) : Type 0 where
+  pub key_is : k ≡ unwrap_or key []
+  pub salt_is : s ≡ salt
+  pub persona_is : p ≡ persona
+  pub not_empty : key ≡ Some [] → ⊥
+
+same : (n : ℕ) (key : Option (List ℕ)) (salt persona k s p : List ℕ)
+    → AreGiven key salt persona k s p
+    → settings n k s p ≡ settings n (unwrap_or key []) salt persona
+same n key salt persona k s p are = λ i. settings n (are.key_is i) (are.salt_is i) (are.persona_is i)
+
+pub start_refused : (f : Family) (n : ℕ) (key : Option (List ℕ)) (salt persona k s p : List ℕ)
+    (E : Type 0) → AreGiven key salt persona k s p → 1 ≤ n → n < unknown_length f
+    → E ↔ (Admits f (settings n k s p) → ⊥) → E ↔ IsRefused f key salt persona
+start_refused f n key salt persona k s p E are some known told =
+    let is = same n key salt persona k s p are in
+    let law = refused_with f n key salt persona are.not_empty some known in (
+      λ e. law.0 (λ fits. told.0 e (subst (Admits f) (sym is) fits)),
+      λ no. told.1 (λ fits. law.1 no (subst (Admits f) is fits)),
+    )
+
+pub start_fresh : {S : Type 0} (f : Family) (m : Meaning S) (n : ℕ) (key : Option (List ℕ))
+    (salt persona k s p : List ℕ) (made : S) → AreGiven key salt persona k s p
+    → Fresh m (outputs f (settings n k s p)) (given_count f k) made
+    → Fresh m (outputs f (settings n (unwrap_or key []) salt persona)) (key_count f key) made
+start_fresh f m n key salt persona k s p made are fresh =
+    let count : given_count f k ≡ key_count f key =
+    ap (given_count f) are.key_is ∙ counts_for f key are.not_empty in
+    subst (λ a. Fresh m (outputs f a) (key_count f key) made) (same n key salt persona k s p are)
+    (subst (λ c. Fresh m (outputs f (settings n k s p)) c made) count fresh)
+
+-- The line of a whole output that was read from its first byte on.
+pub printed_output : {S : Type 0} (f : Family) (m : Meaning S) (a : Settings) (n : ℕ)
+    (made now : S) (x : List ℕ) (position : ℕ) (all : List ℕ) (result : Result (Unit {0}) Fault)
+    (old new : Option (List ℕ)) → IsKnown f a.xof_length → 1 ≤ a.xof_length
+    → Fresh m (outputs f a) n made → Updated m made x now → position ≡ 0
+    → all ≡ digest_now m now
+    → OnOk result (Appends old new (line_of (take a.xof_length (drop position all))))
+    → OnOk result (Appends old new (line_of (xof f a x)))
+printed_output f m a n made now x position all (Ok _) old new known some fresh updated first is line =
+    subst (λ out. Appends old new (line_of out))
+    (whole_output f m a n made now x position all (take a.xof_length (drop position all)) known some
+    fresh updated first is refl) line
+printed_output f m a n made now x position all (Err _) old new known some fresh updated first is
+    line =
+    tt
+
+-- How an output of all that a source had left ends.
+pub output_ends : {S : Type 0} (f : Family) (m : Meaning S) (a : Settings) (n : ℕ) (made now : S)
+    (position : ℕ) (all : List ℕ) (result : Result (Unit {0}) Fault) (left old new : Option (List ℕ))
+    → IsKnown f a.xof_length → 1 ≤ a.xof_length → Fresh m (outputs f a) n made
+    → IfSome left (λ bytes. (m.count made + length bytes < 2 ^ 64) × Updated m made bytes now)
+    → position ≡ 0 → all ≡ digest_now m now → IsOkUnless result WriteFailed
+    → OnOk result (Appends old new (line_of (take a.xof_length (drop position all))))
+    → EndsBy (λ message. line_of (xof f a message)) n result left old new
+output_ends f m a n made now position all (Ok _) None old new known some fresh took first is end line =
+    tt
+output_ends f m a n made now position all (Ok x) (Some bytes) old new known some fresh took first is
+    end line = (
+      omega (arith, took.0, fresh.count),
+      printed_output f m a n made now bytes position all (Ok x) old new known some fresh took.1 first is
+          line,
+    )
+output_ends f m a n made now position all (Err fault) left old new known some fresh took first is end
+    line =
+    rw end tt

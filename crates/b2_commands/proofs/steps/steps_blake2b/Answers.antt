@@ -1,0 +1,31 @@
+use Rattle.std.proofs.Common.{[], refl}
+use Rattle.std.proofs.lemmas.Bool.{iff_false}
+use Rattle.std.proofs.KnownBytes.{Keeps-refl}
+use Rattle.blake2.specs.Family.{blake2b}
+use Rattle.blake2.specs.Keys.{key_count}
+use Rattle.b2_commands.specs.Options.{given_of}
+use Rattle.b2_commands.specs.Tasks.{input_with}
+use Rattle.b2_commands.proofs.Accepting.{not_refused, refused_without_message, too_long, counts_all}
+use Rattle.b2_commands.proofs.steps.steps_blake2b.Goals as goal
+
+pub returns-then-not-accepts-clause-length : goal.returns-then-not-accepts-clause-length
+returns-then-not-accepts-clause-length g c =
+    let not_accepted = iff_false c.accepts.ensures c.if-not-accepts.true in
+    let refused = refused_without_message blake2b _
+    (input_with (given_of c.args.options.now) []) c.input_under.ensures.input
+    c.input_under.ensures.bytes refl refl not_accepted in
+    (λ _. refused, λ _. refl)
+
+pub returns-then-not-accepts-2-clause-ends : goal.returns-then-not-accepts-2-clause-ends
+returns-then-not-accepts-2-clause-ends g c =
+    let given = given_of c.args.options.now in
+    let allowed = not_refused blake2b _ (input_with given []) c.input_under.ensures.input
+    (c.accepts.ensures.0 c.if-not-accepts.false) in
+    let not_accepted = iff_false c.accepts-2.ensures c.if-not-accepts-2.true in
+    let long = too_long blake2b _ (input_with given c.as_slice.result.now)
+    c.input_under-input.ensures.input c.input_under-input.ensures.bytes refl allowed not_accepted
+    in (
+      counts_all _ c.in_ok-message.message.items (key_count blake2b given.key)
+          c.in_ok-message.ensures.whole (rw c.as_slice.ensures.value at long),
+      Keeps-refl _,
+    )

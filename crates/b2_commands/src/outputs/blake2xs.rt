@@ -1,0 +1,153 @@
+// Made by tools/twins.py from src/outputs/blake2xb.rt.
+//! Outputs of BLAKE2Xs.
+
+ghost use Rattle.std.specs.Prelude.{◌≡◌, ◌≢◌, ◌↔◌, ◌⊎◌, ◌+◌, ◌^◌, ◌<◌, ◌≤◌, length, take, drop};
+ghost use Rattle.std.specs.Prelude.{false, IsErr, IsTrue, IfErr, IfOk, IfSome, OnOk, IsOkUnless};
+ghost use Rattle.std.specs.Io.KnownBytes.{Appends, Keeps};
+ghost use Rattle.std.specs.Result.{IsErrOf};
+ghost use Rattle.blake2.specs.Family.{blake2s};
+ghost use Rattle.blake2.specs.Keys.{key_count};
+ghost use Rattle.blake2.specs.Streams.{line_of};
+ghost use Rattle.hex.specs.Hex.{encode_lower};
+ghost use Rattle.blake2_digest.specs.States.{Fresh, Updated};
+ghost use Rattle.blake2_xof.specs.Blake2xs.{HasSqueezed, IsAbsorbing, IsReady, length_of, meaning};
+ghost use Rattle.blake2_xof.specs.Blake2xs.{output_now};
+ghost use Rattle.blake2_xof.specs.Xof.{unknown_length};
+ghost use Rattle.b2_commands.specs.declared.fault.Fault.TheVariants.{ReadFailed, TooLong};
+ghost use Rattle.b2_commands.specs.declared.fault.Fault.TheVariants.{WriteFailed};
+ghost use Rattle.b2_commands.specs.Ends.{EndsBy};
+ghost use Rattle.b2_commands.specs.Options.{given_of};
+ghost use Rattle.b2_commands.specs.Tasks.{IsRefusedBy, output_with};
+
+use crate::arguments::Options;
+use crate::fault::Fault;
+use crate::input::fill;
+use blake2::streams::{Sink, Source, write_whole};
+use blake2_xof::blake2xs::State;
+
+// The number of bytes that are read, and of the output that are printed, at a time.
+const PIECE_BYTES: usize = 4096;
+
+/// Prints the output of `size` bytes for all that the source returns, under the options, as a
+/// line. The number is at least 1 and is known in advance. Neither device may have failed before.
+/// The errors are those of `xof`.
+pub(crate) fn print_output<S: Source, K: Sink>(
+    size: u64,
+    options: &Options,
+    source: &mut S,
+    sink: &mut K,
+) -> Result<(), Fault>
+    requires some { 1 ≤ size }
+    requires known { size < unknown_length blake2s }
+    requires source { S.failed source.old ≡ false }
+    requires sink { K.failed sink.old ≡ false }
+    ensures length { IsErrOf result Fault.WrongLength ↔ IsRefusedBy blake2s (given_of options.now) }
+    ensures read { IsErrOf result Fault.ReadFailed ↔ IsTrue (S.failed source.new) }
+    ensures write { IsErrOf result Fault.WriteFailed ↔ IsTrue (K.failed sink.new) }
+    ensures memory { result ≢ Err Fault.NoMemory }
+    ensures ends { EndsBy
+        (λ message. line_of (output_with blake2s size (given_of options.now) message))
+        (key_count blake2s (given_of options.now).key) result (S.left source.old)
+        (K.held sink.old) (K.held sink.new) }
+{
+    let mut state = start(size, options)?;
+    absorb(source, &mut state)?;
+    print_line(&mut state, size, sink)
+}
+
+// Returns a state that has absorbed no message, with an output of `size` bytes under the options.
+// The number is at least 1 and is known in advance. The error is `Fault::WrongLength`, exactly if
+// BLAKE2Xs does not accept a length of the options.
+fn start(size: u64, options: &Options) -> Result<State, Fault>
+    requires some { 1 ≤ size }
+    requires known { size < unknown_length blake2s }
+    ensures length { IsErr result ↔ IsRefusedBy blake2s (given_of options.now) }
+    ensures fault { IsOkUnless result Fault.WrongLength }
+    ensures absorbing { IfOk result (λ s. IsAbsorbing s) }
+    ensures xof_length { IfOk result (λ s. s.reader.xof_length ≡ size) }
+    ensures fresh { IfOk result (λ s. Fresh meaning
+        (λ _ message. output_with blake2s size (given_of options.now) message)
+        (key_count blake2s (given_of options.now).key) s) }
+{
+    if options.has_empty_key() {
+        return Err(Fault::WrongLength);
+    }
+    match State::init(size, options.key_bytes(), options.salt(), options.persona()) {
+        Ok(state) => Ok(state),
+        Err(_) => Err(Fault::WrongLength),
+    }
+}
+
+// Absorbs all that the source returns. It must not have failed before, and the state must absorb
+// bytes. The error is a `Fault`: `ReadFailed` if a read returns an error, `TooLong` if the count
+// would reach 2^64.
+fn absorb<S: Source>(source: &mut S, state: &mut State) -> Result<(), Fault>
+    requires source { S.failed source.old ≡ false }
+    requires absorbing { IsAbsorbing state.old }
+    ensures absorbing { IsAbsorbing state.new }
+    ensures xof_length { state.new.reader.xof_length ≡ state.old.reader.xof_length }
+    ensures read { IsErrOf result Fault.ReadFailed ↔ IsTrue (S.failed source.new) }
+    ensures fault { IfErr result (λ fault. (fault ≡ ReadFailed) ⊎ (fault ≡ TooLong)) }
+    ensures whole { OnOk result (IfSome (S.left source.old) (λ bytes.
+        (meaning.count state.old + length bytes < 2 ^ 64)
+        × Updated meaning state.old bytes state.new)) }
+    ensures too_long { IsErrOf result Fault.TooLong → IfSome (S.left source.old) (λ bytes.
+        2 ^ 64 ≤ meaning.count state.old + length bytes) }
+{
+    let mut buffer = [0u8; PIECE_BYTES];
+    'reading: loop {
+        let filled = fill(source, &mut buffer)?;
+        if filled as u64 > u64::MAX - state.counted() {
+            return Err(Fault::TooLong);
+        }
+        state.update(&buffer[..filled]);
+        if filled < PIECE_BYTES {
+            return Ok(());
+        }
+    }
+}
+
+/// Prints the next `count` bytes of the output as a line: two lower-case hexadecimal digits for
+/// each, and a newline. The state must be ready and have that many left, and the sink must not have
+/// failed before. The error is `Fault::WriteFailed`, if a write fails.
+pub(crate) fn print_line<K: Sink>(state: &mut State, count: u64, sink: &mut K) -> Result<(), Fault>
+    requires ready { IsReady state.old }
+    requires room { state.old.reader.position + count ≤ length_of state.old.reader }
+    requires sink { K.failed sink.old ≡ false }
+    ensures write { IsErrOf result Fault.WriteFailed ↔ IsTrue (K.failed sink.new) }
+    ensures fault { IsOkUnless result Fault.WriteFailed }
+    ensures line { OnOk result (Appends (K.held sink.old) (K.held sink.new)
+        (line_of (take count (drop state.old.reader.position (output_now state.old))))) }
+{
+    let mut left = count;
+    'printing: while left > 0 {
+        let size = left.min(PIECE_BYTES as u64);
+        print_digits(state, size as usize, sink)?;
+        left -= size;
+    }
+    write_whole(sink, b"\n").map_err(|_| Fault::WriteFailed)
+}
+
+// Prints the next `size` bytes of the output, at most `PIECE_BYTES`, as two lower-case hexadecimal
+// digits each. The state must be ready and have that many left, and the sink must not have failed
+// before. The error is `Fault::WriteFailed`, if a write fails.
+fn print_digits<K: Sink>(state: &mut State, size: usize, sink: &mut K) -> Result<(), Fault>
+    requires ready { IsReady state.old }
+    requires piece { size ≤ PIECE_BYTES }
+    requires room { state.old.reader.position + size ≤ length_of state.old.reader }
+    requires sink { K.failed sink.old ≡ false }
+    ensures ready { IsReady state.new }
+    ensures squeezed { HasSqueezed state.old size state.new }
+    ensures write { IsErrOf result Fault.WriteFailed ↔ IsTrue (K.failed sink.new) }
+    ensures fault { IsOkUnless result Fault.WriteFailed }
+    ensures digits { OnOk result (Appends (K.held sink.old) (K.held sink.new)
+        (encode_lower (take size (drop state.old.reader.position (output_now state.old))))) }
+{
+    let mut piece = [0u8; PIECE_BYTES];
+    let mut digits = [0u8; 2 * PIECE_BYTES];
+    let bytes = &mut piece[..size];
+    state.squeeze(bytes);
+    let text = &mut digits[..2 * size];
+    hex::encode_to_slice(bytes, text).unwrap();
+    write_whole(sink, text).map_err(|_| Fault::WriteFailed)
+}

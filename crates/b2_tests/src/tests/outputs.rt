@@ -1,0 +1,45 @@
+//! Outputs of BLAKE2X and derived keys. `hashlib` has none: the values are those of the model in
+//! `tests/oracle.py`, and Go's package has the same.
+
+use super::{add_output, check_rows, is_digest_of};
+
+#[test]
+fn prints_outputs(rt: HostRuntime) {
+    check_rows(&rt, OUTPUTS, None, 0);
+}
+
+const OUTPUTS: &str = "\
+xof xb 1|abc|cd
+xof xb 65 key=010203|abc|6f8d40351e3dd9ba7bcc919067dfde0832198b968290d0e3a8cd2c9618b160f1\
+e4558be761e1ff568726ddb64c247b4eeaabf4e9589839c7af1ed22c0246b34fc7
+xof xs 33 persona-text=apple salt=01|abc|\
+eea2823aa41ed238900ec86e5abd0edf2c9507fd48ff4b0d4a55e32cfe62fe6275
+xof xs 8||4b1b488dc79e978c
+derive 32 context|master key|7f71fabc20c90d95ae1ed05991e53c05396b98ff3a928cbc7bb3ae6b953f228c
+derive 65 a|kkkkkkkkkkkkkkkkkkkkkkkkkkkkkkkkkkkkkkkkkkkkkkkkkkkkkkkkkkkkkkkk|\
+2943174eec800cfacbca8203866f2084f2735187ada464222f0943c4f8b9ec21\
+52e45372158bdc3b7754cea9aa3de8e98c661f1b68c4a3c8f8a6302b8cac5650cd
+sum b128 persona-text=a=b|abc|a1d352f737a1495354f66cd9b7d293a1
+sum s128 persona-text=apple|abc|920ddb0203d8ef082ac648fb064a5940";
+
+// Outputs of several pieces, the longest of BLAKE2Xs among them.
+#[test]
+fn prints_long_outputs(rt: HostRuntime) {
+    let (mut long, mut longest) = (Vec::new(rt.alloc()), Vec::new(rt.alloc()));
+    add_output(&rt, &mut long, &["xof xb 10000"], b"abc");
+    add_output(&rt, &mut longest, &["xof xs 65534"], b"abc");
+    let wanted = "a6dc995dc95bea9381a29cccba8b872be1483a584a6e5d8f532578426e236192";
+    assert!(rt; is_digest_of(long.as_slice(), wanted));
+    let wanted = "06f02728e14ef3df3ae310afdd48b04a2e99e36e4787ab8dd767dd36d3c947e9";
+    assert!(rt; is_digest_of(longest.as_slice(), wanted));
+}
+
+// A key that is the input has 1 to 64 bytes.
+#[test]
+fn refuses_lengths_of_keys(rt: HostRuntime) {
+    check_rows(&rt, WRONG_KEYS, None, 2);
+}
+
+const WRONG_KEYS: &str = "\
+derive 32 context||b2: wrong length
+derive 32 context|kkkkkkkkkkkkkkkkkkkkkkkkkkkkkkkkkkkkkkkkkkkkkkkkkkkkkkkkkkkkkkkkk|b2: wrong length";

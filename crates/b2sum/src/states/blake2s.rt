@@ -1,0 +1,60 @@
+// Made by tools/twins.py from src/states/blake2b.rt.
+//! BLAKE2s.
+
+use super::{Absorb, HashState};
+use blake2_state::StateParameters;
+use blake2_state::blake2s::State;
+
+impl Absorb for State {
+    ghost use Rattle.std.specs.Prelude.{◌^◌};
+    ghost use Rattle.blake2_digest.specs.States.{digest_after};
+    ghost use Rattle.blake2_state.specs.Blake2s.{IsReady, meaning};
+
+    ghost IsReady = { IsReady };
+
+    ghost size = { λ s. s.output_size };
+
+    ghost future = { digest_after meaning };
+
+    ghost count = { meaning.count };
+
+    ghost limit = { 2 ^ 64 };
+
+    fn room(&self) -> u64 {
+        u64::MAX - self.counted()
+    }
+
+    fn absorb(&mut self, input: &[u8]) {
+        self.update(input);
+    }
+}
+
+impl HashState for State {
+    ghost use Rattle.std.specs.Prelude.{false};
+    ghost use Rattle.blake2_simd.specs.Family.{blake2s};
+    ghost use Rattle.blake2_compress.specs.Hash.{sequential};
+    ghost use Rattle.blake2_state.specs.Arguments.{Admits, digest_given, given_count};
+    ghost use Rattle.blake2_state.specs.Arguments.{parameters_given};
+
+    ghost accepts = { λ given. Admits blake2s (parameters_given given sequential) };
+
+    ghost digest = { λ given. digest_given blake2s given sequential false };
+
+    ghost key_count = { λ given. given_count blake2s given.key.now };
+
+    fn zeros() -> Self {
+        State::zeros()
+    }
+
+    fn start(&mut self, given: &StateParameters<'_>) -> bool {
+        let Ok(started) = State::init_salt_personal(given) else {
+            return false;
+        };
+        *self = started;
+        true
+    }
+
+    fn write_digest(&self, out: &mut [u8]) {
+        self.write_digest(out);
+    }
+}

@@ -1,0 +1,64 @@
+// Made by tools/twins.py from src/states/blake2bp.rt.
+//! BLAKE2sp.
+
+use super::{Absorb, HashState};
+use blake2_parallel::blake2sp::State;
+use blake2_state::StateParameters;
+
+impl Absorb for State {
+    ghost use Rattle.std.specs.Prelude.{◌^◌};
+    ghost use Rattle.blake2_digest.specs.States.{digest_after};
+    ghost use Rattle.blake2_parallel.specs.Blake2sp.{IsReady, meaning};
+
+    ghost IsReady = { IsReady };
+
+    ghost size = { λ s. s.output_size };
+
+    ghost future = { digest_after meaning };
+
+    ghost count = { meaning.count };
+
+    ghost limit = { 2 ^ 64 };
+
+    fn room(&self) -> u64 {
+        u64::MAX - self.counted()
+    }
+
+    fn absorb(&mut self, input: &[u8]) {
+        self.update(input);
+    }
+}
+
+impl HashState for State {
+    ghost use Rattle.blake2_simd.specs.Family.{blake2s};
+    ghost use Rattle.blake2_parallel.specs.Parallel.{Admits, key_count, parallel_digest};
+    ghost use Rattle.b2sum.specs.Digests.{settings_given};
+
+    ghost accepts = { λ given. Admits blake2s (settings_given given) };
+
+    ghost digest = { λ given. parallel_digest blake2s (settings_given given) };
+
+    ghost key_count = { λ given. key_count blake2s given.key.now };
+
+    fn zeros() -> Self {
+        State::zeros()
+    }
+
+    fn start(&mut self, given: &StateParameters<'_>) -> bool {
+        let StateParameters {
+            output_size,
+            key,
+            salt,
+            persona,
+        } = *given;
+        let Ok(started) = State::init_salt_personal(output_size, key, salt, persona) else {
+            return false;
+        };
+        *self = started;
+        true
+    }
+
+    fn write_digest(&self, out: &mut [u8]) {
+        self.write_digest(out);
+    }
+}

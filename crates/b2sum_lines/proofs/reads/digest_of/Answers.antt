@@ -1,0 +1,7 @@
+use Rattle.std.proofs.Common.{sym, arith}
+use Rattle.b2sum_lines.proofs.Digests.{too_many}
+use Rattle.b2sum_lines.proofs.reads.digest_of.Goals as goal
+
+pub returns-then-digits-max_bytes-clause-digest : goal.returns-then-digits-max_bytes-clause-digest
+returns-then-digits-max_bytes-clause-digest c = sym (too_many c.args.algorithm c.args.digits.now
+    (omega (arith, c.if-digits-max_bytes.true, c.max_bytes.ensures.is)))

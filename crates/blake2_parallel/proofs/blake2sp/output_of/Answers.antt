@@ -1,0 +1,26 @@
+-- Made by tools/twins.py from proofs/blake2bp/output_of/Answers.antt.
+use Rattle.std.proofs.Common.{ℕ, List, refl, ◌∙◌, arith, length-drop}
+use Rattle.std.proofs.lemmas.List.{take_rest}
+use Rattle.blake2_simd.specs.Family.{blake2s}
+use Rattle.blake2_compress.specs.Hash.{final}
+use Rattle.blake2_parallel.proofs.Runs.{chunk_read, last_one, one_more}
+use Rattle.blake2_parallel.proofs.blake2sp.output_of.Goals as goal
+
+pub loop-rest-preserved : goal.loop-rest-preserved
+loop-rest-preserved c =
+    let rest : List ℕ = c.loop-rest.rest.now in
+    let chunks = c.as_chunks.ensures in
+    record {
+      run = λ flags. one_more blake2s flags _ _ c.loop-rest.count _ rest _ _ c.loop-rest-test.true
+          (chunk_read 64 _ 0 c.as_chunks.result.0.now rest _ chunks.front chunks.front_len
+          (omega (arith, c.loop-rest-test.true)))
+          c.compress.ensures refl (take_rest rest 64)
+          ∙ c.loop-rest.invariant.run flags;
+      counted = omega (arith, c.loop-rest.invariant.counted, length-drop 64 rest);
+    }
+
+pub returns : goal.returns
+returns c =
+    last_one blake2s (final c.args.last_node) _ _ _ c.loop-rest.count _ c.loop-rest.rest.now _ _ _
+    c.loop-rest-test.false c.padded-block.ensures c.compress-2.ensures
+    c.last_block-flags.ensures refl c.to_bytes.ensures (c.loop-rest.invariant.run _)

@@ -1,7 +1,0 @@
-use Rattle.blake2_simd.specs.Family.{blake2b}
-use Rattle.blake2_parallel.specs.Blake2b.{held_by}
-use Rattle.blake2_parallel.proofs.StateLaws.{StartedAgain_by}
-use Rattle.blake2_parallel.proofs.hashers.blake2b.Blake2bpReset.reset.Goals as goal
-
-pub returns : goal.returns
-returns g c = StartedAgain_by blake2b held_by (λ t. t.state) _ _ c.reset.ensures.reset

@@ -1,0 +1,28 @@
+-- Made by tools/twins.py from proofs/lanes/blake2bp/compress_leaf/Answers.antt.
+use Rattle.std.proofs.Common.{◌≡◌, ℕ, ◌+◌, ◌*◌, List, ap, ◌∙◌, arith}
+use Rattle.blake2_simd.specs.Family.{blake2s}
+use Rattle.blake2_simd.specs.Rows.{eight}
+use Rattle.blake2_compress.specs.Pieces.{piece}
+use Rattle.blake2_parallel.specs.Leaves.{leaf_chain}
+use Rattle.blake2_parallel.proofs.Runs.{chunk_read, leaf_chain-more, leaf_chain-none}
+use Rattle.blake2_parallel.proofs.lanes.blake2sp.compress_leaf.Goals as goal
+
+pub loop-i-init : goal.loop-i-init
+loop-i-init c = leaf_chain-none blake2s _ c.args.counter c.args.bytes.now c.args.j
+
+pub loop-i-preserved : goal.loop-i-preserved
+loop-i-preserved c =
+    let bytes : List ℕ = c.args.bytes.now in
+    let i : ℕ = c.loop-i.i in
+    let chunks = c.as_chunks.ensures in
+    let is : 8 * i + c.args.j ≡ i * 8 + c.args.j = omega arith in
+    leaf_chain-more blake2s _ c.args.counter bytes c.args.j i _ _ _ _ c.loop-i.invariant
+    c.compress.ensures
+    (chunk_read 64 _ (8 * i + c.args.j) c.as_chunks.result.0.now bytes _ chunks.front
+    chunks.front_len (omega (arith, c.requires.whole, c.requires.lane, c.loop-i-test.true))
+    ∙ ap (piece 64 bytes) is) (omega arith)
+
+pub returns : goal.returns
+returns c =
+    c.to_words.ensures ∙ c.loop-i.invariant
+    ∙ ap (leaf_chain blake2s (eight c.args.h) c.args.counter c.args.bytes.now c.args.j) (omega arith)

@@ -1,0 +1,42 @@
+use Rattle.std.proofs.Common.{◌≡◌, ◌<◌, ℕ, List, [], ◌∷◌, length, slice_index, slice_index_or, ◌∙◌}
+use Rattle.std.proofs.Common.{arith, rules}
+use Rattle.std.specs.Borrow.{Bor}
+use Rattle.blake2_simd.specs.Family.{blake2s}
+use Rattle.blake2_simd.specs.Lanes.{in_lane}
+use Rattle.blake2_simd.proofs.Lanes.{in_eight, listed_in_eight}
+use Rattle.blake2_compress.specs.Hash.{Flags, compress as F}
+use Rattle.blake2_compress.specs.Lanes.{flags_at, texts}
+use Rattle.blake2_compress.proofs.Lanes.{lane_is, text_at}
+use Rattle.blake2_parallel.proofs.lanes.blake2sp.compress_one_by_one.Goals as goal
+
+pub returns : goal.returns
+returns c j lane =
+    let rows : List (List ℕ) = c.args.rows.now in
+    let text : ℕ → List ℕ = λ m. slice_index_or (texts c.args.blocks.now) m [] in
+    let count : ℕ → ℕ = slice_index c.args.counters.now in
+    let flags : ℕ → Flags = flags_at c.args.flags.now in
+    let eight : length c.args.blocks.now ≡ 8 = search rules in
+    let at = λ (m : ℕ) (d : Bor (List ℕ)) (lt : m < 8).
+    text_at c.args.blocks.now m d (omega (arith, eight, lt)) in
+    let wanted : ℕ → List ℕ = λ m. F blake2s (in_lane m rows) (text m) (count m) (flags m) in
+    let done : (m : ℕ) (h b : List ℕ) → h ≡ in_lane m rows → b ≡ text m
+    → F blake2s h b (count m) (flags m) ≡ wanted m =
+    λ m h b is_lane is_text i. F blake2s (is_lane i) (is_text i) (count m) (flags m) in
+    let words : List (List ℕ) = c.compress_one.result ∷ c.compress_one-2.result ∷
+    c.compress_one-3.result ∷ c.compress_one-4.result ∷ c.compress_one-5.result ∷
+    c.compress_one-6.result ∷ c.compress_one-7.result ∷ c.compress_one-8.result ∷ [] in
+    let long = in_eight (λ m. length (slice_index_or words m []) ≡ 8) (search rules) (search rules)
+    (search rules) (search rules) (search rules) (search rules) (search rules) (search rules) j lane
+    in
+    lane_is 8 j c.rows_of-all.result (slice_index_or words j []) (search rules) long
+    (λ k lt. c.rows_of-all.ensures j k lane lt)
+    ∙ listed_in_eight wanted _ _ _ _ _ _ _ _
+    (c.compress_one.ensures ∙ done 0 _ _ c.lane_words.ensures (at 0 _ (omega arith)))
+    (c.compress_one-2.ensures ∙ done 1 _ _ c.lane_words-2.ensures (at 1 _ (omega arith)))
+    (c.compress_one-3.ensures ∙ done 2 _ _ c.lane_words-3.ensures (at 2 _ (omega arith)))
+    (c.compress_one-4.ensures ∙ done 3 _ _ c.lane_words-4.ensures (at 3 _ (omega arith)))
+    (c.compress_one-5.ensures ∙ done 4 _ _ c.lane_words-5.ensures (at 4 _ (omega arith)))
+    (c.compress_one-6.ensures ∙ done 5 _ _ c.lane_words-6.ensures (at 5 _ (omega arith)))
+    (c.compress_one-7.ensures ∙ done 6 _ _ c.lane_words-7.ensures (at 6 _ (omega arith)))
+    (c.compress_one-8.ensures ∙ done 7 _ _ c.lane_words-8.ensures (at 7 _ (omega arith)))
+    j lane

@@ -1,0 +1,34 @@
+use Rattle.std.proofs.Common.{◌≡◌, ◌<◌, ◌+◌, ◌-◌, ◌*◌, min, ℕ, List, [], ◌∷◌, slice_index}
+use Rattle.std.proofs.Common.{◌∙◌, arith}
+use Rattle.blake2_simd.specs.Family.{blake2s}
+use Rattle.blake2_simd.specs.Lanes.{in_lane}
+use Rattle.blake2_simd.proofs.Lanes.{in_eight, listed_in_eight}
+use Rattle.blake2_compress.specs.Hash.{compress as F}
+use Rattle.blake2_compress.specs.Lanes.{flags_at}
+use Rattle.blake2_compress.specs.Pieces.{piece}
+use Rattle.blake2_parallel.proofs.Runs.{chunk_read}
+use Rattle.blake2_parallel.proofs.lanes.blake2sp.compress_stripe.Goals as goal
+
+pub returns : goal.returns
+returns c j lane =
+    let stripe : List ℕ = c.args.stripe.now in
+    let n : ℕ = c.args.counter in
+    let k : ℕ = c.args.n in
+    let chunks = c.as_chunks.ensures in
+    let at = λ (m : ℕ) (d : List ℕ) (lt : m < 8).
+    chunk_read 64 _ m c.as_chunks.result.0.now stripe d chunks.front chunks.front_len
+    (omega (arith, lt, c.requires.whole)) in
+    let block = listed_in_eight (piece 64 stripe) _ _ _ _ _ _ _ _
+    (at 0 _ (omega arith)) (at 1 _ (omega arith)) (at 2 _ (omega arith)) (at 3 _ (omega arith))
+    (at 4 _ (omega arith)) (at 5 _ (omega arith)) (at 6 _ (omega arith)) (at 7 _ (omega arith)) j lane
+    in
+    let counts : List ℕ = (n + c.part.result) ∷ (n + c.part-2.result) ∷ (n + c.part-3.result)
+    ∷ (n + c.part-4.result) ∷ (n + c.part-5.result) ∷ (n + c.part-6.result) ∷ (n + c.part-7.result)
+    ∷ (n + c.part-8.result) ∷ [] in
+    let count = in_eight (λ m. slice_index counts m ≡ n + min 64 (k - m * 64))
+    (omega (arith, c.part.ensures)) (omega (arith, c.part-2.ensures))
+    (omega (arith, c.part-3.ensures)) (omega (arith, c.part-4.ensures))
+    (omega (arith, c.part-5.ensures)) (omega (arith, c.part-6.ensures))
+    (omega (arith, c.part-7.ensures)) (omega (arith, c.part-8.ensures)) j lane in
+    c.compress_each.ensures j lane
+    ∙ (λ i. F blake2s (in_lane j c.args.rows.now) (block i) (count i) (flags_at c.args.flags.now j))

@@ -1,0 +1,18 @@
+use Rattle.std.proofs.Common.{◌∙◌, ap}
+use Rattle.blake2_simd.specs.Family.{blake2s}
+use Rattle.blake2_simd.specs.Lanes.{in_lane}
+use Rattle.blake2_simd.proofs.Lanes.{listed_in_eight}
+use Rattle.blake2_compress.specs.Hash.{bytes_of}
+use Rattle.blake2_parallel.proofs.lanes.blake2sp.outputs_of.Goals as goal
+
+pub returns : goal.returns
+returns c j lane =
+    listed_in_eight (λ m. bytes_of blake2s (in_lane m c.args.rows.now)) _ _ _ _ _ _ _ _
+    (c.to_bytes.ensures ∙ ap (bytes_of blake2s) c.lane_words.ensures)
+    (c.to_bytes-2.ensures ∙ ap (bytes_of blake2s) c.lane_words-2.ensures)
+    (c.to_bytes-3.ensures ∙ ap (bytes_of blake2s) c.lane_words-3.ensures)
+    (c.to_bytes-4.ensures ∙ ap (bytes_of blake2s) c.lane_words-4.ensures)
+    (c.to_bytes-5.ensures ∙ ap (bytes_of blake2s) c.lane_words-5.ensures)
+    (c.to_bytes-6.ensures ∙ ap (bytes_of blake2s) c.lane_words-6.ensures)
+    (c.to_bytes-7.ensures ∙ ap (bytes_of blake2s) c.lane_words-7.ensures)
+    (c.to_bytes-8.ensures ∙ ap (bytes_of blake2s) c.lane_words-8.ensures) j lane

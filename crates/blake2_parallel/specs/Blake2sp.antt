@@ -1,0 +1,78 @@
+-- Made by tools/twins.py from specs/Blake2bp.antt.
+-- What the states of BLAKE2sp mean.
+use Rattle.std.specs.Prelude.{◌≡◌, ℕ, ◌+◌, ◌*◌, ◌^◌, ◌<◌, ◌≤◌, take, replicate}
+use Rattle.std.specs.List.{flat_map}
+use Rattle.blake2_simd.specs.Family.{blake2s}
+use Rattle.blake2_simd.specs.Lanes.{in_lane}
+use Rattle.blake2_digest.specs.States.{Meaning}
+use Rattle.blake2_parallel.specs.declared.lanes.blake2sp.Lanes.{Lanes}
+use Rattle.blake2_parallel.specs.declared.blake2sp.State.{State}
+use Rattle.blake2_parallel.specs.Leaves.{Leaves}
+use Rattle.blake2_parallel.specs.States.{Held, meaning_by}
+
+-- The leaves that lanes hold. The pending bytes are at the beginning of their field.
+abbrev pub leaves_of : Lanes → Leaves
+leaves_of s = record {
+  words = λ j. in_lane j s.rows;
+  count = s.counter;
+  pending = take s.length s.pending;
+}
+
+-- At most fifteen blocks are pending, and the count is below 2^64.
+pub record IsSound (s : Lanes) : Type 0 where
+  pub within : s.length ≤ 960
+  pub counted : 8 * s.counter + s.length < 2 ^ 64
+
+-- What a state holds: its leaves, those that a start leaves, and its root.
+abbrev pub held_by : State → Held
+held_by s = record {
+  leaves = leaves_of s.lanes;
+  first = record {
+    words = λ j. in_lane j s.first;
+    count = 0;
+    pending = take s.start_length (flat_map (λ x. x) (replicate 8 s.key_block));
+  };
+  root = s.root;
+  size = s.output_size;
+}
+
+-- The meaning of a state: the digests that it will return, of the length that it holds, and the
+-- bytes that it counts.
+abbrev pub meaning : Meaning State
+meaning = meaning_by blake2s held_by
+
+-- The state's lengths and counts are those of a hash. Its digest may be empty.
+pub record IsWithin (s : State) : Type 0 where
+  pub most : s.output_size ≤ 32
+  pub lanes : IsSound s.lanes
+  pub start : s.start_length ≤ 512
+
+-- The state returns digests: its digest length is one of BLAKE2s's, at most fifteen blocks are
+-- pending, a start leaves at most eight, and the count is below 2^64.
+pub record IsReady (s : State) : Type 0 where
+  pub least : 1 ≤ s.output_size
+  pub within : IsWithin s
+
+-- The state returns digests of `size` bytes.
+abbrev pub IsReadyFor : ℕ → State → Type 0
+IsReadyFor size s = IsReady s × (s.output_size ≡ size)
+
+-- The zeroed state with digests of `size` bytes.
+abbrev pub zeros_for : ℕ → State
+zeros_for size = record {
+  lanes = record {
+    rows = replicate 8 (replicate 8 0);
+    counter = 0;
+    length = 0;
+    pending = replicate 960 0;
+  };
+  first = replicate 8 (replicate 8 0);
+  root = replicate 8 0;
+  start_length = 0;
+  output_size = size;
+  key_block = replicate 64 0;
+}
+
+-- The zeroed state, which returns no digests.
+abbrev pub zeros : State
+zeros = zeros_for 0

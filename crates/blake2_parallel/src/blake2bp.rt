@@ -1,0 +1,335 @@
+//! BLAKE2bp: four leaves of BLAKE2b, with a state of plain numbers.
+
+ghost use Rattle.std.specs.Prelude.{◌≡◌, ◌+◌, ◌^◌, ◌<◌, ◌≤◌, ◌↔◌, ◌++◌, length, take, drop, IfOk};
+ghost use Rattle.std.specs.Prelude.{IsErr, IsTrue, true, slice_index_or, ℕ};
+ghost use Rattle.std.specs.List.{flat_map};
+ghost use Rattle.blake2_simd.specs.Family.{blake2b};
+ghost use Rattle.blake2_simd.specs.Lanes.{in_lane};
+ghost use Rattle.blake2_simd.specs.Rows.{eight};
+ghost use Rattle.blake2_compress.specs.Hash.{start};
+ghost use Rattle.blake2_compress.specs.Views.{given_parameters};
+ghost use Rattle.blake2_digest.specs.States.{Fresh, Updated, StartedAgain, digest_now};
+ghost use Rattle.blake2_parallel.specs.Parallel.{Admits, Fits, digests, key_count};
+ghost use Rattle.blake2_parallel.specs.Parallel.{node_parameters, output_from, settings};
+ghost use Rattle.blake2_parallel.specs.Blake2bp.{IsReady, IsWithin, meaning, zeros, zeros_for};
+
+use crate::lanes::blake2bp::Lanes;
+use blake2_compress::compress::Flags;
+use blake2_compress::compress::blake2b::{compress, to_bytes, to_rows};
+use blake2_compress::params::blake2b::start_words;
+use blake2_compress::params::{Parameters, Tree};
+use blake2_digest::{Duplicate, InvalidLength, constant_time_eq, padded, settle};
+use blake2_simd::rows::u64x4;
+use std::hint;
+
+// ---- the nodes
+
+// The parameters of a node.
+fn parameters<'a>(
+    output_size: usize,
+    key: &[u8],
+    salt: &'a [u8],
+    persona: &'a [u8],
+    node_offset: u64,
+    node_depth: u8,
+) -> Parameters<'a>
+    ensures { given_parameters result
+        ≡ node_parameters blake2b (settings output_size key.now salt.now persona.now) node_offset
+        node_depth }
+{
+    Parameters {
+        output_size,
+        key_size: key.len(),
+        salt,
+        persona,
+        tree: Tree {
+            fanout: 4,
+            depth: 2,
+            leaf_length: 0,
+            node_offset,
+            node_depth,
+            inner_length: 64,
+        },
+    }
+}
+
+// The words that the leaves start from, row by row. They differ in the node offset, which is in the
+// second word of the parameter block.
+fn first_rows(output_size: usize, key: &[u8], salt: &[u8], persona: &[u8]) -> [[u64; 4]; 8]
+    requires { Fits blake2b (settings output_size key.now salt.now persona.now) }
+    ensures { (j : ℕ) → j < 4 → in_lane j result ≡ start blake2b
+        (node_parameters blake2b (settings output_size key.now salt.now persona.now) j 0) }
+{
+    let first = parameters(output_size, key, salt, persona, 0, 0);
+    let [h0, h1, h2, h3, h4, h5, h6, h7] = start_words(&first);
+    [
+        [h0; 4],
+        [h1, h1 ^ 1, h1 ^ 2, h1 ^ 3],
+        [h2; 4],
+        [h3; 4],
+        [h4; 4],
+        [h5; 4],
+        [h6; 4],
+        [h7; 4],
+    ]
+}
+
+// The number of bytes that a start leaves pending: a key's block for each leaf, or none.
+fn start_length(key: &[u8]) -> usize
+    ensures none { length key.now ≡ 0 → result ≡ 0 }
+    ensures some { 0 < length key.now → result ≡ 512 }
+    ensures short { result ≤ 512 }
+{
+    if key.is_empty() { 0 } else { 512 }
+}
+
+// The output of a node that has the chaining words `h` before its data.
+fn output_of(h: [u64x4; 2], bytes: &[u8], last_node: bool) -> [u8; 64]
+    requires { length bytes.now < 2 ^ 64 }
+    ensures { result ≡ output_from blake2b (eight h) 0 bytes.now last_node }
+{
+    let mut words = h;
+    let mut count = 0;
+    let mut rest = bytes;
+    while rest.len() > 128 {
+        let (blocks, _) = rest.as_chunks::<128>();
+        count += 128;
+        compress(&mut words, &blocks[0], count, Flags::INNER);
+        rest = &rest[128..];
+    }
+    let block = padded::<128>(rest);
+    let flags = Flags::last_block(last_node);
+    compress(&mut words, &block, count + rest.len() as u64, flags);
+    to_bytes(&words)
+}
+
+// ---- the state
+
+// Reads the words in a separate call, and pauses the processor once if one is not zero.
+#[inline(never)]
+fn settle_words(words: &[u64]) {
+    let mut bits = 0;
+    for word in words {
+        bits |= *word;
+    }
+    if bits != 0 {
+        hint::spin_loop();
+    }
+}
+
+/// A state of BLAKE2bp as plain numbers. All values of the fields are states, and none is unsafe.
+/// A state returns digests if it is ready ([`State::is_ready`]), as all are that
+/// `init_salt_personal` has made.
+#[repr(C)]
+#[derive(Drop)]
+pub struct State {
+    /// The leaves, and the bytes that are not dealt out yet.
+    pub lanes: Lanes,
+    /// The words that the leaves started from: row k has word k of each leaf.
+    pub first: [[u64; 4]; 8],
+    /// The words that the root starts from.
+    pub root: [u64; 8],
+    /// The number of bytes that a start leaves pending: 512 of a key's blocks, or none.
+    pub start_length: usize,
+    /// The number of bytes of the digest, 1 to 64.
+    pub output_size: usize,
+    /// The key, padded with zeros to a block.
+    pub key_block: [u8; 128],
+}
+
+impl State {
+    /// Returns whether the state returns digests.
+    pub fn is_ready(&self) -> bool
+        ensures { IsTrue result ↔ IsReady self.now }
+    {
+        self.output_size >= 1
+            && self.output_size <= 64
+            && self.lanes.is_sound()
+            && self.start_length <= 512
+    }
+
+    // The zeroed state with digests of `output_size` bytes.
+    pub(crate) fn zeros_for(output_size: usize) -> Self
+        ensures { result ≡ zeros_for output_size }
+    {
+        State {
+            lanes: Lanes {
+                rows: [[0; 4]; 8],
+                counter: 0,
+                length: 0,
+                pending: [0; 896],
+            },
+            first: [[0; 4]; 8],
+            root: [0; 8],
+            start_length: 0,
+            output_size,
+            key_block: [0; 128],
+        }
+    }
+
+    /// Returns the zeroed state, which is not ready.
+    pub fn zeros() -> Self
+        ensures { result ≡ zeros }
+    {
+        Self::zeros_for(0)
+    }
+
+    // Makes a compiler keep zeros, as `blake2_digest::settle` does.
+    pub(crate) fn settle(&self) {
+        settle_words(self.lanes.rows.as_flattened());
+        settle_words(self.first.as_flattened());
+        settle_words(&self.root);
+        settle(&self.lanes.pending);
+        settle(&self.key_block);
+    }
+
+    /// Overwrites everything with zeros. The state is then not ready.
+    pub fn wipe(&mut self)
+        ensures { self.new ≡ zeros }
+    {
+        *self = Self::zeros();
+    }
+
+    // A state that has absorbed no message.
+    pub(crate) fn new(output_size: usize, key: &[u8], salt: &[u8], persona: &[u8]) -> Self
+        requires { Fits blake2b (settings output_size key.now salt.now persona.now) }
+        ensures within { IsWithin result }
+        ensures size { result.output_size ≡ output_size }
+        ensures fresh { Fresh meaning
+            (digests blake2b (settings output_size key.now salt.now persona.now))
+            (key_count blake2b key.now) result }
+    {
+        let first = first_rows(output_size, key, salt, persona);
+        let root = start_words(&parameters(output_size, key, salt, persona, 0, 1));
+        let key_block = padded::<128>(key);
+        let start_length = start_length(key);
+        State {
+            lanes: Lanes::new(&first, &key_block, start_length),
+            first,
+            root,
+            start_length,
+            output_size,
+            key_block,
+        }
+    }
+
+    /// Returns whether BLAKE2bp accepts these parameters: a digest of 1 to 64 bytes, a key of up to
+    /// 64 (no bytes mean no key), a salt and a persona of up to 16 each.
+    pub fn accepts(output_size: usize, key: &[u8], salt: &[u8], persona: &[u8]) -> bool
+        ensures { IsTrue result
+            ↔ Admits blake2b (settings output_size key.now salt.now persona.now) }
+    {
+        output_size >= 1
+            && output_size <= 64
+            && key.len() <= 64
+            && salt.len() <= 16
+            && persona.len() <= 16
+    }
+
+    /// Returns a state of these parameters that has absorbed no message: a digest of 1 to 64
+    /// bytes, a key of up to 64 (no bytes mean no key), a salt and a persona of up to 16 each.
+    /// The error is `InvalidLength`, exactly for other lengths.
+    #[inline]
+    pub fn init_salt_personal(
+        output_size: usize,
+        key: &[u8],
+        salt: &[u8],
+        persona: &[u8],
+    ) -> Result<Self, InvalidLength>
+        ensures refused { IsErr result
+            ↔ ¬ Admits blake2b (settings output_size key.now salt.now persona.now) }
+        ensures ready { IfOk result (λ s. IsReady s) }
+        ensures size { IfOk result (λ s. s.output_size ≡ output_size) }
+        ensures fresh { IfOk result (λ s. Fresh meaning
+            (digests blake2b (settings output_size key.now salt.now persona.now))
+            (key_count blake2b key.now) s) }
+    {
+        if !Self::accepts(output_size, key, salt, persona) {
+            return Err(InvalidLength);
+        }
+        Ok(Self::new(output_size, key, salt, persona))
+    }
+
+    /// Returns how many bytes the state has counted since its last start, including those that
+    /// are pending and those of a key's blocks: 512 for a key. The state must be ready.
+    pub fn counted(&self) -> u64
+        requires { IsWithin self.now }
+        ensures { result ≡ meaning.count self.now }
+    {
+        4 * self.lanes.counter + self.lanes.length as u64
+    }
+
+    /// Absorbs the input after all that was absorbed before. The state must be ready. Fewer than
+    /// 2^64 bytes may be counted in all; `counted` returns the count so far.
+    pub fn update(&mut self, input: &[u8])
+        requires within { IsWithin self.old }
+        requires counted { meaning.count self.old + length input.now < 2 ^ 64 }
+        ensures within { IsWithin self.new }
+        ensures size { self.new.output_size ≡ self.old.output_size }
+        ensures updated { Updated meaning self.old input.now self.new }
+    {
+        self.lanes.update(input);
+    }
+
+    /// Goes back to the start: parameters and key are kept. The state must be ready.
+    pub fn reset(&mut self)
+        requires { IsWithin self.old }
+        ensures within { IsWithin self.new }
+        ensures size { self.new.output_size ≡ self.old.output_size }
+        ensures reset { StartedAgain meaning self.old self.new }
+    {
+        self.lanes = Lanes::new(&self.first, &self.key_block, self.start_length);
+    }
+
+    // The output of the root, which begins with the digest of what was absorbed since the last
+    // start.
+    fn output(&self) -> [u8; 64]
+        requires { IsWithin self.now }
+        ensures { take self.now.output_size result ≡ digest_now meaning self.now }
+    {
+        let outputs = self.lanes.outputs();
+        output_of(to_rows(&self.root), outputs.as_flattened(), true)
+    }
+
+    /// Writes the digest of what was absorbed since the last start at the beginning of `out`,
+    /// which must have at least `output_size` bytes. Those after the digest stay as they are. The
+    /// state must be ready. It stays as it is, and can absorb more.
+    pub fn write_digest(&self, out: &mut [u8])
+        requires within { IsWithin self.now }
+        requires room { self.now.output_size ≤ length out.old }
+        ensures { out.new ≡ digest_now meaning self.now ++ drop self.now.output_size out.old }
+    {
+        let whole = self.output();
+        let size = self.output_size;
+        out[..size].copy_from_slice(&whole[..size]);
+    }
+
+    /// Returns whether the tag is the whole digest of what was absorbed since the last start. All
+    /// bytes of a tag of its length are compared, wherever it differs. The state must be ready,
+    /// and stays as it is.
+    pub fn is_digest(&self, tag: &[u8]) -> bool
+        requires { IsWithin self.now }
+        ensures { IsTrue result ↔ (tag.now ≡ digest_now meaning self.now) }
+    {
+        let whole = self.output();
+        constant_time_eq(tag, &whole[..self.output_size])
+    }
+}
+
+impl Duplicate for State {
+    fn duplicate(&self) -> Self {
+        State {
+            lanes: Lanes {
+                rows: self.lanes.rows,
+                counter: self.lanes.counter,
+                length: self.lanes.length,
+                pending: self.lanes.pending,
+            },
+            first: self.first,
+            root: self.root,
+            start_length: self.start_length,
+            output_size: self.output_size,
+            key_block: self.key_block,
+        }
+    }
+}

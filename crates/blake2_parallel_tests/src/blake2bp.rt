@@ -1,0 +1,282 @@
+//! BLAKE2bp.
+
+use crate::checks::{key, message, read, reads, thousand};
+use blake2_digest::{
+    CustomizedInit, Digest, Duplicate, FixedOutputReset, KeyInit, Mac, Reset, Update, Wipe,
+};
+use blake2_parallel::blake2bp::State;
+use blake2_parallel::{Blake2bp, Blake2bpMac};
+use std::process::Abort;
+
+const ROWS_64: &str = "\
+0 0 b5ef811a8038f70b628fa8b294daae7492b1ebe343a80eaabbf1f6ae664dd67b\
+9d90b0120791eab81dc96985f28849f6a305186a85501b405114bfa678df9380
+1 0 a139280e72757b723e6473d5be59f36e9d50fc5cd7d4585cbc09804895a36c52\
+1242fb2789f85cb9e35491f31d4a6952f9d8e097aef94fa1ca0b12525721f03d
+128 0 6cb23104f2c74a7f0ac2d845ff061507139a9cdf7728e360243e0d17ecddca89\
+7d6bef4949b6cff3ff84394eceaf255a41a73076622493798f6689566b80c6be
+129 0 d64472f7fdfad98114123914efbbba5d895d1a2227c885817a903e7170199e99\
+56736b6fd7c8c5e1abd39113e50d448c320a2c2817e88bfe221d37028d288f28
+384 0 c6d274127b6feeab5e52744ce93b22ac621549db79c0b0b048ea4a9c02747c7f\
+e89b48e069caaaffe30e63e6d276ef5ea82d8484122ca90a2efd86ca4bdc6a8a
+385 0 19adcf284c4c40ad739bea7a2b9113436da3d363b15aa1bbb3c74d52eee6c4d0\
+e9570ab87dbab7eb89642349a55e74a5df379a980881a77db89cdb0bde1e3e3c
+512 0 8976dd7593bf03dce07d9d967c55ac4143eb61208c0ec389ff96fa4bbbe704cb\
+4d699c1e1c836348bd0f0ac33ad5097549118de65f6191507bfac7363988f1d8
+513 0 9e2a68ba8df808f3809ddc8091351a3edd564a07f3ef5d9f8c98fcbaa3b07c77\
+0e14c5ed53e90ce1bc6c9e9fc92ae3c428a78edb7b26519607ed05461b5006f7
+896 0 899d0edd1c64c1de569ffd89030adbd1c06ce21b3575dcd123630f4529ae0c19\
+156f922058d0086559b713e7f0773fcf1ee798eaa28ce5efaf08608cc3b79233
+897 0 ef354d82f02c912ebffed5d3509be264fc96329349a7876f4cb2b36c076efcd9\
+a5bc482760ecc4a9fec77c07cbc1cb40e7b57d840aaf196b16e2e423536d9658
+1024 0 04bda9fb1ccd7f05fcd99f08d5e6d90ee142e12c0a367b568eb176339eb46e6c\
+75154980caf81c9fb683879759dab42dcdcebf05bdca48c2874d61f2531b529e
+1409 0 8099b1c7d52ddce1d21043c543aeda98f739cdf06b0c8305d0a7cf00d1f59bf6\
+105a7afa2bfcf4695247eccaee43c4ed07e760637f6c8ce45c3c59043fa26793
+4000 0 1dd8ed1e6779ce15e41ff3560da1204efb5130f34d0dbecf5f24dbcb7e63b79b\
+4cc10eeaa46b1f451c72548a9a2bf7c27271fdbfeb0de9a6fd0a01f7d5d375e3
+0 64 009a61bfe13ea82b796f04a00653a36a64a933a48dbe3959bd4c6bae033367c5\
+67c65d4efe5192076fba7b2a8cf023f46f8cc47e6d857fbf7ae69736565a32dd
+1 64 dcec4283e2ebbe6bae514a7082883d671d7b8e5db42ed023ff7d6c95ca8483f1\
+b5e2a82a8f218bd36793c978528fb769057cf56f97ca02dd40b9c8588118d429
+128 64 5a4df9e3757bac2f8a4fd962871e40966a77efdff204d6aacadf5c5eae1bc365\
+ed25f7b722815a94b2bc5d339a6a5b408353fa4913ae619a43b16014ba6e2bd9
+129 64 e19c70837de0a0d11b49897e5304ce9feb419f7f3f4bbb930dd463c1a6f84955\
+329bd6e98b974c4be79a4d2795e986401f4781bed55625ec514025ca98dda100
+384 64 994c762d947b0321f057ef8f07b8bb6a9a2e2f14fcd2c97898a1395a66f82f20\
+d8ede526f425aff9b77201179db469f553622e8a202c7c1d47a58fc640848aef
+385 64 ef8d8c0481ec746838b6633a2c87e2826f37d50d82b127df40bbfbd9eea30315\
+1fbd105ef9a060c8b7053ec7b83d8db794239f159d059150f86b507856d60170
+512 64 4126ca0f2ba0ca7a0bc1409d21a4af4b7b50415e13949a6398a0c38931f7784b\
+87be2f254a731dd0ddd8b1667050f381cc8f3f6e348cc58380803e61b18227cb
+513 64 426f8be697ac9b45094be785f6926b844f3e46b466be7ec4596f9b85cba51966\
+8741c7fc8f2ee1ea3a393c63d825e33bd137e018382ae3218f39ceb3707d6231
+896 64 d415627750f8389810b050956fc4d37da44c9632ee0c04e1d2c8fddd1f86ccd9\
+ad5f5f536a0bda592cf5aaa240edc9353c88f60737ec96adc695900580a48e26
+897 64 4934e5c7d3e79b8305d87ab8f9e0111dbd8dc9d5b9a978d78364ce780d1a701f\
+6bbbea60841a224e233848633e1b754f51468be5a48abff9d14b4f3c497e11c4
+1024 64 d76dd8ae374b2387d0c98c82f6e74c382771b736fae986d2eb6e1f1782b56f4e\
+ce6513796b108b9339c680aab638ab03249b594861b8c92bd22896f430608456
+1409 64 c5ed2c0fbb16865e719b8397edfbd1059554b1387f2632465cb8e35e947a50d1\
+dabf1616cd28e9bd7731cc1c234a23c82b261b39c1da63172d1522c16ce3fbe2
+4000 64 f56264a2848b5513a5caaf0bfdd09611c6a2e6daf30a97db42a83382186b4ad1\
+97731e04158a2a6ec07a53fc38c2ce34484665c7da079dea87c25d1d723299b7
+";
+
+const ROWS_20: &str = "\
+0 0 3485843ba429f13c19501da90d0400e77e096595
+515 0 c8719eeaedd4466af3365f7c0218861f12ae4663
+1024 0 8b3978e2544095a48548ea49ed481dfdf2f78001
+0 1 f520d704e3c9e9b83f3f9879dba8cfcf6d984c66
+515 1 2da8d31768ed44dde0001c1884c68b3f98674746
+1024 1 e6e502b76dda5720b6d9b2a61e580b7474c08141
+";
+
+// Absorbs the input.
+fn take(rt: &impl Abort, state: &mut State, input: &[u8]) {
+    assert!(rt; state.is_ready() && input.len() as u64 <= u64::MAX - state.counted());
+    state.update(input);
+}
+
+// Absorbs the message in pieces of this length, at least 1, and checks the digest, and that no
+// other is its digest.
+fn check(rt: &impl Abort, state: &mut State, message: &[u8], piece: usize, wanted: &str) {
+    assert!(rt; piece >= 1);
+    for part in message.chunks(piece) {
+        take(rt, state, part);
+    }
+    assert!(rt; state.is_ready() && state.output_size <= 64);
+    let mut out = [0; 64];
+    state.write_digest(&mut out);
+    let digest = &out[..state.output_size];
+    assert!(rt; reads(digest, wanted), "{wanted}");
+    assert!(rt;
+        state.is_digest(digest) && !state.is_digest(&digest[1..]),
+        "{wanted}"
+    );
+}
+
+// Checks a table, each row in pieces of several lengths, and after a reset.
+fn check_table(rt: &impl Abort, size: usize, table: &str) {
+    let message = message();
+    let key = key();
+    for row in table.lines() {
+        let (length, key_length, digits) = read(rt, row);
+        for piece in [1usize, 100, 128, 385, 512, 513, 896, 897, 4096] {
+            assert!(rt; length <= 4096 && key_length <= 64);
+            let made = State::init_salt_personal(size, &key[..key_length], &[], &[]);
+            let mut state = made.expect(rt, row);
+            check(rt, &mut state, &message[..length], piece, digits);
+            assert!(rt; state.is_ready());
+            state.reset();
+            check(rt, &mut state, &message[..length], 700, digits);
+        }
+    }
+}
+
+#[test]
+fn digests_of_64_bytes(rt: HostRuntime) {
+    check_table(&rt, 64, ROWS_64);
+}
+
+#[test]
+fn digests_of_20_bytes(rt: HostRuntime) {
+    check_table(&rt, 20, ROWS_20);
+}
+
+#[test]
+fn salt_and_persona(rt: HostRuntime) {
+    let salt = [1, 2, 3, 4, 5, 6, 7, 8, 9, 10, 11, 12, 13, 14, 15, 16];
+    let made = State::init_salt_personal(64, &[], &salt, b"personal");
+    let wanted = "952a91ce8edc821c0b2e6d489fc510a0c5ddaecb3895580040f2ed3c254e2715\
+        069018f3cb0ca97b20141a34ba02e0a547f775b1faf601b46c003387fd4cb875";
+    check(
+        &rt,
+        &mut made.expect(&rt, "a state"),
+        &thousand(),
+        1000,
+        wanted,
+    );
+}
+
+#[test]
+fn refused_lengths(rt: HostRuntime) {
+    let longer = [0; 65];
+    assert!(&rt; State::init_salt_personal(0, &[], &[], &[]).is_err());
+    assert!(&rt; State::init_salt_personal(65, &[], &[], &[]).is_err());
+    assert!(&rt; State::init_salt_personal(1, &longer[..65], &[], &[]).is_err());
+    assert!(&rt; State::init_salt_personal(1, &[], &longer[..17], &[]).is_err());
+    assert!(&rt; State::init_salt_personal(1, &[], &[], &longer[..17]).is_err());
+    assert!(&rt; !State::zeros().is_ready());
+    let made = State::init_salt_personal(1, &longer[..64], &longer[..16], &longer[..16]);
+    let mut state = made.expect(&rt, "a state");
+    assert!(&rt; state.is_ready() && state.counted() == 512);
+    state.wipe();
+    assert!(&rt; !state.is_ready());
+}
+
+// Absorbs an input through the trait, and checks the count.
+fn absorb<S: Update>(rt: &impl Abort, state: &mut S, input: &[u8]) {
+    let before = state.counted();
+    assert!(rt; before <= 0x1000 && input.len() <= 0x1000);
+    state.update(input);
+    assert!(rt; state.counted() == before + input.len() as u64);
+}
+
+// Checks what a hasher returns for the message, from its start and after resets.
+fn check_hasher<const N: usize, D: Digest<N> + Duplicate>(
+    rt: &impl Abort,
+    state: D,
+    message: &[u8],
+    wanted: &str,
+) {
+    let mut state = state;
+    let (first, rest) = message.split_at(message.len() / 2);
+    absorb(rt, &mut state, first);
+    let mut copy = state.duplicate();
+    absorb(rt, &mut copy, rest);
+    absorb(rt, &mut state, rest);
+    assert!(rt;
+        reads(&Digest::finalize_reset(&mut state), wanted),
+        "{wanted}"
+    );
+    assert!(rt; reads(&Digest::finalize(copy), wanted), "a copy: {wanted}");
+    absorb(rt, &mut state, first);
+    Reset::reset(&mut state);
+    absorb(rt, &mut state, message);
+    let mut out = [0; N];
+    Digest::finalize_into(state, &mut out);
+    assert!(rt; reads(&out, wanted), "after resets: {wanted}");
+}
+
+#[test]
+fn a_hasher(rt: HostRuntime) {
+    let wanted = "69ac521f1a8acd09a194af280133b083ecd73065266b9d58838f174045291b7e\
+        9897cf3b1dfb4e991168d8d3b68e90cebb1e56757f6ef7d96ff08164a031173c";
+    let message = thousand();
+    assert!(&rt; reads(&Blake2bp::<64>::digest(&message), wanted));
+    check_hasher::<64, Blake2bp<64>>(&rt, Blake2bp::new(), &message, wanted);
+}
+
+#[test]
+fn a_customized_hasher(rt: HostRuntime) {
+    let state = Blake2bp::<20>::new_customized(b"app");
+    check_hasher::<20, Blake2bp<20>>(
+        &rt,
+        state,
+        &thousand(),
+        "9201c74549dfa6bd546aaa0bc62f01e1a686a549",
+    );
+}
+
+#[test]
+fn a_hasher_with_a_salt(rt: HostRuntime) {
+    let salt = [1, 2, 3, 4, 5, 6, 7, 8, 9, 10, 11, 12, 13, 14, 15, 16];
+    let state = Blake2bp::<64>::new_with_salt_and_personal(&salt, b"personal");
+    let wanted = "952a91ce8edc821c0b2e6d489fc510a0c5ddaecb3895580040f2ed3c254e2715\
+        069018f3cb0ca97b20141a34ba02e0a547f775b1faf601b46c003387fd4cb875";
+    check_hasher::<64, Blake2bp<64>>(&rt, state, &thousand(), wanted);
+}
+
+#[test]
+fn a_wiped_hasher_starts_from_zeros(rt: HostRuntime) {
+    let mut state = Blake2bp::<64>::new();
+    absorb(&rt, &mut state, b"abc");
+    Wipe::wipe(&mut state);
+    assert!(&rt; Update::counted(&state) == 0);
+}
+
+// Checks that a MAC accepts the tag of the message, and no other.
+fn check_mac<const N: usize, M: Mac<N> + FixedOutputReset<N> + Duplicate>(
+    rt: &impl Abort,
+    state: M,
+    message: &[u8],
+    wanted: &str,
+) {
+    let mut state = state;
+    let (first, _) = message.split_at(message.len() / 2);
+    assert!(rt; state.counted() == 512);
+    absorb(rt, &mut state, message);
+    let copy = state.duplicate();
+    let tag = state.finalize_fixed_reset();
+    assert!(rt; reads(&tag, wanted), "{wanted}");
+    assert!(rt; copy.verify_slice(&tag).is_ok(), "{wanted}");
+    absorb(rt, &mut state, first);
+    assert!(rt; state.verify_slice(&tag).is_err(), "another message");
+}
+
+#[test]
+fn mac_of_the_longest_key(rt: HostRuntime) {
+    let wanted = "200f923e185654052623773efef43be8285eb7a12eb7f1df4c7bb9dccb1d744e\
+        86cd0c77b902da414cb8e1e80128a995df8a1329cf6ad9352b1d01b626b22464";
+    let mac = Blake2bpMac::<64>::new(&key());
+    check_mac::<64, Blake2bpMac<64>>(&rt, mac, &thousand(), wanted);
+}
+
+#[test]
+fn mac_of_a_short_key(rt: HostRuntime) {
+    let key = [1, 2, 3, 4, 5];
+    let mac = Blake2bpMac::<20>::new_from_slice(&key).expect(&rt, "a MAC");
+    check_mac::<20, Blake2bpMac<20>>(
+        &rt,
+        mac,
+        &thousand(),
+        "d12a1e882c3461f69f0b30225bc5d30adc023c7a",
+    );
+}
+
+#[test]
+fn mac_with_salt_and_persona(rt: HostRuntime) {
+    let wanted = "d379b6ccf10e5b73d9d9c4ad4ca5ae84c31e5b928368addc0fe090dfa1638766\
+        53838a7655c227caeb6263b52a08420fdad7a3ed79f6234ad9c03b9abeed726f";
+    let made = Blake2bpMac::<64>::new_with_salt_and_personal(&key(), b"salt", b"app");
+    check_mac::<64, Blake2bpMac<64>>(&rt, made.expect(&rt, "a MAC"), &thousand(), wanted);
+}
+
+#[test]
+fn refused_macs(rt: HostRuntime) {
+    assert!(&rt; Blake2bpMac::<20>::new_from_slice(&[]).is_err());
+    assert!(&rt; Blake2bpMac::<20>::new_from_slice(&[0; 65]).is_err());
+    assert!(&rt; Blake2bpMac::<20>::new_with_salt_and_personal(b"k", &[0; 17], &[]).is_err());
+    assert!(&rt; Blake2bpMac::<20>::new_with_salt_and_personal(b"k", &[], &[0; 17]).is_err());
+}

@@ -1,0 +1,19 @@
+use Rattle.std.proofs.Common.{◌≡◌, ◌++◌, List, ℕ, length, ap, ◌∙◌, rules}
+use Rattle.std.proofs.lemmas.List.{append-nil}
+use Rattle.blake2_simd.specs.Family.{blake2b}
+use Rattle.blake2_xof.specs.Xof.{block_size, offset_field}
+use Rattle.blake2_xof.proofs.Texts.{block_front, front}
+use Rattle.blake2_xof.proofs.reader.blake2xb.Reader.parameter_block.Goals as goal
+
+pub returns : goal.returns
+returns c =
+    let self = c.args.self.now in
+    let long : length self.texts ≡ 32 = search rules in
+    rw (
+      c.copy_from_slice.ensures.after,
+      c.copy_from_slice-2.ensures.after,
+      c.to_le_bytes.ensures,
+      c.block_size.ensures.size,
+    ) (ap (λ (l : List ℕ). front blake2b (block_size blake2b self.xof_length c.args.i)
+    (offset_field self.xof_length c.args.i) ++ l) (append-nil self.texts)
+    ∙ block_front blake2b self.xof_length c.args.i self.texts long)

@@ -1,0 +1,26 @@
+use Rattle.std.proofs.Common.{◌≡◌, ◌+◌, ℕ, ap, ◌∙◌, length, arith, rules}
+use Rattle.blake2_simd.specs.Family.{blake2s}
+use Rattle.blake2_simd.proofs.Lanes.{listed_in_eight}
+use Rattle.blake2_compress.specs.Hash.{start}
+use Rattle.blake2_compress.proofs.Lanes.{lane_is}
+use Rattle.blake2_compress.proofs.ParameterSizes.{length-start}
+use Rattle.blake2_xof.specs.Blake2xs.{settings_of}
+use Rattle.blake2_xof.specs.Xof.{block_parameters}
+use Rattle.blake2_xof.proofs.reader.blake2xs.Reader.eight_rows.Goals as goal
+
+pub returns : goal.returns
+returns c j lane =
+    let i : ℕ = c.args.i in
+    let first : i ≡ i + 0 = omega arith in
+    let of = λ (k : ℕ). start blake2s (block_parameters blake2s (settings_of c.args.self.now) k) in
+    let words = listed_in_eight (λ k. of (i + k)) _ _ _ _ _ _ _ _
+    (c.to_words.ensures ∙ c.start.ensures ∙ ap of first)
+    (c.to_words-2.ensures ∙ c.start-2.ensures)
+    (c.to_words-3.ensures ∙ c.start-3.ensures)
+    (c.to_words-4.ensures ∙ c.start-4.ensures)
+    (c.to_words-5.ensures ∙ c.start-5.ensures)
+    (c.to_words-6.ensures ∙ c.start-6.ensures)
+    (c.to_words-7.ensures ∙ c.start-7.ensures)
+    (c.to_words-8.ensures ∙ c.start-8.ensures) j lane in
+    lane_is 8 j c.rows_of.result _ (search rules) (ap length words ∙ length-start blake2s _)
+    (λ k lt. c.rows_of.ensures j k lane lt) ∙ words

@@ -1,0 +1,26 @@
+-- Made by tools/twins.py from proofs/reader/blake2xb/Reader/read_four_blocks/Answers.antt.
+use Rattle.std.proofs.Common.{◌≡◌, ◌/◌, ◌++◌, List, ℕ, drop, length, false, sym, ap, ◌∙◌}
+use Rattle.std.proofs.Common.{arith, rules}
+use Rattle.std.proofs.lemmas.List.{length-take-le}
+use Rattle.blake2_simd.specs.Family.{blake2s}
+use Rattle.blake2_compress.specs.Hash.{bytes_of, compress as F, final}
+use Rattle.blake2_xof.specs.Blake2xs.{settings_of}
+use Rattle.blake2_xof.proofs.Blocks.{read_blocks}
+use Rattle.blake2_xof.proofs.reader.blake2xs.Reader.read_eight_blocks.Goals as goal
+
+pub copy_from_slice-requires : goal.copy_from_slice-requires
+copy_from_slice-requires c =
+    omega (arith, c.as_flattened.ensures.len, length-take-le 256 c.args.out.now c.requires.long)
+
+pub returns-clause-output : goal.returns-clause-output
+returns-clause-output c =
+    let self = c.args.self.now in
+    let long : length self.root ≡ 32 = search rules in
+    let eight : length c.last_of_eight-blocks.result ≡ 8 = search rules in
+    ap (λ (l : List ℕ). l ++ drop 256 c.args.out.now) (c.copy_from_slice.ensures.after
+    ∙ c.as_flattened.ensures.value
+    ∙ read_blocks blake2s (settings_of self) self.root c.last_of_eight-blocks.result self.position
+    (self.position / 32) 8 (omega arith) eight (omega arith) (omega arith) (λ j lane.
+    c.last_of_eight-blocks.ensures j lane
+    ∙ (λ i. bytes_of blake2s (F blake2s (c.eight_rows-rows.ensures j lane i) (c.padded.ensures i)
+    (sym long i) (final false)))))

@@ -1,0 +1,13 @@
+// BLAKE2b of one message, in a module of its own.
+import { BLAKE2B_NUMBERS, Kind, newModule } from "./engine.js";
+import { Hasher } from "./hashers.js";
+import { decode } from "./wasm_blake2b.js";
+
+export const BLAKE2B =
+  /* @__PURE__ */ new Kind(/* @__PURE__ */ newModule(decode), BLAKE2B_NUMBERS);
+
+export class Blake2b extends Hasher {
+  constructor(options) {
+    super(BLAKE2B, "Blake2b", options, arguments.length - 1);
+  }
+}

@@ -1,0 +1,13 @@
+// BLAKE2s of one message, in a module of its own.
+import { BLAKE2S_NUMBERS, Kind, newModule } from "./engine.js";
+import { Hasher } from "./hashers.js";
+import { decode } from "./wasm_blake2s.js";
+
+export const BLAKE2S =
+  /* @__PURE__ */ new Kind(/* @__PURE__ */ newModule(decode), BLAKE2S_NUMBERS);
+
+export class Blake2s extends Hasher {
+  constructor(options) {
+    super(BLAKE2S, "Blake2s", options, arguments.length - 1);
+  }
+}

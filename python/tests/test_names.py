@@ -1,0 +1,180 @@
+"""Tests of the names of the package: its versions, numbers, signatures, stubs and examples."""
+import ast
+import doctest
+import inspect
+import os
+import re
+import tempfile
+import unittest
+
+from support import HERE, IS_CLONE
+from test_api import FAMILIES, PLAIN
+import vulfsjor
+
+
+class Words(unittest.TestCase):
+    """The names, signatures and types of the package."""
+
+    def found(self, path, pattern):
+        """What the groups of a pattern match in a file of the package."""
+        with open(os.path.join(HERE, "..", path), encoding="utf-8") as file:
+            found = re.search(pattern, " ".join(file.read().split()))
+        self.assertTrue(found, pattern)
+        return found[1] if found.re.groups == 1 else found.groups()
+
+    def test_versions_agree(self):
+        self.assertEqual(self.found("pyproject.toml", r' version = "(.*?)"'), vulfsjor.__version__)
+
+    def test_numbers_of_the_page(self):
+        """The README's numbers that no example prints. test_build.py has those of glibc and of
+        processors."""
+        self.assertEqual(self.found("README.md", r"CPython (3\.\d+) or later"),
+                         self.found("pyproject.toml", r'requires-python = ">=([\d.]+)"'))
+        self.assertEqual(self.found("README.md", r"requires glibc (2\.\d+) or later"), "2.14")
+        without = r"at least ([\d,]+) bytes are hashed without the GIL"
+        self.assertEqual(self.found("README.md", without),
+                         f"{int(self.found('src/library.h', 'LET_OTHERS_RUN_AT = ([0-9]+) ')):,}")
+        self.assertEqual(self.found("README.md", r"at most (\d+) MiB in memory for each thread"),
+                         str(vulfsjor._files._MOST_TREE_BYTES >> 20))
+        self.assertIn("buffer of up to 16 MiB", " ".join(vulfsjor.tree_root_file.__doc__.split()))
+        self.assertEqual(vulfsjor._files._MOST_TREE_BYTES, 16 << 20)
+        words = " ".join(vulfsjor.tree_root.__doc__.split())
+        self.assertIn("less than 256 KiB for each", words)
+        self.assertIn("at most 256; 0 is", words)
+        self.found("../c/threads.c" if IS_CLONE else "src/threads.c",
+                   r"(#define LEAST_BYTES \(1 << 18\) .* MOST_THREADS = 256,)")
+        for name, make, _, many, longest in FAMILIES:
+            self.assertEqual((make.MAX_DIGEST_SIZE, make.MAX_KEY_SIZE), (longest, longest))
+            self.assertIn(f"digest_size is 1 to {longest}, a key has up to {longest} bytes, salt and "
+                          f"person up to {make.SALT_SIZE} each.", make.__doc__)
+            if many:
+                lanes = {64: "four", 32: "eight"}[longest]
+                self.assertIn(f"hashed {lanes} in parallel", many.__doc__)
+            else:
+                self.assertIn(f"the BLAKE2 document gives BLAKE{name[5:]} neither.", make.__doc__)
+
+    def test_signatures_are_those_of_hashlib(self):
+        positional = inspect.Parameter.POSITIONAL_ONLY
+        for name, make, theirs, _, _ in PLAIN:
+            # From 3.13.4 on, hashlib accepts the data by two names too.
+            wanted = [each.replace(kind=positional) if each.name == "data" else each
+                      for each in inspect.signature(theirs).parameters.values()
+                      if each.name != "string"]
+            self.assertEqual(list(inspect.signature(make).parameters.values()), wanted)
+            self.assertEqual(
+                (make.__module__, make.__name__, make().name), ("vulfsjor", name, name)
+            )
+            for method in ("copy", "digest", "hexdigest", "update"):
+                signature = inspect.signature(getattr(make, method))
+                self.assertEqual(signature, inspect.signature(getattr(theirs, method)))
+
+    def test_salt_and_person_are_keywords(self):
+        met = 0
+        for name in vulfsjor.__all__:
+            thing = getattr(vulfsjor, name)
+            if thing is vulfsjor.InvalidTag:
+                continue
+            parameters = inspect.signature(thing).parameters
+            self.assertFalse({"persona", "personal", "personalization"} & set(parameters))
+            self.assertEqual("person" in parameters, "salt" in parameters)
+            for parameter in ("salt", "person", "key", "digest_size"):
+                if parameter not in parameters:
+                    continue
+                comes_first = parameter == "key" and (name.endswith("_mac") or name == "derive_key")
+                self.assertIs(parameters[parameter].kind,
+                              inspect.Parameter.POSITIONAL_OR_KEYWORD if comes_first else
+                              inspect.Parameter.KEYWORD_ONLY, name)
+                met += 1
+        self.assertEqual(met, 61)
+
+    def test_all_is_documented(self):
+        self.assertTrue(vulfsjor.__doc__)
+        for name in vulfsjor.__all__:
+            thing = getattr(vulfsjor, name)
+            self.assertTrue(thing.__doc__)
+            for member in (
+                name for name in dir(thing) if inspect.isclass(thing) and name.islower()
+            ):
+                if not member.startswith("_") and member not in dir(ValueError):
+                    self.assertTrue(getattr(thing, member).__doc__, member)
+
+    def stub(self):
+        """The declarations in the stubs, as nodes of the syntax tree."""
+        path = os.path.join(os.path.dirname(vulfsjor.__file__), "_library.pyi")
+        with open(path) as file:
+            return ast.parse(file.read()).body
+
+    def test_the_stubs_declare_what_is_there(self):
+        declared = set()
+        for node in self.stub():
+            if isinstance(node, ast.ClassDef):
+                declared.add(node.name)
+                if node.name == "InvalidTag":
+                    continue
+                members = {
+                    part.target.id if isinstance(part, ast.AnnAssign) else part.name
+                    for part in node.body
+                }
+                there = {
+                    name for name in dir(getattr(vulfsjor, node.name)) if not name.startswith("_")
+                }
+                self.assertEqual(members - {"_root_of_file"}, there | {"__new__"})
+                for part in node.body:
+                    if isinstance(part, ast.FunctionDef) and not part.decorator_list:
+                        self.same_signature(part, getattr(vulfsjor._library, node.name), part.name)
+            elif isinstance(node, ast.FunctionDef):
+                declared.add(node.name)
+                self.same_signature(node, vulfsjor._library, node.name)
+            elif isinstance(node, ast.AnnAssign):
+                declared.add(node.target.id)
+        there = {
+            name
+            for name in dir(vulfsjor._library)
+            if not name.startswith("_") or name == "__version__"
+        }
+        self.assertEqual(declared, there)
+        self.assertEqual(set(vulfsjor.__all__) - declared, {"file_digest", "tree_root_file"})
+        self.assertEqual(set(vulfsjor.__all__), {
+            name for name, thing in vars(vulfsjor).items() if callable(thing) and name[0] != "_"})
+
+    def same_signature(self, node, owner, name):
+        """Compares the names, kinds and defaults of a function's arguments with the stub."""
+        theirs = inspect.signature(
+            owner if name == "__new__" else getattr(owner, name)
+        ).parameters.values()
+        mine, args = [], node.args
+        first = [arg.arg for arg in args.posonlyargs + args.args]
+        plain = args.posonlyargs + args.args
+        defaults = [None] * (len(plain) - len(args.defaults)) + args.defaults
+        for arg, default in zip(plain, defaults):
+            mine.append((arg.arg, None if default is None else ast.literal_eval(default)))
+        for arg, default in zip(args.kwonlyargs, args.kw_defaults):
+            mine.append((arg.arg, None if default is None else ast.literal_eval(default)))
+        names = [parameter.name for parameter in theirs]
+        if first[0] == "cls" or first[0] == "self" and "self" not in names:
+            mine = mine[1:]
+        empty = inspect.Parameter.empty
+        self.assertEqual(
+            mine,
+            [
+                (parameter.name, None if parameter.default is empty else parameter.default)
+                for parameter in theirs
+            ],
+            name,
+        )
+
+    def test_examples(self):
+        failed, tried = doctest.testmod(vulfsjor, verbose=False)
+        self.assertEqual((failed, tried > 4), (0, True))
+        here = os.getcwd()
+        with tempfile.TemporaryDirectory() as folder:
+            os.chdir(folder)
+            failed, tried = doctest.testfile(
+                os.path.join(HERE, "..", "README.md"), module_relative=False, verbose=False
+            )
+            os.chdir(here)
+        self.assertEqual((failed, tried > 20), (0, True))
+
+
+if __name__ == "__main__":
+    unittest.main()

@@ -1,0 +1,343 @@
+"""What each call of a conformance case has to return, by hashlib and tests/b2_model.py. Not a program.
+
+README.md describes the language. The limits are those of RFC 7693, the BLAKE2 document and the BLAKE2X
+document, written down here once more and not read from a package.
+"""
+import functools
+import hmac
+import os
+import sys
+
+sys.path.insert(0, os.path.join(os.path.dirname(os.path.abspath(__file__)), ".."))
+import b2_model  # noqa: E402
+from b2_model import SEQUENTIAL, Input, Place, steps  # noqa: E402
+from oracle import SCALAR, parallel_by_hashlib, parallel_digest, range_digests, root_of_leaves, tree_root  # noqa: E402
+from common import FAMILIES  # noqa: E402
+
+HASHES = ("blake2b", "blake2s", "blake2bp", "blake2sp", "blake2xb", "blake2xs", "tree")
+NODE = {"fanout": "fanout", "depth": "depth", "leaf": "leaf_size", "offset": "node_offset", "node": "node_depth",
+        "inner": "inner_size", "last": "last_node"}
+UNKNOWN = {"b": 2**32 - 1, "s": 2**16 - 1}  # the length of an output whose length is not known
+
+
+def unrolled(family):
+    """b2_model.compress for a family, with a variable for each word and a statement for each operation: five times as
+    fast. The sums are reduced where a word is rotated, and at the end."""
+    full = (1 << family.w) - 1
+    lines = ["def compress(h, m, t0, t1, f0, f1):", f" {','.join(f'v{i}' for i in range(8))} = h"]
+    masks = ["0"] * 4 + ["t0", "t1", "f0", "f1"]
+    lines += [f" v{i + 8} = {family.iv[i]} ^ {masks[i]}" for i in range(8)]
+    for number in range(family.rounds):
+        s = b2_model.SIGMA[number % 10]
+        for i, (a, b, c, d) in enumerate(b2_model.MIXINGS):
+            for word, first, second in ((2 * i, *family.turns[:2]), (2 * i + 1, *family.turns[2:])):
+                lines += [f" v{a} = v{a} + v{b} + m[{s[word]}] & {full}", f" x = v{d} ^ v{a}",
+                          f" v{d} = x >> {first} | x << {family.w - first} & {full}", f" v{c} = v{c} + v{d} & {full}",
+                          f" x = v{b} ^ v{c}", f" v{b} = x >> {second} | x << {family.w - second} & {full}"]
+    lines.append(f" return [{','.join(f'h[{i}] ^ v{i} ^ v{i + 8}' for i in range(8))}]")
+    found = {}
+    exec("\n".join(lines), found)
+    return found["compress"]
+
+
+UNROLLED = {family: unrolled(family) for family in SCALAR.values()}
+
+
+def compress(family, h, entry):
+    """F, as b2_model.compress."""
+    block, counter, final, last_node = entry
+    full = (1 << family.w) - 1
+    return UNROLLED[family](h, b2_model.words_of(family, block), counter & full, counter >> family.w,
+                            full * final, full * last_node)
+
+
+b2_model.compress, SLOW = compress, b2_model.compress
+
+
+class Refused(Exception):
+    """A call that is refused, by the arguments that are wrong."""
+
+
+FIRST = bytes((i + (i >> 8)) & 255 for i in range(1 << 16))  # the first 65,536 bytes of the endless message
+
+
+def span(start, end):
+    """The bytes of the endless message from one place to another. Each 65,536 are those before them, and 1."""
+    parts = [FIRST.translate(bytes((i + k) & 255 for i in range(256))) for k in range(start >> 16, (end >> 16) + 1)]
+    return b"".join(parts)[start & 0xffff:end - (start & ~0xffff)]
+
+
+@functools.lru_cache(4096)
+def read_bytes(word):
+    """BYTES, or None for `none`."""
+    if word == "none":
+        return None
+    if ":" in word:
+        return span(*map(int, word.split(":")))
+    return b"" if word == "-" else bytes.fromhex(word)
+
+
+def family_of(name):
+    """The letter of the hash that a hash is made of."""
+    return "s" if "s" in name.removeprefix("blake2") else "b"
+
+
+def limits(name):
+    """The least and the most of each argument of a hash: of numbers, and of the lengths of bytes."""
+    family = FAMILIES[family_of(name)]
+    is_s = family_of(name) == "s"
+    found = {"size": (1, UNKNOWN[family_of(name)] if "x" in name else family.key), "key": (0, family.key),
+             "salt": (0, family.salt), "person": (0, family.salt)}
+    if name == "tree":
+        del found["key"]
+        found["leaf"] = (1, 2**32 - 1)
+    elif name in ("blake2b", "blake2s"):
+        found |= {"offset": (0, 2**(48 if is_s else 64) - 1), "depth": (1, 255), "inner": (0, family.key),
+                  "fanout": (0, 255), "leaf": (0, 2**32 - 1), "node": (0, 255), "last": (0, 1)}
+    return found
+
+
+def read_given(name, words):
+    """The arguments of a hash, or Refused by all that are wrong."""
+    allowed, given, wrong = limits(name), {}, []
+    assert set(words) <= set(allowed), words
+    for argument, (least, most) in allowed.items():
+        word = words.get(argument)
+        if word is None:
+            continue
+        is_text = argument in ("key", "salt", "person")
+        if word == "none":
+            wrong.append(argument)
+        elif is_text:
+            given[argument] = read_bytes(word)
+            wrong += [argument] * (not least <= len(given[argument]) <= most)
+        else:
+            given[argument] = most if word == "unknown" else int(word)
+            is_unknown = "x" in name and argument == "size" and given[argument] == most and word != "unknown"
+            wrong += [argument] * (is_unknown or not least <= given[argument] <= most)
+    if wrong:
+        raise Refused(",".join(wrong))
+    return given
+
+
+@functools.lru_cache(100000)
+def digest(name, message, items, last):
+    """The digest of a hash of these arguments."""
+    given = dict(items)
+    longest = FAMILIES[family_of(name)].key
+    size, texts = given.get("size", longest), {each: given[each] for each in ("salt", "person") if each in given}
+    if name == "tree":
+        return tree_root(message, given["leaf"], size, **texts)
+    if name[-1] == "p":
+        if size == longest and not given.get("key"):
+            return parallel_by_hashlib(family_of(name), message, **texts)
+        return parallel_digest(family_of(name), message, size, given.get("key", b""), **texts)
+    node = {word: given[each] for each, word in NODE.items() if each in given}
+    return FAMILIES[family_of(name)].function(message, digest_size=size, key=given.get("key", b""), **texts,
+                                              **node | {"last_node": bool(last)}).digest()
+
+
+class State:
+    """A state: the arguments of its hash, what it has absorbed, and how much of an output was read."""
+
+    def __init__(self, name, given):
+        self.name, self.given = name, given
+        self.message, self.last, self.place = b"", given.get("last", 0), None
+
+    def copy(self):
+        made = State(self.name, self.given)
+        made.message, made.last, made.place = self.message, self.last, self.place
+        return made
+
+    def digest(self):
+        return digest(self.name, self.message, tuple(self.given.items()), self.last)
+
+    def length(self):
+        """The bytes of the output."""
+        letter = family_of(self.name)
+        known = self.given.get("size", UNKNOWN[letter])
+        return FAMILIES[letter].key << 32 if known == UNKNOWN[letter] else known
+
+    def left(self):
+        return self.length() - (self.place or 0)
+
+    def read(self, count):
+        """The next bytes of the output."""
+        start, letter = self.place or 0, family_of(self.name)
+        self.place = start + count
+        texts = {each: self.given[each] for each in ("key", "salt", "person") if each in self.given}
+        length = self.given.get("size", UNKNOWN[letter])
+        return output_of(letter, self.message, length, self.place, **texts)[start:]
+
+
+@functools.lru_cache(100000)
+def node(letter, size, given):
+    """The digest of a node of BLAKE2X. hashlib has none of depth 0."""
+    return steps(SCALAR[letter], size, given)[1]
+
+
+def output_of(letter, message, length, end, key=b"", salt=b"", person=b""):
+    """The bytes of an output up to this place, of an output of this length (the BLAKE2X document, 2)."""
+    longest, texts = FAMILIES[letter].key, {"salt": salt, "persona": person}
+    place = SEQUENTIAL._replace(node_offset=length << 32)
+    root = node(letter, longest, Input(message, key or None, **texts, place=place))
+    blocks = []
+    for i in range(-(-end // longest)):
+        size = longest if length == UNKNOWN[letter] else min(longest, length - i * longest)
+        place = Place(0, 0, longest, (length << 32) + i, 0, longest)
+        blocks.append(node(letter, size, Input(root, **texts, place=place)))
+    return b"".join(blocks)[:end]
+
+
+def yes(condition):
+    return "yes" if condition else "no"
+
+
+class Model:
+    """The states of a case, and a method for each call."""
+
+    def __init__(self):
+        self.slots = {}
+
+    def outcome(self, line):
+        """What follows the call in its line."""
+        verb, *words = line.split()
+        named = dict(word.split("=") for word in words if "=" in word)
+        try:
+            value = getattr(self, verb)(*(word for word in words if "=" not in word), **named)
+        except Refused as refused:
+            return f" ! {refused}"
+        if isinstance(value, bytes):
+            value = value.hex() or "-"
+        return "" if value is None else f" = {value}"
+
+    def state(self, slot):
+        if self.slots.get(slot) is None:
+            raise Refused("state")
+        return self.slots[slot]
+
+    def end(self, slot):
+        state = self.state(slot)
+        self.slots[slot] = None
+        return state
+
+    @staticmethod
+    def some(word, argument="message"):
+        if read_bytes(word) is None:
+            raise Refused(argument)
+        return read_bytes(word)
+
+    # ---- calls of a state
+
+    def new(self, slot, name, **words):
+        self.slots[slot] = None
+        self.slots[slot] = State(name, read_given(name, words))
+
+    def update(self, slot, message):
+        state = self.state(slot)
+        if state.place is not None:
+            raise Refused("state")
+        state.message += self.some(message)
+
+    def copy(self, slot, other):
+        self.slots[other] = self.state(slot).copy()
+
+    def reset(self, slot):
+        state = self.state(slot)
+        state.message, state.place = b"", None
+
+    def last(self, slot, flag):
+        self.state(slot).last = int(flag)
+
+    def wipe(self, slot):
+        self.slots[slot] = None
+
+    def digest(self, slot):
+        return self.end(slot).digest()
+
+    def verify(self, slot, tag):
+        self.state(slot)
+        given = self.some(tag, "tag")
+        return yes(hmac.compare_digest(self.end(slot).digest(), given))
+
+    def count(self, slot):
+        return len(self.state(slot).message)
+
+    def left(self, slot):
+        return self.state(slot).left()
+
+    def read(self, slot, count):
+        state = self.state(slot)
+        if int(count) > state.left():
+            raise Refused("left")
+        return state.read(int(count))
+
+    # ---- calls without a state
+
+    def hash(self, name, message, **words):
+        given = read_given(name, words)
+        if "x" in name and given.get("size", 2**32) >= UNKNOWN[family_of(name)]:
+            raise Refused("size")
+        state = State(name, given)
+        state.message = self.some(message)
+        return state.read(given["size"]) if "x" in name else state.digest()
+
+    def many(self, name, *messages, **words):
+        return b"".join(self.hash(name, message, **words) for message in messages) if messages else \
+            read_given(name, words) and b""
+
+    def derive(self, context, **words):
+        key = read_bytes(words.get("key", "-"))
+        wrong = [] if key else ["key"]
+        try:
+            given = read_given("blake2xb", words)
+            wrong += ["size"] * (given["size"] == UNKNOWN["b"])
+        except Refused as refused:
+            wrong = [*wrong, *(each for each in str(refused).split(",") if each not in wrong)]
+        if wrong:
+            raise Refused(",".join(wrong))
+        return output_of("b", self.some(context, "context"), given["size"], given["size"], key)
+
+    @staticmethod
+    def equal(one, other):
+        return yes(read_bytes(one) == read_bytes(other))
+
+    # ---- parts of a tree
+
+    def leaves(self, message, first, ends, **words):
+        given = read_given("tree", words)
+        data, first, leaf = self.some(message), int(first), given.pop("leaf")
+        if (not data and (first or ends == "0")) or (ends == "0" and len(data) % leaf):
+            raise Refused("message")
+        if first * leaf + len(data) >= 2**58:
+            raise Refused("first")
+        return range_digests(data, leaf, first, ends == "1", **given)
+
+    def top(self, digests, **words):
+        given = read_given("tree", words)
+        data = self.some(digests, "digests")
+        if not data or len(data) % 64:
+            raise Refused("digests")
+        return root_of_leaves(data, given.pop("leaf"), given.pop("size", 64), **given)
+
+    def next(self, slot, skip, message):
+        """The digests of whole leaves, which others follow."""
+        state, data, skip = self.state(slot), self.some(message), int(skip)
+        leaf = state.given["leaf"]
+        wrong = ["state"] * (len(state.message) % leaf > 0) + ["message"] * (not data or len(data) % leaf > 0)
+        if wrong:
+            raise Refused(",".join(wrong))
+        first = len(state.message) // leaf + skip
+        if first * leaf + len(data) >= 2**58:
+            raise Refused("skip")
+        texts = {each: state.given[each] for each in ("salt", "person") if each in state.given}
+        return range_digests(data, leaf, first, False, **texts)
+
+    def absorb(self, slot, leaves, message):
+        """The digests of whole leaves, given here by the bytes of these, and then bytes of the message."""
+        state, data, leaf = self.state(slot), self.some(message), self.state(slot).given["leaf"]
+        wrong = ["state"] * (len(state.message) % leaf > 0) + ["message"] * (not data)
+        if read_bytes(leaves) and wrong:
+            raise Refused(",".join(wrong))
+        state.message += read_bytes(leaves) + data
+

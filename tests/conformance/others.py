@@ -1,0 +1,275 @@
+#!/usr/bin/env python3
+"""Runs the conformance cases of README.md over other implementations of BLAKE2, and prints the table of others.txt.
+
+    tests/conformance/others.py FOLDER           with the cases that write.py wrote to FOLDER
+    tests/conformance/others.py --check FOLDER   ends with status 1 if others.txt has another row
+    tests/conformance/others.py --libb2 FILE FOLDER    only libb2's functions, of this shared library
+
+They are Python's `hashlib`, libb2 by ctypes, and Go's golang.org/x/crypto by others.go. One that is absent is left out.
+A case ends at the first call that an implementation does not have, or not with these arguments, and is then not counted
+as run.
+"""
+import collections
+import ctypes
+import ctypes.util
+import hashlib
+import os
+import re
+import shutil
+import subprocess
+import sys
+
+from model import NODE, read_bytes
+from common import Parser
+
+HERE = os.path.dirname(os.path.abspath(__file__))
+
+
+class Absent(Exception):
+    """A call that the implementation does not have, or not with these arguments."""
+
+
+class Refused(Exception):
+    """A call that the implementation refuses."""
+
+
+class Ended(Exception):
+    """A call of a state that has ended."""
+
+
+def number(word):
+    """A number, as an argument."""
+    if word in ("none", "unknown"):
+        raise Absent(word)
+    return int(word)
+
+
+class Driver:
+    """States that no call ends: they are forgotten."""
+
+    def wipe(self, slot):
+        self.states[slot] = None
+
+    def of(self, slot):
+        if self.states.get(slot) is None:
+            raise Ended
+        return self.states[slot]
+
+
+class Hashlib(Driver):
+    """BLAKE2b and BLAKE2s of hashlib."""
+
+    hashes = ("blake2b", "blake2s")
+
+    def __init__(self, name):
+        self.function, self.states = getattr(hashlib, name), {}
+
+    def made(self, message, words):
+        names = {"size": "digest_size", **NODE}
+        given = {names.get(word, word): read_bytes(value) if word in ("key", "salt", "person") else number(value)
+                 for word, value in words.items()}
+        try:
+            return self.function(message, **given)
+        except (ValueError, OverflowError, TypeError) as error:
+            raise Refused from error
+
+    def new(self, slot, _, **words):
+        self.states[slot] = None
+        self.states[slot] = self.made(b"", words)
+
+    def update(self, slot, message):
+        try:
+            self.of(slot).update(read_bytes(message))
+        except TypeError as error:
+            raise Refused from error
+
+    def copy(self, slot, other):
+        self.states[other] = self.of(slot).copy()
+
+    def digest(self, slot):
+        value = self.of(slot).digest()
+        self.states[slot] = None
+        return value
+
+    def hash(self, _, message, **words):
+        return self.made(read_bytes(message), words).digest()
+
+
+def new_state(data=b""):
+    """Room for a state of libb2, at a multiple of 64."""
+    room = ctypes.create_string_buffer((1 << 14) + 64)
+    state = (ctypes.c_char * (1 << 14)).from_buffer(room, -ctypes.addressof(room) % 64)
+    state.raw = data.ljust(1 << 14, b"\0")
+    return state
+
+
+class Libb2(Driver):
+    """The four sequential and parallel functions of libb2."""
+
+    hashes = ("blake2b", "blake2s", "blake2bp", "blake2sp")
+    library = ctypes.util.find_library("b2") and ctypes.CDLL(ctypes.util.find_library("b2"))
+
+    def __init__(self, name):
+        self.name, self.states, self.sizes = name, {}, {}
+        self.most, self.salt = (64, 16) if name[6] == "b" else (32, 8)
+
+    def call(self, name, *given):
+        if getattr(self.library, self.name + name)(*given):
+            raise Refused
+
+    @staticmethod
+    def text(word):
+        """Bytes and their number."""
+        data = read_bytes(word)
+        if data is None:
+            raise Absent("null pointers, at which it may end the program")
+        return data, ctypes.c_size_t(len(data))
+
+    def new(self, slot, _, **words):
+        self.states[slot] = None
+        size, state = number(words.pop("size", str(self.most))), new_state()
+        if not -1 < size < 1 << 64:
+            raise Absent("no number of C")
+        key = words.pop("key", None)
+        if key is None and words:
+            self.call("_init_param", state, self.parameters(size, words))
+        elif words:
+            raise Absent("a key with other parameters")
+        elif key is None:
+            self.call("_init", state, ctypes.c_size_t(size))
+        else:
+            self.call("_init_key", state, ctypes.c_size_t(size), *self.text(key))
+        self.states[slot], self.sizes[slot] = state, size
+
+    def parameters(self, size, words):
+        """A parameter block, which the caller makes."""
+        texts = {name: read_bytes(words.pop(name, "-")) for name in ("salt", "person")}
+        named = {"fanout": 1, "depth": 1, "leaf": 0, "offset": 0, "node": 0, "inner": 0, "last": 0}
+        named |= {name: number(word) for name, word in words.items()}
+        widths = {"fanout": 1, "depth": 1, "leaf": 4, "offset": 8 if self.most == 64 else 6, "node": 1, "inner": 1}
+        if "p" in self.name or named["last"] or any(text is None or len(text) > self.salt for text in texts.values()):
+            raise Absent("no field of the parameter block")
+        try:
+            fields = b"".join(named[name].to_bytes(width, "little") for name, width in widths.items())
+            block = bytes([size, 0]) + fields
+        except (OverflowError, ValueError) as error:
+            raise Absent("no field of the parameter block") from error
+        block = block.ljust(2 * self.salt, b"\0")
+        return block + b"".join(text.ljust(self.salt, b"\0") for text in texts.values())
+
+    def update(self, slot, message):
+        self.call("_update", self.of(slot), *self.text(message))
+
+    def copy(self, slot, other):
+        self.states[other] = new_state(self.of(slot).raw)
+        self.sizes[other] = self.sizes[slot]
+
+    def digest(self, slot):
+        state, size = self.of(slot), self.sizes[slot]
+        out = ctypes.create_string_buffer(size)
+        self.call("_final", state, out, ctypes.c_size_t(size))
+        self.states[slot] = None
+        return out.raw
+
+    def hash(self, _, message, **words):
+        size, key = number(words.pop("size", str(self.most))), words.pop("key", "-")
+        if words or not -1 < size < 1 << 32:
+            raise Absent("salts and tree parameters")
+        out = ctypes.create_string_buffer(max(size, 1))
+        (data, length), (key, key_length) = self.text(message), self.text(key)
+        self.call("", out, data, key or None, ctypes.c_size_t(size), length, key_length)
+        return out.raw[:size]
+
+
+def outcome(driver, call):
+    """What a call returns, as it is written."""
+    verb, *words = call.split()
+    method = getattr(driver, verb, None)
+    if method is None:
+        raise Absent(verb)
+    named = dict(word.split("=") for word in words if "=" in word)
+    try:
+        value = method(*(word for word in words if "=" not in word), **named)
+    except Refused:
+        return "!"
+    return "" if value is None else f"= {value.hex() or '-'}"
+
+
+def run(make, path):
+    """How many cases were run, and the others and the wrong ones by what ended them."""
+    ran, lacks, wrong = 0, collections.Counter(), collections.Counter()
+    with open(path, encoding="ascii") as file:
+        cases = re.split(r"^case ", file.read(), flags=re.M)[1:]
+    for case in cases:
+        name, *lines = filter(None, case.split("\n"))
+        driver = make()
+        try:
+            for line in lines:
+                call, *wanted = re.split(r" (?=[=!] )", line)
+                wanted = wanted[0] if wanted else ""
+                if call.startswith(("count ", "left ")):
+                    continue
+                try:
+                    got = outcome(driver, call)
+                except Ended:
+                    got = "!"
+                if got != ("!" if wanted.startswith("!") else wanted):
+                    wrong[name.split(".")[1]] += 1
+                    print(f"{name}: {line[:120]}\n  gives {got[:100]!r}", file=sys.stderr)
+                    break
+            ran += 1
+        except Absent as absent:
+            lacks[str(absent)] += 1
+    return ran, lacks, wrong
+
+
+def run_go(hash_name, path):
+    """The same of Go's package, by others.go."""
+    settings = {"GO111MODULE": "off", "GOFLAGS": "", "GOPATH": "/usr/share/gocode"}
+    done = subprocess.run(["go", "run", os.path.join(HERE, "others.go"), hash_name, path], stdout=subprocess.PIPE,
+                          text=True, env={**os.environ, **settings}, check=True)
+    counts = [collections.Counter() for _ in range(3)]
+    for line in done.stdout.splitlines():
+        kind, count, name = line.split(" ", 2)
+        counts["rlw".index(kind)][name] = int(count)
+    return counts[0]["cases"], *counts[1:]
+
+
+def listed(counts):
+    return ", ".join(f"{count} {name}" for name, count in counts.most_common()) or "none"
+
+
+def rows(folder, kinds):
+    """The rows of the table. On standard error: at what the other cases end."""
+    for title, kind in kinds:
+        if kind is Libb2 and not Libb2.library or kind is None and not shutil.which("go"):
+            print(f"{title} is absent", file=sys.stderr)
+            continue
+        for name in kind.hashes if kind else ("blake2b", "blake2s", "blake2xb", "blake2xs"):
+            path = os.path.join(folder, f"{name}.txt")
+            ran, lacks, wrong = run(lambda: kind(name), path) if kind else run_go(name, path)
+            print(f"{title}, {name}: not run: {listed(lacks)}", file=sys.stderr)
+            yield f"| {title} | {name} | {ran} of {ran + sum(lacks.values())} | {listed(wrong)} |"
+
+
+def main():
+    parser = Parser(description=__doc__.split("\n\n")[0])
+    parser.add_argument("--check", action="store_true", help="compare the rows with those of others.txt")
+    parser.add_argument("--libb2", metavar="FILE", help="run only libb2's functions, of this shared library")
+    parser.add_argument("folder")
+    chosen = parser.parse_args()
+    kinds = (("hashlib", Hashlib), ("libb2", Libb2), ("Go", None))
+    if chosen.libb2:
+        Libb2.library, kinds = ctypes.CDLL(chosen.libb2), kinds[1:2]
+    with open(os.path.join(HERE, "others.txt"), encoding="utf-8") as file:
+        table = file.read()
+    status = 0
+    for row in rows(chosen.folder, kinds):
+        if not chosen.check or row not in table:
+            print(row)
+            status = int(chosen.check)
+    return status
+
+
+if __name__ == "__main__":
+    sys.exit(main())

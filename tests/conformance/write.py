@@ -1,0 +1,404 @@
+#!/usr/bin/env python3
+"""Writes the conformance cases of BLAKE2, a file for each hash (README.md says what is in them):
+
+    tests/conformance/write.py FOLDER           writes blake2b.txt to tree.txt
+    tests/conformance/write.py --check FOLDER   ends with status 1 if one of them is another
+
+Here are the calls only. What each has to return is added by model.py, from hashlib and an independent model.
+"""
+import os
+import random
+import sys
+
+from model import HASHES, UNKNOWN, Model, family_of, limits
+
+sys.path.insert(0, os.path.join(os.path.dirname(os.path.abspath(__file__)), ".."))
+from common import FAMILIES, Parser  # noqa: E402
+
+KEY, SALT, PERSON = 5000, 6000, 7000  # where keys, salts and personalizations begin
+
+
+def words(**given):
+    """Arguments as they are written."""
+    starts = {"key": KEY, "salt": SALT, "person": PERSON}
+    return " ".join(f"{name}={starts[name]}:{starts[name] + value}" if name in starts and isinstance(value, int)
+                    else f"{name}={value}" for name, value in given.items())
+
+
+class Writer:
+    """The lines of a file."""
+
+    def __init__(self, name):
+        self.name, self.limits = name, limits(name)
+        self.family = FAMILIES[family_of(name)]
+        self.longest, self.salt = self.family.key, self.family.salt
+        self.block = 512 if name[-1] == "p" else self.family.block
+        self.is_output, self.is_tree = "x" in name, name == "tree"
+        self.has_nodes = "depth" in self.limits
+        self.dice = random.Random(f"7693 {name}")
+        self.lines, self.model, self.names = [], None, {}
+
+    def case(self, what, *calls):
+        """A case of these calls."""
+        number = self.names[what] = self.names.get(what, 0) + 1
+        self.lines += ["", f"case {self.name}.{what}.{number}"]
+        self.model = Model()
+        for call in calls:
+            self.call(call)
+
+    def call(self, call):
+        outcome = self.model.outcome(call)
+        self.lines.append(" ".join(call.split()) + outcome)
+        return outcome
+
+    # ---- values
+
+    def some(self, most, least=0):
+        return self.dice.choice([least, most, self.dice.randint(least, most)])
+
+    def arguments(self, *also, **given):
+        """Random arguments of the hash, those that are named and some of the others."""
+        for name, (least, most) in self.limits.items():
+            if name in given or not (name in also or name == "leaf" and self.is_tree or self.dice.random() < 0.4):
+                continue
+            if name in ("fanout", "depth", "leaf", "offset", "node", "inner", "last") and not self.is_tree:
+                continue
+            given[name] = self.some(most, 1 if name == "key" else least)
+            if name == "size":
+                given[name] = (self.some(6 * self.longest, 1) if self.is_output else self.some(most, 1))
+            if name == "leaf":
+                given[name] = self.dice.choice([1, 2, 7, 64, 100, 128, 129, 2**32 - 1])
+        return given
+
+    def node(self):
+        """Random tree parameters."""
+        return {name: self.some(self.limits[name][1], self.limits[name][0])
+                for name in ("fanout", "depth", "leaf", "offset", "node", "inner", "last")}
+
+    def hash(self, what, length, start=0, **given):
+        """A digest in one call, or an output of this size."""
+        if self.is_output:
+            given.setdefault("size", 2 * self.longest)
+        self.case(what, f"hash {self.name} {start}:{start + length} {words(**given)}")
+
+    def end(self, slot):
+        """How a run ends."""
+        if self.is_output:
+            return f"read {slot} {self.dice.randint(1, 3 * self.longest)}"
+        return f"digest {slot}"
+
+
+# ---- kinds of cases. Each is a method of a Writer, by its name in the names of the cases
+
+def lengths(w):
+    """Messages of each length up to two blocks, and around later ones, and up to 300,000 bytes."""
+    base = {"leaf": 64} if w.is_tree else {}
+    step = 1 if w.block < 200 else 7
+    for length in [*range(0, 2 * w.block + 2, step),
+                   *(b * w.block + more for b in (1, 2, 3, 4, 5, 8, 9, 16, 17) for more in (-1, 0, 1))]:
+        w.hash("length", length, size=w.longest // 2 + length % (w.longest // 2), **base)
+    if w.name in ("blake2b", "blake2s"):
+        for length in (1000, 4096, 65535, 65536, 65537, 258047, 258048, 258049, 300000):
+            w.hash("length", length, length % 7)
+            w.hash("length", length, length % 5, key=1 + length % 32, salt=w.salt, person=w.salt)
+
+
+def sizes(w):
+    """Each size of a digest, each length of a key, a salt and a personalization."""
+    base = {"leaf": 100} if w.is_tree else {}
+    ends = {size * w.longest + more for size in (1, 2, 4, 5, 8, 9) for more in (-1, 0, 1)}
+    for size in sorted(ends | set(range(1, 5))) if w.is_output else range(1, w.longest + 1):
+        w.hash("size", w.dice.randint(0, 300), size, size=size, **base)
+        w.hash("size", w.dice.randint(0, 300), size, **w.arguments("key", size=size, **base))
+    for name, most in (("key", w.longest), ("salt", w.salt), ("person", w.salt)):
+        for length in range(1, most + 1) if name in w.limits else ():
+            w.hash(name, w.dice.choice([0, 1, w.block - 1, w.block, w.block + 1]), length,
+                   **base, **{"size": w.longest, name: length})
+    if "key" in w.limits:
+        for length in (0, 1, w.block - 1, w.block, w.block + 1, 2 * w.block):
+            w.hash("key", length, size=w.longest, key=w.longest)
+
+
+def random_hashes(w):
+    """Random arguments and messages."""
+    for i in range(300 if w.has_nodes or w.is_tree else 80):
+        length = w.dice.choice([w.dice.randint(0, 300), w.dice.randint(0, 9) * w.block + w.dice.randint(0, 2)])
+        w.hash("random", length, i, **w.arguments())
+
+
+def nodes(w):
+    """Nodes of trees: each parameter at its edges, and all of them."""
+    for name in ("fanout", "depth", "leaf", "offset", "node", "inner", "last") if w.has_nodes else ():
+        least, most = w.limits[name]
+        bits = {2**n + more for n in (7, 8, 15, 16, 24, 31, 32, 40, 47, 56, 63) for more in (-1, 0)}
+        for value in sorted({least, least + 1, most - 1, most} | {bit for bit in bits if least < bit < most}):
+            w.hash("node", 9, **{name: max(value, least)})
+    for i in range(150 if w.has_nodes else 0):
+        w.hash("node", w.dice.randint(0, 300), i, **w.arguments(**w.node()))
+    for i in range(40 if w.has_nodes else 0):  # the flag is set and cleared at any time
+        given, length, flag = w.arguments(**w.node()), w.dice.randint(0, 300), i % 2
+        w.case("flag", f"new a {w.name} {words(**given)}", f"last a {1 - flag}", f"update a 0:{length}",
+               f"last a {flag}",
+               "copy a b", "digest a", "last b 1", "reset b", f"update b 0:{length}", "digest b")
+
+
+def pieces(w):
+    """Messages in two pieces at each cut around blocks, and in random ones; the count, and the end by a copy."""
+    for length in (1, w.block - 1, w.block, w.block + 1, 2 * w.block, 2 * w.block + 1, 4 * w.block + 3):
+        given = w.arguments()
+        cuts = {max(0, b * w.block + more) for b in range(5) for more in (-1, 0, 1)}
+        for cut in sorted(cut for cut in cuts | {length} if cut <= length):
+            w.case("cut", f"new a {w.name} {words(**given)}", f"update a 0:{cut}", f"count a",
+                   f"update a {cut}:{length}",
+                   f"count a", w.end("a"))
+    for i in range(120):
+        w.case("pieces", f"new a {w.name} {words(**w.arguments())}")
+        place, end = i, i + w.dice.randint(0, 6 * w.block)
+        while place < end:
+            step = w.dice.choice([0, 1, w.dice.randint(0, 20), w.block, w.dice.randint(0, 3 * w.block)])
+            more = min(end, place + step)
+            w.call(f"update a {place}:{more}")
+            place = more
+        w.call("count a")
+        w.call(w.end("a"))
+
+
+def tags(w):
+    """The right tag, each with one bit changed, shorter and longer ones, none; nothing is left after any."""
+    if w.is_output:
+        return
+    for size in (1, 16, w.longest):
+        given = {**w.arguments(), "size": size}
+        w.case("tag", f"new a {w.name} {words(**given)}", "update a 3:90", "copy a b", "copy a c", "copy a d")
+        right = bytes.fromhex(w.call("digest a").split()[-1])
+        w.call(f"verify b {right.hex()}")
+        w.call(f"verify c {right.hex()}00")
+        w.call(f"verify d {right[:-1].hex() or '-'}")
+        for tag in [right[:i] + bytes([right[i] ^ 1 << i % 8]) + right[i + 1:] for i in range(size)] + \
+                [b"", right + right, bytes(size), right[1:] + right[:1] if size > 1 else b"1"]:
+            w.case("tag", f"new a {w.name} {words(**given)}", "update a 3:90", f"verify a {tag.hex() or '-'}",
+                   f"verify a {right.hex()}", "update a 0:1")
+            w.case("tag", f"equal {right.hex()} {tag.hex() or '-'}")
+        w.case("tag", f"new a {w.name} {words(**given)}", "update a 3:90", "verify a none", f"verify a {right.hex()}")
+    for start, end in ((0, 300000), (1, 300001), (256, 300256), (0, 129024), (0, 299999)):
+        w.case("equal", f"equal 0:300000 {start}:{end}")
+
+
+def refusals(w):
+    """Each argument below its least and above its most, up to 2^64 and more; several wrong ones; no object."""
+    base = {"leaf": 9} if w.is_tree else {}
+    for name, (least, most) in w.limits.items():
+        if name == "last":  # a flag of each language's own
+            continue
+        if name in ("key", "salt", "person"):
+            wrong = [most + 1, most + 2, 2 * most, 255, 256, 257, 65536]
+            right = [int(name == "key"), least + 1, most - 1, most]  # an empty key is a matter of the language
+        else:
+            wrong = [least - 1, most + 1, most + 2,
+                     *(2**n + more for n in (8, 16, 32, 48, 63, 64) for more in (0, 1, 9)),
+                     "none"]
+            right = [least, least + 1, most - 1, most]
+            if w.is_output:  # the number that says `unknown` is no length
+                wrong, right = [most, *wrong], [1, 2, most - 1, "unknown"]
+        for value in wrong + ["none"] * (name in ("key", "salt", "person")):
+            if value != "none" and value in range(least, most + 1) and not (w.is_output and value == most):
+                continue
+            given = words(**{**base, name: value})
+            w.case(f"refused-{name}", f"new a {w.name} {given}", "update a 0:1", "digest a" if not w.is_output else
+                   "read a 1", "wipe a")
+            if not w.is_output or name != "size" or value != "unknown":
+                more = words(**{**base, **({"size": 9} if w.is_output else {}), name: value})
+                w.case(f"refused-{name}", f"hash {w.name} 0:3 {more}")
+                if w.name in ("blake2b", "blake2s") and name in ("size", "key", "salt", "person"):
+                    w.case(f"refused-{name}", f"many {w.name} 0:3 4:7 {more}")
+        for value in right:
+            w.case(f"taken-{name}", f"new a {w.name} {words(**{**base, name: value})}",
+                   *(["left a"] if w.is_output else []), "update a 0:1", w.end("a"))
+    names = [name for name in w.limits if name not in ("last", "fanout", "node")]
+    for wrong in range(1, 2 ** len(names)):
+        given = dict(base)
+        for i, name in enumerate(names):
+            if wrong >> i & 1 and not (name in ("leaf", "offset") and w.name == "blake2b"):
+                given[name] = w.limits[name][1] + 1 if name in ("key", "salt", "person", "offset", "inner") else 0
+        if wrong & wrong - 1:
+            w.case("refused-several", f"new a {w.name} {words(**given)}")
+    w.case("refused-message", f"hash {w.name} none {words(**base, **({'size': 9} if w.is_output else {}))}")
+    for i in range(3):
+        w.case("refused-message", f"new a {w.name} {words(**w.arguments())}", f"update a 0:{i * 70}", "update a none",
+               "update a -", f"update a 9:{9 + i}", w.end("a"))
+
+
+def ended(w):
+    """Each call after each end is refused, and a new state can be made in the place."""
+    ends = ["wipe a"] + ([] if w.is_output else ["digest a", "verify a 00"])
+    calls = ["update a 0:1", "update a -", "copy a b", "reset a", "left a" if w.is_output else "count a"]
+    calls += ["read a 1", "read a 0"] if w.is_output else ["digest a", "verify a -", "verify a 00"]
+    calls += ["last a 1"] * w.has_nodes
+    for end in ends:
+        for call in calls:
+            w.case("ended", f"new a {w.name} {words(**w.arguments())}", f"update a 0:{w.dice.randint(0, 200)}", end,
+                   call,
+                   "wipe a", f"new a {w.name} {words(**w.arguments())}", "update a 0:5", w.end("a"))
+
+
+def resets(w):
+    """A reset state is as new, whatever it has absorbed."""
+    for length in (0, 1, w.block - 1, w.block, w.block + 1, 3 * w.block + 1):
+        for _ in range(4):
+            given = {**w.arguments(), **(w.node() if w.has_nodes and length % 2 else {})}
+            w.case("reset", f"new a {w.name} {words(**given)}", f"update a 1:{1 + length}", "reset a", "count a",
+                   "copy a b", w.end("b"), "update a 0:70", "copy a c", w.end("c"), "reset a", "reset a",
+                   f"update a 0:{length}",
+                   w.end("a"))
+
+
+def walks(w):
+    """Random calls of several states, with those that are refused among them."""
+    for i in range(300):
+        w.case("walk", *(f"new {slot} {w.name} {words(**w.arguments())}" for slot in "abc"))
+        is_plain = i % 3 > 0  # without the calls that some packages do not have
+        for _ in range(12):
+            slot, other, length = w.dice.choice("abc"), w.dice.choice("abcd"), w.dice.choice([0, 1, 60, 128, 200, 700])
+            start = w.dice.randint(0, 300)
+            calls = [f"update {slot} {start}:{start + length}"] * 5 + [f"copy {slot} {other}"] * (slot != other)
+            calls += [w.end(slot), f"count {slot}", f"new {slot} {w.name} {words(**w.arguments())}"]
+            calls += [] if is_plain else [f"reset {slot}", f"wipe {slot}"]
+            if w.is_output:
+                calls += [f"read {slot} {w.dice.choice([0, 1, 31, 64, 65, 300])}"] * 3 + [f"left {slot}"]
+            w.call(w.dice.choice(calls))
+
+
+def several(w):
+    """Messages of one length and of several, up to a thousand, in one call."""
+    if not w.has_nodes:
+        return
+    for count in (0, 1, 2, 3, 4, 5, 7, 8, 9, 15, 16, 17, 33):
+        for length in (0, 1, w.block, w.block + 1, 300):
+            messages = " ".join(f"{i}:{i + length}" for i in range(count))
+            given = {key: value for key, value in w.arguments("size", "key").items()}
+            w.case("many", f"many {w.name} {messages} {words(**{**given, 'size': w.dice.choice([1, 8, 20])})}")
+    for count, size in ((257, 1), (1000, 1), (1025, 2)):
+        w.case("many", f"many {w.name} {' '.join(f'{i}:{i + 1}' for i in range(count))} size={size}")
+    for _ in range(20):
+        mixed = " ".join(f"{i}:{i + w.dice.choice([0, 1, 128, 128, 128, 128])}" for i in range(20))
+        w.case("many", f"many {w.name} {mixed} {words(size=4, salt=w.some(w.salt))}")
+    w.case("many", f"many {w.name} {' '.join(f'{i}:{i + 100000}' for i in range(9))} size=20")
+    for place in range(4):
+        w.case("many", f"many {w.name} {' '.join('none' if i == place else f'{i}:9' for i in range(4))}")
+
+
+def outputs(w):
+    """Outputs that are read in pieces, copied and reset on the way; what is refused while they are read."""
+    if not w.is_output:
+        return
+    for size in (1, w.longest - 1, w.longest, w.longest + 1, 4 * w.longest, 8 * w.longest + 9, "unknown"):
+        total = 600 if size == "unknown" else size
+        for cut in sorted({0, 1, total // 3, total - 1, total}):
+            given = {**w.arguments(), "size": size}
+            w.case("read", f"new a {w.name} {words(**given)}", "update a 0:70", "left a", f"read a {cut}", "left a",
+                   "copy a b", f"read a {total - cut}", "left a",
+                   *(["read a 1", "read a 0"] if size != "unknown" else []),
+                   f"read b {total - cut}")
+            w.case("read", f"new a {w.name} {words(**given)}", "update a 0:70", f"read a {cut}", "update a 0:1",
+                   "update a -",
+                   f"read a {total - cut + 1}" if size != "unknown" else "left a", f"read a {total - cut}")
+            w.case("read", f"new a {w.name} {words(**given)}", "update a 5:70", f"read a {cut}", "reset a", "left a",
+                   "count a", "update a 0:3", f"read a {total}")
+    for i in range(60):
+        w.case("reads", f"new a {w.name} {words(**w.arguments())}", f"update a {i}:{3 * i}")
+        for _ in range(6):
+            w.call(f"read a {w.dice.choice([0, 1, 2, 31, 32, 33, 63, 64, 65, 128, 200])}")
+    most = UNKNOWN[family_of(w.name)]
+    for value in (2 * w.longest + 1, most - 1, most - 2):
+        w.case("left", f"new a {w.name} size={value}", "left a", "read a 33", "left a", f"read a {value}", "read a 3")
+    w.case("left", f"new a {w.name} size=unknown", "left a", "read a 33", "left a", f"read a {w.longest << 32}",
+           "read a 3")
+    if w.name == "blake2xb":
+        for size, key, context in [(size, key, size % 40) for size in (1, 32, 64, 65, 130) for key in (1, 32, 64)]:
+            w.case("derive", f"derive {size}:{size + context} size={size} key={KEY}:{KEY + key}")
+        for size, key in ((0, 1), (9, 0), (9, 65), (0, 0), (2**32 - 1, 1), (2**32, 1), (2**32 + 9, 1), (2**64, 1),
+                          (9, 256)):
+            w.case("refused-derive", f"derive 0:3 size={size} key={KEY}:{KEY + key}")
+        w.case("refused-derive", "derive none size=9 key=0:9")
+
+
+def trees(w):
+    """The tree of two levels: roots, ranges of leaves, roots of these, and leaves that are hashed by others."""
+    if not w.is_tree:
+        return
+    for leaf in (1, 7, 64, 127, 128, 129, 1000, 2**32 - 1):
+        for length in (0, 1, leaf - 1, leaf, leaf + 1, 4 * leaf, 4 * leaf + 1, 5 * leaf, 9 * leaf + 3):
+            if length < 10000:
+                w.hash("root", length, leaf % 9, **w.arguments(leaf=leaf))
+    for leaf in (1, 2, 64, 127, 128, 129, 1000):
+        for first in (0, 1, 3, 2**31, 2**32 + 5, 2**57 // leaf):
+            for count in (1, 3, 4, 9):
+                texts = {name: w.some(16) for name in ("salt", "person")}
+                for ends, cut in ((0, 0), (1, leaf * count // 11), (1, 0)):
+                    end = first % 99 + leaf * count - cut
+                    w.case("leaves", f"leaves {first % 99}:{end} {first} {ends} {words(leaf=leaf, **texts)}")
+    for leaf, first, ends, length in ((4, 0, 0, 0), (4, 0, 0, 3), (4, 0, 0, 5), (4, 1, 1, 0), (4, 5, 0, 9),
+                                      (4, 0, 1, 0), (1, 2**58 - 1, 1, 1), (1, 2**58 - 2, 1, 1), (1, 2**58 - 2, 0, 2),
+                                      (2, 2**57 - 1, 0, 2),
+                                      (2, 2**57 - 1, 1, 1), (4, 2**56, 1, 4), (4, 2**63, 1, 4), (4, 2**64 - 1, 1, 4),
+                                      (2**32 - 1, 2**26, 1, 4), (2**32 - 1, 2**26 + 1, 1, 4)):
+        w.case("leaves", f"leaves 0:{length} {first} {ends} leaf={leaf}")
+    for name, value in (("leaf", 0), ("leaf", 2**32), ("salt", 17), ("person", 17), ("leaf", "none"), ("salt", "none")):
+        w.case("refused-leaves", f"leaves 0:3 0 1 {words(**{'leaf': 4, name: value})}")
+        w.case("refused-top", f"top 0:64 {words(**{'leaf': 4, name: value})}")
+    w.case("refused-leaves", "leaves none 0 1 leaf=4")
+    for leaf in (258047, 258048, 258049, 100000):  # around what JavaScript hashes at once
+        w.case("leaves", f"leaves 5:{5 + 3 * leaf} 7 0 leaf={leaf}")
+        w.hash("root", 2 * leaf + 1, leaf=leaf)
+    for length in (0, 1, 63, 64, 65, 128, 192, 640, 6400, 258048, 258112, 640000):
+        w.case("top", f"top 0:{length} {words(**w.arguments())}")
+    for size in (0, 65, 256, 2**32 + 1):
+        w.case("refused-top", f"top 0:64 leaf=4 size={size}")
+    w.case("refused-top", "top none leaf=4")
+    for leaf in (1, 5, 64, 128, 200):
+        for before in (0, leaf, 3 * leaf, leaf - 1, leaf + 1):
+            for count, skip in ((1, 0), (2, 1), (5, 3), (9, 0)):
+                given = words(**w.arguments(leaf=leaf))
+                part = f"{before}:{before + count * leaf}"
+                w.case("next", f"new a tree {given}", f"update a 0:{before}", f"next a {skip} {part}",
+                       f"next a {skip} 0:{leaf + 1}", f"next a {skip} -", f"absorb a {part} 1:4",
+                       "count a", "digest a", "next a 0 0:1")
+    for skip in (2**56, 2**58 - 2, 2**58 - 1, 2**63, 2**64 - 1):
+        w.case("next", "new a tree leaf=1", f"next a {skip} 0:1", f"next a {skip} 0:2", "update a 0:3", "digest a")
+    w.case("next", "new a tree leaf=4", "absorb a 0:8 -", "absorb a - 0:3", "absorb a 3:7 0:1", "next a 0 none",
+           "digest a")
+
+
+KINDS = (lengths, sizes, random_hashes, nodes, pieces, tags, refusals, ended, resets, walks, several, outputs, trees)
+
+
+def text_of(name):
+    """The text of a hash's file."""
+    writer = Writer(name)
+    for kind in KINDS:
+        kind(writer)
+    return "\n".join([f"# {name}: conformance cases of BLAKE2, format 1. README.md describes them.", *writer.lines, ""])
+
+
+def main():
+    parser = Parser(description=__doc__.split("\n\n")[0])
+    parser.add_argument("--check", action="store_true", help="compare the files with what would be written")
+    parser.add_argument("folder")
+    parser.add_argument("names", nargs="*", default=HASHES, help="the hashes, all of them by default")
+    chosen = parser.parse_args()
+    status = 0
+    for name in chosen.names:
+        path, text = os.path.join(chosen.folder, f"{name}.txt"), text_of(name)
+        if chosen.check:
+            with open(path) as file:
+                if file.read() != text:
+                    print(f"{path} is not what tests/conformance/write.py writes")
+                    status = 1
+        else:
+            with open(path, "w") as file:
+                file.write(text)
+    return status
+
+
+if __name__ == "__main__":
+    sys.exit(main())

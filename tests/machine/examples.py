@@ -1,0 +1,92 @@
+"""Numbers for the variables of a path of a call. Two words that differ for some are not the same."""
+
+from __future__ import annotations
+
+from typing import Any
+
+import rfc7693 as R
+import terms as T
+from terms import CannotShow
+
+SEEDS, BLOCKS = 4, 8                   # of random bytes; and the most blocks that are compressed
+KINDS = {kind.name: kind for kind in (R.BLAKE2B, R.BLAKE2S)}
+
+
+class Example(T.Numbers):
+    """The numbers that a model has, random ones for other inputs, and what follows from these. A
+    variable that a path has made has no number, except undefined bytes of the stack."""
+
+    def __init__(self, seed: int, names: dict, results: dict) -> None:
+        super().__init__(seed, tuple(names.items()))
+        self.results = {n: what for what, n in results.items()}
+
+    def byte(self, b: Any) -> int:
+        return b if isinstance(b, int) else T.value(b[0], self, {}) >> 8 * b[1] & 255
+
+    def __missing__(self, name: Any) -> int:
+        if isinstance(name, tuple):
+            number = self.of_tuple(*name)
+        elif name.startswith(("F", "blocks")) and name.strip("Fblocks").replace(".", "").isdigit():
+            result, k = name.strip("Fblocks").split(".")
+            number = self.chain(*self.results[int(result)])[int(k)]
+        elif "~" in name and not name.startswith("stack"):
+            raise CannotShow("the number of %s is not known" % name)
+        else:
+            return super().__missing__(name)
+        self[name] = number
+        return number
+
+    def of_tuple(self, what: str, *rest: Any) -> int:
+        """A choice, an or or a comparison of bytes, or a byte of a buffer."""
+        if what == "below":
+            j, n, a, b = rest
+            return self.byte(a if j < T.value(n, self, {}) else b)
+        if what in ("any", "zero"):
+            total = 0
+            for b in rest[0]:
+                total |= self.byte(b)
+            return total if what == "any" else int(total == 0)
+        return super().__missing__("%s at %d" % (what, T.value(rest[0], self, {}))) & 255
+
+    def chain(self, what: str, name: str, chain: tuple, *rest: Any) -> list:
+        """The chaining words after one block, or after the blocks of a buffer."""
+        kind = KINDS[name]
+        h = self.words(kind, [self.byte(b) for b in chain])
+        if what == "F":
+            block, count, last, node = rest
+            return self.after(kind, h, [self.byte(b) for b in block], T.value(count, self, {}), last, node)
+        buffer, start, blocks, count = rest
+        start, blocks, count = (T.value(t, self, {}) for t in (start, blocks, count))
+        if blocks > BLOCKS:
+            raise CannotShow("there are more than %d blocks" % BLOCKS)
+        for k in range(blocks):
+            at = start + k * kind.block
+            block = [self.of_tuple(buffer, T.const(64, at + j)) for j in range(kind.block)]
+            h = self.after(kind, h, block, count + (k + 1) * kind.block, 0, 0)
+        return h
+
+    @staticmethod
+    def words(kind: R.Kind, data: list) -> list:
+        return [int.from_bytes(bytes(data[k:k + kind.bytes]), "little")
+                for k in range(0, len(data), kind.bytes)]
+
+    def after(self, kind: R.Kind, h: list, block: list, count: int, last: int, node: int) -> list:
+        """The chaining words after a block."""
+        w = kind.w
+        words = lambda numbers: [T.const(w, n) for n in numbers]
+        low, high, *flags = words((count, count >> w, -last, -node))
+        return [t.args for t in R.F(kind, words(h), words(self.words(kind, block)), low, high, *flags)]
+
+
+def difference(facts: Any, results: dict, x: T.Byte, y: T.Byte) -> str | None:
+    """Numbers for which all facts of a path hold and two bytes differ, as text, or None."""
+    for limit in (5, 1000, None):
+        model = facts.small(limit)
+        for seed in range(1, SEEDS + 1) if model else ():
+            numbers = Example(seed, model.names, results)
+            try:
+                if all(facts.holds_for(numbers)) and numbers.byte(x) != numbers.byte(y):
+                    return model.shown()
+            except CannotShow:
+                break
+    return None

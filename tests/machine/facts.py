@@ -1,0 +1,290 @@
+"""What a path of a call knows of its numbers, and what follows from it, by the SMT solver Z3 over
+integers. A word of w bits is an integer from 0 to 2^w - 1, and a sum of words is one up to a multiple
+of 2^w, which is a variable of its own. Nothing else in this tool decides how the numbers of a whole
+call compare."""
+
+from __future__ import annotations
+
+import atexit
+import operator
+import os
+import subprocess
+import sys
+from typing import Any, Callable, Iterable, Iterator
+
+import terms as T
+from ranges import OPPOSITE, signed
+
+try:
+    import z3
+except ImportError:                    # check.py then skips whole calls
+    z3 = None
+
+DEBIAN = "/usr/bin/python3"            # which has the packages of Debian, where another Python is in use
+EFFORT = 100000                        # of Z3 for a question, in its own units; then it is open
+RELATIONS: dict = {"==": operator.eq, "!=": operator.ne, "<": operator.lt, "<=": operator.le,
+                   ">": operator.gt, ">=": operator.ge}
+
+
+def number(t: T.Term) -> Any:
+    """A term as an integer of Z3."""
+    return z3.IntVal(t.args) if t.op == "const" else z3.Int("%s %d" % (t.op, t.serial))
+
+
+def definition(t: T.Term) -> list:
+    """What is so of the integers of a term and its parts, by the meaning of its operator. Of another
+    operator only the range is known."""
+    return [] if t.op == "const" else T.remembered(_definition, t)
+
+
+def _definition(t: T.Term) -> list:
+    a, n = t.args, number(t)
+    found, inner = [0 <= n, n < 1 << t.w], []
+    if t.op == "add":
+        inner = [u for u, _ in a[1]]
+        total = z3.Sum([a[0]] + [signed(t.w, k) * number(u) for u, k in a[1]])
+        found.append(n == total + (1 << t.w) * z3.Int("wraps %d" % t.serial))
+    elif t.op in ("slice", "shr"):
+        start = 8 * a[1] if t.op == "slice" else a[1]
+        low, high = (z3.Int("%s %d" % (part, t.serial)) for part in ("below", "above"))
+        inner = [a[0]]
+        found += [number(a[0]) == low + n * (1 << start) + high * (
+            1 << start + t.w), 0 <= low, low < 1 << start, 0 <= high]
+    elif t.op == "cat":
+        parts = list(runs(a))
+        inner = [u for _, u in parts]
+        found.append(n == z3.Sum([number(u) * (1 << 8 * k) for k, u in parts]))
+    return found + [f for u in inner for f in definition(u)]
+
+
+def runs(data: tuple) -> Iterator:
+    """Bytes as words: the place of each, and the word."""
+    k = 0
+    while k < len(data):
+        size = 1
+        if isinstance(data[k], tuple):
+            t, at = data[k]
+            while data[k + size:k + size + 1] == ((t, at + size),):
+                size += 1
+        yield k, T.word(data[k:k + size])
+        k += size
+
+
+def compared(relation: str, a: Any, b: Any, w: int) -> Any:
+    """That two numbers of w bits are so related."""
+    if "carry" in relation:
+        return (operator.ge if relation == "carry" else operator.lt)(a + b, 1 << w)
+    return RELATIONS[relation](a, b)
+
+
+def run_with_z3(script: str, arguments: list) -> None:
+    """Runs a script again by Debian's Python, if that has Z3 and this one has not."""
+    if not z3 and sys.executable != DEBIAN and os.path.exists(DEBIAN) and not subprocess.run(
+            [DEBIAN, "-c", "import z3"], stderr=subprocess.DEVNULL, check=False).returncode:
+        os.execv(DEBIAN, [DEBIAN, script] + arguments)
+
+
+
+class Model:
+    """Numbers of variables, for which Z3 says that some facts hold. Of a word, the number that follows
+    from these."""
+
+    def __init__(self, names: dict) -> None:
+        self.names = names
+
+    def __call__(self, t: T.Term) -> int:
+        return T.value(t, self.names, {})
+
+    def shown(self) -> str:
+        found = sorted("%s = %#x" % pair for pair in self.names.items() if isinstance(pair[0], str))
+        return ", ".join(found[:4]) + ", .." * (len(found) > 4)
+
+
+class Facts:
+    """A fact, and those before it on the path. Paths share what they have in common. `claim` returns
+    the fact as a list of conditions of which all hold, by a function that has the number of each of
+    some words, and one that is the or of conditions."""
+
+    solver: Any = None
+    asserted: list = []                # the facts that the solver has, in its order
+    questions = 0
+
+    def __init__(self, claim: Callable | None = None, words: tuple = (),
+                 before: Facts | None = None) -> None:
+        self.claim, self.words, self.before = claim, words, before
+        self.answers: dict = {}        # relation, word, word -> whether it follows
+        self.ranges: dict = {}
+        self.fixed: dict | None = None
+        self.models: list = []         # numbers of the variables for which Z3 says that all hold
+        self.variables: frozenset = (before.variables if before else frozenset()).union(
+            *map(variables, words))
+
+    def plus(self, relation: str, a: T.Term, b: T.Term) -> Facts:
+        """With one more comparison that holds."""
+        after = Facts(lambda of, _: [compared(relation, of(a), of(b), a.w)], (a, b), self)
+        if after.variables == self.variables:
+            after.models = [m for m in self.models if compared(relation, m(a), m(b), a.w)]
+        return after
+
+    def between(self, pairs: list, low: int, high: int) -> Facts:
+        """With the fact that a sum is between two numbers. Its parts are words, sums of words and
+        numbers, each with a sign, and all are added as integers."""
+        parts: list = []
+        for sign, t in pairs:
+            constant, items = (t, {}) if isinstance(t, int) else T.linear(t)
+            parts += [(sign * constant, None)] + [(sign * k, u) for u, k in items.items()]
+            if any(k >> 63 for k in (constant, *items.values())):
+                raise T.CannotShow("%r may be less than 0" % t)
+
+        def claim(of: Callable, _: Any) -> list:
+            total = sum((k if u is None else k * of(u) for k, u in parts), 0)
+            return [low <= total, total <= high]
+        return Facts(claim, tuple(u for _, u in parts if u is not None), self)
+
+    def apart(self, a: T.Term, n: T.Term, b: T.Term, m: T.Term) -> Facts:
+        """With the fact that n bytes from a on and m bytes from b on are apart."""
+        x, y = (T.add(64, (1, p), (-1, q)) for p, q in ((a, b), (b, a)))
+        claim = lambda of, either: [either(of(n) == 0, of(m) == 0, of(x) >= of(m)),
+                                    either(of(n) == 0, of(m) == 0, of(y) >= of(n))]
+        return Facts(claim, (x, y, n, m), self)
+
+    def path(self) -> Iterator:
+        """The facts, the last one first."""
+        f: Facts | None = self
+        while f:
+            yield f
+            f = f.before
+
+    def ask(self, claims: Iterable = (), words: Iterable = ()) -> Any:
+        """Numbers for which the facts and some claims about words hold, as a function, False if there
+        are none, or None if Z3 does not know."""
+        if Facts.solver is None:
+            Facts.solver = z3.Solver()
+            Facts.solver.set("rlimit", EFFORT)
+        solver, asserted, wanted = self.solver, self.asserted, list(self.path())[::-1]
+        common = 0
+        while common < min(len(asserted), len(wanted)) and asserted[common] is wanted[common]:
+            common += 1
+        solver.pop(len(asserted) - common)
+        del asserted[common:]
+        for f in wanted[common:]:
+            solver.push()
+            asserted.append(f)
+            self.tell(f.claim(number, z3.Or) if f.claim else (), f.words)
+        solver.push()
+        self.tell(claims, words)
+        answer = solver.check()
+        model: Any = False if answer == z3.unsat else None
+        if answer == z3.sat:
+            found = solver.model()
+            model = Model({t.args: found.eval(number(t), model_completion=True).as_long()
+                           for t in self.variables.union(*map(variables, words))})
+            self.models.append(model)
+        solver.pop()
+        Facts.questions += 1
+        return model
+
+    def tell(self, claims: Iterable, words: Iterable) -> None:
+        for t in words:
+            self.solver.add(*definition(t))
+        self.solver.add(*claims)
+
+    def are_possible(self) -> bool:
+        return bool(self.models) or self.ask() is not False
+
+    def imply(self, relation: str, a: T.Term, b: T.Term) -> bool:
+        """Whether it follows that two words are so related."""
+        if a.op == b.op == "const":
+            return compared(relation, a.args, b.args, a.w)
+        question = relation, a, b
+        if question not in self.answers:
+            other = OPPOSITE[relation]
+            known = variables(a) | variables(b) <= self.variables
+            self.answers[question] = any(f.answers.get(question) for f in self.path()) or not (
+                known and any(compared(other, m(a), m(b), a.w) for m in self.models)
+                or self.ask([compared(other, number(a), number(b), a.w)], (a, b)) is not False)
+        return self.answers[question]
+
+    def decide(self, relation: str, a: T.Term, b: T.Term) -> bool | None:
+        """Whether two words are so related, if that is known."""
+        return True if self.imply(relation, a, b) else (
+            False if self.imply(OPPOSITE[relation], a, b) else None)
+
+    def against(self, relation: str, a: T.Term, b: T.Term) -> str | None:
+        """Inputs of the call for which all facts hold and two words are not so related, as text, or
+        None. Z3 proposes them; all is computed again, so they are inputs."""
+        other = OPPOSITE[relation]
+        model = self.ask([compared(other, number(a), number(b), a.w)], (a, b))
+        is_example = model and all(isinstance(name, str) and "~" not in name for name in model.names)
+        return model.shown() if is_example and compared(other, model(a), model(b), a.w) and all(
+            self.holds_for(model.names)) else None
+
+    def holds_for(self, names: dict) -> Iterator:
+        """Whether each fact holds for these numbers of the variables."""
+        of = lambda t: T.value(t, names, {})
+        for f in self.path():
+            yield not f.claim or all(f.claim(of, lambda *conditions: any(conditions)))
+
+    def small(self, limit: int | None) -> Any:
+        """A model in which variables that are not addresses are below a limit, or None."""
+        return self.ask([number(t) < limit for t in self.variables
+                         if limit is not None and "address" not in str(t.args)], self.variables) or None
+
+    def range(self, t: T.Term) -> tuple:
+        """A least and a greatest number that a word may be."""
+        if t.op == "const":
+            return t.args, t.args
+        if t not in self.ranges:
+            n = lambda k: T.const(t.w, k)
+            self.ranges[t] = (least(lambda k: not self.imply(">", t, n(k)), (1 << t.w) - 1),
+                              least(lambda k: self.imply("<=", t, n(k)), (1 << t.w) - 1))
+        return self.ranges[t]
+
+    def values(self) -> dict:
+        """The variables of which the value is known."""
+        if self.fixed is None:
+            self.fixed = dict(next((f.fixed for f in self.path() if f.fixed), {}))
+            rest = self.variables - set(self.fixed)
+            model: Any = self.models[0] if self.models else self.ask()
+            found = {t: model(t) for t in rest} if model else {}
+            while found:               # until no other value of one of them is possible
+                found = {t: n for t, n in found.items() if all(m(t) == n for m in self.models)}
+                model = self.ask([z3.Or([number(t) != n for t, n in found.items()])], found)
+                if model is False:
+                    break
+                found = found if model else {}
+            self.fixed.update({t: T.const(t.w, n) for t, n in found.items()})
+        return self.fixed
+
+
+def least(f: Callable, top: int) -> int:
+    """The least number up to `top` from which on f holds."""
+    if not f(top - 1):
+        return top
+    low, high = 0, 0
+    while not f(high):
+        low, high = high + 1, min((high + 2) ** 2 - 1, top)
+    while low < high:
+        middle = (low + high) // 2
+        low, high = (low, middle) if f(middle) else (middle + 1, high)
+    return low
+
+
+def variables(t: T.Term) -> frozenset:
+    """The variables of a term."""
+    return T.remembered(_variables, t)
+
+
+def _variables(t: T.Term) -> frozenset:
+    if t.op == "var":
+        return frozenset([t])
+    inner = t.args[1] if t.op in ("add", "xor") else t.args if isinstance(t.args, tuple) else ()
+    terms = (u[0] if isinstance(u, tuple) else u for u in inner)
+    return frozenset().union(*[variables(u) for u in terms if isinstance(u, T.Term)])
+
+
+@atexit.register
+def _forget() -> None:
+    """Lets go of Z3's objects before its library goes."""
+    T.reset()
+    Facts.solver, Facts.asserted = None, []

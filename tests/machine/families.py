@@ -1,0 +1,37 @@
+"""The families of exported functions whose whole calls are shown, with their exports and cases."""
+
+from __future__ import annotations
+
+from typing import Any
+
+import call_cases
+import constant_time
+import memory_cases
+import program as programs
+
+TITLES = {"blake2b": "BLAKE2b", "blake2s": "BLAKE2s", "": "memcmp and wipe"}
+PREFIX = "vulfsjor_ffi_"
+ALONE = ("memcmp", "wipe")             # exports of no family
+
+
+def exports(program: programs.Program, family: str) -> list:
+    """The exports of a family that a file has and whose calls are shown, by the ends of their names."""
+    ends = [e for e in constant_time.EXPORTS if e not in constant_time.NOT_COMPUTED] if family else ALONE
+    return [end for end in ends if PREFIX + family + end in program.globals]
+
+
+def names(program: programs.Program) -> list:
+    """All of them, by their names."""
+    return [PREFIX + family + end for family in TITLES for end in exports(program, family)]
+
+
+def cases(program: programs.Program, family: str, *numbers: Any) -> Any:
+    """The cases of a family: all, or those with some numbers."""
+    if not family:
+        return memory_cases.Cases(program)
+    return call_cases.Cases(program, family, *numbers)
+
+
+def some(family: str) -> tuple:
+    """The numbers of a short test."""
+    return call_cases.some(family) if family else ()

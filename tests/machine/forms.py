@@ -1,0 +1,120 @@
+"""The forms of instructions that were run on the processor: forms.txt, which check.py --forms writes
+from the tests of instructions. The models refuse an instruction of any other form.
+
+A form is a name, and for each operand its kind and its bytes: g8 is a general register, x, y, z or k a
+vector or a mask, m8 memory, m8* a word that is broadcast, n a number. `=` says that the last two
+operands are the same register. A line of forms.txt has a processor, a name, and for each model that
+executes it the operands: F is the model of the functions that compress, T that of taint tracking, and W
+that of whole calls."""
+
+from __future__ import annotations
+
+import functools
+import os
+import re
+
+import x86
+from terms import CannotShow
+
+WRITES = "VULFSJOR_FORMS"                # in the environment while the table is written
+TABLE = os.path.join(os.path.dirname(os.path.abspath(__file__)), "forms.txt")
+# The numbers of these are added, compared or masked as they are. Those of any other instruction, such
+# as a shift or a shuffle, are part of its form.
+ANY_NUMBER = set("mov movabs add sub cmp and or xor test adc sbb imul push "
+                 "adds subs cmn ands tst orr eor movk movn movz movi ccmp".split())
+NUMBER = r"#?-?(?:0x[0-9a-f]+|\d+)"
+# Calls, jumps, returns, and what moves the stack pointer with them, with their operands: these run as
+# parts of whole functions only.
+CONTROL = {
+    "x86_64": re.compile(r"(call|j[a-z]+) there|ret|ud2|pause|leave|(push|pop) g8|push m8|nop|lea g8,m"),
+    "aarch64": re.compile(r"(bl|b|b\.[a-z]+) there|ret|isb|brk .*|nop|adrp x,there|cbn?z [xw],there|"
+                          r"tbn?z [xw],\S+,there"),
+}
+
+
+@functools.lru_cache(maxsize=None)
+def form(kind: str, text: str) -> str:
+    """The form of an instruction as objdump shows it, or as a test has it."""
+    code = " ".join(text.partition("#" if kind == "x86_64" else "//")[0].split())
+    if re.fullmatch(r"((data16|cs) +)*nop\b.*|xchg +ax,ax", code):
+        return "nop"
+    name, _, rest = code.partition(" ")
+    rest = re.sub(r"\b[0-9a-f]+ <.*>$", "there", rest)         # a jump, a call, or an address
+    pieces = [p.strip() for p in re.findall(r"\[[^]]*\]!?|[^,\[]+(?:\[[^]]*\]!?)?", rest)]
+    operand = of_x86 if kind == "x86_64" else of_arm
+    registers = [p for p in pieces if not re.fullmatch(NUMBER, p)][-2:]
+    same = "=" * (len(registers) == 2 and registers[0] == registers[1] and "[" not in registers[0])
+    return ("%s %s" % (name, ",".join(operand(name, p) for p in pieces))).strip() + same
+
+
+def of_x86(name: str, text: str) -> str:
+    """The kind of an operand."""
+    register, brace, mask = text.partition("{")
+    mask = re.sub(r"\d", "", brace + mask)
+    if register in x86.GENERAL:
+        return "g%d" % x86.GENERAL[register][1]
+    if register in x86.VECTOR or re.fullmatch(r"k\d", register):
+        return register[0] + mask
+    m = re.fullmatch(r"(?:([A-Z]+) (PTR|BCST) )?\[(.*)\](.*)", text)
+    if m and name == "lea" and not m[3].startswith("rip"):
+        return re.sub(r"\br\w+", "r", re.sub(r"(?<!\*)0x[0-9a-f]+", "n", m[3]))
+    if m:
+        return "m%s%s" % (x86.SIZES.get(m[1] or "", ""), "*" * (m[2] == "BCST")) + re.sub(r"\d", "", m[4])
+    return number(name, text)
+
+
+def of_arm(name: str, text: str) -> str:
+    """The same for ARM."""
+    if text.startswith("["):
+        text = re.sub(r"\b([xw])(\d+|zr)\b", r"\1", text).replace("[sp", "[x").replace(", ", ",")
+        return text if "lsl" in text or "xtw" in text else re.sub(r"(?<!\w)" + NUMBER, "n", text)
+    return number(name, re.sub(r"\b([xwvqdsbh])\d+\b", r"\1", "x" if text == "sp" else text))
+
+
+def number(name: str, text: str) -> str:
+    """A number of a form, or what stands for all of a class."""
+    if not re.fullmatch(NUMBER, text) or name not in ANY_NUMBER:
+        return text.replace(" ", "_")
+    n = int(text.lstrip("#"), 0)
+    return "0" if n == 0 else "-n" if n < 0 or n >> 31 else "n"
+
+
+@functools.lru_cache(maxsize=None)
+def known() -> frozenset:
+    """All forms of the table, each with the processor and the model."""
+    found = set()
+    with open(TABLE) as f:
+        for line in f:
+            kind, name, *users = line.split()
+            for user, _, operands in (u.partition(":") for u in users):
+                found |= {(kind, user, ("%s %s" % (name, o)).strip()) for o in operands.split(";")}
+    return frozenset(found)
+
+
+def write(found: set) -> None:
+    """Writes the table."""
+    lines: dict = {}
+    for kind, user, each in sorted(found):
+        name, _, operands = each.partition(" ")
+        lines.setdefault((kind, name), {}).setdefault(user, []).append(operands)
+    with open(TABLE, "w") as f:
+        for (kind, name), users in lines.items():
+            print(kind, name, *["%s:%s" % (u, ";".join(o)) for u, o in users.items()], file=f)
+
+
+def check(kind: str, user: str, text: str) -> None:
+    """Refuses an instruction of a form that a model has not been tried with."""
+    found = form(kind, text)
+    if not CONTROL[kind].fullmatch(found) and (kind, user, found) not in known():
+        raise CannotShow("the form of %s was not run on the processor: %s" % (" ".join(text.split()), found))
+
+
+def compare(kind: str, user: str, used: set, run: set) -> str | None:
+    """What is wrong with the table, for the forms that some functions have, and those that a test of
+    their instructions has run; or None."""
+    used = {f for f in used if not CONTROL[kind].fullmatch(f)}
+    missed = sorted(used - run)
+    if missed:
+        return "the form is not run: %s" % missed[0]
+    other = sorted(f for f in run if (kind, user, f) not in known())
+    return "run check.py --forms: forms.txt has not: %s" % other[0] if other else None

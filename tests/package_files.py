@@ -1,0 +1,149 @@
+#!/usr/bin/env python3
+"""Reads packaging/ without building a package: fields and lines that a package needs, the versions of symbols, and the
+lists of files.
+
+Prints the Test Anything Protocol. tests/release.sh builds the packages, if VULFSJOR_TEST_HUGE is set.
+"""
+import pathlib
+import re
+import sys
+
+TOP = pathlib.Path(__file__).resolve().parent.parent
+PORTABLE = "amd64 arm64 armhf i386 ppc64el riscv64 s390x"
+# The fields of each package in debian/control.
+CONTROL = {
+    "vulfsjor (source)": {
+        "Section": "libs",
+        "Build-Depends": "debhelper-compat (= 13), dh-sequence-python3 <!nopython>, python3-dev <!nopython>,",
+        "Rules-Requires-Root": "no"},
+    "libvulfsjor0": {
+        "Architecture": PORTABLE, "Multi-Arch": "same", "Pre-Depends": "${misc:Pre-Depends}",
+        "Depends": "${misc:Depends}, ${shlibs:Depends}"},
+    "libvulfsjor-dev": {
+        "Section": "libdevel", "Architecture": PORTABLE, "Multi-Arch": "same",
+        "Depends": "${misc:Depends}, libvulfsjor0 (= ${binary:Version})"},
+    "vulfsjor": {
+        "Section": "utils", "Architecture": "amd64 arm64", "Multi-Arch": "foreign",
+        "Depends": "${misc:Depends}, ${shlibs:Depends}"},
+    "python3-vulfsjor": {
+        "Section": "python", "Architecture": "amd64 arm64", "Build-Profiles": "<!nopython>",
+        "Depends": "python3 (>= 3.11), ${misc:Depends}, ${python3:Depends}, ${shlibs:Depends}"},
+}
+# Lines, or parts of them, of the other files.
+LINES = {
+    "debian/control": ["On amd64 it needs SSE4.2 (x86-64-v2) and",
+                       "uses AVX2 and AVX-512. On architectures other than"],
+    "debian/rules": [
+        "export DEB_BUILD_MAINT_OPTIONS = hardening=+all", "export CC = $(DEB_HOST_GNU_TYPE)-gcc",
+        "export CFLAGS CPPFLAGS LDFLAGS", "ifneq (,$(filter amd64 arm64,$(DEB_HOST_ARCH)))",
+        "PYTHON = $(if $(filter nopython,$(DEB_BUILD_PROFILES)),,yes)",
+        "modules = debian/python3-vulfsjor/usr/lib/python3/dist-packages",
+        'dh_auto_build -- all PROGRAMS="$(PROGRAMS)"',
+        "mkdir -p out/python && python3 python/build_package.py wheel out/python",
+        "override_dh_auto_test:\n\t$(if $(filter $(DEB_BUILD_GNU_TYPE),$(if $(PROGRAMS),$(DEB_HOST_GNU_TYPE))), \\\n"
+        "\t\tprintf abc | out/make/b2sum | grep -q '^ba80a53f981c4d0d'",
+        "$(MAKE) install DESTDIR=$(CURDIR)/debian/tmp prefix=/usr libdir=/usr/lib/$(DEB_HOST_MULTIARCH) \\\n",
+        'zshcompdir=/usr/share/zsh/vendor-completions PROGRAM_PREFIX=vulfsjor- PROGRAMS="$(PROGRAMS)"',
+        "mkdir -p $(modules) && python3 -m zipfile -e out/python/*.whl $(modules)",
+        "sed -i 's/libc6:$(DEB_HOST_ARCH) /libc6 /g' debian/*.substvars", "dh_makeshlibs -plibvulfsjor0 -- -c4"],
+    "debian/tests/control": [
+        "Depends: libvulfsjor-dev, gcc, libc6-dev, pkg-config\n", "grep ^ba80a53f\nDepends: vulfsjor\n",
+        "vulfsjor.blake2b(b'abc').hexdigest()[:4] == 'ba80'\"\nDepends: python3-vulfsjor\n"],
+    "vulfsjor.spec": [
+        "BuildRequires:  bash, coreutils, diffutils, findutils, gawk, gcc, make, sed\n",
+        "%ifarch x86_64 aarch64\n%global programs b2 b2sum\n",
+        "%global libs %{?suse_version:libvulfsjor0}%{!?suse_version:%{name}-libs}\n",
+        "%package devel\nSummary:        Files to develop programs with Vulfsjor\n"
+        "Requires:       %{libs}%{?_isa} = %{version}-%{release}\n",
+        "Requires:       %{name}-devel%{?_isa} = %{version}-%{release}\n",
+        '%make_build all CFLAGS="%{optflags} -ffile-prefix-map=%{_builddir}=." LDFLAGS="%{?build_ldflags}" '
+        'PROGRAMS="%{?programs}"\n',
+        '%make_install prefix=%{_prefix} libdir=%{_libdir} mandir=%{_mandir} PROGRAM_PREFIX=vulfsjor- '
+        'PROGRAMS="%{?programs}"\n',
+        "%check\n",
+        "printf abc | %{buildroot}%{_bindir}/vulfsjor-$name | grep -q ^ba80a53f",
+        "%post -n %{libs} -p /sbin/ldconfig\n"],
+}
+
+# Whole folders that artifacts have, after the start of their lines in files.txt.
+FOLDERS = {
+    "npm: package/src/": "js/src", "sdist: vulfsjor-VERSION/tests/": "python/tests",
+    "vulfsjor.crate: vulfsjor-VERSION/rust/src/": "rust/src",
+    "vulfsjor-digest.crate: vulfsjor-digest-VERSION/src/": "rust-digest/src",
+    "vulfsjor-digest.crate: vulfsjor-digest-VERSION/tests/": "rust-digest/tests",
+}
+# What they have from other folders.
+OTHERS = {"sdist: vulfsjor-VERSION/tests/": {"b2_model.py", "common.py", "oracle.py", "read_sources.py",
+                                             "vectors.json", "vectors.py"}}
+
+
+def read(name):
+    return (TOP / "packaging" / name).read_text(encoding="utf-8")
+
+
+def control():
+    """The fields of each package, those of several lines as one, but no description."""
+    for paragraph in read("debian/control").split("\n\n"):
+        joined = re.sub(r"\n +", " ", paragraph)
+        fields = dict(line.split(": ", 1) for line in joined.strip().split("\n"))
+        yield fields.get("Package") or f"{fields['Source']} (source)", fields
+
+
+def wrong_fields():
+    found = dict(control())
+    if list(found) != list(CONTROL):
+        yield f"the packages are {list(found)}"
+    for name, wanted in CONTROL.items():
+        for field in ("Section", "Architecture", "Multi-Arch", "Build-Profiles", "Build-Depends", "Depends",
+                      "Pre-Depends",
+                      "Rules-Requires-Root"):
+            if found.get(name, {}).get(field) != wanted.get(field):
+                yield f"{name}: {field} is {found.get(name, {}).get(field)}, and not {wanted.get(field)}"
+
+
+def missing_lines():
+    return (f"{name} has not: {line}" for name, lines in LINES.items() for line in lines if line not in read(name))
+
+
+def wrong_symbols():
+    """Each version of symbols is that of the first release that has it."""
+    versions = re.findall(r"(?m)^VULFSJOR_([\d.]+) \{", (TOP / "c" / "vulfsjor.map").read_text(encoding="utf-8"))
+    wanted = [f" (symver)VULFSJOR_{version} {version}.0" for version in versions]
+    found = [line for line in read("debian/libvulfsjor0.symbols").splitlines() if line.startswith(" ")]
+    return [] if found == wanted else [f"libvulfsjor0.symbols has {found}, and not {wanted}"]
+
+
+def other_sonames():
+    """The soname in the names of packages is that of the library."""
+    soname = re.search(r"soname,libvulfsjor\.so\.(\d+)",
+                       (TOP / "c" / "make_libraries.sh").read_text(encoding="utf-8"))[1]
+    names = set(re.findall(r"libvulfsjor(\d+)\b",
+                           read("debian/control") + read("debian/rules") + read("vulfsjor.spec")))
+    return [] if names == {soname} else [f"the packages have the sonames {names}, and the library {soname}"]
+
+
+def other_files():
+    """files.txt has each file of these folders, and tools/release.sh only pages that are there."""
+    listed = read("files.txt").splitlines()
+    for start, folder in FOLDERS.items():
+        names = {line[len(start):] for line in listed if line.startswith(start)}
+        names ^= OTHERS.get(start, set())
+        different = names ^ {each.name for each in (TOP / folder).iterdir() if each.is_file()}
+        if different:
+            yield f"{folder}: only one of it and files.txt has {sorted(different)}"
+    script = (TOP / "tools" / "release.sh").read_text(encoding="utf-8")
+    pages = re.search(r"for page in (.+); do", script)[1].split()
+    pages += read("debian/libvulfsjor-dev.docs").split()
+    yield from (f"there is no page {page}" for page in pages if not (TOP / page).is_file())
+
+
+TESTS = (("the fields of debian/control", wrong_fields), ("the lines of packaging/", missing_lines),
+         ("the versions of symbols", wrong_symbols), ("the soname", other_sonames),
+         ("the lists of files", other_files))
+failed = 0
+print(f"TAP version 13\n1..{len(TESTS)}")
+for count, (title, find) in enumerate(TESTS, 1):
+    said = list(find())
+    failed += bool(said)
+    print(f"{'not ' if said else ''}ok {count} - {title}", *said, sep="\n#     ")
+sys.exit(failed > 0)

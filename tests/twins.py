@@ -1,0 +1,109 @@
+#!/usr/bin/env python3
+"""Plants faults in a copy of the sources, each of which `tools/twins.py --check` has to report by name."""
+import os
+import shutil
+import subprocess
+import sys
+import tempfile
+
+import tap
+
+TOP = os.path.dirname(os.path.dirname(os.path.abspath(__file__)))
+MADE = "crates/blake2/src/hashers/blake2s.rt"
+SOURCE = MADE.replace("2s", "2b")
+PROOF = "crates/blake2_parallel/proofs/blake2sp/State/reset/Answers.antt"
+TABLE, ATTRIBUTES = "tools/twins.txt", ".gitattributes"
+
+
+def copy(room):
+    """Copies what the tool reads."""
+    shutil.copytree(f"{TOP}/crates", f"{room}/crates", ignore=shutil.ignore_patterns("out", "must-fail", "data"))
+    os.mkdir(f"{room}/tools")
+    for path in "tools/twins.py", "tools/read_sources.py", TABLE, ATTRIBUTES:
+        shutil.copy(f"{TOP}/{path}", f"{room}/{path}")
+
+
+def run(room, *words):
+    """The status of the tool over the copy, and what it prints."""
+    done = subprocess.run([sys.executable, f"{room}/tools/twins.py", *words], capture_output=True, text=True)
+    return done.returncode, done.stdout + done.stderr
+
+
+def read(path):
+    with open(path, encoding="utf-8") as file:
+        return file.read()
+
+
+def write(path, text):
+    with open(path, "w", encoding="utf-8") as file:
+        file.write(text)
+
+
+def plant(room, path, old, new, said):
+    """Replaces a text once, or adds it at the end if there is no old one. Then the check has to say this."""
+    before = read(f"{room}/{path}")
+    if before.count(old) < 1:
+        return f"{path} has no {old!r}"
+    write(f"{room}/{path}", before.replace(old, new, 1) if old else before + new)
+    status, printed = run(room, "--check")
+    write(f"{room}/{path}", before)
+    return "" if status == 1 and said in printed else f"status {status}: {printed}"
+
+
+# What is tried, in which file what becomes what, and what has to be printed.
+FAULTS = (
+    ("a line is added to a made file", MADE, "", "// more\n", f"{MADE} is not as it is made"),
+    ("a number of a made file is changed", MADE, "N ≤ 32", "N ≤ 31", f"{MADE} is not as it is made"),
+    ("the mark of a made file is gone", MADE, "// Made by", "// By", f"{MADE} is not as it is made"),
+    ("a made proof is empty", PROOF, read(f"{TOP}/{PROOF}"), "", f"{PROOF} is not as it is made"),
+    ("only the source of a made file is changed", SOURCE, "", "// more\n", f"{MADE} is not as it is made"),
+    ("the table has another number", TABLE, "128 ~> 64", "128 ~> 65", f"{MADE} is not as it is made"),
+    ("the table has a line that no file uses", TABLE, "in: *\n", "in: *\nno such word ~> word\n", "no such word"),
+    ("the table has a line for no file", TABLE, "", "\nin: blake2_none/*\nBLAKE2 ~> BLAKE\n", "no file has 'BLAKE2'"),
+    ("the table has a line twice", TABLE, "128 ~> 64\n", "128 ~> 64\n128 ~> 64\n", "no file has '128'"),
+    ("a file that is not there is by hand", TABLE, "by hand: ", "by hand: none/* ", "no file has 'none/*'"),
+    ("a made file is by hand", TABLE, "by hand: ", "by hand: blake2/*/hashers/* ", f"{MADE} is made from no file"),
+    ("a pattern of .gitattributes is gone", ATTRIBUTES, "crates/*/specs/Blake2s*.antt linguist-generated\n", "",
+     ".gitattributes says that crates/blake2_state/specs/Blake2s.antt is written by hand"),
+    ("a pattern of .gitattributes has too much", ATTRIBUTES, "crates/*_tests/** -linguist-generated\n", "",
+     "blake2s.rt is made"),
+    ("a pattern of .gitattributes fits no file", ATTRIBUTES, "crates/*_tests/**",
+     "crates/none/** linguist-generated\ncrates/*_tests/**", "crates/none/** changes nothing"),
+)
+
+
+def check_missing(room):
+    """A made file that is missing is reported, and made again; one whose source is gone is reported, and removed."""
+    wanted, source = read(f"{room}/{MADE}"), read(f"{room}/{SOURCE}")
+    os.remove(f"{room}/{MADE}")
+    status, printed = run(room, "--check")
+    tap.result(status == 1 and f"{MADE} is not as it is made" in printed, "a made file is missing", printed)
+    made = run(room)
+    tap.result(made == (0, f"{MADE}\n") and read(f"{room}/{MADE}") == wanted, "it is made again", made)
+    os.remove(f"{room}/{SOURCE}")
+    status, printed = run(room, "--check")
+    tap.result(status == 1 and f"{MADE} is made from no file" in printed, "the source of a made file is gone", printed)
+    made = run(room)
+    tap.result(made[1] == f"{MADE}\n" and not os.path.exists(f"{room}/{MADE}"), "the made file is removed", made)
+    write(f"{room}/{SOURCE}", source)
+    run(room)
+
+
+def main():
+    with tempfile.TemporaryDirectory() as room:
+        copy(room)
+        fine = run(room, "--check")
+        tap.result(fine == (0, ""), "nothing is wrong in a copy", fine)
+        for name, *fault in FAULTS:
+            why = plant(room, *fault)
+            tap.result(not why, name, why)
+        check_missing(room)
+        again = run(room)
+        tap.result(again == (0, "") and run(room, "--check") == fine, "a second run makes nothing", again)
+        wrong = run(room, "--chekc")
+        tap.result(wrong == (1, "usage: tools/twins.py [--check]\n"), "a wrong option is refused", wrong)
+    tap.finish()
+
+
+if __name__ == "__main__":
+    main()

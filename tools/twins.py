@@ -1,0 +1,133 @@
+#!/usr/bin/env python3
+"""Makes the files of BLAKE2s, BLAKE2sp and BLAKE2Xs in crates/ from those of BLAKE2b, BLAKE2bp and BLAKE2Xb, which have
+the same names with a b for the s. tools/twins.txt says what else differs, and what is written by hand.
+
+    tools/twins.py            makes them, removes those of files that are gone, and prints their names
+    tools/twins.py --check    compares them with what would be made, and .gitattributes with them
+"""
+import difflib
+import os
+import re
+import sys
+from fnmatch import fnmatchcase
+
+from read_sources import TOP, read
+
+TABLE = "tools/twins.txt"
+MADE = "Made by tools/twins.py from"
+
+
+class Table:
+    """The table: which files are written by hand, and what becomes what in which files."""
+
+    def __init__(self):
+        self.by_hand, self.lines, self.used, files = [], [], set(), []
+        for line in re.split(r"(?<!\\)\n", re.sub(r"(?m)^#.*\n", "", read(TABLE))):
+            word, _, rest = line.partition(": ")
+            old, arrow, new = line.replace("\\\n", "\n").partition(" ~> ")
+            if word == "by hand":
+                self.by_hand += rest.split()
+            elif word == "in":
+                files = rest.split()
+            elif line:
+                self.lines.append((files, old, new if arrow else old))
+
+    def twin(self, path, text):
+        """A text of this file, or its path itself, for the other family."""
+        here = {old: (new, i) for i, (files, old, new) in enumerate(self.lines) if fits(path, files)}
+
+        def replace(match):
+            new, line = here[match[0]]
+            self.used.add(line)
+            return new
+
+        return re.sub("|".join(map(whole, sorted(here, key=len, reverse=True))), replace, text)
+
+    def twins(self):
+        """The files to make, with their texts."""
+        for path in sources():
+            other = self.twin(path, path)
+            if other != path and not fits(path, self.by_hand):
+                line = f"{'//' if path.endswith('.rt') else '--'} {MADE} {path.split('/', 2)[2]}.\n"
+                yield other, line + self.twin(path, read(path))
+
+    def unused(self):
+        """What the table replaces and no file has, and its patterns of files that are there no longer."""
+        yield from (old for i, (_, old, _) in enumerate(self.lines) if i not in self.used)
+        paths = list(sources())
+        yield from (it for it in self.by_hand if not any(fits(path, [it]) for path in paths))
+
+
+def fits(path, patterns):
+    """Whether one of these patterns is that of the path."""
+    return any(fnmatchcase(path, "crates/" + pattern) for pattern in patterns)
+
+
+def whole(old):
+    """A pattern for this text, in which a number at an end is no part of a word, another number or an exponent."""
+    return ((r"(?<![\w^])(?<!\d\.)" if old[0].isdigit() else "") + re.escape(old)
+            + (r"(?!\w)" if old[-1].isdigit() else ""))
+
+
+def sources():
+    """The files of code, definitions and proofs."""
+    for crate in sorted(os.listdir(f"{TOP}/crates")):
+        for part in "src", "specs", "proofs":
+            for folder, _, names in os.walk(f"{TOP}/crates/{crate}/{part}"):
+                yield from (os.path.relpath(f"{folder}/{name}", TOP) for name in names
+                            if name.endswith((".rt", ".antt")))
+
+
+def attributes():
+    """The patterns of .gitattributes for crates/, and whether what has one is generated."""
+    for line in read(".gitattributes").splitlines():
+        if line.startswith("crates/"):
+            pattern, _, attribute = line.partition(" ")
+            parts = re.split(r"(\*\*/|/\*\*$|\*)", pattern)
+            parts[1::2] = [{"**/": "(.*/)?", "/**": "/.*", "*": "[^/]*"}[it] for it in parts[1::2]]
+            parts[::2] = map(re.escape, parts[::2])
+            yield pattern, "".join(parts), attribute == "linguist-generated"
+
+
+def wrong_attributes(made):
+    """What .gitattributes says otherwise than that these files are generated."""
+    patterns, deciding = list(attributes()), set()
+    for path in sources():
+        *before, (last, _, generated) = [("", "", False), *(it for it in patterns if re.fullmatch(it[1], path))]
+        if before and generated != before[-1][2]:
+            deciding.add(last)
+        if generated != (path in made):
+            yield f".gitattributes says that {path} is {'made' if generated else 'written by hand'}"
+    yield from (f".gitattributes: {it} changes nothing" for it, _, _ in patterns if it not in deciding)
+
+
+def main(checks):
+    """Makes or compares the files."""
+    table = Table()
+    made = dict(table.twins())
+    wrong = sorted(path for path, text in made.items() if read(path) != text)
+    gone = sorted(path for path in sources() if MADE in read(path).partition("\n")[0] and path not in made)
+    faults = [f"{TABLE}: no file has {old!r}" for old in table.unused()]
+    if checks:
+        for path in wrong:
+            lines, wanted = read(path).splitlines(True), made[path].splitlines(True)
+            sys.stdout.writelines(difflib.unified_diff(lines, wanted, path, "as made", n=0))
+        faults += [f"{path} is not as it is made: change the file that it names, or {TABLE}, and run tools/twins.py"
+                   for path in wrong]
+        faults += [f"{path} is made from no file: run tools/twins.py" for path in gone]
+        faults += wrong_attributes(made)
+    else:
+        for path in wrong:
+            os.makedirs(os.path.dirname(f"{TOP}/{path}"), exist_ok=True)
+            with open(f"{TOP}/{path}", "w", encoding="utf-8") as file:
+                file.write(made[path])
+        for path in gone:
+            os.remove(f"{TOP}/{path}")
+        print("".join(f"{path}\n" for path in wrong + gone), end="")
+    sys.exit("\n".join(faults) or 0)
+
+
+if __name__ == "__main__":
+    if sys.argv[1:] not in ([], ["--check"]):
+        sys.exit("usage: tools/twins.py [--check]")
+    main(bool(sys.argv[1:]))
