@@ -1597,7 +1597,7 @@ unsafe fn state_blake2b_State_take(mut v0: u64, mut v1: u64, mut v2: u64) {
 // Overwrites the stack below the caller.
 #[inline(never)]
 unsafe fn digest_wiping_scrub_stack_3072() {
-    let mut room = [0_u64; 512];
+    let mut room = [0_u64; 640];
     for word in room.iter_mut() {
         core::ptr::write_volatile(word, 0);
     }
@@ -2007,7 +2007,7 @@ unsafe fn ffi_blake2b_many_write_all(mut v0: u64, mut v1: u64, mut v2: u64, mut 
 // Overwrites the stack below the caller.
 #[inline(never)]
 unsafe fn digest_wiping_scrub_stack_9216() {
-    let mut room = [0_u64; 1280];
+    let mut room = [0_u64; 1408];
     for word in room.iter_mut() {
         core::ptr::write_volatile(word, 0);
     }
@@ -2211,7 +2211,7 @@ unsafe fn ffi_blake2b_initialize(mut v0: u64, mut v1: u64, mut v2: u64) -> u32 {
 // Overwrites the stack below the caller.
 #[inline(never)]
 unsafe fn digest_wiping_scrub_stack_1024() {
-    let mut room = [0_u64; 256];
+    let mut room = [0_u64; 384];
     for word in room.iter_mut() {
         core::ptr::write_volatile(word, 0);
     }
@@ -2403,7 +2403,7 @@ unsafe fn ffi_blake2b_absorb(mut v0: u64, mut v1: u64, mut v2: u64) {
 // Overwrites the stack below the caller.
 #[inline(never)]
 unsafe fn digest_wiping_scrub_stack_1152() {
-    let mut room = [0_u64; 272];
+    let mut room = [0_u64; 400];
     for word in room.iter_mut() {
         core::ptr::write_volatile(word, 0);
     }
@@ -2471,7 +2471,7 @@ unsafe fn ffi_blake2b_finalize(mut v0: u64, mut v1: u64) {
 // Overwrites the stack below the caller.
 #[inline(never)]
 unsafe fn digest_wiping_scrub_stack_1664() {
-    let mut room = [0_u64; 336];
+    let mut room = [0_u64; 464];
     for word in room.iter_mut() {
         core::ptr::write_volatile(word, 0);
     }
@@ -4002,7 +4002,7 @@ unsafe fn ffi_blake2s_write_keyed(mut v0: u64, mut v1: u64, mut v2: u64, mut v3:
 // Overwrites the stack below the caller.
 #[inline(never)]
 unsafe fn digest_wiping_scrub_stack_1536() {
-    let mut room = [0_u64; 320];
+    let mut room = [0_u64; 448];
     for word in room.iter_mut() {
         core::ptr::write_volatile(word, 0);
     }
@@ -4131,7 +4131,7 @@ unsafe fn exported_blake2s(mut v0: u64, mut v1: u64, mut v2: u64, mut v3: u64, m
 // Overwrites the stack below the caller.
 #[inline(never)]
 unsafe fn digest_wiping_scrub_stack_5632() {
-    let mut room = [0_u64; 832];
+    let mut room = [0_u64; 960];
     for word in room.iter_mut() {
         core::ptr::write_volatile(word, 0);
     }
@@ -4366,7 +4366,7 @@ unsafe fn exported_blake2s_many(mut v0: u64, mut v1: u64, mut v2: u64, mut v3: u
 // Overwrites the stack below the caller.
 #[inline(never)]
 unsafe fn digest_wiping_scrub_stack_768() {
-    let mut room = [0_u64; 224];
+    let mut room = [0_u64; 352];
     for word in room.iter_mut() {
         core::ptr::write_volatile(word, 0);
     }
@@ -4740,7 +4740,7 @@ unsafe fn ffi_blake2s_absorb(mut v0: u64, mut v1: u64, mut v2: u64) {
 // Overwrites the stack below the caller.
 #[inline(never)]
 unsafe fn digest_wiping_scrub_stack_512() {
-    let mut room = [0_u64; 192];
+    let mut room = [0_u64; 320];
     for word in room.iter_mut() {
         core::ptr::write_volatile(word, 0);
     }
@@ -7826,7 +7826,7 @@ unsafe fn ffi_blake2bp_write(mut v0: u64, mut v1: u64, mut v2: u64, mut v3: u64,
 // Overwrites the stack below the caller.
 #[inline(never)]
 unsafe fn digest_wiping_scrub_stack_8704() {
-    let mut room = [0_u64; 1216];
+    let mut room = [0_u64; 1344];
     for word in room.iter_mut() {
         core::ptr::write_volatile(word, 0);
     }
@@ -8012,7 +8012,7 @@ unsafe fn ffi_blake2bp_initialize(mut v0: u64, mut v1: u64, mut v2: u64, mut v3:
 // Overwrites the stack below the caller.
 #[inline(never)]
 unsafe fn digest_wiping_scrub_stack_5120() {
-    let mut room = [0_u64; 768];
+    let mut room = [0_u64; 896];
     for word in room.iter_mut() {
         core::ptr::write_volatile(word, 0);
     }
@@ -8281,7 +8281,7 @@ unsafe fn ffi_blake2bp_start_again(mut v0: u64) {
 // Overwrites the stack below the caller.
 #[inline(never)]
 unsafe fn digest_wiping_scrub_stack_1792() {
-    let mut room = [0_u64; 352];
+    let mut room = [0_u64; 480];
     for word in room.iter_mut() {
         core::ptr::write_volatile(word, 0);
     }
@@ -11735,7 +11735,7 @@ unsafe fn ffi_blake2xb_write(mut v0: u64, mut v1: u64, mut v2: u64, mut v3: u64,
 // Overwrites the stack below the caller.
 #[inline(never)]
 unsafe fn digest_wiping_scrub_stack_7168() {
-    let mut room = [0_u64; 1024];
+    let mut room = [0_u64; 1152];
     for word in room.iter_mut() {
         core::ptr::write_volatile(word, 0);
     }
@@ -11914,7 +11914,7 @@ unsafe fn ffi_blake2xb_initialize(mut v0: u64, mut v1: u64, mut v2: u64, mut v3:
 // Overwrites the stack below the caller.
 #[inline(never)]
 unsafe fn digest_wiping_scrub_stack_2304() {
-    let mut room = [0_u64; 416];
+    let mut room = [0_u64; 544];
     for word in room.iter_mut() {
         core::ptr::write_volatile(word, 0);
     }
@@ -12007,7 +12007,7 @@ unsafe fn ffi_blake2xb_read(mut v0: u64, mut v1: u64, mut v2: u64) {
 // Overwrites the stack below the caller.
 #[inline(never)]
 unsafe fn digest_wiping_scrub_stack_4096() {
-    let mut room = [0_u64; 640];
+    let mut room = [0_u64; 768];
     for word in room.iter_mut() {
         core::ptr::write_volatile(word, 0);
     }
