@@ -128,7 +128,7 @@ static int hash_part(job *j, vulfsjor_part *part, unsigned char *buffer, size_t 
         if ((error = read_at(j->file, buffer, part->length, j->from + part->start))) return error;
     }
     if (j->state)
-        status = vulfsjor_tree_next_leaves(j->state, out, part->digests_length, part->first, bytes,
+        status = vulfsjor_tree_leaves_ahead(j->state, out, part->digests_length, part->first, bytes,
                                            part->length);
     else
         status = vulfsjor_tree_leaves(out, part->digests_length, part->first, part->ends != 0,

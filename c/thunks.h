@@ -226,7 +226,7 @@ CALL(vulfsjor_ffi_tree_root_of_leaves, int32_t, (uint8_t *out, size_t out_length
      const uint8_t *digests, size_t digests_length, const uint8_t *salt, size_t salt_length,
      const uint8_t *personal, size_t personal_length, uint32_t leaf_length), (out, out_length,
      digests, digests_length, salt, salt_length, personal, personal_length, leaf_length))
-CALL(vulfsjor_ffi_tree_next_leaves, int32_t, (const vulfsjor_tree_state *state, uint8_t *out,
+CALL(vulfsjor_ffi_tree_leaves_ahead, int32_t, (const vulfsjor_tree_state *state, uint8_t *out,
      size_t out_length, uint64_t skip, const uint8_t *input, size_t input_length), (state, out,
      out_length, skip, input, input_length))
 CALL(vulfsjor_ffi_tree_update_leaves, int32_t, (vulfsjor_tree_state *state, const uint8_t *digests,

@@ -522,7 +522,7 @@ int32_t vulfsjor_ffi_tree_root_of_leaves(uint8_t *out, size_t out_length, const 
                                          size_t digests_length, const uint8_t *salt,
                                          size_t salt_length, const uint8_t *personal,
                                          size_t personal_length, uint32_t leaf_length);
-int32_t vulfsjor_ffi_tree_next_leaves(const vulfsjor_tree_state *state, uint8_t *out,
+int32_t vulfsjor_ffi_tree_leaves_ahead(const vulfsjor_tree_state *state, uint8_t *out,
                                       size_t out_length, uint64_t skip, const uint8_t *input,
                                       size_t input_length);
 int32_t vulfsjor_ffi_tree_update_leaves(vulfsjor_tree_state *state, const uint8_t *digests,
@@ -1686,7 +1686,7 @@ vulfsjor_tree_root_of_leaves(void *out, size_t outlen, const void *digests, size
 
 /* -- The same tree as a stream whose leaves are hashed by threads. A state is at a leaf boundary if
  * vulfsjor_tree_count is a multiple of vulfsjor_tree_leaf_length. Then threads hash the next leaves
- * with next_leaves, which only reads the state. One call of update_leaves absorbs the digests of
+ * with leaves_ahead, which only reads the state. One call of update_leaves absorbs the digests of
  * all of them, in order, and the input that follows. */
 
 /* Writes the digests of whole leaves of the state's tree to out, 64 bytes each. The input is the
@@ -1696,16 +1696,16 @@ vulfsjor_tree_root_of_leaves(void *out, size_t outlen, const void *digests, size
  * not whole leaves, if outlen is another number, or if the leaves end at byte 2^58 of the message
  * or after it. */
 VULFSJOR_WRITES(2, 3) VULFSJOR_READS(5, 6)
-VULFSJOR_MUST_USE static inline int vulfsjor_tree_next_leaves(const vulfsjor_tree_state *S,
+VULFSJOR_MUST_USE static inline int vulfsjor_tree_leaves_ahead(const vulfsjor_tree_state *S,
                                                               void *out, size_t outlen,
                                                               uint64_t skip, const void *in,
                                                               size_t inlen) {
     if (!S || !out || (!in && inlen)) return -1;
-    return vulfsjor_ffi_tree_next_leaves(S, vulfsjor_bytes(out), outlen, skip, vulfsjor_text(in),
+    return vulfsjor_ffi_tree_leaves_ahead(S, vulfsjor_bytes(out), outlen, skip, vulfsjor_text(in),
                                          inlen);
 }
 
-/* Absorbs whole leaves, given by the digests that next_leaves wrote from skip 0 on, and then inlen
+/* Absorbs whole leaves, given by the digests that leaves_ahead wrote from skip 0 on, and then inlen
  * bytes of input. The state is then the one that vulfsjor_tree_update would make of the leaves'
  * bytes and the input. If there are digests, the state must be at a leaf boundary and inlen at
  * least 1, since the last leaf of a message has another digest. Without digests (digestslen 0) this
@@ -1739,7 +1739,7 @@ VULFSJOR_MUST_USE static inline int vulfsjor_tree_plan(vulfsjor_plan *plan, uint
 }
 
 /* Writes the plan of an update of the state with length bytes. First vulfsjor_tree_update absorbs
- * the first plan->start bytes. Then hash each part with vulfsjor_tree_next_leaves, whose skip is the
+ * the first plan->start bytes. Then hash each part with vulfsjor_tree_leaves_ahead, whose skip is the
  * part's first. Then vulfsjor_tree_update_leaves absorbs all digests and the plan->rest_length bytes
  * from plan->end on. Returns -1 and writes nothing if the state is not ready, if it would have
  * absorbed 2^58 bytes or more, or if limits->threads or limits->least_bytes is 0. */
@@ -1832,7 +1832,7 @@ static inline int vulfsjor_tree_init_root(vulfsjor_blake2b_state *S, size_t outl
  *   tree_leaves                    salt, personal or leaf_length, which vulfsjor_tree_refused
  *                                  returns, outlen, or a range that its comment excludes
  *   tree_root_of_leaves            an argument that vulfsjor_tree_refused returns, or digestslen
- *   tree_next_leaves,              the state is not ready or not at a leaf boundary, or a length
+ *   tree_leaves_ahead,              the state is not ready or not at a leaf boundary, or a length
  *   tree_update_leaves             that their comments exclude
  *   tree_init_leaf, _init_root     an argument that vulfsjor_tree_refused returns
  *   tree_plan, tree_plan_update    a length or a limit that their comments exclude, or a state that

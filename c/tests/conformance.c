@@ -252,18 +252,18 @@ static void top(const given *g) {
     free(t.bytes);
 }
 
-static void next_leaves(state_t *S) {
+static void leaves_ahead(state_t *S) {
     text t = text_of(part[3]);
     uint64_t skip = strtoull(part[2], NULL, 10), leaf = vulfsjor_tree_leaf_length(S);
     size_t n = leaf ? 64 * (size_t)(t.length / leaf) : 64;
     uint8_t *out = room_of(n);
-    CHECK(vulfsjor_tree_next_leaves(NULL, out, n, skip, TEXT(t)) == -1);
-    CHECK(vulfsjor_tree_next_leaves(S, NULL, n, skip, TEXT(t)) == -1);
-    CHECK(vulfsjor_tree_next_leaves(S, out, 64, 0, NULL, (size_t)leaf) == -1);
-    CHECK(vulfsjor_tree_next_leaves(S, out, n + 1, skip, TEXT(t)) == -1);
-    CHECK(vulfsjor_tree_next_leaves(S, out, n + 64, skip, TEXT(t)) == -1);
-    CHECK(!n || vulfsjor_tree_next_leaves(S, out, n - 1, skip, TEXT(t)) == -1);
-    gives(vulfsjor_tree_next_leaves(S, out, n, skip, TEXT(t)), out, n);
+    CHECK(vulfsjor_tree_leaves_ahead(NULL, out, n, skip, TEXT(t)) == -1);
+    CHECK(vulfsjor_tree_leaves_ahead(S, NULL, n, skip, TEXT(t)) == -1);
+    CHECK(vulfsjor_tree_leaves_ahead(S, out, 64, 0, NULL, (size_t)leaf) == -1);
+    CHECK(vulfsjor_tree_leaves_ahead(S, out, n + 1, skip, TEXT(t)) == -1);
+    CHECK(vulfsjor_tree_leaves_ahead(S, out, n + 64, skip, TEXT(t)) == -1);
+    CHECK(!n || vulfsjor_tree_leaves_ahead(S, out, n - 1, skip, TEXT(t)) == -1);
+    gives(vulfsjor_tree_leaves_ahead(S, out, n, skip, TEXT(t)), out, n);
     free(t.bytes);
 }
 
@@ -272,7 +272,7 @@ static void absorb(state_t *S) {
     uint64_t leaf = vulfsjor_tree_leaf_length(S), count = vulfsjor_tree_count(S);
     size_t n = leaf ? 64 * (size_t)(whole.length / leaf) : 0;
     uint8_t *out = room_of(n);
-    int status = n ? vulfsjor_tree_next_leaves(S, out, n, 0, TEXT(whole)) : 0;
+    int status = n ? vulfsjor_tree_leaves_ahead(S, out, n, 0, TEXT(whole)) : 0;
     CHECK(vulfsjor_tree_update_leaves(NULL, out, n, TEXT(more)) == -1);
     if (n) CHECK(vulfsjor_tree_update_leaves(S, NULL, n, TEXT(more)) == -1);
     if (n) CHECK(vulfsjor_tree_update_leaves(S, out, n - 1, TEXT(more)) == -1);
@@ -384,7 +384,7 @@ static void call_state(state_t *S) {
     else if (IS("digest")) digest(S);
 #endif
 #ifdef TEST_T
-    else if (IS("next")) next_leaves(S);
+    else if (IS("next")) leaves_ahead(S);
     else if (IS("absorb")) absorb(S);
 #else
     else if (IS("reset")) reset(S);

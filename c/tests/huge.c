@@ -218,13 +218,13 @@ static void leaves(void) {
     CHECK(is(out, ROOT));
 }
 
-static void next_leaves(void) {
+static void leaves_ahead(void) {
     const size_t whole = LENGTH / LEAF;
     uint8_t digests[LENGTH / LEAF * 64];
     vulfsjor_tree_state state;
 
     CHECK(!vulfsjor_tree_init(&state, 64, 0, 0, 0, 0, LEAF));
-    CHECK(!vulfsjor_tree_next_leaves(&state, digests, sizeof digests, 0, message, whole * LEAF));
+    CHECK(!vulfsjor_tree_leaves_ahead(&state, digests, sizeof digests, 0, message, whole * LEAF));
     CHECK(!vulfsjor_tree_update_leaves(&state, digests, sizeof digests, message + whole * LEAF,
                                        LENGTH % LEAF));
     CHECK(vulfsjor_tree_count(&state) == LENGTH && !vulfsjor_tree_final(&state, out, 64));
@@ -346,7 +346,7 @@ int main(void) {
         root_of_leaves();
         root();
         tree_update();
-        next_leaves();
+        leaves_ahead();
         update_leaves();
         digests();
         root_threads();

@@ -21,7 +21,7 @@ static void stays(state_t state) {
     CHECK(BLAKE(update)(&state, bytes, 5) == -1 && BLAKE(update)(&state, bytes, 0) == -1);
     CHECK(end(&state, out, MAX) == -1 && end(&state, out, 1) == -1 && end(&state, out, 0) == -1);
 #ifdef TEST_T
-    CHECK(vulfsjor_tree_next_leaves(&state, out, 64, 0, bytes, 7) == -1 && !vulfsjor_tree_leaf_length(&state));
+    CHECK(vulfsjor_tree_leaves_ahead(&state, out, 64, 0, bytes, 7) == -1 && !vulfsjor_tree_leaf_length(&state));
     CHECK(vulfsjor_tree_update_leaves(&state, bytes, 64, bytes, 1) == -1);
     CHECK(vulfsjor_tree_update_leaves(&state, NULL, 0, NULL, 0) == -1);
 #else
@@ -371,7 +371,7 @@ static void long_arguments(size_t n) {
     CHECK(vulfsjor_tree_init(&state, MAX, NULL, 0, NULL, 0, 4) == 0);
     UNTOUCHED(vulfsjor_tree_leaves(out, n & ~(size_t)63, 0, 1, bytes, 9, NULL, 0, NULL, 0, 4));
     UNTOUCHED(vulfsjor_tree_leaves(out, n | 192, 0, 1, bytes, 9, NULL, 0, NULL, 0, 4));
-    UNTOUCHED(vulfsjor_tree_next_leaves(&state, out, n | 64, 0, bytes, 4));
+    UNTOUCHED(vulfsjor_tree_leaves_ahead(&state, out, n | 64, 0, bytes, 4));
 #endif
 }
 

@@ -145,7 +145,7 @@ NOTE(int32_t, vulfsjor_ffi_tree_leaves, 11,
      (o, n, f, e, i, i_length, s, s_length, p, p_length, l))
 NOTE(int32_t, vulfsjor_ffi_tree_root_of_leaves, 9, (OUT, BYTES(d), MORE, uint32_t l),
      (o, n, d, d_length, s, s_length, p, p_length, l))
-NOTE(int32_t, vulfsjor_ffi_tree_next_leaves, 6,
+NOTE(int32_t, vulfsjor_ffi_tree_leaves_ahead, 6,
      (const vulfsjor_tree_state *S, OUT, uint64_t k, BYTES(i)), (S, o, n, k, i, i_length))
 NOTE(int32_t, vulfsjor_ffi_tree_update_leaves, 5, (vulfsjor_tree_state *S, BYTES(d), BYTES(i)),
      (S, d, d_length, i, i_length))
@@ -380,7 +380,7 @@ static void trees(void) {
     PASSES(vulfsjor_tree_leaves(out, L1, L4, 0, 0, 0, 0, 0, 0, 0, leaf), "vulfsjor_ffi_tree_leaves",
            11, (out, L1, L4, 0, ANY, 0, ANY, 0, ANY, 0, leaf));
     SAME(tree_root_of_leaves, 9, (out, L1, in, L2, salt, L3, persona, L4, leaf));
-    SAME(tree_next_leaves, 6, (&tree, out, L1, L2, in, L3));
+    SAME(tree_leaves_ahead, 6, (&tree, out, L1, L2, in, L3));
     SAME(tree_update_leaves, 5, (&tree, in, L1, key, L2));
     PASSES(vulfsjor_tree_update_leaves(&tree, 0, 0, 0, 0), "vulfsjor_ffi_tree_update_leaves", 5,
            (&tree, ANY, 0, ANY, 0));

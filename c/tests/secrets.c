@@ -317,8 +317,8 @@ static void root_case(uint32_t leaf) {
     vulfsjor_tree_init(&state, wanted.length, salt.bytes, salt.length, persona.bytes,
                        persona.length, leaf);
     size_t whole = leaf * (leaves - 1);
-    require(!vulfsjor_tree_next_leaves(&state, digests, 64 * (leaves - 1), 0, message.bytes, whole),
-            "tree_next_leaves is refused");
+    require(!vulfsjor_tree_leaves_ahead(&state, digests, 64 * (leaves - 1), 0, message.bytes, whole),
+            "tree_leaves_ahead is refused");
     require(!vulfsjor_tree_update_leaves(&state, digests, 64 * (leaves - 1), message.bytes + whole,
                                          message.length - whole),
             "tree_update_leaves is refused");

@@ -153,7 +153,7 @@ WRAP(int32_t, vulfsjor_ffi_tree_root, -1,
      (o, on, i, n, s, sn, p, pn, l))
 WRAP(int32_t, vulfsjor_ffi_tree_update, -1, (vulfsjor_tree_state * s, const uint8_t *i, size_t n),
      (s, i, n))
-WRAP(int32_t, vulfsjor_ffi_tree_next_leaves, -1,
+WRAP(int32_t, vulfsjor_ffi_tree_leaves_ahead, -1,
      (const vulfsjor_tree_state *s, uint8_t *o, size_t on, uint64_t k, const uint8_t *i, size_t n),
      (s, o, on, k, i, n))
 WRAP(int32_t, vulfsjor_ffi_tree_update_leaves, -1,
@@ -523,7 +523,7 @@ static void library_refuses(void) {
     each_fails(root_of_file, "vulfsjor_ffi_tree_plan", 0, EFBIG, 1);
     each_fails(root_of_updates, "vulfsjor_ffi_tree_plan_update", 0, EINVAL, 1);
     each_fails(root_of_bytes, "vulfsjor_ffi_tree_part", 0, EINVAL, 4);
-    each_fails(root_of_updates, "vulfsjor_ffi_tree_next_leaves", 0, EINVAL, 4);
+    each_fails(root_of_updates, "vulfsjor_ffi_tree_leaves_ahead", 0, EINVAL, 4);
     each_fails(root_of_updates, "vulfsjor_ffi_tree_update_leaves", 0, EINVAL, 1);
     each_fails(root_of_updates, "vulfsjor_ffi_tree_update", 0, EINVAL, 1);
     each_fails(root_of_pipe, "vulfsjor_ffi_tree_update", 0, EFBIG, 1);
@@ -533,7 +533,7 @@ static void library_refuses(void) {
     wish("vulfsjor_ffi_tree_plan_update", 2, 0);
     expect(root_of_rest, EINVAL);
     each_fails(root_of_rest, "vulfsjor_ffi_tree_part", 0, EINVAL, 4);
-    each_fails(root_of_rest, "vulfsjor_ffi_tree_next_leaves", 0, EINVAL, 4);
+    each_fails(root_of_rest, "vulfsjor_ffi_tree_leaves_ahead", 0, EINVAL, 4);
     each_fails(root_of_rest, "vulfsjor_ffi_tree_update_leaves", 0, EINVAL, 2);
     each_fails(root_of_piped_rest, "vulfsjor_ffi_tree_update", 0, EFBIG, 1);
     asked = 1;

@@ -186,7 +186,7 @@ static void update_by_plan(const vulfsjor_limits *limits) {
     CHECK(is_as_said(&plan));
     for (uint64_t i = 0; i < plan.part_count; i++) {
         CHECK(!vulfsjor_tree_part(&part, &plan, i));
-        CHECK(!vulfsjor_tree_next_leaves(&by_plan, out + part.digests_start, part.digests_length,
+        CHECK(!vulfsjor_tree_leaves_ahead(&by_plan, out + part.digests_start, part.digests_length,
                                          part.first, message + first + part.start, part.length));
     }
     CHECK(!vulfsjor_tree_update_leaves(&by_plan, out, plan.digests_length,

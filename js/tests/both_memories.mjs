@@ -136,7 +136,7 @@ function someCall() {
     () => tree("_count", state),
     () => tree("_leaf_length", state),
     () => tree(
-      "_next_leaves", state, BigInt(OUT), 64n * BigInt(randomInt(1, 4)), BigInt(randomInt(3)),
+      "_leaves_ahead", state, BigInt(OUT), 64n * BigInt(randomInt(1, 4)), BigInt(randomInt(3)),
       ...message),
     () => tree("_update_leaves", state, BigInt(MESSAGES), 64n * BigInt(randomInt(3)), ...message),
     () => tree("_leaf_count", BigInt(randomInt(2 ** 47)), randomInt(3)),

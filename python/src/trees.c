@@ -416,20 +416,20 @@ static PyObject *hash_next(const vulfsjor_tree_state *run, uint64_t skip, const 
     if (!digests) return NULL;
     out = (uint8_t *)PyBytes_AsString(digests);
     Py_BEGIN_ALLOW_THREADS
-    status = vulfsjor_tree_next_leaves(run, out, (size_t)count * 64, skip, TEXT(view));
+    status = vulfsjor_tree_leaves_ahead(run, out, (size_t)count * 64, skip, TEXT(view));
     Py_END_ALLOW_THREADS
     if (!status) return digests;
     Py_DECREF(digests);
     return too_far();
 }
 
-static PyObject *next_leaves(PyObject *object, PyObject *args, PyObject *words) {
+static PyObject *leaves_ahead(PyObject *object, PyObject *args, PyObject *words) {
     static char *names[] = {"", "skip", NULL};
     PyObject *data, *skip = NULL, *digests;
     vulfsjor_tree_state copied;
     Py_buffer view;
     uint64_t skipped = 0;
-    if (!PyArg_ParseTupleAndKeywords(args, words, "O|O:next_leaves", names, &data, &skip) ||
+    if (!PyArg_ParseTupleAndKeywords(args, words, "O|O:leaves_ahead", names, &data, &skip) ||
         (skip && place_of(skip, ((tree *)object)->leaf_size, "skip", &skipped)) ||
         view_of(data, &view))
         return NULL;
@@ -496,8 +496,8 @@ static PyMethodDef methods[] = {
      "_root_of_file($self, path, file, length, threads, progress, /)\n--\n\n"
      "Return the root of a regular file of this length, by its descriptor, in a tree like this.\n"
      "The path is for errors. See tree_root_file."},
-    {"next_leaves", WITH_WORDS(next_leaves),
-     "next_leaves($self, data, /, skip=0)\n--\n\n"
+    {"leaves_ahead", WITH_WORDS(leaves_ahead),
+     "leaves_ahead($self, data, /, skip=0)\n--\n\n"
      "Return the digests of whole leaves that follow all data so far, 64 bytes each, as bytes.\n\n"
      "The data so far must be whole leaves too. The first leaf of the data is skip leaves after\n"
      "the next leaf of the hasher. The hasher is unchanged, so threads may hash different leaves\n"
@@ -505,7 +505,7 @@ static PyMethodDef methods[] = {
     {"update_leaves", update_leaves, METH_VARARGS,
      "update_leaves($self, digests, data, /)\n--\n\n"
      "Absorb whole leaves, given by their joined digests, and then the data.\n\n"
-     "The digests are those of next_leaves from skip 0 on, in order. At least one byte of data\n"
+     "The digests are those of leaves_ahead from skip 0 on, in order. At least one byte of data\n"
      "must follow them, since the last leaf of a message cannot be given by its digest."},
     {"copy", copy, METH_NOARGS, "copy($self, /)\n--\n\nReturn a copy of the hasher."},
     {"digest", digest, METH_NOARGS,

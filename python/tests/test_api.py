@@ -398,13 +398,13 @@ class Views(unittest.TestCase):
             for _ in range(400):
                 hasher = vulfsjor.TreeHasher(10, digest_size=5, salt=b"salt")
                 hasher.update(bytes(5000))
-                hasher.copy().update_leaves(hasher.next_leaves(bytes(20)), b"x")
+                hasher.copy().update_leaves(hasher.leaves_ahead(bytes(20)), b"x")
                 hasher.digest(), hasher.hexdigest(), hasher.count
                 front = vulfsjor.tree_leaves(bytes(20), 10, first=0, ends=False)
                 vulfsjor.tree_root_of_leaves(front, 10), vulfsjor.tree_leaf_count(5, 10)
                 for call in (
                     lambda: vulfsjor.TreeHasher(0), lambda: hasher.update("x"),
-                    lambda: hasher.next_leaves(b"x"), lambda: hasher.update_leaves(b"x", b""),
+                    lambda: hasher.leaves_ahead(b"x"), lambda: hasher.update_leaves(b"x", b""),
                     lambda: vulfsjor.tree_leaves(b"", 10, first=1, ends=True),
                     lambda: vulfsjor.tree_root_of_leaves(b"", 10),
                 ):
@@ -479,7 +479,7 @@ class Threads(unittest.TestCase):
             lambda: vulfsjor.TreeHasher(4096).update_leaves(LONG, b"x"),
             lambda: vulfsjor.tree_root(LONG, 4096),
             lambda: vulfsjor.TreeHasher(4096).update(LONG),
-            lambda: vulfsjor.TreeHasher(4096).next_leaves(LONG),
+            lambda: vulfsjor.TreeHasher(4096).leaves_ahead(LONG),
             lambda: vulfsjor.tree_leaves(LONG, 4096, first=0, ends=True),
             lambda: vulfsjor.tree_root_of_leaves(LONG, 4096),
         ):

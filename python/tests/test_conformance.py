@@ -197,11 +197,11 @@ class Driver:
         return vulfsjor.tree_root_of_leaves(self.bytes_of(digests), **self.arguments("tree", words))
 
     def next(self, slot, skip, message):
-        return self.of(slot).next_leaves(self.bytes_of(message), skip=int(skip))
+        return self.of(slot).leaves_ahead(self.bytes_of(message), skip=int(skip))
 
     def absorb(self, slot, leaves, message):
         data = self.bytes_of(leaves)
-        self.of(slot).update_leaves(self.of(slot).next_leaves(data) if data else b"", self.bytes_of(message))
+        self.of(slot).update_leaves(self.of(slot).leaves_ahead(data) if data else b"", self.bytes_of(message))
 
 
 def is_outcome(got, wanted, call):

@@ -65,7 +65,7 @@ class Cheap(unittest.TestCase):
         view = memoryview(data)
         for part in (view, view[:2**32]):
             with self.assertRaisesRegex(ValueError, "^data must be whole leaves, at least one$"):
-                hasher.next_leaves(part)
+                hasher.leaves_ahead(part)
             with self.assertRaisesRegex(ValueError, "^data must be whole leaves, unless it ends"):
                 vulfsjor.tree_leaves(part, 3 * MIB, first=0, ends=False)
         for length in (2**32 + 1, 2**32 + 32, 2**32 + 63):
@@ -91,7 +91,7 @@ class Cheap(unittest.TestCase):
             vulfsjor.TreeHasher(1 << 31).update(data)
         data = (ctypes.c_char * 2**57).from_address(id(self))
         self.assertRaises(MemoryError, vulfsjor.tree_leaves, data, 1, first=0, ends=True)
-        self.assertRaises(MemoryError, vulfsjor.TreeHasher(1).next_leaves, data)
+        self.assertRaises(MemoryError, vulfsjor.TreeHasher(1).leaves_ahead, data)
 
 
 def tree(data, leaf_size):
@@ -151,7 +151,7 @@ class Slow(unittest.TestCase):
 
             def leaves():
                 hasher = vulfsjor.TreeHasher(leaf_size, **TEXTS)
-                front = hasher.next_leaves(memoryview(data)[:whole])
+                front = hasher.leaves_ahead(memoryview(data)[:whole])
                 hasher.update_leaves(front, memoryview(data)[whole:])
                 self.assertEqual((front, hasher.count), (digests[:len(front)], LENGTH))
                 return hasher.digest()

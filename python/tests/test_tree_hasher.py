@@ -135,7 +135,7 @@ class Leaves(Test):
                 end = 100 * (before + leaves)
                 starts = range(100 * before, end, 200)
                 digests = [
-                    hasher.next_leaves(data[at:min(at + 200, end)], at // 100 - before)
+                    hasher.leaves_ahead(data[at:min(at + 200, end)], at // 100 - before)
                     for at in starts
                 ]
                 wanted = oracle.range_digests(data[100 * before:end], 100, before, False, **TEXTS)
@@ -147,7 +147,7 @@ class Leaves(Test):
                 self.assertEqual(hasher.digest(), oracle.tree_root(data, 100, **TEXTS))
                 self.assertEqual(hasher.count, 2000)
         hasher = vulfsjor.TreeHasher(1000)
-        digests = hasher.next_leaves(memoryview(DATA)[:MIB // 1000 * 1000], skip=0)
+        digests = hasher.leaves_ahead(memoryview(DATA)[:MIB // 1000 * 1000], skip=0)
         hasher.update_leaves(bytearray(digests), memoryview(DATA)[MIB // 1000 * 1000:])
         self.assertEqual(hasher.digest(), oracle.tree_root(DATA, 1000))
 
@@ -161,7 +161,7 @@ class Leaves(Test):
                 self.refuses(
                     ValueError,
                     "data must be whole leaves, at least one",
-                    hasher.next_leaves,
+                    hasher.leaves_ahead,
                     bytes(length),
                 )
             for length in (1, 32, 63, 65):
@@ -180,28 +180,28 @@ class Leaves(Test):
                 b"",
             )
             if count % 100:
-                self.refuses(ValueError, boundary, hasher.next_leaves, bytes(100))
+                self.refuses(ValueError, boundary, hasher.leaves_ahead, bytes(100))
                 self.refuses(ValueError, boundary, hasher.update_leaves, bytes(64), b"x")
             else:
                 most = (2**58 - 1) // 100
                 self.refuses(ValueError, "the data ends at 2^58 bytes or more of the message",
-                             hasher.next_leaves, bytes(100), most)
+                             hasher.leaves_ahead, bytes(100), most)
                 for skip in (most + 1, 2**64 - 1, 2**64, 2**70, -1, -(2**70)):
                     self.refuses(ValueError, f"skip must be between 0 and {most}",
-                                 hasher.next_leaves, bytes(100), skip)
+                                 hasher.leaves_ahead, bytes(100), skip)
                 self.refuses(
-                    TypeError, "skip must be an integer", hasher.next_leaves, bytes(100), 1.0
+                    TypeError, "skip must be an integer", hasher.leaves_ahead, bytes(100), 1.0
                 )
                 hasher.copy().update_leaves(bytes(64), b"x")
             for wrong in ("x", None):
-                self.assertRaises(TypeError, hasher.next_leaves, wrong)
+                self.assertRaises(TypeError, hasher.leaves_ahead, wrong)
                 self.assertRaises(TypeError, hasher.update_leaves, wrong, b"x")
                 self.assertRaises(TypeError, hasher.update_leaves, b"", wrong)
             hasher.update_leaves(b"", b"")
             self.assertEqual((hasher.digest(), hasher.count), (before, count))
         array_ = bytearray(128)
         for call in (
-            hasher.next_leaves,
+            hasher.leaves_ahead,
             lambda data: hasher.update_leaves(data, b""),
             lambda data: hasher.update_leaves(b"", data),
             lambda data: hasher.update_leaves(data, None),

@@ -85,7 +85,7 @@ RESULTS = {
     "vulfsjor.TreeHasher(2).leaf_size": "int",
     "vulfsjor.TreeHasher(2).digest()": "bytes",
     "vulfsjor.TreeHasher(2).hexdigest()": "str",
-    "vulfsjor.TreeHasher(2).next_leaves(b'ab', skip=1)": "bytes",
+    "vulfsjor.TreeHasher(2).leaves_ahead(b'ab', skip=1)": "bytes",
     "vulfsjor.TreeHasher(2).update(b'x', threads=3)": "None",
     "vulfsjor.TreeHasher(2).update_leaves(b'', b'')": "None",
     "vulfsjor.TreeHasher(2)._root_of_file('', os.open('/dev/null', os.O_RDONLY), 0, 1, None)": "bytes",
@@ -116,7 +116,7 @@ REFUSED = (
     "vulfsjor.tree_root_file('/dev/null', 1, progress=5)", "vulfsjor.tree_root_of_leaves('', 1)",
     "vulfsjor.tree_leaves(b'', 1)", "vulfsjor.tree_leaf_count(1.5, 1)", "vulfsjor.TreeHasher()",
     "vulfsjor.TreeHasher(1, b'salt')", "vulfsjor.TreeHasher(1).update('text')",
-    "vulfsjor.TreeHasher(1).update_leaves(b'', None)", "vulfsjor.TreeHasher(1).next_leaves('x')",
+    "vulfsjor.TreeHasher(1).update_leaves(b'', None)", "vulfsjor.TreeHasher(1).leaves_ahead('x')",
 )
 # The types of arguments by their names.
 NAMED = {

@@ -521,7 +521,7 @@ functions! {
     fn tree_digest_size(state: &TreeState) -> usize;
     fn tree_count(state: &TreeState) -> u64;
     fn tree_leaf_length(state: &TreeState) -> u32;
-    fn tree_next_leaves(
+    fn tree_leaves_ahead(
         state: &TreeState,
         out: *mut u8,
         out_length: usize,

@@ -197,7 +197,7 @@ fn a_tree_that_no_init_has_made_is_refused() {
     assert_eq!((none().count(), none().leaf_length()), (0, 0));
     let mut digests = [0; 64];
     let said = "leaf_length() is 0, and must be 1 to 4294967295";
-    let error = none().next_leaves(0, b"x", &mut digests).unwrap_err();
+    let error = none().leaves_ahead(0, b"x", &mut digests).unwrap_err();
     assert_eq!(error.to_string(), said);
     assert_eq!(
         none()
@@ -241,7 +241,7 @@ fn leaves_by_their_digests_end_before_2_to_the_58() {
     hasher.update([7; 1023]); // a leaf boundary, with room for 2,047 bytes
     let next = |skip, length: usize| {
         let (leaves, digests) = (&[7; 2048][..length], &mut [0; 128][..length / 16]);
-        hasher.next_leaves(skip, leaves, digests)
+        hasher.leaves_ahead(skip, leaves, digests)
     };
     let error = |result: Result<(), InvalidArgument>| result.unwrap_err().to_string();
     assert!(next(0, 1024).is_ok());

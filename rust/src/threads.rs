@@ -324,7 +324,7 @@ impl TreeHasher {
     }
     // Writes the digests of the leaves of a part, which are these bytes.
     pub(crate) fn hash_leaves(&self, part: &Part, bytes: &[u8], out: &mut [u8]) {
-        self.next_leaves(part.first, bytes, out)
+        self.leaves_ahead(part.first, bytes, out)
             .expect("whole leaves that others follow");
     }
 }

@@ -51,7 +51,7 @@ impl TreeHasher {
     /// not whole leaves, `digests` does not have 64 bytes for each leaf, or the leaves do not end
     /// within the first 2^58 - 1 bytes of the message. Nothing is then written.
     #[inline]
-    pub fn next_leaves(
+    pub fn leaves_ahead(
         &self,
         skip: u64,
         leaves: &[u8],
@@ -60,7 +60,7 @@ impl TreeHasher {
         // Safety: the pointers come from slices of these lengths, and the output overlaps neither
         // the leaves nor the state.
         let status = unsafe {
-            library::tree_next_leaves(
+            library::tree_leaves_ahead(
                 &self.state,
                 digests.as_mut_ptr(),
                 digests.len(),
@@ -76,7 +76,7 @@ impl TreeHasher {
 
     /// Absorbs whole leaves, given by their digests, and then the input.
     ///
-    /// `digests` is what [`next_leaves`](Self::next_leaves) writes from `skip` 0 on, joined in
+    /// `digests` is what [`leaves_ahead`](Self::leaves_ahead) writes from `skip` 0 on, joined in
     /// order. The hasher is then the one that [`update`](Self::update) makes of the leaves
     /// followed by the input. At least one byte of input must follow the digests, since the last
     /// leaf of a message cannot be given by its digest. If `digests` is empty, this call is
@@ -149,7 +149,7 @@ impl TreeHasher {
         Ok(MOST_BYTES - self.count())
     }
 
-    // Why `next_leaves` refuses this.
+    // Why `leaves_ahead` refuses this.
     #[inline]
     fn check_next(&self, skip: u64, length: u64, room: u64) -> Result<(), InvalidArgument> {
         let leaf_length = u64::from(self.leaf_length());

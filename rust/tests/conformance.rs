@@ -340,12 +340,12 @@ fn outcome(runs: &mut HashMap<String, Box<dyn Hash>>, call: &[&str], given: &Giv
         "next" => {
             let (hasher, leaves) = (run.tree()?, bytes(call[3])?);
             let count = leaves.len() / hasher.leaf_length() as usize * 64;
-            write(count, &|out| hasher.next_leaves(call[2].parse().unwrap(), &leaves, out))
+            write(count, &|out| hasher.leaves_ahead(call[2].parse().unwrap(), &leaves, out))
         }
         "absorb" => {
             let (hasher, leaves, message) = (run.tree()?, bytes(call[2])?, bytes(call[3])?);
             let mut digests = vec![0; leaves.len() / hasher.leaf_length() as usize * 64];
-            let next = if leaves.is_empty() { Ok(()) } else { hasher.next_leaves(0, &leaves, &mut digests) };
+            let next = if leaves.is_empty() { Ok(()) } else { hasher.leaves_ahead(0, &leaves, &mut digests) };
             Some(next.and_then(|()| hasher.update_leaves(&digests, message).map(|_| String::new())))
         }
         _ => None,

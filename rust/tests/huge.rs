@@ -162,7 +162,7 @@ fn rooms_that_would_be_right_without_their_high_bits() {
         .unwrap_err();
     assert_eq!(error.to_string(), said);
     let mut hasher = TreeParams::new(1).hasher().unwrap();
-    let error = hasher.next_leaves(0, b"x", &mut room).unwrap_err();
+    let error = hasher.leaves_ahead(0, b"x", &mut room).unwrap_err();
     assert_eq!(error.to_string(), said);
     let leaves = &room[..(1 << 32) + 1];
     let error = TreeParams::new(2)
@@ -337,7 +337,7 @@ fn leaves_by_their_digests() {
     params(leaf)
         .hasher()
         .unwrap()
-        .next_leaves(0, &message[..1 << 32], &mut next)
+        .leaves_ahead(0, &message[..1 << 32], &mut next)
         .unwrap();
     let mut hasher = params(leaf).hasher().unwrap();
     hasher.update_leaves(&next, &message[1 << 32..]).unwrap();

@@ -83,7 +83,7 @@ fn ranges_are_those_of_hashlib() {
             let mut next = vec![0; 64 * count];
             let hasher = range.hasher();
             assert_eq!(
-                hasher.next_leaves(range.first, &range.bytes, &mut next),
+                hasher.leaves_ahead(range.first, &range.bytes, &mut next),
                 Ok(())
             );
             assert_eq!(next, range.digests);
@@ -310,7 +310,7 @@ fn errors_of_ranges() {
 fn errors_of_hashers() {
     let mut hasher = TreeParams::new(100).hasher().unwrap();
     let next = |hasher: &TreeHasher, skip, length, room| {
-        let error = hasher.next_leaves(skip, &vec![0; length], &mut vec![0; room]);
+        let error = hasher.leaves_ahead(skip, &vec![0; length], &mut vec![0; room]);
         error.unwrap_err().to_string()
     };
     let update = |hasher: &mut TreeHasher, room, length| {
@@ -328,7 +328,7 @@ fn errors_of_hashers() {
     let most = ((1u64 << 58) - 1) / 100 - 2;
     let said = format!("skip is {}, and must be 0 to {most}", most + 1);
     assert_eq!(next(&hasher, most + 1, 200, 128), said);
-    assert!(hasher.next_leaves(most, &[0; 200], &mut [0; 128]).is_ok());
+    assert!(hasher.leaves_ahead(most, &[0; 200], &mut [0; 128]).is_ok());
     let said = "digests.len() is 65, and must be a multiple of 64";
     assert_eq!(update(&mut hasher, 65, 1), said);
     let said = format!(
@@ -355,7 +355,7 @@ fn with_leaves(message: &[u8], before: usize, leaves: usize) -> TreeHasher {
     for (i, out) in digests.chunks_mut(128).enumerate().rev() {
         let start = before + 200 * i;
         let part = &message[start..end.min(start + 200)];
-        assert_eq!(hasher.next_leaves(2 * i as u64, part, out), Ok(()));
+        assert_eq!(hasher.leaves_ahead(2 * i as u64, part, out), Ok(()));
     }
     assert_eq!(hasher.count(), before as u64);
     let rest = &message[end..end + 1];
@@ -404,7 +404,7 @@ fn leaves_by_their_digests_are_refused() {
         ] {
             let leaves = vec![0; length];
             assert!(hasher
-                .next_leaves(0, &leaves, &mut digests[..room])
+                .leaves_ahead(0, &leaves, &mut digests[..room])
                 .is_err());
         }
         for (skip, is_taken) in [
@@ -413,7 +413,7 @@ fn leaves_by_their_digests_are_refused() {
             (1 << 52, false),
             (u64::MAX, false),
         ] {
-            let hashed = hasher.next_leaves(skip, &[0; 100], &mut [0; 64]);
+            let hashed = hasher.leaves_ahead(skip, &[0; 100], &mut [0; 64]);
             assert_eq!(hashed.is_ok(), is_taken && at_boundary);
         }
         assert_eq!(digests, [7; 128]);

@@ -71,7 +71,7 @@ TREES = {
     "_init_root": (NODE, NUMBER, BYTES, BYTES, NUMBER), "_leaf_count": (NUMBER, NUMBER),
     "_leaf_length": (STATE,),
     "_leaves": (OUT, NUMBER, NUMBER, BYTES, BYTES, BYTES, NUMBER),
-    "_next_leaves": (STATE, OUT, NUMBER, BYTES), "_part": (PART, PLAN, NUMBER),
+    "_leaves_ahead": (STATE, OUT, NUMBER, BYTES), "_part": (PART, PLAN, NUMBER),
     "_plan": (PLAN, NUMBER, NUMBER, NUMBER, LIMITS), "_plan_update": (PLAN, STATE, NUMBER, LIMITS),
     "_root": (OUT, BYTES, BYTES, BYTES, NUMBER),
     "_root_of_leaves": (OUT, BYTES, BYTES, BYTES, NUMBER), "_state_size": (),

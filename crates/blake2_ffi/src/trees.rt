@@ -149,7 +149,7 @@ pub extern "C" fn vulfsjor_ffi_tree_update(state: &mut TreeState, input: &[u8]) 
 /// leaves, it reaches 2^58 bytes of the message, or `out` does not have exactly 64 bytes for each
 /// leaf; nothing is then written. The state stays as it is.
 #[unsafe(no_mangle)]
-pub extern "C" fn vulfsjor_ffi_tree_next_leaves(
+pub extern "C" fn vulfsjor_ffi_tree_leaves_ahead(
     state: &TreeState,
     out: &mut [u8],
     skip: u64,
@@ -168,21 +168,21 @@ pub extern "C" fn vulfsjor_ffi_tree_next_leaves(
         return -1;
     }
     let length = input.len() as u64;
-    if !state.are_next_leaves(skip, length) {
+    if !state.are_leaves_ahead(skip, length) {
         return -1;
     }
     let leaves = leaf_count(state.leaf_length as u32, length);
     if !is_room_for(out.len(), leaves as usize, 64) {
         return -1;
     }
-    state.hash_next_leaves(skip, input, out);
+    state.hash_leaves_ahead(skip, input, out);
     0
 }
 
 /// Absorbs whole leaves, which are passed as their joined digests of 64 bytes each, and then the
 /// input. A state that `vulfsjor_ffi_tree_init` made, and that only calls have changed, is then as
 /// after one update with the leaves' bytes and one with the input. The digests are those of the
-/// next leaves in order, as `vulfsjor_ffi_tree_next_leaves` writes them. They come at a leaf
+/// next leaves in order, as `vulfsjor_ffi_tree_leaves_ahead` writes them. They come at a leaf
 /// boundary, and at least one byte of input comes after them, since the last leaf has another
 /// digest. Without digests the call is an update. Returns 0, or -1 if the state is not ready, the
 /// length of `digests` is not a multiple of 64, there are digests and the state is not at a leaf

@@ -300,7 +300,7 @@ impl TreeState {
     /// Returns whether the state is at a leaf boundary, and `length` bytes are whole leaves of
     /// its tree, at least one, of which the first comes `skip` leaves after the next one, and all
     /// end below 2^58 bytes of the message. The state must be ready.
-    pub fn are_next_leaves(&self, skip: u64, length: u64) -> bool
+    pub fn are_leaves_ahead(&self, skip: u64, length: u64) -> bool
         requires { IsReady self.now }
         ensures { IsTrue result ↔ AreNextLeaves (state_tree self.now) skip length }
     {
@@ -316,9 +316,9 @@ impl TreeState {
 
     /// Writes the digests of whole leaves of this tree, 64 bytes each, in order. The first of
     /// them comes `skip` leaves after the next one of the state, and none is the last of the
-    /// message. The state must be ready, [`TreeState::are_next_leaves`] must be true, and
+    /// message. The state must be ready, [`TreeState::are_leaves_ahead`] must be true, and
     /// `digests` must have exactly 64 bytes for each leaf. The state stays as it is.
-    pub fn hash_next_leaves(&self, skip: u64, bytes: &[u8], digests: &mut [u8])
+    pub fn hash_leaves_ahead(&self, skip: u64, bytes: &[u8], digests: &mut [u8])
         requires ready { IsReady self.now }
         requires next { AreNextLeaves (state_tree self.now) skip (length bytes.now) }
         requires room { length digests.old
@@ -365,7 +365,7 @@ impl TreeState {
     /// Absorbs whole leaves that others have hashed, which are passed as their joined digests,
     /// and then the input. A state that `new` made, and that only calls have changed, is then as
     /// after an update with the leaves' bytes and one with the input. The digests have 64 bytes
-    /// each, and are those of the next leaves in order, as [`TreeState::hash_next_leaves`] writes
+    /// each, and are those of the next leaves in order, as [`TreeState::hash_leaves_ahead`] writes
     /// them. They must come at a leaf boundary, and at least one byte of input after them.
     /// Without digests the call is an update. The state must be ready, and
     /// [`TreeState::accepts_leaves`] true of the two lengths.

@@ -51,7 +51,7 @@ fn row(words: &[[u64; 8]; 4], k: usize) -> u64x4
 /// Returns the eight words of each of four messages as rows: row k has word k of each message,
 /// that of message j in lane j.
 #[inline(always)]
-pub fn rows_of(words: &[[u64; 8]; 4]) -> [u64x4; 8]
+pub fn interleave(words: &[[u64; 8]; 4]) -> [u64x4; 8]
     ensures { (j k : ℕ) → j < 4 → k < 8
         → lane result k j ≡ slice_index (slice_index_or words.now j []) k }
 {
@@ -69,7 +69,7 @@ pub fn rows_of(words: &[[u64; 8]; 4]) -> [u64x4; 8]
 
 /// Returns the chaining words of message `j`, those in its lane, as two rows.
 #[inline(always)]
-pub fn lane_words(rows: &[u64x4; 8], j: usize) -> [u64x4; 2]
+pub fn lane_rows(rows: &[u64x4; 8], j: usize) -> [u64x4; 2]
     requires { j < 4 }
     ensures { eight result ≡ in_lane j rows.now }
 {
@@ -89,7 +89,7 @@ fn four_words(words: &[u64; 16], k: usize) -> u64x4
 
 // Row i of the result has the words k + i of four blocks.
 #[inline(always)]
-fn rows_from(words: &[[u64; 16]; 4], k: usize) -> [u64x4; 4]
+fn interleave_from(words: &[[u64; 16]; 4], k: usize) -> [u64x4; 4]
     requires { k ≤ 12 }
     ensures { (i j : ℕ) → i < 4 → j < 4
         → lane result i j ≡ slice_index (slice_index_or words.now j []) (k + i) }
@@ -114,10 +114,10 @@ fn block_rows(blocks: &[&[u8; 128]; 4]) -> [u64x4; 16]
         block_words(blocks[2]),
         block_words(blocks[3]),
     ];
-    let a = rows_from(&m, 0);
-    let b = rows_from(&m, 4);
-    let c = rows_from(&m, 8);
-    let d = rows_from(&m, 12);
+    let a = interleave_from(&m, 0);
+    let b = interleave_from(&m, 4);
+    let c = interleave_from(&m, 8);
+    let d = interleave_from(&m, 12);
     [
         a[0], a[1], a[2], a[3], b[0], b[1], b[2], b[3], c[0], c[1], c[2], c[3], d[0], d[1], d[2],
         d[3],
@@ -161,7 +161,7 @@ fn begin(h: &[u64x4; 8], counters: &[u64; 4], flags: &[Flags; 4]) -> [u64x4; 16]
         last_words(counters[2], flags[2]),
         last_words(counters[3], flags[3]),
     ];
-    let w = rows_of(&last);
+    let w = interleave(&last);
     [
         h[0], h[1], h[2], h[3], h[4], h[5], h[6], h[7], w[0], w[1], w[2], w[3], w[4], w[5], w[6],
         w[7],
@@ -273,7 +273,7 @@ fn start(output_size: usize, inputs: &[Input<'_>; 4]) -> [u64x4; 8]
     for j in 0..4 {
         words[j] = start_words(&input_parameters(&inputs[j], output_size));
     }
-    rows_of(&words)
+    interleave(&words)
 }
 
 // Compresses blocks of each of four messages, one after another, the same number of each, with

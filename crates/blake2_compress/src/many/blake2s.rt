@@ -58,7 +58,7 @@ fn row(words: &[[u32; 8]; 8], k: usize) -> u32x8
 /// Returns the eight words of each of eight messages as rows: row k has word k of each message,
 /// that of message j in lane j.
 #[inline(always)]
-pub fn rows_of(words: &[[u32; 8]; 8]) -> [u32x8; 8]
+pub fn interleave(words: &[[u32; 8]; 8]) -> [u32x8; 8]
     ensures { (j k : ℕ) → j < 8 → k < 8
         → lane result k j ≡ slice_index (slice_index_or words.now j []) k }
 {
@@ -76,7 +76,7 @@ pub fn rows_of(words: &[[u32; 8]; 8]) -> [u32x8; 8]
 
 /// Returns the chaining words of message `j`, those in its lane, as two rows.
 #[inline(always)]
-pub fn lane_words(rows: &[u32x8; 8], j: usize) -> [u32x4; 2]
+pub fn lane_rows(rows: &[u32x8; 8], j: usize) -> [u32x4; 2]
     requires { j < 8 }
     ensures { eight result ≡ in_lane j rows.now }
 {
@@ -104,7 +104,7 @@ fn eight_words(words: &[u32; 16], k: usize) -> u32x8
 
 // Row i of the result has the words k + i of eight blocks.
 #[inline(always)]
-fn rows_from(words: &[[u32; 16]; 8], k: usize) -> [u32x8; 8]
+fn interleave_from(words: &[[u32; 16]; 8], k: usize) -> [u32x8; 8]
     requires { k ≤ 8 }
     ensures { (i j : ℕ) → i < 8 → j < 8
         → lane result i j ≡ slice_index (slice_index_or words.now j []) (k + i) }
@@ -137,8 +137,8 @@ fn block_rows(blocks: &[&[u8; 64]; 8]) -> [u32x8; 16]
         block_words(blocks[6]),
         block_words(blocks[7]),
     ];
-    let a = rows_from(&m, 0);
-    let b = rows_from(&m, 8);
+    let a = interleave_from(&m, 0);
+    let b = interleave_from(&m, 8);
     [
         a[0], a[1], a[2], a[3], a[4], a[5], a[6], a[7], b[0], b[1], b[2], b[3], b[4], b[5], b[6],
         b[7],
@@ -188,7 +188,7 @@ fn begin(h: &[u32x8; 8], counters: &[u64; 8], flags: &[Flags; 8]) -> [u32x8; 16]
         last_words(counters[6], flags[6]),
         last_words(counters[7], flags[7]),
     ];
-    let w = rows_of(&last);
+    let w = interleave(&last);
     [
         h[0], h[1], h[2], h[3], h[4], h[5], h[6], h[7], w[0], w[1], w[2], w[3], w[4], w[5], w[6],
         w[7],
@@ -298,7 +298,7 @@ fn start(output_size: usize, inputs: &[Input<'_>; 8]) -> [u32x8; 8]
     for j in 0..8 {
         words[j] = start_words(&input_parameters(&inputs[j], output_size));
     }
-    rows_of(&words)
+    interleave(&words)
 }
 
 // Compresses blocks of each of eight messages, one after another, the same number of each, with

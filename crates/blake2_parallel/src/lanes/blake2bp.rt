@@ -18,7 +18,7 @@ ghost use Rattle.blake2_parallel.specs.Blake2bp.{IsSound, leaves_of};
 use blake2_compress::compress::Flags;
 use blake2_compress::compress::blake2b::{compress, to_bytes, to_words};
 use blake2_compress::many::blake2b as many;
-use blake2_compress::many::blake2b::lane_words;
+use blake2_compress::many::blake2b::lane_rows;
 use blake2_digest::padded;
 use blake2_simd::rows::u64x4;
 
@@ -26,24 +26,24 @@ use blake2_simd::rows::u64x4;
 
 // The rows of the words of four leaves.
 #[inline(always)]
-fn rows_from(words: &[[u64; 4]; 8]) -> [u64x4; 8]
+fn to_vectors(words: &[[u64; 4]; 8]) -> [u64x4; 8]
     ensures { (j : ℕ) → j < 4 → in_lane j result ≡ in_lane j words.now }
 {
     [
-        row(&words[0]),
-        row(&words[1]),
-        row(&words[2]),
-        row(&words[3]),
-        row(&words[4]),
-        row(&words[5]),
-        row(&words[6]),
-        row(&words[7]),
+        to_vector(&words[0]),
+        to_vector(&words[1]),
+        to_vector(&words[2]),
+        to_vector(&words[3]),
+        to_vector(&words[4]),
+        to_vector(&words[5]),
+        to_vector(&words[6]),
+        to_vector(&words[7]),
     ]
 }
 
 // A row of four words.
 #[inline(always)]
-fn row(words: &[u64; 4]) -> u64x4
+fn to_vector(words: &[u64; 4]) -> u64x4
     ensures { result ≡ words.now }
 {
     u64x4::new(words[0], words[1], words[2], words[3])
@@ -51,7 +51,7 @@ fn row(words: &[u64; 4]) -> u64x4
 
 // The words of four leaves, row by row.
 #[inline(always)]
-pub(crate) fn words_from(rows: &[u64x4; 8]) -> [[u64; 4]; 8]
+pub(crate) fn to_arrays(rows: &[u64x4; 8]) -> [[u64; 4]; 8]
     ensures { (j : ℕ) → j < 4 → in_lane j result ≡ in_lane j rows.now }
 {
     [
@@ -111,12 +111,12 @@ fn compress_by_leaf(rows: &mut [u64x4; 8], bytes: &[u8], counter: u64, count: us
         ≡ leaf_chain blake2b (in_lane j rows.old) counter bytes.now j count }
 {
     let words = [
-        compress_leaf(lane_words(rows, 0), bytes, 0, counter, count),
-        compress_leaf(lane_words(rows, 1), bytes, 1, counter, count),
-        compress_leaf(lane_words(rows, 2), bytes, 2, counter, count),
-        compress_leaf(lane_words(rows, 3), bytes, 3, counter, count),
+        compress_leaf(lane_rows(rows, 0), bytes, 0, counter, count),
+        compress_leaf(lane_rows(rows, 1), bytes, 1, counter, count),
+        compress_leaf(lane_rows(rows, 2), bytes, 2, counter, count),
+        compress_leaf(lane_rows(rows, 3), bytes, 3, counter, count),
     ];
-    let all = many::rows_of(&words);
+    let all = many::interleave(&words);
     *rows = all;
 }
 
@@ -159,12 +159,12 @@ fn compress_one_by_one(
         (slice_index counters.now j) (flags_at flags.now j) }
 {
     let words = [
-        compress_one(lane_words(rows, 0), blocks[0], counters[0], flags[0]),
-        compress_one(lane_words(rows, 1), blocks[1], counters[1], flags[1]),
-        compress_one(lane_words(rows, 2), blocks[2], counters[2], flags[2]),
-        compress_one(lane_words(rows, 3), blocks[3], counters[3], flags[3]),
+        compress_one(lane_rows(rows, 0), blocks[0], counters[0], flags[0]),
+        compress_one(lane_rows(rows, 1), blocks[1], counters[1], flags[1]),
+        compress_one(lane_rows(rows, 2), blocks[2], counters[2], flags[2]),
+        compress_one(lane_rows(rows, 3), blocks[3], counters[3], flags[3]),
     ];
-    let all = many::rows_of(&words);
+    let all = many::interleave(&words);
     *rows = all;
 }
 
@@ -293,10 +293,10 @@ fn outputs_of(rows: &[u64x4; 8]) -> [[u8; 64]; 4]
     ensures { (j : ℕ) → j < 4 → slice_index_or result j [] ≡ bytes_of blake2b (in_lane j rows.now) }
 {
     [
-        to_bytes(&lane_words(rows, 0)),
-        to_bytes(&lane_words(rows, 1)),
-        to_bytes(&lane_words(rows, 2)),
-        to_bytes(&lane_words(rows, 3)),
+        to_bytes(&lane_rows(rows, 0)),
+        to_bytes(&lane_rows(rows, 1)),
+        to_bytes(&lane_rows(rows, 2)),
+        to_bytes(&lane_rows(rows, 3)),
     ]
 }
 
@@ -392,11 +392,11 @@ impl Lanes {
             input.now }
         ensures fewer { self.new.length + 512 ≡ self.old.length }
     {
-        let mut rows = rows_from(&self.rows);
+        let mut rows = to_vectors(&self.rows);
         let counter = self.counter;
         compress_stripes(&mut rows, &self.pending, counter, 1);
         let pending = padded::<896>(&self.pending[512..self.length]);
-        self.rows = words_from(&rows);
+        self.rows = to_arrays(&rows);
         self.counter = counter + 128;
         self.pending = pending;
         self.length -= 512;
@@ -416,9 +416,9 @@ impl Lanes {
         ensures none { self.new.length ≡ 0 }
     {
         let count = (input.len() - 385) / 512;
-        let mut rows = rows_from(&self.rows);
+        let mut rows = to_vectors(&self.rows);
         compress_stripes(&mut rows, input, self.counter, count);
-        self.rows = words_from(&rows);
+        self.rows = to_arrays(&rows);
         self.counter += 128 * count as u64;
         &input[512 * count..]
     }
@@ -484,7 +484,7 @@ impl Lanes {
         let held = &self.pending[..self.length];
         let (first, second) = held.split_at(held.len().min(512));
         let n = second.len();
-        let before = compress_first(&rows_from(&self.rows), first, self.counter, n);
+        let before = compress_first(&to_vectors(&self.rows), first, self.counter, n);
         let firsts = outputs_of(&before);
         if n == 0 {
             return firsts;

@@ -19,7 +19,7 @@ ghost use Rattle.blake2_parallel.specs.Blake2sp.{IsSound, leaves_of};
 use blake2_compress::compress::Flags;
 use blake2_compress::compress::blake2s::{compress, to_bytes, to_words};
 use blake2_compress::many::blake2s as many;
-use blake2_compress::many::blake2s::lane_words;
+use blake2_compress::many::blake2s::lane_rows;
 use blake2_digest::padded;
 use blake2_simd::rows::{u32x4, u32x8};
 
@@ -27,24 +27,24 @@ use blake2_simd::rows::{u32x4, u32x8};
 
 // The rows of the words of eight leaves.
 #[inline(always)]
-fn rows_from(words: &[[u32; 8]; 8]) -> [u32x8; 8]
+fn to_vectors(words: &[[u32; 8]; 8]) -> [u32x8; 8]
     ensures { (j : ℕ) → j < 8 → in_lane j result ≡ in_lane j words.now }
 {
     [
-        row(&words[0]),
-        row(&words[1]),
-        row(&words[2]),
-        row(&words[3]),
-        row(&words[4]),
-        row(&words[5]),
-        row(&words[6]),
-        row(&words[7]),
+        to_vector(&words[0]),
+        to_vector(&words[1]),
+        to_vector(&words[2]),
+        to_vector(&words[3]),
+        to_vector(&words[4]),
+        to_vector(&words[5]),
+        to_vector(&words[6]),
+        to_vector(&words[7]),
     ]
 }
 
 // A row of eight words.
 #[inline(always)]
-fn row(words: &[u32; 8]) -> u32x8
+fn to_vector(words: &[u32; 8]) -> u32x8
     ensures { result ≡ words.now }
 {
     u32x8::from_array(*words)
@@ -52,7 +52,7 @@ fn row(words: &[u32; 8]) -> u32x8
 
 // The words of eight leaves, row by row.
 #[inline(always)]
-pub(crate) fn words_from(rows: &[u32x8; 8]) -> [[u32; 8]; 8]
+pub(crate) fn to_arrays(rows: &[u32x8; 8]) -> [[u32; 8]; 8]
     ensures { (j : ℕ) → j < 8 → in_lane j result ≡ in_lane j rows.now }
 {
     [
@@ -121,16 +121,16 @@ fn compress_by_leaf(rows: &mut [u32x8; 8], bytes: &[u8], counter: u64, count: us
         ≡ leaf_chain blake2s (in_lane j rows.old) counter bytes.now j count }
 {
     let words = [
-        compress_leaf(lane_words(rows, 0), bytes, 0, counter, count),
-        compress_leaf(lane_words(rows, 1), bytes, 1, counter, count),
-        compress_leaf(lane_words(rows, 2), bytes, 2, counter, count),
-        compress_leaf(lane_words(rows, 3), bytes, 3, counter, count),
-        compress_leaf(lane_words(rows, 4), bytes, 4, counter, count),
-        compress_leaf(lane_words(rows, 5), bytes, 5, counter, count),
-        compress_leaf(lane_words(rows, 6), bytes, 6, counter, count),
-        compress_leaf(lane_words(rows, 7), bytes, 7, counter, count),
+        compress_leaf(lane_rows(rows, 0), bytes, 0, counter, count),
+        compress_leaf(lane_rows(rows, 1), bytes, 1, counter, count),
+        compress_leaf(lane_rows(rows, 2), bytes, 2, counter, count),
+        compress_leaf(lane_rows(rows, 3), bytes, 3, counter, count),
+        compress_leaf(lane_rows(rows, 4), bytes, 4, counter, count),
+        compress_leaf(lane_rows(rows, 5), bytes, 5, counter, count),
+        compress_leaf(lane_rows(rows, 6), bytes, 6, counter, count),
+        compress_leaf(lane_rows(rows, 7), bytes, 7, counter, count),
     ];
-    let all = many::rows_of(&words);
+    let all = many::interleave(&words);
     *rows = all;
 }
 
@@ -173,16 +173,16 @@ fn compress_one_by_one(
         (slice_index counters.now j) (flags_at flags.now j) }
 {
     let words = [
-        compress_one(lane_words(rows, 0), blocks[0], counters[0], flags[0]),
-        compress_one(lane_words(rows, 1), blocks[1], counters[1], flags[1]),
-        compress_one(lane_words(rows, 2), blocks[2], counters[2], flags[2]),
-        compress_one(lane_words(rows, 3), blocks[3], counters[3], flags[3]),
-        compress_one(lane_words(rows, 4), blocks[4], counters[4], flags[4]),
-        compress_one(lane_words(rows, 5), blocks[5], counters[5], flags[5]),
-        compress_one(lane_words(rows, 6), blocks[6], counters[6], flags[6]),
-        compress_one(lane_words(rows, 7), blocks[7], counters[7], flags[7]),
+        compress_one(lane_rows(rows, 0), blocks[0], counters[0], flags[0]),
+        compress_one(lane_rows(rows, 1), blocks[1], counters[1], flags[1]),
+        compress_one(lane_rows(rows, 2), blocks[2], counters[2], flags[2]),
+        compress_one(lane_rows(rows, 3), blocks[3], counters[3], flags[3]),
+        compress_one(lane_rows(rows, 4), blocks[4], counters[4], flags[4]),
+        compress_one(lane_rows(rows, 5), blocks[5], counters[5], flags[5]),
+        compress_one(lane_rows(rows, 6), blocks[6], counters[6], flags[6]),
+        compress_one(lane_rows(rows, 7), blocks[7], counters[7], flags[7]),
     ];
-    let all = many::rows_of(&words);
+    let all = many::interleave(&words);
     *rows = all;
 }
 
@@ -326,14 +326,14 @@ fn outputs_of(rows: &[u32x8; 8]) -> [[u8; 32]; 8]
     ensures { (j : ℕ) → j < 8 → slice_index_or result j [] ≡ bytes_of blake2s (in_lane j rows.now) }
 {
     [
-        to_bytes(&lane_words(rows, 0)),
-        to_bytes(&lane_words(rows, 1)),
-        to_bytes(&lane_words(rows, 2)),
-        to_bytes(&lane_words(rows, 3)),
-        to_bytes(&lane_words(rows, 4)),
-        to_bytes(&lane_words(rows, 5)),
-        to_bytes(&lane_words(rows, 6)),
-        to_bytes(&lane_words(rows, 7)),
+        to_bytes(&lane_rows(rows, 0)),
+        to_bytes(&lane_rows(rows, 1)),
+        to_bytes(&lane_rows(rows, 2)),
+        to_bytes(&lane_rows(rows, 3)),
+        to_bytes(&lane_rows(rows, 4)),
+        to_bytes(&lane_rows(rows, 5)),
+        to_bytes(&lane_rows(rows, 6)),
+        to_bytes(&lane_rows(rows, 7)),
     ]
 }
 
@@ -429,11 +429,11 @@ impl Lanes {
             input.now }
         ensures fewer { self.new.length + 512 ≡ self.old.length }
     {
-        let mut rows = rows_from(&self.rows);
+        let mut rows = to_vectors(&self.rows);
         let counter = self.counter;
         compress_stripes(&mut rows, &self.pending, counter, 1);
         let pending = padded::<960>(&self.pending[512..self.length]);
-        self.rows = words_from(&rows);
+        self.rows = to_arrays(&rows);
         self.counter = counter + 64;
         self.pending = pending;
         self.length -= 512;
@@ -453,9 +453,9 @@ impl Lanes {
         ensures none { self.new.length ≡ 0 }
     {
         let count = (input.len() - 449) / 512;
-        let mut rows = rows_from(&self.rows);
+        let mut rows = to_vectors(&self.rows);
         compress_stripes(&mut rows, input, self.counter, count);
-        self.rows = words_from(&rows);
+        self.rows = to_arrays(&rows);
         self.counter += 64 * count as u64;
         &input[512 * count..]
     }
@@ -521,7 +521,7 @@ impl Lanes {
         let held = &self.pending[..self.length];
         let (first, second) = held.split_at(held.len().min(512));
         let n = second.len();
-        let before = compress_first(&rows_from(&self.rows), first, self.counter, n);
+        let before = compress_first(&to_vectors(&self.rows), first, self.counter, n);
         let firsts = outputs_of(&before);
         if n == 0 {
             return firsts;

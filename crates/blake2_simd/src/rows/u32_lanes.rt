@@ -307,7 +307,7 @@ impl u32x4 {
     }
 
     // The four rows of sixteen words, row 0 having the first.
-    fn rows_of(words: &[u32; 16]) -> [Self; 4]
+    fn to_rows(words: &[u32; 16]) -> [Self; 4]
         ensures rows { sixteen result ≡ words.now }
         ensures are_words { AreWords blake2s (sixteen result) }
     {
@@ -336,7 +336,7 @@ impl u32x4 {
         unmix(&mut w, 2, 6, 10, 14, m[s[4]], m[s[5]]);
         unmix(&mut w, 1, 5, 9, 13, m[s[2]], m[s[3]]);
         unmix(&mut w, 0, 4, 8, 12, m[s[0]], m[s[1]]);
-        *v = Self::rows_of(&w);
+        *v = Self::to_rows(&w);
     }
 }
 

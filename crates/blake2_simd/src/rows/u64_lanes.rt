@@ -359,7 +359,7 @@ impl u64x4 {
     }
 
     // The four rows of sixteen words, row 0 having the first.
-    fn rows_of(words: &[u64; 16]) -> [Self; 4]
+    fn to_rows(words: &[u64; 16]) -> [Self; 4]
         ensures rows { sixteen result ≡ words.now }
         ensures are_words { AreWords blake2b (sixteen result) }
     {
@@ -388,7 +388,7 @@ impl u64x4 {
         unmix(&mut w, 2, 6, 10, 14, m[s[4]], m[s[5]]);
         unmix(&mut w, 1, 5, 9, 13, m[s[2]], m[s[3]]);
         unmix(&mut w, 0, 4, 8, 12, m[s[0]], m[s[1]]);
-        *v = Self::rows_of(&w);
+        *v = Self::to_rows(&w);
     }
 }
 

@@ -29,9 +29,9 @@ pub(crate) fn root_by_state(
     assert!(rt; leaves <= 11);
     for i in 0..leaves {
         let start = from + 4 * i as usize;
-        assert!(rt; start + 4 <= message.len() && state.are_next_leaves(i, 4));
+        assert!(rt; start + 4 <= message.len() && state.are_leaves_ahead(i, 4));
         let at = 64 * i as usize;
-        state.hash_next_leaves(i, &message[start..start + 4], &mut digests[at..at + 64]);
+        state.hash_leaves_ahead(i, &message[start..start + 4], &mut digests[at..at + 64]);
     }
     let written = 64 * leaves as usize;
     assert!(rt; state.accepts_leaves(written, cut - to));
@@ -58,12 +58,12 @@ fn leaves_are_accepted_by_a_state(rt: HostRuntime) {
     assert!(rt; state.accepts_leaves(0, (1 << 58) - 1) && !state.accepts_leaves(0, 1 << 58));
     let leaf = 1 << 31;
     assert!(rt;
-        state.are_next_leaves((1 << 27) - 2, leaf) && !state.are_next_leaves(1 << 27, leaf)
+        state.are_leaves_ahead((1 << 27) - 2, leaf) && !state.are_leaves_ahead(1 << 27, leaf)
     );
-    assert!(rt; !state.are_next_leaves((1 << 27) - 1, leaf) && !state.are_next_leaves(0, 0));
-    assert!(rt; !state.are_next_leaves(u64::MAX, leaf) && !state.are_next_leaves(0, leaf + 1));
+    assert!(rt; !state.are_leaves_ahead((1 << 27) - 1, leaf) && !state.are_leaves_ahead(0, 0));
+    assert!(rt; !state.are_leaves_ahead(u64::MAX, leaf) && !state.are_leaves_ahead(0, leaf + 1));
     state.update(b"a");
-    assert!(rt; !state.is_at_boundary() && !state.are_next_leaves(0, leaf));
+    assert!(rt; !state.is_at_boundary() && !state.are_leaves_ahead(0, leaf));
     assert!(rt; !state.accepts_leaves(64, 1) && state.accepts_leaves(0, 1));
     assert!(rt; state.accepts_leaves(0, (1 << 58) - 2) && !state.accepts_leaves(0, (1 << 58) - 1));
 }

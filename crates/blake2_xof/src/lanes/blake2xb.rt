@@ -8,7 +8,7 @@ ghost use Rattle.blake2_compress.specs.Hash.{bytes_of, compress as F, final};
 use blake2_compress::compress::Flags;
 use blake2_compress::compress::blake2b::to_bytes;
 use blake2_compress::many::blake2b as many;
-use blake2_compress::many::blake2b::lane_words;
+use blake2_compress::many::blake2b::lane_rows;
 use blake2_simd::rows::u64x4;
 
 /// Returns the outputs of four hashes of one block, the same for each, from the rows of the words
@@ -25,9 +25,9 @@ pub(crate) fn last_of_four(rows: &[u64x4; 8], block: &[u8; 128], count: u64) -> 
         &[Flags::last_block(false); 4],
     );
     [
-        to_bytes(&lane_words(&all, 0)),
-        to_bytes(&lane_words(&all, 1)),
-        to_bytes(&lane_words(&all, 2)),
-        to_bytes(&lane_words(&all, 3)),
+        to_bytes(&lane_rows(&all, 0)),
+        to_bytes(&lane_rows(&all, 1)),
+        to_bytes(&lane_rows(&all, 2)),
+        to_bytes(&lane_rows(&all, 3)),
     ]
 }

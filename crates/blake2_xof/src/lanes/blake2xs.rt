@@ -8,7 +8,7 @@ ghost use Rattle.blake2_compress.specs.Hash.{bytes_of, compress as F, final};
 use blake2_compress::compress::Flags;
 use blake2_compress::compress::blake2s::to_bytes;
 use blake2_compress::many::blake2s as many;
-use blake2_compress::many::blake2s::lane_words;
+use blake2_compress::many::blake2s::lane_rows;
 use blake2_simd::rows::u32x8;
 
 /// Returns the outputs of eight hashes of one block, the same for each, from the rows of the words
@@ -25,13 +25,13 @@ pub(crate) fn last_of_eight(rows: &[u32x8; 8], block: &[u8; 64], count: u64) -> 
         &[Flags::last_block(false); 8],
     );
     [
-        to_bytes(&lane_words(&all, 0)),
-        to_bytes(&lane_words(&all, 1)),
-        to_bytes(&lane_words(&all, 2)),
-        to_bytes(&lane_words(&all, 3)),
-        to_bytes(&lane_words(&all, 4)),
-        to_bytes(&lane_words(&all, 5)),
-        to_bytes(&lane_words(&all, 6)),
-        to_bytes(&lane_words(&all, 7)),
+        to_bytes(&lane_rows(&all, 0)),
+        to_bytes(&lane_rows(&all, 1)),
+        to_bytes(&lane_rows(&all, 2)),
+        to_bytes(&lane_rows(&all, 3)),
+        to_bytes(&lane_rows(&all, 4)),
+        to_bytes(&lane_rows(&all, 5)),
+        to_bytes(&lane_rows(&all, 6)),
+        to_bytes(&lane_rows(&all, 7)),
     ]
 }

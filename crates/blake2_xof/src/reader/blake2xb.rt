@@ -161,7 +161,7 @@ impl Reader {
         ensures { (j : ℕ) → j < 4 → in_lane j result
             ≡ start blake2b (block_parameters blake2b (settings_of self.now) (i + j)) }
     {
-        many::rows_of(&[
+        many::interleave(&[
             to_words(&self.start(i)),
             to_words(&self.start(i + 1)),
             to_words(&self.start(i + 2)),

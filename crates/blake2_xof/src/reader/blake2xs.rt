@@ -162,7 +162,7 @@ impl Reader {
         ensures { (j : ℕ) → j < 8 → in_lane j result
             ≡ start blake2s (block_parameters blake2s (settings_of self.now) (i + j)) }
     {
-        many::rows_of(&[
+        many::interleave(&[
             to_words(&self.start(i)),
             to_words(&self.start(i + 1)),
             to_words(&self.start(i + 2)),

@@ -49,7 +49,7 @@ fn row(words: &[[u64; 8]; 8], k: usize) -> u64x8
 
 // The rows of the words of eight messages.
 #[inline(always)]
-fn rows_of(words: &[[u64; 8]; 8]) -> [u64x8; 8]
+fn interleave(words: &[[u64; 8]; 8]) -> [u64x8; 8]
     ensures { (j k : ℕ) → j < 8 → k < 8
         → lane result k j ≡ slice_index (slice_index_or words.now j []) k }
 {
@@ -85,7 +85,7 @@ fn eight_words(words: &[u64; 16], k: usize) -> u64x8
 
 // Row i of the result has the words k + i of eight blocks.
 #[inline(always)]
-fn rows_from(words: &[[u64; 16]; 8], k: usize) -> [u64x8; 8]
+fn interleave_from(words: &[[u64; 16]; 8], k: usize) -> [u64x8; 8]
     requires { k ≤ 8 }
     ensures { (i j : ℕ) → i < 8 → j < 8
         → lane result i j ≡ slice_index (slice_index_or words.now j []) (k + i) }
@@ -118,8 +118,8 @@ fn block_rows(blocks: &[&[u8; 128]; 8]) -> [u64x8; 16]
         block_words(blocks[6]),
         block_words(blocks[7]),
     ];
-    let a = rows_from(&m, 0);
-    let b = rows_from(&m, 8);
+    let a = interleave_from(&m, 0);
+    let b = interleave_from(&m, 8);
     [
         a[0], a[1], a[2], a[3], a[4], a[5], a[6], a[7], b[0], b[1], b[2], b[3], b[4], b[5], b[6],
         b[7],
@@ -144,7 +144,7 @@ fn begin(h: &[u64x8; 8], counter: u64, flags: &[Flags; 8]) -> [u64x8; 16]
         last_words(counter, flags[6]),
         last_words(counter, flags[7]),
     ];
-    let w = rows_of(&last);
+    let w = interleave(&last);
     [
         h[0], h[1], h[2], h[3], h[4], h[5], h[6], h[7], w[0], w[1], w[2], w[3], w[4], w[5], w[6],
         w[7],
@@ -236,7 +236,7 @@ fn start(output_size: usize, inputs: &[Input<'_>; 8]) -> [u64x8; 8]
     for j in 0..8 {
         words[j] = start_words(&input_parameters(&inputs[j], output_size));
     }
-    rows_of(&words)
+    interleave(&words)
 }
 
 // Compresses blocks of each of eight messages, one after another, the same number of each, with

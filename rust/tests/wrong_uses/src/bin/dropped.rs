@@ -164,7 +164,7 @@ fn trees(tree: &TreeParams<'_>, bytes: &[u8], out: &mut [u8]) -> Result<(), Inva
     tree.root_file("data", 0); // refused
     tree.root_file_with_progress("data", 0, |_| Ok(())); // refused
     let mut hasher = tree.hasher()?;
-    hasher.next_leaves(0, bytes, out); // refused
+    hasher.leaves_ahead(0, bytes, out); // refused
     hasher.update_leaves(bytes, bytes); // refused
     hasher.update_threads(bytes, 0).finalize(); // refused
     hasher.count(); // refused

@@ -7,7 +7,7 @@ fn main() -> Result<(), InvalidArgument> {
     // In C the digests come first.
     tree.leaves(&mut digests, 0, true, &bytes)?; // refused
     tree.leaves(&bytes, true, 0, &mut digests)?; // refused
-    tree.hasher()?.next_leaves(&bytes, 0, &mut digests)?; // refused
+    tree.hasher()?.leaves_ahead(&bytes, 0, &mut digests)?; // refused
     tree.root_threads(0, &bytes)?; // refused
     Blake2xb::derive_key(&bytes, &mut digests, b"context")?; // refused
     Blake2xb::derive_key("context", &bytes, &mut digests)?; // refused

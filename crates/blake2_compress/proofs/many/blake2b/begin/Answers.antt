@@ -10,7 +10,7 @@ use Rattle.blake2_compress.proofs.many.blake2b.begin.Goals as goal
 pub returns : goal.returns
 returns c j h =
     let long : length c.args.h.now ≡ 8 = search rules in
-    let many : length c.rows_of-w.result ≡ 8 = search rules in
+    let many : length c.interleave-w.result ≡ 8 = search rules in
     let u : List ℕ = in_lane j c.args.h.now in
     let ws : List (List ℕ) = c.last_words.result ∷ c.last_words-2.result ∷ c.last_words-3.result
     ∷ c.last_words-4.result ∷ [] in
@@ -18,7 +18,7 @@ returns c j h =
     ≡ before_rounds blake2b u (slice_index c.args.counters.now k) (flags_at c.args.flags.now k))
     (c.last_words.ensures u) (c.last_words-2.ensures u) (c.last_words-3.ensures u)
     (c.last_words-4.ensures u) j h in
-    ap (in_lane j) (sixteen_read c.args.h.now c.rows_of-w.result
+    ap (in_lane j) (sixteen_read c.args.h.now c.interleave-w.result
     _ _ _ _ _ _ _ _ _ _ _ _ _ _ _ _ long many)
-    ∙ begun_rows blake2b j c.args.h.now c.rows_of-w.result _ _ _ long many
-    (λ k lt. c.rows_of-w.ensures j k h lt) begun
+    ∙ begun_rows blake2b j c.args.h.now c.interleave-w.result _ _ _ long many
+    (λ k lt. c.interleave-w.ensures j k h lt) begun

@@ -15,10 +15,10 @@ pub returns : goal.returns
 returns c j h =
     let blocks = c.args.blocks.now in
     let long : length blocks ≡ 4 = search rules in
-    let long_a : length c.rows_from-a.result ≡ 4 = search rules in
-    let long_b : length c.rows_from-b.result ≡ 4 = search rules in
-    let long_c : length c.rows_from-c.result ≡ 4 = search rules in
-    let long_d : length c.rows_from-d.result ≡ 4 = search rules in
+    let long_a : length c.interleave_from-a.result ≡ 4 = search rules in
+    let long_b : length c.interleave_from-b.result ≡ 4 = search rules in
+    let long_c : length c.interleave_from-c.result ≡ 4 = search rules in
+    let long_d : length c.interleave_from-d.result ≡ 4 = search rules in
     let read = λ (k : ℕ) (d : Bor (List ℕ)) (lt : k < 4).
     ap (words_of blake2b 16) (text_at blocks k d (omega arith)) in
     let words = listed_in_four (λ k. words_of blake2b 16 (slice_index_or (texts blocks) k []))
@@ -29,6 +29,6 @@ returns c j h =
     long_a long_b long_c long_d)
     ∙ four_parts j _ _ _ _ _ long_a long_b long_c long_d
     (ap length words ∙ length-words_of blake2b 16 _)
-    (λ i lt. c.rows_from-a.ensures i j lt h) (λ i lt. c.rows_from-b.ensures i j lt h)
-    (λ i lt. c.rows_from-c.ensures i j lt h) (λ i lt. c.rows_from-d.ensures i j lt h)
+    (λ i lt. c.interleave_from-a.ensures i j lt h) (λ i lt. c.interleave_from-b.ensures i j lt h)
+    (λ i lt. c.interleave_from-c.ensures i j lt h) (λ i lt. c.interleave_from-d.ensures i j lt h)
     ∙ words

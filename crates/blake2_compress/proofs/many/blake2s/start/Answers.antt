@@ -15,5 +15,5 @@ loop-j-preserved c =
 pub returns : goal.returns
 returns c j h =
     let words = filled_all c.loop-j.invariant c.loop-j-test.false j h in
-    lane_is 8 j c.rows_of.result _ (search rules) (ap length words ∙ length-start blake2s _)
-    (λ k lt. c.rows_of.ensures j k h lt) ∙ words
+    lane_is 8 j c.interleave.result _ (search rules) (ap length words ∙ length-start blake2s _)
+    (λ k lt. c.interleave.ensures j k h lt) ∙ words

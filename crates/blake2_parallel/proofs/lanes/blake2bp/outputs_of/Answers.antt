@@ -8,7 +8,7 @@ use Rattle.blake2_parallel.proofs.lanes.blake2bp.outputs_of.Goals as goal
 pub returns : goal.returns
 returns c j lane =
     listed_in_four (λ m. bytes_of blake2b (in_lane m c.args.rows.now)) _ _ _ _
-    (c.to_bytes.ensures ∙ ap (bytes_of blake2b) c.lane_words.ensures)
-    (c.to_bytes-2.ensures ∙ ap (bytes_of blake2b) c.lane_words-2.ensures)
-    (c.to_bytes-3.ensures ∙ ap (bytes_of blake2b) c.lane_words-3.ensures)
-    (c.to_bytes-4.ensures ∙ ap (bytes_of blake2b) c.lane_words-4.ensures) j lane
+    (c.to_bytes.ensures ∙ ap (bytes_of blake2b) c.lane_rows.ensures)
+    (c.to_bytes-2.ensures ∙ ap (bytes_of blake2b) c.lane_rows-2.ensures)
+    (c.to_bytes-3.ensures ∙ ap (bytes_of blake2b) c.lane_rows-3.ensures)
+    (c.to_bytes-4.ensures ∙ ap (bytes_of blake2b) c.lane_rows-4.ensures) j lane

@@ -18,15 +18,15 @@ returns c j lane =
     let long = in_eight (λ m. length (slice_index_or words m []) ≡ 8) (search rules) (search rules)
     (search rules) (search rules) (search rules) (search rules) (search rules) (search rules) j lane
     in
-    lane_is 8 j c.rows_of-all.result (slice_index_or words j []) (search rules) long
-    (λ k lt. c.rows_of-all.ensures j k lane lt)
+    lane_is 8 j c.interleave-all.result (slice_index_or words j []) (search rules) long
+    (λ k lt. c.interleave-all.ensures j k lane lt)
     ∙ listed_in_eight (λ m. leaf_chain blake2s (in_lane m rows) t bytes m n) _ _ _ _ _ _ _ _
-    (c.compress_leaf.ensures ∙ ap (λ h. leaf_chain blake2s h t bytes 0 n) c.lane_words.ensures)
-    (c.compress_leaf-2.ensures ∙ ap (λ h. leaf_chain blake2s h t bytes 1 n) c.lane_words-2.ensures)
-    (c.compress_leaf-3.ensures ∙ ap (λ h. leaf_chain blake2s h t bytes 2 n) c.lane_words-3.ensures)
-    (c.compress_leaf-4.ensures ∙ ap (λ h. leaf_chain blake2s h t bytes 3 n) c.lane_words-4.ensures)
-    (c.compress_leaf-5.ensures ∙ ap (λ h. leaf_chain blake2s h t bytes 4 n) c.lane_words-5.ensures)
-    (c.compress_leaf-6.ensures ∙ ap (λ h. leaf_chain blake2s h t bytes 5 n) c.lane_words-6.ensures)
-    (c.compress_leaf-7.ensures ∙ ap (λ h. leaf_chain blake2s h t bytes 6 n) c.lane_words-7.ensures)
-    (c.compress_leaf-8.ensures ∙ ap (λ h. leaf_chain blake2s h t bytes 7 n) c.lane_words-8.ensures)
+    (c.compress_leaf.ensures ∙ ap (λ h. leaf_chain blake2s h t bytes 0 n) c.lane_rows.ensures)
+    (c.compress_leaf-2.ensures ∙ ap (λ h. leaf_chain blake2s h t bytes 1 n) c.lane_rows-2.ensures)
+    (c.compress_leaf-3.ensures ∙ ap (λ h. leaf_chain blake2s h t bytes 2 n) c.lane_rows-3.ensures)
+    (c.compress_leaf-4.ensures ∙ ap (λ h. leaf_chain blake2s h t bytes 3 n) c.lane_rows-4.ensures)
+    (c.compress_leaf-5.ensures ∙ ap (λ h. leaf_chain blake2s h t bytes 4 n) c.lane_rows-5.ensures)
+    (c.compress_leaf-6.ensures ∙ ap (λ h. leaf_chain blake2s h t bytes 5 n) c.lane_rows-6.ensures)
+    (c.compress_leaf-7.ensures ∙ ap (λ h. leaf_chain blake2s h t bytes 6 n) c.lane_rows-7.ensures)
+    (c.compress_leaf-8.ensures ∙ ap (λ h. leaf_chain blake2s h t bytes 7 n) c.lane_rows-8.ensures)
     j lane

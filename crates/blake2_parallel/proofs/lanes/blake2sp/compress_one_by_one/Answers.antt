@@ -28,15 +28,15 @@ returns c j lane =
     let long = in_eight (λ m. length (slice_index_or words m []) ≡ 8) (search rules) (search rules)
     (search rules) (search rules) (search rules) (search rules) (search rules) (search rules) j lane
     in
-    lane_is 8 j c.rows_of-all.result (slice_index_or words j []) (search rules) long
-    (λ k lt. c.rows_of-all.ensures j k lane lt)
+    lane_is 8 j c.interleave-all.result (slice_index_or words j []) (search rules) long
+    (λ k lt. c.interleave-all.ensures j k lane lt)
     ∙ listed_in_eight wanted _ _ _ _ _ _ _ _
-    (c.compress_one.ensures ∙ done 0 _ _ c.lane_words.ensures (at 0 _ (omega arith)))
-    (c.compress_one-2.ensures ∙ done 1 _ _ c.lane_words-2.ensures (at 1 _ (omega arith)))
-    (c.compress_one-3.ensures ∙ done 2 _ _ c.lane_words-3.ensures (at 2 _ (omega arith)))
-    (c.compress_one-4.ensures ∙ done 3 _ _ c.lane_words-4.ensures (at 3 _ (omega arith)))
-    (c.compress_one-5.ensures ∙ done 4 _ _ c.lane_words-5.ensures (at 4 _ (omega arith)))
-    (c.compress_one-6.ensures ∙ done 5 _ _ c.lane_words-6.ensures (at 5 _ (omega arith)))
-    (c.compress_one-7.ensures ∙ done 6 _ _ c.lane_words-7.ensures (at 6 _ (omega arith)))
-    (c.compress_one-8.ensures ∙ done 7 _ _ c.lane_words-8.ensures (at 7 _ (omega arith)))
+    (c.compress_one.ensures ∙ done 0 _ _ c.lane_rows.ensures (at 0 _ (omega arith)))
+    (c.compress_one-2.ensures ∙ done 1 _ _ c.lane_rows-2.ensures (at 1 _ (omega arith)))
+    (c.compress_one-3.ensures ∙ done 2 _ _ c.lane_rows-3.ensures (at 2 _ (omega arith)))
+    (c.compress_one-4.ensures ∙ done 3 _ _ c.lane_rows-4.ensures (at 3 _ (omega arith)))
+    (c.compress_one-5.ensures ∙ done 4 _ _ c.lane_rows-5.ensures (at 4 _ (omega arith)))
+    (c.compress_one-6.ensures ∙ done 5 _ _ c.lane_rows-6.ensures (at 5 _ (omega arith)))
+    (c.compress_one-7.ensures ∙ done 6 _ _ c.lane_rows-7.ensures (at 6 _ (omega arith)))
+    (c.compress_one-8.ensures ∙ done 7 _ _ c.lane_rows-8.ensures (at 7 _ (omega arith)))
     j lane

@@ -13,12 +13,12 @@ returns c j lane =
     (F blake2b (in_lane k c.args.rows.now) c.args.block.now c.args.count (final false)) in
     let of = λ (k : ℕ) (lt : k < 4). c.compress_each.ensures k lt in
     listed_in_four out _ _ _ _
-    (c.to_bytes.ensures ∙ ap made (c.lane_words.ensures ∙ of 0 (omega arith)
+    (c.to_bytes.ensures ∙ ap made (c.lane_rows.ensures ∙ of 0 (omega arith)
     ∙ ap (F blake2b (in_lane 0 c.args.rows.now) c.args.block.now c.args.count) last))
-    (c.to_bytes-2.ensures ∙ ap made (c.lane_words-2.ensures ∙ of 1 (omega arith)
+    (c.to_bytes-2.ensures ∙ ap made (c.lane_rows-2.ensures ∙ of 1 (omega arith)
     ∙ ap (F blake2b (in_lane 1 c.args.rows.now) c.args.block.now c.args.count) last))
-    (c.to_bytes-3.ensures ∙ ap made (c.lane_words-3.ensures ∙ of 2 (omega arith)
+    (c.to_bytes-3.ensures ∙ ap made (c.lane_rows-3.ensures ∙ of 2 (omega arith)
     ∙ ap (F blake2b (in_lane 2 c.args.rows.now) c.args.block.now c.args.count) last))
-    (c.to_bytes-4.ensures ∙ ap made (c.lane_words-4.ensures ∙ of 3 (omega arith)
+    (c.to_bytes-4.ensures ∙ ap made (c.lane_rows-4.ensures ∙ of 3 (omega arith)
     ∙ ap (F blake2b (in_lane 3 c.args.rows.now) c.args.block.now c.args.count) last))
     j lane

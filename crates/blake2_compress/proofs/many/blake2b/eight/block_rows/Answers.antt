@@ -15,8 +15,8 @@ pub returns : goal.returns
 returns c j h =
     let blocks = c.args.blocks.now in
     let long : length blocks ≡ 8 = search rules in
-    let long_a : length c.rows_from-a.result ≡ 8 = search rules in
-    let long_b : length c.rows_from-b.result ≡ 8 = search rules in
+    let long_a : length c.interleave_from-a.result ≡ 8 = search rules in
+    let long_b : length c.interleave_from-b.result ≡ 8 = search rules in
     let read = λ (k : ℕ) (d : Bor (List ℕ)) (lt : k < 8).
     ap (words_of blake2b 16) (text_at blocks k d (omega arith)) in
     let words = listed_in_eight (λ k. words_of blake2b 16 (slice_index_or (texts blocks) k []))
@@ -25,8 +25,8 @@ returns c j h =
     (c.block_words-4.ensures ∙ read 3 _ (lit< tt)) (c.block_words-5.ensures ∙ read 4 _ (lit< tt))
     (c.block_words-6.ensures ∙ read 5 _ (lit< tt)) (c.block_words-7.ensures ∙ read 6 _ (lit< tt))
     (c.block_words-8.ensures ∙ read 7 _ (lit< tt)) j h in
-    ap (in_lane j) (sixteen_read c.rows_from-a.result c.rows_from-b.result
+    ap (in_lane j) (sixteen_read c.interleave_from-a.result c.interleave_from-b.result
     _ _ _ _ _ _ _ _ _ _ _ _ _ _ _ _ long_a long_b)
     ∙ two_parts j _ _ _ long_a long_b (ap length words ∙ length-words_of blake2b 16 _)
-    (λ i lt. c.rows_from-a.ensures i j lt h) (λ i lt. c.rows_from-b.ensures i j lt h)
+    (λ i lt. c.interleave_from-a.ensures i j lt h) (λ i lt. c.interleave_from-b.ensures i j lt h)
     ∙ words

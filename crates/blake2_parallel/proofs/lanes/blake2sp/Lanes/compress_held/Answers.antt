@@ -20,7 +20,7 @@ returns-clause-went_on c =
     let stripe : 512 ≤ n = c.requires.stripe in
     WentOn-stripes blake2s _ _ 1 input input
     (omega (arith, length-append (take n p) input, size, c.requires.more))
-    (λ j lane. c.words_from-self.ensures j lane ∙ c.compress_stripes.ensures j lane
-    ∙ ap (λ h. leaf_chain blake2s h t p j 1) (c.rows_from-rows.ensures j lane)
+    (λ j lane. c.to_arrays-self.ensures j lane ∙ c.compress_stripes.ensures j lane
+    ∙ ap (λ h. leaf_chain blake2s h t p j 1) (c.to_vectors-rows.ensures j lane)
     ∙ leaf_chain-held blake2s _ t n p input j lane stripe fits)
     refl (held-rest 512 n 960 p _ input stripe fits c.padded-pending.ensures)

@@ -16,7 +16,7 @@ returns-clause-went_on c =
     let no_bytes = ap (λ (k : ℕ). take k self.pending) c.requires.none in
     let old : Leaves = record { words = λ j. in_lane j self.rows; count = t; pending = [] } in
     let new : Leaves = record {
-      words = λ j. in_lane j c.words_from-self.result;
+      words = λ j. in_lane j c.to_arrays-self.result;
       count = t + 64 * n;
       pending = [];
     } in
@@ -25,7 +25,7 @@ returns-clause-went_on c =
     (sym no_bytes))
     (WentOn-then blake2s old new _ input _ _
     (WentOn-stripes blake2s old new n input _ (omega arith)
-    (λ j lane. c.words_from-self.ensures j lane ∙ c.compress_stripes.ensures j lane
-    ∙ ap (λ h. leaf_chain blake2s h t input j n) (c.rows_from-rows.ensures j lane))
+    (λ j lane. c.to_arrays-self.ensures j lane ∙ c.compress_stripes.ensures j lane
+    ∙ ap (λ h. leaf_chain blake2s h t input j n) (c.to_vectors-rows.ensures j lane))
     (omega arith) (take_rest input (512 * n) ∙ ap (λ (k : ℕ). drop k input) places))
     (WentOn-equal blake2s _ _ _ (λ j. refl) refl no_bytes))

@@ -42,7 +42,7 @@ returns-then-n-eq0 c j lane =
     c.outputs_of-firsts.ensures j lane ∙ ap (bytes_of blake2s) (same _ _)
     ∙ end_at (leaves_of self) c.min.result j _ _ _ _ (in_lane j c.compress_first-before.result) lane
     c.min.ensures (omega (arith, length-take self.length self.pending, c.requires.within))
-    c.split_at.ensures.front c.split_at.ensures.back (c.rows_from.ensures j lane)
+    c.split_at.ensures.front c.split_at.ensures.back (c.to_vectors.ensures j lane)
     (c.compress_first-before.ensures j lane)
     (λ some. absurd (omega (arith, some, c.if-n-eq0.true)))
 
@@ -53,7 +53,7 @@ returns c j lane =
     picked _ _ _ _ _ (c.outputs_of-lasts.ensures m lt) (c.outputs_of-firsts.ensures m lt)
     ∙ end_at (leaves_of self) c.min.result m _ _ _ _ (in_lane m c.compress_second-after.result) lt
     c.min.ensures (omega (arith, length-take self.length self.pending, c.requires.within))
-    c.split_at.ensures.front c.split_at.ensures.back (c.rows_from.ensures m lt)
+    c.split_at.ensures.front c.split_at.ensures.back (c.to_vectors.ensures m lt)
     (c.compress_first-before.ensures m lt) (c.compress_second-after.ensures m lt) in
     listed_in_eight (leaf_future blake2s (leaves_of self) []) _ _ _ _ _ _ _ _
     (c.output.ensures ∙ at 0 (omega arith)) (c.output-2.ensures ∙ at 1 (omega arith))

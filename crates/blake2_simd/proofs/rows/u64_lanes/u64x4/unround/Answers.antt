@@ -9,7 +9,7 @@ pub returns-clause-undoes : goal.returns-clause-undoes
 unfolding round
 returns-clause-undoes c =
     rw (
-      c.rows_of.ensures.rows,
+      c.to_rows.ensures.rows,
       c.unmix-8.ensures,
       c.unmix-7.ensures,
       c.unmix-6.ensures,
@@ -23,6 +23,6 @@ returns-clause-undoes c =
 pub returns-clause-only : goal.returns-clause-only
 returns-clause-only c u words long same =
     let m : (i : ℕ) → Fits w64 (get_or c.args.m.now i 0) = search rules in
-    round_injective blake2b u (sixteen c.rows_of.result) c.args.m.now c.args.s.now words
-    c.rows_of.ensures.are_words (λ i. (m i).fits) long refl
+    round_injective blake2b u (sixteen c.to_rows.result) c.args.m.now c.args.s.now words
+    c.to_rows.ensures.are_words (λ i. (m i).fits) long refl
     (same ∙ sym (returns-clause-undoes c))

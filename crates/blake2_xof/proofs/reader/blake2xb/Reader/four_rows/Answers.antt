@@ -18,5 +18,5 @@ returns c j lane =
     (c.to_words-2.ensures ∙ c.start-2.ensures)
     (c.to_words-3.ensures ∙ c.start-3.ensures)
     (c.to_words-4.ensures ∙ c.start-4.ensures) j lane in
-    lane_is 8 j c.rows_of.result _ (search rules) (ap length words ∙ length-start blake2b _)
-    (λ k lt. c.rows_of.ensures j k lane lt) ∙ words
+    lane_is 8 j c.interleave.result _ (search rules) (ap length words ∙ length-start blake2b _)
+    (λ k lt. c.interleave.ensures j k lane lt) ∙ words

@@ -22,5 +22,5 @@ returns c j lane =
     (c.to_words-6.ensures ∙ c.start-6.ensures)
     (c.to_words-7.ensures ∙ c.start-7.ensures)
     (c.to_words-8.ensures ∙ c.start-8.ensures) j lane in
-    lane_is 8 j c.rows_of.result _ (search rules) (ap length words ∙ length-start blake2s _)
-    (λ k lt. c.rows_of.ensures j k lane lt) ∙ words
+    lane_is 8 j c.interleave.result _ (search rules) (ap length words ∙ length-start blake2s _)
+    (λ k lt. c.interleave.ensures j k lane lt) ∙ words

@@ -1,6 +1,6 @@
 use Rattle.std.proofs.Common.{◌≡◌, [], slice_index, slice_index_or}
 use Rattle.blake2_compress.proofs.ManyMessages.{eight_of}
-use Rattle.blake2_compress.proofs.many.blake2b.rows_of.Goals as goal
+use Rattle.blake2_compress.proofs.many.blake2b.eight.interleave.Goals as goal
 
 pub returns : goal.returns
 returns c j k h lt =

@@ -4,7 +4,7 @@ use Rattle.blake2_simd.specs.Lanes.{in_lane}
 use Rattle.blake2_simd.specs.Rows.{four}
 use Rattle.blake2_simd.proofs.Columns.{eight_read}
 use Rattle.blake2_simd.proofs.Lanes.{in_four}
-use Rattle.blake2_parallel.proofs.lanes.blake2bp.words_from.Goals as goal
+use Rattle.blake2_parallel.proofs.lanes.blake2bp.to_arrays.Goals as goal
 
 -- The lanes of eight rows that are read word by word.
 words_read : (rows : List (List ℕ)) (a0 a1 a2 a3 a4 a5 a6 a7 d0 d1 d2 d3 d4 d5 d6 d7 : List ℕ)

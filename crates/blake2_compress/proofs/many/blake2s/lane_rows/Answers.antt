@@ -1,7 +1,7 @@
 use Rattle.std.proofs.Common.{◌≡◌, ℕ, List, [], length, slice_index_or, sym, ap, ◌∙◌, arith, rules}
 use Rattle.std.proofs.lemmas.List.{get_or_default}
 use Rattle.blake2_compress.proofs.Lanes.{lane_is}
-use Rattle.blake2_compress.proofs.many.blake2s.lane_words.Goals as goal
+use Rattle.blake2_compress.proofs.many.blake2s.lane_rows.Goals as goal
 
 pub returns : goal.returns
 returns c =

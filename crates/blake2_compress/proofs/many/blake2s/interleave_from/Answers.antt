@@ -1,8 +1,9 @@
+-- Made by tools/twins.py from proofs/many/blake2b/eight/interleave_from/Answers.antt.
 use Rattle.std.proofs.Common.{◌≡◌, ◌+◌, ℕ, List, [], ◌∷◌, length, ap, ◌∙◌, arith, rules}
 use Rattle.blake2_simd.specs.Lanes.{in_lane}
 use Rattle.blake2_simd.proofs.Columns.{eight_read}
 use Rattle.blake2_compress.proofs.ManyMessages.{word_in_lane}
-use Rattle.blake2_compress.proofs.many.blake2b.eight.rows_from.Goals as goal
+use Rattle.blake2_compress.proofs.many.blake2s.interleave_from.Goals as goal
 
 pub returns : goal.returns
 returns c i j low h =

@@ -2,7 +2,7 @@ use Rattle.std.proofs.Common.{◌≡◌, ◌+◌, ℕ, List, [], ◌∷◌, leng
 use Rattle.blake2_simd.specs.Lanes.{in_lane}
 use Rattle.blake2_simd.proofs.Columns.{four_read}
 use Rattle.blake2_compress.proofs.ManyMessages.{word_in_lane}
-use Rattle.blake2_compress.proofs.many.blake2b.rows_from.Goals as goal
+use Rattle.blake2_compress.proofs.many.blake2b.interleave_from.Goals as goal
 
 pub returns : goal.returns
 returns c i j low h =

@@ -1,7 +1,7 @@
 use Rattle.std.proofs.Common.{◌≡◌, ℕ, List, [], ◌∷◌, length, append-nil, ap, ◌∙◌, rules}
 use Rattle.blake2_simd.specs.Lanes.{in_lane}
 use Rattle.blake2_simd.proofs.Columns.{eight_read}
-use Rattle.blake2_parallel.proofs.lanes.blake2sp.words_from.Goals as goal
+use Rattle.blake2_parallel.proofs.lanes.blake2sp.to_arrays.Goals as goal
 
 pub returns : goal.returns
 returns c j lane =

@@ -3,7 +3,7 @@ use Rattle.std.proofs.Common.{arith, rules}
 use Rattle.std.proofs.lemmas.List.{get_or_default}
 use Rattle.blake2_simd.specs.Rows.{eight}
 use Rattle.blake2_compress.proofs.Lanes.{two_columns}
-use Rattle.blake2_compress.proofs.many.blake2b.lane_words.Goals as goal
+use Rattle.blake2_compress.proofs.many.blake2b.lane_rows.Goals as goal
 
 pub returns : goal.returns
 returns c =

@@ -2,7 +2,7 @@ use Rattle.std.proofs.Common.{ℕ, sym, subst, arith, rules, get_or, Fits, w64}
 use Rattle.blake2_simd.specs.Family.{blake2b}
 use Rattle.blake2_simd.specs.Round.{AreWords}
 use Rattle.blake2_simd.proofs.Words.{cells-drop}
-use Rattle.blake2_simd.proofs.rows.u64_lanes.u64x4.rows_of.Goals as goal
+use Rattle.blake2_simd.proofs.rows.u64_lanes.u64x4.to_rows.Goals as goal
 
 pub returns-clause-rows : goal.returns-clause-rows
 returns-clause-rows c =

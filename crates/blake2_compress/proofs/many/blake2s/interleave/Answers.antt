@@ -1,7 +1,7 @@
--- Made by tools/twins.py from proofs/many/blake2b/eight/rows_of/Answers.antt.
+-- Made by tools/twins.py from proofs/many/blake2b/eight/interleave/Answers.antt.
 use Rattle.std.proofs.Common.{◌≡◌, [], slice_index, slice_index_or}
 use Rattle.blake2_compress.proofs.ManyMessages.{eight_of}
-use Rattle.blake2_compress.proofs.many.blake2s.rows_of.Goals as goal
+use Rattle.blake2_compress.proofs.many.blake2s.interleave.Goals as goal
 
 pub returns : goal.returns
 returns c j k h lt =
