@@ -136,10 +136,10 @@ pub extern "C" fn vulfsjor_ffi_tree_plan(
 }
 
 /// Writes the plan of an update of the state with `length` bytes. The state absorbs the first
-/// `start` bytes of the plan. Then `vulfsjor_ffi_tree_leaves_ahead` writes the digests of each part,
-/// whose `first` is its `skip`. Then `vulfsjor_ffi_tree_update_leaves` absorbs the digests of all
-/// parts and the `rest_length` bytes after them. Returns 0, or -1 if the state is not ready, its
-/// count would reach 2^58, or the threads or the least bytes of the limits are 0; the plan then
+/// `start` bytes of the plan. Then `vulfsjor_ffi_tree_leaves_ahead` writes the digests of each
+/// part, whose `first` is its `skip`. Then `vulfsjor_ffi_tree_update_leaves` absorbs the digests of
+/// all parts and the `rest_length` bytes after them. Returns 0, or -1 if the state is not ready,
+/// its count would reach 2^58, or the threads or the least bytes of the limits are 0; the plan then
 /// stays as it is.
 #[unsafe(no_mangle)]
 pub extern "C" fn vulfsjor_ffi_tree_plan_update(
