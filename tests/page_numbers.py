@@ -69,7 +69,8 @@ def of_families():
     (out_b, out_s), (key_b, key_s), (salt_b, salt_s), (block_b, block_s) = (
         family_numbers("blake2_simd", "Family", name)
         for name in ("output_bytes", "key_bytes", "salt_bytes", "block_bytes"))
-    leaf = int(find(r"nat_lt n \(2 \^ ([0-9]+)\)", definition("b2_commands", "Words", "some_leaf"), "some_leaf"))
+    some_leaf = definition("b2_commands", "ArgumentTasks", "some_leaf")
+    leaf = int(find(r"nat_lt n \(2 \^ ([0-9]+)\)", some_leaf, "some_leaf"))
     peer = find(r'startswith\("b2sum \(GNU coreutils\) ([0-9.]+)', read("tests/compare_coreutils.py"),
                 "tests/compare_coreutils.py")
     longest = int(find(r"char path\[([0-9]+)\]", read("c/b2sum.c"), "c/b2sum.c")) - 1

@@ -137,7 +137,7 @@ def program_rows():
     """The rows that have the KINDs and the errors."""
     for name, of_b, of_s in (("kind_of", "all except `xof`", "all except `tree` and `xof`"),
                              ("compared_kind_of", "`witness`", "`witness`")):
-        cases = definition("b2_commands", "Words", name)
+        cases = definition("b2_commands", "ArgumentTasks", name)
         for word, family, size in re.findall(r'codes "(\w+)"\) then Ok \(blake2([bs])_of ([0-9]+)\)', cases):
             yield f"| `{word}` | BLAKE2{family} | {size} | {of_b if family == 'b' else of_s} |"
     texts, status, lines = (
@@ -172,7 +172,7 @@ def node_words():
     yield f"with the key's block, of 2^{limit} or more"
     digits = command("Scripts", "slot_value", r"number_value ([0-9]+) digits")
     yield f"1 to {digits} decimal digits with no leading zero"
-    leaf = command("Words", "some_leaf", r"nat_lt n \(2 \^ ([0-9]+)\)")
+    leaf = command("ArgumentTasks", "some_leaf", r"nat_lt n \(2 \^ ([0-9]+)\)")
     yield f"a decimal number of 1 to {2 ** int(leaf) - 1}"
     yield f"a leaf length L of 1 to 2^{leaf} - 1"
 

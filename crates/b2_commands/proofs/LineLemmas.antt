@@ -4,7 +4,7 @@ use Rattle.std.proofs.Common.{sym, ap, ◌∙◌}
 use Rattle.blake2_replay.specs.declared.calls.Call.{Call}
 use Rattle.b2_commands.specs.declared.fault.Fault.{Fault}
 use Rattle.b2_commands.specs.Scripts.{call_at, calls_from}
-use Rattle.b2_commands.specs.Words.{and_then}
+use Rattle.b2_commands.specs.ArgumentTasks.{and_then}
 
 -- Calls, followed by those of later lines.
 abbrev pub behind : List Call → Result (List Call) Fault → Result (List Call) Fault

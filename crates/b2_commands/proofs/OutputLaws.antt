@@ -4,15 +4,15 @@ use Rattle.std.proofs.Common.{◌+◌, ◌^◌, refl, sym, ap, ◌∙◌, subst,
 use Rattle.std.specs.Prelude.{◌↔◌, IfSome, IsOkUnless, OnOk, unwrap_or}
 use Rattle.std.specs.Io.KnownBytes.{Appends}
 use Rattle.blake2.specs.Family.{Family}
-use Rattle.blake2.specs.Keys.{key_count, IsRefused}
+use Rattle.blake2.specs.MacArguments.{key_count, IsRefused}
 use Rattle.blake2.specs.Streams.{line_of}
 use Rattle.blake2_digest.specs.States.{Fresh, Meaning, Updated, digest_now}
-use Rattle.blake2_state.specs.Arguments.{given_count}
+use Rattle.blake2_state.specs.ConstructorArguments.{given_count}
 use Rattle.blake2_xof.specs.Xof.{Admits, IsKnown, Settings, outputs, settings, unknown_length, xof}
-use Rattle.blake2_xof.proofs.Outputs.{whole_output}
+use Rattle.blake2_xof.proofs.KnownOutputs.{whole_output}
 use Rattle.b2_commands.specs.declared.fault.Fault.{Fault}
 use Rattle.b2_commands.specs.declared.fault.Fault.TheVariants.{WriteFailed}
-use Rattle.b2_commands.specs.Ends.{EndsBy}
+use Rattle.b2_commands.specs.TaskEnds.{EndsBy}
 
 -- A key of no bytes is refused.
 pub empty_refused : (f : Family) (salt persona : List ℕ) → IsRefused f (Some []) salt persona

@@ -14,8 +14,8 @@ use Rattle.blake2_replay.specs.declared.calls.ReplayFault.TheVariants.{NoSuchSlo
 use Rattle.blake2.specs.Streams.{line_of}
 use Rattle.b2_commands.specs.declared.fault.Fault.{Fault}
 use Rattle.b2_commands.specs.declared.fault.Fault.TheVariants.{WriteFailed}
-use Rattle.b2_commands.specs.Ends.{EndsByDigests}
-use Rattle.b2_commands.specs.Reading.{unplaced}
+use Rattle.b2_commands.specs.TaskEnds.{EndsByDigests}
+use Rattle.b2_commands.specs.ReadScripts.{unplaced}
 use Rattle.b2_commands.specs.Scripts.{fault_of_calls, script_calls, script_digests}
 
 -- A call does the same whatever the address of its bytes.

@@ -5,10 +5,10 @@ use Rattle.std.proofs.lemmas.Grind.{common_steps}
 use Rattle.std.specs.Prelude.{◌≢◌, IfErr, IsOkAnd, IsTrue, OnOk}
 use Rattle.std.specs.Io.KnownBytes.{Appends}
 use Rattle.b2_commands.specs.declared.fault.Fault.{Fault}
-use Rattle.b2_commands.specs.Words.{Task, task_of}
+use Rattle.b2_commands.specs.ArgumentTasks.{Task, task_of}
 use Rattle.b2_commands.specs.Tasks.{IsDone}
 use Rattle.b2_commands.specs.Faults.{IsTold, status_of, fault_line}
-use Rattle.b2_commands.specs.Ends.{EndsTask}
+use Rattle.b2_commands.specs.TaskEnds.{EndsTask}
 
 -- A status other than 0, if no write failed: the line of the task's error is printed.
 pub told_by : (words : List (List ℕ)) (task : Task) (end : Result (Unit {0}) Fault)

@@ -9,8 +9,8 @@ use Rattle.b2_commands.specs.declared.fault.Fault.TheVariants.{WrongWords, Wrong
 use Rattle.b2_commands.specs.declared.fault.Fault.TheVariants.{WrongLine}
 use Rattle.b2_commands.specs.declared.fault.Fault.TheVariants.{NoSuchSlot, LineTooLong, TooLong}
 use Rattle.b2_commands.specs.declared.fault.Fault.TheVariants.{ReadFailed, NoMemory, WriteFailed}
-use Rattle.b2_commands.specs.Words.{and_then, Given, nothing_given, with_word, with_words}
-use Rattle.b2_commands.specs.Words.{IsReadingFault}
+use Rattle.b2_commands.specs.ArgumentTasks.{and_then, Given, nothing_given, with_word, with_words}
+use Rattle.b2_commands.specs.ArgumentTasks.{IsReadingFault}
 
 -- The first arguments, and then the others.
 with_words-append : (key : Bool) (given : Given) (xs ys : List (List ℕ))

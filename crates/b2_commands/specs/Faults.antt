@@ -10,7 +10,7 @@ use Rattle.b2_commands.specs.declared.fault.Fault.TheVariants.{ReadFailed, NoMem
 use Rattle.blake2_streams.specs.declared.stream.StreamFault.{StreamFault}
 use Rattle.blake2_streams.specs.declared.stream.StreamFault.TheVariants.{Read, Write}
 use Rattle.blake2_streams.specs.declared.stream.StreamFault.TheVariants.{TooLong as StreamTooLong}
-use Rattle.b2_commands.specs.Words.{Task, task_of, IsReadingFault}
+use Rattle.b2_commands.specs.ArgumentTasks.{Task, task_of, IsReadingFault}
 use Rattle.b2_commands.specs.Tasks.{IsRefusedInput, IsRefusedTask, IsTooLongFor, IsFaultOfScript}
 use Rattle.b2_commands.specs.Tasks.{TakesMemory}
 

@@ -8,7 +8,7 @@ use Rattle.b2_commands.specs.declared.arguments.Blake2bKind.TheVariants.{B128, B
 use Rattle.b2_commands.specs.declared.arguments.Blake2sKind.TheVariants.{S128, S256}
 use Rattle.b2_commands.specs.declared.arguments.Kind.{Kind as KindNamed}
 use Rattle.b2_commands.specs.declared.arguments.Kind.TheVariants.{Blake2b, Blake2s}
-use Rattle.b2_commands.specs.Words.{Kind, blake2b_of, blake2s_of}
+use Rattle.b2_commands.specs.ArgumentTasks.{Kind, blake2b_of, blake2s_of}
 
 -- The kind of BLAKE2b that the program has read.
 abbrev pub blake2b_value : Blake2bKind → Kind

@@ -16,8 +16,8 @@ use Rattle.blake2_replay.specs.declared.calls.ReplayFault.TheVariants.{TooLong a
 use Rattle.b2_commands.specs.declared.fault.Fault.{Fault}
 use Rattle.b2_commands.specs.declared.fault.Fault.TheVariants.{WrongLine, NoSuchSlot, LineTooLong}
 use Rattle.b2_commands.specs.declared.fault.Fault.TheVariants.{NoMemory}
-use Rattle.b2_commands.specs.Numbers.{number_value}
-use Rattle.b2_commands.specs.Words.{and_then, message_value}
+use Rattle.b2_commands.specs.DecimalNumbers.{number_value}
+use Rattle.b2_commands.specs.ArgumentTasks.{and_then, message_value}
 
 -- The slot that a field names: 1 to 9 decimal digits with no leading zero.
 abbrev pub slot_value : List ℕ → Option ℕ

@@ -5,19 +5,19 @@ use Rattle.std.specs.List.{flat_map}
 use Rattle.std.specs.Io.KnownBytes.{Appends}
 use Rattle.blake2.specs.Family.{Family, blake2b}
 use Rattle.blake2.specs.Hash.{Input, sequential}
-use Rattle.blake2.specs.Keys.{key_count, IsRefused}
+use Rattle.blake2.specs.MacArguments.{key_count, IsRefused}
 use Rattle.blake2.specs.States.{digest_of, node_digest_of, input as input_of_parts}
 use Rattle.blake2.specs.Streams.{line_of}
 use Rattle.blake2_tree.specs.TreeRoot.{tree_parameters, tree_root}
 use Rattle.blake2_xof.specs.Xof.{derived, settings, xof}
 use Rattle.b2_commands.specs.declared.fault.Fault.{Fault}
 use Rattle.b2_commands.specs.declared.help.TheConstants.{HELP, VERSION}
-use Rattle.b2_commands.specs.Words.{Given, nothing_given, Task}
-use Rattle.b2_commands.specs.Words.Task.{to_sum, to_script, to_steps, to_witness, to_tree}
-use Rattle.b2_commands.specs.Words.Task.{to_xof, to_derive, to_help, to_version}
-use Rattle.b2_commands.specs.Lines.{transcript_lines}
+use Rattle.b2_commands.specs.ArgumentTasks.{Given, nothing_given, Task}
+use Rattle.b2_commands.specs.ArgumentTasks.Task.{to_sum, to_script, to_steps, to_witness, to_tree}
+use Rattle.b2_commands.specs.ArgumentTasks.Task.{to_xof, to_derive, to_help, to_version}
+use Rattle.b2_commands.specs.PrintedLines.{transcript_lines}
 use Rattle.b2_commands.specs.Scripts.{script_digests}
-use Rattle.b2_commands.specs.Witnesses.{PrintsWitness}
+use Rattle.b2_commands.specs.PrintedWitnesses.{PrintsWitness}
 
 -- A key, a salt or a personalization is given that has a length that the family does not accept.
 abbrev pub IsRefusedBy : Family → Given → Type 0

@@ -4,7 +4,7 @@ ghost use Rattle.std.specs.Prelude.{◌≡◌, ◌≢◌, ◌<◌, ◌↔◌, []
 ghost use Rattle.std.specs.Prelude.{IfOk, IfErr, OnOk, IsOkUnless};
 ghost use Rattle.std.specs.String.{string_bytes};
 ghost use Rattle.blake2.specs.Views.{key_of};
-ghost use Rattle.b2_commands.specs.Words.{hex_value, message_value, IsReadingFault};
+ghost use Rattle.b2_commands.specs.ArgumentTasks.{hex_value, message_value, IsReadingFault};
 
 use crate::fault::Fault;
 use hex::FromHexError;
@@ -38,7 +38,7 @@ pub(crate) enum Kind {
 }
 
 impl Kind {
-    ghost use Rattle.b2_commands.specs.Words.{kind_of};
+    ghost use Rattle.b2_commands.specs.ArgumentTasks.{kind_of};
     ghost use Rattle.b2_commands.specs.Kinds.{kind_value};
 
     /// Returns the kind of this name. The error is `Fault::WrongWords`, if there is no such kind.
@@ -68,8 +68,9 @@ pub(crate) struct Options {
 }
 
 impl Options {
-    ghost use Rattle.b2_commands.specs.Options.{given_of};
-    ghost use Rattle.b2_commands.specs.Words.{nothing_given, with_word, with_words, IsReadingFault};
+    ghost use Rattle.b2_commands.specs.ReadOptions.{given_of};
+    ghost use Rattle.b2_commands.specs.ArgumentTasks.{nothing_given, with_word, with_words};
+    ghost use Rattle.b2_commands.specs.ArgumentTasks.{IsReadingFault};
 
     /// Reads the arguments NAME=HEX from left to right, and returns their bytes. The names are
     /// `salt`, `persona` and, if `takes_key` is true, `key`. `persona-text=TEXT` is a persona of

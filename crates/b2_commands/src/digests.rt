@@ -4,13 +4,13 @@ ghost use Rattle.std.specs.Prelude.{◌≡◌, ◌≤◌, ◌↔◌, false, IfOk
 ghost use Rattle.blake2.specs.States.{Fresh};
 ghost use Rattle.blake2.specs.Family.{blake2b, blake2s};
 ghost use Rattle.blake2.specs.Hashers.{blake2b_mac_meaning, blake2s_mac_meaning};
-ghost use Rattle.blake2.specs.Keys.{key_count};
-ghost use Rattle.b2_commands.specs.Options.{given_of};
+ghost use Rattle.blake2.specs.MacArguments.{key_count};
+ghost use Rattle.b2_commands.specs.ReadOptions.{given_of};
 ghost use Rattle.b2_commands.specs.Tasks.{node_digest_with, IsRefusedBy};
-ghost use Rattle.b2_commands.specs.Ends.{EndsTask};
+ghost use Rattle.b2_commands.specs.TaskEnds.{EndsTask};
 ghost use Rattle.b2_commands.specs.Kinds.{kind_value};
-ghost use Rattle.b2_commands.specs.Parsed.{output_task};
-ghost use Rattle.b2_commands.specs.Words.{blake2b_of, blake2s_of};
+ghost use Rattle.b2_commands.specs.ReadTasks.{output_task};
+ghost use Rattle.b2_commands.specs.ArgumentTasks.{blake2b_of, blake2s_of};
 
 use crate::arguments::{Blake2bKind, Blake2sKind, Kind, Options};
 use crate::fault::Fault;

@@ -6,7 +6,7 @@ ghost use Rattle.std.specs.Io.KnownBytes.{Appends};
 ghost use Rattle.std.specs.Result.{IsErrOf};
 ghost use Rattle.std.specs.String.{string_bytes};
 ghost use Rattle.b2_commands.specs.Advice.{advice};
-ghost use Rattle.b2_commands.specs.Words.{task_of};
+ghost use Rattle.b2_commands.specs.ArgumentTasks.{task_of};
 ghost use Rattle.b2_commands.specs.Tasks.{IsDone};
 ghost use Rattle.b2_commands.specs.Faults.{IsTold, status_of, fault_line};
 

@@ -4,7 +4,7 @@ ghost use Rattle.std.specs.Prelude.{◌≡◌, ◌≤◌, length, if◌then◌el
 ghost use Rattle.std.specs.Char.{is_ascii_digit};
 ghost use Rattle.std.specs.List.{list_all};
 ghost use Rattle.std.specs.Str.Parse.{digits_value};
-ghost use Rattle.b2_commands.specs.Numbers.{number_value};
+ghost use Rattle.b2_commands.specs.DecimalNumbers.{number_value};
 
 /// Returns the number that 1 to `most` decimal digits write, without a leading zero except in `0`
 /// itself, or `None` if `digits` is anything else. `most` is at most 10.

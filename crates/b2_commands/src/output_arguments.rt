@@ -5,7 +5,7 @@ ghost use Rattle.std.specs.String.{string_bytes};
 ghost use Rattle.blake2.specs.Family.{blake2b};
 ghost use Rattle.blake2_xof.specs.Xof.{unknown_length};
 ghost use Rattle.b2_commands.specs.Kinds.{family_value};
-ghost use Rattle.b2_commands.specs.Words.{length_value, output_family_of, IsReadingFault};
+ghost use Rattle.b2_commands.specs.ArgumentTasks.{length_value, output_family_of, IsReadingFault};
 
 use crate::arguments::{Options, copy_of};
 use crate::fault::Fault;
@@ -24,8 +24,8 @@ pub(crate) struct Extended {
 }
 
 impl Extended {
-    ghost use Rattle.b2_commands.specs.Parsed.{extended_task};
-    ghost use Rattle.b2_commands.specs.Words.{xof_task};
+    ghost use Rattle.b2_commands.specs.ReadTasks.{extended_task};
+    ghost use Rattle.b2_commands.specs.ArgumentTasks.{xof_task};
 
     /// Reads the arguments KIND LENGTH [key=HEX] [salt=HEX] [persona=HEX] from left to right, and
     /// returns the output. The error is a `Fault`, that of the first bad argument: `WrongWords` if
@@ -65,8 +65,8 @@ pub(crate) struct Derivation {
 }
 
 impl Derivation {
-    ghost use Rattle.b2_commands.specs.Parsed.{derivation_task};
-    ghost use Rattle.b2_commands.specs.Words.{derive_task};
+    ghost use Rattle.b2_commands.specs.ReadTasks.{derivation_task};
+    ghost use Rattle.b2_commands.specs.ArgumentTasks.{derive_task};
 
     /// Reads the arguments LENGTH CONTEXT from left to right, and returns the derivation. The error
     /// is a `Fault`: `WrongWords` if an argument is missing or is not expected, or the first is not

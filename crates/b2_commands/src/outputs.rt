@@ -6,8 +6,8 @@ ghost use Rattle.std.specs.Result.{IsErrOf};
 ghost use Rattle.blake2.specs.Family.{blake2b};
 ghost use Rattle.blake2.specs.Streams.{line_of};
 ghost use Rattle.blake2_xof.specs.Xof.{derived, unknown_length};
-ghost use Rattle.b2_commands.specs.Ends.{EndsTask};
-ghost use Rattle.b2_commands.specs.Parsed.{derivation_task, extended_task};
+ghost use Rattle.b2_commands.specs.TaskEnds.{EndsTask};
+ghost use Rattle.b2_commands.specs.ReadTasks.{derivation_task, extended_task};
 
 mod blake2xb;
 mod blake2xs;

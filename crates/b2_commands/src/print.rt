@@ -7,7 +7,8 @@ ghost use Rattle.std.specs.Io.KnownBytes.{Appends};
 ghost use Rattle.hex.specs.Hex.{encode_lower};
 ghost use Rattle.blake2.specs.Family.{blake2b, blake2s};
 ghost use Rattle.blake2.specs.Streams.{line_of};
-ghost use Rattle.b2_commands.specs.Lines.{bytes_field, word_fields, number_field, flag_field};
+ghost use Rattle.b2_commands.specs.PrintedLines.{bytes_field, word_fields, number_field};
+ghost use Rattle.b2_commands.specs.PrintedLines.{flag_field};
 
 use crate::fault::Fault;
 use blake2::streams::{Sink, write_whole};

@@ -7,9 +7,9 @@ ghost use Rattle.std.specs.Result.{IsErrOf};
 ghost use Rattle.std.specs.Io.KnownBytes.{Appends};
 ghost use Rattle.blake2.specs.States.{Fresh};
 ghost use Rattle.blake2.specs.Streams.{line_of};
-ghost use Rattle.b2_commands.specs.Reading.{IsPlaced};
+ghost use Rattle.b2_commands.specs.ReadScripts.{IsPlaced};
 ghost use Rattle.b2_commands.specs.Scripts.{fault_of_calls, script_digests};
-ghost use Rattle.b2_commands.specs.Ends.{EndsByDigests};
+ghost use Rattle.b2_commands.specs.TaskEnds.{EndsByDigests};
 
 use crate::fault::Fault;
 use crate::input::read_all;

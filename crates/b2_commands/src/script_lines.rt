@@ -3,7 +3,7 @@
 ghost use Rattle.std.specs.Prelude.{◌≡◌, map, IfOk, IfErr, ok_or};
 ghost use Rattle.b2_commands.specs.declared.fault.Fault.TheVariants.{WrongLine};
 ghost use Rattle.b2_commands.specs.Scripts.{slot_value, call_at, script_calls, update_fields};
-ghost use Rattle.b2_commands.specs.Reading.{call_value, unplaced, IsLineFault};
+ghost use Rattle.b2_commands.specs.ReadScripts.{call_value, unplaced, IsLineFault};
 
 use crate::arguments::message_of;
 use crate::fault::Fault;

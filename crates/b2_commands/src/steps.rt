@@ -5,14 +5,14 @@ ghost use Rattle.std.specs.List.{flat_map};
 ghost use Rattle.std.specs.Result.{IsErrOf};
 ghost use Rattle.std.specs.Io.KnownBytes.{Appends};
 ghost use Rattle.blake2.specs.Family.{blake2b, blake2s};
-ghost use Rattle.blake2.specs.Keys.{key_count};
+ghost use Rattle.blake2.specs.MacArguments.{key_count};
 ghost use Rattle.blake2.specs.Views.{input_of, key_of};
 ghost use Rattle.blake2.specs.StepViews.{entry_of, entries_of};
-ghost use Rattle.b2_commands.specs.Options.{given_of};
+ghost use Rattle.b2_commands.specs.ReadOptions.{given_of};
 ghost use Rattle.b2_commands.specs.Tasks.{input_with, IsRefusedBy};
-ghost use Rattle.b2_commands.specs.Ends.{EndsBy};
+ghost use Rattle.b2_commands.specs.TaskEnds.{EndsBy};
 ghost use Rattle.b2_commands.specs.Inputs.{IsKeyOfBytes, IsOfBytes};
-ghost use Rattle.b2_commands.specs.Lines.{entry_line, words_line, transcript_lines};
+ghost use Rattle.b2_commands.specs.PrintedLines.{entry_line, words_line, transcript_lines};
 
 use crate::arguments::Options;
 use crate::fault::Fault;

@@ -2,7 +2,7 @@
 
 ghost use Rattle.std.specs.Prelude.{◌≡◌, ◌≢◌, ◌<◌, ◌≤◌, length, map, IfOk, IfErr};
 ghost use Rattle.std.specs.String.{string_bytes};
-ghost use Rattle.b2_commands.specs.Words.{task_of, IsReadingFault};
+ghost use Rattle.b2_commands.specs.ArgumentTasks.{task_of, IsReadingFault};
 
 use crate::arguments::{Blake2bKind, Kind, Options};
 use crate::fault::Fault;
@@ -51,8 +51,8 @@ pub(crate) enum Task {
 }
 
 impl Task {
-    ghost use Rattle.b2_commands.specs.Parsed.{output_task, task_value};
-    ghost use Rattle.b2_commands.specs.Words.{given_task, only};
+    ghost use Rattle.b2_commands.specs.ReadTasks.{output_task, task_value};
+    ghost use Rattle.b2_commands.specs.ArgumentTasks.{given_task, only};
 
     /// Reads the arguments from left to right, the command, its KIND and then the rest, and
     /// returns the task. The error is a `Fault`, that of the first bad argument: `WrongWords` if
@@ -105,8 +105,8 @@ impl Task {
 }
 
 impl Root {
-    ghost use Rattle.b2_commands.specs.Parsed.{root_task};
-    ghost use Rattle.b2_commands.specs.Words.{tree_task, leaf_value};
+    ghost use Rattle.b2_commands.specs.ReadTasks.{root_task};
+    ghost use Rattle.b2_commands.specs.ArgumentTasks.{tree_task, leaf_value};
 
     // Reads the arguments KIND LEAF [salt=HEX] [persona=HEX] from left to right, and returns the
     // root. KIND must be one of BLAKE2b. The errors are those of `Task::from_words`.

@@ -8,9 +8,9 @@ ghost use Rattle.blake2.specs.Streams.{line_of};
 ghost use Rattle.blake2_tree.specs.TreeHashers.{count, Took};
 ghost use Rattle.b2_commands.specs.declared.fault.Fault.TheVariants.{ReadFailed, TooLong};
 ghost use Rattle.b2_commands.specs.declared.fault.Fault.TheVariants.{WriteFailed};
-ghost use Rattle.b2_commands.specs.Ends.{EndsTask};
-ghost use Rattle.b2_commands.specs.Options.{given_of};
-ghost use Rattle.b2_commands.specs.Parsed.{root_task};
+ghost use Rattle.b2_commands.specs.TaskEnds.{EndsTask};
+ghost use Rattle.b2_commands.specs.ReadOptions.{given_of};
+ghost use Rattle.b2_commands.specs.ReadTasks.{root_task};
 ghost use Rattle.b2_commands.specs.Tasks.{IsRefusedByTree, root_with};
 ghost use Rattle.b2_commands.specs.TreeFaults.{IsFaultOfTree};
 

@@ -8,12 +8,12 @@ ghost use Rattle.blake2.specs.Family.{Family as AnyFamily, blake2b, blake2s};
 ghost use Rattle.blake2.specs.Inputs.{Accepts};
 ghost use Rattle.blake2.specs.Views.{input_of};
 ghost use Rattle.blake2.specs.StepViews.{step_of};
-ghost use Rattle.b2_commands.specs.Words.{nothing_given};
+ghost use Rattle.b2_commands.specs.ArgumentTasks.{nothing_given};
 ghost use Rattle.b2_commands.specs.Tasks.{input_with};
-ghost use Rattle.b2_commands.specs.Ends.{EndsTask};
-ghost use Rattle.b2_commands.specs.Lines.{step_line};
-ghost use Rattle.b2_commands.specs.Parsed.{comparison_task};
-ghost use Rattle.b2_commands.specs.Witnesses.{PrintsWitness};
+ghost use Rattle.b2_commands.specs.TaskEnds.{EndsTask};
+ghost use Rattle.b2_commands.specs.PrintedLines.{step_line};
+ghost use Rattle.b2_commands.specs.ReadTasks.{comparison_task};
+ghost use Rattle.b2_commands.specs.PrintedWitnesses.{PrintsWitness};
 
 use crate::fault::Fault;
 use crate::print::Line;

@@ -28,8 +28,8 @@ pub(crate) struct Compared {
 }
 
 impl Compared {
-    ghost use Rattle.b2_commands.specs.Parsed.{compared_value};
-    ghost use Rattle.b2_commands.specs.Words.{compared_kind_of};
+    ghost use Rattle.b2_commands.specs.ReadTasks.{compared_value};
+    ghost use Rattle.b2_commands.specs.ArgumentTasks.{compared_kind_of};
 
     // Returns the digests that KIND names: `b0` and `s0` of no bytes, `b8` and `s8` of one byte,
     // and those of the other commands. The error is `Fault::WrongWords`, if KIND is not one of
@@ -66,8 +66,8 @@ pub(crate) struct Comparison {
 }
 
 impl Comparison {
-    ghost use Rattle.b2_commands.specs.Parsed.{comparison_task};
-    ghost use Rattle.b2_commands.specs.Words.{witness_task, IsReadingFault};
+    ghost use Rattle.b2_commands.specs.ReadTasks.{comparison_task};
+    ghost use Rattle.b2_commands.specs.ArgumentTasks.{witness_task, IsReadingFault};
 
     /// Reads the arguments KIND HEX HEX from left to right, and returns the comparison. The error
     /// is a `Fault`, that of the first bad argument: `WrongWords` if it is missing, is not

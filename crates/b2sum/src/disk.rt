@@ -4,7 +4,7 @@ ghost use Rattle.std.specs.Prelude.{◌≡◌, ◌||◌, ◌∷◌, [], None, tr
 ghost use Rattle.std.specs.Prelude.{IfOk};
 ghost use Rattle.std.specs.Io.{ReadsAtMost};
 ghost use Rattle.blake2_streams.specs.Devices.{Gives};
-ghost use Rattle.b2sum.specs.Reading.{rest_of};
+ghost use Rattle.b2sum.specs.FileReads.{rest_of};
 
 use b2sum_commands::{Disk, OpenFile, Output};
 use blake2::streams::{DeviceError, Sink};
@@ -68,7 +68,7 @@ fn fresh<F, I>(reader: Reader<F, I>, name: Vec<u8>) -> Opened<F, I>
 
 impl<F: Read + AsRawFd, I: Read + AsRawFd> OpenFile for Opened<F, I> {
     ghost use Rattle.std.specs.Prelude.{is_some};
-    ghost use Rattle.b2sum.specs.Reading.{rest_of};
+    ghost use Rattle.b2sum.specs.FileReads.{rest_of};
 
     ghost left = { λ s. rest_of F.remaining I.remaining s.reader };
 

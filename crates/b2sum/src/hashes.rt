@@ -8,8 +8,8 @@ ghost use Rattle.blake2_streams.specs.Streams.{GivesAll};
 ghost use Rattle.blake2_state.specs.TreeStates.{IsReady as IsReadyTree, count, future};
 ghost use Rattle.blake2_tree.specs.TreeLengths.{AcceptsLengths, lengths_of};
 ghost use Rattle.blake2_tree.specs.TreeRoot.{tree_parameters, tree_root};
-ghost use Rattle.b2sum.specs.Digests.{digest_with};
-ghost use Rattle.b2sum.specs.Refusals.{IsTooLong, HasLengths, counted_key, limit_of};
+ghost use Rattle.b2sum.specs.FileDigests.{digest_with};
+ghost use Rattle.b2sum.specs.RefusedTexts.{IsTooLong, HasLengths, counted_key, limit_of};
 
 use crate::states::{Absorb, HashState};
 use b2sum_commands::{Function, Hashes, OpenFile, Options};
@@ -35,7 +35,7 @@ const TREE_PIECE_BYTES: usize = 1 << 20;
 const START_BYTES: usize = 4096;
 
 impl Hashes for Blake2 {
-    ghost use Rattle.b2sum.specs.Digests.{digest_with};
+    ghost use Rattle.b2sum.specs.FileDigests.{digest_with};
 
     ghost hashing = { record { digest = digest_with; rejects = λ _ _. true } };
 

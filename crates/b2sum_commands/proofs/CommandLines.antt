@@ -11,7 +11,7 @@ use Rattle.std.specs.List.{All, position_or_len, starts_with}
 use Rattle.std.specs.Str.{bytes_eq}
 use Rattle.text_lines.specs.Cuts.{cut_at}
 use Rattle.b2sum_commands.specs.declared.option_names.Flag.{Flag}
-use Rattle.b2sum_commands.specs.Flags.{has_value, letter_flag}
+use Rattle.b2sum_commands.specs.OptionNames.{has_value, letter_flag}
 use Rattle.b2sum_commands.specs.CommandLine.{Choice, End, Next, Anything, ValueOf, OnlyFile, State}
 use Rattle.b2sum_commands.specs.CommandLine.{choosing, flag_named, read_alone, read_any, read_cut}
 use Rattle.b2sum_commands.specs.CommandLine.{read_letters, read_long, read_with, read_words}

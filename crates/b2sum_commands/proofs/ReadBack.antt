@@ -10,7 +10,7 @@ use Rattle.std.specs.List.{AllByRecursion, flat_map, list_all}
 use Rattle.std.specs.Option.{option_map}
 use Rattle.std.specs.Result.{result_ok}
 use Rattle.text_lines.specs.Cuts.{lines_of}
-use Rattle.b2sum_lines.specs.Lines.{Line, entry_line, is_tagged, line_entry, IsWritable}
+use Rattle.b2sum_lines.specs.ManifestLines.{Line, entry_line, is_tagged, line_entry, IsWritable}
 use Rattle.b2sum_lines.specs.declared.entry.Spacing.{Spacing}
 use Rattle.b2sum_lines.specs.declared.entry.Spacing.TheVariants.{One}
 use Rattle.b2sum_lines.specs.declared.entry.Style.{Style}
@@ -26,15 +26,16 @@ use Rattle.b2sum_commands.specs.declared.options.Shape.{Shape}
 use Rattle.b2sum_commands.specs.declared.options.Shape.TheVariants.{Named}
 use Rattle.b2sum_commands.specs.World.{Streams}
 use Rattle.b2sum_commands.specs.World.{World, InTurn, AllInTurn, Ends}
-use Rattle.b2sum_commands.specs.Sums.{entry_of, ended_line, is_dash, printed, printed_function, IsSum}
-use Rattle.b2sum_commands.specs.Sums.{ReadsAs}
+use Rattle.b2sum_commands.specs.PrintedSums.{entry_of, ended_line, is_dash, printed}
+use Rattle.b2sum_commands.specs.PrintedSums.{printed_function, IsSum}
+use Rattle.b2sum_commands.specs.PrintedSums.{ReadsAs}
 use Rattle.b2sum_commands.specs.Manifests.{checkable, has_demanded_length, item, spacing_after}
 use Rattle.b2sum_commands.specs.Manifests.{trimmed, listed_function, IsItem, IsLine, IsVerdict}
 use Rattle.b2sum_commands.specs.LineReads.{IsOneLine}
 use Rattle.b2sum_commands.specs.ReadBack.{items, spacing_past, AreReadAs, IsEntry, entries_in}
 use Rattle.b2sum_commands.specs.ReadBack.{AreReadable, Accepts, AreNames, IsManifest}
 use Rattle.b2sum_commands.specs.ReadBack.{AreKept, HaveSameDigests, is_kept}
-use Rattle.b2sum_commands.proofs.Reading.{line_first}
+use Rattle.b2sum_commands.proofs.CheckedLines.{line_first}
 
 -- ---- a line
 

@@ -23,7 +23,7 @@ use Rattle.b2sum_commands.specs.declared.option_names.Flag.TheVariants.{Binary, 
 use Rattle.b2sum_commands.specs.declared.options.Report.{Report}
 use Rattle.b2sum_commands.specs.declared.options.Report.TheVariants.{Each, Warnings, Failures}
 use Rattle.b2sum_commands.specs.declared.options.Report.TheVariants.{Nothing}
-use Rattle.b2sum_commands.specs.Flags.{long_name, has_value, letter_flag}
+use Rattle.b2sum_commands.specs.OptionNames.{long_name, has_value, letter_flag}
 
 -- ---- what is chosen
 

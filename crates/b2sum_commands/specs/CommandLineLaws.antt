@@ -3,7 +3,7 @@ use Rattle.std.specs.Prelude.{◌≡◌, ℕ, ◌<◌, ◌==◌, Bool, true, fal
 use Rattle.std.specs.Prelude.{codes, Option, Some, Ok}
 use Rattle.std.specs.List.{All}
 use Rattle.b2sum_commands.specs.declared.option_names.Flag.{Flag}
-use Rattle.b2sum_commands.specs.Flags.{has_value, letter_flag}
+use Rattle.b2sum_commands.specs.OptionNames.{has_value, letter_flag}
 use Rattle.b2sum_commands.specs.CommandLine.{Choice, Anything, OnlyFile, State, read_words}
 use Rattle.b2sum_commands.specs.CommandLine.{flag_named}
 

@@ -6,7 +6,7 @@ use Rattle.std.specs.Io.KnownBytes.{Appends}
 use Rattle.std.specs.List.{list_any, list_all}
 use Rattle.std.specs.Option.{option_map}
 use Rattle.blake2_streams.specs.Streams.{TakesPart}
-use Rattle.b2sum_lines.specs.Lines.{Line, escaped, line_entry}
+use Rattle.b2sum_lines.specs.ManifestLines.{Line, escaped, line_entry}
 use Rattle.b2sum_lines.specs.declared.entry.Algorithm.{Algorithm}
 use Rattle.b2sum_lines.specs.declared.entry.Algorithm.TheVariants.{Blake2b, Blake2s, Blake2bp}
 use Rattle.b2sum_lines.specs.declared.entry.Algorithm.TheVariants.{Blake2sp, Tree}
@@ -26,7 +26,7 @@ use Rattle.b2sum_commands.specs.declared.options.Report.TheVariants.{Each, Warni
 use Rattle.b2sum_commands.specs.declared.options.Report.TheVariants.{Nothing}
 use Rattle.b2sum_commands.specs.World.{Streams}
 use Rattle.b2sum_commands.specs.World.{World, IsTold}
-use Rattle.b2sum_commands.specs.Sums.{is_dash, ReadsAs, Leaves, CannotSum}
+use Rattle.b2sum_commands.specs.PrintedSums.{is_dash, ReadsAs, Leaves, CannotSum}
 
 -- ---- lines
 

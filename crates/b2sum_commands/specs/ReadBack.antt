@@ -5,7 +5,7 @@ use Rattle.std.specs.Io.KnownBytes.{Appends}
 use Rattle.std.specs.List.{All, list_all}
 use Rattle.hex.specs.Hex.{IsBytes}
 use Rattle.text_lines.specs.Cuts.{lines_of}
-use Rattle.b2sum_lines.specs.Lines.{Line, max_bytes, is_tree, is_tagged, has_zero, HasLeaf}
+use Rattle.b2sum_lines.specs.ManifestLines.{Line, max_bytes, is_tree, is_tagged, has_zero, HasLeaf}
 use Rattle.b2sum_lines.specs.declared.entry.Spacing.{Spacing}
 use Rattle.b2sum_lines.specs.declared.entry.Spacing.TheVariants.{One}
 use Rattle.b2sum_lines.specs.declared.entry.Style.TheVariants.{Bare}
@@ -17,7 +17,7 @@ use Rattle.b2sum_commands.specs.declared.hashes.Function.{Function}
 use Rattle.b2sum_commands.specs.declared.options.Options.{Options}
 use Rattle.b2sum_commands.specs.World.{Streams}
 use Rattle.b2sum_commands.specs.World.{World, InTurn}
-use Rattle.b2sum_commands.specs.Sums.{is_dash, ReadsAs, IsSum, entry_of, printed_function}
+use Rattle.b2sum_commands.specs.PrintedSums.{is_dash, ReadsAs, IsSum, entry_of, printed_function}
 use Rattle.b2sum_commands.specs.Manifests.{item, next_spacing, has_needs, has_algorithm, IsLine}
 
 -- The spacing after a line, of which this is read.

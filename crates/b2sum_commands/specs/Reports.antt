@@ -14,7 +14,7 @@ use Rattle.b2sum_commands.specs.declared.options.Report.TheVariants.{Each, Warni
 use Rattle.b2sum_commands.specs.declared.options.Report.TheVariants.{Nothing}
 use Rattle.b2sum_commands.specs.Manifests.{is_equal}
 use Rattle.b2sum_commands.specs.Quoting.{quoted_name}
-use Rattle.b2sum_commands.specs.Sums.{is_dash}
+use Rattle.b2sum_commands.specs.PrintedSums.{is_dash}
 use Rattle.b2sum_commands.specs.World.{World, Streams, IsWritten}
 
 -- ---- counts

@@ -3,17 +3,19 @@
 ghost use Rattle.std.specs.Prelude.{◌≡◌, ◌≢◌, ◌*◌, ◌≤◌, ◌/◌, length, map, true, false, [], None};
 ghost use Rattle.std.specs.Prelude.{Some, IfSome, IfOk, IfErr, OnOk, is_none};
 ghost use Rattle.std.specs.List.{list_any};
-ghost use Rattle.b2sum_lines.specs.Lines.{max_bytes, is_tree};
+ghost use Rattle.b2sum_lines.specs.ManifestLines.{max_bytes, is_tree};
 ghost use Rattle.b2sum_lines.specs.declared.entry.Algorithm.TheVariants.{Tree};
 ghost use Rattle.b2sum_lines.specs.declared.entry.Style.TheVariants.{Tagged, Text, Binary};
 ghost use Rattle.b2sum_commands.specs.declared.options.Report.TheVariants.{Each};
-ghost use Rattle.b2sum_commands.specs.Accepted.{accepted, has_length, has_labels, goes_together};
-ghost use Rattle.b2sum_commands.specs.Accepted.{goes_with_check, goes_with_sums, goes_with_files};
-ghost use Rattle.b2sum_commands.specs.Accepted.{chosen_needs, chosen_style, chosen_shape};
-ghost use Rattle.b2sum_commands.specs.Accepted.{has_bytes, has_trees, with_leaf, AreOptions};
-ghost use Rattle.b2sum_commands.specs.Accepted.{is_input};
-ghost use Rattle.b2sum_commands.specs.Sums.{is_dash};
-ghost use Rattle.b2sum_commands.specs.Readers.{choice_of, IsUnfit};
+ghost use Rattle.b2sum_commands.specs.AcceptedOptions.{accepted, has_length, has_labels};
+ghost use Rattle.b2sum_commands.specs.AcceptedOptions.{goes_together};
+ghost use Rattle.b2sum_commands.specs.AcceptedOptions.{goes_with_check, goes_with_sums};
+ghost use Rattle.b2sum_commands.specs.AcceptedOptions.{goes_with_files};
+ghost use Rattle.b2sum_commands.specs.AcceptedOptions.{chosen_needs, chosen_style, chosen_shape};
+ghost use Rattle.b2sum_commands.specs.AcceptedOptions.{has_bytes, has_trees, with_leaf, AreOptions};
+ghost use Rattle.b2sum_commands.specs.AcceptedOptions.{is_input};
+ghost use Rattle.b2sum_commands.specs.PrintedSums.{is_dash};
+ghost use Rattle.b2sum_commands.specs.CommandLineViews.{choice_of, IsUnfit};
 
 use crate::options::{Arguments, Options, Reader, Report, Shape, Stop, joined};
 use crate::sums::is_dash;

@@ -4,7 +4,7 @@ ghost use Rattle.std.specs.Prelude.{◌≡◌, ◌⊎◌, ◌≤◌, length, tru
 ghost use Rattle.std.specs.Prelude.{IsOkUnless};
 ghost use Rattle.std.specs.Io.KnownBytes.{Consumes, IsAtEnd};
 ghost use Rattle.b2sum_commands.specs.World.{HasFailed, HasMessage, IsKey, IsNoKey};
-ghost use Rattle.b2sum_commands.specs.Runs.{IsPastKey};
+ghost use Rattle.b2sum_commands.specs.ProgramRuns.{IsPastKey};
 
 use crate::devices::{Disk, Fault, OpenFile};
 use crate::messages::{warn_of_file, warn_of_name};

@@ -1,7 +1,7 @@
 //! What a line needs, next to what the options have.
 
 ghost use Rattle.std.specs.Prelude.{◌≡◌, ◌==◌, ℕ, List, codes, not, OnOk};
-ghost use Rattle.b2sum_lines.specs.Entries.{entry_value};
+ghost use Rattle.b2sum_lines.specs.EntryViews.{entry_value};
 ghost use Rattle.b2sum_commands.specs.Manifests.{algorithm_number, has_algorithm, has_needs, meets};
 ghost use Rattle.b2sum_commands.specs.Manifests.{has_any, has_demanded_length, same_needs};
 ghost use Rattle.b2sum_commands.specs.Reports.{message_if};

@@ -3,7 +3,7 @@
 ghost use Rattle.std.specs.Prelude.{◌≡◌, nat_eq};
 ghost use Rattle.std.specs.List.{starts_with, find, count_by};
 ghost use Rattle.std.specs.Str.{bytes_eq};
-ghost use Rattle.b2sum_commands.specs.Flags.{long_name, has_value, letter_flag};
+ghost use Rattle.b2sum_commands.specs.OptionNames.{long_name, has_value, letter_flag};
 ghost use Rattle.b2sum_commands.specs.CommandLine.{all_flags};
 
 /// The options of the command line.

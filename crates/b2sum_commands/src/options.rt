@@ -5,8 +5,9 @@ ghost use Rattle.b2sum_commands.specs.CommandLine.{set_flag, set_value, no_choic
 ghost use Rattle.b2sum_commands.specs.CommandLine.{flag_named, value_or_next, read_letters};
 ghost use Rattle.b2sum_commands.specs.CommandLine.{read_alone, read_with, read_long, read_any};
 ghost use Rattle.b2sum_commands.specs.CommandLine.{read_next, reading};
-ghost use Rattle.b2sum_commands.specs.Accepted.{AreArguments, command_line};
-ghost use Rattle.b2sum_commands.specs.Readers.{choice_of, next_of, state_of, StopsBy, IsWrong};
+ghost use Rattle.b2sum_commands.specs.AcceptedOptions.{AreArguments, command_line};
+ghost use Rattle.b2sum_commands.specs.CommandLineViews.{choice_of, next_of, state_of, StopsBy};
+ghost use Rattle.b2sum_commands.specs.CommandLineViews.{IsWrong};
 ghost use Rattle.b2sum_commands.specs.declared.options.Stop.TheVariants.{NoMemory};
 ghost use Rattle.b2sum_commands.specs.declared.options.Next.TheVariants.{Any};
 

@@ -6,12 +6,13 @@ ghost use Rattle.std.specs.Prelude.{ℕ, Bool, Option, List, [], ◌∷◌, ◌+
 ghost use Rattle.std.specs.Option.{option_map};
 ghost use Rattle.std.specs.Result.{result_ok};
 ghost use Rattle.b2sum_commands.specs.CommandLine.{Choice, Refused};
-ghost use Rattle.b2sum_commands.specs.Accepted.{AreOptions, command_line};
+ghost use Rattle.b2sum_commands.specs.AcceptedOptions.{AreOptions, command_line};
 ghost use Rattle.b2sum_commands.specs.World.{world_of, HasMessage, HasMore, IsTold, IsWritten};
-ghost use Rattle.b2sum_commands.specs.Runs.{DoesChoice, DoesLine, HasKey, AfterKey, IsKeyless};
-ghost use Rattle.b2sum_commands.specs.Runs.{RunsLine, help_of, status_of};
-ghost use Rattle.b2sum_lines.specs.Lines.{max_bytes};
-ghost use Rattle.b2sum_commands.specs.Readers.{IsPrinted};
+ghost use Rattle.b2sum_commands.specs.ProgramRuns.{DoesChoice, DoesLine, HasKey, AfterKey};
+ghost use Rattle.b2sum_commands.specs.ProgramRuns.{IsKeyless};
+ghost use Rattle.b2sum_commands.specs.ProgramRuns.{RunsLine, help_of, status_of};
+ghost use Rattle.b2sum_lines.specs.ManifestLines.{max_bytes};
+ghost use Rattle.b2sum_commands.specs.CommandLineViews.{IsPrinted};
 
 use crate::check::check_manifests;
 use crate::devices::{Disk, Fault, OpenFile, Output, put, tell};

@@ -2,13 +2,14 @@
 
 ghost use Rattle.std.specs.Prelude.{◌++◌, ◌∷◌, []};
 ghost use Rattle.hex.specs.Hex.{encode_lower};
-ghost use Rattle.b2sum_commands.specs.Sums.{printed, end_of};
+ghost use Rattle.b2sum_commands.specs.PrintedSums.{printed, end_of};
 ghost use Rattle.std.specs.Prelude.{◌≡◌, ◌≢◌, ℕ, ◌≤◌, List, length, map, take, true, false, IfOk};
 ghost use Rattle.std.specs.Prelude.{IsErrOf, IsOkUnless};
 ghost use Rattle.std.specs.Result.{result_ok};
 ghost use Rattle.b2sum_commands.specs.declared.sums.Read.TheVariants.{Whole, Missing, Failed};
 ghost use Rattle.b2sum_commands.specs.World.{world_of, AllInTurn, IsQuiet, IsTold};
-ghost use Rattle.b2sum_commands.specs.Sums.{is_dash, ReadsAs, Leaves, CannotSum, IsSum, ended_line};
+ghost use Rattle.b2sum_commands.specs.PrintedSums.{is_dash, ReadsAs, Leaves, CannotSum, IsSum};
+ghost use Rattle.b2sum_commands.specs.PrintedSums.{ended_line};
 
 use crate::devices::{Disk, Fault, OpenFile, Output, put};
 use crate::hashes::{Function, Hashes};

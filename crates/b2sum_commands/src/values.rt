@@ -5,7 +5,7 @@ ghost use Rattle.std.specs.Result.{result_ok};
 ghost use Rattle.b2sum_commands.specs.CommandLine.{number_in, without_blanks, without_plus};
 ghost use Rattle.b2sum_commands.specs.CommandLine.{leaf_in, bits_in, bytes_in, algorithm_in};
 ghost use Rattle.b2sum_commands.specs.CommandLine.{threads_in};
-ghost use Rattle.b2sum_commands.specs.Readers.{IsRefusal, IsWrong};
+ghost use Rattle.b2sum_commands.specs.CommandLineViews.{IsRefusal, IsWrong};
 
 use crate::options::{Stop, joined};
 use crate::quoting::quoted_value;

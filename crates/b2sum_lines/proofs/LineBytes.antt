@@ -14,10 +14,11 @@ use Rattle.b2sum_lines.specs.declared.entry.Algorithm.TheVariants.{Blake2b, Blak
 use Rattle.b2sum_lines.specs.declared.entry.Needs.{Needs}
 use Rattle.b2sum_lines.specs.declared.entry.Style.{Style}
 use Rattle.b2sum_lines.specs.declared.entry.Style.TheVariants.{Tagged, Text, Binary, Bare}
-use Rattle.b2sum_lines.specs.Lines.{Line, max_bytes, tag, escape, escaped, needs_escape, HasLeaf}
-use Rattle.b2sum_lines.specs.Lines.{needs_text, part_if, tag_length, body_line, entry_line}
-use Rattle.b2sum_lines.specs.Lines.{name_text, line_mark, is_special, IsWritable}
-use Rattle.b2sum_lines.proofs.Digits.{digit_passes, digits_pass}
+use Rattle.b2sum_lines.specs.ManifestLines.{Line, max_bytes, tag, escape, escaped, needs_escape}
+use Rattle.b2sum_lines.specs.ManifestLines.{HasLeaf}
+use Rattle.b2sum_lines.specs.ManifestLines.{needs_text, part_if, tag_length, body_line, entry_line}
+use Rattle.b2sum_lines.specs.ManifestLines.{name_text, line_mark, is_special, IsWritable}
+use Rattle.b2sum_lines.proofs.HexDigits.{digit_passes, digits_pass}
 use Rattle.b2sum_lines.proofs.RoundTrip.{max_fits}
 
 -- No newline, and no carriage return.

@@ -26,18 +26,22 @@ use Rattle.b2sum_lines.specs.declared.entry.Style.{Style}
 use Rattle.b2sum_lines.specs.declared.entry.Style.TheVariants.{Tagged, Text, Binary, Bare}
 use Rattle.b2sum_lines.specs.declared.entry.Spacing.{Spacing}
 use Rattle.b2sum_lines.specs.declared.entry.Spacing.TheVariants.{Open, Two, One}
-use Rattle.b2sum_lines.specs.Lines.{Line, max_bytes, tag, is_tree, escape, escaped, needs_escape}
-use Rattle.b2sum_lines.specs.Lines.{tag_length, body_line, entry_line, is_blank, HasLeaf, is_tagged}
-use Rattle.b2sum_lines.specs.Lines.{needs_text, needs_at, leaf_value, tag_at, tag_after}
-use Rattle.b2sum_lines.specs.Lines.{blake2s_tag, part_if, part_or, part_at, with_key, with_salt}
-use Rattle.b2sum_lines.specs.Lines.{with_personal}
-use Rattle.b2sum_lines.specs.Lines.{skip, front, cut_last, unescape_onto, has_zero}
-use Rattle.b2sum_lines.specs.Lines.{name_of, digest_of, checked_digest, two_spaces}
-use Rattle.b2sum_lines.specs.Lines.{mark_style, entry_with, untagged_entry, after_prefix}
-use Rattle.b2sum_lines.specs.Lines.{after_length, opened_or_spaced, tagged_text, tagged_parts}
-use Rattle.b2sum_lines.specs.Lines.{tagged_entry, body_entry, line_entry, IsWritable}
-use Rattle.b2sum_lines.proofs.Digits.{digit_passes, digits_pass}
-use Rattle.b2sum_lines.proofs.Loops.{cut_front}
+use Rattle.b2sum_lines.specs.ManifestLines.{Line, max_bytes, tag, is_tree, escape, escaped}
+use Rattle.b2sum_lines.specs.ManifestLines.{needs_escape}
+use Rattle.b2sum_lines.specs.ManifestLines.{tag_length, body_line, entry_line, is_blank, HasLeaf}
+use Rattle.b2sum_lines.specs.ManifestLines.{is_tagged}
+use Rattle.b2sum_lines.specs.ManifestLines.{needs_text, needs_at, leaf_value, tag_at, tag_after}
+use Rattle.b2sum_lines.specs.ManifestLines.{blake2s_tag, part_if, part_or, part_at, with_key}
+use Rattle.b2sum_lines.specs.ManifestLines.{with_salt}
+use Rattle.b2sum_lines.specs.ManifestLines.{with_personal}
+use Rattle.b2sum_lines.specs.ManifestLines.{skip, front, cut_last, unescape_onto, has_zero}
+use Rattle.b2sum_lines.specs.ManifestLines.{name_of, digest_of, checked_digest, two_spaces}
+use Rattle.b2sum_lines.specs.ManifestLines.{mark_style, entry_with, untagged_entry, after_prefix}
+use Rattle.b2sum_lines.specs.ManifestLines.{after_length, opened_or_spaced, tagged_text}
+use Rattle.b2sum_lines.specs.ManifestLines.{tagged_parts}
+use Rattle.b2sum_lines.specs.ManifestLines.{tagged_entry, body_entry, line_entry, IsWritable}
+use Rattle.b2sum_lines.proofs.HexDigits.{digit_passes, digits_pass}
+use Rattle.b2sum_lines.proofs.TextLoops.{cut_front}
 
 -- A digit that is written: no blank, mark, beginning of a tag or parenthesis.
 abbrev good : ℕ → Bool

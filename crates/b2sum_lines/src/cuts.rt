@@ -4,7 +4,7 @@ ghost use Rattle.std.specs.Prelude.{◌≡◌, ◌≤◌, length};
 ghost use Rattle.std.specs.Option.{option_map};
 ghost use Rattle.std.specs.Char.{is_ascii_digit};
 ghost use Rattle.hex.specs.Hex.{is_hex_digit};
-ghost use Rattle.b2sum_lines.specs.Lines.{is_blank, skip, cut_last, after_prefix};
+ghost use Rattle.b2sum_lines.specs.ManifestLines.{is_blank, skip, cut_last, after_prefix};
 
 // Returns whether the byte is a space or a tab.
 fn is_blank(byte: u8) -> bool

@@ -1,7 +1,7 @@
 //! The entries of a manifest.
 
 ghost use Rattle.std.specs.Prelude.{◌≡◌, ◌≤◌, IfOk};
-ghost use Rattle.b2sum_lines.specs.Lines.{max_bytes, tag, is_tree};
+ghost use Rattle.b2sum_lines.specs.ManifestLines.{max_bytes, tag, is_tree};
 
 use std::alloc::{AllocError, Global};
 use text_lines::push_decimal;

@@ -2,12 +2,14 @@
 
 ghost use Rattle.std.specs.Prelude.{◌≡◌, ◌≤◌, length, IfOk, IfSome};
 ghost use Rattle.std.specs.Option.{option_map};
-ghost use Rattle.b2sum_lines.specs.Lines.{line_entry, body_entry, untagged_entry, tagged_entry};
-ghost use Rattle.b2sum_lines.specs.Lines.{after_digits, after_blank, after_equals, tagged_text};
-ghost use Rattle.b2sum_lines.specs.Lines.{digest_of, entry_with, opened, opened_or_spaced};
-ghost use Rattle.b2sum_lines.specs.Lines.{after_prefix};
-ghost use Rattle.b2sum_lines.specs.Lines.{tag_at, needs_at};
-ghost use Rattle.b2sum_lines.specs.Entries.{entry_value};
+ghost use Rattle.b2sum_lines.specs.ManifestLines.{line_entry, body_entry, untagged_entry};
+ghost use Rattle.b2sum_lines.specs.ManifestLines.{tagged_entry};
+ghost use Rattle.b2sum_lines.specs.ManifestLines.{after_digits, after_blank, after_equals};
+ghost use Rattle.b2sum_lines.specs.ManifestLines.{tagged_text};
+ghost use Rattle.b2sum_lines.specs.ManifestLines.{digest_of, entry_with, opened, opened_or_spaced};
+ghost use Rattle.b2sum_lines.specs.ManifestLines.{after_prefix};
+ghost use Rattle.b2sum_lines.specs.ManifestLines.{tag_at, needs_at};
+ghost use Rattle.b2sum_lines.specs.EntryViews.{entry_value};
 
 use crate::cuts::{after_prefix, cut_last, skip_blanks, skip_digits};
 use crate::entry::{Algorithm, Entry, Spacing, Style};

@@ -5,8 +5,9 @@ ghost use Rattle.std.specs.Char.{is_ascii_digit};
 ghost use Rattle.std.specs.List.{list_all};
 ghost use Rattle.std.specs.Option.{option_map};
 ghost use Rattle.std.specs.Str.Parse.{digits_value};
-ghost use Rattle.b2sum_lines.specs.Lines.{tag_at, blake2b_tag, leaf_value, part_at, needs_at};
-ghost use Rattle.b2sum_lines.specs.Lines.{after_prefix};
+ghost use Rattle.b2sum_lines.specs.ManifestLines.{tag_at, blake2b_tag, leaf_value, part_at};
+ghost use Rattle.b2sum_lines.specs.ManifestLines.{needs_at};
+ghost use Rattle.b2sum_lines.specs.ManifestLines.{after_prefix};
 
 use crate::cuts::{after_prefix, skip_decimals};
 use crate::entry::{Algorithm, Needs};

@@ -2,9 +2,9 @@
 
 ghost use Rattle.std.specs.Prelude.{◌≡◌, ◌++◌, ◌*◌, ◌≤◌, length, IfOk, OnOk};
 ghost use Rattle.hex.specs.Hex.{encode_lower};
-ghost use Rattle.b2sum_lines.specs.Lines.{entry_line, plain_line, body_line, needs_text};
-ghost use Rattle.b2sum_lines.specs.Lines.{tag, tag_length, IsReadBack, IsReadByTag};
-ghost use Rattle.b2sum_lines.specs.Entries.{entry_value};
+ghost use Rattle.b2sum_lines.specs.ManifestLines.{entry_line, plain_line, body_line, needs_text};
+ghost use Rattle.b2sum_lines.specs.ManifestLines.{tag, tag_length, IsReadBack, IsReadByTag};
+ghost use Rattle.b2sum_lines.specs.EntryViews.{entry_value};
 
 use crate::entry::{Algorithm, Entry, Needs, Style};
 use crate::names::{escape_name, push_escaped};

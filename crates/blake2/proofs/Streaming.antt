@@ -7,7 +7,7 @@ use Rattle.std.proofs.lemmas.Bool.{cases_lt}
 use Rattle.std.specs.Simd.{first_chunks}
 use Rattle.blake2_simd.specs.Family.{Family, blake2b, blake2s, block_bytes}
 use Rattle.blake2_compress.specs.Hash.{Flags, padded, bytes_of, cut, chain, block_count}
-use Rattle.blake2_compress.proofs.Streaming.{cut-prefix, last_chain_from}
+use Rattle.blake2_compress.proofs.SplitRuns.{cut-prefix, last_chain_from}
 use Rattle.blake2_digest.specs.Blocks.{handed_on, held_back}
 use Rattle.blake2_digest.proofs.Cutting.{length-handed_on}
 use Rattle.blake2.specs.Cores.{CoreState, absorbed}

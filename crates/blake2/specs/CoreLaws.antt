@@ -3,7 +3,7 @@
 use Rattle.std.proofs.Common.{◌≡◌, ℕ, ◌+◌, ◌*◌, List, [], ◌++◌, length, refl, arith, length-append}
 use Rattle.blake2_simd.specs.Family.{Family, block_bytes}
 use Rattle.blake2_compress.specs.Hash.{chain}
-use Rattle.blake2_compress.proofs.Streaming.{chain-append}
+use Rattle.blake2_compress.proofs.SplitRuns.{chain-append}
 use Rattle.blake2.specs.Cores.{CoreState, absorbed}
 
 -- A core absorbs two lists in turn as it absorbs both joined.

@@ -6,7 +6,7 @@ use Rattle.blake2.specs.declared.hashers.blake2b.Blake2b.{Blake2b}
 use Rattle.blake2.specs.declared.hashers.blake2s.Blake2s.{Blake2s}
 use Rattle.blake2.specs.declared.macs.blake2b.Blake2bMac.{Blake2bMac}
 use Rattle.blake2.specs.declared.macs.blake2s.Blake2sMac.{Blake2sMac}
-use Rattle.blake2.specs.Contexts.{blake2b_context_state, blake2s_context_state}
+use Rattle.blake2.specs.ContextStates.{blake2b_context_state, blake2s_context_state}
 use Rattle.blake2.specs.States.{State, meaning_by, unflagged}
 
 -- The state of a BLAKE2b hasher, which holds a context and has an empty start block.

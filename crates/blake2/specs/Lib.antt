@@ -7,10 +7,10 @@ pub use Rattle.blake2_transcript.specs.Transcript
 pub use Rattle.blake2_transcript.specs.Witness
 pub use Rattle.blake2_replay.specs.Play
 pub use Rattle.blake2_streams.specs.Streams
-pub mod Contexts
+pub mod ContextStates
 pub mod CoreLaws
 pub mod Cores
 pub mod Hashers
-pub mod Keys
+pub mod MacArguments
 pub mod Restarts
 pub mod States

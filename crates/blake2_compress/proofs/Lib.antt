@@ -1,5 +1,5 @@
-pub mod Vectors
-pub mod Streaming
+pub mod WorkedDigests
+pub mod SplitRuns
 pub mod WordSizes
 pub mod ByteSizes
 pub mod ParameterSizes
@@ -8,15 +8,15 @@ pub mod Runs
 pub mod JoinedBlocks
 pub mod Sigma
 pub mod WordsByIndex
-pub mod Marks
+pub mod FlagRows
 pub mod ParameterTexts
-pub mod Loads
+pub mod LoadedRows
 pub mod RowBytes
 pub mod ParameterBlock
-pub mod Tables
+pub mod CodeTables
 pub mod Padding
 pub mod InputBlocks
 pub mod Lanes
 pub mod ManyMessages
 pub mod LaterBlocks
-pub mod Pieces
+pub mod MessagePieces

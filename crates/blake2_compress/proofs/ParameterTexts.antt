@@ -6,7 +6,7 @@ use Rattle.blake2_simd.specs.Family.{Family, salt_bytes, iv}
 use Rattle.blake2_compress.specs.Hash.{padded, Parameters, parameter_block, parameter_words, start}
 use Rattle.blake2_compress.specs.Hash.{words_of, bytes_of, xor_words, last_chain, Input, input_data}
 use Rattle.blake2_compress.specs.Hash.{input_flags, input_parameters, digest}
-use Rattle.blake2_compress.specs.Laws.{ZerosLeaveDigests}
+use Rattle.blake2_compress.specs.DigestLaws.{ZerosLeaveDigests}
 
 -- Zeros after a list, within n bytes, are padding.
 pub padded-append_zeros : (n : ℕ) (x : List ℕ) (m : ℕ) → length x + m ≤ n

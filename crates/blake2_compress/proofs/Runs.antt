@@ -10,7 +10,7 @@ use Rattle.blake2_simd.specs.Family.{Family, blake2b, blake2s, block_bytes}
 use Rattle.blake2_compress.specs.Hash.{input_flags, Flags, Input, input_start, input_data}
 use Rattle.blake2_compress.specs.Hash.{last_chain}
 use Rattle.blake2_compress.specs.Hash.{chain, blocks, block_count, Step, output, step, steps}
-use Rattle.blake2_compress.proofs.Streaming.{block_count-pos}
+use Rattle.blake2_compress.proofs.SplitRuns.{block_count-pos}
 use Rattle.blake2_compress.proofs.JoinedBlocks.{block_count-fits}
 
 -- The number of steps is that of the blocks.

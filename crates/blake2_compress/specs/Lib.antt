@@ -6,6 +6,6 @@ pub mod Inputs
 pub mod ParameterBlock
 pub mod Views
 pub mod Run
-pub mod Laws
+pub mod DigestLaws
 pub mod Lanes
-pub mod Pieces
+pub mod MessagePieces

@@ -8,7 +8,7 @@ ghost use Rattle.blake2_compress.specs.Views.{tree_of};
 ghost use Rattle.blake2.specs.States.{node_digest_of};
 ghost use Rattle.blake2_tree.specs.TreeRoot.{tree_parameters, tree_root as root_of, leaf_count};
 ghost use Rattle.blake2_tree.specs.TreeRoot.{leaf_digests};
-ghost use Rattle.blake2_tree.specs.Ranges.{IsRange, AreWhole, TakesPlace, with_part};
+ghost use Rattle.blake2_tree.specs.LeafRanges.{IsRange, AreWhole, TakesPlace, with_part};
 
 use blake2::digest::{Digest, LastNode};
 use blake2::{Blake2b512, Tree};

@@ -9,13 +9,14 @@ ghost use Rattle.blake2.specs.States.{digest_of, node_digest_of};
 ghost use Rattle.blake2_compress.specs.Hash.{AdmitsTree, parameters_of, sequential};
 ghost use Rattle.blake2_compress.specs.Views.{tree_of};
 ghost use Rattle.blake2_digest.specs.States.{Fresh, NodeSet, Updated, StartedAgain, digest_now};
-ghost use Rattle.blake2_state.specs.Arguments.{given_key, given_count, digest_given, Admits};
-ghost use Rattle.blake2_state.specs.Arguments.{parameters_given};
+ghost use Rattle.blake2_state.specs.ConstructorArguments.{given_key, given_count, digest_given};
+ghost use Rattle.blake2_state.specs.ConstructorArguments.{Admits};
+ghost use Rattle.blake2_state.specs.ConstructorArguments.{parameters_given};
 ghost use Rattle.blake2_state.specs.Blake2s.{IsReady, IsReadyFor, meaning, zeros};
 ghost use Rattle.blake2_state.specs.RawParameterBlocks.{block_digest, AdmitsBlock};
 ghost use Rattle.blake2_state.specs.States.{is_on};
 ghost use Rattle.blake2_ffi.specs.Status.{Returns};
-ghost use Rattle.blake2_ffi.specs.Trees.{given_tree};
+ghost use Rattle.blake2_ffi.specs.TreeArguments.{given_tree};
 
 mod many;
 

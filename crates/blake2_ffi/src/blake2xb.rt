@@ -4,7 +4,7 @@ ghost use Rattle.std.specs.Prelude.{◌≡◌, ◌+◌, ◌-◌, ◌^◌, ◌<�
 ghost use Rattle.std.specs.Prelude.{pos, negsuc, replicate};
 ghost use Rattle.blake2_simd.specs.Family.{blake2b};
 ghost use Rattle.blake2_digest.specs.States.{Fresh, Updated, StartedAgain};
-ghost use Rattle.blake2_state.specs.Arguments.{given_count};
+ghost use Rattle.blake2_state.specs.ConstructorArguments.{given_count};
 ghost use Rattle.blake2_state.specs.Blake2b as Root;
 ghost use Rattle.blake2_xof.specs.Blake2xb.{HasSqueezed, IsAbsorbing, IsReady, length_of, meaning};
 ghost use Rattle.blake2_xof.specs.Blake2xb.{output_now, zeros};

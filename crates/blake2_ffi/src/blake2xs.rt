@@ -5,7 +5,7 @@ ghost use Rattle.std.specs.Prelude.{◌≡◌, ◌+◌, ◌-◌, ◌^◌, ◌<�
 ghost use Rattle.std.specs.Prelude.{pos, negsuc, replicate};
 ghost use Rattle.blake2_simd.specs.Family.{blake2s};
 ghost use Rattle.blake2_digest.specs.States.{Fresh, Updated, StartedAgain};
-ghost use Rattle.blake2_state.specs.Arguments.{given_count};
+ghost use Rattle.blake2_state.specs.ConstructorArguments.{given_count};
 ghost use Rattle.blake2_state.specs.Blake2s as Root;
 ghost use Rattle.blake2_xof.specs.Blake2xs.{HasSqueezed, IsAbsorbing, IsReady, length_of, meaning};
 ghost use Rattle.blake2_xof.specs.Blake2xs.{output_now, zeros};

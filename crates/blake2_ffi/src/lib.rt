@@ -12,7 +12,7 @@
 ghost use Rattle.std.specs.Prelude.{◌≡◌, length, replicate};
 ghost use Rattle.blake2_compress.specs.Views.{tree_of};
 ghost use Rattle.blake2_ffi.specs.Status.{Returns};
-ghost use Rattle.blake2_ffi.specs.Trees.{given_tree};
+ghost use Rattle.blake2_ffi.specs.TreeArguments.{given_tree};
 
 mod blake2b;
 mod blake2bp;

@@ -3,12 +3,13 @@
 
 ghost use Rattle.std.specs.Prelude.{◌≡◌, ◌<◌, ◌≤◌, ◌^◌, ◌+◌, length, pos, negsuc, true};
 ghost use Rattle.blake2_digest.specs.States.{AtStart};
-ghost use Rattle.blake2_tree.specs.Nodes.{node_digest};
+ghost use Rattle.blake2_tree.specs.NodeViews.{node_digest};
 ghost use Rattle.blake2_tree.specs.TreeLengths.{AcceptsLengths, lengths_of};
 ghost use Rattle.blake2_tree.specs.TreeRoot.{tree_parameters};
-ghost use Rattle.blake2_tree.specs.Plans.{AreLimits, IsPlan, IsPlanOf, AreParts, HasDigests};
-ghost use Rattle.blake2_tree.specs.Plans.{HasLeafDigests, IsOfUpdate, head_length, whole_length};
-ghost use Rattle.blake2_tree.specs.Plans.{IsPart, IsInOrder, threads_for};
+ghost use Rattle.blake2_tree.specs.PartPlans.{AreLimits, IsPlan, IsPlanOf, AreParts, HasDigests};
+ghost use Rattle.blake2_tree.specs.PartPlans.{HasLeafDigests, IsOfUpdate, head_length};
+ghost use Rattle.blake2_tree.specs.PartPlans.{whole_length};
+ghost use Rattle.blake2_tree.specs.PartPlans.{IsPart, IsInOrder, threads_for};
 ghost use Rattle.blake2_state.specs.Blake2b.{IsReadyFor, meaning, zeros};
 ghost use Rattle.blake2_state.specs.States.{is_on};
 ghost use Rattle.blake2_state.specs.TreeStates.{IsReady, count, parameters};

@@ -1,5 +1,5 @@
-pub mod Dealt
-pub mod Runs
-pub mod Rows
-pub mod LeafLaws
+pub mod DealtStripes
+pub mod LongerRuns
+pub mod ListsByElement
+pub mod LeafContracts
 pub mod StateLaws

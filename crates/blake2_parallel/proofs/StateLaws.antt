@@ -3,10 +3,10 @@ use Rattle.std.proofs.Common.{◌≡◌, ℕ, ◌+◌, ◌*◌, Bool, List, leng
 use Rattle.blake2_simd.specs.Family.{Family}
 use Rattle.blake2_compress.specs.Hash.{start}
 use Rattle.blake2_digest.specs.States.{Fresh, StartedAgain, Updated}
-use Rattle.blake2_parallel.specs.Leaves.{Leaves, Took, root_future, total}
+use Rattle.blake2_parallel.specs.LeafStates.{Leaves, Took, root_future, total}
 use Rattle.blake2_parallel.specs.Parallel.{Settings, digests, key_count, leaves, node_parameters}
 use Rattle.blake2_parallel.specs.States.{Held, future, meaning_by, started}
-use Rattle.blake2_parallel.proofs.LeafLaws.{AtStart, root-same, root-start, root-took}
+use Rattle.blake2_parallel.proofs.LeafContracts.{AtStart, root-same, root-start, root-took}
 
 -- The leaves took an input, and the rest of the state is the same.
 pub Updated_took : {S : Type 0} (f : Family) (held : S → Held) (old new : S) (x : List ℕ)

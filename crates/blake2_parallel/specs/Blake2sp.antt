@@ -7,7 +7,7 @@ use Rattle.blake2_simd.specs.Lanes.{in_lane}
 use Rattle.blake2_digest.specs.States.{Meaning}
 use Rattle.blake2_parallel.specs.declared.lanes.blake2sp.Lanes.{Lanes}
 use Rattle.blake2_parallel.specs.declared.blake2sp.State.{State}
-use Rattle.blake2_parallel.specs.Leaves.{Leaves}
+use Rattle.blake2_parallel.specs.LeafStates.{Leaves}
 use Rattle.blake2_parallel.specs.States.{Held, meaning_by}
 
 -- The leaves that lanes hold. The pending bytes are at the beginning of their field.

@@ -1,6 +1,6 @@
 pub mod Parallel
-pub mod Leaves
+pub mod LeafStates
 pub mod States
 pub mod Blake2bp
 pub mod Blake2sp
-pub mod Hashers
+pub mod HasherMeanings

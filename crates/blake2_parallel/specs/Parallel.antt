@@ -9,7 +9,7 @@ use Rattle.std.specs.List.{flat_map, range_with_len}
 use Rattle.blake2_simd.specs.Family.{Family, blake2b, blake2s, block_bytes, key_bytes, output_bytes}
 use Rattle.blake2_simd.specs.Family.{salt_bytes}
 use Rattle.blake2_compress.specs.Hash.{Parameters, Tree, bytes_of, final, last_chain, padded, start}
-use Rattle.blake2_compress.specs.Pieces.{piece}
+use Rattle.blake2_compress.specs.MessagePieces.{piece}
 
 -- ---- how a message is dealt out
 

@@ -2,7 +2,7 @@
 use Rattle.std.specs.Prelude.{ℕ, false, List}
 use Rattle.blake2_simd.specs.Family.{Family}
 use Rattle.blake2_digest.specs.States.{Meaning}
-use Rattle.blake2_parallel.specs.Leaves.{Leaves, root_future, total}
+use Rattle.blake2_parallel.specs.LeafStates.{Leaves, root_future, total}
 
 -- What a state holds: its leaves, the leaves that a start leaves, the words that the root starts
 -- from, and the length of the digest.

@@ -5,7 +5,7 @@ use Rattle.blake2_digest.specs.States.{Meaning}
 use Rattle.blake2_replay.specs.declared.calls.Call.{Call}
 use Rattle.blake2_replay.specs.declared.calls.ReplayFault.TheVariants.{NoSuchSlot}
 use Rattle.blake2_replay.specs.Play.{Taken, Slots, slot_of, at_slot, play_live, play_call}
-use Rattle.blake2_replay.specs.Holding.{StandsFor, SlotHolds, AllHold}
+use Rattle.blake2_replay.specs.SlotStates.{StandsFor, SlotHolds, AllHold}
 use Rattle.blake2_replay.proofs.SlotPlaces.{slot_at, slot_beyond}
 
 module _ {S : Type 0} (m : Meaning S) (first : S) where

@@ -14,7 +14,7 @@ use Rattle.blake2_replay.specs.declared.calls.ReplayFault.{ReplayFault}
 use Rattle.blake2_replay.specs.declared.calls.ReplayFault.TheVariants.{TooLong, Memory}
 use Rattle.blake2_replay.specs.Play.{since_reset, Slots, Outcome, Taken, and_more, slot_digest}
 use Rattle.blake2_replay.specs.Play.{count_of, slot_of, leaves, play_live, play_call}
-use Rattle.blake2_replay.specs.Holding.{SlotHolds, HasPlayed, PlaysOrFails}
+use Rattle.blake2_replay.specs.SlotStates.{SlotHolds, HasPlayed, PlaysOrFails}
 use Rattle.blake2_replay.proofs.CallsOnSlots.{Live}
 use Rattle.blake2_replay.proofs.SlotPlaces.{AllHold-set, AllHold-push}
 use Rattle.blake2_replay.proofs.StandsForLaws.{StandsFor-updated, StandsFor-reset, digest_stands}

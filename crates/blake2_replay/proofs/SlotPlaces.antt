@@ -5,7 +5,7 @@ use Rattle.std.proofs.Math.ListN.{set}
 use Rattle.std.proofs.lemmas.List.{set-get_or}
 use Rattle.blake2_digest.specs.States.{Meaning}
 use Rattle.blake2_replay.specs.Play.{Taken, Slots}
-use Rattle.blake2_replay.specs.Holding.{SlotHolds, AllHold}
+use Rattle.blake2_replay.specs.SlotStates.{SlotHolds, AllHold}
 
 -- The state at an index, put back there, leaves the states as they were.
 pub put_back : {S : Type 0} (states : List (Option S)) (k : ℕ) (o : Option S) (h : S)

@@ -5,7 +5,7 @@ use Rattle.std.proofs.lemmas.List.{append-nil}
 use Rattle.blake2_digest.specs.States.{Meaning, digest_now, Updated, StartedAgain}
 use Rattle.blake2_replay.specs.Play.{Taken, since_beginning, since_reset, and_more}
 use Rattle.blake2_replay.specs.Play.{digest_under, slot_digest}
-use Rattle.blake2_replay.specs.Holding.{StandsFor}
+use Rattle.blake2_replay.specs.SlotStates.{StandsFor}
 
 module _ {S : Type 0} (m : Meaning S) (first : S) where
   -- The first state represents a slot that has absorbed nothing.

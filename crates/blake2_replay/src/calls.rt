@@ -4,7 +4,7 @@ ghost use Rattle.std.specs.Prelude.{◌≡◌, ℕ, Bool, false, List, [], ◌�
 ghost use Rattle.std.specs.Prelude.{IfErr, IsOk, IsErr, IsOkUnless, Ok, Err};
 ghost use Rattle.blake2_digest.specs.States.{Fresh, AtStart};
 ghost use Rattle.blake2_replay.specs.Play.{play, NamesFirstBad, play_fresh, slot_of};
-ghost use Rattle.blake2_replay.specs.Holding.{PlaysCall};
+ghost use Rattle.blake2_replay.specs.SlotStates.{PlaysCall};
 
 use blake2_digest::{Duplicate, FixedOutput, FixedOutputReset, Reset, Update};
 use std::alloc::Global;

@@ -14,7 +14,7 @@ use Rattle.blake2.specs.Restarts.{StartedAgain_by}
 use Rattle.blake2.specs.States.{State, future, started, fresh, restarted, node_set}
 use Rattle.blake2.proofs.StateLaws.{block_positive, updated, Updated_by, Fresh_by, NodeSet_by}
 use Rattle.blake2.proofs.StateLaws.{length-key_block_none, length-key_block_some}
-use Rattle.blake2_state.specs.Arguments.{given_key, given_count, digest_under}
+use Rattle.blake2_state.specs.ConstructorArguments.{given_key, given_count, digest_under}
 use Rattle.blake2_state.specs.RawParameterBlocks.{block_start, block_digest}
 use Rattle.blake2_state.specs.States.{meaning_sized}
 

@@ -1,4 +1,4 @@
-pub mod Arguments
+pub mod ConstructorArguments
 pub mod Blake2b
 pub mod Blake2s
 pub mod RawParameterBlocks

@@ -3,7 +3,7 @@
 use Rattle.std.specs.Prelude.{◌≡◌, ℕ, ◌+◌, ◌*◌, ◌^◌, ◌<◌, ◌≤◌, List, take, replicate}
 use Rattle.blake2_state.specs.Blake2b as Node
 use Rattle.blake2_state.specs.declared.tree.TreeState.{TreeState}
-use Rattle.blake2_tree.specs.Nodes.{IsOpened}
+use Rattle.blake2_tree.specs.NodeViews.{IsOpened}
 use Rattle.blake2_tree.specs.OpenTrees as Open
 use Rattle.blake2_tree.specs.OpenTrees.{OpenTree, open_tree}
 use Rattle.blake2_tree.specs.TreeRoot.{TreeParameters}

@@ -6,7 +6,7 @@
 
 ghost use Rattle.std.specs.Prelude.{◌≡◌, []};
 ghost use Rattle.blake2_compress.specs.Views.{given_parameters, tree_of};
-ghost use Rattle.blake2_state.specs.Arguments.{parameters_given};
+ghost use Rattle.blake2_state.specs.ConstructorArguments.{parameters_given};
 
 pub mod blake2b;
 pub mod blake2s;

@@ -11,10 +11,10 @@ use Rattle.blake2_transcript.specs.Witness.{Collide, IsWitness}
 use Rattle.blake2_transcript.specs.declared.steps.Step as GivenStep
 use Rattle.blake2_transcript.specs.StepViews.{step_of}
 use Rattle.blake2_transcript.specs.Transcript.{Entry, entry, step_at}
-use Rattle.blake2_compress.proofs.Streaming.{block_count-pos}
+use Rattle.blake2_compress.proofs.SplitRuns.{block_count-pos}
 use Rattle.blake2_compress.proofs.Runs.{output-step}
-use Rattle.blake2_transcript.proofs.Transcripts.{last_counter}
-use Rattle.blake2_transcript.proofs.Pairs.{witness_at, same_steps, chain_zero}
+use Rattle.blake2_transcript.proofs.RunTranscripts.{last_counter}
+use Rattle.blake2_transcript.proofs.DifferingPairs.{witness_at, same_steps, chain_zero}
 
 -- ---- what the comparison keeps
 

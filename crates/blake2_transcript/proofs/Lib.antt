@@ -1,10 +1,10 @@
-pub mod Cancelled
+pub mod DifferentLists
 pub mod ParametersNamed
-pub mod Determined
-pub mod Transcripts
-pub mod Pairs
+pub mod DeterminedInputs
+pub mod RunTranscripts
+pub mod DifferingPairs
 pub mod RunEntries
 pub mod KeyAndMessage
-pub mod Readable
+pub mod ReadableTranscripts
 pub mod LastDifference
 pub mod EqualTranscripts

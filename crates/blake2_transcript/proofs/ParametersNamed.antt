@@ -12,7 +12,7 @@ use Rattle.blake2_compress.specs.ParameterBlock.{parameters_in}
 use Rattle.blake2_compress.proofs.ParameterSizes.{AreParameters, length-parameter_words}
 use Rattle.blake2_compress.proofs.ByteSizes.{length-padded, AreBytes-take, AreBytes-drop}
 use Rattle.blake2_compress.proofs.RunSizes.{AreBytes-bytes_of}
-use Rattle.blake2_transcript.proofs.Cancelled.{bytes_of-parameter_words, xor_words_cancel}
+use Rattle.blake2_transcript.proofs.DifferentLists.{bytes_of-parameter_words, xor_words_cancel}
 use Rattle.blake2_compress.proofs.WordSizes.{length-iv}
 use Rattle.blake2_compress.proofs.ParameterTexts.{parameter_block-texts}
 use Rattle.blake2_compress.proofs.Padding.{padded-whole}

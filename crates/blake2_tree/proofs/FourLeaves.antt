@@ -7,8 +7,8 @@ use Rattle.std.proofs.lemmas.List.Folds.{concat-append}
 use Rattle.std.proofs.Math.Bool.{and-true, and-false}
 use Rattle.std.specs.List.{concat}
 use Rattle.blake2_tree.specs.TreeRoot.{TreeParameters, leaf, leaf_count}
-use Rattle.blake2_tree.specs.Nodes.{node_digest, four_digests}
-use Rattle.blake2_tree.specs.Ranges.{range_digests}
+use Rattle.blake2_tree.specs.NodeViews.{node_digest, four_digests}
+use Rattle.blake2_tree.specs.LeafRanges.{range_digests}
 use Rattle.blake2_tree.proofs.RangeLaws.{leaf_count-whole, range_digests-next}
 
 -- The digests of exactly four leaves, the fourth of which is the message's last or not.

@@ -8,7 +8,7 @@ use Rattle.blake2_tree.specs.TreeRoot.{TreeParameters}
 use Rattle.blake2_tree.specs.OpenTrees.{OpenTree, future, count, Took}
 use Rattle.blake2_tree.specs.LeafUpdates.{AcceptsLeaves, next_leaf, joined_digests, root_after}
 use Rattle.blake2_tree.specs.LeafUpdates.{TookDigests, TookLeaves}
-use Rattle.blake2_tree.specs.Ranges.{AreWhole, range_digests}
+use Rattle.blake2_tree.specs.LeafRanges.{AreWhole, range_digests}
 use Rattle.blake2_tree.proofs.RangeLaws.{length-range_digests, leaf_count-is, AreWhole-count}
 use Rattle.blake2_tree.proofs.RangeLaws.{range_digests-cut}
 

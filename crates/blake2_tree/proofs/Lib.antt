@@ -9,4 +9,4 @@ pub mod PlanDigests
 mod Plans
 pub mod RangeLaws
 mod RangeWrites
-pub mod Roots
+pub mod RootsOfCalls

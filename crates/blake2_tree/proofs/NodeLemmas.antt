@@ -8,11 +8,11 @@ use Rattle.blake2_compress.specs.Hash.{AreBytes, key_block, digest}
 use Rattle.blake2_compress.specs.Inputs.{Accepts}
 use Rattle.blake2_compress.proofs.RunSizes.{length-digest}
 use Rattle.blake2_transcript.specs.Witness.{Collide}
-use Rattle.blake2_compress.specs.Pieces.{IsFirstDifference}
+use Rattle.blake2_compress.specs.MessagePieces.{IsFirstDifference}
 use Rattle.blake2_tree.specs.TreeRoot.{TreeParameters, leaf_count, leaf, node, leaf_input}
 use Rattle.blake2_tree.specs.TreeRoot.{leaf_digests, root_over, root_input, tree_root}
 use Rattle.blake2_tree.specs.TreeWitnesses.{RootsCollide}
-use Rattle.blake2_tree.proofs.Lists.{length-flat_map-range, flat_map-range_same}
+use Rattle.blake2_tree.proofs.JoinedRanges.{length-flat_map-range, flat_map-range_same}
 
 -- ---- what BLAKE2b accepts
 

@@ -6,9 +6,9 @@ use Rattle.std.proofs.Math.Seq.{take-append-add, drop-append-add}
 use Rattle.blake2_simd.specs.Family.{blake2b}
 use Rattle.blake2_compress.specs.Hash.{digest}
 use Rattle.blake2_tree.specs.TreeRoot.{TreeParameters, node}
-use Rattle.blake2_tree.specs.Ranges.{range_digests}
+use Rattle.blake2_tree.specs.LeafRanges.{range_digests}
 use Rattle.blake2_tree.specs.OpenTrees.{digests_to_come}
-use Rattle.blake2_tree.proofs.Leaves.{range_digests-short, range_digests-long}
+use Rattle.blake2_tree.proofs.MessageLeaves.{range_digests-short, range_digests-long}
 
 -- The digests that y adds to an open leaf that has absorbed nothing are those of the leaves of y.
 pub digests_to_come-begun : (s : TreeParameters) (first : ℕ) (y : List ℕ) → 0 < s.leaf_length

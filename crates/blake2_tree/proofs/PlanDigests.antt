@@ -10,17 +10,17 @@ use Rattle.std.specs.List.{flat_map, range_with_len}
 use Rattle.std.specs.Int.{div_ceil}
 use Rattle.blake2_simd.specs.Family.{blake2b}
 use Rattle.blake2_compress.specs.Hash.{digest}
-use Rattle.blake2_compress.specs.Pieces.{piece}
-use Rattle.blake2_compress.proofs.Pieces.{piece-zero, piece-more}
+use Rattle.blake2_compress.specs.MessagePieces.{piece}
+use Rattle.blake2_compress.proofs.MessagePieces.{piece-zero, piece-more}
 use Rattle.blake2_tree.specs.declared.thread_plan.Plan.{Plan}
 use Rattle.blake2_tree.specs.TreeRoot.{TreeParameters, root_over, tree_root, leaf_digests}
-use Rattle.blake2_tree.specs.Ranges.{range_digests}
-use Rattle.blake2_tree.specs.Plans.{HasParts, part_digests, count_of_parts, HasDigests}
-use Rattle.blake2_tree.specs.Plans.{HasLeafDigests}
-use Rattle.blake2_tree.proofs.Lists.{flat_map-range_more}
-use Rattle.blake2_tree.proofs.Leaves.{range_digests-first}
+use Rattle.blake2_tree.specs.LeafRanges.{range_digests}
+use Rattle.blake2_tree.specs.PartPlans.{HasParts, part_digests, count_of_parts, HasDigests}
+use Rattle.blake2_tree.specs.PartPlans.{HasLeafDigests}
+use Rattle.blake2_tree.proofs.JoinedRanges.{flat_map-range_more}
+use Rattle.blake2_tree.proofs.MessageLeaves.{range_digests-first}
 use Rattle.blake2_tree.proofs.RangeLaws.{range_digests-whole}
-use Rattle.blake2_tree.proofs.Plans.{begins-within, last-reaches}
+use Rattle.blake2_tree.proofs.PlanParts.{begins-within, last-reaches}
 
 -- Part i of some parts of these leaves, as its digests.
 digests_at : TreeParameters → ℕ → ℕ → Bool → ℕ → List ℕ → ℕ → List ℕ

@@ -13,13 +13,14 @@ use Rattle.blake2_compress.specs.Hash.{digest}
 use Rattle.blake2_compress.proofs.RunSizes.{length-digest}
 use Rattle.blake2_tree.specs.TreeRoot.{TreeParameters, leaf_count, node, leaf_digests, root_over}
 use Rattle.blake2_tree.specs.TreeRoot.{tree_root}
-use Rattle.blake2_tree.specs.Ranges.{range_leaf, range_digests, AreWhole, IsCut, cut_digests}
-use Rattle.blake2_tree.specs.Ranges.{IsRange, TakesPlace, with_part, ArePartOfAll, IsRootOfCuts}
-use Rattle.blake2_tree.specs.Ranges.{IsRootOfChanges}
+use Rattle.blake2_tree.specs.LeafRanges.{range_leaf, range_digests, AreWhole, IsCut, cut_digests}
+use Rattle.blake2_tree.specs.LeafRanges.{IsRange, TakesPlace, with_part, ArePartOfAll, IsRootOfCuts}
+use Rattle.blake2_tree.specs.LeafRanges.{IsRootOfChanges}
 use Rattle.blake2_tree.proofs.NodeLemmas.{length-leaf_digests}
-use Rattle.blake2_tree.proofs.Leaves.{range_digests-short, range_digests-long, range_digests-first}
-use Rattle.blake2_tree.proofs.Leaves.{leaf_count-short, leaf_count-more}
-use Rattle.blake2_tree.proofs.Lists.{length-flat_map-range}
+use Rattle.blake2_tree.proofs.MessageLeaves.{range_digests-short, range_digests-long}
+use Rattle.blake2_tree.proofs.MessageLeaves.{range_digests-first}
+use Rattle.blake2_tree.proofs.MessageLeaves.{leaf_count-short, leaf_count-more}
+use Rattle.blake2_tree.proofs.JoinedRanges.{length-flat_map-range}
 
 -- ---- their lengths
 

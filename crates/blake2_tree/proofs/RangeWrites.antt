@@ -5,8 +5,8 @@ use Rattle.std.proofs.Common.{length-append, length-drop}
 use Rattle.std.proofs.lemmas.List.{take_at, take_rest, length-take-le, drop_all}
 use Rattle.std.proofs.Math.Nat.{mul-le-mul_left}
 use Rattle.blake2_tree.specs.TreeRoot.{TreeParameters, leaf_count}
-use Rattle.blake2_tree.specs.Ranges.{range_digests, with_part}
-use Rattle.blake2_tree.proofs.Leaves.{leaf_count-more}
+use Rattle.blake2_tree.specs.LeafRanges.{range_digests, with_part}
+use Rattle.blake2_tree.proofs.MessageLeaves.{leaf_count-more}
 
 pub leaf_count-before : (size k n : ℕ) → 0 < size → 0 < n
     → leaf_count size (k * size + n) ≡ k + leaf_count size n

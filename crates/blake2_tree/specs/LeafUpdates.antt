@@ -4,7 +4,7 @@ use Rattle.std.specs.Prelude.{length, true, nat_eq, if◌then◌else◌}
 use Rattle.std.specs.List.{All, concat}
 use Rattle.blake2_tree.specs.TreeRoot.{TreeParameters}
 use Rattle.blake2_tree.specs.OpenTrees.{OpenTree, Took, count, future}
-use Rattle.blake2_tree.specs.Ranges.{IsRange, AreWhole, range_digests}
+use Rattle.blake2_tree.specs.LeafRanges.{IsRange, AreWhole, range_digests}
 
 -- The tree has absorbed whole leaves, or nothing.
 abbrev pub IsAtBoundary : OpenTree → Type 0

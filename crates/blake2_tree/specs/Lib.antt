@@ -1,9 +1,9 @@
 pub mod LeafUpdates
-pub mod Nodes
+pub mod NodeViews
 pub mod OpenTrees
 pub mod PieceLengths
-pub mod Plans
-pub mod Ranges
+pub mod PartPlans
+pub mod LeafRanges
 pub mod TreeHashers
 pub mod TreeLengths
 pub mod TreeRoot

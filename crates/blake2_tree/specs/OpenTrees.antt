@@ -4,7 +4,7 @@ use Rattle.std.specs.Prelude.{◌≡◌, ℕ, ◌+◌, ◌-◌, ◌*◌, ◌<◌
 use Rattle.std.specs.Prelude.{List, ◌++◌, length, take, drop}
 use Rattle.blake2_digest.specs.States.{Meaning}
 use Rattle.blake2_tree.specs.TreeRoot.{TreeParameters}
-use Rattle.blake2_tree.specs.Ranges.{range_digests}
+use Rattle.blake2_tree.specs.LeafRanges.{range_digests}
 
 -- The digests that y adds, if the open leaf has room for `room` more bytes, and has the digest
 -- `open_leaf` after them, as the last leaf or not. If y fits, that leaf is the last. Otherwise the

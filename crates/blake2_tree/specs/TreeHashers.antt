@@ -2,7 +2,7 @@
 use Rattle.std.specs.Prelude.{ℕ, List}
 use Rattle.blake2.specs.Hashers.{blake2b_meaning}
 use Rattle.blake2_tree.specs.declared.hasher.TreeHasher.{TreeHasher}
-use Rattle.blake2_tree.specs.Nodes.{shared_parameters}
+use Rattle.blake2_tree.specs.NodeViews.{shared_parameters}
 use Rattle.blake2_tree.specs.OpenTrees as Open
 use Rattle.blake2_tree.specs.OpenTrees.{OpenTree, open_tree}
 

@@ -6,7 +6,7 @@ use Rattle.std.specs.Prelude.{ℕ, ◌+◌, nat_eq, Bool, true, List, length, No
 use Rattle.std.specs.List.{flat_map, range_with_len}
 use Rattle.blake2_simd.specs.Family.{blake2b}
 use Rattle.blake2_compress.specs.Hash.{Tree, Input, digest}
-use Rattle.blake2_compress.specs.Pieces.{piece_count, piece}
+use Rattle.blake2_compress.specs.MessagePieces.{piece_count, piece}
 
 -- What the nodes of a tree share: the salt, the personalization, and the length of a leaf in bytes.
 pub record TreeParameters : Type 0 where

@@ -2,7 +2,7 @@
 use Rattle.std.specs.Prelude.{◌≡◌, ◌≢◌, ℕ, List}
 use Rattle.blake2_simd.specs.Family.{blake2b}
 use Rattle.blake2_compress.specs.Hash.{Step}
-use Rattle.blake2_compress.specs.Pieces.{IsFirstDifference}
+use Rattle.blake2_compress.specs.MessagePieces.{IsFirstDifference}
 use Rattle.blake2_transcript.specs.StepViews.{step_of}
 use Rattle.blake2_transcript.specs.Witness.{IsWitness}
 use Rattle.blake2_tree.specs.declared.witness.TreeWitness.{TreeWitness}

@@ -3,8 +3,8 @@
 ghost use Rattle.std.specs.Prelude.{◌≡◌, ℕ, ◌+◌, ◌*◌, ◌^◌, ◌<◌, ◌≤◌, List, [], ◌++◌, length, true};
 ghost use Rattle.std.specs.Prelude.{false, ◌/◌, ◌%◌, ◌↔◌, IsTrue};
 ghost use Rattle.blake2.specs.Hashers.{blake2b_meaning};
-ghost use Rattle.blake2_tree.specs.Nodes.{shared_parameters, IsOpened};
-ghost use Rattle.blake2_tree.specs.Ranges.{AreWhole, range_digests};
+ghost use Rattle.blake2_tree.specs.NodeViews.{shared_parameters, IsOpened};
+ghost use Rattle.blake2_tree.specs.LeafRanges.{AreWhole, range_digests};
 ghost use Rattle.blake2_tree.specs.TreeRoot.{tree_parameters, tree_root as root_of};
 
 use crate::limits::has_room_for;

@@ -9,7 +9,7 @@ ghost use Rattle.blake2_compress.specs.Inputs.{Accepts};
 ghost use Rattle.blake2_compress.specs.Views.{tree_of, input_of};
 ghost use Rattle.blake2_tree.specs.TreeRoot.{place, node, leaf_count, leaf_digests, leaf_input};
 ghost use Rattle.blake2_tree.specs.TreeRoot.{root_over, tree_parameters};
-ghost use Rattle.blake2_tree.specs.Ranges.{IsRange, range_digests, with_part};
+ghost use Rattle.blake2_tree.specs.LeafRanges.{IsRange, range_digests, with_part};
 
 use crate::kept_salt::KeptSalt;
 use crate::ranges::leaf_count;
@@ -38,7 +38,7 @@ fn write_at(out: &mut [u8], at: usize, bytes: &[u8])
 }
 
 impl Nodes {
-    ghost use Rattle.blake2_tree.specs.Nodes.{shared_parameters, node_digest, four_digests};
+    ghost use Rattle.blake2_tree.specs.NodeViews.{shared_parameters, node_digest, four_digests};
 
     /// Returns what all nodes of a tree share: salt and persona, at most 16 bytes each, and the
     /// number of bytes of a leaf, at least 1.

@@ -6,8 +6,8 @@ ghost use Rattle.std.specs.Prelude.{◌≡◌, ◌*◌, ◌<◌, ◌≤◌, ◌�
 ghost use Rattle.blake2_simd.specs.Family.{blake2b};
 ghost use Rattle.blake2_compress.specs.Hash.{digest};
 ghost use Rattle.blake2_tree.specs.TreeRoot.{leaf_count, root_over, tree_parameters};
-ghost use Rattle.blake2_tree.specs.Ranges.{IsRange, range_digests, ArePartOfAll, IsRootOfCuts};
-ghost use Rattle.blake2_tree.specs.Ranges.{IsRootOfChanges};
+ghost use Rattle.blake2_tree.specs.LeafRanges.{IsRange, range_digests, ArePartOfAll, IsRootOfCuts};
+ghost use Rattle.blake2_tree.specs.LeafRanges.{IsRootOfChanges};
 
 use crate::limits::MESSAGE_LIMIT;
 use crate::nodes::Nodes;

@@ -3,10 +3,10 @@
 //! [`hash_leaves`](crate::hash_leaves), and writes the digests where the part says.
 
 ghost use Rattle.std.specs.Prelude.{◌≡◌, ◌+◌, ◌-◌, ◌*◌, ◌/◌, ◌%◌, ◌^◌, ◌<◌, ◌≤◌, ◌↔◌, IsTrue};
-ghost use Rattle.blake2_tree.specs.Plans.{AreLimits, threads_for, share, part_leaves, IsPlanOf};
-ghost use Rattle.blake2_tree.specs.Plans.{IsPlan, IsPart, IsInOrder, AreParts, head_length};
-ghost use Rattle.blake2_tree.specs.Plans.{whole_length, IsOfUpdate, HasDigests, HasLeafDigests};
-ghost use Rattle.blake2_tree.specs.Plans.{HasParts, HasRest, length_of_digests};
+ghost use Rattle.blake2_tree.specs.PartPlans.{AreLimits, threads_for, share, part_leaves, IsPlanOf};
+ghost use Rattle.blake2_tree.specs.PartPlans.{IsPlan, IsPart, IsInOrder, AreParts, head_length};
+ghost use Rattle.blake2_tree.specs.PartPlans.{whole_length, IsOfUpdate, HasDigests, HasLeafDigests};
+ghost use Rattle.blake2_tree.specs.PartPlans.{HasParts, HasRest, length_of_digests};
 
 use crate::limits::MESSAGE_LIMIT;
 use crate::ranges::leaf_count;

@@ -1,7 +1,7 @@
 pub mod JoinedLists
-pub mod Blocks
-pub mod Reading
-pub mod Texts
+pub mod OutputBlocks
+pub mod ReadInPieces
+pub mod TextFields
 pub mod StateLaws
 pub mod Derivations
-pub mod Outputs
+pub mod KnownOutputs

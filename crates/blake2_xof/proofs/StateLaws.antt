@@ -7,7 +7,7 @@ use Rattle.blake2_simd.specs.Family.{Family, salt_bytes}
 use Rattle.blake2_digest.specs.States.{Fresh, Meaning, StartedAgain, Updated}
 use Rattle.blake2_compress.specs.Hash.{Tree, padded}
 use Rattle.blake2_compress.proofs.ParameterTexts.{zeros_leave_digests}
-use Rattle.blake2_state.specs.Arguments.{digest_given}
+use Rattle.blake2_state.specs.ConstructorArguments.{digest_given}
 use Rattle.blake2_state.specs.declared.StateParameters.{StateParameters}
 use Rattle.blake2_xof.specs.States.{meaning_by}
 use Rattle.blake2_xof.specs.Xof.{Settings, block_input, block_size, output_block, outputs}

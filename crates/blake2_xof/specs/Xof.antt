@@ -8,7 +8,7 @@ use Rattle.blake2_simd.specs.Family.{Family, blake2b, blake2s, block_bytes, key_
 use Rattle.blake2_simd.specs.Family.{salt_bytes}
 use Rattle.blake2_compress.specs.Hash.{Input, Parameters, Tree, digest, input_data}
 use Rattle.blake2_compress.specs.Hash.{input_parameters, parameter_block, sequential}
-use Rattle.blake2_state.specs.Arguments.{given_key}
+use Rattle.blake2_state.specs.ConstructorArguments.{given_key}
 
 -- ---- the length of the output
 

@@ -5,7 +5,7 @@ ghost use Rattle.std.specs.Prelude.{replicate, IfOk, IsErr, IsTrue};
 ghost use Rattle.blake2_simd.specs.Family.{blake2b};
 ghost use Rattle.blake2_compress.specs.Views.{tree_of};
 ghost use Rattle.blake2_digest.specs.States.{Fresh, StartedAgain, Updated};
-ghost use Rattle.blake2_state.specs.Arguments.{given_count};
+ghost use Rattle.blake2_state.specs.ConstructorArguments.{given_count};
 ghost use Rattle.blake2_state.specs.States.{is_on};
 ghost use Rattle.blake2_xof.specs.Blake2xb.{HasSqueezed, IsAbsorbing, IsReady, length_of, meaning};
 ghost use Rattle.blake2_xof.specs.Blake2xb.{output_now, output_of, zeros};

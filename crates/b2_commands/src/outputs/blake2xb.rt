@@ -5,7 +5,7 @@ ghost use Rattle.std.specs.Prelude.{false, IsErr, IsTrue, IfErr, IfOk, IfSome, O
 ghost use Rattle.std.specs.Io.KnownBytes.{Appends, Keeps};
 ghost use Rattle.std.specs.Result.{IsErrOf};
 ghost use Rattle.blake2.specs.Family.{blake2b};
-ghost use Rattle.blake2.specs.Keys.{key_count};
+ghost use Rattle.blake2.specs.MacArguments.{key_count};
 ghost use Rattle.blake2.specs.Streams.{line_of};
 ghost use Rattle.hex.specs.Hex.{encode_lower};
 ghost use Rattle.blake2_digest.specs.States.{Fresh, Updated};
@@ -14,8 +14,8 @@ ghost use Rattle.blake2_xof.specs.Blake2xb.{output_now};
 ghost use Rattle.blake2_xof.specs.Xof.{unknown_length};
 ghost use Rattle.b2_commands.specs.declared.fault.Fault.TheVariants.{ReadFailed, TooLong};
 ghost use Rattle.b2_commands.specs.declared.fault.Fault.TheVariants.{WriteFailed};
-ghost use Rattle.b2_commands.specs.Ends.{EndsBy};
-ghost use Rattle.b2_commands.specs.Options.{given_of};
+ghost use Rattle.b2_commands.specs.TaskEnds.{EndsBy};
+ghost use Rattle.b2_commands.specs.ReadOptions.{given_of};
 ghost use Rattle.b2_commands.specs.Tasks.{IsRefusedBy, output_with};
 
 use crate::arguments::Options;

@@ -32,7 +32,7 @@ impl Absorb for State {
 impl HashState for State {
     ghost use Rattle.blake2_simd.specs.Family.{blake2s};
     ghost use Rattle.blake2_parallel.specs.Parallel.{Admits, key_count, parallel_digest};
-    ghost use Rattle.b2sum.specs.Digests.{settings_given};
+    ghost use Rattle.b2sum.specs.FileDigests.{settings_given};
 
     ghost accepts = { λ given. Admits blake2s (settings_given given) };
 

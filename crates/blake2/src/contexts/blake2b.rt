@@ -41,7 +41,7 @@ pub(crate) struct Blake2bContext {
 }
 
 impl Blake2bContext {
-    ghost use Rattle.blake2.specs.Contexts.{blake2b_context_meaning};
+    ghost use Rattle.blake2.specs.ContextStates.{blake2b_context_meaning};
     ghost use Rattle.blake2_digest.specs.States.{Updated, digest_now};
 
     /// Returns a run from this core, which must have counted nothing, with the start block

@@ -42,7 +42,7 @@ pub(crate) struct Blake2sContext {
 }
 
 impl Blake2sContext {
-    ghost use Rattle.blake2.specs.Contexts.{blake2s_context_meaning};
+    ghost use Rattle.blake2.specs.ContextStates.{blake2s_context_meaning};
     ghost use Rattle.blake2_digest.specs.States.{Updated, digest_now};
 
     /// Returns a run from this core, which must have counted nothing, with the start block

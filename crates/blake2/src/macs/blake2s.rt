@@ -7,7 +7,7 @@ ghost use Rattle.std.proofs.Common.{arith};
 ghost use Rattle.blake2_simd.specs.Family.{blake2s};
 ghost use Rattle.blake2_compress.specs.Hash.{sequential};
 ghost use Rattle.blake2_compress.specs.Views.{key_of};
-ghost use Rattle.blake2.specs.Keys.{key_count, IsRefused};
+ghost use Rattle.blake2.specs.MacArguments.{key_count, IsRefused};
 ghost use Rattle.blake2.specs.States.{node_digest_of};
 
 use crate::contexts::blake2s::Blake2sContext;

@@ -5,7 +5,7 @@ ghost use Rattle.blake2_simd.specs.Family.{blake2b};
 ghost use Rattle.blake2_simd.specs.Round.{round};
 ghost use Rattle.blake2_simd.specs.Rows.{sixteen};
 ghost use Rattle.blake2_compress.specs.Hash;
-ghost use Rattle.blake2_compress.specs.Laws.{ZerosLeaveDigests};
+ghost use Rattle.blake2_compress.specs.DigestLaws.{ZerosLeaveDigests};
 
 use blake2_simd::padded;
 use blake2_simd::rows::u64x4;

@@ -2,8 +2,8 @@
 //! BLAKE2 document, 2.10).
 
 ghost use Rattle.std.specs.Prelude.{◌≡◌, ◌↔◌, ◌<◌, length, IsTrue, MatchOption};
-ghost use Rattle.blake2_compress.specs.Pieces.{piece_count, piece, IsFirstDifference};
-ghost use Rattle.blake2_compress.specs.Pieces.{PiecesDetermine, NoPairDiffers};
+ghost use Rattle.blake2_compress.specs.MessagePieces.{piece_count, piece, IsFirstDifference};
+ghost use Rattle.blake2_compress.specs.MessagePieces.{PiecesDetermine, NoPairDiffers};
 
 /// Returns how many pieces of `size` bytes, at least 1, a message has. It has at least one, and
 /// the last may be shorter.

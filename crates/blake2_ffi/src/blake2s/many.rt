@@ -6,9 +6,10 @@ ghost use Rattle.blake2.specs.Family.{blake2s};
 ghost use Rattle.blake2.specs.States as Held;
 ghost use Rattle.blake2_compress.specs.Views.{input_of};
 ghost use Rattle.blake2_compress.specs.Hash.{parameters_of, sequential};
-ghost use Rattle.blake2_state.specs.Arguments.{given_key, given_count, digest_given, Admits};
-ghost use Rattle.blake2_state.specs.Arguments.{parameters_given};
-ghost use Rattle.blake2_ffi.specs.Many.{AreCounted, digests_of, digests_given};
+ghost use Rattle.blake2_state.specs.ConstructorArguments.{given_key, given_count, digest_given};
+ghost use Rattle.blake2_state.specs.ConstructorArguments.{Admits};
+ghost use Rattle.blake2_state.specs.ConstructorArguments.{parameters_given};
+ghost use Rattle.blake2_ffi.specs.SeveralMessages.{AreCounted, digests_of, digests_given};
 ghost use Rattle.blake2_ffi.specs.Status.{Returns};
 
 use crate::Text;

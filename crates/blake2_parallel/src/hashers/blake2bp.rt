@@ -22,7 +22,7 @@ pub struct Blake2bp<const N: usize> {
 }
 
 impl<const N: usize> Blake2bp<N> {
-    ghost use Rattle.blake2_parallel.specs.Hashers.{blake2bp_meaning};
+    ghost use Rattle.blake2_parallel.specs.HasherMeanings.{blake2bp_meaning};
     ghost use Rattle.blake2_digest.specs.States.{Fresh};
 
     /// Returns a hasher that has absorbed nothing, with a salt and a persona of up to 16 bytes
@@ -51,7 +51,7 @@ impl<const N: usize> OutputSizeUser for Blake2bp<N> {
 impl<const N: usize> HashMarker for Blake2bp<N> {}
 
 impl<const N: usize> Update for Blake2bp<N> {
-    ghost use Rattle.blake2_parallel.specs.Hashers.{blake2bp_meaning};
+    ghost use Rattle.blake2_parallel.specs.HasherMeanings.{blake2bp_meaning};
 
     ghost meaning = { blake2bp_meaning N };
 
@@ -73,7 +73,7 @@ impl<const N: usize> FixedOutput<N> for Blake2bp<N> {
 }
 
 impl<const N: usize> Reset for Blake2bp<N> {
-    ghost use Rattle.blake2_parallel.specs.Hashers.{blake2bp_meaning};
+    ghost use Rattle.blake2_parallel.specs.HasherMeanings.{blake2bp_meaning};
     ghost use Rattle.blake2_digest.specs.States.{StartedAgain};
 
     ghost is_reset = { StartedAgain (blake2bp_meaning N) };
@@ -93,7 +93,7 @@ impl<const N: usize> FixedOutputReset<N> for Blake2bp<N> {
 }
 
 impl<const N: usize> CustomizedInit for Blake2bp<N> {
-    ghost use Rattle.blake2_parallel.specs.Hashers.{blake2bp_meaning};
+    ghost use Rattle.blake2_parallel.specs.HasherMeanings.{blake2bp_meaning};
     ghost use Rattle.blake2_digest.specs.States.{Fresh};
 
     ghost can_customize = { λ persona. (N ≤ 64) × (length persona ≤ 16) };
@@ -111,7 +111,7 @@ impl<const N: usize> CustomizedInit for Blake2bp<N> {
 }
 
 impl<const N: usize> Digest<N> for Blake2bp<N> {
-    ghost use Rattle.blake2_parallel.specs.Hashers.{blake2bp_meaning};
+    ghost use Rattle.blake2_parallel.specs.HasherMeanings.{blake2bp_meaning};
     ghost use Rattle.blake2_digest.specs.States.{Fresh};
 
     ghost is_supported = { N ≤ 64 };

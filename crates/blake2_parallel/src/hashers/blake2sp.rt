@@ -23,7 +23,7 @@ pub struct Blake2sp<const N: usize> {
 }
 
 impl<const N: usize> Blake2sp<N> {
-    ghost use Rattle.blake2_parallel.specs.Hashers.{blake2sp_meaning};
+    ghost use Rattle.blake2_parallel.specs.HasherMeanings.{blake2sp_meaning};
     ghost use Rattle.blake2_digest.specs.States.{Fresh};
 
     /// Returns a hasher that has absorbed nothing, with a salt and a persona of up to 8 bytes
@@ -52,7 +52,7 @@ impl<const N: usize> OutputSizeUser for Blake2sp<N> {
 impl<const N: usize> HashMarker for Blake2sp<N> {}
 
 impl<const N: usize> Update for Blake2sp<N> {
-    ghost use Rattle.blake2_parallel.specs.Hashers.{blake2sp_meaning};
+    ghost use Rattle.blake2_parallel.specs.HasherMeanings.{blake2sp_meaning};
 
     ghost meaning = { blake2sp_meaning N };
 
@@ -74,7 +74,7 @@ impl<const N: usize> FixedOutput<N> for Blake2sp<N> {
 }
 
 impl<const N: usize> Reset for Blake2sp<N> {
-    ghost use Rattle.blake2_parallel.specs.Hashers.{blake2sp_meaning};
+    ghost use Rattle.blake2_parallel.specs.HasherMeanings.{blake2sp_meaning};
     ghost use Rattle.blake2_digest.specs.States.{StartedAgain};
 
     ghost is_reset = { StartedAgain (blake2sp_meaning N) };
@@ -94,7 +94,7 @@ impl<const N: usize> FixedOutputReset<N> for Blake2sp<N> {
 }
 
 impl<const N: usize> CustomizedInit for Blake2sp<N> {
-    ghost use Rattle.blake2_parallel.specs.Hashers.{blake2sp_meaning};
+    ghost use Rattle.blake2_parallel.specs.HasherMeanings.{blake2sp_meaning};
     ghost use Rattle.blake2_digest.specs.States.{Fresh};
 
     ghost can_customize = { λ persona. (N ≤ 32) × (length persona ≤ 8) };
@@ -112,7 +112,7 @@ impl<const N: usize> CustomizedInit for Blake2sp<N> {
 }
 
 impl<const N: usize> Digest<N> for Blake2sp<N> {
-    ghost use Rattle.blake2_parallel.specs.Hashers.{blake2sp_meaning};
+    ghost use Rattle.blake2_parallel.specs.HasherMeanings.{blake2sp_meaning};
     ghost use Rattle.blake2_digest.specs.States.{Fresh};
 
     ghost is_supported = { N ≤ 32 };

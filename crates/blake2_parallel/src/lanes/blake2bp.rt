@@ -9,10 +9,11 @@ ghost use Rattle.blake2_simd.specs.Lanes.{in_lane};
 ghost use Rattle.blake2_simd.specs.Rows.{eight};
 ghost use Rattle.blake2_compress.specs.Hash.{bytes_of, compress as F, final, padded as filled};
 ghost use Rattle.blake2_compress.specs.Lanes.{flags_at, texts};
-ghost use Rattle.blake2_compress.specs.Pieces.{piece};
+ghost use Rattle.blake2_compress.specs.MessagePieces.{piece};
 ghost use Rattle.blake2_compress.specs.Views.{given_flags};
-ghost use Rattle.blake2_parallel.specs.Leaves.{Took, WentOn, end_flags, leaf_chain, leaf_future};
-ghost use Rattle.blake2_parallel.specs.Leaves.{total};
+ghost use Rattle.blake2_parallel.specs.LeafStates.{Took, WentOn, end_flags, leaf_chain};
+ghost use Rattle.blake2_parallel.specs.LeafStates.{leaf_future};
+ghost use Rattle.blake2_parallel.specs.LeafStates.{total};
 ghost use Rattle.blake2_parallel.specs.Blake2bp.{IsSound, leaves_of};
 
 use blake2_compress::compress::Flags;

@@ -24,7 +24,7 @@ pub struct Blake2bpMac<const N: usize> {
 }
 
 impl<const N: usize> Blake2bpMac<N> {
-    ghost use Rattle.blake2_parallel.specs.Hashers.{blake2bp_mac_meaning};
+    ghost use Rattle.blake2_parallel.specs.HasherMeanings.{blake2bp_mac_meaning};
     ghost use Rattle.blake2_digest.specs.States.{Fresh};
 
     /// Returns a MAC that has absorbed no message, under a key of 1 to 64 bytes, with a salt and a
@@ -75,7 +75,7 @@ impl<const N: usize> OutputSizeUser for Blake2bpMac<N> {
 impl<const N: usize> MacMarker for Blake2bpMac<N> {}
 
 impl<const N: usize> KeyInit<64> for Blake2bpMac<N> {
-    ghost use Rattle.blake2_parallel.specs.Hashers.{blake2bp_mac_meaning};
+    ghost use Rattle.blake2_parallel.specs.HasherMeanings.{blake2bp_mac_meaning};
     ghost use Rattle.blake2_digest.specs.States.{Fresh};
 
     ghost is_supported = { N ≤ 64 };
@@ -103,7 +103,7 @@ impl<const N: usize> KeyInit<64> for Blake2bpMac<N> {
 }
 
 impl<const N: usize> Update for Blake2bpMac<N> {
-    ghost use Rattle.blake2_parallel.specs.Hashers.{blake2bp_mac_meaning};
+    ghost use Rattle.blake2_parallel.specs.HasherMeanings.{blake2bp_mac_meaning};
 
     ghost meaning = { blake2bp_mac_meaning N };
 
@@ -125,7 +125,7 @@ impl<const N: usize> FixedOutput<N> for Blake2bpMac<N> {
 }
 
 impl<const N: usize> Reset for Blake2bpMac<N> {
-    ghost use Rattle.blake2_parallel.specs.Hashers.{blake2bp_mac_meaning};
+    ghost use Rattle.blake2_parallel.specs.HasherMeanings.{blake2bp_mac_meaning};
     ghost use Rattle.blake2_digest.specs.States.{StartedAgain};
 
     ghost is_reset = { StartedAgain (blake2bp_mac_meaning N) };

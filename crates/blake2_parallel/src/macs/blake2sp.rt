@@ -25,7 +25,7 @@ pub struct Blake2spMac<const N: usize> {
 }
 
 impl<const N: usize> Blake2spMac<N> {
-    ghost use Rattle.blake2_parallel.specs.Hashers.{blake2sp_mac_meaning};
+    ghost use Rattle.blake2_parallel.specs.HasherMeanings.{blake2sp_mac_meaning};
     ghost use Rattle.blake2_digest.specs.States.{Fresh};
 
     /// Returns a MAC that has absorbed no message, under a key of 1 to 32 bytes, with a salt and a
@@ -76,7 +76,7 @@ impl<const N: usize> OutputSizeUser for Blake2spMac<N> {
 impl<const N: usize> MacMarker for Blake2spMac<N> {}
 
 impl<const N: usize> KeyInit<32> for Blake2spMac<N> {
-    ghost use Rattle.blake2_parallel.specs.Hashers.{blake2sp_mac_meaning};
+    ghost use Rattle.blake2_parallel.specs.HasherMeanings.{blake2sp_mac_meaning};
     ghost use Rattle.blake2_digest.specs.States.{Fresh};
 
     ghost is_supported = { N ≤ 32 };
@@ -104,7 +104,7 @@ impl<const N: usize> KeyInit<32> for Blake2spMac<N> {
 }
 
 impl<const N: usize> Update for Blake2spMac<N> {
-    ghost use Rattle.blake2_parallel.specs.Hashers.{blake2sp_mac_meaning};
+    ghost use Rattle.blake2_parallel.specs.HasherMeanings.{blake2sp_mac_meaning};
 
     ghost meaning = { blake2sp_mac_meaning N };
 
@@ -126,7 +126,7 @@ impl<const N: usize> FixedOutput<N> for Blake2spMac<N> {
 }
 
 impl<const N: usize> Reset for Blake2spMac<N> {
-    ghost use Rattle.blake2_parallel.specs.Hashers.{blake2sp_mac_meaning};
+    ghost use Rattle.blake2_parallel.specs.HasherMeanings.{blake2sp_mac_meaning};
     ghost use Rattle.blake2_digest.specs.States.{StartedAgain};
 
     ghost is_reset = { StartedAgain (blake2sp_mac_meaning N) };

@@ -1,10 +1,10 @@
 use Rattle.std.proofs.Common.{◌≡◌, Ok, rules}
 use Rattle.blake2.specs.Family.{blake2b}
-use Rattle.blake2.specs.Keys.{key_count}
-use Rattle.b2_commands.specs.Options.{given_of}
+use Rattle.blake2.specs.MacArguments.{key_count}
+use Rattle.b2_commands.specs.ReadOptions.{given_of}
 use Rattle.b2_commands.specs.Tasks.{node_digest_with}
-use Rattle.b2_commands.specs.Words.{blake2b_of, nothing_given}
-use Rattle.b2_commands.proofs.Hashing.{nothing_taken, sum_ends, script_ends}
+use Rattle.b2_commands.specs.ArgumentTasks.{blake2b_of, nothing_given}
+use Rattle.b2_commands.proofs.PrintedDigests.{nothing_taken, sum_ends, script_ends}
 use Rattle.b2_commands.proofs.digests.hash_blake2b.Goals as goal
 
 pub returns-in_ok-hash_stream-in-Digest : goal.returns-in_ok-hash_stream-in-Digest

@@ -1,6 +1,6 @@
 use Rattle.std.proofs.Common.{map, rules}
 use Rattle.std.specs.String.{string_bytes}
-use Rattle.b2_commands.specs.Parsed.{comparison_task}
+use Rattle.b2_commands.specs.ReadTasks.{comparison_task}
 use Rattle.b2_commands.proofs.Statuses.{done_by, told_by}
 use Rattle.b2_commands.proofs.dispatch.run.Goals as goal
 

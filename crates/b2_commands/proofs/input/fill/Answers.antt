@@ -1,6 +1,6 @@
 use Rattle.std.proofs.Common.{◌≡◌, ◌-◌, ◌∙◌, false, ◌||◌, ap, arith, length, rules, take}
 use Rattle.std.proofs.KnownBytes.{Consumes-trans}
-use Rattle.b2_commands.proofs.Filling.{take-more}
+use Rattle.b2_commands.proofs.FilledBuffers.{take-more}
 use Rattle.b2_commands.proofs.input.fill.Goals as goal
 
 pub filling-preserved : goal.filling-preserved

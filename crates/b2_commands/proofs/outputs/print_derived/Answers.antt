@@ -1,7 +1,7 @@
 use Rattle.std.proofs.Common.{◌≡◌, [], refl, rules}
 use Rattle.blake2.specs.Family.{blake2b}
 use Rattle.blake2_digest.specs.States.{Fresh, digest_now}
-use Rattle.blake2_state.specs.Arguments.{given_count}
+use Rattle.blake2_state.specs.ConstructorArguments.{given_count}
 use Rattle.blake2_xof.specs.Blake2xb.{meaning, output_now}
 use Rattle.blake2_xof.specs.Xof.{Settings, outputs, settings}
 use Rattle.b2_commands.proofs.OutputLaws.{printed_output}

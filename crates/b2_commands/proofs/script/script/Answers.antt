@@ -1,7 +1,7 @@
 use Rattle.std.proofs.Common.{◌≡◌, false, map, Ok, IfSome}
 use Rattle.std.proofs.KnownBytes.{Keeps-refl}
 use Rattle.blake2.specs.Play.{play_fresh}
-use Rattle.b2_commands.specs.Reading.{call_value, unplaced}
+use Rattle.b2_commands.specs.ReadScripts.{call_value, unplaced}
 use Rattle.b2_commands.specs.Scripts.{script_calls, script_digests}
 use Rattle.b2_commands.proofs.ScriptLemmas.{answered, printed, stopped}
 use Rattle.b2_commands.proofs.script.script.Goals as goal

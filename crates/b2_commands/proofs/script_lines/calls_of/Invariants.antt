@@ -1,5 +1,5 @@
 use Rattle.std.proofs.Common.{◌≡◌, map, take}
-use Rattle.b2_commands.specs.Reading.{call_value, unplaced}
+use Rattle.b2_commands.specs.ReadScripts.{call_value, unplaced}
 use Rattle.b2_commands.proofs.script_lines.calls_of.Given as goal
 
 abbrev pub invariant-loop-call : goal.invariant-loop-call

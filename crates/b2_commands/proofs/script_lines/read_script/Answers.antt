@@ -1,7 +1,7 @@
 use Rattle.std.proofs.Common.{◌≡◌, ◌+◌, [], ◌∷◌, ◌++◌, length, length-append, map, Ok, rules}
 use Rattle.std.proofs.lemmas.List.{map-append}
 use Rattle.text_lines.specs.Cuts.{lines_of}
-use Rattle.b2_commands.specs.Reading.{call_value}
+use Rattle.b2_commands.specs.ReadScripts.{call_value}
 use Rattle.b2_commands.specs.Scripts.{call_at, script_calls}
 use Rattle.b2_commands.proofs.LineLemmas.{read_on}
 use Rattle.b2_commands.proofs.script_lines.read_script.Goals as goal

@@ -1,6 +1,6 @@
 use Rattle.std.proofs.Common.{◌≡◌, ◌+◌, length, map}
 use Rattle.text_lines.specs.Cuts.{lines_of}
-use Rattle.b2_commands.specs.Reading.{call_value}
+use Rattle.b2_commands.specs.ReadScripts.{call_value}
 use Rattle.b2_commands.specs.Scripts.{calls_from, script_calls}
 use Rattle.b2_commands.proofs.LineLemmas.{behind}
 use Rattle.b2_commands.proofs.script_lines.read_script.Given as goal

@@ -2,7 +2,7 @@ use Rattle.std.proofs.Common.{◌≡◌, false, map, take}
 use Rattle.std.specs.List.{flat_map}
 use Rattle.std.specs.Io.KnownBytes.{Appends}
 use Rattle.blake2.specs.StepViews.{entry_of}
-use Rattle.b2_commands.specs.Lines.{entry_line}
+use Rattle.b2_commands.specs.PrintedLines.{entry_line}
 use Rattle.b2_commands.proofs.steps.print_entries.Given as goal
 
 abbrev pub invariant-loop-entry : goal.invariant-loop-entry

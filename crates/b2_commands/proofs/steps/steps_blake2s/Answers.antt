@@ -3,10 +3,11 @@ use Rattle.std.proofs.Common.{[], refl}
 use Rattle.std.proofs.lemmas.Bool.{iff_false}
 use Rattle.std.proofs.KnownBytes.{Keeps-refl}
 use Rattle.blake2.specs.Family.{blake2s}
-use Rattle.blake2.specs.Keys.{key_count}
-use Rattle.b2_commands.specs.Options.{given_of}
+use Rattle.blake2.specs.MacArguments.{key_count}
+use Rattle.b2_commands.specs.ReadOptions.{given_of}
 use Rattle.b2_commands.specs.Tasks.{input_with}
-use Rattle.b2_commands.proofs.Accepting.{not_refused, refused_without_message, too_long, counts_all}
+use Rattle.b2_commands.proofs.AcceptedInputs.{not_refused, refused_without_message, too_long}
+use Rattle.b2_commands.proofs.AcceptedInputs.{counts_all}
 use Rattle.b2_commands.proofs.steps.steps_blake2s.Goals as goal
 
 pub returns-then-not-accepts-clause-length : goal.returns-then-not-accepts-clause-length

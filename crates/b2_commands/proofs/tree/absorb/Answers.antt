@@ -1,6 +1,6 @@
 use Rattle.std.proofs.Common.{◌++◌, rules, take}
 use Rattle.std.proofs.KnownBytes.{Consumes-trans}
-use Rattle.b2_commands.proofs.Filling.{Took-trans}
+use Rattle.b2_commands.proofs.FilledBuffers.{Took-trans}
 use Rattle.b2_commands.proofs.tree.absorb.Goals as goal
 
 pub pieces-preserved : goal.pieces-preserved

@@ -1,6 +1,6 @@
 use Rattle.std.proofs.Common.{◌∙◌}
 use Rattle.blake2_tree.specs.TreeRoot.{tree_parameters, tree_root}
-use Rattle.b2_commands.specs.Options.{given_of}
+use Rattle.b2_commands.specs.ReadOptions.{given_of}
 use Rattle.b2_commands.specs.Tasks.{root_with}
 use Rattle.b2_commands.proofs.PrintedRoot.{printed_root}
 use Rattle.b2_commands.proofs.tree.print_root.Goals as goal

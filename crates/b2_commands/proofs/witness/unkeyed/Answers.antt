@@ -1,7 +1,7 @@
 use Rattle.std.proofs.Common.{◌<◌, ◌^◌, List, ap, length, rules, ℕ, [], None}
 use Rattle.blake2.specs.Hash.{AreBytes, Input, Tree}
 use Rattle.blake2.specs.States.{input}
-use Rattle.b2_commands.proofs.Accepting.{unkeyed_accepted}
+use Rattle.b2_commands.proofs.AcceptedInputs.{unkeyed_accepted}
 use Rattle.b2_commands.proofs.witness.unkeyed.Goals as goal
 
 pub returns-clause-accepted : goal.returns-clause-accepted

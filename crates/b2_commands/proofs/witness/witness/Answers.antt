@@ -1,6 +1,6 @@
 use Rattle.std.proofs.Common.{rules}
-use Rattle.b2_commands.specs.Parsed.{comparison_task}
-use Rattle.b2_commands.proofs.Unread.{unread_ends}
+use Rattle.b2_commands.specs.ReadTasks.{comparison_task}
+use Rattle.b2_commands.proofs.TasksWithoutInput.{unread_ends}
 use Rattle.b2_commands.proofs.witness.witness.Goals as goal
 
 pub returns-in-Blake2b : goal.returns-in-Blake2b

@@ -1,6 +1,6 @@
 use Rattle.std.proofs.Common.{refl}
 use Rattle.blake2.specs.Family.{blake2b}
-use Rattle.b2_commands.proofs.Printing.{pair_printed}
+use Rattle.b2_commands.proofs.PrintedInTurn.{pair_printed}
 use Rattle.b2_commands.proofs.witness.witness_blake2b.Goals as goal
 
 pub returns-in_ok-print_blake2b-in-Some-clause-lines :

@@ -1,7 +1,7 @@
 -- Made by tools/twins.py from proofs/witness/witness_blake2b/Answers.antt.
 use Rattle.std.proofs.Common.{refl}
 use Rattle.blake2.specs.Family.{blake2s}
-use Rattle.b2_commands.proofs.Printing.{pair_printed}
+use Rattle.b2_commands.proofs.PrintedInTurn.{pair_printed}
 use Rattle.b2_commands.proofs.witness.witness_blake2s.Goals as goal
 
 pub returns-in_ok-print_blake2s-in-Some-clause-lines :

@@ -2,7 +2,7 @@ use Rattle.std.proofs.Common.{◌≡◌, ℕ, ◌+◌, ◌<◌, ◌∙◌, ap, r
 use Rattle.std.proofs.Common.{append-nil, arith, inl, inr}
 use Rattle.std.specs.Prelude.{Option, Some, None, IfSome, Ok}
 use Rattle.blake2_streams.specs.Streams.{GivesAll}
-use Rattle.b2sum.specs.Refusals.{IsTooLong}
+use Rattle.b2sum.specs.RefusedTexts.{IsTooLong}
 use Rattle.b2sum.proofs.hashes.digest.Goals as goal
 
 -- A whole text that fits is not too long.

@@ -1,11 +1,11 @@
 use Rattle.std.proofs.Common.{◌≡◌, Some, Ok, is_none, ap, ◌∙◌, sym}
-use Rattle.b2sum_lines.specs.Entries.{entry_value}
+use Rattle.b2sum_lines.specs.EntryViews.{entry_value}
 use Rattle.b2sum_commands.specs.World.{Streams}
 use Rattle.b2sum_commands.specs.World.{world_of}
 use Rattle.b2sum_commands.specs.Manifests.{item, spacing_after}
-use Rattle.b2sum_commands.specs.Checks.{item_value}
-use Rattle.b2sum_commands.proofs.Judging.{entry_line}
-use Rattle.b2sum_commands.proofs.Stopping.{entry_stops}
+use Rattle.b2sum_commands.specs.ManifestChecks.{item_value}
+use Rattle.b2sum_commands.proofs.Verdicts.{entry_line}
+use Rattle.b2sum_commands.proofs.EndedByErrors.{entry_stops}
 use Rattle.b2sum_commands.proofs.check.check_line.Goals as goal
 
 pub returns-in-Listed-clause-checked : goal.returns-in-Listed-clause-checked

@@ -4,11 +4,11 @@ use Rattle.b2sum_commands.specs.World.{Streams}
 use Rattle.b2sum_commands.specs.LineReads.{source_left, source_name, IsAfter}
 use Rattle.b2sum_commands.specs.Manifests.{IsLine, BeginsLine}
 use Rattle.b2sum_commands.specs.declared.line_reader.LineEnd.TheVariants.{Newline}
-use Rattle.b2sum_commands.proofs.Stopping.{stopped_between, stopped_in, some_bytes}
+use Rattle.b2sum_commands.proofs.EndedByErrors.{stopped_between, stopped_in, some_bytes}
 use Rattle.b2sum_commands.specs.World.{world_of, HasFailed}
-use Rattle.b2sum_commands.proofs.Judging.{no_bytes}
-use Rattle.b2sum_commands.proofs.Reading.{reading_start, same_streams, found_end, found_last}
-use Rattle.b2sum_commands.proofs.Reading.{found_line, line_left, read_at}
+use Rattle.b2sum_commands.proofs.Verdicts.{no_bytes}
+use Rattle.b2sum_commands.proofs.CheckedLines.{reading_start, same_streams, found_end, found_last}
+use Rattle.b2sum_commands.proofs.CheckedLines.{found_line, line_left, read_at}
 use Rattle.b2sum_commands.proofs.check.check_lines.Goals.{
   else-ne-via-then-ne+else-is_empty,
   else-ne-via-else-ne,

@@ -3,7 +3,7 @@ use Rattle.b2sum_commands.specs.World.{world_of}
 use Rattle.b2sum_commands.specs.LineReads.{source_left, source_name}
 use Rattle.b2sum_commands.specs.Reports.{AreCounted}
 use Rattle.b2sum_commands.specs.declared.check.Verdict.{Verdict}
-use Rattle.b2sum_commands.proofs.Reading.{Reading}
+use Rattle.b2sum_commands.proofs.CheckedLines.{Reading}
 use Rattle.b2sum_commands.proofs.check.check_lines.Given as goal
 
 abbrev pub invariant-loop-number : goal.invariant-loop-number

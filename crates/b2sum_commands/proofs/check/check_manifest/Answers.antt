@@ -1,7 +1,7 @@
 use Rattle.std.proofs.Common.{subst}
 use Rattle.std.specs.Result.{result_ok}
 use Rattle.b2sum_commands.specs.World.{Streams, world_of}
-use Rattle.b2sum_commands.specs.Checks.{GoesOn}
+use Rattle.b2sum_commands.specs.ManifestChecks.{GoesOn}
 use Rattle.b2sum_commands.proofs.check.check_manifest.Goals as goal
 
 pub returns-clause-checked : goal.returns-clause-checked

@@ -1,9 +1,10 @@
 use Rattle.std.proofs.Common.{Bool, ◌&&◌, [], ◌∷◌, ◌++◌, refl, ap, ◌∙◌, sym, arith}
 use Rattle.b2sum_commands.proofs.OneMore.{all_more}
-use Rattle.b2sum_commands.proofs.Stopping.{stops}
-use Rattle.b2sum_commands.proofs.Turns.{sofar_start, name_step, name_stops, names_end, items_of}
+use Rattle.b2sum_commands.proofs.EndedByErrors.{stops}
+use Rattle.b2sum_commands.proofs.DoneInTurn.{sofar_start, name_step, name_stops, names_end}
+use Rattle.b2sum_commands.proofs.DoneInTurn.{items_of}
 use Rattle.b2sum_commands.specs.World.{world_of, AllInTurn, Ends, Stops}
-use Rattle.b2sum_commands.specs.Checks.{IsChecked}
+use Rattle.b2sum_commands.specs.ManifestChecks.{IsChecked}
 use Rattle.b2sum_commands.proofs.check.check_manifests.Goals as goal
 
 pub loop-name-init : goal.loop-name-init

@@ -1,8 +1,8 @@
 use Rattle.std.proofs.Common.{◌≡◌, Bool, List, drop}
 use Rattle.std.specs.List.{list_all}
 use Rattle.b2sum_commands.specs.World.{world_of, Ends}
-use Rattle.b2sum_commands.specs.Checks.{IsChecked}
-use Rattle.b2sum_commands.proofs.Turns.{Sofar, items_of}
+use Rattle.b2sum_commands.specs.ManifestChecks.{IsChecked}
+use Rattle.b2sum_commands.proofs.DoneInTurn.{Sofar, items_of}
 use Rattle.b2sum_commands.proofs.check.check_manifests.Given as goal
 
 abbrev pub invariant-loop-name : goal.invariant-loop-name

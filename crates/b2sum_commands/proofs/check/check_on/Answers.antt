@@ -5,16 +5,18 @@ use Rattle.b2sum_commands.specs.declared.check.Manifest.{Manifest}
 use Rattle.b2sum_commands.specs.World.{world_of, HasFailed, IsWritten}
 use Rattle.b2sum_commands.specs.Reports.{report_text, title_of}
 use Rattle.b2sum_commands.specs.LineReads.{source_left, source_name}
-use Rattle.b2sum_commands.specs.Checks.{AreRead, EndsAt}
+use Rattle.b2sum_commands.specs.ManifestChecks.{AreRead, EndsAt}
 use Rattle.b2sum_commands.specs.World.{Streams}
-use Rattle.b2sum_commands.specs.Sums.{is_dash}
-use Rattle.b2sum_commands.proofs.Judging.{nothing_begins}
-use Rattle.b2sum_commands.proofs.Counting.{counted_holds}
-use Rattle.b2sum_commands.proofs.Reading.{is_judged, is_cut_short, source_at}
-use Rattle.b2sum_commands.specs.Checks.{GoesOn, AreStopped}
-use Rattle.b2sum_commands.proofs.Stopping.{stops, some_of, unstarted, stopped_opened, stopped_after}
-use Rattle.b2sum_commands.proofs.Known.{IsKnown, seen, seen_ends, seen_input, seen_read, seen_start}
-use Rattle.b2sum_commands.proofs.Known.{seen_stopped}
+use Rattle.b2sum_commands.specs.PrintedSums.{is_dash}
+use Rattle.b2sum_commands.proofs.Verdicts.{nothing_begins}
+use Rattle.b2sum_commands.proofs.VerdictCounts.{counted_holds}
+use Rattle.b2sum_commands.proofs.CheckedLines.{is_judged, is_cut_short, source_at}
+use Rattle.b2sum_commands.specs.ManifestChecks.{GoesOn, AreStopped}
+use Rattle.b2sum_commands.proofs.EndedByErrors.{stops, some_of, unstarted, stopped_opened}
+use Rattle.b2sum_commands.proofs.EndedByErrors.{stopped_after}
+use Rattle.b2sum_commands.proofs.KnownBytes.{IsKnown, seen, seen_ends, seen_input, seen_read}
+use Rattle.b2sum_commands.proofs.KnownBytes.{seen_start}
+use Rattle.b2sum_commands.proofs.KnownBytes.{seen_stopped}
 use Rattle.b2sum_commands.proofs.check.check_on.Goals as goal
 
 pub returns-in_default-clause-checked : goal.returns-in_default-clause-checked

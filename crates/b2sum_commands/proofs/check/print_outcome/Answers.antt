@@ -1,7 +1,7 @@
 use Rattle.std.proofs.Common.{◌≡◌, subst, rules}
 use Rattle.b2sum_commands.specs.World.{StopsIn}
 use Rattle.b2sum_commands.specs.Manifests.{with_name}
-use Rattle.b2sum_commands.proofs.Stopping.{on_err}
+use Rattle.b2sum_commands.proofs.EndedByErrors.{on_err}
 use Rattle.b2sum_commands.proofs.check.print_outcome.Goals.{
   then-contains+in_ok-extend_from_slice+in_ok-push_escaped,
   else-contains+in_ok-extend_from_slice-2,

@@ -1,5 +1,5 @@
 use Rattle.std.proofs.Common.{rules}
-use Rattle.b2sum_commands.proofs.Reporting.{reported}
+use Rattle.b2sum_commands.proofs.ManifestMessages.{reported}
 use Rattle.b2sum_commands.proofs.check.report.Goals as goal
 
 pub returns-clause-told : goal.returns-clause-told

@@ -1,4 +1,4 @@
-use Rattle.b2sum_commands.proofs.Reporting.{four_written}
+use Rattle.b2sum_commands.proofs.ManifestMessages.{four_written}
 use Rattle.b2sum_commands.proofs.check.warn_of_counts.Goals as goal
 
 pub returns : goal.returns

@@ -1,5 +1,5 @@
 use Rattle.std.proofs.Common.{rules, arith}
-use Rattle.b2sum_commands.proofs.Reporting.{told}
+use Rattle.b2sum_commands.proofs.ManifestMessages.{told}
 use Rattle.b2sum_commands.proofs.check.warn_of_none.Goals as goal
 
 pub returns : goal.returns

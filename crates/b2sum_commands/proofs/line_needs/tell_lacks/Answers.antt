@@ -1,6 +1,6 @@
 use Rattle.std.proofs.Common.{ℕ, ◌==◌, not, [], ap}
 use Rattle.std.proofs.lemmas.Bool.{ne_eqb}
-use Rattle.b2sum_commands.proofs.Reporting.{told, unsaid}
+use Rattle.b2sum_commands.proofs.ManifestMessages.{told, unsaid}
 use Rattle.b2sum_commands.proofs.line_needs.tell_lacks.Goals as goal
 
 pub returns-then-count-eq0 : goal.returns-then-count-eq0

@@ -1,8 +1,8 @@
 use Rattle.std.proofs.Common.{rules, map}
 use Rattle.std.proofs.lemmas.List.{take_rest}
-use Rattle.b2sum_commands.specs.Readers.{state_of}
+use Rattle.b2sum_commands.specs.CommandLineViews.{state_of}
 use Rattle.b2sum_commands.specs.declared.options.Next.TheVariants.{Any}
-use Rattle.b2sum_commands.proofs.Stops.{long_stops, letters_stop}
+use Rattle.b2sum_commands.proofs.StopsOfParts.{long_stops, letters_stop}
 use Rattle.b2sum_commands.proofs.options.read_any.Goals as goal
 
 pub returns-then-starts_with-clause-stop : goal.returns-then-starts_with-clause-stop

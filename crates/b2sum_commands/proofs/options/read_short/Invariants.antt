@@ -1,6 +1,6 @@
 use Rattle.std.proofs.Common.{◌≡◌, drop}
 use Rattle.b2sum_commands.specs.CommandLine.{read_letters}
-use Rattle.b2sum_commands.specs.Readers.{choice_of}
+use Rattle.b2sum_commands.specs.CommandLineViews.{choice_of}
 use Rattle.b2sum_commands.proofs.options.read_short.Given as goal
 
 abbrev pub invariant-loop-i : goal.invariant-loop-i

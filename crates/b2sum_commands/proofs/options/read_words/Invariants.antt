@@ -1,6 +1,6 @@
 use Rattle.std.proofs.Common.{◌≡◌, drop, map}
 use Rattle.b2sum_commands.specs.CommandLine.{read_words}
-use Rattle.b2sum_commands.specs.Readers.{state_of}
+use Rattle.b2sum_commands.specs.CommandLineViews.{state_of}
 use Rattle.b2sum_commands.proofs.options.read_words.Given as goal
 
 abbrev pub invariant-loop-word : goal.invariant-loop-word

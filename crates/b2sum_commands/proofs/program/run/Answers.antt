@@ -1,11 +1,12 @@
 use Rattle.std.proofs.Common.{true, false, None, refl, subst, rules}
 use Rattle.b2sum_commands.specs.declared.program.TheConstants.{HELP, VERSION}
-use Rattle.b2sum_commands.specs.Accepted.{command_line}
+use Rattle.b2sum_commands.specs.AcceptedOptions.{command_line}
 use Rattle.b2sum_commands.specs.World.{Streams}
-use Rattle.b2sum_commands.specs.Runs.{help_of}
+use Rattle.b2sum_commands.specs.ProgramRuns.{help_of}
 use Rattle.b2sum_commands.specs.World.{IsEnded, world_of}
-use Rattle.b2sum_commands.proofs.Telling.{HasRun, done_run, ended_run, memory_ended, refused_run}
-use Rattle.b2sum_commands.proofs.Turns.{items_of}
+use Rattle.b2sum_commands.proofs.MessagesInTurn.{HasRun, done_run, ended_run, memory_ended}
+use Rattle.b2sum_commands.proofs.MessagesInTurn.{refused_run}
+use Rattle.b2sum_commands.proofs.DoneInTurn.{items_of}
 use Rattle.b2sum_commands.proofs.program.run.Goals as goal
 
 pub returns-in-Ok-true-clause-line : goal.returns-in-Ok-true-clause-line

@@ -1,17 +1,17 @@
 use Rattle.std.proofs.Common.{◌≡◌, List, Vec, ℕ, Global, inl, inr, refl, IfSome, subst, ap, ◌∙◌, rules}
-use Rattle.b2sum_lines.specs.Lines.{max_bytes}
+use Rattle.b2sum_lines.specs.ManifestLines.{max_bytes}
 use Rattle.std.specs.Result.{result_ok}
 use Rattle.b2sum_commands.specs.declared.options.Options.{Options}
 use Rattle.b2sum_commands.specs.World.{Streams}
 use Rattle.b2sum_commands.specs.World.{world_of, AllInTurn}
-use Rattle.b2sum_commands.specs.Sums.{IsSum}
-use Rattle.b2sum_commands.specs.Checks.{IsChecked}
-use Rattle.b2sum_commands.specs.Accepted.{AreOptions}
+use Rattle.b2sum_commands.specs.PrintedSums.{IsSum}
+use Rattle.b2sum_commands.specs.ManifestChecks.{IsChecked}
+use Rattle.b2sum_commands.specs.AcceptedOptions.{AreOptions}
 use Rattle.std.specs.Option.{option_map}
-use Rattle.b2sum_commands.specs.Runs.{HasKey, AfterKey, IsKeyless, DoesChoice}
-use Rattle.b2sum_commands.proofs.Stopping.{stops}
-use Rattle.b2sum_commands.proofs.Turns.{items_of}
-use Rattle.b2sum_commands.proofs.Doing.{checks_done, sums_done}
+use Rattle.b2sum_commands.specs.ProgramRuns.{HasKey, AfterKey, IsKeyless, DoesChoice}
+use Rattle.b2sum_commands.proofs.EndedByErrors.{stops}
+use Rattle.b2sum_commands.proofs.DoneInTurn.{items_of}
+use Rattle.b2sum_commands.proofs.DoneTasks.{checks_done, sums_done}
 use Rattle.b2sum_commands.proofs.program.run_task.Goals as goal
 
 pub returns-in_default-clause-choice : goal.returns-in_default-clause-choice

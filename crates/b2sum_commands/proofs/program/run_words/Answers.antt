@@ -1,4 +1,4 @@
-use Rattle.b2sum_commands.proofs.Stops.{stop_does, arguments_do}
+use Rattle.b2sum_commands.proofs.StopsOfParts.{stop_does, arguments_do}
 use Rattle.b2sum_commands.proofs.program.run_words.Goals as goal
 
 pub returns-in-Ok-clause-line : goal.returns-in-Ok-clause-line

@@ -1,5 +1,6 @@
 use Rattle.std.proofs.Common.{codes, refl, ◌∙◌, arith}
-use Rattle.b2sum_commands.proofs.Telling.{more_message, message_more, some_joined, unsaid_more}
+use Rattle.b2sum_commands.proofs.MessagesInTurn.{more_message, message_more, some_joined}
+use Rattle.b2sum_commands.proofs.MessagesInTurn.{unsaid_more}
 use Rattle.b2sum_commands.proofs.program.tell_usage.Goals as goal
 
 pub returns-clause-told : goal.returns-clause-told

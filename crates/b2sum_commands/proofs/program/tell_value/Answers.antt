@@ -1,7 +1,7 @@
 use Rattle.std.proofs.Common.{refl, subst, sym}
 use Rattle.b2sum_commands.specs.World.{HasMore}
-use Rattle.b2sum_commands.proofs.Telling.{more_message, message_more, line_more, some_ended}
-use Rattle.b2sum_commands.proofs.Telling.{unsaid_more}
+use Rattle.b2sum_commands.proofs.MessagesInTurn.{more_message, message_more, line_more, some_ended}
+use Rattle.b2sum_commands.proofs.MessagesInTurn.{unsaid_more}
 use Rattle.b2sum_commands.proofs.program.tell_value.Goals as goal
 
 pub returns-clause-told : goal.returns-clause-told

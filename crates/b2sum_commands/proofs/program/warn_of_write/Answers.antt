@@ -1,5 +1,5 @@
 use Rattle.std.proofs.Common.{[], ◌∷◌, ◌++◌, codes, subst, sym, ◌∙◌, rules}
-use Rattle.b2sum_commands.proofs.Telling.{after_ok, with_reason, without_reason}
+use Rattle.b2sum_commands.proofs.MessagesInTurn.{after_ok, with_reason, without_reason}
 use Rattle.b2sum_commands.specs.World.{IsWritten}
 use Rattle.b2sum_commands.proofs.program.warn_of_write.Goals as goal
 

@@ -1,14 +1,14 @@
 use Rattle.std.proofs.Common.{◌≡◌, ◌⊎◌, ◌∙◌, ℕ, Bool, List, Option, Vec, Global, true, false, refl, sym, subst, ap, rules}
-use Rattle.b2sum_lines.specs.Lines.{max_bytes}
+use Rattle.b2sum_lines.specs.ManifestLines.{max_bytes}
 use Rattle.b2sum_commands.specs.World.{Streams}
 use Rattle.std.specs.Option.{option_map}
-use Rattle.b2sum_commands.specs.Sums.{is_dash}
-use Rattle.b2sum_commands.specs.Accepted.{is_input}
-use Rattle.b2sum_commands.specs.Runs.{IsPastKey}
+use Rattle.b2sum_commands.specs.PrintedSums.{is_dash}
+use Rattle.b2sum_commands.specs.AcceptedOptions.{is_input}
+use Rattle.b2sum_commands.specs.ProgramRuns.{IsPastKey}
 use Rattle.b2sum_commands.specs.World.{HasMessage, IsNoKey, world_of}
-use Rattle.b2sum_commands.proofs.Doing.{input_lacks_key, file_lacks_key, opened_lacks_key}
+use Rattle.b2sum_commands.proofs.DoneTasks.{input_lacks_key, file_lacks_key, opened_lacks_key}
 use Rattle.b2sum_commands.proofs.program.with_key.Goals.{then-is_dash+in_ok-found, else-is_dash+in_ok-found-2}
-use Rattle.b2sum_commands.proofs.Dash.{dash_name}
+use Rattle.b2sum_commands.proofs.StandardInputName.{dash_name}
 use Rattle.b2sum_commands.proofs.program.with_key.Goals as goal
 
 pub returns-in_default-clause-kept : goal.returns-in_default-clause-kept

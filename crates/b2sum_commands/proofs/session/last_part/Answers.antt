@@ -1,4 +1,4 @@
-use Rattle.b2sum_commands.proofs.Naming.{part_after, whole_part}
+use Rattle.b2sum_commands.proofs.LastPathPart.{part_after, whole_part}
 use Rattle.b2sum_commands.proofs.session.last_part.Goals.{then-part-test+else-path-at-ne47, else-part-test}
 use Rattle.b2sum_commands.proofs.session.last_part.Goals as goal
 

@@ -1,5 +1,5 @@
 use Rattle.std.proofs.Common.{◌≡◌, ◌||◌, ◌⊎◌, ◌∙◌, Bool, true, false, inl, inr, refl, rules}
-use Rattle.b2sum_commands.proofs.Dash.{dash_name}
+use Rattle.b2sum_commands.proofs.StandardInputName.{dash_name}
 use Rattle.b2sum_commands.proofs.sums.digest_file.Goals.{else-not-failed-via-then-not-failed+else-is_ok}
 use Rattle.b2sum_commands.proofs.sums.digest_file.Goals.{else-not-failed-via-else-not-failed}
 use Rattle.b2sum_commands.proofs.sums.digest_file.Goals as goal

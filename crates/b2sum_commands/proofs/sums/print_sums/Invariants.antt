@@ -1,8 +1,8 @@
 use Rattle.std.proofs.Common.{◌≡◌, Bool, List, drop}
 use Rattle.std.specs.List.{list_all}
 use Rattle.b2sum_commands.specs.World.{world_of, Ends}
-use Rattle.b2sum_commands.specs.Sums.{IsSum}
-use Rattle.b2sum_commands.proofs.Turns.{Sofar, items_of}
+use Rattle.b2sum_commands.specs.PrintedSums.{IsSum}
+use Rattle.b2sum_commands.proofs.DoneInTurn.{Sofar, items_of}
 use Rattle.b2sum_commands.proofs.sums.print_sums.Given as goal
 
 abbrev pub invariant-loop-name : goal.invariant-loop-name

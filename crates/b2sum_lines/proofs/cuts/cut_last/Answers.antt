@@ -1,8 +1,8 @@
 use Rattle.std.proofs.Common.{◌≡◌, ◌+◌, ◌-◌, ◌<◌, length, take, drop, Some, None}
 use Rattle.std.proofs.Common.{refl, sym, ap, ◌∙◌, arith, eq-eqb}
 use Rattle.std.proofs.lemmas.List.{take_rest}
-use Rattle.b2sum_lines.specs.Lines.{cut_last}
-use Rattle.b2sum_lines.proofs.Loops.{cut_found}
+use Rattle.b2sum_lines.specs.ManifestLines.{cut_last}
+use Rattle.b2sum_lines.proofs.TextLoops.{cut_found}
 use Rattle.b2sum_lines.proofs.cuts.cut_last.Goals as goal
 
 pub returns-then-text-at : goal.returns-then-text-at

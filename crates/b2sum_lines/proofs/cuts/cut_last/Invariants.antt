@@ -1,5 +1,5 @@
 use Rattle.std.proofs.Common.{◌≡◌, ◌≤◌, length, drop, None}
-use Rattle.b2sum_lines.specs.Lines.{cut_last}
+use Rattle.b2sum_lines.specs.ManifestLines.{cut_last}
 use Rattle.b2sum_lines.proofs.cuts.cut_last.Given as goal
 
 abbrev pub invariant-searching : goal.invariant-searching

@@ -1,5 +1,5 @@
 use Rattle.std.proofs.Common.{◌≡◌, drop}
-use Rattle.b2sum_lines.specs.Lines.{skip, is_blank}
+use Rattle.b2sum_lines.specs.ManifestLines.{skip, is_blank}
 use Rattle.b2sum_lines.proofs.cuts.skip_blanks.Given as goal
 
 abbrev pub invariant-loop-i : goal.invariant-loop-i

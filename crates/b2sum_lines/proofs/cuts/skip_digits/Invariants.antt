@@ -1,5 +1,5 @@
 use Rattle.std.proofs.Common.{◌≡◌, drop}
-use Rattle.b2sum_lines.specs.Lines.{skip}
+use Rattle.b2sum_lines.specs.ManifestLines.{skip}
 use Rattle.hex.specs.Hex.{is_hex_digit}
 use Rattle.b2sum_lines.proofs.cuts.skip_digits.Given as goal
 

@@ -1,5 +1,5 @@
 use Rattle.std.proofs.Common.{sym, arith}
-use Rattle.b2sum_lines.proofs.Digests.{too_many}
+use Rattle.b2sum_lines.proofs.HexDigests.{too_many}
 use Rattle.b2sum_lines.proofs.reads.digest_of.Goals as goal
 
 pub returns-then-digits-max_bytes-clause-digest : goal.returns-then-digits-max_bytes-clause-digest

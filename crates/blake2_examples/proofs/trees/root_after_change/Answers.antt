@@ -2,7 +2,7 @@ use Rattle.std.proofs.Common.{◌≡◌, ℕ, ◌+◌, ◌-◌, ◌*◌, List, [
 use Rattle.std.proofs.Common.{◌∙◌, drop-drop, arith, rules}
 use borrow.Rule.Slice.PartMut.{put_mid}
 use Rattle.blake2_tree.specs.TreeRoot.{TreeParameters, tree_parameters, leaf_digests}
-use Rattle.blake2_tree.specs.Ranges.{range_digests, with_part}
+use Rattle.blake2_tree.specs.LeafRanges.{range_digests, with_part}
 use Rattle.blake2_tree.proofs.RangeLaws.{leaf_digests-placed}
 use Rattle.blake2_examples.proofs.trees.root_after_change.Goals as goal
 

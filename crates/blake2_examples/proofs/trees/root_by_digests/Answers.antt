@@ -4,7 +4,7 @@ use Rattle.std.proofs.Common.{length-append, length-drop}
 use Rattle.std.specs.List.{All}
 use borrow.Rule.Slice.PartMut.{put_mid}
 use Rattle.blake2_tree.specs.TreeRoot.{TreeParameters, tree_parameters, tree_root, leaf_count}
-use Rattle.blake2_tree.specs.Ranges.{range_digests, AreWhole}
+use Rattle.blake2_tree.specs.LeafRanges.{range_digests, AreWhole}
 use Rattle.blake2_tree.specs.LeafUpdates.{next_leaf, joined_digests}
 use Rattle.blake2_tree.specs.TreeHashers.{held_tree, count as count-of}
 use Rattle.blake2_tree.proofs.RangeLaws.{leaf_count-is, length-range_digests}

@@ -2,7 +2,7 @@ use Rattle.std.proofs.Common.{◌≡◌, ℕ, ◌+◌, ◌-◌, ◌*◌, ◌/◌
 use Rattle.std.proofs.Common.{length, drop, ap, ◌∙◌, append-nil, arith, rules, length-drop}
 use borrow.Rule.Slice.PartMut.{put_mid}
 use Rattle.blake2_tree.specs.TreeRoot.{TreeParameters, tree_parameters, leaf_count, tree_root}
-use Rattle.blake2_tree.specs.Ranges.{range_digests, cut_digests, IsCut}
+use Rattle.blake2_tree.specs.LeafRanges.{range_digests, cut_digests, IsCut}
 use Rattle.blake2_tree.proofs.RangeLaws.{leaf_count-is, length-range_digests}
 use Rattle.blake2_examples.proofs.Slices.{put_mid-end}
 use Rattle.blake2_examples.proofs.trees.root_of_ranges.Goals as goal

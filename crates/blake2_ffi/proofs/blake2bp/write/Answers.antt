@@ -2,7 +2,7 @@ use Rattle.std.proofs.Common.{[], length, ◌∙◌}
 use Rattle.blake2.specs.Family.{blake2b}
 use Rattle.blake2_parallel.specs.Blake2bp.{meaning}
 use Rattle.blake2_parallel.specs.Parallel.{digests, settings}
-use Rattle.blake2_ffi.proofs.Digests.{whole_written}
+use Rattle.blake2_ffi.proofs.DigestsInTurn.{whole_written}
 use Rattle.blake2_ffi.proofs.blake2bp.write.Goals as goal
 
 pub returns-else-input-counted-clause-digest : goal.returns-else-input-counted-clause-digest

@@ -2,11 +2,11 @@
 use Rattle.std.proofs.Common.{◌≤◌, ℕ, [], length, if◌then◌else◌, ap, rules}
 use Rattle.blake2_simd.specs.Family.{blake2s}
 use Rattle.blake2_digest.specs.States.{digest_now}
-use Rattle.blake2_state.specs.Arguments.{given_count}
+use Rattle.blake2_state.specs.ConstructorArguments.{given_count}
 use Rattle.blake2_state.specs.States.{is_on}
 use Rattle.blake2_xof.specs.Blake2xs.{meaning, output_of}
 use Rattle.blake2_xof.specs.Xof.{IsKnown, Settings, settings}
-use Rattle.blake2_xof.proofs.Outputs.{whole_output}
+use Rattle.blake2_xof.proofs.KnownOutputs.{whole_output}
 use Rattle.blake2_ffi.proofs.blake2xs.write.Goals as goal
 
 pub returns-else-input-counted-clause-output : goal.returns-else-input-counted-clause-output

@@ -2,7 +2,7 @@ use Rattle.std.proofs.Common.{ℕ, List, refl, ◌∙◌, arith, length-drop}
 use Rattle.std.proofs.lemmas.List.{take_rest}
 use Rattle.blake2_simd.specs.Family.{blake2b}
 use Rattle.blake2_compress.specs.Hash.{final}
-use Rattle.blake2_parallel.proofs.Runs.{chunk_read, last_one, one_more}
+use Rattle.blake2_parallel.proofs.LongerRuns.{chunk_read, last_one, one_more}
 use Rattle.blake2_parallel.proofs.blake2bp.output_of.Goals as goal
 
 pub loop-rest-preserved : goal.loop-rest-preserved

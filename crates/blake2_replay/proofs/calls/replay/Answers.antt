@@ -3,9 +3,10 @@ use Rattle.std.proofs.lemmas.Result.{err_from_is_err_and}
 use Rattle.blake2_replay.specs.declared.calls.ReplayFault.TheVariants.{Memory}
 use Rattle.blake2_replay.specs.Play.{since_beginning, play}
 use Rattle.blake2_replay.proofs.StandsForLaws.{StandsFor-first}
-use Rattle.blake2_replay.proofs.Playing.{after_none, memory_alone, play_on, play_stops, play_ends}
-use Rattle.blake2_replay.proofs.Placing.{names_first_bad}
-use Rattle.blake2_replay.proofs.Beginning.{play_same, play_at_start}
+use Rattle.blake2_replay.proofs.OneCallAndTheRest.{after_none, memory_alone, play_on, play_stops}
+use Rattle.blake2_replay.proofs.OneCallAndTheRest.{play_ends}
+use Rattle.blake2_replay.proofs.FirstBadCall.{names_first_bad}
+use Rattle.blake2_replay.proofs.CallsFromTheStart.{play_same, play_at_start}
 use Rattle.blake2_replay.proofs.calls.replay.Given.{Over}
 use Rattle.blake2_replay.proofs.calls.replay.Goals as goal
 use Rattle.blake2_replay.proofs.calls.replay.Goals.{In_err-replay_call}

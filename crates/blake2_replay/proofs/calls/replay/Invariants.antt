@@ -1,4 +1,4 @@
-use Rattle.blake2_replay.proofs.Playing.{Underway}
+use Rattle.blake2_replay.proofs.OneCallAndTheRest.{Underway}
 use Rattle.blake2_replay.proofs.calls.replay.Given as goal
 
 abbrev pub invariant-calls : goal.invariant-calls

@@ -1,7 +1,7 @@
 use Rattle.std.proofs.Common.{◌≡◌, ◌<◌, set, true, false, Some, inr, refl, sym, ◌∙◌}
 use Rattle.std.proofs.Common.{arith, vec_len}
 use Rattle.blake2_replay.specs.Play.{Slots}
-use Rattle.blake2_replay.specs.Holding.{AllHold}
+use Rattle.blake2_replay.specs.SlotStates.{AllHold}
 use Rattle.blake2_replay.proofs.CallsOnSlots.{absent, Found, ended, Live, live}
 use Rattle.blake2_replay.proofs.LiveCalls.{updated, too_long, copied, reset, finalized}
 use Rattle.blake2_replay.proofs.LiveCalls.{finalized_reset, answers_by_push}

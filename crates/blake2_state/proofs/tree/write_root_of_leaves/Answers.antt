@@ -3,9 +3,9 @@ use Rattle.std.proofs.Common.{append-nil, rules, arith}
 use Rattle.std.proofs.lemmas.List.{drop_all}
 use Rattle.blake2_digest.specs.States.{digest_now}
 use Rattle.blake2_state.specs.Blake2b.{meaning}
-use Rattle.blake2_tree.specs.Nodes.{node_digest}
+use Rattle.blake2_tree.specs.NodeViews.{node_digest}
 use Rattle.blake2_tree.specs.TreeRoot.{TreeParameters, tree_parameters}
-use Rattle.blake2_tree.specs.Ranges.{IsRootOfCuts, IsRootOfChanges}
+use Rattle.blake2_tree.specs.LeafRanges.{IsRootOfCuts, IsRootOfChanges}
 use Rattle.blake2_tree.proofs.RangeLaws.{is_root_of_cuts, is_root_of_changes}
 use Rattle.blake2_state.proofs.tree.write_root_of_leaves.Goals as goal
 

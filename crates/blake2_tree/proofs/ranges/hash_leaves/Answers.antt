@@ -1,6 +1,6 @@
 use Rattle.std.proofs.Common.{rules, subst, ◌≡◌}
 use Rattle.blake2_tree.specs.TreeRoot.{tree_parameters}
-use Rattle.blake2_tree.specs.Ranges.{range_digests, ArePartOfAll}
+use Rattle.blake2_tree.specs.LeafRanges.{range_digests, ArePartOfAll}
 use Rattle.blake2_tree.proofs.RangeLaws.{are_part_of_all}
 use Rattle.blake2_tree.proofs.ranges.hash_leaves.Goals as goal
 

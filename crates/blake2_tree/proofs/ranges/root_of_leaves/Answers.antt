@@ -2,7 +2,7 @@ use Rattle.std.proofs.Common.{rules, subst, ◌≡◌}
 use Rattle.blake2_simd.specs.Family.{blake2b}
 use Rattle.blake2_compress.specs.Hash.{digest}
 use Rattle.blake2_tree.specs.TreeRoot.{root_over, tree_parameters}
-use Rattle.blake2_tree.specs.Ranges.{IsRootOfCuts, IsRootOfChanges}
+use Rattle.blake2_tree.specs.LeafRanges.{IsRootOfCuts, IsRootOfChanges}
 use Rattle.blake2_tree.proofs.RangeLaws.{is_root_of_cuts, is_root_of_changes}
 use Rattle.blake2_tree.proofs.ranges.root_of_leaves.Goals as goal
 

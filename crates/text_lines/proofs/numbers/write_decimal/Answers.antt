@@ -1,5 +1,5 @@
 use Rattle.std.proofs.Common.{arith, rules}
-use Rattle.text_lines.proofs.Digits.{has_room, one_more, all_written}
+use Rattle.text_lines.proofs.NumberDigits.{has_room, one_more, all_written}
 use Rattle.text_lines.proofs.numbers.write_decimal.Goals as goal
 
 pub overflow_sub-start : goal.overflow_sub-start

@@ -1,8 +1,8 @@
 use Rattle.std.proofs.Common.{◌<◌, ◌∙◌, length, arith, map}
 use Rattle.std.specs.String.{string_bytes}
 use Rattle.std.proofs.lemmas.Result.{err_from_is_err_and}
-use Rattle.b2_commands.specs.Options.{given_of}
-use Rattle.b2_commands.specs.Words.{nothing_given, with_word, with_words}
+use Rattle.b2_commands.specs.ReadOptions.{given_of}
+use Rattle.b2_commands.specs.ArgumentTasks.{nothing_given, with_word, with_words}
 use Rattle.b2_commands.proofs.WordLemmas.{with_words-more, with_words-fault, IsReadingFault-along}
 use Rattle.b2_commands.proofs.arguments.Options.from_words.Goals as goal
 

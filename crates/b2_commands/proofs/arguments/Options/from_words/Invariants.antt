@@ -1,7 +1,7 @@
 use Rattle.std.proofs.Common.{◌≡◌, take, map, Ok}
 use Rattle.std.specs.String.{string_bytes}
-use Rattle.b2_commands.specs.Options.{given_of}
-use Rattle.b2_commands.specs.Words.{nothing_given, with_words}
+use Rattle.b2_commands.specs.ReadOptions.{given_of}
+use Rattle.b2_commands.specs.ArgumentTasks.{nothing_given, with_words}
 use Rattle.b2_commands.proofs.arguments.Options.from_words.Given as goal
 
 abbrev pub invariant-loop-word : goal.invariant-loop-word

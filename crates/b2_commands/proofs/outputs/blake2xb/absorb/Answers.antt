@@ -3,7 +3,7 @@ use Rattle.std.proofs.KnownBytes.{Consumes-trans}
 use Rattle.std.proofs.lemmas.List.{length-take-le}
 use Rattle.blake2_streams.proofs.StreamLemmas.{Updated-trans}
 use Rattle.blake2_xof.specs.Blake2xb.{meaning}
-use Rattle.b2_commands.proofs.Digits.{absorbed_all}
+use Rattle.b2_commands.proofs.PrintedDigits.{absorbed_all}
 use Rattle.b2_commands.proofs.outputs.blake2xb.absorb.Goals as goal
 
 pub reading-preserved : goal.reading-preserved

@@ -2,7 +2,7 @@ use Rattle.std.proofs.Common.{◌≡◌, ◌+◌, ◌-◌, ◌∙◌, ◌≤◌,
 use Rattle.std.specs.Io.KnownBytes.{Appends}
 use Rattle.hex.specs.Hex.{encode_lower}
 use Rattle.blake2_xof.specs.Blake2xb.{output_now}
-use Rattle.b2_commands.proofs.Digits.{more_printed, none_printed}
+use Rattle.b2_commands.proofs.PrintedDigits.{more_printed, none_printed}
 use Rattle.b2_commands.proofs.outputs.blake2xb.print_line.Goals as goal
 
 pub printing-init : goal.printing-init

@@ -3,8 +3,8 @@ use Rattle.std.proofs.lemmas.Bool.{iff_false}
 use Rattle.std.specs.Prelude.{unwrap_or}
 use Rattle.blake2.specs.Family.{blake2b}
 use Rattle.blake2_xof.specs.Blake2xb.{meaning}
-use Rattle.b2_commands.specs.Options.{given_of}
-use Rattle.b2_commands.specs.Words.{Given}
+use Rattle.b2_commands.specs.ReadOptions.{given_of}
+use Rattle.b2_commands.specs.ArgumentTasks.{Given}
 use Rattle.b2_commands.proofs.OutputLaws.{AreGiven, empty_refused, start_fresh, start_refused}
 use Rattle.b2_commands.proofs.outputs.blake2xb.start.Goals as goal
 

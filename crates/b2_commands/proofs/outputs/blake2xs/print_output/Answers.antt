@@ -5,8 +5,8 @@ use Rattle.blake2.specs.Family.{blake2s}
 use Rattle.blake2_digest.specs.States.{digest_now}
 use Rattle.blake2_xof.specs.Blake2xs.{meaning, output_now}
 use Rattle.blake2_xof.specs.Xof.{Settings, settings}
-use Rattle.b2_commands.specs.Options.{given_of}
-use Rattle.b2_commands.specs.Words.{Given}
+use Rattle.b2_commands.specs.ReadOptions.{given_of}
+use Rattle.b2_commands.specs.ArgumentTasks.{Given}
 use Rattle.b2_commands.proofs.OutputLaws.{output_ends}
 use Rattle.b2_commands.proofs.outputs.blake2xs.print_output.Goals as goal
 

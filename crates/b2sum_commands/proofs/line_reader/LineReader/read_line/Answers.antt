@@ -3,9 +3,9 @@ use Rattle.std.proofs.Common.{append_assoc, append-nil, take, drop, rules}
 use Rattle.std.proofs.KnownBytes.{Consumes-nil, Consumes-trans}
 use Rattle.text_lines.specs.Cuts.{cut_at}
 use Rattle.b2sum_commands.specs.LineReads.{IsOneLine}
-use Rattle.b2sum_commands.proofs.Judging.{no_bytes}
-use Rattle.b2sum_commands.proofs.Cutting.{cut_slice, uncut_slice, slice_is, unread_after}
-use Rattle.b2sum_commands.proofs.Cutting.{one_line_more, line_grown}
+use Rattle.b2sum_commands.proofs.Verdicts.{no_bytes}
+use Rattle.b2sum_commands.proofs.CutLines.{cut_slice, uncut_slice, slice_is, unread_after}
+use Rattle.b2sum_commands.proofs.CutLines.{one_line_more, line_grown}
 use Rattle.b2sum_commands.proofs.line_reader.LineReader.read_line.Goals as goal
 
 pub loop-init : goal.loop-init

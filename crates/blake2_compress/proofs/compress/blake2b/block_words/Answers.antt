@@ -1,5 +1,5 @@
 use Rattle.blake2_simd.specs.Family.{blake2b}
-use Rattle.blake2_compress.proofs.Loads.{sixteen_read}
+use Rattle.blake2_compress.proofs.LoadedRows.{sixteen_read}
 use Rattle.blake2_compress.proofs.compress.blake2b.block_words.Goals as goal
 
 pub returns : goal.returns

@@ -1,6 +1,6 @@
 -- Made by tools/twins.py from proofs/compress/blake2b/block_words/Answers.antt.
 use Rattle.blake2_simd.specs.Family.{blake2s}
-use Rattle.blake2_compress.proofs.Loads.{sixteen_read}
+use Rattle.blake2_compress.proofs.LoadedRows.{sixteen_read}
 use Rattle.blake2_compress.proofs.compress.blake2s.block_words.Goals as goal
 
 pub returns : goal.returns

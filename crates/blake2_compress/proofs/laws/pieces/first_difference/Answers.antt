@@ -1,7 +1,7 @@
 use Rattle.std.proofs.Common.{◌≡◌, ℕ, ◌<◌, length, slice_index_or, [], sym, ◌∙◌, arith}
-use Rattle.blake2_compress.specs.Pieces.{piece_count, pieces}
-use Rattle.blake2_compress.proofs.Pieces.{length-pieces, pieces-at, pieces_determine}
-use Rattle.blake2_compress.proofs.Pieces.{no_pair_differs}
+use Rattle.blake2_compress.specs.MessagePieces.{piece_count, pieces}
+use Rattle.blake2_compress.proofs.MessagePieces.{length-pieces, pieces-at, pieces_determine}
+use Rattle.blake2_compress.proofs.MessagePieces.{no_pair_differs}
 use Rattle.blake2_compress.proofs.laws.pieces.first_difference.Goals as goal
 
 -- No pair differs, so the pieces are the same, and they determine the messages.

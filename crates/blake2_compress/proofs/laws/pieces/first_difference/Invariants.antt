@@ -1,5 +1,5 @@
 use Rattle.std.proofs.Common.{◌≡◌, ℕ, ◌<◌}
-use Rattle.blake2_compress.specs.Pieces.{piece}
+use Rattle.blake2_compress.specs.MessagePieces.{piece}
 use Rattle.blake2_compress.proofs.laws.pieces.first_difference.Given as goal
 
 -- No pair before index i differs.

@@ -1,4 +1,4 @@
-use Rattle.blake2_compress.proofs.Pieces.{pieces_determine, no_pair_differs}
+use Rattle.blake2_compress.proofs.MessagePieces.{pieces_determine, no_pair_differs}
 use Rattle.blake2_compress.proofs.laws.pieces.same_pieces.Goals as goal
 
 pub returns-clause-pieces_determine : goal.returns-clause-pieces_determine

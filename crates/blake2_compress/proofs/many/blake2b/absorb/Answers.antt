@@ -3,7 +3,7 @@ use Rattle.blake2_simd.specs.Family.{blake2b}
 use Rattle.blake2_compress.specs.Hash.{block_count, input_data}
 use Rattle.blake2_compress.specs.Lanes.{input_at}
 use Rattle.blake2_compress.proofs.ManyMessages.{run_ended}
-use Rattle.blake2_compress.proofs.Streaming.{block_count-pos}
+use Rattle.blake2_compress.proofs.SplitRuns.{block_count-pos}
 use Rattle.blake2_compress.proofs.many.blake2b.absorb.Goals as goal
 
 pub absorb_inner-requires-clause-same_number : goal.absorb_inner-requires-clause-same_number

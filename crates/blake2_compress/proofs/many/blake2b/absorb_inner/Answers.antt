@@ -5,7 +5,7 @@ use Rattle.blake2_compress.specs.Lanes.{block_lists, input_at}
 use Rattle.blake2_compress.specs.Run.{step_count}
 use Rattle.blake2_compress.proofs.Lanes.{inner_at, no_block}
 use Rattle.blake2_compress.proofs.ManyMessages.{all_later, filled_more, inner_run}
-use Rattle.blake2_compress.proofs.Streaming.{block_count-pos}
+use Rattle.blake2_compress.proofs.SplitRuns.{block_count-pos}
 use Rattle.blake2_compress.proofs.many.blake2b.absorb_inner.Goals as goal
 
 pub returns-then-count-eq1 : goal.returns-then-count-eq1

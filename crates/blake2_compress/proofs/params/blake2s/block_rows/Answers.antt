@@ -2,7 +2,7 @@
 use Rattle.std.proofs.Common.{sym, arith}
 use Rattle.std.proofs.lemmas.List.{length-take-le}
 use Rattle.blake2_simd.specs.Family.{blake2s}
-use Rattle.blake2_compress.proofs.Loads.{eight_read}
+use Rattle.blake2_compress.proofs.LoadedRows.{eight_read}
 use Rattle.blake2_compress.proofs.params.blake2s.block_rows.Goals as goal
 
 pub returns : goal.returns

@@ -1,5 +1,5 @@
 use Rattle.std.proofs.Common.{rules}
-use Rattle.blake2_ffi.proofs.Digests.{more_written}
+use Rattle.blake2_ffi.proofs.DigestsInTurn.{more_written}
 use Rattle.blake2_ffi.proofs.blake2b.many.write_all.Goals as goal
 
 pub loop-done-preserved : goal.loop-done-preserved

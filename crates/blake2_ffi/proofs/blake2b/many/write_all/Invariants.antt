@@ -1,6 +1,6 @@
 use Rattle.std.proofs.Common.{◌≡◌, ◌-◌, ◌*◌, ◌≤◌, ◌++◌, length, take, drop}
 use Rattle.blake2.specs.Family.{blake2b}
-use Rattle.blake2_ffi.specs.Many.{digests_given}
+use Rattle.blake2_ffi.specs.SeveralMessages.{digests_given}
 use Rattle.blake2_ffi.proofs.blake2b.many.write_all.Given as goal
 
 -- The digests of the first messages are written, and what follows them is as it was.

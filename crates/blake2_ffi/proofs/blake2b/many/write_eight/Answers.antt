@@ -1,7 +1,7 @@
 use Rattle.std.proofs.Common.{[], ◌∷◌, ap, ◌∙◌, rules}
 use Rattle.blake2_compress.specs.Hash.{digest}
 use Rattle.blake2.specs.Family.{blake2b}
-use Rattle.blake2_ffi.proofs.Digests.{lanes_written}
+use Rattle.blake2_ffi.proofs.DigestsInTurn.{lanes_written}
 use Rattle.blake2_ffi.proofs.blake2b.many.write_eight.Goals as goal
 
 pub returns-clause-digests : goal.returns-clause-digests

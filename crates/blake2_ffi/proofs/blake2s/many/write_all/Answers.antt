@@ -1,6 +1,6 @@
 -- Made by tools/twins.py from proofs/blake2b/many/write_all/Answers.antt.
 use Rattle.std.proofs.Common.{rules}
-use Rattle.blake2_ffi.proofs.Digests.{more_written}
+use Rattle.blake2_ffi.proofs.DigestsInTurn.{more_written}
 use Rattle.blake2_ffi.proofs.blake2s.many.write_all.Goals as goal
 
 pub loop-done-preserved : goal.loop-done-preserved

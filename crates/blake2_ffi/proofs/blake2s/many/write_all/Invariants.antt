@@ -1,7 +1,7 @@
 -- Made by tools/twins.py from proofs/blake2b/many/write_all/Invariants.antt.
 use Rattle.std.proofs.Common.{◌≡◌, ◌-◌, ◌*◌, ◌≤◌, ◌++◌, length, take, drop}
 use Rattle.blake2.specs.Family.{blake2s}
-use Rattle.blake2_ffi.specs.Many.{digests_given}
+use Rattle.blake2_ffi.specs.SeveralMessages.{digests_given}
 use Rattle.blake2_ffi.proofs.blake2s.many.write_all.Given as goal
 
 -- The digests of the first messages are written, and what follows them is as it was.

@@ -1,10 +1,10 @@
 use Rattle.std.proofs.Common.{ℕ, List, [], take, ap, sym, ◌∙◌, true, zero-add, rules}
 use Rattle.blake2_simd.specs.Family.{blake2b}
 use Rattle.blake2_parallel.specs.Blake2bp.{leaves_of}
-use Rattle.blake2_parallel.specs.Leaves.{leaf_future}
+use Rattle.blake2_parallel.specs.LeafStates.{leaf_future}
 use Rattle.blake2_parallel.specs.Parallel.{output_from}
 use Rattle.blake2_parallel.specs.States.{future}
-use Rattle.blake2_parallel.proofs.Rows.{joined-range}
+use Rattle.blake2_parallel.proofs.ListsByElement.{joined-range}
 use Rattle.blake2_parallel.proofs.blake2bp.State.output.Goals as goal
 
 pub returns : goal.returns

@@ -2,10 +2,10 @@
 use Rattle.std.proofs.Common.{ℕ, List, [], take, ap, sym, ◌∙◌, true, zero-add, rules}
 use Rattle.blake2_simd.specs.Family.{blake2s}
 use Rattle.blake2_parallel.specs.Blake2sp.{leaves_of}
-use Rattle.blake2_parallel.specs.Leaves.{leaf_future}
+use Rattle.blake2_parallel.specs.LeafStates.{leaf_future}
 use Rattle.blake2_parallel.specs.Parallel.{output_from}
 use Rattle.blake2_parallel.specs.States.{future}
-use Rattle.blake2_parallel.proofs.Rows.{joined-range}
+use Rattle.blake2_parallel.proofs.ListsByElement.{joined-range}
 use Rattle.blake2_parallel.proofs.blake2sp.State.output.Goals as goal
 
 pub returns : goal.returns

@@ -3,7 +3,7 @@ use Rattle.blake2_simd.specs.Family.{blake2b}
 use Rattle.blake2_simd.specs.Lanes.{in_lane}
 use Rattle.blake2_simd.proofs.Lanes.{in_four, listed_in_four}
 use Rattle.blake2_compress.proofs.Lanes.{lane_is}
-use Rattle.blake2_parallel.specs.Leaves.{leaf_chain}
+use Rattle.blake2_parallel.specs.LeafStates.{leaf_chain}
 use Rattle.blake2_parallel.proofs.lanes.blake2bp.compress_by_leaf.Goals as goal
 
 pub returns : goal.returns

@@ -3,7 +3,7 @@ use Rattle.blake2_simd.specs.Family.{blake2b}
 use Rattle.blake2_simd.proofs.Lanes.{in_four}
 use Rattle.blake2_compress.specs.Hash.{compress as F}
 use Rattle.blake2_compress.specs.Lanes.{flags_at}
-use Rattle.blake2_parallel.specs.Leaves.{end_flags}
+use Rattle.blake2_parallel.specs.LeafStates.{end_flags}
 use Rattle.blake2_parallel.proofs.lanes.blake2bp.compress_first.Goals as goal
 
 pub returns : goal.returns

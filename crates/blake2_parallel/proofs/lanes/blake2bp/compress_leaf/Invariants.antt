@@ -1,7 +1,7 @@
 use Rattle.std.proofs.Common.{◌≡◌}
 use Rattle.blake2_simd.specs.Family.{blake2b}
 use Rattle.blake2_simd.specs.Rows.{eight}
-use Rattle.blake2_parallel.specs.Leaves.{leaf_chain}
+use Rattle.blake2_parallel.specs.LeafStates.{leaf_chain}
 use Rattle.blake2_parallel.proofs.lanes.blake2bp.compress_leaf.Given as goal
 
 abbrev pub invariant-loop-i : goal.invariant-loop-i

@@ -3,10 +3,10 @@ use Rattle.blake2_simd.specs.Family.{blake2s}
 use Rattle.blake2_simd.specs.Lanes.{in_lane}
 use Rattle.blake2_simd.proofs.Lanes.{listed_in_eight}
 use Rattle.blake2_compress.specs.Hash.{compress as F}
-use Rattle.blake2_compress.specs.Pieces.{piece}
+use Rattle.blake2_compress.specs.MessagePieces.{piece}
 use Rattle.blake2_compress.proofs.Lanes.{inner_at}
-use Rattle.blake2_parallel.specs.Leaves.{leaf_chain}
-use Rattle.blake2_parallel.proofs.Runs.{chunk_read, leaf_chain-more, leaf_chain-none}
+use Rattle.blake2_parallel.specs.LeafStates.{leaf_chain}
+use Rattle.blake2_parallel.proofs.LongerRuns.{chunk_read, leaf_chain-more, leaf_chain-none}
 use Rattle.blake2_parallel.proofs.lanes.blake2sp.compress_in_lanes.Goals as goal
 
 pub loop-i-init : goal.loop-i-init

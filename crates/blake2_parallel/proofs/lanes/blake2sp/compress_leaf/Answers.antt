@@ -2,9 +2,9 @@
 use Rattle.std.proofs.Common.{◌≡◌, ℕ, ◌+◌, ◌*◌, List, ap, ◌∙◌, arith}
 use Rattle.blake2_simd.specs.Family.{blake2s}
 use Rattle.blake2_simd.specs.Rows.{eight}
-use Rattle.blake2_compress.specs.Pieces.{piece}
-use Rattle.blake2_parallel.specs.Leaves.{leaf_chain}
-use Rattle.blake2_parallel.proofs.Runs.{chunk_read, leaf_chain-more, leaf_chain-none}
+use Rattle.blake2_compress.specs.MessagePieces.{piece}
+use Rattle.blake2_parallel.specs.LeafStates.{leaf_chain}
+use Rattle.blake2_parallel.proofs.LongerRuns.{chunk_read, leaf_chain-more, leaf_chain-none}
 use Rattle.blake2_parallel.proofs.lanes.blake2sp.compress_leaf.Goals as goal
 
 pub loop-i-init : goal.loop-i-init

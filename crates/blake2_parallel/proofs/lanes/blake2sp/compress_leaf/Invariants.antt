@@ -2,7 +2,7 @@
 use Rattle.std.proofs.Common.{◌≡◌}
 use Rattle.blake2_simd.specs.Family.{blake2s}
 use Rattle.blake2_simd.specs.Rows.{eight}
-use Rattle.blake2_parallel.specs.Leaves.{leaf_chain}
+use Rattle.blake2_parallel.specs.LeafStates.{leaf_chain}
 use Rattle.blake2_parallel.proofs.lanes.blake2sp.compress_leaf.Given as goal
 
 abbrev pub invariant-loop-i : goal.invariant-loop-i

@@ -5,9 +5,9 @@ use Rattle.blake2_simd.specs.Family.{blake2s}
 use Rattle.blake2_simd.specs.Lanes.{in_lane}
 use Rattle.blake2_compress.specs.Hash.{compress as F}
 use Rattle.blake2_compress.specs.Lanes.{flags_at}
-use Rattle.blake2_compress.specs.Pieces.{piece}
+use Rattle.blake2_compress.specs.MessagePieces.{piece}
 use Rattle.blake2_compress.proofs.Padding.{padded-whole}
-use Rattle.blake2_parallel.proofs.Runs.{piece-padded}
+use Rattle.blake2_parallel.proofs.LongerRuns.{piece-padded}
 use Rattle.blake2_parallel.proofs.lanes.blake2sp.compress_short.Goals as goal
 
 -- The length of a block.

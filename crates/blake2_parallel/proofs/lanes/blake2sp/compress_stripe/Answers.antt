@@ -5,8 +5,8 @@ use Rattle.blake2_simd.specs.Lanes.{in_lane}
 use Rattle.blake2_simd.proofs.Lanes.{in_eight, listed_in_eight}
 use Rattle.blake2_compress.specs.Hash.{compress as F}
 use Rattle.blake2_compress.specs.Lanes.{flags_at}
-use Rattle.blake2_compress.specs.Pieces.{piece}
-use Rattle.blake2_parallel.proofs.Runs.{chunk_read}
+use Rattle.blake2_compress.specs.MessagePieces.{piece}
+use Rattle.blake2_parallel.proofs.LongerRuns.{chunk_read}
 use Rattle.blake2_parallel.proofs.lanes.blake2sp.compress_stripe.Goals as goal
 
 pub returns : goal.returns

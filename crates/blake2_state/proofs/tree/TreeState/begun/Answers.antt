@@ -1,10 +1,10 @@
 use Rattle.std.proofs.Common.{take, length, ap, sym, subst, ◌∙◌}
 use Rattle.blake2_digest.proofs.Texts.{take-padded}
 use Rattle.blake2_state.specs.Blake2b.{meaning}
-use Rattle.blake2_tree.specs.Nodes.{IsOpened}
+use Rattle.blake2_tree.specs.NodeViews.{IsOpened}
 use Rattle.blake2_tree.specs.TreeRoot.{tree_parameters, tree_root}
 use Rattle.blake2_tree.specs.OpenTrees.{open_tree, future}
-use Rattle.blake2_tree.proofs.Roots.{future-made}
+use Rattle.blake2_tree.proofs.RootsOfCalls.{future-made}
 use Rattle.blake2_state.proofs.tree.TreeState.begun.Goals as goal
 
 -- The fields keep the salt and the personalization.

@@ -1,7 +1,7 @@
 use Rattle.std.proofs.Common.{◌∙◌, ℕ, true, false, List, [], ◌++◌, ap, arith}
 use Rattle.blake2_state.specs.Blake2b.{meaning}
 use Rattle.blake2_state.specs.TreeStates.{parameters}
-use Rattle.blake2_tree.proofs.Roots.{future-closed, future-took, root-closed}
+use Rattle.blake2_tree.proofs.RootsOfCalls.{future-closed, future-took, root-closed}
 use Rattle.blake2_state.proofs.tree.TreeState.close_full.Goals as goal
 
 pub returns-clause-future : goal.returns-clause-future

@@ -1,4 +1,4 @@
-use Rattle.blake2_tree.proofs.Roots.{future-given, future-by_digests}
+use Rattle.blake2_tree.proofs.RootsOfCalls.{future-given, future-by_digests}
 use Rattle.blake2_state.proofs.tree.TreeState.close_given.Goals as goal
 
 pub returns-clause-future : goal.returns-clause-future

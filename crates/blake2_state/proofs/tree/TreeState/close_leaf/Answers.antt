@@ -1,5 +1,5 @@
 use Rattle.blake2_state.specs.Blake2b.{meaning}
-use Rattle.blake2_tree.proofs.Roots.{WentOn-closed}
+use Rattle.blake2_tree.proofs.RootsOfCalls.{WentOn-closed}
 use Rattle.blake2_state.proofs.tree.TreeState.close_leaf.Goals as goal
 
 pub returns-clause-went_on : goal.returns-clause-went_on

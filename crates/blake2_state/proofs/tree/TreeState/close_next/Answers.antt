@@ -1,8 +1,8 @@
 use Rattle.std.proofs.Common.{◌≡◌, ℕ, ◌*◌, ◌/◌, ◌+◌, ◌<◌, length, take, ap, ◌∙◌, rules, arith}
 use Rattle.std.proofs.Common.{false, subst}
 use Rattle.std.proofs.lemmas.List.{length-take-le}
-use Rattle.blake2_tree.specs.Ranges.{range_digests}
-use Rattle.blake2_tree.proofs.Roots.{AreWhole-taken, WentOn-next}
+use Rattle.blake2_tree.specs.LeafRanges.{range_digests}
+use Rattle.blake2_tree.proofs.RootsOfCalls.{AreWhole-taken, WentOn-next}
 use Rattle.blake2_state.specs.TreeStates.{count, parameters}
 use Rattle.blake2_state.proofs.tree.TreeState.close_next.Goals as goal
 

@@ -1,7 +1,7 @@
 use Rattle.std.proofs.Common.{arith}
 use Rattle.blake2_state.specs.Blake2b.{meaning}
 use Rattle.blake2_state.specs.TreeStates.{state_tree}
-use Rattle.blake2_tree.proofs.Roots.{Took-updated, Took-rest}
+use Rattle.blake2_tree.proofs.RootsOfCalls.{Took-updated, Took-rest}
 use Rattle.blake2_state.proofs.tree.TreeState.take_leaves.Goals as goal
 
 pub loop-self-smaller-then-rest-self : goal.loop-self-smaller-then-rest-self

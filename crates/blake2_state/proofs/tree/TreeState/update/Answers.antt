@@ -1,6 +1,6 @@
 use Rattle.std.proofs.Common.{arith}
 use Rattle.blake2_state.specs.Blake2b.{meaning}
-use Rattle.blake2_tree.proofs.Roots.{Took-updated}
+use Rattle.blake2_tree.proofs.RootsOfCalls.{Took-updated}
 use Rattle.blake2_state.proofs.tree.TreeState.update.Goals as goal
 
 pub returns-then-input-room-clause-taken : goal.returns-then-input-room-clause-taken

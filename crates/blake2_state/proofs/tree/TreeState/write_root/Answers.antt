@@ -2,7 +2,7 @@ use Rattle.std.proofs.Common.{◌≡◌, ◌∙◌, ◌++◌, [], drop}
 use Rattle.blake2_digest.specs.States.{digest_now}
 use Rattle.blake2_state.specs.Blake2b.{meaning}
 use Rattle.blake2_state.specs.TreeStates.{future}
-use Rattle.blake2_tree.proofs.Roots.{future-finished}
+use Rattle.blake2_tree.proofs.RootsOfCalls.{future-finished}
 use Rattle.blake2_state.proofs.tree.TreeState.write_root.Goals as goal
 
 pub returns : goal.returns

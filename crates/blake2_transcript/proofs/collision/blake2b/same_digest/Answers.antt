@@ -1,6 +1,6 @@
 use Rattle.std.proofs.Common.{◌≡◌, ◌↔◌, ℕ, take, sym, ap, ◌∙◌, rules, IsTrue}
 use Rattle.blake2_simd.specs.Family.{blake2b}
-use Rattle.blake2_transcript.proofs.Pairs.{digest_after}
+use Rattle.blake2_transcript.proofs.DifferingPairs.{digest_after}
 use Rattle.blake2_transcript.proofs.collision.blake2b.same_digest.Goals as goal
 
 pub returns : goal.returns

@@ -1,7 +1,7 @@
 -- Made by tools/twins.py from proofs/collision/blake2b/same_digest/Answers.antt.
 use Rattle.std.proofs.Common.{◌≡◌, ◌↔◌, ℕ, take, sym, ap, ◌∙◌, rules, IsTrue}
 use Rattle.blake2_simd.specs.Family.{blake2s}
-use Rattle.blake2_transcript.proofs.Pairs.{digest_after}
+use Rattle.blake2_transcript.proofs.DifferingPairs.{digest_after}
 use Rattle.blake2_transcript.proofs.collision.blake2s.same_digest.Goals as goal
 
 pub returns : goal.returns

@@ -1,5 +1,5 @@
 use Rattle.blake2_simd.specs.Family.{blake2b}
-use Rattle.blake2_transcript.proofs.Determined.{transcripts_determine}
+use Rattle.blake2_transcript.proofs.DeterminedInputs.{transcripts_determine}
 use Rattle.blake2_transcript.proofs.EqualTranscripts.{transcript_decides}
 use Rattle.blake2_transcript.proofs.laws.blake2b.equal.Goals as goal
 

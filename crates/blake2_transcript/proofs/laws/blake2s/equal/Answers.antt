@@ -1,6 +1,6 @@
 -- Made by tools/twins.py from proofs/laws/blake2b/equal/Answers.antt.
 use Rattle.blake2_simd.specs.Family.{blake2s}
-use Rattle.blake2_transcript.proofs.Determined.{transcripts_determine}
+use Rattle.blake2_transcript.proofs.DeterminedInputs.{transcripts_determine}
 use Rattle.blake2_transcript.proofs.EqualTranscripts.{transcript_decides}
 use Rattle.blake2_transcript.proofs.laws.blake2s.equal.Goals as goal
 

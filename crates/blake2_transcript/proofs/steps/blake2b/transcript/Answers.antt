@@ -1,5 +1,5 @@
 use Rattle.blake2_simd.specs.Family.{blake2b}
-use Rattle.blake2_transcript.proofs.Transcripts.{transcript_from}
+use Rattle.blake2_transcript.proofs.RunTranscripts.{transcript_from}
 use Rattle.blake2_transcript.proofs.steps.blake2b.transcript.Goals as goal
 
 pub returns-clause-transcript : goal.returns-clause-transcript

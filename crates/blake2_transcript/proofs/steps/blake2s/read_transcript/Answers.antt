@@ -2,7 +2,7 @@
 use Rattle.std.proofs.Common.{ap, map, refl, rules}
 use Rattle.blake2_simd.specs.Family.{blake2s}
 use Rattle.blake2_transcript.specs.StepViews.{entry_of}
-use Rattle.blake2_transcript.proofs.Readable.{test_tells, reads_told}
+use Rattle.blake2_transcript.proofs.ReadableTranscripts.{test_tells, reads_told}
 use Rattle.blake2_transcript.proofs.steps.blake2s.read_transcript.Goals as goal
 
 pub returns-then-not-is_readable-clause-some : goal.returns-then-not-is_readable-clause-some

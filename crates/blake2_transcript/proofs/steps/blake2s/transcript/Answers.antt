@@ -1,6 +1,6 @@
 -- Made by tools/twins.py from proofs/steps/blake2b/transcript/Answers.antt.
 use Rattle.blake2_simd.specs.Family.{blake2s}
-use Rattle.blake2_transcript.proofs.Transcripts.{transcript_from}
+use Rattle.blake2_transcript.proofs.RunTranscripts.{transcript_from}
 use Rattle.blake2_transcript.proofs.steps.blake2s.transcript.Goals as goal
 
 pub returns-clause-transcript : goal.returns-clause-transcript

@@ -6,7 +6,7 @@ use Rattle.blake2_compress.specs.Views.{input_of}
 use Rattle.blake2_transcript.specs.StepViews.{entry_of}
 use Rattle.blake2_compress.specs.Run.{step_count}
 use Rattle.blake2_compress.proofs.Runs.{length-steps}
-use Rattle.blake2_transcript.proofs.Transcripts.{entry-at}
+use Rattle.blake2_transcript.proofs.RunTranscripts.{entry-at}
 use Rattle.blake2_transcript.proofs.steps.entries.entries.Goals as goal
 
 pub loop-i-preserved : goal.loop-i-preserved

@@ -1,5 +1,5 @@
 use Rattle.blake2.specs.Hashers.{blake2b_meaning}
-use Rattle.blake2_tree.proofs.Roots.{future-closed, root-closed}
+use Rattle.blake2_tree.proofs.RootsOfCalls.{future-closed, root-closed}
 use Rattle.blake2_tree.proofs.hasher.TreeHasher.close_full.Goals as goal
 
 pub returns-clause-future : goal.returns-clause-future

@@ -1,7 +1,7 @@
 use Rattle.std.proofs.Common.{ap}
 use Rattle.blake2.specs.Hashers.{blake2b_meaning}
-use Rattle.blake2_tree.specs.Nodes.{shared_parameters}
-use Rattle.blake2_tree.proofs.Roots.{WentOn-closed}
+use Rattle.blake2_tree.specs.NodeViews.{shared_parameters}
+use Rattle.blake2_tree.proofs.RootsOfCalls.{WentOn-closed}
 use Rattle.blake2_tree.proofs.hasher.TreeHasher.close_leaf.Goals as goal
 
 pub returns : goal.returns

@@ -1,9 +1,9 @@
 use Rattle.std.proofs.Common.{◌≡◌, ℕ, ◌*◌, ◌/◌, ◌+◌, length, take, ap, ◌∙◌, rules, arith, false}
 use Rattle.std.proofs.lemmas.List.{length-take-le}
-use Rattle.blake2_tree.specs.Nodes.{shared_parameters}
-use Rattle.blake2_tree.specs.Ranges.{range_digests}
+use Rattle.blake2_tree.specs.NodeViews.{shared_parameters}
+use Rattle.blake2_tree.specs.LeafRanges.{range_digests}
 use Rattle.blake2_tree.specs.TreeHashers.{count}
-use Rattle.blake2_tree.proofs.Roots.{AreWhole-taken, WentOn-next}
+use Rattle.blake2_tree.proofs.RootsOfCalls.{AreWhole-taken, WentOn-next}
 use Rattle.blake2_tree.proofs.hasher.TreeHasher.close_next.Goals as goal
 
 pub returns-clause-went_on : goal.returns-clause-went_on

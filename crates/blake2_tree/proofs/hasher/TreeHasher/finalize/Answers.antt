@@ -1,5 +1,5 @@
 use Rattle.std.proofs.Common.{◌∙◌}
-use Rattle.blake2_tree.proofs.Roots.{future-finished}
+use Rattle.blake2_tree.proofs.RootsOfCalls.{future-finished}
 use Rattle.blake2_tree.proofs.hasher.TreeHasher.finalize.Goals as goal
 
 pub returns : goal.returns

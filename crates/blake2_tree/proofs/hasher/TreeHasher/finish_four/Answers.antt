@@ -1,5 +1,5 @@
 use Rattle.std.proofs.Common.{◌∙◌}
-use Rattle.blake2_tree.proofs.Roots.{future-last_four}
+use Rattle.blake2_tree.proofs.RootsOfCalls.{future-last_four}
 use Rattle.blake2_tree.proofs.hasher.TreeHasher.finish_four.Goals as goal
 
 pub returns : goal.returns

@@ -1,6 +1,6 @@
 use Rattle.std.proofs.Common.{ap, ◌∙◌}
 use Rattle.blake2_tree.specs.TreeRoot.{tree_root}
-use Rattle.blake2_tree.proofs.Roots.{future-made}
+use Rattle.blake2_tree.proofs.RootsOfCalls.{future-made}
 use Rattle.blake2_tree.proofs.hasher.TreeHasher.new.Goals as goal
 
 pub returns-clause-root : goal.returns-clause-root

@@ -1,7 +1,7 @@
 use Rattle.std.proofs.Common.{◌∙◌, arith}
 use Rattle.blake2.specs.Hashers.{blake2b_meaning}
 use Rattle.blake2_tree.specs.TreeHashers.{held_tree}
-use Rattle.blake2_tree.proofs.Roots.{Took-updated, Took-rest, IsOpened-updated}
+use Rattle.blake2_tree.proofs.RootsOfCalls.{Took-updated, Took-rest, IsOpened-updated}
 use Rattle.blake2_tree.proofs.hasher.TreeHasher.update.Goals as goal
 
 pub loop-rest-preserved-then-rest-four_leaves : goal.loop-rest-preserved-then-rest-four_leaves

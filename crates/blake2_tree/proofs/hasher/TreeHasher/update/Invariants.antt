@@ -1,6 +1,6 @@
 use Rattle.std.proofs.Common.{◌≡◌, ℕ, ◌+◌, List, ◌++◌, length}
 use Rattle.blake2.specs.Hashers.{blake2b_meaning}
-use Rattle.blake2_tree.specs.Nodes.{shared_parameters}
+use Rattle.blake2_tree.specs.NodeViews.{shared_parameters}
 use Rattle.blake2_tree.specs.TreeHashers.{future, count}
 use Rattle.blake2_tree.proofs.hasher.TreeHasher.update.Given as goal
 

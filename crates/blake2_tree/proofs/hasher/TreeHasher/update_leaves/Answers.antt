@@ -1,5 +1,5 @@
 use Rattle.std.proofs.Common.{ap, arith, rules}
-use Rattle.blake2_tree.specs.Nodes.{shared_parameters}
+use Rattle.blake2_tree.specs.NodeViews.{shared_parameters}
 use Rattle.blake2_tree.specs.TreeHashers.{held_tree}
 use Rattle.blake2_tree.proofs.LeafUpdateLaws.{TookLeaves-none, TookLeaves-given, TookDigests-none}
 use Rattle.blake2_tree.proofs.LeafUpdateLaws.{TookDigests-given, fits-given}

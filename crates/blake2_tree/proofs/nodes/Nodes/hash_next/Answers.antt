@@ -1,10 +1,10 @@
 use Rattle.std.proofs.Common.{◌≡◌, ℕ, ◌*◌, List, length, take, sym, ap, ◌∙◌, rules, arith, false}
 use Rattle.std.specs.List.{concat}
 use Rattle.std.proofs.lemmas.List.{take_all, take_at, length-take-le}
-use Rattle.blake2_tree.specs.Ranges.{range_digests}
-use Rattle.blake2_tree.specs.Nodes.{shared_parameters, four_digests, node_digest}
+use Rattle.blake2_tree.specs.LeafRanges.{range_digests}
+use Rattle.blake2_tree.specs.NodeViews.{shared_parameters, four_digests, node_digest}
 use Rattle.blake2_tree.proofs.FourLeaves.{next-four, next-eight}
-use Rattle.blake2_tree.proofs.Leaves.{range_digests-short}
+use Rattle.blake2_tree.proofs.MessageLeaves.{range_digests-short}
 use Rattle.blake2_tree.proofs.nodes.Nodes.hash_next.Goals as goal
 
 pub returns-then-text-length-clause-digests : goal.returns-then-text-length-clause-digests

@@ -1,7 +1,7 @@
 use Rattle.std.proofs.Common.{◌≡◌, ◌∙◌, length, rules}
 use Rattle.std.proofs.lemmas.List.{take_at}
-use Rattle.blake2_tree.specs.Nodes.{shared_parameters}
-use Rattle.blake2_tree.proofs.Leaves.{range_digests-first}
+use Rattle.blake2_tree.specs.NodeViews.{shared_parameters}
+use Rattle.blake2_tree.proofs.MessageLeaves.{range_digests-first}
 use Rattle.blake2_tree.proofs.nodes.Nodes.leaf_digests.Goals as goal
 
 pub returns : goal.returns

@@ -1,6 +1,6 @@
 use Rattle.std.proofs.Common.{ap, arith}
 use Rattle.blake2_compress.specs.Hash.{AreBytes, Tree}
-use Rattle.blake2_tree.specs.Nodes.{shared_parameters}
+use Rattle.blake2_tree.specs.NodeViews.{shared_parameters}
 use Rattle.blake2_tree.proofs.NodeLemmas.{AreTaken, Accepts-node}
 use Rattle.blake2_tree.proofs.nodes.Nodes.node.Goals as goal
 

@@ -1,8 +1,8 @@
 use Rattle.std.proofs.Common.{◌≡◌, ℕ, ◌+◌, ◌*◌, ◌<◌, ◌++◌, List, length, drop, take, Bool}
 use Rattle.std.proofs.Common.{refl, sym, ap, ◌∙◌, rules, arith}
 use Rattle.std.proofs.lemmas.List.{length-take-le}
-use Rattle.blake2_tree.specs.Ranges.{range_digests}
-use Rattle.blake2_tree.specs.Nodes.{shared_parameters}
+use Rattle.blake2_tree.specs.LeafRanges.{range_digests}
+use Rattle.blake2_tree.specs.NodeViews.{shared_parameters}
 use Rattle.blake2_tree.proofs.RangeLaws.{range_digests-next}
 use Rattle.blake2_tree.proofs.RangeWrites.{AreWritten-more, room-many, place-fits}
 use Rattle.blake2_tree.proofs.nodes.Nodes.write_digests.Goals as goal

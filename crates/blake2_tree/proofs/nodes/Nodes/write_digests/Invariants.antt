@@ -1,5 +1,5 @@
 use Rattle.std.proofs.Common.{length}
-use Rattle.blake2_tree.specs.Nodes.{shared_parameters}
+use Rattle.blake2_tree.specs.NodeViews.{shared_parameters}
 use Rattle.blake2_tree.proofs.RangeWrites.{AreWritten}
 use Rattle.blake2_tree.proofs.nodes.Nodes.write_digests.Given as goal
 

@@ -1,8 +1,9 @@
 use Rattle.std.proofs.Common.{◌≡◌, ℕ, ◌+◌, ◌*◌, ◌<◌, ◌≤◌, ◌++◌, List, length, take, drop, Bool}
 use Rattle.std.proofs.Common.{false, sym, ap, ◌∙◌, rules, arith}
-use Rattle.blake2_tree.specs.Ranges.{range_digests}
-use Rattle.blake2_tree.specs.Nodes.{shared_parameters, node_digest}
-use Rattle.blake2_tree.proofs.Leaves.{leaf_count-short, range_digests-short, range_digests-long}
+use Rattle.blake2_tree.specs.LeafRanges.{range_digests}
+use Rattle.blake2_tree.specs.NodeViews.{shared_parameters, node_digest}
+use Rattle.blake2_tree.proofs.MessageLeaves.{leaf_count-short, range_digests-short}
+use Rattle.blake2_tree.proofs.MessageLeaves.{range_digests-long}
 use Rattle.blake2_tree.proofs.RangeWrites.{AreWritten-more, written-all}
 use Rattle.blake2_tree.proofs.nodes.Nodes.write_each.Goals as goal
 

@@ -1,6 +1,6 @@
 use Rattle.std.proofs.Common.{rules, sym, ◌∙◌, ◌≡◌, ap, ◌*◌, length}
 use Rattle.std.specs.List.{concat}
-use Rattle.blake2_tree.specs.Nodes.{shared_parameters, four_digests}
+use Rattle.blake2_tree.specs.NodeViews.{shared_parameters, four_digests}
 use Rattle.blake2_tree.proofs.FourLeaves.{range_digests-last_four}
 use Rattle.blake2_tree.proofs.nodes.Nodes.write_last.Goals as goal
 

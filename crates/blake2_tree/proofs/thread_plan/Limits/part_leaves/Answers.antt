@@ -1,4 +1,4 @@
-use Rattle.blake2_tree.proofs.Plans.{leaves-fit, fours-short}
+use Rattle.blake2_tree.proofs.PlanParts.{leaves-fit, fours-short}
 use Rattle.std.proofs.Common.{rules, arith, ◌≡◌, ℕ, ◌*◌, ◌/◌, ◌<◌, ◌^◌, max, ap}
 use Rattle.blake2_tree.proofs.thread_plan.Limits.part_leaves.Goals as goal
 

@@ -1,4 +1,4 @@
-use Rattle.blake2_tree.proofs.Plans.{whole-leaves, some-bytes, are_parts}
+use Rattle.blake2_tree.proofs.PlanParts.{whole-leaves, some-bytes, are_parts}
 use Rattle.std.proofs.Common.{rules, ◌*◌, ◌≡◌, ◌%◌}
 use Rattle.blake2_tree.proofs.thread_plan.Plan.of.Goals as goal
 

@@ -1,5 +1,5 @@
 use Rattle.blake2_tree.proofs.PlanDigests.{has_digests}
-use Rattle.blake2_tree.proofs.Plans.{made}
+use Rattle.blake2_tree.proofs.PlanParts.{made}
 use Rattle.std.proofs.Common.{arith}
 use Rattle.blake2_tree.proofs.thread_plan.Plan.of_message.Goals as goal
 

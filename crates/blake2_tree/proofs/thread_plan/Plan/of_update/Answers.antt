@@ -1,6 +1,6 @@
-use Rattle.blake2_tree.proofs.Plans.{of_update, made, has_rest}
+use Rattle.blake2_tree.proofs.PlanParts.{of_update, made, has_rest}
 use Rattle.blake2_tree.proofs.PlanDigests.{has_leaf_digests}
-use Rattle.blake2_tree.specs.Plans.{threads_for}
+use Rattle.blake2_tree.specs.PartPlans.{threads_for}
 use Rattle.std.proofs.Common.{rules, arith}
 use Rattle.blake2_tree.proofs.thread_plan.Plan.of_update.Goals as goal
 

@@ -1,4 +1,4 @@
-use Rattle.blake2_tree.proofs.Plans.{first-fits, in_order}
+use Rattle.blake2_tree.proofs.PlanParts.{first-fits, in_order}
 use Rattle.std.proofs.Common.{rules, arith, ◌*◌, ◌/◌, ◌<◌, ◌^◌}
 use Rattle.blake2_tree.proofs.thread_plan.Plan.part.Goals as goal
 

@@ -2,7 +2,7 @@ use Rattle.std.proofs.Common.{◌≤◌, [], false, length, take, drop, ap, ◌�
 use Rattle.blake2_simd.specs.Family.{blake2b}
 use Rattle.blake2_compress.specs.Hash.{Tree}
 use Rattle.blake2_compress.specs.Views.{tree_of}
-use Rattle.blake2_state.specs.Arguments.{digest_given, given_count}
+use Rattle.blake2_state.specs.ConstructorArguments.{digest_given, given_count}
 use Rattle.blake2_state.specs.Blake2b as Root
 use Rattle.blake2_state.specs.declared.StateParameters.{StateParameters}
 use Rattle.blake2_xof.specs.Blake2xb.{settings_of}

@@ -3,7 +3,7 @@ use Rattle.std.proofs.Common.{◌≤◌, [], false, length, take, drop, ap, ◌�
 use Rattle.blake2_simd.specs.Family.{blake2s}
 use Rattle.blake2_compress.specs.Hash.{Tree}
 use Rattle.blake2_compress.specs.Views.{tree_of}
-use Rattle.blake2_state.specs.Arguments.{digest_given, given_count}
+use Rattle.blake2_state.specs.ConstructorArguments.{digest_given, given_count}
 use Rattle.blake2_state.specs.Blake2s as Root
 use Rattle.blake2_state.specs.declared.StateParameters.{StateParameters}
 use Rattle.blake2_xof.specs.Blake2xs.{settings_of}

@@ -1,6 +1,6 @@
 use Rattle.std.proofs.Common.{[], refl}
 use Rattle.blake2_simd.specs.Family.{blake2b}
-use Rattle.blake2.specs.Contexts.{blake2b_context_state}
+use Rattle.blake2.specs.ContextStates.{blake2b_context_state}
 use Rattle.blake2.proofs.StateLaws.{kept-updated, same_state, Updated_by}
 use Rattle.blake2.proofs.contexts.blake2b.Blake2bContext.update.Goals as goal
 

@@ -1,7 +1,7 @@
 -- Made by tools/twins.py from proofs/contexts/blake2b/Blake2bContext/update/Answers.antt.
 use Rattle.std.proofs.Common.{[], refl}
 use Rattle.blake2_simd.specs.Family.{blake2s}
-use Rattle.blake2.specs.Contexts.{blake2s_context_state}
+use Rattle.blake2.specs.ContextStates.{blake2s_context_state}
 use Rattle.blake2.proofs.StateLaws.{kept-updated, same_state, Updated_by}
 use Rattle.blake2.proofs.contexts.blake2s.Blake2sContext.update.Goals as goal
 

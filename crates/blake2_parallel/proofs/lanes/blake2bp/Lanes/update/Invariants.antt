@@ -1,6 +1,6 @@
 use Rattle.std.proofs.Common.{◌+◌, length}
 use Rattle.blake2_simd.specs.Family.{blake2b}
-use Rattle.blake2_parallel.specs.Leaves.{WentOn}
+use Rattle.blake2_parallel.specs.LeafStates.{WentOn}
 use Rattle.blake2_parallel.specs.Blake2bp.{IsSound, leaves_of}
 use Rattle.blake2_parallel.proofs.lanes.blake2bp.Lanes.update.Given as goal
 

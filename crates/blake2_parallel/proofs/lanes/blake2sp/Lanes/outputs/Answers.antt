@@ -5,10 +5,10 @@ use Rattle.blake2_simd.specs.Family.{blake2s}
 use Rattle.blake2_simd.specs.Lanes.{in_lane}
 use Rattle.blake2_simd.proofs.Lanes.{listed_in_eight}
 use Rattle.blake2_compress.specs.Hash.{bytes_of, compress as F, final, padded}
-use Rattle.blake2_compress.specs.Pieces.{piece}
+use Rattle.blake2_compress.specs.MessagePieces.{piece}
 use Rattle.blake2_parallel.specs.Blake2sp.{leaves_of}
-use Rattle.blake2_parallel.specs.Leaves.{Leaves, end_flags, leaf_future}
-use Rattle.blake2_parallel.proofs.LeafLaws.{cut_at, leaf_end}
+use Rattle.blake2_parallel.specs.LeafStates.{Leaves, end_flags, leaf_future}
+use Rattle.blake2_parallel.proofs.LeafContracts.{cut_at, leaf_end}
 use Rattle.blake2_parallel.proofs.lanes.blake2sp.Lanes.outputs.Goals as goal
 
 -- Leaf m's output, from its chaining words and those of all leaves before this end.

@@ -1,7 +1,7 @@
 -- Made by tools/twins.py from proofs/lanes/blake2bp/Lanes/update/Invariants.antt.
 use Rattle.std.proofs.Common.{◌+◌, length}
 use Rattle.blake2_simd.specs.Family.{blake2s}
-use Rattle.blake2_parallel.specs.Leaves.{WentOn}
+use Rattle.blake2_parallel.specs.LeafStates.{WentOn}
 use Rattle.blake2_parallel.specs.Blake2sp.{IsSound, leaves_of}
 use Rattle.blake2_parallel.proofs.lanes.blake2sp.Lanes.update.Given as goal
 

@@ -1,7 +1,7 @@
 use Rattle.std.proofs.Common.{◌≡◌, length, sym, arith, rules}
 use Rattle.blake2_simd.specs.Family.{blake2b}
 use Rattle.blake2_xof.specs.Blake2xb.{settings_of}
-use Rattle.blake2_xof.proofs.Blocks.{block_from}
+use Rattle.blake2_xof.proofs.OutputBlocks.{block_from}
 use Rattle.blake2_xof.proofs.reader.blake2xb.Reader.block.Goals as goal
 
 pub returns : goal.returns

@@ -1,7 +1,7 @@
 -- Made by tools/twins.py from proofs/reader/blake2xb/Reader/new/Answers.antt.
 use Rattle.std.proofs.Common.{length, ap, ◌∙◌, refl}
 use Rattle.blake2_compress.proofs.ByteSizes.{length-padded}
-use Rattle.blake2_xof.proofs.Texts.{two_texts}
+use Rattle.blake2_xof.proofs.TextFields.{two_texts}
 use Rattle.blake2_xof.proofs.reader.blake2xs.Reader.new.Goals as goal
 
 pub returns-clause-salt : goal.returns-clause-salt

@@ -3,7 +3,7 @@ use Rattle.std.proofs.Common.{◌≡◌, ◌++◌, List, ℕ, length, ap, ◌∙
 use Rattle.std.proofs.lemmas.List.{append-nil}
 use Rattle.blake2_simd.specs.Family.{blake2s}
 use Rattle.blake2_xof.specs.Xof.{block_size, offset_field}
-use Rattle.blake2_xof.proofs.Texts.{block_front, front}
+use Rattle.blake2_xof.proofs.TextFields.{block_front, front}
 use Rattle.blake2_xof.proofs.reader.blake2xs.Reader.parameter_block.Goals as goal
 
 pub returns : goal.returns

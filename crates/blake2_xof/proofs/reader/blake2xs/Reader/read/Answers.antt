@@ -5,7 +5,7 @@ use Rattle.std.proofs.lemmas.List.{append-nil, drop-drop, drop_all, take_rest}
 use Rattle.blake2_simd.specs.Family.{blake2s}
 use Rattle.blake2_xof.specs.Blake2xs.{output_of}
 use Rattle.blake2_xof.specs.Xof.{settings, stream}
-use Rattle.blake2_xof.proofs.Reading.{more_read}
+use Rattle.blake2_xof.proofs.ReadInPieces.{more_read}
 use Rattle.blake2_xof.proofs.reader.blake2xs.Reader.read.Goals as goal
 
 pub loop-done-preserved : goal.loop-done-preserved

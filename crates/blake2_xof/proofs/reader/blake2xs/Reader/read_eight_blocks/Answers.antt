@@ -5,7 +5,7 @@ use Rattle.std.proofs.lemmas.List.{length-take-le}
 use Rattle.blake2_simd.specs.Family.{blake2s}
 use Rattle.blake2_compress.specs.Hash.{bytes_of, compress as F, final}
 use Rattle.blake2_xof.specs.Blake2xs.{settings_of}
-use Rattle.blake2_xof.proofs.Blocks.{read_blocks}
+use Rattle.blake2_xof.proofs.OutputBlocks.{read_blocks}
 use Rattle.blake2_xof.proofs.reader.blake2xs.Reader.read_eight_blocks.Goals as goal
 
 pub copy_from_slice-requires : goal.copy_from_slice-requires

@@ -2,7 +2,7 @@
 use Rattle.std.proofs.Common.{◌≡◌, ◌+◌, ◌-◌, ◌/◌, ◌%◌, ◌++◌, List, ℕ, drop, take, ap, ◌∙◌, arith}
 use Rattle.blake2_simd.specs.Family.{blake2s}
 use Rattle.blake2_xof.specs.Blake2xs.{settings_of}
-use Rattle.blake2_xof.proofs.Blocks.{read_block}
+use Rattle.blake2_xof.proofs.OutputBlocks.{read_block}
 use Rattle.blake2_xof.proofs.reader.blake2xs.Reader.read_from_block.Goals as goal
 
 pub returns-clause-output : goal.returns-clause-output

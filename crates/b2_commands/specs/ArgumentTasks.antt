@@ -1,0 +1,258 @@
+-- The tasks that the arguments of the command line name. The arguments are checked from left to
+-- right, and the first error is returned.
+use Rattle.std.specs.Prelude.{◌≡◌, ⊤, ℕ, ◌^◌, ◌==◌, ◌&&◌, nat_lt, Bool, true, false}
+use Rattle.std.specs.Prelude.{if◌then◌else◌, List, [], ◌∷◌, codes, Option}
+use Rattle.std.specs.Prelude.{Some, None, is_some, position, Result, Ok, Err}
+use Rattle.std.specs.List.{before_first, after_first}
+use Rattle.std.specs.Result.{result_map_both}
+use Rattle.std.specs.Str.{bytes_eq}
+use Rattle.hex.specs.Hex.{decode_of}
+use Rattle.blake2.specs.Family.{Family, blake2b, blake2s}
+use Rattle.blake2_xof.specs.Xof.{unknown_length}
+use Rattle.b2_commands.specs.DecimalNumbers.{number_value}
+use Rattle.b2_commands.specs.declared.fault.Fault.{Fault}
+use Rattle.b2_commands.specs.declared.fault.Fault.TheVariants.{WrongWords, WrongHex, NoMemory}
+
+-- The result of the second step, if the first has a value, or the error of the first.
+abbrev pub and_then : {A B : Type 0} → Result A Fault → (A → Result B Fault) → Result B Fault
+and_then (Ok value) next = next value
+and_then (Err fault) next = Err fault
+
+-- An error in reading the arguments is the expected one, or memory was refused.
+abbrev pub IsReadingFault : {A : Type 0} → Fault → Result A Fault → Type 0
+IsReadingFault WrongWords expected = expected ≡ Err WrongWords
+IsReadingFault WrongHex expected = expected ≡ Err WrongHex
+IsReadingFault NoMemory expected = ⊤
+IsReadingFault fault expected = ⊥
+
+-- A hash function of a family, with the length of its digests in bytes.
+pub record Kind : Type 0 where
+  pub family : Family
+  pub bytes : ℕ
+
+-- The kind of BLAKE2b whose digests have n bytes.
+abbrev pub blake2b_of : ℕ → Kind
+blake2b_of n = record { family = blake2b; bytes = n }
+
+-- The kind of BLAKE2s whose digests have n bytes.
+abbrev pub blake2s_of : ℕ → Kind
+blake2s_of n = record { family = blake2s; bytes = n }
+
+-- The kind that an argument names.
+abbrev pub kind_of : List ℕ → Result Kind Fault
+kind_of word =
+    if bytes_eq word (codes "b128") then Ok (blake2b_of 16)
+    else if bytes_eq word (codes "b256") then Ok (blake2b_of 32)
+    else if bytes_eq word (codes "b512") then Ok (blake2b_of 64)
+    else if bytes_eq word (codes "s128") then Ok (blake2s_of 16)
+    else if bytes_eq word (codes "s256") then Ok (blake2s_of 32)
+    else Err WrongWords
+
+-- Whether a family is BLAKE2b.
+abbrev pub is_blake2b : Family → Bool
+is_blake2b blake2b = true
+is_blake2b blake2s = false
+
+-- The bytes of HEX: an even number of hexadecimal digits of either case, possibly none.
+abbrev pub hex_value : List ℕ → Result (List ℕ) Fault
+hex_value digits = result_map_both (λ bytes. bytes) (λ _. WrongHex) (decode_of digits)
+
+-- The kind of digests that `witness` compares, as an argument names it.
+abbrev pub compared_kind_of : List ℕ → Result Kind Fault
+compared_kind_of word =
+    if bytes_eq word (codes "b0") then Ok (blake2b_of 0)
+    else if bytes_eq word (codes "b8") then Ok (blake2b_of 1)
+    else if bytes_eq word (codes "s0") then Ok (blake2s_of 0)
+    else if bytes_eq word (codes "s8") then Ok (blake2s_of 1)
+    else kind_of word
+
+-- The kind, if it is one of BLAKE2b. Only BLAKE2b has trees.
+abbrev pub tree_kind : Kind → Result Kind Fault
+tree_kind kind = if is_blake2b kind.family then Ok kind else Err WrongWords
+
+-- The kind of root that `tree` prints, as an argument names it.
+abbrev pub tree_kind_of : List ℕ → Result Kind Fault
+tree_kind_of word = and_then (kind_of word) tree_kind
+
+-- The number as the length of a leaf, if it is 1 to 2^32 - 1.
+abbrev pub some_leaf : Option ℕ → Result ℕ Fault
+some_leaf None = Err WrongWords
+some_leaf (Some n) = if nat_lt 0 n && nat_lt n (2 ^ 32) then Ok n else Err WrongWords
+
+-- The length of a leaf in bytes, as the argument LEAF names it: 1 to 2^32 - 1, in decimal digits
+-- with no leading zero.
+abbrev pub leaf_value : List ℕ → Result ℕ Fault
+leaf_value digits = some_leaf (number_value 10 digits)
+
+-- The family that the KIND of `xof` names: that of BLAKE2Xb or BLAKE2Xs.
+abbrev pub output_family_of : List ℕ → Result Family Fault
+output_family_of word =
+    if bytes_eq word (codes "xb") then Ok blake2b
+    else if bytes_eq word (codes "xs") then Ok blake2s
+    else Err WrongWords
+
+-- The number as the length of an output in bytes, if it is one that BLAKE2X has.
+abbrev pub some_length : Family → Option ℕ → Result ℕ Fault
+some_length f None = Err WrongWords
+some_length f (Some n) = if nat_lt 0 n && nat_lt n (unknown_length f) then Ok n else Err WrongWords
+
+-- The length of an output in bytes, as the argument LENGTH names it: in decimal digits with no
+-- leading zero.
+abbrev pub length_value : Family → List ℕ → Result ℕ Fault
+length_value f digits = some_length f (number_value 10 digits)
+
+-- The bytes of HEX as a message: an even number of hexadecimal digits, at least two, or `-` for no
+-- bytes.
+abbrev pub message_value : List ℕ → Result (List ℕ) Fault
+message_value word =
+    if bytes_eq word (codes "-") then Ok []
+    else if bytes_eq word [] then Err WrongHex
+    else hex_value word
+
+-- The bytes of `key=HEX`, `salt=HEX` and `persona=HEX`, if they are given.
+pub record Given : Type 0 where
+  pub key : Option (List ℕ)
+  pub salt : Option (List ℕ)
+  pub persona : Option (List ℕ)
+
+-- No option is given.
+abbrev pub nothing_given : Given
+nothing_given = record { key = None; salt = None; persona = None }
+
+-- The bytes of HEX, for an option that was not given before.
+abbrev pub first_value : Option (List ℕ) → List ℕ → Result (List ℕ) Fault
+first_value None digits = hex_value digits
+first_value (Some bytes) digits = Err WrongWords
+
+-- The bytes of TEXT, for an option that was not given before.
+abbrev pub first_text : Option (List ℕ) → List ℕ → Result (List ℕ) Fault
+first_text None text = Ok text
+first_text (Some bytes) text = Err WrongWords
+
+-- The options with one more argument NAME=HEX or NAME=TEXT, whose name is checked before the value
+-- (61 is `=`). `key` is a name only if a key is accepted.
+abbrev pub with_word : Bool → Given → List ℕ → Result Given Fault
+with_word takes_key given word =
+    let name = before_first (λ b. b == 61) word in
+    let digits = after_first (λ b. b == 61) word in
+    if is_some (position (λ b. b == 61) word) then (
+    if takes_key && bytes_eq name (codes "key") then and_then (first_value given.key digits)
+    (λ bytes. Ok (record given { key = Some bytes }))
+    else if bytes_eq name (codes "salt") then and_then (first_value given.salt digits)
+    (λ bytes. Ok (record given { salt = Some bytes }))
+    else if bytes_eq name (codes "persona") then and_then (first_value given.persona digits)
+    (λ bytes. Ok (record given { persona = Some bytes }))
+    else if bytes_eq name (codes "persona-text") then and_then (first_text given.persona digits)
+    (λ bytes. Ok (record given { persona = Some bytes }))
+    else Err WrongWords
+    ) else Err WrongWords
+
+-- The options with all of these arguments.
+abbrev pub with_words : Bool → Given → List (List ℕ) → Result Given Fault
+with_words takes_key given [] = Ok given
+with_words takes_key given (word ∷ words) =
+    and_then (with_word takes_key given word) (λ more. with_words takes_key more words)
+
+-- The task that a command line names.
+pub data Task : Type 0 where
+  -- `sum KIND [key=HEX] [salt=HEX] [persona=HEX]`
+  to_sum : Kind → Given → Task
+  -- `script KIND [key=HEX] [salt=HEX] [persona=HEX]`
+  to_script : Kind → Given → Task
+  -- `steps KIND [key=HEX] [salt=HEX] [persona=HEX]`
+  to_steps : Kind → Given → Task
+  -- `witness KIND HEX HEX`
+  to_witness : Kind → List ℕ → List ℕ → Task
+  -- `tree KIND LEAF [salt=HEX] [persona=HEX]`
+  to_tree : Kind → ℕ → Given → Task
+  -- `xof KIND LENGTH [key=HEX] [salt=HEX] [persona=HEX]`
+  to_xof : Family → ℕ → Given → Task
+  -- `derive LENGTH CONTEXT`
+  to_derive : ℕ → List ℕ → Task
+  -- `--help`
+  to_help : Task
+  -- `--version`
+  to_version : Task
+
+-- The task of the arguments after a command's name: KIND and the options.
+abbrev pub given_task : (Kind → Given → Task) → List (List ℕ) → Result Task Fault
+given_task to [] = Err WrongWords
+given_task to (kind ∷ words) =
+    and_then (kind_of kind)
+    (λ k. and_then (with_words true nothing_given words) (λ given. Ok (to k given)))
+
+-- The task of the arguments after KIND and both messages of `witness`. No argument is allowed
+-- there.
+abbrev pub rest_task : Kind → List ℕ → List ℕ → List (List ℕ) → Result Task Fault
+rest_task kind a b [] = Ok (to_witness kind a b)
+rest_task kind a b (word ∷ words) = Err WrongWords
+
+-- The task of the arguments after KIND and the first message of `witness`.
+abbrev pub second_task : Kind → List ℕ → List (List ℕ) → Result Task Fault
+second_task kind a [] = Err WrongWords
+second_task kind a (word ∷ words) = and_then (message_value word) (λ b. rest_task kind a b words)
+
+-- The task of the arguments after KIND of `witness`.
+abbrev pub first_task : Kind → List (List ℕ) → Result Task Fault
+first_task kind [] = Err WrongWords
+first_task kind (word ∷ words) = and_then (message_value word) (λ a. second_task kind a words)
+
+-- The task of the arguments after `witness`.
+abbrev pub witness_task : List (List ℕ) → Result Task Fault
+witness_task [] = Err WrongWords
+witness_task (word ∷ words) = and_then (compared_kind_of word) (λ kind. first_task kind words)
+
+-- The task of the arguments after KIND of `tree`.
+abbrev pub leaf_task : Kind → List (List ℕ) → Result Task Fault
+leaf_task kind [] = Err WrongWords
+leaf_task kind (leaf ∷ words) =
+    and_then (leaf_value leaf)
+    (λ n. and_then (with_words false nothing_given words) (λ given. Ok (to_tree kind n given)))
+
+-- The task of the arguments after `tree`.
+abbrev pub tree_task : List (List ℕ) → Result Task Fault
+tree_task [] = Err WrongWords
+tree_task (word ∷ words) = and_then (tree_kind_of word) (λ kind. leaf_task kind words)
+
+-- The task of the arguments after KIND of `xof`.
+abbrev pub output_task_of : Family → List (List ℕ) → Result Task Fault
+output_task_of f [] = Err WrongWords
+output_task_of f (word ∷ words) =
+    and_then (length_value f word)
+    (λ n. and_then (with_words true nothing_given words) (λ given. Ok (to_xof f n given)))
+
+-- The task of the arguments after `xof`.
+abbrev pub xof_task : List (List ℕ) → Result Task Fault
+xof_task [] = Err WrongWords
+xof_task (word ∷ words) = and_then (output_family_of word) (λ f. output_task_of f words)
+
+-- The task of the arguments after LENGTH of `derive`: one, which is the context.
+abbrev pub context_task : ℕ → List (List ℕ) → Result Task Fault
+context_task n [] = Err WrongWords
+context_task n (context ∷ []) = Ok (to_derive n context)
+context_task n (context ∷ word ∷ words) = Err WrongWords
+
+-- The task of the arguments after `derive`.
+abbrev pub derive_task : List (List ℕ) → Result Task Fault
+derive_task [] = Err WrongWords
+derive_task (word ∷ words) = and_then (length_value blake2b word) (λ n. context_task n words)
+
+-- The task of an argument that no other follows.
+abbrev pub only : Task → List (List ℕ) → Result Task Fault
+only task [] = Ok task
+only task (word ∷ words) = Err WrongWords
+
+-- The task of a command line.
+abbrev pub task_of : List (List ℕ) → Result Task Fault
+task_of [] = Err WrongWords
+task_of (command ∷ words) =
+    if bytes_eq command (codes "sum") then given_task to_sum words
+    else if bytes_eq command (codes "script") then given_task to_script words
+    else if bytes_eq command (codes "steps") then given_task to_steps words
+    else if bytes_eq command (codes "witness") then witness_task words
+    else if bytes_eq command (codes "tree") then tree_task words
+    else if bytes_eq command (codes "xof") then xof_task words
+    else if bytes_eq command (codes "derive") then derive_task words
+    else if bytes_eq command (codes "--help") then only to_help words
+    else if bytes_eq command (codes "--version") then only to_version words
+    else Err WrongWords

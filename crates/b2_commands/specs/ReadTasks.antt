@@ -1,0 +1,54 @@
+-- The tasks that the program has read.
+use Rattle.b2_commands.specs.declared.witness_arguments.Compared.{Compared}
+use Rattle.b2_commands.specs.declared.witness_arguments.Comparison.{Comparison}
+use Rattle.b2_commands.specs.declared.task.Output.{Output}
+use Rattle.b2_commands.specs.declared.task.Output.TheVariants.{Digest, Digests, Transcript}
+use Rattle.b2_commands.specs.declared.task.Root.{Root}
+use Rattle.b2_commands.specs.declared.output_arguments.Extended.{Extended}
+use Rattle.b2_commands.specs.declared.output_arguments.Derivation.{Derivation}
+use Rattle.b2_commands.specs.declared.task.Task.{Task as TaskRead}
+use Rattle.b2_commands.specs.declared.task.Task.TheVariants.{Hash, Compare, Tree}
+use Rattle.b2_commands.specs.declared.task.Task.TheVariants.{Xof, Derive, Help, Version}
+use Rattle.b2_commands.specs.Kinds.{blake2b_value, family_value, kind_value}
+use Rattle.b2_commands.specs.ReadOptions.{given_of}
+use Rattle.b2_commands.specs.ArgumentTasks.{Given, Kind, Task}
+use Rattle.b2_commands.specs.ArgumentTasks.Task.{to_sum, to_script, to_steps, to_witness, to_tree}
+use Rattle.b2_commands.specs.ArgumentTasks.Task.{to_xof, to_derive, to_help, to_version}
+
+-- The task that prints an output.
+abbrev pub output_task : Output → Kind → Given → Task
+output_task Digest kind given = to_sum kind given
+output_task Digests kind given = to_script kind given
+output_task Transcript kind given = to_steps kind given
+
+-- The kind of digests by which messages are compared.
+abbrev pub compared_value : Compared → Kind
+compared_value compared = record { family = family_value compared.family; bytes = compared.bytes }
+
+-- The task of a comparison.
+abbrev pub comparison_task : Comparison → Task
+comparison_task comparison =
+    to_witness (compared_value comparison.by) comparison.a.items comparison.b.items
+
+-- The task of a root.
+abbrev pub root_task : Root → Task
+root_task root = to_tree (blake2b_value root.kind) root.leaf_length (given_of root.options)
+
+-- The task of an output.
+abbrev pub extended_task : Extended → Task
+extended_task output =
+    to_xof (family_value output.family) output.length (given_of output.options)
+
+-- The task of a derivation.
+abbrev pub derivation_task : Derivation → Task
+derivation_task derivation = to_derive derivation.length derivation.context.items
+
+-- The task that the program has read.
+abbrev pub task_value : TaskRead → Task
+task_value (Hash output kind options) = output_task output (kind_value kind) (given_of options)
+task_value (Compare comparison) = comparison_task comparison
+task_value (Tree root) = root_task root
+task_value (Xof output) = extended_task output
+task_value (Derive derivation) = derivation_task derivation
+task_value Help = to_help
+task_value Version = to_version

@@ -1,0 +1,64 @@
+-- Which texts have no digest.
+use Rattle.std.specs.Prelude.{◌≡◌, ◌↔◌, ◌⊎◌, ℕ, ◌+◌, ◌^◌, ◌≤◌, Bool, false, List, length, Result}
+use Rattle.blake2_simd.specs.Family.{blake2b, blake2s}
+use Rattle.blake2_compress.specs.Hash.{Parameters, sequential}
+use Rattle.blake2_parallel.specs.Parallel.{key_count, settings, Admits as AdmitsParallel}
+use Rattle.blake2_state.specs.ConstructorArguments.{Admits, given_count}
+use Rattle.blake2_tree.specs.TreeLengths.{AcceptsLengths, lengths_of}
+use Rattle.blake2_tree.specs.TreeRoot.{tree_parameters}
+use Rattle.b2sum_lines.specs.declared.entry.Algorithm.{Algorithm}
+use Rattle.b2sum_lines.specs.declared.entry.Algorithm.TheVariants.{Blake2b, Blake2s, Blake2bp}
+use Rattle.b2sum_lines.specs.declared.entry.Algorithm.TheVariants.{Blake2sp, Tree}
+use Rattle.b2sum_commands.specs.declared.hashes.Function.{Function}
+use Rattle.b2sum_commands.specs.declared.options.Options.{Options}
+use Rattle.std.specs.Result.{IsErrOf}
+use Rattle.blake2_streams.specs.declared.stream.StreamFault.{StreamFault}
+use Rattle.blake2_streams.specs.declared.stream.StreamFault.TheVariants.{TooLong}
+
+-- The error is that a source of these bytes has no digest: exactly if no read failed, and the
+-- lengths are not accepted, or the bytes and those that a key counts for are as many as the limit,
+-- or more.
+abbrev pub IsTooLong : {A : Type 0} → Result A StreamFault → Bool → Type 0 → ℕ → ℕ → List ℕ → Type 0
+IsTooLong {A} result failed accepted counted limit bytes =
+    IsErrOf result TooLong
+    ↔ ((failed ≡ false) × ((accepted → ⊥) ⊎ (limit ≤ counted + length bytes)))
+
+-- What a parameter block names, for a digest of n bytes under a key (no bytes: none), a salt and a
+-- persona.
+abbrev pub parameters_of : ℕ → List ℕ → List ℕ → List ℕ → Parameters
+parameters_of n key salt persona = record {
+  size = n;
+  key_size = length key;
+  salt = salt;
+  persona = persona;
+  tree = sequential;
+}
+
+-- The algorithm accepts these lengths. A tree has no key.
+abbrev pub accepts : Algorithm → ℕ → List ℕ → List ℕ → List ℕ → Type 0
+accepts Blake2b n key salt persona = Admits blake2b (parameters_of n key salt persona)
+accepts Blake2s n key salt persona = Admits blake2s (parameters_of n key salt persona)
+accepts Blake2bp n key salt persona = AdmitsParallel blake2b (settings n key salt persona)
+accepts Blake2sp n key salt persona = AdmitsParallel blake2s (settings n key salt persona)
+accepts (Tree leaf) n key salt persona =
+    AcceptsLengths (lengths_of n (tree_parameters salt persona leaf))
+
+-- The function has digests with the lengths of the options.
+abbrev pub HasLengths : Options → Function → Type 0
+HasLengths o f = accepts f.algorithm f.bytes o.key.items o.salt.items o.persona.items
+
+-- The number of bytes that a key counts for.
+abbrev pub counted_key : Algorithm → List ℕ → ℕ
+counted_key Blake2b key = given_count blake2b key
+counted_key Blake2s key = given_count blake2s key
+counted_key Blake2bp key = key_count blake2b key
+counted_key Blake2sp key = key_count blake2s key
+counted_key (Tree leaf) key = 0
+
+-- The least number of bytes that is too much.
+abbrev pub limit_of : Algorithm → ℕ
+limit_of Blake2b = 2 ^ 64
+limit_of Blake2s = 2 ^ 64
+limit_of Blake2bp = 2 ^ 64
+limit_of Blake2sp = 2 ^ 64
+limit_of (Tree leaf) = 2 ^ 58

@@ -1,0 +1,54 @@
+-- The messages at the end of a manifest.
+use Rattle.std.proofs.Common.{◌≡◌, ℕ, ◌==◌, ◌&&◌, Bool, true, false, not, List, [], ◌++◌, Option, inr, codes}
+use Rattle.std.proofs.Common.{sym, subst}
+use Rattle.std.proofs.KnownBytes.{Appends-nil}
+use Rattle.b2sum_commands.specs.declared.check.Counts.{Counts}
+use Rattle.b2sum_commands.specs.declared.options.Options.{Options}
+use Rattle.b2sum_commands.specs.Reports.{has_no_entry, is_nothing, message, message_if, report_text}
+use Rattle.b2sum_commands.specs.Reports.{warnings}
+use Rattle.b2sum_commands.specs.World.{IsWritten}
+use Rattle.b2sum_commands.proofs.MessagesInTurn.{both_written}
+
+-- Nothing is written.
+pub no_line : (b : Bool) (x : Option (List ℕ)) → IsWritten b b x x []
+no_line b x = record { stays = λ failed. failed; accepted = inr (Appends-nil x) }
+
+-- A message for which there is no cause.
+pub unsaid : (b : Bool) (x : Option (List ℕ)) (cause : Bool) (program first second third : List ℕ)
+    → cause ≡ false → IsWritten b b x x (message_if cause program first second third)
+unsaid b x cause program first second third is =
+    subst (λ (c : Bool). IsWritten b b x x (message_if c program first second third)) (sym is)
+    (no_line b x)
+
+-- A message for which there is cause.
+pub told : (a b : Bool) (x y : Option (List ℕ)) (cause : Bool) (program first second third : List ℕ)
+    → cause ≡ true → IsWritten a b x y (message program first second third)
+    → IsWritten a b x y (message_if cause program first second third)
+told a b x y cause program first second third is written =
+    subst (λ (c : Bool). IsWritten a b x y (message_if c program first second third)) (sym is)
+    written
+
+-- Four texts, one after the other.
+pub four_written : (a b c d e : Bool) (v w x y z : Option (List ℕ))
+    (first second third fourth : List ℕ) → IsWritten a b v w first → IsWritten b c w x second
+    → IsWritten c d x y third → IsWritten d e y z fourth
+    → IsWritten a e v z (first ++ (second ++ (third ++ fourth)))
+four_written a b c d e v w x y z first second third fourth p q r s =
+    both_written a b e v w z first (second ++ (third ++ fourth)) p
+    (both_written b c e w x z second (third ++ fourth) q
+    (both_written c d e x y z third fourth r s))
+
+-- The messages at the end of a manifest, one after the other.
+pub reported : (a b c d : Bool) (w x y z : Option (List ℕ)) (program title : List ℕ) (o : Options)
+    (counts : Counts) (needs : List ℕ) → has_no_entry counts ≡ false → is_nothing o.report ≡ false
+    → IsWritten a b w x
+    (message_if (not (counts.unmet == 0)) program title (codes ": lines need") needs)
+    → IsWritten b c x y (warnings program counts)
+    → IsWritten c d y z (message_if (o.ignores_missing && (counts.equal == 0)) program title
+    (codes ": no file was verified") [])
+    → IsWritten a d w z (report_text program title o counts needs)
+reported a b c d w x y z program title o counts needs some wanted p q r =
+    let last = message_if (o.ignores_missing && (counts.equal == 0)) program title
+    (codes ": no file was verified") [] in
+    rw (some, wanted) (both_written a b d w x z _ (warnings program counts ++ last) p
+    (both_written b c d x y z (warnings program counts) last q r))

@@ -1,0 +1,133 @@
+-- What the check of a manifest returns and prints.
+use Rattle.std.specs.Prelude.{◌≡◌, ◌⊎◌, ℕ, Bool, true, false, List, ⊤}
+use Rattle.std.specs.Prelude.{Option, Some, None, Result, Ok, Err, ◌++◌, if◌then◌else◌}
+use Rattle.std.specs.Io.KnownBytes.{Consumes, IsAtEnd}
+use Rattle.text_lines.specs.Cuts.{lines_of}
+use Rattle.b2sum_lines.specs.EntryViews.{entry_value}
+use Rattle.b2sum_lines.specs.ManifestLines.{Line}
+use Rattle.b2sum_lines.specs.declared.entry.Entry.{Entry}
+use Rattle.b2sum_commands.specs.declared.check.Counts.{Counts}
+use Rattle.b2sum_commands.specs.declared.check.Item.{Item}
+use Rattle.b2sum_commands.specs.declared.check.Item.TheVariants.{Comment, Listed, Malformed, Unmet}
+use Rattle.b2sum_commands.specs.declared.check.Verdict.{Verdict}
+use Rattle.b2sum_commands.specs.declared.check.Verdict.TheVariants as verdict
+use Rattle.b2sum_commands.specs.declared.options.Options.{Options}
+use Rattle.b2sum_commands.specs.World.{Streams}
+use Rattle.b2sum_commands.specs.World.{World, InTurn, IsQuiet, IsStopped}
+use Rattle.b2sum_commands.specs.PrintedSums.{is_dash, CannotGet, Leaves}
+use Rattle.b2sum_commands.specs.Manifests.{IsLine, BeginsLine, first_spacing, holds_by}
+use Rattle.b2sum_commands.specs.Reports.{AreCounted, IsReported}
+
+-- What a line is, as `item` has it.
+abbrev pub item_value : Item → Option (Result Line Verdict)
+item_value Comment = None
+item_value (Listed e) = Some (Ok (entry_value e))
+item_value Malformed = Some (Err verdict.Malformed)
+item_value (Unmet lacks) = Some (Err verdict.Unmet)
+
+-- Whether the entry of this line has the property. A line without an entry has it.
+abbrev pub IfListed : Item → (Entry → Type 0) → Type 0
+IfListed Comment holds = ⊤
+IfListed (Listed e) holds = holds e
+IfListed Malformed holds = ⊤
+IfListed (Unmet lacks) holds = ⊤
+
+-- The text of a manifest is all that standard input or a file returned.
+abbrev pub IsText : Bool → Option (List ℕ) → Option (List ℕ) → Option (List ℕ) → List ℕ → Type 0
+IsText true held left after text = Consumes left after text × IsAtEnd after
+IsText false held left after text =
+    (after ≡ left) × (end : Option (List ℕ)) × Consumes held end text × IsAtEnd end
+
+-- The text is a beginning of what standard input or a file returned.
+abbrev pub IsBegun : Bool → Option (List ℕ) → Option (List ℕ) → List ℕ → Type 0
+IsBegun true held left text = (rest : Option (List ℕ)) × Consumes left rest text
+IsBegun false held left text = (rest : Option (List ℕ)) × Consumes held rest text
+
+-- Streams of which this is left of standard input, if the manifest is that.
+abbrev pub read_to : Bool → Option (List ℕ) → Streams → Streams
+read_to true left s = record s { left = left }
+read_to false left s = s
+
+-- The lines of what a manifest returned are checked, with these verdicts. Before that, it had
+-- `before` left, and after that, `rest`. No entry of a manifest on standard input reads that, so
+-- all of it may be read before any of them.
+pub record AreRead (w : World) (o : Options) (input : Bool) (before rest : Option (List ℕ))
+    (old new : Streams) (verdicts : List Verdict) : Type 0 where
+  pub text : List ℕ
+  pub passed : Consumes before rest text
+  pub lines : InTurn (IsLine w o input) (lines_of text) (read_to input new.left old) new verdicts
+
+-- A manifest is at its end, and the counts are those of the verdicts. There are none if a read
+-- failed, and then what is left is not known.
+abbrev pub EndsAt : Option Counts → List Verdict → Option (List ℕ) → Option (List ℕ) → Type 0
+    → Type 0
+EndsAt None vs rest left failed = failed
+EndsAt (Some counts) vs rest left failed =
+    AreCounted vs counts × (rest ≡ left) × IsAtEnd left
+
+-- The lines of a text are checked one after the other, with these verdicts, and nothing else is
+-- printed but messages. `input` says that the text is standard input, up to where `old` is.
+pub record AreJudged (w : World) (o : Options) (input : Bool) (text : List ℕ)
+    (old new : Streams) (verdicts : List Verdict) : Type 0 where
+  pub end : Streams
+  pub lines : InTurn (IsLine w o input) (lines_of text) old end verdicts
+  pub quiet : IsQuiet end new
+  pub left : new.left ≡ end.left
+
+-- A manifest that was read is checked by the options, with this result: whether it holds. The last
+-- messages are those of its counts.
+pub record IsJudged (w : World) (o : Options) (name : List ℕ) (old new : Streams) (result : Bool)
+    : Type 0 where
+  pub text : List ℕ
+  pub start : Streams
+  pub verdicts : List Verdict
+  pub is_text : IsText (is_dash name) (w.files.holds name) old.left start.left text
+  pub quiet : IsQuiet old start
+  pub are_judged : AreJudged w o (is_dash name) text start new verdicts
+  pub is_result : result ≡ holds_by o.is_strict verdicts
+  pub reported : IsReported w o name verdicts are_judged.end new
+
+-- A manifest was not read to its end, for a cause. Then the lines of its beginning are checked.
+pub record IsCut (w : World) (o : Options) (name : List ℕ) (old new : Streams) : Type 0 where
+  pub text : List ℕ
+  pub start : Streams
+  pub verdicts : List Verdict
+  pub cause : CannotGet w name
+  pub begins : IsBegun (is_dash name) (w.files.holds name) old.left text
+  pub quiet : IsQuiet old start
+  pub are_judged : AreJudged w o (is_dash name) text start new verdicts
+
+-- The lines of a text are whole: they stay the same, whatever comes after it.
+abbrev pub AreWhole : List ℕ → Type 0
+AreWhole text = (more : List ℕ) → lines_of (text ++ more) ≡ lines_of text ++ lines_of more
+
+-- An error ended the check of a manifest, which had `before` left, one line after the other. These
+-- are whole lines, unless it was read to its end, or a read failed.
+pub record AreStopped (w : World) (o : Options) (name : List ℕ) (input : Bool)
+    (before : Option (List ℕ)) (old new : Streams) : Type 0 where
+  pub text : List ℕ
+  pub rest : Option (List ℕ)
+  pub passed : Consumes before rest text
+  pub whole : AreWhole text ⊎ (IsAtEnd rest ⊎ w.breaks name)
+  pub start : Streams
+  pub quiet : IsQuiet old start
+  pub left : Leaves input old.left start.left
+  pub lines : IsStopped (IsLine w o input) (BeginsLine w o input) (lines_of text) start new
+
+-- What the manifest of this name has: what is left of standard input for `-`.
+abbrev pub manifest_bytes : World → Option (List ℕ) → List ℕ → Option (List ℕ)
+manifest_bytes w left name = if is_dash name then left else w.files.holds name
+
+-- The manifest of this name is checked from here on, or it was not read to its end, and does not
+-- hold. If there is no result, an error ended the check.
+abbrev pub GoesOn : World → Options → List ℕ → Streams → Streams → Option Bool → Type 0
+GoesOn w o name old new (Some result) =
+    ((result ≡ false) × IsCut w o name old new) ⊎ IsJudged w o name old new result
+GoesOn w o name old new None =
+    AreStopped w o name (is_dash name) (manifest_bytes w old.left name) old new
+
+-- The manifest of this name is checked. Which spacing its lines have does not depend on other
+-- manifests.
+abbrev pub IsChecked : World → Options → List ℕ → Streams → Streams → Option Bool → Type 0
+IsChecked w o name old new end =
+    GoesOn w o name (record old { spacing = first_spacing o }) new end

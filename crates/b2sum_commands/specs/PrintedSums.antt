@@ -1,0 +1,87 @@
+-- What is read of a file, and the line that is printed for it.
+use Rattle.std.specs.Prelude.{◌≡◌, ℕ, Bool, true, false, List, [], ◌∷◌, ◌++◌, Option, Some, None, ⊤}
+use Rattle.std.specs.Prelude.{if◌then◌else◌, ◌⊎◌}
+use Rattle.std.specs.Str.{bytes_eq}
+use Rattle.std.specs.Io.KnownBytes.{Appends}
+use Rattle.blake2_streams.specs.Streams.{GivesAll, TakesPart}
+use Rattle.b2sum_lines.specs.ManifestLines.{Line, entry_line, plain_line}
+use Rattle.hex.specs.Hex.{encode_lower}
+use Rattle.b2sum_commands.specs.declared.hashes.Function.{Function}
+use Rattle.b2sum_commands.specs.declared.options.Options.{Options}
+use Rattle.b2sum_commands.specs.declared.options.Shape.{Shape}
+use Rattle.b2sum_commands.specs.declared.options.Shape.TheVariants.{Named, Digits, Bytes}
+use Rattle.b2sum_commands.specs.World.{Streams}
+use Rattle.b2sum_commands.specs.World.{World, IsTold}
+
+-- The name of standard input.
+abbrev pub is_dash : List ℕ → Bool
+is_dash name = bytes_eq name (45 ∷ [])
+
+-- A source returned this text up to its end: standard input, which had `left` before and has
+-- `after` then, or a file that holds `held`. If that is not known, the text is some bytes.
+abbrev pub ReadsAs : Bool → Option (List ℕ) → Option (List ℕ) → Option (List ℕ) → List ℕ → Type 0
+ReadsAs true held left after text = GivesAll left after text
+ReadsAs false held left after text =
+    (after ≡ left) × (end : Option (List ℕ)) × GivesAll held end text
+
+-- A file that is not standard input leaves that as it is.
+abbrev pub Leaves : Bool → Option (List ℕ) → Option (List ℕ) → Type 0
+Leaves true left after = ⊤
+Leaves false left after = after ≡ left
+
+-- The file of this name is not read to its end: it cannot be opened, or a read of it failed.
+abbrev pub CannotGet : World → List ℕ → Type 0
+CannotGet w name =
+    ((is_dash name ≡ false) × (w.files.refuses name ≡ true)) ⊎ w.breaks name
+
+-- A file has no digest: it is not read to its end, or the hash function refuses it.
+abbrev pub CannotSum : World → Options → Function → List ℕ → Type 0
+CannotSum w o f name = CannotGet w name ⊎ (w.hashing.rejects o f ≡ true)
+
+-- The hash function of the digests that are printed.
+abbrev pub printed_function : Options → Function
+printed_function o = record { algorithm = o.algorithm; bytes = o.bytes }
+
+-- The line of an entry with its end: a newline, or a zero byte after a name as it is.
+abbrev pub ended_line : Bool → Line → List ℕ
+ended_line zero e = if zero then plain_line e ++ (0 ∷ []) else entry_line e ++ (10 ∷ [])
+
+-- The end of a line.
+abbrev pub end_of : Bool → ℕ
+end_of zero = if zero then 0 else 10
+
+-- What is printed of an entry: its line, the digits of its digest, or the bytes of that.
+abbrev pub printed : Shape → Bool → Line → List ℕ
+printed Named zero e = ended_line zero e
+printed Digits zero e = encode_lower e.digest ++ (end_of zero ∷ [])
+printed Bytes zero e = e.digest
+
+-- The entry of a file: the digest of its text by the options.
+abbrev pub entry_of : World → Options → List ℕ → List ℕ → Line
+entry_of w o name text = record {
+  algorithm = o.algorithm;
+  digest = w.hashing.digest o (printed_function o) text;
+  name = name;
+  style = o.style;
+}
+
+-- A sink accepted this much of the line of the file of this name, which has the digest of all its
+-- text.
+abbrev pub HasSum : (Option (List ℕ) → Option (List ℕ) → List ℕ → Type 0) → World → Options
+    → List ℕ → Streams → Streams → Type 0
+HasSum accepts w o name old new =
+    (text : List ℕ) × ReadsAs (is_dash name) (w.files.holds name) old.left new.left text
+    × accepts old.held new.held (printed o.shape o.ends_zero (entry_of w o name text))
+
+-- The line of the file of this name is printed, and no message. If the result is false, nothing is
+-- printed, since the file cannot be read, as a message says; if files that do not exist are
+-- ignored, there may be none. If there is no result, an error ended it, and nothing or a part of
+-- the line is printed.
+abbrev pub IsSum : World → Options → List ℕ → Streams → Streams → Option Bool → Type 0
+IsSum w o name old new (Some true) =
+    HasSum Appends w o name old new × (new.told ≡ old.told)
+IsSum w o name old new (Some false) =
+    Leaves (is_dash name) old.left new.left × (new.held ≡ old.held)
+    × CannotSum w o (printed_function o) name
+    × (o.ignores_missing ≡ false → IsTold old new)
+IsSum w o name old new None = (new.held ≡ old.held) ⊎ HasSum TakesPart w o name old new

@@ -1,0 +1,188 @@
+-- Words and entries are the transcript of some input exactly if the reader's tests hold.
+use Rattle.std.proofs.Common.{Bool, IsTrue, ◌↔◌, ◌≡◌, ℕ, ◌-◌, ◌*◌, ◌<◌, ◌≤◌, inl, inr, List, length}
+use Rattle.std.proofs.Common.{take, sym, ap, subst, ◌∙◌, arith, get_or, length-append, Option, Some}
+use Rattle.std.proofs.Common.{None}
+use Rattle.std.proofs.lemmas.List.{get_or-take, get_or_append_left, length-take-le, get_or_default}
+use Rattle.std.proofs.lemmas.Bool.{cases_lt}
+use Rattle.blake2_simd.specs.Family.{Family, block_bytes, key_bytes, salt_bytes}
+use Rattle.blake2_compress.specs.Hash.{AreBytes, Flags, flags, Input, Parameters, bytes_of}
+use Rattle.blake2_compress.specs.Hash.{block_count, padded, parameter_words, input_parameters}
+use Rattle.blake2_compress.specs.Hash.{input_data, data_bytes, key_block, key_size}
+use Rattle.blake2_compress.specs.Inputs.{KeyFits}
+use Rattle.blake2_transcript.specs.Transcript.{Entry, joined, Reads, ReadsOnly, IsOfSomeInput}
+use Rattle.blake2_transcript.specs.Transcript.{no_entry}
+use Rattle.blake2_transcript.specs.Reader.{last_entry, told_count, IsReadable, told_input, AreTyped}
+use Rattle.blake2_compress.specs.ParameterBlock.{parameters_in}
+use Rattle.blake2_compress.proofs.ParameterSizes.{AreParameters, key_bytes_fit}
+use Rattle.blake2_compress.proofs.ByteSizes.{length-padded, AreBytes-padded, AreBytes-take}
+use Rattle.blake2_compress.proofs.JoinedBlocks.{block_count-fits}
+use Rattle.blake2_transcript.proofs.DeterminedInputs.{transcripts_determine, accepted-parameters}
+use Rattle.blake2_compress.proofs.SplitRuns.{block_count-pos}
+use Rattle.blake2_compress.proofs.Padding.{padded-past, padded-before, zeros_after}
+use Rattle.blake2_transcript.proofs.RunEntries.{joined-length, joined-bytes}
+use Rattle.blake2_transcript.proofs.ParametersNamed.{whole, whole-fits, whole-words}
+use Rattle.blake2_transcript.proofs.ParametersNamed.{parameters_in-words, named_texts}
+use Rattle.blake2_transcript.proofs.KeyAndMessage.{key_data, told_key-size, told_key-fits}
+use Rattle.blake2_transcript.proofs.KeyAndMessage.{told_message-bytes}
+
+-- The law: if the tests hold, the words and entries are the transcript of what is read.
+readable_reads : (f : Family) (p : Parameters) (words : List ℕ) (entries : List Entry)
+    → p ≡ parameters_in f (bytes_of f words) → AreTyped f entries → IsReadable f p words entries
+    → Reads f words entries p.size (told_input f p entries)
+readable_reads f p words entries named typed test =
+    let b : ℕ = block_bytes f in
+    let n : ℕ = length entries in
+    let c : ℕ = told_count entries in
+    let j : List ℕ = joined entries in
+    let z : List ℕ = take c j in
+    let kk : ℕ = p.key_size in
+    let a : Input = told_input f p entries in
+    let lj : length j ≡ n * b = joined-length f entries typed.whole in
+    let room : c ≤ length j = rw (lj, test.run.number) (block_count-fits f c) in
+    let lz : length z ≡ c = length-take-le c j room in
+    let bytes : AreBytes z = AreBytes-take c j (joined-bytes f entries typed.whole) in
+    let limits = key_bytes_fit f in
+    let short : kk ≤ key_bytes f = test.fits.key_size in
+    let counted : 0 < kk → b ≤ length z = λ some. rw lz (test.key some).counted in
+    let zeros : 0 < kk → (i : ℕ) → kk ≤ i → i < b → get_or z i 0 ≡ 0 =
+    λ some i past below. get_or-take c j i 0 (omega (arith, (test.key some).counted))
+    ∙ (test.key some).zeros i past below in
+    let data_is : input_data f a ≡ z = key_data f kk z short counted zeros in
+    let within : kk ≤ length z = elim (cases_lt 0 kk)
+    [ inl some ↦ omega (arith, counted some, limits, short) | inr none ↦ omega arith ] in
+    let ld : length (input_data f a) ≡ c = ap length data_is ∙ lz in
+    let zeros_fit = whole-fits f p test.fits in
+    let texts = named_texts f p words named in
+    let key_is : kk ≡ key_size a.key = sym (told_key-size kk z within) in
+    record {
+      fits = test.fits.size;
+      accepted = record {
+        salt_fits = zeros_fit.salt;
+        persona_fits = zeros_fit.persona;
+        key_fits = told_key-fits f kk z bytes within short;
+        counted = rw ld typed.counter;
+        salt_bytes = AreBytes-padded (salt_bytes f) p.salt texts.0;
+        persona_bytes = AreBytes-padded (salt_bytes f) p.persona texts.1;
+        tree = test.fits.tree;
+        message_bytes = told_message-bytes f kk z bytes;
+      };
+      is = record {
+        parameters = test.words_are ∙ sym (whole-words f p test.fits)
+            ∙ ap (λ (m : ℕ). parameter_words f (record (whole f p) { key_size = m })) key_is;
+        number = test.run.number ∙ ap (block_count f) (sym ld);
+        below = λ i d h.
+            let here = test.run.below i h in
+            let at : get_or entries i d ≡ get_or entries i no_entry =
+            get_or_default entries i d no_entry (omega arith) in (
+              ap (λ (e : Entry). e.counter) at ∙ here.counter,
+              ap (λ (e : Entry). e.flags) at ∙ here.flags,
+            );
+        ends = λ d.
+            let lt : n - 1 < length entries = omega (arith, test.run.number, block_count-pos f c) in
+            let at : get_or entries (n - 1) d ≡ get_or entries (n - 1) no_entry =
+            get_or_default entries (n - 1) d no_entry lt in (
+              ap (λ (e : Entry). e.counter) at ∙ sym ld,
+              ap (λ (e : Entry). e.flags) at
+                  ∙ ap (λ (b : Bool). flags b (last_entry entries).flags.last_node) test.run.last,
+            );
+        blocks = zeros_after j c room test.run.zeros ∙ ap (λ (m : ℕ). padded m z) lj
+            ∙ ap (padded (n * b)) (sym data_is);
+      };
+    }
+
+-- ---- the other direction
+
+-- The data with a key begins with the key, padded with zeros to a block.
+keyed_data : (f : Family) (key : Option (List ℕ)) (m : List ℕ) → KeyFits f key → 0 < key_size key
+    → (block_bytes f ≤ length (data_bytes f key m))
+    × ((i : ℕ) → key_size key ≤ i → i < block_bytes f → get_or (data_bytes f key m) i 0 ≡ 0)
+unfolding key_block
+keyed_data f None m fits some = absurd (omega arith)
+keyed_data f (Some k) m fits some =
+    let b : ℕ = block_bytes f in
+    let lk : length (padded b k) ≡ b = length-padded b k (omega (arith, key_bytes_fit f)) in (
+      omega (arith, length-append (padded b k) m),
+      λ i past below. get_or_append_left (padded b k) m 0 i (omega arith) ∙ padded-past b k i past,
+    )
+
+-- The law: the transcript of an accepted input passes the tests, with the parameters that its words
+-- have.
+reads_readable : (f : Family) (words : List ℕ) (entries : List Entry) (size : ℕ) (a : Input)
+    → Reads f words entries size a
+    → IsReadable f (parameters_in f (bytes_of f words)) words entries
+reads_readable f words entries size a r =
+    let b : ℕ = block_bytes f in
+    let z : List ℕ = input_data f a in
+    let p : Parameters = input_parameters size a in
+    let good : AreParameters f p = accepted-parameters f size a r.accepted r.fits in
+    let named : parameters_in f (bytes_of f words) ≡ whole f p =
+    ap (λ (ws : List ℕ). parameters_in f (bytes_of f ws)) r.is.parameters
+    ∙ parameters_in-words f p good in
+    let count_is : told_count entries ≡ length z = (r.is.ends no_entry).0 in
+    let blocks : joined entries ≡ padded (length entries * b) z = r.is.blocks in
+    let test : IsReadable f (whole f p) words entries = record {
+      fits = whole-fits f p good.fits;
+      words_are = r.is.parameters ∙ sym (whole-words f p good.fits);
+      run = record {
+        number = r.is.number ∙ ap (block_count f) (sym count_is);
+        below = λ i h. record {
+          counter = (r.is.below i no_entry h).0;
+          flags = (r.is.below i no_entry h).1;
+        };
+        last = ap (λ (g : Flags). g.last) (r.is.ends no_entry).1;
+        zeros = λ i past. ap (λ (l : List ℕ). get_or l i 0) blocks
+            ∙ padded-past (length entries * b) z i (omega arith);
+      };
+      key = λ some.
+          let keyed = keyed_data f a.key a.message r.accepted.key_fits some in
+          record {
+            counted = omega (arith, keyed.0);
+            zeros = λ i past below. ap (λ (l : List ℕ). get_or l i 0) blocks
+                ∙ padded-before (length entries * b) z i (omega (arith, keyed.0))
+                ∙ keyed.1 i past below;
+          };
+    } in
+    subst (λ (q : Parameters). IsReadable f q words entries) (sym named) test
+
+-- ---- the reader's test
+
+-- Parameters in the bytes of words that were read into rows.
+named_by : (f : Family) (words rows block : List ℕ) (p : Parameters) → rows ≡ words
+    → block ≡ bytes_of f rows → p ≡ parameters_in f block → p ≡ parameters_in f (bytes_of f words)
+named_by f words rows block p rows_are bytes_are named =
+    named ∙ ap (parameters_in f) (bytes_are ∙ ap (bytes_of f) rows_are)
+
+-- The law: the test r holds exactly if some input has this transcript.
+pub test_tells : (f : Family) (words rows block : List ℕ) (p : Parameters)
+    (given entries : List Entry) (r : Bool) → rows ≡ words → block ≡ bytes_of f rows
+    → p ≡ parameters_in f block → given ≡ entries
+    → IsTrue r ↔ IsReadable f p words given → (IsTrue r → AreTyped f given)
+    → IsTrue r ↔ IsOfSomeInput f words entries
+test_tells f words rows block p given entries r rows_are bytes_are at are readable typed =
+    let named = named_by f words rows block p rows_are bytes_are at in (
+      λ t. subst (IsOfSomeInput f words) are (
+        p.size,
+        told_input f p given,
+        readable_reads f p words given named (typed t) (readable.0 t),
+      ),
+      λ (size, a, reads). readable.1 (subst (λ (es : List Entry). IsReadable f p words es) (sym are)
+          (subst (λ (q : Parameters). IsReadable f q words entries) (sym named)
+          (reads_readable f words entries size a reads))),
+    )
+
+-- The law: what is read is an input of this transcript, and no other input is.
+pub reads_told : (f : Family) (words rows block : List ℕ) (p : Parameters)
+    (given entries : List Entry) (size : ℕ) (x : Input) → rows ≡ words → block ≡ bytes_of f rows
+    → p ≡ parameters_in f block → given ≡ entries → IsReadable f p words given → AreTyped f given
+    → size ≡ p.size → x ≡ told_input f p given → ReadsOnly f words entries size x
+reads_told f words rows block p given entries size x of by at are test typed sized told =
+    let named = named_by f words rows block p of by at in
+    let reads : Reads f words entries size x =
+    subst (λ (es : List Entry). Reads f words es size x) are
+    (subst (λ (k : ℕ). Reads f words given k x) (sym sized)
+    (subst (Reads f words given p.size) (sym told)
+    (readable_reads f p words given named typed test))) in
+    record {
+      reads = reads;
+      only = λ other b s. transcripts_determine f words entries size other x b reads s;
+    }
