@@ -5,7 +5,7 @@ use Rattle.std.proofs.lemmas.Bool.{lt-leb}
 use Rattle.hex.proofs.HexLemmas.{decode_of-ok}
 use Rattle.hex.specs.Hex.{decode_of}
 use Rattle.hex.specs.declared.error.FromHexError.{FromHexError}
-use Rattle.b2sum_lines.specs.ManifestLines.{checked_digest, digest_of, max_bytes}
+use Rattle.b2sum_lines.specs.ManifestLines.{checked_digest, digest_of_digits, max_bytes}
 use Rattle.b2sum_lines.specs.declared.entry.Algorithm.{Algorithm}
 
 never : (b : Bool) (bytes : List ℕ) → (if b && false then Some bytes else None) ≡ None
@@ -14,7 +14,7 @@ never false bytes = refl
 
 -- More digits than the longest digest has are no digest.
 pub too_many : (a : Algorithm) (digits : List ℕ) → 2 * max_bytes a < length digits
-    → digest_of a digits ≡ None
+    → digest_of_digits a digits ≡ None
 too_many a digits many = go (decode_of digits) refl
   where
     go : (r : Result (List ℕ) FromHexError) → decode_of digits ≡ r → checked_digest a r ≡ None

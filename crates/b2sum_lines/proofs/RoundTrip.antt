@@ -35,9 +35,9 @@ use Rattle.b2sum_lines.specs.ManifestLines.{blake2s_tag, part_if, part_or, part_
 use Rattle.b2sum_lines.specs.ManifestLines.{with_salt}
 use Rattle.b2sum_lines.specs.ManifestLines.{with_personal}
 use Rattle.b2sum_lines.specs.ManifestLines.{skip, front, cut_last, unescape_onto, has_zero}
-use Rattle.b2sum_lines.specs.ManifestLines.{name_of, digest_of, checked_digest, two_spaces}
+use Rattle.b2sum_lines.specs.ManifestLines.{name_of, digest_of_digits, checked_digest, two_spaces}
 use Rattle.b2sum_lines.specs.ManifestLines.{mark_style, entry_with, untagged_entry, after_prefix}
-use Rattle.b2sum_lines.specs.ManifestLines.{after_length, opened_or_spaced, tagged_text}
+use Rattle.b2sum_lines.specs.ManifestLines.{after_length, after_opening, tagged_text}
 use Rattle.b2sum_lines.specs.ManifestLines.{tagged_parts}
 use Rattle.b2sum_lines.specs.ManifestLines.{tagged_entry, body_entry, line_entry, IsWritable}
 use Rattle.b2sum_lines.proofs.HexDigits.{digit_passes, digits_pass}
@@ -121,7 +121,7 @@ escaped_name name h = rw (unescape_escaped name [], h) refl
 -- ---- digests
 
 digest_read : (a : Algorithm) (bytes : List ℕ) → IsBytes bytes → 0 < length bytes
-    → length bytes ≤ max_bytes a → digest_of a (encode_lower bytes) ≡ Some bytes
+    → length bytes ≤ max_bytes a → digest_of_digits a (encode_lower bytes) ≡ Some bytes
 digest_read a bytes are some fits =
     let low : nat_lt 0 (length bytes) ≡ true = lt-ltb 0 (length bytes) some in
     let high : nat_le (length bytes) (max_bytes a) ≡ true = le-leb (length bytes) (max_bytes a) fits in
@@ -182,7 +182,7 @@ text_read a n text = go (n == max_bytes a) refl
     go : (b : Bool) → (n == max_bytes a) ≡ b
         → tagged_text a n (tag_length a n ++ (32 ∷ 40 ∷ text)) ≡ Some text
     go true is = rw is refl
-    go false is = rw is (ap (λ r. option_and_then opened_or_spaced (after_length false
+    go false is = rw is (ap (λ r. option_and_then after_opening (after_length false
         ((45 ∷ decimal (8 * n)) ++ (32 ∷ 40 ∷ text)) r))
         (prefix_found (45 ∷ decimal (8 * n)) (32 ∷ 40 ∷ text)))
 
@@ -228,7 +228,7 @@ tagged_read a needs is_escaped digest text are some fits =
     (tag_cut before digits (good_digits digest are))
     ∙ ap (λ (ds : List ℕ). option_and_then (λ (d : List ℕ). option_and_then
     (λ (t : List ℕ). entry_with a is_escaped d (record { style = Tagged needs; text = t }))
-    (tagged_text a (length d) before)) (digest_of a ds)) (digits_alone digest are some)
+    (tagged_text a (length d) before)) (digest_of_digits a ds)) (digits_alone digest are some)
     ∙ ap (λ (o : Option (List ℕ)). option_and_then (λ (d : List ℕ). option_and_then
     (λ (t : List ℕ). entry_with a is_escaped d (record { style = Tagged needs; text = t }))
     (tagged_text a (length d) before)) o) (digest_read a digest are some fits)

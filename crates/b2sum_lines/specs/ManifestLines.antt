@@ -180,8 +180,8 @@ checked_digest a (Ok bytes) =
 checked_digest a (Err e) = None
 
 -- The digest of hexadecimal digits of either case.
-abbrev pub digest_of : Algorithm → List ℕ → Option (List ℕ)
-digest_of a digits = checked_digest a (decode_of digits)
+abbrev pub digest_of_digits : Algorithm → List ℕ → Option (List ℕ)
+digest_of_digits a digits = checked_digest a (decode_of digits)
 
 -- The style and the text of a name.
 pub record Named : Type 0 where
@@ -227,7 +227,7 @@ entry_with a is_escaped digest named =
 abbrev pub untagged_entry : Algorithm → Spacing → Bool → List ℕ → Option Line
 untagged_entry a spacing is_escaped line =
     option_and_then (λ digest. option_and_then (entry_with a is_escaped digest)
-    (after_digits spacing (skip is_hex_digit line))) (digest_of a (front is_hex_digit line))
+    (after_digits spacing (skip is_hex_digit line))) (digest_of_digits a (front is_hex_digit line))
 
 -- What follows these bytes at the front of a text.
 abbrev pub after_prefix : List ℕ → List ℕ → Option (List ℕ)
@@ -312,19 +312,19 @@ after_length is_longest text (Some rest) = Some rest
 after_length is_longest text None = if is_longest then Some text else None
 
 -- What follows an opening parenthesis.
-abbrev pub opened : List ℕ → Option (List ℕ)
-opened [] = None
-opened (b ∷ rest) = if b == 40 then Some rest else None
+abbrev pub after_parenthesis : List ℕ → Option (List ℕ)
+after_parenthesis [] = None
+after_parenthesis (b ∷ rest) = if b == 40 then Some rest else None
 
 -- What follows an opening parenthesis, with one space before it or none.
-abbrev pub opened_or_spaced : List ℕ → Option (List ℕ)
-opened_or_spaced [] = None
-opened_or_spaced (b ∷ rest) = if b == 32 then opened rest else opened (b ∷ rest)
+abbrev pub after_opening : List ℕ → Option (List ℕ)
+after_opening [] = None
+after_opening (b ∷ rest) = if b == 32 then after_parenthesis rest else after_parenthesis (b ∷ rest)
 
 -- The text of the name, in what follows the tag up to the last parenthesis.
 abbrev pub tagged_text : Algorithm → ℕ → List ℕ → Option (List ℕ)
 tagged_text a n text =
-    option_and_then opened_or_spaced
+    option_and_then after_opening
     (after_length (n == max_bytes a) text (after_prefix (45 ∷ decimal (8 * n)) text))
 
 -- The digits after the last parenthesis: blanks, `=`, blanks, digits.
@@ -337,7 +337,7 @@ abbrev pub tagged_parts : Algorithm → Needs → Bool → List ℕ × List ℕ 
 tagged_parts a needs is_escaped parts =
     option_and_then (λ digits. option_and_then (λ digest. option_and_then
     (λ text. entry_with a is_escaped digest (record { style = Tagged needs; text = text }))
-    (tagged_text a (length digest) parts.0)) (digest_of a digits))
+    (tagged_text a (length digest) parts.0)) (digest_of_digits a digits))
     (after_equals (skip is_blank parts.1))
 
 -- The entry of an algorithm with what its tag needs, and what follows that.

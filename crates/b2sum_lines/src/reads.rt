@@ -6,7 +6,8 @@ ghost use Rattle.b2sum_lines.specs.ManifestLines.{line_entry, body_entry, untagg
 ghost use Rattle.b2sum_lines.specs.ManifestLines.{tagged_entry};
 ghost use Rattle.b2sum_lines.specs.ManifestLines.{after_digits, after_blank, after_equals};
 ghost use Rattle.b2sum_lines.specs.ManifestLines.{tagged_text};
-ghost use Rattle.b2sum_lines.specs.ManifestLines.{digest_of, entry_with, opened, opened_or_spaced};
+ghost use Rattle.b2sum_lines.specs.ManifestLines.{after_opening, after_parenthesis};
+ghost use Rattle.b2sum_lines.specs.ManifestLines.{digest_of_digits, entry_with};
 ghost use Rattle.b2sum_lines.specs.ManifestLines.{after_prefix};
 ghost use Rattle.b2sum_lines.specs.ManifestLines.{tag_at, needs_at};
 ghost use Rattle.b2sum_lines.specs.EntryViews.{entry_value};
@@ -73,7 +74,7 @@ fn read_untagged(
 {
     let rest = skip_digits(line);
     let digits = &line[..line.len() - rest.len()];
-    let Some(digest) = digest_of(alloc, algorithm, digits)? else {
+    let Some(digest) = digest_of_digits(alloc, algorithm, digits)? else {
         return Ok(None);
     };
     let Some((style, text)) = after_digits(spacing, rest) else {
@@ -100,7 +101,7 @@ fn read_tagged(
     let Some(digits) = after_equals(skip_blanks(tail)) else {
         return Ok(None);
     };
-    let Some(digest) = digest_of(alloc, algorithm, digits)? else {
+    let Some(digest) = digest_of_digits(alloc, algorithm, digits)? else {
         return Ok(None);
     };
     let Some(name) = tagged_text(alloc, algorithm, digest.len(), front)? else {
@@ -144,13 +145,13 @@ fn entry_with(
 
 // Returns the digest of hexadecimal digits, or `None` if they are none of the algorithm. More
 // digits than the longest digest has are not decoded, so that a long line costs no memory.
-fn digest_of(
+fn digest_of_digits(
     alloc: Global,
     algorithm: Algorithm,
     digits: &[u8],
 ) -> Result<Option<Vec<u8>>, AllocError>
     ensures digest { IfOk result
-        (λ digest. option_map (λ d. d.items) digest ≡ digest_of algorithm digits.now) }
+        (λ digest. option_map (λ d. d.items) digest ≡ digest_of_digits algorithm digits.now) }
     ensures fits { IfOk result (λ digest. IfSome digest (λ d. length d.items ≤ 64)) }
 {
     if digits.len() > 2 * algorithm.max_bytes() {
@@ -219,25 +220,25 @@ fn tagged_text(
     length.push(b'-')?;
     push_decimal(&mut length, 8 * bytes as u64)?;
     match after_prefix(length.as_slice(), text) {
-        Some(rest) => Ok(opened_or_spaced(rest)),
-        None if bytes == algorithm.max_bytes() => Ok(opened_or_spaced(text)),
+        Some(rest) => Ok(after_opening(rest)),
+        None if bytes == algorithm.max_bytes() => Ok(after_opening(text)),
         None => Ok(None),
     }
 }
 
 // Returns what follows an opening parenthesis, with one space before it or none.
-fn opened_or_spaced(text: &[u8]) -> Option<&[u8]>
-    ensures { option_map (λ rest. rest.now) result ≡ opened_or_spaced text.now }
+fn after_opening(text: &[u8]) -> Option<&[u8]>
+    ensures { option_map (λ rest. rest.now) result ≡ after_opening text.now }
 {
     match text {
-        [b' ', rest @ ..] => opened(rest),
-        _ => opened(text),
+        [b' ', rest @ ..] => after_parenthesis(rest),
+        _ => after_parenthesis(text),
     }
 }
 
 // Returns what follows an opening parenthesis.
-fn opened(text: &[u8]) -> Option<&[u8]>
-    ensures { option_map (λ rest. rest.now) result ≡ opened text.now }
+fn after_parenthesis(text: &[u8]) -> Option<&[u8]>
+    ensures { option_map (λ rest. rest.now) result ≡ after_parenthesis text.now }
 {
     match text {
         [b'(', rest @ ..] => Some(rest),

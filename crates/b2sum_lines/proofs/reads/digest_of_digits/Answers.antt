@@ -1,6 +1,6 @@
 use Rattle.std.proofs.Common.{sym, arith}
 use Rattle.b2sum_lines.proofs.HexDigests.{too_many}
-use Rattle.b2sum_lines.proofs.reads.digest_of.Goals as goal
+use Rattle.b2sum_lines.proofs.reads.digest_of_digits.Goals as goal
 
 pub returns-then-digits-max_bytes-clause-digest : goal.returns-then-digits-max_bytes-clause-digest
 returns-then-digits-max_bytes-clause-digest c = sym (too_many c.args.algorithm c.args.digits.now
