@@ -1,7 +1,7 @@
-mod Beginning
+mod CallsFromTheStart
 mod CallsOnSlots
 mod LiveCalls
-mod Placing
-mod Playing
+mod FirstBadCall
+mod OneCallAndTheRest
 mod SlotPlaces
 mod StandsForLaws

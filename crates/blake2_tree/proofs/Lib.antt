@@ -1,12 +1,12 @@
 mod FourLeaves
 pub mod LeafUpdateLaws
-mod Leaves
-mod Lists
+mod MessageLeaves
+mod JoinedRanges
 mod NodeLemmas
 mod OpenLeaves
 mod PieceLengths
 pub mod PlanDigests
-mod Plans
+mod PlanParts
 pub mod RangeLaws
 mod RangeWrites
 pub mod RootsOfCalls

@@ -1,2 +1,2 @@
 mod CutLemmas
-mod Digits
+mod NumberDigits
