@@ -33,7 +33,7 @@ use std::alloc::Global;
 /// persona; `ReadFailed` if a read returns an error; `TooLong` if the input, with the key's block
 /// if there is a key, has 2^64 bytes or more; `NoMemory` if an allocation fails; `WriteFailed` if
 /// a write fails. If it is not `WriteFailed`, nothing was printed.
-#[tactic(auto, unfolding(blake2::specs::Keys::IsRefused))]
+#[tactic(auto, unfolding(blake2::specs::MacArguments::IsRefused))]
 pub(crate) fn steps_blake2b<S: Source, K: Sink>(
     alloc: Global,
     options: &Options,
@@ -82,7 +82,7 @@ fn print_blake2b<K: Sink>(transcript: &Transcript<u64, 128>, sink: &mut K) -> Re
 }
 
 /// Does what `steps_blake2b` does, under BLAKE2s, with digests of at most 32 bytes.
-#[tactic(auto, unfolding(blake2::specs::Keys::IsRefused))]
+#[tactic(auto, unfolding(blake2::specs::MacArguments::IsRefused))]
 pub(crate) fn steps_blake2s<S: Source, K: Sink>(
     alloc: Global,
     options: &Options,

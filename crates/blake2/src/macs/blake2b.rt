@@ -38,7 +38,7 @@ impl<const N: usize> Blake2bMac<N> {
     /// salt and a persona of up to 16 bytes each. `None` stands for no key, and the MAC is then
     /// the unkeyed hash. The error is `InvalidLength`, exactly for a key of no bytes or of more
     /// than 64, and for a salt or a persona of more than 16.
-    #[tactic(auto, unfolding(crate::specs::Keys::IsRefused))]
+    #[tactic(auto, unfolding(crate::specs::MacArguments::IsRefused))]
     pub fn new_with_salt_and_personal(
         key: Option<&[u8]>,
         salt: &[u8],
@@ -126,7 +126,7 @@ impl<const N: usize> KeyInit<64> for Blake2bMac<N> {
         Self::under_key(key, &[], &[])
     }
 
-    #[tactic(auto, unfolding(crate::specs::Keys::IsRefused))]
+    #[tactic(auto, unfolding(crate::specs::MacArguments::IsRefused))]
     fn new_from_slice(key: &[u8]) -> Result<Self, InvalidLength>
         requires { N ≤ 64 }
         ensures refused { IsErr result ↔ ((length key.now ≡ 0) ⊎ (64 < length key.now)) }

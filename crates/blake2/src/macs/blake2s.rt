@@ -39,7 +39,7 @@ impl<const N: usize> Blake2sMac<N> {
     /// salt and a persona of up to 8 bytes each. `None` stands for no key, and the MAC is then
     /// the unkeyed hash. The error is `InvalidLength`, exactly for a key of no bytes or of more
     /// than 32, and for a salt or a persona of more than 8.
-    #[tactic(auto, unfolding(crate::specs::Keys::IsRefused))]
+    #[tactic(auto, unfolding(crate::specs::MacArguments::IsRefused))]
     pub fn new_with_salt_and_personal(
         key: Option<&[u8]>,
         salt: &[u8],
@@ -127,7 +127,7 @@ impl<const N: usize> KeyInit<32> for Blake2sMac<N> {
         Self::under_key(key, &[], &[])
     }
 
-    #[tactic(auto, unfolding(crate::specs::Keys::IsRefused))]
+    #[tactic(auto, unfolding(crate::specs::MacArguments::IsRefused))]
     fn new_from_slice(key: &[u8]) -> Result<Self, InvalidLength>
         requires { N ≤ 32 }
         ensures refused { IsErr result ↔ ((length key.now ≡ 0) ⊎ (32 < length key.now)) }
