@@ -192,8 +192,8 @@ enum Next {
 }
 
 /// Reads the arguments, which come without the program's name. The result is what the command line
-/// means as `command_line` of `specs/AcceptedOptions.antt` defines it: options and files, or why there are
-/// none. The error is `Stop::NoMemory` if an allocation failed.
+/// means as `command_line` of `specs/AcceptedOptions.antt` defines it: options and files, or why
+/// there are none. The error is `Stop::NoMemory` if an allocation failed.
 pub(crate) fn read_arguments(alloc: Global, words: &[Vec<u8>]) -> Result<Arguments, Stop>
     ensures size { IfOk result (λ a. a.options.bytes ≤ 64) }
     ensures arguments { IfOk result (AreArguments (map (λ word. word.items) words.now)) }
