@@ -15,8 +15,8 @@ from typing import Any, Callable, Iterator
 import program as programs
 import call_specification as S
 import constant_time
-import examples
 import facts
+import path_values
 import rfc7693 as R
 import terms as T
 from constant_time import STACK
@@ -175,7 +175,7 @@ class Setup:
             if x == y or settle(x) == settle(y) or self.is_same(m, x, y):
                 continue
             text = "byte %d of %s is %s, not %s" % (k, what, shown(x), shown(y))
-            inputs = examples.difference(m.path_facts, self.calls.results, x, y)
+            inputs = path_values.difference(m.path_facts, self.calls.results, x, y)
             raise IsWrong("%s: for %s" % (text, inputs)) if inputs else CannotShow(text)
 
     @staticmethod
