@@ -11,7 +11,7 @@ import tracemalloc
 import unittest
 from unittest import mock
 
-from trees import DATA, MIB, ROOT, TEXTS, Test, have_ended
+from common_trees import DATA, MIB, ROOT, TEXTS, Test, have_ended
 import oracle
 import vulfsjor
 

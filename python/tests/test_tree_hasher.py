@@ -4,7 +4,7 @@ import ctypes
 import threading
 import unittest
 
-from trees import DATA, DICE, MIB, TEXTS, Test
+from common_trees import DATA, DICE, MIB, TEXTS, Test
 import oracle
 import vulfsjor
 

@@ -2,7 +2,7 @@
 import array
 import unittest
 
-from trees import DATA, DICE, MIB, ROOT, TEXTS, Test
+from common_trees import DATA, DICE, MIB, ROOT, TEXTS, Test
 import oracle
 import vulfsjor
 

@@ -12,7 +12,7 @@ import time
 import unittest
 
 from support import FOLDER
-from trees import DATA, DICE, MIB, TEXTS, Test, have_ended, other_threads
+from common_trees import DATA, DICE, MIB, TEXTS, Test, have_ended, other_threads
 import oracle
 import vulfsjor
 
