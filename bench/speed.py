@@ -143,7 +143,7 @@ def library_of(cpu):
     good, output = outcome([os.path.join(TOP, "c", "make_libraries.sh"), folder, text_of("vulfsjor", cpu)])
     if not good:
         sys.exit("speed: vulfsjor was not linked: " + output)
-    sources = [os.path.join(PEERS, name) for name in ("ours.c", "several.c", "tree.c", "xof.c")]
+    sources = [os.path.join(PEERS, name) for name in ("ours.c", "several.c", "vulfsjor_tree.c", "xof.c")]
     return shared(cpu + "-vulfsjor.so", [*sources, os.path.join(folder, "libvulfsjor.a")])
 
 
