@@ -1,7 +1,7 @@
 #!/usr/bin/env bash
 # Compares each build of the library with other people's, in random calls:
 #
-#   c/tests/outsiders/outsiders.sh [CASES]
+#   c/tests/other_libraries/compare.sh [CASES]
 #
 # CASES are those of each library on each build of dist/ and on the installed choice (20,000). It
 # needs these packages of Debian; a library that is absent is skipped:
@@ -11,7 +11,7 @@ set -u
 here=$(dirname "$(readlink -f "$0")")
 source "$here/../../../tests/tap.sh"
 if [ $# -gt 1 ]; then
-    echo "usage: c/tests/outsiders/outsiders.sh [CASES]" >&2
+    echo "usage: c/tests/other_libraries/compare.sh [CASES]" >&2
     exit 2
 fi
 cases=${1:-20000}
