@@ -1,7 +1,7 @@
 #!/usr/bin/env python3
 """The program `b2`, written only from docs/SPECIFICATION.md, what it names in docs/B2.md, and RFC 7693: no other page,
 no source and no other tool of the repository was used. Section numbers are those of that page.
-`tests/compare_model.py` compares it with `b2`.
+`tests/compare_b2_model.py` compares it with `b2`.
 
 usage: tests/b2_model.py WORDS.. < INPUT
 """

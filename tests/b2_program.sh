@@ -113,7 +113,7 @@ test_notes() {
 }
 
 # Wrong arguments, of which the first is reported: none, empty ones, and more than are taken. The rest
-# is proved, and tests/compare_model.py compares it.
+# is proved, and tests/compare_b2_model.py compares it.
 test_arguments() {
     says 2 "b2: wrong words"
     says 2 "b2: wrong words" ""

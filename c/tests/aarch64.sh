@@ -55,7 +55,7 @@ programs_are_marked() {
 # The program of dist/ for aarch64, by this many cases of each command.
 program_for_arm() {
     assemble "$dist/aarch64/b2.s" "$work/b2" "${warnings[@]}" &&
-        python3 "$top/tests/compare_model.py" --program "$work/b2" --cases "$1"
+        python3 "$top/tests/compare_b2_model.py" --program "$work/b2" --cases "$1"
 }
 
 # The program b2sum of dist/ for aarch64: a digest, a check and a root by several threads.

@@ -8,7 +8,7 @@ missing or too many, arguments that are not UTF-8, inputs around every boundary,
 and an input that can't be read. Status and output have to be the same; what `sum` and `tree` print is compared with
 hashlib too.
 
-usage: tests/compare_model.py --program PATH [--cases N] [--seed N]
+usage: tests/compare_b2_model.py --program PATH [--cases N] [--seed N]
 """
 import hashlib
 import os
