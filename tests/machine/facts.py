@@ -148,7 +148,7 @@ class Facts:
                                     either(of(n) == 0, of(m) == 0, of(y) >= of(n))]
         return Facts(claim, (x, y, n, m), self)
 
-    def path(self) -> Iterator:
+    def newest_first(self) -> Iterator:
         """The facts, the last one first."""
         f: Facts | None = self
         while f:
@@ -161,7 +161,7 @@ class Facts:
         if Facts.solver is None:
             Facts.solver = z3.Solver()
             Facts.solver.set("rlimit", EFFORT)
-        solver, asserted, wanted = self.solver, self.asserted, list(self.path())[::-1]
+        solver, asserted, wanted = self.solver, self.asserted, list(self.newest_first())[::-1]
         common = 0
         while common < min(len(asserted), len(wanted)) and asserted[common] is wanted[common]:
             common += 1
@@ -200,7 +200,7 @@ class Facts:
         if question not in self.answers:
             other = OPPOSITE[relation]
             known = variables(a) | variables(b) <= self.variables
-            self.answers[question] = any(f.answers.get(question) for f in self.path()) or not (
+            self.answers[question] = any(f.answers.get(question) for f in self.newest_first()) or not (
                 known and any(compared(other, m(a), m(b), a.w) for m in self.models)
                 or self.ask([compared(other, number(a), number(b), a.w)], (a, b)) is not False)
         return self.answers[question]
@@ -222,7 +222,7 @@ class Facts:
     def holds_for(self, names: dict) -> Iterator:
         """Whether each fact holds for these numbers of the variables."""
         of = lambda t: T.value(t, names, {})
-        for f in self.path():
+        for f in self.newest_first():
             yield not f.claim or all(f.claim(of, lambda *conditions: any(conditions)))
 
     def small(self, limit: int | None) -> Any:
@@ -243,7 +243,7 @@ class Facts:
     def values(self) -> dict:
         """The variables of which the value is known."""
         if self.fixed is None:
-            self.fixed = dict(next((f.fixed for f in self.path() if f.fixed), {}))
+            self.fixed = dict(next((f.fixed for f in self.newest_first() if f.fixed), {}))
             rest = self.variables - set(self.fixed)
             model: Any = self.models[0] if self.models else self.ask()
             found = {t: model(t) for t in rest} if model else {}

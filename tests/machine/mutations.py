@@ -227,7 +227,7 @@ def carry_forgotten() -> Any:
     """inc and dec that set the carry, which they keep."""
     count = lambda self, to, step: self.binary_word(
         "other", lambda a, b: T.add(a.w, (1, a), (step, b)), to, constant_time.taint_x86.ONE)
-    verdict, why = _with(constant_time.taint_x86.Model, "count", count,
+    verdict, why = _with(constant_time.taint_x86.Model, "add_and_keep_carry", count,
                          lambda: check_taint.run(SHORT["v3"], 2)[:2])
     return _seen("a carry that inc sets fails", verdict == "not ok" and why)
 

@@ -370,7 +370,7 @@ class Calls:
                           % self.scrubs[name])
         ends = self.run(name, m)
         if name in self.answering:
-            return [other for end in ends for other in self.answers(end)]
+            return [other for end in ends for other in self.public_answers(end)]
         for end in ends if name in self.scrubs else ():
             if end.secrets:
                 raise IsWrong("scrub_stack leaves bytes of the stack in which a secret may be, the first "
@@ -391,7 +391,7 @@ class Calls:
             found.append((n, pc))
         return found
 
-    def answers(self, m: Any) -> list:
+    def public_answers(self, m: Any) -> list:
         """The answer of a comparison is public: 1 or 0. A call compares once."""
         if m.compared_bytes or not self.exported.endswith("_verify"):
             raise IsWrong("a comparison whose answer is not that of the call")
