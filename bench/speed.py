@@ -39,7 +39,7 @@ from typing import Callable, NamedTuple
 TOP = os.path.dirname(os.path.dirname(os.path.abspath(__file__)))
 sys.path.insert(0, os.path.join(TOP, "tests"))
 from common import Parser, at_least  # noqa: E402
-from oracle import output, parallel_by_hashlib, tree_root  # noqa: E402
+from oracle import parallel_by_hashlib, tree_root, xof_output  # noqa: E402
 
 RESULTS = os.path.join(TOP, "bench", "results")
 PICTURE = os.path.join(TOP, "docs", "speed.svg")
@@ -550,7 +550,7 @@ def xof_table(turns):
     message, columns = bytearray(os.urandom(64)), []
     for letter, title in OUTPUTS:
         say(f"timing outputs of {title}")
-        wanted = output(letter, bytes(message), OUTPUT_BYTES)
+        wanted = xof_output(letter, bytes(message), OUTPUT_BYTES)
         timers = {name: loop_timer(checked_loop(name, getattr(ctypes.CDLL(path), f"{prefix}blake2x{letter}"), message,
                                                 len(message), wanted)) for name, (path, prefix) in found.items()}
         best = best_of(turns * MEMORY_TURNS, timers)

@@ -64,7 +64,7 @@ def parallel_by_hashlib(name, message, **texts):
     return node(b"".join(leaf.digest() for leaf in leaves), node_depth=1, last_node=True).digest()
 
 
-def output(name, message, length, key=b"", salt=b"", person=b"", is_known=True):
+def xof_output(name, message, length, key=b"", salt=b"", person=b"", is_known=True):
     """This many bytes of the output of BLAKE2Xb ("b") or BLAKE2Xs ("s"). hashlib has no nodes of depth 0."""
     return xof(SCALAR[name], length, Input(message, key or None, salt, person), is_known)
 
