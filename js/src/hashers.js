@@ -110,7 +110,7 @@ export class Hasher {
   }
 
   // The same for a call that ends the hash, or does so if it throws.
-  #last(call) {
+  #end(call) {
     const state = this.#own(call);
     this.#hasEnded = true;
     return state;
@@ -153,7 +153,7 @@ export class Hasher {
 
   digest() {
     Hasher.#check(this, "digest", arguments.length, 0, "use hex() for hexadecimal digits");
-    const state = this.#last("digest");
+    const state = this.#end("digest");
     return engine.final(this.#kind, state, this.#waiting, this.#digestLength);
   }
 
@@ -173,7 +173,7 @@ export class Hasher {
           "compare digests with equal()",
       );
     }
-    const state = this.#last("verify");
+    const state = this.#end("verify");
     if (!engine.verify(this.#kind, state, this.#waiting, this.#digestLength, bytes)) {
       throw new InvalidTagError(`${this.#caller("verify")}: the tag is wrong`);
     }
@@ -196,7 +196,7 @@ export class Hasher {
 
   reset() {
     Hasher.#check(this, "reset", arguments.length, 0);
-    const state = this.#last("reset");
+    const state = this.#end("reset");
     if (this.#kind.isTree) state.set(engine.begin(this.#kind, this.#settings));
     else engine.reset(this.#kind, state);
     this.#waiting = 0;
