@@ -222,7 +222,7 @@ def message_bytes(digits):
     return b"" if digits == "-" else hex_bytes(digits)
 
 
-def number_of(digits, most):
+def decimal_number(digits, most):
     """A decimal number without a leading zero, of at most this number of digits; otherwise None."""
     fits = 1 <= len(digits) <= most and all(c in "0123456789" for c in digits)
     return int(digits) if fits and (digits == "0" or digits[0] != "0") else None
@@ -243,7 +243,7 @@ def options(words, names):
 
 def output_length(family, digits):
     """LENGTH."""
-    length = number_of(digits, 10)
+    length = decimal_number(digits, 10)
     if not length or length >= 2**(8 * (family.offset - 4)) - 1:
         raise Fault("wrong words")
     return length
@@ -269,7 +269,7 @@ def script_calls(data):
         wrong = Fault(f"line {number}: wrong line")
         if len(fields) != (3 if fields[0] == "u" else 2) or fields[0] not in ("u", "c", "r", "f", "d"):
             raise wrong
-        slot = number_of(fields[1], 9)
+        slot = decimal_number(fields[1], 9)
         if slot is None:
             raise wrong
         try:
@@ -315,7 +315,7 @@ def lines(words, source):
         return [fields(family, "s", h, entry) for h, entry in pair] if pair else ["none"]
     names = ("salt", "persona") if command == "tree" else ("key", "salt", "persona")
     if command == "tree":
-        leaf_length = number_of(rest.pop(0), 10) if rest else None
+        leaf_length = decimal_number(rest.pop(0), 10) if rest else None
         if not leaf_length or leaf_length >= 2**32:
             raise Fault("wrong words")
     if command == "xof":

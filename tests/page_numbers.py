@@ -151,7 +151,7 @@ def rows():
     yield from of_speeds()
 
 
-def places(page, form, text):
+def sentence_matches(page, form, text):
     """The matches of the sentence in the text of a page."""
     words = (SPACE.join(map(re.escape, part.split(" "))) for part in form.split("{}"))
     found = list(re.finditer(NUMBER.join(words), text))
@@ -228,7 +228,7 @@ def wrong_comments():
 def wrong_numbers():
     """What is wrong in the pages."""
     for page, form, *values in rows():
-        for match in places(page, form, read(page)):
+        for match in sentence_matches(page, form, read(page)):
             shown = [without_marks(group) for group in match.groups()]
             if shown != [str(value) for value in values]:
                 yield f"{page}: {without_marks(match[0])!r}: the code says {', '.join(map(str, values))}"
@@ -240,7 +240,7 @@ def write():
     texts = {}
     for page, form, *values in rows():
         text = texts.get(page, read(page))
-        for match in reversed(places(page, form, text)):
+        for match in reversed(sentence_matches(page, form, text)):
             for i, value in reversed(list(enumerate(values, 1))):
                 if without_marks(match[i]) != str(value):
                     text = text[:match.start(i)] + str(value) + text[match.end(i):]
