@@ -155,7 +155,7 @@ static int take_part(job *j, uint64_t *i, vulfsjor_part *part) {
 }
 
 /* Absorbs the digests that are there of the next parts. Returns 0 or an error. */
-static int absorb(job *j) {
+static int absorb_digests(job *j) {
     unsigned char *there = j->digests + j->rooms * j->room;
     vulfsjor_part part;
 
@@ -179,7 +179,7 @@ static int put_part(job *j, uint64_t i) {
     if (j->state) return 0;
     enter(&j->gate);
     j->digests[j->rooms * j->room + i % j->rooms] = 1;
-    error = absorb(j);
+    error = absorb_digests(j);
     wake_all(&j->gate);
     leave(&j->gate);
     return error;

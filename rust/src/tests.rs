@@ -311,7 +311,7 @@ mod threads {
 
     // What the proof of a plan does not say: the numbers that it gets here.
     #[test]
-    fn a_thread_has_256_kib_and_a_part() {
+    fn a_thread_has_at_least_256_kib_of_message() {
         let least = LEAST_BYTES;
         assert_eq!((least, PART_BYTES), (256 << 10, 1 << 20));
         assert_eq!((MOST_BUFFER_BYTES, BUFFER_BYTES), (16 << 20, 1 << 20));
