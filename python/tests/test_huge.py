@@ -116,7 +116,7 @@ class Slow(unittest.TestCase):
         for place, each in enumerate(found[1:]):
             self.assertEqual(each, found[0], place)
 
-    def test_messages(self):
+    def test_long_messages(self):
         data = mapping()
         for theirs, make, *many in (
                 (hashlib.blake2b, vulfsjor.blake2b, vulfsjor.blake2b_many),
