@@ -51,7 +51,7 @@ while [ $# -gt 0 ]; do
         --build) build=yes; shift ;;
         --built) [ $# -ge 2 ] || usage; built=$2; shift 2 ;;
         --uninstall) uninstall=yes; shift ;;
-        --help) sed -n '2,/^set /{/^set /d;s/^#\{0,1\} \{0,1\}//;p;}' "$0"; exit 0 ;;
+        --help) show_help && exit ;;
         *) break ;;
     esac
 done
@@ -87,10 +87,7 @@ libdir=$(absolute "${LIBDIR:-lib}" "$folder")
 include=$(absolute "${INCLUDEDIR:-include}" "$folder")
 beside=$libdir/vulfsjor-libb2
 package=$libdir/cmake/vulfsjor
-root=${DESTDIR:-}
-
-# The version, as the header has it.
-version=$(sed -n 's/^#define VULFSJOR_VERSION "\(.*\)"$/\1/p' "$here/include/vulfsjor.h")
+root=${DESTDIR:-} version=$(version)
 
 files=("$libdir"/libvulfsjor{,-static,-libb2,-threads,.dll}.a "$libdir"/libvulfsjor.{so,so.0,dylib,0.dylib}
     "$libdir"/pkgconfig/vulfsjor{,-static,-threads}.pc "$package"/vulfsjor-config{,-version}.cmake
@@ -137,10 +134,7 @@ build_libraries() {
     kind="proved, for ${cpus-}"
     [ -n "$texts$cpu" ] || kind="translated from proved code" texts=c/vulfsjor.c
     [ -n "$texts" ] || stop "there is no build for $machine${cpu:+ and $cpu}"
-    [ "$dist" != "$top/dist" ] || "$top/tools/dist.sh" current || {
-        [ $? -ne 1 ] || stop "dist/ was not made from these sources: run make dist"
-        stop "dist/ could not be compared with these sources"
-    }
+    [ "$dist" != "$top/dist" ] || "$top/tools/dist.sh" current || exit 1 # it says why
     for text in $texts; do set -- "$@" "$dist/$text"; done
     "$here/make_libraries.sh" "$@"
     printf '%s\n' "$system" "$kind" "$pointer" >"$1/kind"

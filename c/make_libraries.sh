@@ -19,8 +19,7 @@ fi
 [ $# -eq 2 ] || [ $# -eq 4 ] || { sed -n '/^#   c/s/^# *//p' "$0" >&2 && exit 2; }
 folder=$1
 shift
-# The version, as the header has it.
-version=$(sed -n 's/^#define VULFSJOR_VERSION "\(.*\)"$/\1/p' "$here/include/vulfsjor.h")
+version=$(version)
 # CPPFLAGS, CFLAGS and LDFLAGS are used as by make. Link-time optimization would lose the names that
 # choose.c has in assembly. Objects for ELF are marked for branch protection, as those of dist/ are.
 flags="${CPPFLAGS-} ${CFLAGS-}"

@@ -43,7 +43,6 @@ for file in $files; do mkdir -p "$(dirname "dist/$file")" && echo "$file" >"dist
     echo "# sources: $(of_script sources)"
     cd dist && sha256sum $files
 ) >dist/MANIFEST
-count=$(wc -w <<<"$made")
 
 dist() { tools/dist.sh "$@" >"$work/shown" 2>&1; }
 # A run with a status, that shows a line with these words: STATUS LINE ARGUMENTS..
@@ -51,18 +50,22 @@ ends() {
     dist "${@:3}"
     [ $? -eq "$1" ] && grep -qF -- "$2" "$work/shown"
 }
-# Whether a change of a file, made by sed, is found by `current` (1) or not (0); it is taken back.
+# Whether a change of a file, made by sed, is found by `current`, or another command, (1) or not (0); it is taken back.
 changed() {
     local file=$2 status
     cp "$file" "$work/kept"
     sed -i "$3" "$file"
-    dist current
+    dist "${4:-current}"
     status=$?
     cp "$work/kept" "$file"
     [ "$status" -eq "$1" ]
 }
 
 check "dist/ with its MANIFEST is current" dist current
+check "another crate is named" eval 'echo "fn b() {}" >>crates/b2/src/lib.rt &&
+    ends 1 "dist.sh: dist/ was not made from these sources: run make dist" current' && sed -i '$d' crates/b2/src/lib.rt
+check "what cannot be compared is no difference" eval 'mv tools/scalar.sed "$work/kept" &&
+    ends 2 "dist.sh: dist/ could not be compared with these sources" current' && mv "$work/kept" tools/scalar.sed
 # Without sha256sum, as on macOS.
 with_shasum() {
     local tool folder=$work/tools
@@ -101,8 +104,17 @@ check "not that of a comment in it" changed 0 c/include/vulfsjor.h 's/ of one / 
 check "another number of the code is found" changed 1 c/choose.c 's/"7"/"8"/'
 check "not another version" changed 0 c/include/vulfsjor.h 's/"1\.2\.3"/"1.2.4"/'
 
-only_hashes() { dist check && [ "$(grep -c '^ok .* # SKIP .*toolchain, kit 1$' "$work/shown")" -eq "$count" ]; }
-check "without a toolchain only hashes are compared" only_hashes
+check "without a toolchain only hashes are compared" ends 0 \
+    "only hashes were compared: dist/ was made with another toolchain, kit 1" check
+check "but these are" changed 1 dist/macros.h '$a\ ' check
+# Files that were made are compared byte for byte.
+cp -R dist "$work/made"
+check "the same files are those of a folder" of_script "are_those_of '$work/made'"
+for file in $made; do
+    check "another $file is not" eval 'echo >>"$work/made/$file" &&
+        ! of_script "are_those_of \"$work/made\"" >"$work/shown" 2>&1 && grep -F "$file" "$work/shown"'
+    cp "dist/$file" "$work/made/$file"
+done
 check "MANIFEST names every file of dist/ but itself and a page" diff <(cd "$top" && git ls-files dist | sort) \
     <(printf '%s\n' MANIFEST README.md $files | sed 's|^|dist/|' | sort)
 check "make needs rt" ends 1 "the toolchain's command rt is not on the PATH" make

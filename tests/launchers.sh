@@ -18,7 +18,8 @@ done
     mkdir -p "$repository/${file%/*}"
     { echo "/* $file */" && grep $'^\tvj_\\(call\\|export\\)' "$top/$file"; } >"$repository/$file"
 done
-printf '#!/bin/sh\n[ "$*" = current ] && [ ! -e "%s/stale" ]\n' "$work" >"$repository/tools/dist.sh"
+printf '#!/bin/sh\n[ "$*" = current ] && [ ! -e "%s/stale" ] || { echo stale >&2 && exit 1; }\n' "$work" \
+    >"$repository/tools/dist.sh"
 cat >"$work/bin/for" <<END
 #!/bin/bash
 cd "$work" && echo "\$*" >>calls
@@ -115,7 +116,7 @@ rm "$program" "$sums"
 
 # What stops a build, and what is assembled for other machines.
 touch "$work/stale" && b2 sum && rm "$work/stale"
-check "a dist/ from other sources is refused" stops "b2: dist/ was not made from these sources: run"
+check "a dist/ from other sources is refused" stops stale
 touch "$work/refuse" && b2 sum && rm "$work/refuse"
 check "a compiler that fails stops it" stops "for: refused"
 while IFS=: read -r compiler sentence; do

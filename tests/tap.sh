@@ -1,5 +1,50 @@
-# What the scripts of tests share; a script reads it by `source`, and so gets what tools/shell.sh has.
+# What the scripts of tests share; a script reads it by `source`, and so gets what tools/shell.sh has. The functions
+# print the Test Anything Protocol, which `prove` reads.
 source "$(dirname "$(dirname "$(readlink -f "${BASH_SOURCE[0]}")")")/tools/shell.sh"
+ended=0 failed=0
+
+# The files that show, besides what a failed test printed, why it failed.
+shown=()
+
+# Prints the line of the next test: RESULT NAME [WHY IT IS SKIPPED]
+result() {
+    [ "$ended" -gt 0 ] || echo "TAP version 13"
+    ended=$((ended + 1))
+    echo "$1 $ended - ${2//#/\\#}${3:+ # SKIP $3}"
+}
+
+pass() { result ok "$1"; }
+
+# A test that can't be made here: NAME WHY.
+skip() { result ok "$1" "$2"; }
+
+# A failed test of this name, with the end of these files.
+fail() {
+    result "not ok" "$1"
+    failed=$((failed + 1))
+    [ $# -eq 1 ] || tail -n 40 "${@:2}" 2>&1 | sed 's/^/#     /'
+}
+
+# Why the next tests can't be made: `check` skips them.
+missing=
+
+# Runs the command in a subshell, as a test of this name.
+check() {
+    [ -z "$missing" ] || { skip "$1" "$missing" && return 1; }
+    if ("${@:2}") >"$work/log" 2>&1; then
+        pass "$1"
+    else
+        fail "$1" "$work/log" ${shown[@]+"${shown[@]}"}
+        return 1
+    fi
+}
+
+# Prints the plan and ends the script, with status 1 if a test failed.
+finish() {
+    [ "$ended" -gt 0 ] || echo "TAP version 13"
+    echo "1..$ended"
+    exit $((failed > 0))
+}
 
 # Says which programs the next tests need: those that `check` runs are skipped if one is absent. A
 # script may set `missing` to another reason.
@@ -9,14 +54,11 @@ needs() {
     for tool; do has "$tool" || missing="no $tool"; done
 }
 
-# The version, which is at the top of CHANGELOG.md.
-version() { sed -nE '/^## [0-9.]+/{s/^## ([0-9.]+).*/\1/p;q;}' "$top/CHANGELOG.md"; }
-
 # Whether there is this compiler, with its C library, which Debian's compilers for other processors
 # only recommend.
 has_compiler() { has "$1" && "$1" -E -include stdlib.h -x c /dev/null >/dev/null 2>&1; }
 
-# The same for a test that takes long and rarely fails alone: only if VULFSJOR_TEST_HUGE is set.
+# As `check`, for a test that takes long and rarely fails alone: only if VULFSJOR_TEST_HUGE is set.
 check_huge() {
     if [ -n "${VULFSJOR_TEST_HUGE-}" ]; then
         check "$@"

@@ -25,13 +25,6 @@ files=(aarch64/b2.s aarch64/b2sum.s aarch64/vulfsjor.s c/vulfsjor.c rust/vulfsjo
 by_hand=(macros.h vulfsjor.S {aarch64,x86_64}/{coff,elf,macho,purge_macros}.inc)
 source "$top/tools/toolchain.sh"
 
-stop() {
-    echo "dist.sh: $1" >&2
-    exit 1
-}
-
-usage() { sed -n '2,/^set /{/^set /d;s/^#\{0,1\} \{0,1\}//;p;}' "$0"; }
-
 # sha256sum, or what macOS has.
 sha256() { if has sha256sum; then sha256sum "$@"; else shasum -a 256 "$@"; fi; }
 
@@ -229,38 +222,39 @@ write_manifest() {
 
 # ---- checking
 
-compare_all() {
-    local file
-    check "the files of dist/ are those that MANIFEST names" is_whole || :
-    check "dist/ was made from these sources (tools/dist.sh make)" is_current || :
-    if ! has rt || ! has_same_tools; then
-        for file in "${files[@]}"; do
-            skip "whether $file is what the proofs build" \
-                "it was made with another toolchain, $(said kit)"
-        done
-    else
-        "$0" make "$work/dist" "${files[@]}" || stop "nothing was compared"
-        for file in "${files[@]}"; do
-            check "$file is what the proofs build" cmp "$top/dist/$file" "$work/dist/$file" || :
-        done
-    fi
-    finish
+# Ends the script unless the hashes are those of MANIFEST.
+compare_hashes() {
+    local tool status=0
+    # The tools, before one that is absent makes a difference.
+    for tool in awk cat cut diff find sed "$(has shasum && echo shasum || echo sha256sum)" sort xargs; do
+        has "$tool" || { echo "dist.sh: there is no $tool on the PATH" >&2 && exit 2; }
+    done
+    is_whole && is_current || status=$?
+    [ $status -ne 1 ] || stop "dist/ was not made from these sources: run make dist"
+    [ $status -eq 0 ] || { echo "dist.sh: dist/ could not be compared with these sources" >&2 && exit $status; }
+}
+
+# Whether the files that are made are those of a folder: names each that is not.
+are_those_of() {
+    local file status=0
+    for file in "${files[@]}"; do cmp "$top/dist/$file" "$1/$file" || status=1; done
+    return $status
 }
 
 case ${1-},$# in
-    --help,1 | -h,1) usage && exit ;;
-    current,1)
-        # The tools of the two, before one that is absent makes a difference.
-        for tool in awk cat cut diff find sed "$(has shasum && echo shasum || echo sha256sum)" sort xargs; do
-            has "$tool" || { echo "dist.sh: there is no $tool on the PATH" >&2 && exit 2; }
-        done
-        is_whole && is_current
+    --help,1 | -h,1) show_help && exit ;;
+    current,1) compare_hashes && exit ;;
+    check,1)
+        compare_hashes
+        { has rt && has_same_tools; } ||
+            { echo "only hashes were compared: dist/ was made with another toolchain, $(said kit)" && exit; }
+        "$0" make "$work/dist" "${files[@]}" || stop "nothing was compared"
+        are_those_of "$work/dist"
         exit
         ;;
-    check,1 | make,1 | make,[3-9] | make,[1-9][0-9]) ;;
+    make,1 | make,[3-9] | make,[1-9][0-9]) ;;
     *) stop "usage: tools/dist.sh make|check|current, or tools/dist.sh --help" ;;
 esac
-[ "$1" != check ] || compare_all
 has rt || stop "the toolchain's command rt is not on the PATH"
 if [ $# -gt 1 ]; then
     mkdir -p "$2"

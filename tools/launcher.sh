@@ -48,13 +48,6 @@ add_words() {
     fi
 }
 
-# Ends the script unless dist/ is whole and made from these sources.
-check_dist() {
-    "$top/tools/dist.sh" current && return
-    [ $? -ne 1 ] || fail "dist/ was not made from these sources: run make dist"
-    fail "dist/ could not be compared with these sources"
-}
-
 # Builds the program as this file, for the machine that the compiler compiles for, which has to be
 # this one if it is named: FILE [MACHINE]. It is then as old as the beginning of its build. CFLAGS,
 # CPPFLAGS and LDFLAGS are used as by make. For ELF it is marked for branch protection.
@@ -81,7 +74,7 @@ build() {
         aarch64-*,elf) words+=(-mbranch-protection=bti) ;;
     esac
     [[ $target == "${2-}"* ]] || fail "CC compiles for $target, and this machine is $2"
-    check_dist
+    "$top/tools/dist.sh" current || exit 1 # it says why
     echo "$name: assembling ${texts[*]}, which is done once" >&2
     begun=$(mktemp -- "$1.XXXXXX")
     trap 'rm -f -- "$begun" "$begun".*' EXIT

@@ -583,7 +583,7 @@ make_stand_in() {
         cat >"$1/tools/dist.sh" <<END || return 1
 #!/bin/sh
 echo "\$@" >>"$1/calls"
-[ ! -e "$1/refuse" ]
+[ ! -e "$1/refuse" ] || { echo stale >&2 && exit 1; }
 END
     chmod +x "$1/tools/dist.sh"
 }
@@ -593,7 +593,7 @@ comes_from() {
     local tree=$work/tree
     make_stand_in "$tree" && "$tree/c/install.sh" "$tree/made" && words_work "$tree/made/lib" &&
         [ "$(cat "$tree/calls")" = current ] && touch "$tree/refuse" || return 1
-    refuses 1 'dist/ was not made from these sources' "$tree/c/install.sh" "$tree/not_made" &&
+    refuses 1 stale "$tree/c/install.sh" "$tree/not_made" &&
         [ ! -e "$tree/not_made" ]
 }
 
