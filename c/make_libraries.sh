@@ -51,16 +51,16 @@ assemble() {
     "${cc[@]}" $flags -g0 -c "${2%o}s" -o "$2"
 }
 for text; do
-    objects+=("$work/$(basename "$text" .s).o")
-    assemble "$text" "$work/$(basename "$text" .s).o"
+    object=$work/$(basename "$text" .s).o
+    assemble "$text" "$object"
+    objects+=("$object")
 done
 [ $# -ne 1 ] || words=-DCHOOSE_ONE=$(sed -n $'/^\tvj_export\t/{s/.*_//p;q;}' "$1")
-mkdir -p "$folder"
 compile -I"$here/include" $words -DCHOOSE_SHOWN "$shown" -o "$work/shown.o"
 compile "$here/libb2/libb2.c" -o "$work/libb2.o"
 compile -I"$here/include" "$here/threads.c" -o "$work/threads.o"
 # For ELF the archive has an object for each family of functions, of each build, and so a program gets
-# what it calls only.
+# what it calls only. awk writes these parts and prints their names: if it fails, or prints none, there is no archive.
 case $#,$machine in
     0,* | *-mingw32 | *-windows-gnu | *-apple-*)
         compile -I"$here/include" $words "$shown" -o "$work/choose.o"
@@ -70,26 +70,28 @@ case $#,$machine in
         mkdir "$work/parts"
         compile -I"$here/include" $words '-DCHOOSE_FUNCTIONS=<stddef.h>' "$shown" -o "$work/choose.o"
         members=("$work/choose.o")
-        awk -v folder="$work/parts" '/^CALL\(/ {
+        names=$(awk -v folder="$work/parts" '/^CALL\(/ {
             split($0, it, /[_"]/)
-            print >(folder "/" it[4] (/_many"/ ? "_many" : "") ".h")
-        }' "$shown"
-        for part in $(ls "$work/parts"); do
-            compile -I"$here/include" $words -DCHOOSE_PART "-DCHOOSE_FUNCTIONS=\"$work/parts/$part\"" "$shown" \
-                -o "$work/${part%h}o"
-            members+=("$work/${part%h}o")
+            name = it[4] (/_many"/ ? "_many" : "")
+            print >(folder "/" name ".h")
+            if (!seen[name]++) print name
+        }' "$shown" | LC_ALL=C sort)
+        for name in ${names:?of the parts are not there}; do
+            compile -I"$here/include" $words -DCHOOSE_PART "-DCHOOSE_FUNCTIONS=\"$work/parts/$name.h\"" "$shown" \
+                -o "$work/$name.o"
+            members+=("$work/$name.o")
         done
         for text; do
-            rm -rf "$work/parts" && mkdir "$work/parts"
-            awk -v folder="$work/parts" -f "$here/split.awk" "$text"
-            for part in $(ls "$work/parts"); do
-                assemble "$work/parts/$part" "$work/$(basename "$text" .s)_${part%s}o"
-                members+=("$work/$(basename "$text" .s)_${part%s}o")
+            names=$(awk -v folder="$work/parts" -f "$here/split.awk" "$text" | LC_ALL=C sort)
+            for name in ${names:?of the parts are not there}; do
+                object=$work/$(basename "$text" .s)_$name.o
+                assemble "$work/parts/$name.s" "$object"
+                members+=("$object")
             done
         done
         ;;
 esac
-(set +f && rm -f "$folder"/libvulfsjor*)
+mkdir -p "$folder" && (set +f && rm -f "$folder"/libvulfsjor*)
 archive "$folder/libvulfsjor.a" "${members[@]}"
 archive "$folder/libvulfsjor-libb2.a" "$work/libb2.o" "${members[@]}"
 archive "$folder/libvulfsjor-threads.a" "$work/threads.o"

@@ -3,7 +3,7 @@
 #   awk -v folder=FOLDER -f c/split.awk TEXT
 #
 # It writes a text for each family of exported functions (blake2b, blake2b_many, tree and so on) and for each function
-# that the programs call too, in FOLDER. A text has the functions that it needs, in their order, except those that
+# that the programs call too, in FOLDER, and prints their names without `.s`. A text has the functions that it needs, in their order, except those that
 # another text exports. So functions that several families need are there several times, and no name is seen that was
 # not seen before.
 function add(block) { if (!(block in chosen)) { chosen[block]; waiting[++count] = block } }
@@ -37,5 +37,6 @@ END {
         file = folder "/" name ".s"
         for (i = 1; i <= block; i++) if (i in chosen) printf "%s", text[i] > file
         close(file)
+        print name
     }
 }

@@ -79,7 +79,7 @@ names_what_is_missing() {
 fails_to_compare() {
     local call tool
     for call in {awk,cat,cut,find,sed,sha256sum,sort,xargs}:"./b2sum $work/abc" \
-        {basename,cat,sed}:"c/make_libraries.sh $work/none $top/dist/x86_64/vulfsjor-v2.s"; do
+        {awk,basename,cat,sed,sort}:"c/make_libraries.sh $work/none $top/dist/x86_64/vulfsjor-v2.s"; do
         tool=${call%%:*}
         mv "$tools/$tool" "$work/hidden" && rm -rf "$repository/out" "$work/none" &&
             printf '#!%s\nexit 1\n' "$BASH" >"$tools/$tool" && chmod +x "$tools/$tool"
@@ -88,6 +88,25 @@ fails_to_compare() {
             mv "$work/hidden" "$tools/$tool" && [ ! -s "$work/said" ] && [ ! -e "$work/none" ] &&
             ! grep -E "not made from|different" "$work/errors" || { echo "$call" && return 1; }
     done
+}
+
+# An archive has all its parts, or is not made: with a stand-in for awk that loses them all, or those of one text.
+has_all_parts() {
+    local lost text=$top/dist/x86_64/vulfsjor-v2.s
+    mv "$tools/awk" "$work/awk" || return 1
+    for lost in none choose.c split.awk; do
+        rm -rf "$work/parts" && printf '#!%s\ncase "$*" in *%s*) ;; *) exec "%s/awk" "$@" ;; esac\n' "$BASH" "$lost" \
+            "$work" >"$tools/awk" && chmod +x "$tools/awk" || return 1
+        if [ $lost = none ]; then
+            alone c/make_libraries.sh "$work/parts" "$text" && nm -g --defined-only "$work/parts/libvulfsjor.a" |
+                sed -n 's/.* T \(vulfsjor_ffi_[a-z0-9_]*[a-z]\)$/\1/p' | LC_ALL=C sort |
+                diff - <(sed -n 's/^CALL("\(.*\)")$/\1/p' "$here/choose.c" | LC_ALL=C sort) || return 1
+        else
+            ! alone c/make_libraries.sh "$work/parts" "$text" 2>"$work/errors" && [ ! -e "$work/parts" ] &&
+                grep "parts are not there" "$work/errors" || return 1
+        fi
+    done
+    mv "$work/awk" "$tools/awk"
 }
 
 # The library and b2sum over musl, with the example of the guide and threads.
@@ -116,6 +135,9 @@ test_busybox() {
         check "make install" make_installs
         check "a tool that is missing is named" names_what_is_missing
         check "a comparison that fails is not a difference" fails_to_compare
+        needs
+        is_x86 || missing="the processor is not x86-64"
+        check "an archive has all its parts" has_all_parts
     else
         skip "the scripts with BusyBox's tools alone" "no busybox, python3 or make"
     fi
