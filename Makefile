@@ -7,9 +7,8 @@ endif
 
 # The folders have the names of the GNU coding standards; tools/install_programs.sh has the usual ones of prefix for those
 # that are not given: bindir, mandir and others. CC, CFLAGS, CPPFLAGS, LDFLAGS and AR are used if they are set, as an
-# argument or in the environment. PREFIX is the other usual name of prefix.
-PREFIX = /usr/local
-prefix = $(PREFIX)
+# argument or in the environment.
+prefix = /usr/local
 exec_prefix = $(prefix)
 libdir = $(exec_prefix)/lib
 includedir = $(prefix)/include

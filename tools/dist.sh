@@ -58,15 +58,6 @@ write_hashing() {
     fi
 }
 
-# Whether a crate has BLAKE2bp and BLAKE2sp.
-has_parallel() { crates_of "$1" | grep -x blake2_parallel >/dev/null; }
-
-# The attributes that functions of a crate get from LLVM, for a target.
-attributes_of() {
-    [[ $2 != aarch64-* ]] || cat "$top/tools/aarch64_attributes.csv"
-    ! has_parallel "$1" || cat "$top/tools/parallel_attributes.csv"
-}
-
 # A hash of all that decides what is compiled except the toolchain. A line that is a comment decides
 # nothing.
 sources() {
@@ -118,7 +109,7 @@ has_same_tools() { [ "$(said tools)" = "$(hash_of_tools)" ]; }
 # several with them: a NEON instruction takes two to four cycles there, and one message is a single
 # chain of them. aarch64_attributes.csv names the functions for LLVM.
 #
-# In a crate with BLAKE2bp and BLAKE2sp the rounds of several messages have more than one caller, and
+# In the library the rounds of several messages have more than one caller, since it has BLAKE2bp and BLAKE2sp, and
 # LLVM would call them there instead of writing them out. parallel_attributes.csv says that writing
 # them out costs nothing, which LLVM reads only if it computes the whole cost. So the other functions
 # are compiled as without these two. The starts of BLAKE2sp, and on aarch64 of BLAKE2bp, are functions of their own:
@@ -127,41 +118,42 @@ has_same_tools() { [ "$(said tools)" = "$(hash_of_tools)" ]; }
 # A name in a list of attributes that is not in the code makes clang print a line, and then the build
 # fails.
 #
-# Rattle has no x86-64-v4, so clang gets it after x86-64-v3 (make_v4_toolchain in toolchain.sh).
+# Rattle has no x86-64-v4, so clang gets it after x86-64-v3 (make_v4_toolchain in toolchain.sh). x86_64_v2.sed,
+# x86_64_v4.sed and, for the files in C and in Rust, which are translated from one WebAssembly module without vectors,
+# scalar.sed edit the text of LLVM.
 #
 # The programs for x86-64 are compiled for x86-64-v2.
-#
-# The files in C and in Rust are translated from one WebAssembly module without vectors
-# (make_scalar_toolchain).
 build() {
     local to=$1/$2 file=$2 crate kind=(--crate-type staticlib) more=() room target cpu end
-    local make=make_toolchain
+    local make=make_toolchain edit=
     crate=$(crate_of "$file") room=$work/$crate
     case $file in
         x86_64/b2*.s) target=x86_64-unknown-linux-gnu cpu=x86-64-v2 end=x86 \
             more=(-mllvm -force-attribute=noredzone) ;;
         x86_64/*-v2.s) target=x86_64-unknown-linux-gnu cpu=x86-64-v2 end=v2 \
-            make=make_v2_toolchain more=(-mllvm -force-attribute=noredzone) ;;
+            edit=x86_64_v2 more=(-mllvm -force-attribute=noredzone) ;;
         x86_64/*-v3.s) target=x86_64-unknown-linux-gnu cpu=x86-64-v3 end=v3 \
             more=(-mllvm -force-attribute=noredzone) ;;
         x86_64/*-v4.s) target=x86_64-unknown-linux-gnu cpu=x86-64-v3 end=v4 \
-            make=make_v4_toolchain more=(-mllvm -force-attribute=noredzone) ;;
+            make=make_v4_toolchain edit=x86_64_v4 more=(-mllvm -force-attribute=noredzone) ;;
         aarch64/b2*.s) target=aarch64-unknown-linux-gnu cpu=generic end=a64 more=(-ffixed-x18) ;;
         aarch64/*.s) target=aarch64-unknown-linux-gnu cpu=generic end=arm more=(-ffixed-x18) ;;
         wasm/*.wasm) target=wasm64-unknown-unknown cpu=lime1 more=(-msimd128) ;;
-        c/*.c | rust/*.rs) target=wasm64-unknown-unknown cpu=lime1 make=make_scalar_toolchain ;;
+        c/*.c | rust/*.rs) target=wasm64-unknown-unknown cpu=lime1 edit=scalar ;;
     esac
     if [ "$crate" = blake2_ffi ] && [[ $file != c/* && $file != rust/* ]]; then # the others have no kernels
-        attributes_of "$crate" "$target" >"$room.csv"
-        [ ! -s "$room.csv" ] || more+=(-mllvm "-forceattrs-csv-path=$room.csv")
-        ! has_parallel "$crate" || more+=(-mllvm -inline-cost-full)
+        {
+            [[ $target != aarch64-* ]] || cat "$top/tools/aarch64_attributes.csv"
+            cat "$top/tools/parallel_attributes.csv"
+        } >"$room.csv"
+        more+=(-mllvm "-forceattrs-csv-path=$room.csv" -mllvm -inline-cost-full)
     fi
     [ "$crate" = blake2_ffi ] || kind=()
     [ "$crate" != b2sum ] || cp "$top/tools/b2sum.sed" "$room/toolchain-b2sum.sed"
     echo "dist.sh: building $file" >&2
     rm -rf "$room"/toolchain{,.sed,.py,-hashing.sed}
     [[ $file != *.s ]] || write_hashing "$crate" >"$room/toolchain-hashing.sed"
-    $make "$room/toolchain" "${more[@]}"
+    $make "$room/toolchain" "$edit" "${more[@]}"
     mkdir -p "$(dirname "$to")"
     build_crate "$top/crates/$crate" "$crate" "$(libraries_of "$crate")" "$room" "${kind[@]}" \
         --target "$target" --cpu "$cpu" --toolchain "$room/toolchain" -o "$room/built" \

@@ -52,27 +52,24 @@ add_words() {
 # this one if it is named: FILE [MACHINE]. It is then as old as the beginning of its build. CFLAGS,
 # CPPFLAGS and LDFLAGS are used as by make. For ELF it is marked for branch protection.
 build() {
-    local cc target texts format words flags
+    local cc target texts format words flags branches
     read -ra cc <<<"${CC:-cc}"
     command -v "${cc[0]-}" >/dev/null || fail "a C compiler is needed: cc, or the one that CC names"
     target=$("${cc[@]}" -dumpmachine)
     case $target in
-        *x32 | *ilp32) format=none ;;
+        *x32 | *ilp32) format= ;;
         *-linux*) format=elf words=(-Wl,--gc-sections -Wl,-z,relro -Wl,-z,now) ;;
         *-mingw32 | *-windows-gnu) format=coff words=(-Wl,--gc-sections -Wl,--no-insert-timestamp -municode) ;;
         *-apple-*) format=macho words=(-Wl,-dead_strip) ;;
-        *) format=none ;;
+        *) format= ;;
     esac
-    case $target,$format in
-        *,none) fail "there is no build for $target" ;;
-        x86_64-*) texts=("${x86_64[@]}") ;;
-        aarch64-* | arm64-*) texts=("${aarch64[@]}") ;;
-        *) fail "there is no build for $target" ;;
+    case $target in
+        x86_64-*) texts=("${x86_64[@]}") branches=-fcf-protection=full ;;
+        aarch64-* | arm64-*) texts=("${aarch64[@]}") branches=-mbranch-protection=bti ;;
+        *) format= ;;
     esac
-    case $target,$format in
-        x86_64-*,elf) words+=(-fcf-protection=full) ;;
-        aarch64-*,elf) words+=(-mbranch-protection=bti) ;;
-    esac
+    [ -n "$format" ] || fail "there is no build for $target"
+    [ $format != elf ] || words+=("$branches")
     [[ $target == "${2-}"* ]] || fail "CC compiles for $target, and this machine is $2"
     "$top/tools/dist.sh" current || exit 1 # it says why
     echo "$name: assembling ${texts[*]}, which is done once" >&2

@@ -34,7 +34,7 @@ build() {
     toolchain=$(kit_folder)/toolchain
     if [ "$cpu" = x86-64-v4 ]; then
         rattle_cpu=x86-64-v3 toolchain=$work/toolchain
-        make_v4_toolchain "$toolchain" || return
+        make_v4_toolchain "$toolchain" x86_64_v4 || return
     fi
     prove_libraries blake2_state "$work/proofs" && mkdir -p "$work/src" &&
         cp "$here/calls.rt.txt" "$work/src/lib.rt" &&
