@@ -3,7 +3,8 @@
 #
 #   tests/artifacts.sh FOLDER
 #
-# tools/release.sh calls this over what it has made. Artifacts that are not there are skipped: a trial leaves some out.
+# tools/release.sh calls this over what it has made. A test is skipped if a tool of packaging/tools.txt is absent, without
+# which a trial leaves the artifact out.
 set -u
 folder=$(readlink -f "${1:?usage: tests/artifacts.sh FOLDER}")
 source "$(dirname "$(readlink -f "$0")")/tap.sh"
@@ -11,11 +12,11 @@ version=$(version) processor=$(uname -m)
 name=vulfsjor-$version
 export CARGO_NET_OFFLINE=true CARGO_TARGET_DIR=$work/target PYTHONDONTWRITEBYTECODE=1
 
-# A test of an artifact that is there: FILE NAME COMMAND..
+# A test that needs the tools of these kinds, which are a regular expression: KINDS NAME COMMAND..
+absent=$(absent_tools)
 check_artifact() {
-    [ -e "$folder/$1" ] || missing="there is no $1"
+    missing=$(sed -nE "s/^($1), //p" <<<"$absent" | paste -sd , | sed 's/,/, /g')
     check "${@:2}"
-    missing=
 }
 
 # Whether the names of files on standard input are those in packaging/files.txt of a kind of artifact: KIND
@@ -85,7 +86,6 @@ crates() {
     uses="vulfsjor = \"=$version\""
     test='assert_eq!(&vulfsjor::Blake2b::digest(b"abc").to_hex()[..4], "ba80");'
     if [ -e "$folder/vulfsjor-digest-$version.crate" ]; then
-        tar -tf "$folder/vulfsjor-digest-$version.crate" | has_files vulfsjor-digest.crate || return 1
         uses+=$'\n'"vulfsjor-digest = { version = \"=$version\", default-features = false }"
         test+='use vulfsjor_digest::{digest::Digest, Blake2b512}; assert_eq!(Blake2b512::digest(b"abc")[0], 0xba);'
     fi
@@ -99,6 +99,8 @@ crates() {
     done
     for each in "$folder"/*.crate; do cmp "$work/target/package/${each##*/}" "$each" || return 1; done
 }
+
+digest_files() { tar -tf "$folder/vulfsjor-digest-$version.crate" | has_files vulfsjor-digest.crate; }
 
 npm_package() {
     mkdir "$work/js" && cd "$work/js" && tar -tf "$folder/$name.tgz" | has_files npm &&
@@ -181,21 +183,22 @@ rpm_files() {
 }
 by_lintian() { lintian --allow-root --fail-on error "$folder"/debian/*.deb; }
 
-check_artifact "$name-linux-$processor.tar.xz" "the archive for Linux" linux
-check_artifact "$name-windows-x86_64.zip" "the archive for Windows" windows
+check_artifact linux "the archive for Linux" linux
+check_artifact windows "the archive for Windows" windows
 for each in "manylinux_2_17_$processor" manylinux_2_17_aarch64 "musllinux_1_2_$processor"; do
-    check_artifact "python/$name-cp311-abi3-$each.whl" "the wheel for $each" \
+    check_artifact python "the wheel for $each" \
         wheel "$folder/python/$name-cp311-abi3-$each.whl"
 done
 check_artifact python "the wheel and the source distribution by pip" pip_packages
-needs twine
-check_artifact python "twine check" by_twine
-check_artifact "$name.crate" "the crates" crates
-check_artifact "$name.tgz" "the package for npm" npm_package
+check_artifact "python|twine" "twine check" by_twine
+check_artifact crates "the crates" crates
+check_artifact vulfsjor-digest "the files of the crate vulfsjor-digest" digest_files
+check_artifact npm "the package for npm" npm_package
 check_artifact debian "the files of the packages of Debian" debian_files
-for each in amd64 arm64 i386 s390x; do check_artifact debian "packages of Debian for $each" debian $each; done
-needs lintian
-check_artifact debian "lintian" by_lintian
+for each in amd64 arm64 i386 s390x; do
+    check_artifact "debian|emulated" "packages of Debian for $each" debian $each
+done
+check_artifact "debian|lintian" "lintian" by_lintian
 check_artifact rpm "the files of the RPMs" rpm_files
 check_artifact rpm "the RPMs" rpm_packages
 finish

@@ -5,8 +5,8 @@
 #
 # COMMIT is HEAD if it is not named, and must have the tag v and the version, unless --trial is given. The same tools
 # make the same bytes of a commit in any folder. Of the caller's environment only PATH is used, and VULFSJOR_CRATES: a
-# folder of crates, instead of that of Debian. Every tool of packaging/tools.txt must be there. With --trial an artifact
-# whose tool is absent is left out, and the last lines say so. Nothing is published and no network is used.
+# folder of crates, instead of that of Debian. Every tool of packaging/tools.txt must be there. With --trial an artifact or
+# a test whose tool is absent is left out, and the last lines say so. Nothing is published and no network is used.
 # docs/RELEASING.md says what the artifacts are, and what else a release is.
 set -euo pipefail
 top=$(dirname "$(dirname "$(readlink -f "$0")")")
@@ -27,20 +27,7 @@ quietly() { "$@" >"$work/log" 2>&1 || { cat "$work/log" >&2 && stop "failed: $*"
 
 # ---- The tools
 crates=${VULFSJOR_CRATES:-/usr/share/cargo/registry}
-headers=$(python3 -c 'import sysconfig; print(sysconfig.get_path("include"))' || :)
-is_there() {
-    case $1 in
-        /*) [ -e "$1" ] ;;
-        crate:*) compgen -G "$crates/${1#*:}.*" >/dev/null ;;
-        header:*) [ -e "$headers/${1#*:}" ] ;;
-        module:*) python3 -c "import ${1#*:}" 2>/dev/null ;;
-        *) command -v "$1" >/dev/null ;;
-    esac
-}
-while read -r artifact tool package; do
-    [ "$artifact" = "#" ] || is_there "$tool" ||
-        { absent+="$artifact " left+=("$artifact, without ${tool#*:} (Debian: $package)"); }
-done <"$top/packaging/tools.txt"
+while IFS= read -r line; do absent+="${line%%,*} " left+=("$line"); done < <(absent_tools)
 can_make() { [[ " $absent" != *" $1 "* ]]; }
 list_left() { for each in ${left[@]+"${left[@]}"}; do say "left out: $each"; done; }
 [ -z "$absent" ] || { [ "$trial" = yes ] && can_make release; } ||
@@ -143,7 +130,8 @@ make_windows() {
 
 # ---- Python: the source distribution, and the wheels that it makes.
 make_python() {
-    local each folder
+    local each folder headers
+    headers=$(python3 -c 'import sysconfig; print(sysconfig.get_path("include"))')
     mkdir "$out/python" "$work/sdist"
     quietly python3 python/build_package.py sdist "$out/python"
     tar -C "$work/sdist" -xf "$out/python/$name.tar.gz"

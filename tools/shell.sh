@@ -9,6 +9,21 @@ has() { command -v "$1" >/dev/null 2>&1; }
 # Ends a script that is no test.
 stop() { echo "${0##*/}: $1" >&2 && exit 1; }
 
+# Prints the tools of packaging/tools.txt that are not here: KIND, without TOOL (Debian: PACKAGE)
+absent_tools() {
+    local kinds kind tool package headers
+    headers=$(python3 -c 'import sysconfig; print(sysconfig.get_path("include"))') || :
+    while read -r kinds tool package; do
+        case $tool in
+            /*) [ -e "$tool" ] ;;
+            crate:*) compgen -G "${VULFSJOR_CRATES:-/usr/share/cargo/registry}/${tool#*:}.*" ;;
+            header:*) [ -e "$headers/${tool#*:}" ] ;;
+            module:*) python3 -c "import ${tool#*:}" 2>/dev/null ;;
+            *) has "$tool" ;;
+        esac >/dev/null || for kind in ${kinds//[#,]/ }; do echo "$kind, without ${tool#*:} (Debian: $package)"; done
+    done <"$top/packaging/tools.txt"
+}
+
 # Prints the first comment of the script.
 show_help() { sed -n '2,/^set /{/^set /d;s/^#\{0,1\} \{0,1\}//;p;}' "$0"; }
 
