@@ -31,17 +31,19 @@ case $machine in
     *) branches= ;;
 esac
 compile() {
-    "${cc[@]}" -O2 $branches $flags -std=c99 -fPIC -ffunction-sections -fno-lto -c "$@"
+    "${cc[@]}" -O2 $branches $flags $speed -std=c99 -fPIC -ffunction-sections -fno-lto -c "$@"
 }
 
 # An archive of these objects, by AR, which may have several words, or the compiler's binutils.
 archive() { if [ -n "${AR-}" ]; then $AR rcsD "$@"; else "$("${cc[@]}" -print-prog-name=ar)" rcsD "$@"; fi; }
 
 # A sanitizer's functions are those of the program, by Clang.
-defs=-Wl,-z,defs
+defs=-Wl,-z,defs speed=
 [[ "$flags ${LDFLAGS-}" != *-fsanitize* ]] || defs=
 objects=() shown=$here/choose.c
-[[ $1 != *.c ]] || { shown=$1 && set --; } # it has the functions by their own names
+# Portable C has the functions by their own names. Not optimized for speed it may use more of the stack than a call with
+# a key overwrites.
+[[ $1 != *.c ]] || { shown=$1 speed=-O2 && set --; }
 # The macros alone go through the preprocessor, which would take as long for the texts as the assembler.
 [ $# -eq 0 ] ||
     "${cc[@]}" $flags -E -P -x assembler-with-cpp "$here/../dist/macros.h" -o "$work/macros.s"

@@ -174,13 +174,14 @@ forge() {
 }
 
 # Two clones in other folders: one by make, with variables, a configuration, a mask and files of git that must not reach
-# it, and one by the script. Both are of a commit with its tag.
+# it, and one by the script. Both are of a commit with its tag. Without all tools both are trials.
 same_bytes() {
-    local one=$work/one two="$work/another folder" today=2026-11-28
+    local one=$work/one two="$work/another folder" today=2026-11-28 trial=() release=(make release) count=24
+    [ -z "$(absent_tools)" ] || trial=(--trial) release=(tools/release.sh --trial) count=8
     make_repository "$one" && sed -i "0,/^## $(version)\$/s//## $(version) ($today)/" "$one/CHANGELOG.md" &&
         git -C "$one" commit -q -a -m "A date" && git -C "$one" tag "v$(version)" &&
             git clone -q -c core.autocrlf=true "$one" "$two" || return 1
-    (cd / && umask 022 && "$one/tools/release.sh") || return 1
+    (cd / && umask 022 && "$one/tools/release.sh" "${trial[@]}") || return 1
     printf '[core]\n\tautocrlf = true\n[tar]\n\tumask = 0077\n' >"$work/gitconfig" &&
         mkdir -p "$work/evil" "$two/.git/info" "$work/a folder" &&
         echo '#error evil' >"$work/evil/string.h" && echo 'README.md export-ignore' >"$two/.git/info/attributes" &&
@@ -190,10 +191,10 @@ same_bytes() {
         VULFSJOR_PORTABLE=1 \
         CFLAGS="-O0 -g" LDFLAGS=-L/no XZ_DEFAULTS=--threads=4 PREFIX=/no LIBDIR=/no bindir=/no bashcompdir=/no \
             PYTHONPATH="$work/evil" \
-        TMPDIR="$work/a folder" make release) >"$work/tap" &&
+        TMPDIR="$work/a folder" "${release[@]}") >"$work/tap" &&
         diff "$one/out/release/SUMS" "$two/out/release/SUMS" && diff -r "$one/out/release" "$two/out/release" &&
         (cd "$one/out/release" && b2sum --check --strict --quiet SUMS) &&
-            [ "$(wc -l <"$one/out/release/SUMS")" -ge 24 ] &&
+            [ "$(wc -l <"$one/out/release/SUMS")" -ge $count ] &&
         python3 -m json.tool "$one"/out/release/*.spdx.json >/dev/null && cat "$one/out/release/SUMS"
 }
 check "what tools/release.sh refuses" refused

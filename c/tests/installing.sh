@@ -717,18 +717,25 @@ size_of_pointers() {
     grep -x "$(echo __SIZEOF_POINTER__ | cc -E -P -)" "$work/built/kind"
 }
 
-# CMake optimizes portable C if no type of build does.
-optimized_by_cmake() {
+# CMake optimizes portable C for speed, whatever the type of build and the flags are: the last option counts. So does
+# install.sh.
+optimized() {
     local type wanted build
-    while IFS=: read -r type wanted; do
+    compiler_for && rm -f "$work/compiled" && touch "$work/noting" || return 1
+    ! CFLAGS=-O0 CC="$work/for riscv64-linux-gnu" "$here/install.sh" --from "$dist" "$work/no" &&
+        grep 'vulfsjor\.c ' "$work/compiled" | grep -v -e '-E ' | grep -o -e '-O.' | diff - <(printf '%s\n' -O2 -O0 -O2) &&
+        rm "$work/noting" || return 1
+    ! has cmake || while IFS=: read -r type wanted; do
         build=$work/type$type
-        cmake -S "$here" -B "$build" -DVULFSJOR_PORTABLE=ON -DCMAKE_BUILD_TYPE="$type" &&
-            grep -o -e '-O.' "$build/CMakeFiles/vulfsjor.dir/flags.make" | diff - <(echo "$wanted") || return 1
+        cmake -S "$here" -B "$build" -DVULFSJOR_PORTABLE=ON -DCMAKE_BUILD_TYPE="$type" -DCMAKE_C_FLAGS=-O0 &&
+            grep -o -e '-O.' "$build/CMakeFiles/vulfsjor.dir/flags.make" | tail -1 | diff - <(echo "$wanted") || return 1
     done <<'END'
 :-O2
 Debug:-O2
 Release:-O3
-MinSizeRel:-Os
+RelWithDebInfo:-O2
+MinSizeRel:-O2
+Other:-O2
 END
 }
 
@@ -763,6 +770,7 @@ test_installing() {
     check "what install.sh refuses" refusals
     check "machines without assembly, and --portable" machines_without_assembly
     check "compilers for 32 bits, without a name and with a sanitizer" odd_compilers
+    check "how portable C is optimized" optimized
     check "a folder named from the current one" relative_folder
     check "a project with the files by hand" vendored_by_hand
     check "compilers of several words" compilers_of_words
@@ -770,7 +778,6 @@ test_installing() {
     needs cmake
     check "a project with the files by CMake" vendored_by_cmake
     check "what CMake chooses by the processor" chosen_by_cmake
-    check "how CMake optimizes portable C" optimized_by_cmake
     check "the size of pointers in the package for CMake" size_of_pointers
     check "find_package of an installation" installed_for_cmake
     check "find_package after cmake --install" installed_by_cmake

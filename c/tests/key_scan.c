@@ -236,26 +236,30 @@ static inline __attribute__((always_inline)) void keep_registers(void) {
 static void keep_registers(void) {}
 #endif
 
+/* How the stack pointer is read. */
+#if defined(__x86_64__)
+#define READ_POINTER "mov %%rsp, %0"
+#elif defined(__i386__)
+#define READ_POINTER "mov %%esp, %0"
+#elif defined(__aarch64__) || defined(__arm__)
+#define READ_POINTER "mov %0, sp"
+#elif defined(__s390x__)
+#define READ_POINTER "lgr %0, %%r15"
+#elif defined(__riscv)
+#define READ_POINTER "mv %0, sp"
+#elif defined(__powerpc64__)
+#define READ_POINTER "mr %0, 1"
+#endif
+
 /* Makes the call, and copies the stack below this frame before anything else, without a call. */
 static __attribute__((noinline)) int call_and_keep(int (*call)(void)) {
     int status = call();
-    const uint8_t *from;
-    void *to = stack;
-    size_t count = DEPTH;
+    const volatile uint8_t *from;
+    volatile uint8_t *to = stack;
 
-#if defined(__aarch64__)
-    __asm__ volatile("mov %0, sp" : "=r"(from));
+    __asm__ volatile(READ_POINTER : "=r"(from));
     from -= DEPTH;
-    __asm__ volatile("1: ldrb w9, [%1], #1\n"
-                     "strb w9, [%0], #1\n"
-                     "subs %2, %2, #1\n"
-                     "b.ne 1b"
-                     : "+r"(to), "+r"(from), "+r"(count) : : "x9", "cc", "memory");
-#else
-    __asm__ volatile("mov %%rsp, %0" : "=r"(from));
-    from -= DEPTH;
-    __asm__ volatile("rep movsb" : "+D"(to), "+S"(from), "+c"(count) : : "memory");
-#endif
+    for (size_t i = 0; i < DEPTH; i++) to[i] = from[i];
     if (has_upper) keep_registers();
     return status;
 }

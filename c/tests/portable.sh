@@ -29,14 +29,28 @@ library_there() {
 # What a call with a key leaves on the stack is overwritten, by the compiler's own account of it.
 stack_there() { "$top/tests/portable_stack.py" "$source_file" "$work/$processor.su"; }
 
-# The same of the library that CMake makes for this type of build.
-stack_by_cmake() {
-    local build=$work/$processor-cmake$1
+# A search for keys on the stack of calls in a library: FAMILY LIBRARY
+keys_there() {
+    "${compiler[@]}" -std=gnu99 -O2 "${warnings[@]}" -Wl,-z,now $(family_words "$1") "-I$here/include" \
+        "$tests/key_scan.c" "$2" -o "$work/key_scan" && "${emulator[@]}" "$work/key_scan"
+}
+
+# Both over the library that CMake makes for this type of build, with flags that ask for no optimization.
+wiped_by_cmake() {
+    local build=$work/$processor-cmake$1 family
     cmake -S "$here" -B "$build" -DVULFSJOR_PORTABLE=ON -DCMAKE_SYSTEM_NAME=Linux \
-        -DCMAKE_SYSTEM_PROCESSOR="$processor" \
-        -DCMAKE_C_COMPILER="${compiler[0]}" -DCMAKE_BUILD_TYPE="$1" -DCMAKE_C_FLAGS=-fstack-usage &&
+        -DCMAKE_SYSTEM_PROCESSOR="$processor" -DCMAKE_C_COMPILER="${compiler[0]}" -DCMAKE_BUILD_TYPE="$1" \
+        -DCMAKE_C_FLAGS="-O0 -fstack-usage" &&
         cmake --build "$build" --target vulfsjor &&
-        "$top/tests/portable_stack.py" "$source_file" "$(find "$build" -name 'vulfsjor*.su')"
+        "$top/tests/portable_stack.py" "$source_file" "$(find "$build" -name 'vulfsjor*.su')" || return 1
+    for family in $(some bp b s sp xb xs); do keys_there $family "$build/libvulfsjor.a" || return 1; done
+}
+
+# The same of the library of install.sh.
+wiped_by_install() {
+    [ "$processor" != here ] || local portable=--portable
+    CC=${compiler[0]} CFLAGS="-O0 -fstack-usage" "$here/install.sh" ${portable-} --from "$dist" "$work/wiped-$processor" &&
+        keys_there bp "$work/wiped-$processor/lib/libvulfsjor.a"
 }
 
 # A test program of a hash of the conformance cases: NAME HASH
@@ -74,7 +88,7 @@ files_there() {
 
 # The tests of the library for a processor.
 test_there() {
-    local level=-O2 turns=100 more=yes hash
+    local level=-O2 turns=100 more=yes hash type
     processor=$1
     if [ ${#emulator[@]} -gt 0 ] && [ -z "${VULFSJOR_TEST_HUGE-}" ]; then
         level=-O1 turns=20
@@ -95,11 +109,12 @@ test_there() {
     done
     check "tree_parts.c, for $processor" tree_parts_there $turns
     check "the stack that is wiped, for $processor" stack_there
-    if has cmake && [ ${#emulator[@]} -gt 0 ]; then
-        check_huge "the stack that is wiped by a build of CMake, for $processor" stack_by_cmake ""
-        check_huge "the stack that is wiped by a debug build of CMake, for $processor" stack_by_cmake Debug
-    fi
     check "files, for $processor" files_there
+    check_huge "what install.sh makes with -O0 wipes, for $processor" wiped_by_install
+    has cmake || missing="no cmake"
+    check "what CMake makes with -O0 wipes, for $processor" wiped_by_cmake ""
+    for type in Debug MinSizeRel; do check_huge "and for $type" wiped_by_cmake $type; done
+    missing=
 }
 
 # The tests where neither the compiler nor the header knows the order of bytes, not optimized.
@@ -124,12 +139,6 @@ compiles_for_msvc() {
     done
 }
 
-# A search for keys in memory, which has instructions of the processors of the assembly.
-keys_here() {
-    cc -std=gnu99 -O2 "${warnings[@]}" -Wl,-z,now $(family_words "$family") "-I$here/include" \
-        "$tests/key_scan.c" "$work/here.o" -o "$work/key_scan" && "$work/key_scan"
-}
-
 # Branches and addresses by a key or a message, with this compiler, of some of the test vectors:
 # memcheck is slow.
 secrets_here() {
@@ -145,7 +154,7 @@ test_portable() {
     compiler=(cc) emulator=()
     test_there here
     for family in b s bp sp xb xs; do
-        check "key_scan.c, blake2$family, over the file in C" keys_here
+        check "key_scan.c, blake2$family, over the file in C" keys_there $family "$work/here.o"
     done
     check "an unknown order of bytes, with cc -O0" unknown_order
     needs valgrind
