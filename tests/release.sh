@@ -60,6 +60,7 @@ tools_and_variables() {
         GIT_DIR=/no PYTHONPATH=/no \
         LD_LIBRARY_PATH=/no CARGO_HOME=/no npm_config_registry=/no TMPDIR="$work/a folder" "$script" --trial &&
         ! grep -F -e /no -e "a folder" -e "$HOME" -e O0 "$work/variables" | grep -v ^PATH= &&
+        grep -x GIT_NO_REPLACE_OBJECTS=1 "$work/variables" &&
         sed 's/=.*//' "$work/variables" | grep -vxE \
             -e '_|PWD|SHLVL|PATH|HOME|LC_ALL|TZ|OLDPWD|VULFSJOR_CRATES|PYTHONDONTWRITEBYTECODE' \
             -e 'GIT_[A-Z_]*|CARGO_(NET_OFFLINE|INCREMENTAL)|PIP_CONFIG_FILE' |
