@@ -3,8 +3,8 @@
 #
 #   tests/artifacts.sh FOLDER
 #
-# tools/release.sh calls this over what it has made. A test is skipped if a tool of packaging/tools.txt is absent, without
-# which a trial leaves the artifact out.
+# tools/release.sh calls this over what it has made. A test is skipped if a tool of packaging/tools.txt is absent,
+# without which a trial leaves the artifact out.
 set -u
 folder=$(readlink -f "${1:?usage: tests/artifacts.sh FOLDER}")
 source "$(dirname "$(readlink -f "$0")")/tap.sh"

@@ -4,6 +4,7 @@ lists of files.
 
 Prints the Test Anything Protocol. tests/release.sh builds the packages, if VULFSJOR_TEST_HUGE is set.
 """
+import itertools
 import pathlib
 import re
 import sys
@@ -137,9 +138,48 @@ def other_files():
     yield from (f"there is no page {page}" for page in pages if not (TOP / page).is_file())
 
 
+def debian_patterns():
+    """What debhelper puts into each package, as patterns of paths."""
+    for file in (TOP / "packaging" / "debian").glob("*.*"):
+        of = {"install": "", "docs": f"usr/share/doc/{file.stem}/", "examples": f"usr/share/doc/{file.stem}/examples/"}
+        if file.suffix[1:] in of:
+            start = of[file.suffix[1:]]
+            for line in file.read_text(encoding="utf-8").split():
+                # What is long is compressed.
+                name = line.rsplit("/", 1)[-1] + "*" * line.endswith(".md")
+                yield file.stem, start + name if start else line
+
+
+def rpm_patterns():
+    """The same of the sections %files of the spec."""
+    macros = {"%{_bindir}": "usr/bin", "%{_datadir}": "usr/share", "%{_includedir}": "usr/include",
+              "%{_libdir}": "usr/lib64", "%{_mandir}": "usr/share/man"}
+    for section in read("vulfsjor.spec").split("%files")[1:]:
+        end, *lines = section.split("\n")
+        name = {"": "vulfsjor", "-n %{libs}": "vulfsjor-libs"}.get(end.strip(), f"vulfsjor-{end.strip()}")
+        for line in itertools.takewhile(lambda it: it and not it.startswith("%endif"), lines):
+            if line.startswith("%doc "):
+                start = f"usr/share/doc/{name}-VERSION/"
+                yield from ((name, start + each.rsplit("/", 1)[-1]) for each in line[5:].split())
+            else:
+                yield name, re.sub(r"%\{\w+\}", lambda it: macros[it[0]], line)
+
+
+def unlike_the_patterns():
+    """Each file of a package has a pattern there, and each pattern a file, but for the files that all packages have."""
+    for kind, patterns in (("debian", {*debian_patterns()}), ("rpm", {*rpm_patterns()})):
+        files = {(name, path) for name, path in re.findall(
+            rf"(?m)^{kind}: ([a-z0-9-]+?)[_-]VERSION[^/]*/(.*)", read("files.txt"))
+            if not re.search("/(changelog.*gz|copyright)$|^usr/lib/python3/", path)}
+        matches = {(file, pattern) for file in files for pattern in patterns if file[0] == pattern[0] and re.match(
+            re.escape(pattern[1]).replace(r"\*", "[^/]*") + "(/|$)", file[1])}
+        yield from (f"{kind}: {' '.join(it)} has no pattern" for it in sorted(files - {it for it, _ in matches}))
+        yield from (f"{kind}: {' '.join(it)} has no file" for it in sorted(patterns - {it for _, it in matches}))
+
+
 TESTS = (("the fields of debian/control", wrong_fields), ("the lines of packaging/", missing_lines),
          ("the versions of symbols", wrong_symbols), ("the soname", other_sonames),
-         ("the lists of files", other_files))
+         ("the lists of files", other_files), ("the files of each package", unlike_the_patterns))
 failed = 0
 print(f"TAP version 13\n1..{len(TESTS)}")
 for count, (title, find) in enumerate(TESTS, 1):

@@ -5,8 +5,8 @@
 #
 # COMMIT is HEAD if it is not named, and must have the tag v and the version, unless --trial is given. The same tools
 # make the same bytes of a commit in any folder. Of the caller's environment only PATH is used, and VULFSJOR_CRATES: a
-# folder of crates, instead of that of Debian. Every tool of packaging/tools.txt must be there. With --trial an artifact or
-# a test whose tool is absent is left out, and the last lines say so. Nothing is published and no network is used.
+# folder of crates, instead of that of Debian. Every tool of packaging/tools.txt must be there. With --trial an artifact
+# or a test whose tool is absent is left out, and the last lines say so. Nothing is published and no network is used.
 # docs/RELEASING.md says what the artifacts are, and what else a release is.
 set -euo pipefail
 top=$(dirname "$(dirname "$(readlink -f "$0")")")

@@ -723,12 +723,14 @@ optimized() {
     local type wanted build
     compiler_for && rm -f "$work/compiled" && touch "$work/noting" || return 1
     ! CFLAGS=-O0 CC="$work/for riscv64-linux-gnu" "$here/install.sh" --from "$dist" "$work/no" &&
-        grep 'vulfsjor\.c ' "$work/compiled" | grep -v -e '-E ' | grep -o -e '-O.' | diff - <(printf '%s\n' -O2 -O0 -O2) &&
+        grep 'vulfsjor\.c ' "$work/compiled" | grep -v -e '-E ' | grep -o -e '-O.' |
+        diff - <(printf '%s\n' -O2 -O0 -O2) &&
         rm "$work/noting" || return 1
     ! has cmake || while IFS=: read -r type wanted; do
         build=$work/type$type
         cmake -S "$here" -B "$build" -DVULFSJOR_PORTABLE=ON -DCMAKE_BUILD_TYPE="$type" -DCMAKE_C_FLAGS=-O0 &&
-            grep -o -e '-O.' "$build/CMakeFiles/vulfsjor.dir/flags.make" | tail -1 | diff - <(echo "$wanted") || return 1
+            grep -o -e '-O.' "$build/CMakeFiles/vulfsjor.dir/flags.make" | tail -1 | diff - <(echo "$wanted") ||
+            return 1
     done <<'END'
 :-O2
 Debug:-O2

@@ -48,9 +48,9 @@ wiped_by_cmake() {
 
 # The same of the library of install.sh.
 wiped_by_install() {
-    [ "$processor" != here ] || local portable=--portable
-    CC=${compiler[0]} CFLAGS="-O0 -fstack-usage" "$here/install.sh" ${portable-} --from "$dist" "$work/wiped-$processor" &&
-        keys_there bp "$work/wiped-$processor/lib/libvulfsjor.a"
+    local folder=$work/$processor-wiped
+    CC=${compiler[0]} CFLAGS=-O0 "$here/install.sh" --portable --from "$dist" "$folder" &&
+        keys_there bp "$folder/lib/libvulfsjor.a"
 }
 
 # A test program of a hash of the conformance cases: NAME HASH
