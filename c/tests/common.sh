@@ -35,6 +35,8 @@ libb2=$include/vulfsjor-libb2
 archive=$prefix/lib/libvulfsjor.a
 shared=$prefix/lib/libvulfsjor.so
 warnings=(-Wall -Wextra -Wpedantic -Werror)
+# How programs are optimized that run for less time than that takes.
+quick=$([ -n "${VULFSJOR_TEST_HUGE-}" ] && echo -O2 || echo -O0)
 empty=$work/empty.c
 echo 'int main(void) { return 0; }' >"$empty"
 

@@ -422,9 +422,11 @@ template <class H> void counts() {
 #ifdef __linux__
 /* Whether eight bytes of the key are anywhere in this memory. */
 bool has_key(const unsigned char *memory, std::size_t length, const std::vector<unsigned char> &key) {
-    for (std::size_t i = 0; i + 8 <= length; i++)
+    std::size_t used = 0; /* where the bytes begin that the call has written */
+    while (used < length && memory[used] == 0xa5) used++;
+    for (std::size_t i = used; i + 8 <= length; i++)
         for (std::size_t k = 0; k + 8 <= key.size(); k++)
-            if (!std::memcmp(memory + i, key.data() + k, 8)) return true;
+            if (memory[i] == key[k] && !std::memcmp(memory + i, key.data() + k, 8)) return true;
     return false;
 }
 

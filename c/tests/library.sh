@@ -8,7 +8,8 @@ check_once() { if [[ $family == *s* ]]; then check_huge "$@"; else check "$@"; f
 # A test program of a hash of the conformance cases, compiled with these words and run: NAME HASH WORDS..
 run_hash() {
     local name=$1 hash=$2
-    cc -std=c99 -g "${warnings[@]}" -I"$include" $(hash_words "$hash") "$tests/$name.c" "${@:3}" -o "$work/$name" &&
+    cc -std=c99 -g $quick "${warnings[@]}" -I"$include" $(hash_words "$hash") "$tests/$name.c" "${@:3}" \
+        -o "$work/$name" &&
         LD_LIBRARY_PATH=$prefix/lib ${run_by-} "$work/$name" "$conforming/$hash.txt"
 }
 run_in_valgrind() { run_by="valgrind -q --error-exitcode=9 --leak-check=full" run_hash "$@"; }
@@ -202,7 +203,7 @@ test_family() {
 authors_vectors() {
     awk '{ key = $3 == "-" ? "" : " key=" $3
         print "case authors." NR "\nhash '"$1"' " $6 " size=" $2 key " = " $7 }' "$work/authors" >"$work/authors.txt" &&
-        run_hash conformance "$1" -O1 "$archive" && "$work/conformance" "$work/authors.txt"
+        run_hash conformance "$1" "$archive" && "$work/conformance" "$work/authors.txt"
 }
 
 # The conformance cases of a hash, and made states: with the archive, and of one hash, or of all in the full test, with
@@ -211,10 +212,10 @@ test_hash() {
     local hash=$1 name check=check_huge
     [ "$hash" != blake2b ] || check=check
     for name in conformance made_states; do
-        check "$name.c, $hash" run_hash $name "$hash" -O2 "$archive"
-        $check "$name.c, $hash, with the shared library" run_hash $name "$hash" -O1 "$shared"
+        check "$name.c, $hash" run_hash $name "$hash" "$archive"
+        $check "$name.c, $hash, with the shared library" run_hash $name "$hash" "$shared"
         needs_sanitizers
-        $check "$name.c, $hash, with sanitizers" run_hash $name "$hash" -O1 "${sanitizers[@]}" "$archive"
+        $check "$name.c, $hash, with sanitizers" run_hash $name "$hash" "${sanitizers[@]}" "$archive"
         needs valgrind
         $check "$name.c, $hash, in valgrind" run_in_valgrind $name "$hash" -O1 "$archive"
         needs

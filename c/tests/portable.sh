@@ -18,7 +18,7 @@ run_there() {
     local program=$work/$processor-$1 given=()
     shift
     while [ "$1" != -- ]; do given+=("$1") && shift; done
-    "${compiler[@]}" -O1 "${words[@]}" "${given[@]}" "$work/$processor.o" -o "$program" &&
+    "${compiler[@]}" $quick "${words[@]}" "${given[@]}" "$work/$processor.o" -o "$program" &&
         "${emulator[@]}" "$program" "${@:2}"
 }
 

@@ -109,14 +109,14 @@ one_build_for_windows() {
     local folder=$work/only_$1
     CC=$mingw "$here/install.sh" --cpu "x86-64-$1" --from "$dist" "$folder" &&
         ! nm "$folder/lib/libvulfsjor.a" | grep -q "vulfsjor_ffi_level" &&
-        archive=$folder/lib/libvulfsjor.a && run_hash conformance blake2b -O2 "$archive"
+        archive=$folder/lib/libvulfsjor.a && run_hash conformance blake2b "$archive"
 }
 
 # Over a library for tests that goes from one build to the others, which the first family makes.
 all_builds_for_windows() {
     [ -e "$work/both" ] || CC=$mingw "$here/make_libraries.sh" --test "$(seq -s '' 2 "$level")" "$work/both" \
         "$dist"/x86_64/vulfsjor-v[234].s || return 1
-    archive=$work/both/libvulfsjor.a && run_hash conformance "$1" -O2 "$archive"
+    archive=$work/both/libvulfsjor.a && run_hash conformance "$1" "$archive"
 }
 
 # The example of c/README.md over a library that has a trap in each function of one build, with
@@ -294,11 +294,11 @@ test_windows() {
     check "what is installed for Windows" installs
     check "the DLL" dll_is_right
     for hash in "${hashes[@]}"; do
-        check_by_wine "conformance.c, $hash, for Windows" run_hash conformance $hash -O1 "$archive"
-        check_huge_by_wine "made_states.c, $hash, for Windows" run_hash made_states $hash -O1 "$archive"
+        check_by_wine "conformance.c, $hash, for Windows" run_hash conformance $hash "$archive"
+        check_huge_by_wine "made_states.c, $hash, for Windows" run_hash made_states $hash "$archive"
         check=check_huge_by_wine
         [ $hash != blake2b ] || check=check_by_wine
-        $check "conformance.c, $hash, for Windows, with the DLL" run_hash conformance $hash -O1 "$shared"
+        $check "conformance.c, $hash, for Windows, with the DLL" run_hash conformance $hash "$shared"
         $check "conformance.c, $hash, from one build to the others" all_builds_for_windows $hash
     done
     for family in b s; do
