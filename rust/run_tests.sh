@@ -14,7 +14,9 @@ source "$(dirname "$(readlink -f "$0")")/../tests/tap.sh"
 export CARGO_TARGET_DIR=$work/target CARGO_NET_OFFLINE=true
 # What only later builds or a debugger would use.
 export CARGO_INCREMENTAL=0 CARGO_PROFILE_DEV_DEBUG=0
-short=(--lib --test bindings --test known_answers)
+short=(--lib --test bindings --test conformance)
+# On processors that are emulated, and of builds that this one would not choose, a part of the conformance cases.
+some_cases=$([ -n "${VULFSJOR_TEST_HUGE-}" ] || echo VULFSJOR_SHARE=6)
 
 cargo_here() { cargo "$1" --manifest-path "$top/Cargo.toml" "${@:2}"; }
 
@@ -53,9 +55,10 @@ refused_lines() {
 
 # The digests of a build that this processor would not choose by itself.
 cargo_build() {
-    local tests=(--test known_answers --test conformance)
+    local tests=(--test conformance)
     [ -z "${VULFSJOR_TEST_HUGE-}" ] || tests=("${short[@]}")
-    RUSTFLAGS="--cfg vulfsjor_build=\"$1\"" CARGO_TARGET_DIR=$work/$1 cargo_here test "${tests[@]}"
+    export RUSTFLAGS="--cfg vulfsjor_build=\"$1\"" CARGO_TARGET_DIR=$work/$1 $some_cases
+    cargo_here test "${tests[@]}"
 }
 
 # Says what the next test needs, which cargo_cross then makes for a processor that is emulated: TARGET COMPILER
@@ -70,7 +73,7 @@ needs_cross() {
 cargo_cross() {
     local variable=${cross[0]//-/_}
     variable=CARGO_TARGET_${variable^^}
-    export "${variable}_LINKER=${cross[1]}" "${variable}_RUNNER=${cross[2]} -L /usr/${cross[1]%-gcc}"
+    export "${variable}_LINKER=${cross[1]}" "${variable}_RUNNER=${cross[2]} -L /usr/${cross[1]%-gcc}" $some_cases
     cargo_here test --target "${cross[0]}" "$@"
 }
 
@@ -121,7 +124,7 @@ fi
 needs_cross aarch64-unknown-linux-gnu aarch64-linux-gnu-gcc qemu-aarch64
 check "the crate vulfsjor on 64-bit ARM" cargo_cross "${short[@]}"
 needs_cross s390x-unknown-linux-gnu s390x-linux-gnu-gcc qemu-s390x
-check "the crate vulfsjor in portable Rust on s390x" cargo_cross --test known_answers --test conformance
+check "the crate vulfsjor in portable Rust on s390x" cargo_cross --test conformance
 needs valgrind
 check_huge "a comparison takes equal time" cargo_here test --test programs -- --ignored equal_time
 needs cargo-clippy

@@ -73,115 +73,14 @@ fn written<W: Write>(mut to: W, message: &[u8], piece: usize) -> W {
 
 macro_rules! family {
     (
-        $test:ident, $hasher:ident, $mac:ident, $make:ident, $hash:ident, $max:literal,
-        $small:literal, $bits:literal
+        $test:ident, $hasher:ident, $mac:ident, $make:ident, $hash:ident, $max:literal, $small:literal
     ) => {
         mod $test {
             use super::*;
 
-            // What a hasher, a MAC and the hash in one call are refused with; all are, or none is.
-            fn error(params: Params) -> Option<String> {
-                let has_key = !format!("{params:?}").contains("key_length: None,");
-                let keyed = if has_key { params } else { params.key(b"k") };
-                let error = params.$make().err();
-                assert_eq!($hasher::with_params(&params).err(), error);
-                assert_eq!(params.$hash(b"x").err(), error);
-                let of_mac = $mac::with_params(&keyed)
-                    .err()
-                    .map(|error| error.to_string());
-                let error = error.map(|error| error.to_string());
-                assert_eq!(of_mac, error);
-                error
-            }
-
-            // The same text, if it is one.
-            fn text_if(
-                is_refused: bool,
-                argument: &str,
-                value: usize,
-                bounds: &str,
-            ) -> Option<String> {
+            // What an error says, if there is one.
+            fn text_if(is_refused: bool, argument: &str, value: usize, bounds: &str) -> Option<String> {
                 is_refused.then(|| format!("{argument} is {value}, and must be {bounds}"))
-            }
-
-            #[test]
-            fn sizes_and_lengths() {
-                let long = [1; 300];
-                let key = format!("1 to {}", $max);
-                let small = format!("0 to {}", $small);
-                for length in (0..=70).chain([256, 300]) {
-                    let text = &long[..length];
-                    let new = Params::new;
-                    let refused =
-                        text_if(length == 0 || length > $max, "output_size", length, &key);
-                    assert_eq!(error(new().output_size(length)), refused);
-                    let refused = text_if(length == 0 || length > $max, "key.len()", length, &key);
-                    assert_eq!(error(new().key(text)), refused);
-                    let refused = text_if(length > $small, "salt.len()", length, &small);
-                    assert_eq!(error(new().salt(text)), refused);
-                    let refused = text_if(length > $small, "persona.len()", length, &small);
-                    assert_eq!(error(new().persona(text)), refused);
-                    let refused = text_if(length == 0 || length > $max, "key.len()", length, &key);
-                    let text_of = |error: InvalidArgument| error.to_string();
-                    assert_eq!($mac::new(text).err().map(text_of), refused);
-                    assert_eq!($mac::tag(text, b"").err().map(text_of), refused);
-                }
-                for size in [1 << 32, (1 << 32) + 1, usize::MAX] {
-                    let refused = text_if(true, "output_size", size, &key);
-                    assert_eq!(error(Params::new().output_size(size)), refused);
-                }
-                let no_key = Params::new().output_size(1).persona(b"p");
-                let error = $mac::with_params(&no_key).unwrap_err();
-                assert_eq!((error.argument(), error.value()), ("key.len()", 0));
-                assert_eq!(error.bounds(), Bounds::Range { min: 1, max: $max });
-            }
-
-            #[test]
-            fn places_in_a_tree() {
-                let at = |tree| error(Params::new().tree(tree));
-                let most = u64::MAX >> (64 - $bits);
-                let all = Tree {
-                    fanout: 255,
-                    depth: 255,
-                    leaf_length: u32::MAX,
-                    node_offset: most,
-                    node_depth: 255,
-                    inner_length: $max,
-                };
-                assert_eq!(at(all), None);
-                assert_eq!(
-                    at(Tree {
-                        fanout: 0,
-                        ..Tree::default()
-                    }),
-                    None
-                );
-                let refused = text_if(true, "tree.depth", 0, "1 to 255");
-                assert_eq!(
-                    at(Tree {
-                        depth: 0,
-                        ..Tree::default()
-                    }),
-                    refused
-                );
-                assert_eq!(at(Tree { depth: 0, ..all }), refused);
-                for inner_length in $max + 1..=255 {
-                    let bounds = format!("0 to {}", $max);
-                    let refused = text_if(true, "tree.inner_length", inner_length.into(), &bounds);
-                    assert_eq!(
-                        at(Tree {
-                            inner_length,
-                            ..Tree::default()
-                        }),
-                        refused
-                    );
-                }
-                for node_offset in [u64::MAX, 1 << 48, (1 << 48) - 1] {
-                    let (is_refused, bounds) = (node_offset > most, format!("0 to {most}"));
-                    let value = node_offset as usize;
-                    let refused = text_if(is_refused, "tree.node_offset", value, &bounds);
-                    assert_eq!(at(Tree { node_offset, ..all }), refused);
-                }
             }
 
             // What several messages are refused with. Their digests then stay as they were.
@@ -203,7 +102,9 @@ macro_rules! family {
                 for count in [0, 1, 16, 17, 40] {
                     let messages = &vec![&b"x"[..]; count][..];
                     let of_one = |params| error_of_many::<1>(params, messages, count);
-                    assert_eq!(error_of_many::<$max>(new(), messages, count), None);
+                    let mut digests = vec![[0; $max]; count];
+                    $hasher::digest_many(&new(), messages, &mut digests).unwrap();
+                    assert_eq!(digests, vec![<[u8; $max]>::try_from($hasher::digest(b"x")).unwrap(); count]);
                     assert_eq!(of_one(new().output_size(1)), None);
                     for other in [count + 1, count.saturating_sub(1), count + 256] {
                         let refused =
@@ -223,42 +124,10 @@ macro_rules! family {
                     for (tree, name, value, wanted) in [
                         (Tree { fanout: 2, ..tree }, "tree.fanout", 2, "1"),
                         (Tree { depth: 3, ..tree }, "tree.depth", 3, "1"),
-                        (
-                            Tree {
-                                leaf_length: 4,
-                                ..tree
-                            },
-                            "tree.leaf_length",
-                            4,
-                            "0",
-                        ),
-                        (
-                            Tree {
-                                node_offset: 5,
-                                ..tree
-                            },
-                            "tree.node_offset",
-                            5,
-                            "0",
-                        ),
-                        (
-                            Tree {
-                                node_depth: 6,
-                                ..tree
-                            },
-                            "tree.node_depth",
-                            6,
-                            "0",
-                        ),
-                        (
-                            Tree {
-                                inner_length: 7,
-                                ..tree
-                            },
-                            "tree.inner_length",
-                            7,
-                            "0",
-                        ),
+                        (Tree { leaf_length: 4, ..tree }, "tree.leaf_length", 4, "0"),
+                        (Tree { node_offset: 5, ..tree }, "tree.node_offset", 5, "0"),
+                        (Tree { node_depth: 6, ..tree }, "tree.node_depth", 6, "0"),
+                        (Tree { inner_length: 7, ..tree }, "tree.inner_length", 7, "0"),
                     ] {
                         assert_eq!(of_one(new().tree(tree)), text_if(true, name, value, wanted));
                     }
@@ -272,27 +141,6 @@ macro_rules! family {
                     assert_eq!(of_one(new().salt(text)), refused("salt.len()"));
                     assert_eq!(of_one(new().persona(text)), refused("persona.len()"));
                 }
-            }
-
-            #[test]
-            fn flags_are_kept_and_clones_are_apart() {
-                let params = Params::new().last_node(true).key(b"key");
-                let wanted = params.$hash(b"x").unwrap();
-                let off = params.last_node(false).$hash(b"x").unwrap();
-                assert!(wanted != off && off == $mac::tag(b"key", b"x").unwrap());
-                let mut hasher = params.$make().unwrap();
-                let mut mac = $mac::with_params(&params).unwrap();
-                for _ in 0..3 {
-                    hasher.update(b"x");
-                    mac.update(b"x");
-                    hasher.clone().update(b"more");
-                    mac.clone().update(b"more");
-                    assert_eq!(hasher.finalize_reset(), wanted);
-                    assert_eq!(mac.finalize_reset(), wanted);
-                }
-                hasher.set_last_node(false);
-                assert_eq!(hasher.update(b"x").finalize_reset(), off);
-                assert_eq!(hasher.update(b"x").finalize_reset(), off);
             }
 
             // Calls that copy a state leave no copy of the key that is in it.
@@ -469,26 +317,68 @@ macro_rules! family {
     };
 }
 
-family!(
-    blake2b,
-    Blake2b,
-    Blake2bMac,
-    blake2b,
-    blake2b_hash,
-    64,
-    16,
-    64
-);
-family!(
-    blake2s,
-    Blake2s,
-    Blake2sMac,
-    blake2s,
-    blake2s_hash,
-    32,
-    8,
-    48
-);
+family!(blake2b, Blake2b, Blake2bMac, blake2b, blake2b_hash, 64, 16);
+family!(blake2s, Blake2s, Blake2sMac, blake2s, blake2s_hash, 32, 8);
+
+#[test]
+fn families_without_nodes() {
+    let errors = |params: Params| {
+        let keyed = params.key(b"k");
+        let all = [params.blake2bp().err(), params.blake2sp().err(), params.blake2xb().err(), params.blake2xs().err()];
+        let macs = [Blake2bpMac::with_params(&keyed).err(), Blake2spMac::with_params(&keyed).err()];
+        assert_eq!(macs, [all[0]; 2]);
+        all.map(|error| error.unwrap().to_string())
+    };
+    let tree = Tree { fanout: 2, ..Tree::SEQUENTIAL };
+    assert_eq!(errors(Params::new().tree(tree)), ["tree.fanout is 2, and must be 1"; 4]);
+    let tree = Tree { inner_length: 7, ..Tree::SEQUENTIAL };
+    assert_eq!(errors(Params::new().tree(tree)), ["tree.inner_length is 7, and must be 0"; 4]);
+    assert_eq!(errors(Params::new().last_node(true)), ["last_node is 1, and must be 0"; 4]);
+}
+
+#[test]
+fn nothing_is_shown() {
+    let (b, s) = (Blake2xb::new(), Blake2xs::new());
+    let shown = format!("{b:?} {s:?} {:?} {:?}", b.finalize_xof(), s.finalize_xof());
+    assert_eq!(shown, "Blake2xb { .. } Blake2xs { .. } Blake2xbReader { .. } Blake2xsReader { .. }");
+    let macs = (Blake2bpMac::new(b"secret").unwrap(), Blake2spMac::new(b"secret").unwrap());
+    let shown = format!("{:?} {:?} {macs:?}", Blake2bp::new(), Blake2sp::new());
+    assert_eq!(shown, "Blake2bp { .. } Blake2sp { .. } (Blake2bpMac { .. }, Blake2spMac { .. })");
+}
+
+macro_rules! ends_of_outputs {
+    ($test:ident, $hasher:ident, $make:ident, $most:literal, $whole:expr) => {
+        #[test]
+        fn $test() {
+            let mut reader = Params::new().output_size(9).$make().unwrap().finalize_xof();
+            reader.read(&mut [0; 5]).unwrap();
+            let mut last = [0xaa; 6];
+            assert_eq!(io::Read::read(&mut reader, &mut last).unwrap(), 4);
+            assert!(last[4..] == [0xaa; 2] && io::Read::read(&mut reader, &mut last).unwrap() == 0);
+            reader.read(&mut []).unwrap();
+            assert_eq!(reader.read(&mut [0]).unwrap_err().to_string(), "out.len() is 1, and must be 0");
+            let refused = $hasher::derive_key(b"key", b"", &mut []).unwrap_err().to_string();
+            assert_eq!(refused, concat!("out.len() is 0, and must be 1 to ", $most));
+            let refused = $hasher::derive_key(b"", b"", &mut [0; 3]).unwrap_err();
+            assert_eq!((refused.argument(), refused.value()), ("key.len()", 0));
+            assert!($hasher::derive_key(&[1; 65], b"", &mut [0; 3]).is_err());
+            let mut wanted = [0; 30];
+            let mut hasher = Params::new().key(b"key").output_size(30).$make().unwrap();
+            hasher.update(b"context").finalize_xof().read(&mut wanted).unwrap();
+            let mut derived = [0; 30];
+            $hasher::derive_key(b"key", b"context", &mut derived).unwrap();
+            assert_eq!(derived, wanted);
+            // The documentation of `new` has the same number.
+            assert_eq!($hasher::default().finalize_xof().left(), $whole);
+            let source = include_str!("../src/xof.rs");
+            let (_, rest) = source.split_once(concat!("    ", stringify!($hasher), ",\n")).unwrap();
+            let said = format!("\"{} GiB\"", $hasher::new().finalize_xof().left() >> 30);
+            assert!(rest.split_once(");").unwrap().0.contains(&said));
+        }
+    };
+}
+ends_of_outputs!(ends_of_outputs_of_blake2xb, Blake2xb, blake2xb, 4294967294u64, 64 << 32);
+ends_of_outputs!(ends_of_outputs_of_blake2xs, Blake2xs, blake2xs, 65534, 32 << 32);
 
 #[test]
 fn trees_are_written_wiped_and_shown() {

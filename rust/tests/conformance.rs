@@ -1,179 +1,177 @@
 //! Makes the calls of the conformance cases (tests/conformance/README.md) by the crate, and compares their outcomes.
 //!
-//! Of every call it also tests: a call that is refused writes nothing, a digest is the same again, of a clone, in one
-//! call and by `std::io::Write`, and a hasher under a key has the tags of its MAC.
+//! Of every call it also tests: a call that is refused writes nothing and says which argument has which value and
+//! bounds, a digest is the same again, of a clone, before a reset, in one call and by `std::io::Write`, and a hasher
+//! under a key has the tags of its MAC.
 #![cfg(feature = "std")]
 #[allow(dead_code)]
 mod common;
 
-use std::collections::{BTreeMap, HashMap};
-use std::io::Write;
-use std::path::{Path, PathBuf};
-use std::process::Command;
-use std::{env, fs};
+use common::{bytes, done, hex, run, yes_or_no, Driver, Given};
+use std::io::{Read, Write};
 use vulfsjor::*;
 
-/// What a call returns: an outcome, or None if Rust has no such call.
-type Outcome = Option<Result<String, InvalidArgument>>;
+type Outcome = common::Outcome<InvalidArgument>;
+type Made = Result<Box<dyn common::Hash<InvalidArgument>>, InvalidArgument>;
 
-const NODE: [&str; 7] = ["fanout", "depth", "leaf", "offset", "node", "inner", "last"];
 /// The names that errors have for the arguments of the cases.
 const NAMES: [(&str, &str); 14] = [
-    ("size", "output_size out.len()"), ("key", "key.len()"), ("salt", "salt.len()"), ("person", "persona.len()"),
-    ("offset", "tree.node_offset"), ("depth", "tree.depth"), ("inner", "tree.inner_length"), ("leaf", "leaf_length"),
-    ("message", "bytes.len() leaves.len() input.len()"), ("first", "first end"), ("digests", "digests.len()"),
-    ("left", "out.len()"), ("skip", "skip end"), ("state", "count()"),
+    ("size", "output_size out.len()"),
+    ("key", "key.len()"),
+    ("salt", "salt.len()"),
+    ("person", "persona.len()"),
+    ("offset", "tree.node_offset"),
+    ("depth", "tree.depth"),
+    ("inner", "tree.inner_length"),
+    ("leaf", "leaf_length"),
+    ("message", "bytes.len() leaves.len() input.len()"),
+    ("first", "first"),
+    ("digests", "digests.len()"),
+    ("left", "out.len()"),
+    ("skip", "skip"),
+    ("state", "count()"),
 ];
 
-fn hex(bytes: &[u8]) -> String {
-    let digits: String = bytes.iter().map(|byte| format!("{byte:02x}")).collect();
-    format!("= {}", if digits.is_empty() { "-" } else { &digits })
+/// The least and the most of an argument of a hash.
+fn bounds(hash: &str, argument: &str) -> Option<(u64, u64)> {
+    let is_s = hash.starts_with("blake2s") || hash == "blake2xs";
+    let (most, small) = if is_s { (32, 8) } else { (64, 16) };
+    Some(match (argument, hash) {
+        ("size", "blake2xb" | "derive") => (1, (1 << 32) - 2),
+        ("size", "blake2xs") => (1, (1 << 16) - 2),
+        ("size" | "key", _) => (1, most),
+        ("salt" | "person", _) => (0, small),
+        ("offset", _) => (0, u64::MAX >> (16 * u32::from(is_s))),
+        ("depth", _) => (1, 255),
+        ("inner", _) => (0, most),
+        ("leaf", _) => (1, u64::from(u32::MAX)),
+        _ => return None,
+    })
 }
 
-/// The bytes of a word, or None for `none`, which no argument of Rust is.
-fn bytes(word: &str) -> Option<Vec<u8>> {
-    let Some((start, end)) = word.split_once(':') else {
-        return (word != "none").then(|| common::bytes(word));
-    };
-    let places = start.parse::<usize>().unwrap()..end.parse().unwrap();
-    Some(places.map(|i| (i + (i >> 8) + (i >> 16)) as u8).collect())
+/// Writes by a call into room of this length. A call that is refused writes nothing.
+fn write(length: usize, call: impl Fn(&mut [u8]) -> Result<(), InvalidArgument>) -> Outcome {
+    let mut out = vec![0xaa; length];
+    let status = call(&mut out);
+    assert!(status.is_ok() || out.iter().all(|byte| *byte == 0xaa));
+    Some(status.map(|()| hex(&out)))
 }
 
-/// The arguments of a hash in a line.
-struct Given<'a>(HashMap<&'a str, &'a str>);
-
-impl Given<'_> {
-    fn text(&self, name: &str) -> Option<Vec<u8>> {
-        bytes(self.0.get(name).unwrap_or(&"-"))
+/// The same for the digests of leaves, which also need as much room as that.
+fn write_digests(count: usize, call: impl Fn(&mut [u8]) -> Result<(), InvalidArgument>) -> Outcome {
+    let room = 64 * count;
+    for other in [0, room.saturating_sub(64), room.saturating_sub(1), room + 1, room + 64] {
+        assert!(other == room || write(other, &call).unwrap().is_err());
     }
-
-    fn number<T: std::str::FromStr>(&self, name: &str, otherwise: T) -> Option<T> {
-        self.0.get(name).map_or(Some(otherwise), |word| word.parse().ok())
-    }
-
-    fn has(&self, name: &str) -> bool {
-        self.0.contains_key(name)
-    }
-
-    /// Calls with the parameters, if Rust has types for their values.
-    fn params<R>(&self, call: impl FnOnce(&Params) -> Option<R>) -> Option<R> {
-        let [key, salt, persona] = [self.text("key")?, self.text("salt")?, self.text("person")?];
-        let tree = Tree {
-            fanout: self.number("fanout", 1)?,
-            depth: self.number("depth", 1)?,
-            leaf_length: self.number("leaf", 0)?,
-            node_offset: self.number("offset", 0)?,
-            node_depth: self.number("node", 0)?,
-            inner_length: self.number("inner", 0)?,
-        };
-        let mut params = Params::new().salt(&salt).persona(&persona);
-        if NODE.iter().any(|name| self.has(name)) {
-            params = params.tree(tree).last_node(self.number("last", 0)? == 1);
-        }
-        if self.has("size") && self.0["size"] != "unknown" {
-            params = params.output_size(self.number("size", 0)?);
-        }
-        call(&if self.has("key") { params.key(&key) } else { params })
-    }
-
-    fn tree<R>(&self, call: impl FnOnce(&TreeParams) -> Option<R>) -> Option<R> {
-        let [salt, persona] = [self.text("salt")?, self.text("person")?];
-        let params = TreeParams::new(self.number("leaf", 0)?).salt(&salt).persona(&persona);
-        call(&params.output_size(self.number("size", 64)?))
-    }
+    write(room, call)
 }
 
-/// A hash in pieces.
-trait Hash {
-    fn update(&mut self, message: &[u8]) -> Outcome;
-    fn digest(&self) -> Outcome;
-    fn count(&self) -> u64;
-    fn copy(&self) -> Box<dyn Hash>;
-    fn reset(&mut self) -> Outcome {
-        None
-    }
-    fn last(&mut self, _on: bool) -> Outcome {
-        None
-    }
-    fn verify(&self, _tag: &[u8]) -> Outcome {
-        None
-    }
-    fn left(&self) -> Outcome {
-        None
-    }
-    fn read(&mut self, _count: u64) -> Outcome {
-        None
-    }
-    fn tree(&mut self) -> Option<&mut TreeHasher> {
-        None
-    }
-}
-
-fn done() -> Outcome {
-    Some(Ok(String::new()))
+/// A hasher, with what it was before its input, and the MAC with the same input if it has a key.
+#[derive(Clone)]
+struct Sequential<H, M> {
+    hasher: H,
+    start: H,
+    mac: Option<M>,
 }
 
 macro_rules! sequential {
-    ($hasher:ident, $mac:ident $(, $last:ident)?) => {
-        impl Hash for ($hasher, Option<$mac>) {
+    ($make:ident, $hash:ident, $hasher:ident, $mac:ident, $max:literal $(, $last:ident)?) => {
+        impl common::Hash<InvalidArgument> for Sequential<$hasher, $mac> {
             fn update(&mut self, message: &[u8]) -> Outcome {
                 let (one, other) = message.split_at(message.len() / 2);
-                self.0.update(one).write_all(other).unwrap();
-                if let Some(mac) = &mut self.1 {
-                    mac.update(message);
+                self.hasher.update(one).write_all(other).unwrap();
+                if let Some(mac) = &mut self.mac {
+                    mac.update(one).write_all(other).unwrap();
                 }
                 done()
             }
             fn digest(&self) -> Outcome {
-                let digest = self.0.finalize();
-                assert!(digest == self.0.clone().finalize() && digest == self.0.clone().finalize_reset());
-                assert!(self.1.iter().all(|mac| mac.finalize() == digest && mac.count() == self.0.count()));
+                let digest = self.hasher.finalize();
+                let (mut hasher, start) = (self.hasher.clone(), self.start.finalize());
+                assert_eq!([hasher.finalize(), hasher.finalize_reset(), hasher.finalize()], [digest, digest, start]);
+                assert_eq!(hasher.count(), 0);
+                if let Some(mut mac) = self.mac.clone() {
+                    assert_eq!(mac.count(), self.hasher.count());
+                    assert_eq!([mac.finalize(), mac.finalize_reset(), mac.finalize()], [digest, digest, start]);
+                    assert_eq!(mac.count(), 0);
+                }
                 Some(Ok(hex(digest.as_bytes())))
             }
-            fn count(&self) -> u64 {
-                self.0.count()
+            fn count(&self) -> Outcome {
+                Some(Ok(format!("= {}", self.hasher.count())))
             }
-            fn copy(&self) -> Box<dyn Hash> {
-                Box::new((self.0.clone(), self.1.clone()))
+            fn copy(&self) -> Box<dyn common::Hash<InvalidArgument>> {
+                Box::new(self.clone())
             }
             fn reset(&mut self) -> Outcome {
-                self.0.reset();
-                self.1.iter_mut().for_each(|mac| mac.reset());
+                self.hasher.reset();
+                self.mac.iter_mut().for_each(|mac| mac.reset());
                 done()
             }
             fn verify(&self, tag: &[u8]) -> Outcome {
-                let is_right = self.0.finalize() == *tag;
-                assert!(self.1.iter().all(|mac| mac.verify(tag).is_ok() == is_right));
-                Some(Ok(String::from(if is_right { "= yes" } else { "= no" })))
+                let is_right = self.hasher.finalize() == *tag;
+                let wanted = if is_right { Ok(()) } else { Err(MacError) };
+                assert!(self.mac.iter().all(|mac| mac.verify(tag) == wanted));
+                yes_or_no(is_right)
             }
             $(fn last(&mut self, on: bool) -> Outcome {
-                self.0.$last(on);
-                self.1 = None; // a MAC has no such call
+                self.hasher.$last(on);
+                self.start.$last(on);
+                self.mac = None; // a MAC has no such call
                 done()
             })?
         }
+
+        /// A hasher and its MAC, which are refused alike. A MAC has to have a key.
+        fn $make(params: &Params, has_key: bool) -> Made {
+            let made = params.$make();
+            assert_eq!($hasher::with_params(params).err(), made.as_ref().err().copied());
+            let mac = $mac::with_params(&if has_key { *params } else { params.key(b"k") });
+            assert_eq!(mac.as_ref().err(), made.as_ref().err());
+            if !has_key && made.is_ok() {
+                let error = $mac::with_params(params).unwrap_err().to_string();
+                assert_eq!(error, concat!("key.len() is 0, and must be 1 to ", $max));
+            }
+            let mac = if has_key { mac.ok() } else { None };
+            made.map(|hasher| Box::new(Sequential { start: hasher.clone(), hasher, mac }) as _)
+        }
+
+        /// The digest in one call, by each call that has the arguments.
+        fn $hash(message: &[u8], given: &Given) -> Option<Result<Digest, InvalidArgument>> {
+            let digest = given.params(|params| Some(params.$hash(message)))?;
+            if given.has("key") && given.has_only(&["key"]) {
+                let key = &given.text("key")?;
+                assert_eq!($mac::tag(key, message), digest);
+                assert_eq!($mac::new(key).map(|mut mac| mac.update(message).finalize()), digest);
+            } else if given.has_only(&["size"]) && given.number("size", $max) == Some($max) {
+                let by_default = $hasher::default().update(message).finalize();
+                assert_eq!([Ok($hasher::digest(message)), Ok(by_default)], [digest; 2]);
+                assert_eq!(Ok($hasher::new().update(message).finalize()), digest);
+            }
+            Some(digest)
+        }
     };
 }
-sequential!(Blake2b, Blake2bMac, set_last_node);
-sequential!(Blake2s, Blake2sMac, set_last_node);
-sequential!(Blake2bp, Blake2bpMac);
-sequential!(Blake2sp, Blake2spMac);
+sequential!(blake2b, blake2b_hash, Blake2b, Blake2bMac, 64, set_last_node);
+sequential!(blake2s, blake2s_hash, Blake2s, Blake2sMac, 32, set_last_node);
+sequential!(blake2bp, blake2bp_hash, Blake2bp, Blake2bpMac, 64);
+sequential!(blake2sp, blake2sp_hash, Blake2sp, Blake2spMac, 32);
 
 macro_rules! output {
     ($hasher:ident, $reader:ident) => {
-        impl Hash for ($hasher, Option<$reader>) {
+        impl common::Hash<InvalidArgument> for ($hasher, Option<$reader>) {
             fn update(&mut self, message: &[u8]) -> Outcome {
-                let is_read = self.1.is_some(); // the hasher absorbs more even so
-                self.0.update(message);
-                if is_read { None } else { done() }
+                if self.1.is_some() {
+                    return None; // the hasher absorbs more even so
+                }
+                let (one, other) = message.split_at(message.len() / 2);
+                self.0.update(one).write_all(other).unwrap();
+                done()
             }
-            fn digest(&self) -> Outcome {
-                None
+            fn count(&self) -> Outcome {
+                Some(Ok(format!("= {}", self.0.count())))
             }
-            fn count(&self) -> u64 {
-                self.0.count()
-            }
-            fn copy(&self) -> Box<dyn Hash> {
+            fn copy(&self) -> Box<dyn common::Hash<InvalidArgument>> {
                 Box::new((self.0.clone(), self.1.clone()))
             }
             fn reset(&mut self) -> Outcome {
@@ -186,13 +184,23 @@ macro_rules! output {
                 Some(Ok(format!("= {left}")))
             }
             fn read(&mut self, count: u64) -> Outcome {
-                let is_read = self.1.is_some();
-                let mut reader = self.1.take().unwrap_or_else(|| self.0.finalize_xof());
-                let mut out = vec![0xaa; count.min(reader.left() + 1).min(1 << 20) as usize];
-                let status = reader.read(&mut out);
-                assert!(status.is_ok() || out.iter().all(|byte| *byte == 0xaa));
-                self.1 = (is_read || status.is_ok()).then(|| reader);
-                (out.len() as u64 == count || status.is_err()).then(|| status.map(|()| hex(&out)))
+                let mut reader = self.1.clone().unwrap_or_else(|| self.0.finalize_xof());
+                let (left, mut by_trait) = (reader.left(), Vec::new());
+                if count > left.min(1 << 20) + 1 {
+                    return None; // not for want of memory
+                }
+                let mut out = vec![0xaa; count as usize];
+                Read::take(reader.clone(), count).read_to_end(&mut by_trait).unwrap();
+                if let Err(error) = reader.read(&mut out) {
+                    assert_eq!((error.argument(), error.value()), ("out.len()", count));
+                    assert_eq!(error.bounds(), Bounds::Range { min: 0, max: left });
+                    assert!(out.iter().all(|byte| *byte == 0xaa) && reader.left() == left);
+                    assert_eq!(by_trait.len() as u64, left);
+                    return Some(Err(error));
+                }
+                assert!(by_trait == out && reader.left() == left - count);
+                self.1 = Some(reader);
+                Some(Ok(hex(&out)))
             }
         }
     };
@@ -200,214 +208,188 @@ macro_rules! output {
 output!(Blake2xb, Blake2xbReader);
 output!(Blake2xs, Blake2xsReader);
 
-impl Hash for TreeHasher {
+impl common::Hash<InvalidArgument> for TreeHasher {
     fn update(&mut self, message: &[u8]) -> Outcome {
-        TreeHasher::update(self, message);
+        let (one, other) = message.split_at(message.len() / 2);
+        TreeHasher::update(self, one).write_all(other).unwrap();
         done()
     }
     fn digest(&self) -> Outcome {
         assert_eq!(self.finalize(), self.clone().finalize());
         Some(Ok(hex(self.finalize().as_bytes())))
     }
-    fn count(&self) -> u64 {
-        TreeHasher::count(self)
+    fn count(&self) -> Outcome {
+        Some(Ok(format!("= {}", TreeHasher::count(self))))
     }
-    fn copy(&self) -> Box<dyn Hash> {
+    fn copy(&self) -> Box<dyn common::Hash<InvalidArgument>> {
         Box::new(self.clone())
     }
-    fn tree(&mut self) -> Option<&mut TreeHasher> {
-        Some(self)
+    fn next(&self, skip: u64, leaves: &[u8]) -> Outcome {
+        let count = leaves.len() / self.leaf_length() as usize;
+        write_digests(count, |out| self.leaves_ahead(skip, leaves, out))
+    }
+    fn absorb(&mut self, leaves: &[u8], message: &[u8]) -> Outcome {
+        let (leaf_length, count) = (self.leaf_length() as usize, TreeHasher::count(self));
+        let mut digests = vec![0; leaves.len() / leaf_length * 64];
+        let next = if leaves.is_empty() { Ok(()) } else { self.leaves_ahead(0, leaves, &mut digests) };
+        let all = (leaves.len() + message.len()) as u64;
+        let absorbed = next.and_then(|()| self.update_leaves(&digests, message).map(|_| String::new()));
+        assert_eq!(TreeHasher::count(self), count + if absorbed.is_ok() { all } else { 0 });
+        Some(absorbed)
     }
 }
 
-fn new(name: &str, given: &Given) -> Option<Result<Box<dyn Hash>, InvalidArgument>> {
-    macro_rules! with_mac {
-        ($params:ident, $make:ident, $mac:ident) => {
-            $params.$make().map(|hasher| Box::new((hasher, $mac::with_params($params).ok())) as Box<dyn Hash>)
+/// Calls with the parameters of a tree, if Rust has types for their values.
+fn tree<R>(given: &Given, call: impl FnOnce(&TreeParams) -> Option<R>) -> Option<R> {
+    let [salt, persona] = [given.text("salt")?, given.text("person")?];
+    let params = TreeParams::new(given.number("leaf", 0)?).salt(&salt).persona(&persona);
+    if given.has("size") {
+        return call(&params.output_size(given.number("size", 0)?));
+    }
+    call(&params)
+}
+
+/// Several messages, into arrays of this length: the parameters need not have it too.
+fn many<const N: usize>(name: &str, messages: &[Vec<u8>], given: &Given) -> Outcome {
+    let mut digests = vec![[0xaa; N]; messages.len()];
+    let mut of = |params: &Params| match name {
+        "blake2b" => Blake2b::digest_many(params, messages, &mut digests),
+        _ => Blake2s::digest_many(params, messages, &mut digests),
+    };
+    let status = given.params(|params| {
+        let status = of(params);
+        assert_eq!(of(&params.output_size(N)), status);
+        Some(status)
+    })?;
+    assert!(status.is_ok() || digests.iter().all(|digest| *digest == [0xaa; N]));
+    Some(status.map(|()| hex(&digests.concat())))
+}
+
+struct Crate;
+
+impl Driver for Crate {
+    type Error = InvalidArgument;
+
+    fn make(&self, name: &str, given: &Given) -> Option<Made> {
+        let has_key = given.has("key");
+        if name == "tree" {
+            return tree(given, |params| Some(params.hasher().map(|hasher| Box::new(hasher) as _)));
+        }
+        given.params(|params| Some(match name {
+            "blake2b" => blake2b(params, has_key),
+            "blake2s" => blake2s(params, has_key),
+            "blake2bp" => blake2bp(params, has_key),
+            "blake2sp" => blake2sp(params, has_key),
+            "blake2xb" => params.blake2xb().map(|hasher| Box::new((hasher, None)) as _),
+            _ => params.blake2xs().map(|hasher| Box::new((hasher, None)) as _),
+        }))
+    }
+
+    fn call(&self, call: &[&str], given: &Given) -> Outcome {
+        match call[0] {
+            "hash" => hash(call[1], &bytes(call[2])?, given),
+            "many" => {
+                let messages: Option<Vec<_>> = call[2..].iter().map(|word| bytes(word)).collect();
+                match given.number("size", if call[1] == "blake2b" { 64 } else { 32 })? {
+                    0 => many::<0>(call[1], &messages?, given),
+                    1 => many::<1>(call[1], &messages?, given),
+                    2 => many::<2>(call[1], &messages?, given),
+                    4 => many::<4>(call[1], &messages?, given),
+                    8 => many::<8>(call[1], &messages?, given),
+                    20 => many::<20>(call[1], &messages?, given),
+                    32 => many::<32>(call[1], &messages?, given),
+                    33 => many::<33>(call[1], &messages?, given),
+                    64 => many::<64>(call[1], &messages?, given),
+                    65 => many::<65>(call[1], &messages?, given),
+                    _ => None,
+                }
+            }
+            "equal" => {
+                let (one, other) = (Digest::try_from(&bytes(call[1])?[..]).ok()?, bytes(call[2])?);
+                let is_equal = one == other;
+                assert!((other == one) == is_equal && (one == &other[..]) == is_equal);
+                assert!((one == other[..]) == is_equal);
+                assert!((other[..] == one) == is_equal && (&other[..] == one) == is_equal);
+                assert!(Digest::try_from(&other[..]).map_or(true, |other| (one == other) == is_equal));
+                yes_or_no(is_equal)
+            }
+            "derive" => {
+                let (context, key, size) = (bytes(call[1])?, given.text("key")?, given.number("size", 0)?);
+                (size < 1 << 20).then(|| write(size, |out| Blake2xb::derive_key(&key, &context, out)))?
+            }
+            "leaves" => tree(given, |params| {
+                let (message, first) = (bytes(call[1])?, call[2].parse().ok()?);
+                let count = params.leaf_count(message.len() as u64) as usize;
+                write_digests(count, |out| params.leaves(&message, first, call[3] == "1", out))
+            }),
+            _ => tree(given, |params| Some(params.root_of_leaves(&bytes(call[1])?).map(|root| hex(root.as_bytes())))),
+        }
+    }
+
+    fn is_error(&self, error: &InvalidArgument, argument: &str, call: &[&str], given: &Given) -> bool {
+        let names = NAMES.iter().find(|(name, _)| *name == argument).unwrap().1;
+        if !names.split(' ').any(|name| error.argument() == name) {
+            return false;
+        }
+        let hash = match call[0] {
+            "new" => call[2],
+            "hash" | "many" => call[1],
+            other => other,
         };
+        if let Some((least, most)) = bounds(hash, argument) {
+            let said = format!("{} is {}, and must be {least} to {most}", error.argument(), given.value(argument));
+            assert_eq!(error.to_string(), said);
+            assert_eq!(error.bounds(), Bounds::Range { min: least, max: most });
+        }
+        true
     }
-    if name == "tree" {
-        return given.tree(|params| Some(params.hasher().map(|hasher| Box::new(hasher) as Box<dyn Hash>)));
-    }
-    given.params(|params| Some(match name {
-        "blake2b" => with_mac!(params, blake2b, Blake2bMac),
-        "blake2s" => with_mac!(params, blake2s, Blake2sMac),
-        "blake2bp" => with_mac!(params, blake2bp, Blake2bpMac),
-        "blake2sp" => with_mac!(params, blake2sp, Blake2spMac),
-        "blake2xb" => params.blake2xb().map(|hasher| Box::new((hasher, None)) as Box<dyn Hash>),
-        _ => params.blake2xs().map(|hasher| Box::new((hasher, None)) as Box<dyn Hash>),
-    }))
 }
 
 /// A hash in one call and in pieces.
 fn hash(name: &str, message: &[u8], given: &Given) -> Outcome {
-    let by_run = match new(name, given)? {
+    let by_run = match Crate.make(name, given)? {
         Ok(mut run) => {
             message.chunks(1 + message.len() / 3).try_for_each(|piece| run.update(piece).map(drop))?;
             if name.contains('x') { run.read(given.number("size", 0)?)? } else { run.digest()? }
         }
         Err(error) => Err(error),
     };
-    let digest = |digest: Result<Digest, _>| Some(digest.map(|digest| hex(digest.as_bytes())));
     let in_one = match name {
-        "blake2b" => given.params(|params| digest(params.blake2b_hash(message))),
-        "blake2s" => given.params(|params| digest(params.blake2s_hash(message))),
-        "blake2bp" => given.params(|params| digest(params.blake2bp_hash(message))),
-        "blake2sp" => given.params(|params| digest(params.blake2sp_hash(message))),
-        "tree" => given.tree(|params| digest(params.root_threads(message, 2).and(params.root(message)))),
-        _ => Some(by_run.clone()),
+        "blake2b" => blake2b_hash(message, given)?,
+        "blake2s" => blake2s_hash(message, given)?,
+        "blake2bp" => blake2bp_hash(message, given)?,
+        "blake2sp" => blake2sp_hash(message, given)?,
+        "tree" => tree(given, |params| {
+            let root = params.root(message);
+            assert_eq!(params.root_threads(message, 2), root);
+            Some(root)
+        })?,
+        _ => return Some(by_run),
     };
-    assert_eq!(in_one, Some(by_run));
-    in_one
+    let in_one = in_one.map(|digest| hex(digest.as_bytes()));
+    assert_eq!(in_one, by_run);
+    Some(in_one)
 }
-
-fn many(name: &str, messages: &[Vec<u8>], given: &Given) -> Outcome {
-    fn of<const N: usize>(name: &str, messages: &[Vec<u8>], given: &Given) -> Outcome {
-        let mut digests = vec![[0xaa; N]; messages.len()];
-        let status = given.params(|params| Some(match name {
-            "blake2b" => Blake2b::digest_many(params, messages, &mut digests),
-            _ => Blake2s::digest_many(params, messages, &mut digests),
-        }))?;
-        assert!(status.is_ok() || digests.iter().all(|digest| *digest == [0xaa; N]));
-        Some(status.map(|()| hex(&digests.concat())))
-    }
-    match given.number("size", if name == "blake2b" { 64 } else { 32 })? {
-        1 => of::<1>(name, messages, given),
-        2 => of::<2>(name, messages, given),
-        4 => of::<4>(name, messages, given),
-        8 => of::<8>(name, messages, given),
-        20 => of::<20>(name, messages, given),
-        64 => of::<64>(name, messages, given),
-        _ => of::<32>(name, messages, given),
-    }
-}
-
-/// The outcome of a call of a case with these runs, or None if Rust has not this call.
-fn outcome(runs: &mut HashMap<String, Box<dyn Hash>>, call: &[&str], given: &Given) -> Outcome {
-    let write = |count: usize, call: &dyn Fn(&mut [u8]) -> Result<(), InvalidArgument>| {
-        let mut out = vec![0xaa; count];
-        let status = call(&mut out);
-        assert!(status.is_ok() || out.iter().all(|byte| *byte == 0xaa));
-        Some(status.map(|()| hex(&out)))
-    };
-    match call[0] {
-        "new" => {
-            runs.remove(call[1]);
-            return Some(new(call[2], given)?.map(|run| drop(runs.insert(call[1].into(), run))).map(|()| String::new()));
-        }
-        "hash" => return hash(call[1], &bytes(call[2])?, given),
-        "many" => {
-            let messages: Option<Vec<_>> = call[2..].iter().map(|word| bytes(word)).collect();
-            return many(call[1], &messages?, given);
-        }
-        "derive" => {
-            let (context, key) = (bytes(call[1])?, given.text("key")?);
-            let count = given.number("size", 0)?;
-            return if count >= 1 << 20 { None } else { write(count, &|out| Blake2xb::derive_key(&key, &context, out)) };
-        }
-        "leaves" => return given.tree(|params| {
-            let (message, first) = (bytes(call[1])?, call[2].parse().ok()?);
-            let count = 64 * params.leaf_count(message.len() as u64) as usize;
-            write(count, &|out| params.leaves(&message, first, call[3] == "1", out))
-        }),
-        "top" => return given.tree(|params| {
-            Some(params.root_of_leaves(&bytes(call[1])?).map(|root| hex(root.as_bytes())))
-        }),
-        "wipe" => {
-            runs.remove(call[1]);
-            return done();
-        }
-        _ => {}
-    }
-    let run = runs.get_mut(call[1])?;
-    match call[0] {
-        "update" => run.update(&bytes(call[2])?),
-        "copy" => {
-            let copy = run.copy();
-            runs.insert(call[2].into(), copy);
-            done()
-        }
-        "reset" => run.reset(),
-        "last" => run.last(call[2] == "1"),
-        "count" => Some(Ok(format!("= {}", run.count()))),
-        "left" => run.left(),
-        "read" => run.read(call[2].parse().unwrap()),
-        "digest" => runs.remove(call[1])?.digest(),
-        "verify" => {
-            let tag = bytes(call[2])?;
-            runs.remove(call[1])?.verify(&tag)
-        }
-        "next" => {
-            let (hasher, leaves) = (run.tree()?, bytes(call[3])?);
-            let count = leaves.len() / hasher.leaf_length() as usize * 64;
-            write(count, &|out| hasher.leaves_ahead(call[2].parse().unwrap(), &leaves, out))
-        }
-        "absorb" => {
-            let (hasher, leaves, message) = (run.tree()?, bytes(call[2])?, bytes(call[3])?);
-            let mut digests = vec![0; leaves.len() / hasher.leaf_length() as usize * 64];
-            let next = if leaves.is_empty() { Ok(()) } else { hasher.leaves_ahead(0, &leaves, &mut digests) };
-            Some(next.and_then(|()| hasher.update_leaves(&digests, message).map(|_| String::new())))
-        }
-        _ => None,
-    }
-}
-
-fn is_outcome(got: &Result<String, InvalidArgument>, wanted: &str) -> bool {
-    match got {
-        Ok(text) => text == wanted,
-        Err(error) => wanted.strip_prefix("! ").map_or(false, |names| names.split(',').any(|name| {
-            NAMES.iter().any(|(of, said)| *of == name && said.split(' ').any(|each| error.argument().contains(each)))
-        })),
-    }
-}
-
-/// The folder of the cases, which Python writes unless VULFSJOR_CONFORMANCE names it.
-fn folder() -> PathBuf {
-    if let Some(folder) = env::var_os("VULFSJOR_CONFORMANCE") {
-        return folder.into();
-    }
-    let folder = Path::new(env!("CARGO_TARGET_TMPDIR")).join("conformance");
-    let script = Path::new(env!("CARGO_MANIFEST_DIR")).join("tests/conformance/write.py");
-    fs::create_dir_all(&folder).unwrap();
-    assert!(Command::new("python3").arg(script).arg(&folder).status().expect("python3").success());
-    folder
-}
-
-/// How many cases end early, by the call that Rust does not have, or not with these values.
-const SKIPPED: [(&str, i32); 12] = [
-    ("derive", 5), ("equal", 426), ("hash", 284), ("leaves", 4), ("many", 40), ("new", 277), ("next", 1), ("read", 4),
-    ("reset", 83), ("top", 4), ("update", 504), ("verify", 119),
-];
 
 #[test]
 fn cases() {
-    let (folder, mut calls, mut skipped) = (folder(), 0, BTreeMap::new());
-    for hash in ["blake2b", "blake2s", "blake2bp", "blake2sp", "blake2xb", "blake2xs", "tree"] {
-        let (mut name, mut runs, mut goes_on) = ("", HashMap::new(), true);
-        let text = fs::read_to_string(folder.join(format!("{hash}.txt"))).unwrap();
-        for line in text.lines().filter(|line| !line.is_empty() && !line.starts_with('#')) {
-            if let Some(case) = line.strip_prefix("case ") {
-                (name, goes_on) = (case, true);
-                runs.clear();
-                continue;
-            }
-            let end = line.find(" = ").or_else(|| line.find(" ! ")).unwrap_or(line.len());
-            let (call, wanted) = (&line[..end], line[end..].trim_start());
-            let words = call.split(' ').filter(|word| !word.contains('='));
-            let given = Given(call.split(' ').filter_map(|word| word.split_once('=')).collect());
-            if !goes_on || wanted == "! state" && words.clone().nth(1).map_or(false, |slot| !runs.contains_key(slot)) {
-                continue;
-            }
-            match outcome(&mut runs, &words.collect::<Vec<_>>(), &given) {
-                Some(got) => assert!(is_outcome(&got, wanted), "{name}: {:.200}\n  gives {:?}", line, got),
-                None => {
-                    *skipped.entry(call.split(' ').next().unwrap().to_string()).or_insert(0) += 1;
-                    goes_on = false;
-                }
-            }
-            calls += 1;
+    let names = ["blake2b", "blake2s", "blake2bp", "blake2sp", "blake2xb", "blake2xs", "tree"];
+    run(&Crate, &names, (53187, &[("equal", 25), ("reset", 83), ("verify", 107)]));
+}
+
+#[test]
+fn the_authors_vectors() {
+    for name in ["blake2xb", "blake2xs"] {
+        let Some(lines) = common::authors_lines(&name[7..]) else {
+            eprintln!("skipped: no golang-golang-x-crypto-dev");
+            return;
+        };
+        assert_eq!(lines.len(), 256);
+        for fields in lines {
+            let [key, message, wanted] = [1, 4, 5].map(|field| &fields[field]);
+            let call = format!("size={} key={key}", wanted.len() / 2);
+            let got = hash(name, &bytes(message).unwrap(), &Given::of(&call));
+            assert_eq!(got, Some(Ok(format!("= {wanted}"))));
         }
     }
-    assert_eq!(calls, 52_959);
-    assert!(skipped.iter().map(|(call, cases)| (call.as_str(), *cases)).eq(SKIPPED), "{skipped:?}");
 }

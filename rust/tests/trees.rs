@@ -1,4 +1,4 @@
-//! The tree in parts and by threads, compared with hashlib, and all that is refused.
+//! The tree by threads, compared with hashlib, and what errors of trees say.
 #![cfg(feature = "std")]
 #[allow(dead_code)]
 mod common;
@@ -7,93 +7,6 @@ use common::{bytes, lines};
 use std::env;
 use std::process::Command;
 use vulfsjor::*;
-
-// A range of leaves, their digests and the root over those.
-struct Range {
-    leaf: u32,
-    first: u64,
-    ends: bool,
-    salt: Vec<u8>,
-    persona: Vec<u8>,
-    bytes: Vec<u8>,
-    digests: Vec<u8>,
-    root: Vec<u8>,
-}
-
-fn ranges() -> Vec<Range> {
-    let range = |fields: &Vec<String>| {
-        let [salt, persona, bytes, digests, root] = [3, 4, 5, 6, 8].map(|i| bytes(&fields[i]));
-        Range {
-            leaf: fields[0].parse().unwrap(),
-            first: fields[1].parse().unwrap(),
-            ends: fields[2] == "1",
-            salt,
-            persona,
-            bytes,
-            digests,
-            root,
-        }
-    };
-    lines("b", "l").iter().map(range).collect()
-}
-
-impl Range {
-    fn params(&self) -> TreeParams<'_> {
-        let params = TreeParams::new(self.leaf)
-            .salt(&self.salt)
-            .persona(&self.persona);
-        params.output_size(self.root.len())
-    }
-
-    fn hash(&self, out: &mut [u8]) -> Result<(), InvalidArgument> {
-        self.params()
-            .leaves(&self.bytes, self.first, self.ends, out)
-    }
-
-    // Refused, with nothing written, for room of this length.
-    fn is_refused(&self, room: usize) -> bool {
-        let mut out = vec![7; room];
-        self.hash(&mut out).is_err() && out.iter().all(|byte| *byte == 7)
-    }
-
-    // What it is refused with, for room of this length.
-    fn error(&self, room: usize) -> String {
-        assert!(self.is_refused(room));
-        self.hash(&mut vec![0; room]).unwrap_err().to_string()
-    }
-
-    fn hasher(&self) -> TreeHasher {
-        self.params().hasher().unwrap()
-    }
-}
-
-#[test]
-fn ranges_are_those_of_hashlib() {
-    let ranges = ranges();
-    assert_eq!(ranges.len(), 1268);
-    for range in &ranges {
-        let count = range.params().leaf_count(range.bytes.len() as u64) as usize;
-        assert_eq!(64 * count, range.digests.len());
-        let mut out = vec![0; 64 * count];
-        assert_eq!(range.hash(&mut out), Ok(()));
-        assert_eq!(out, range.digests);
-        assert_eq!(range.params().root_of_leaves(&out).unwrap(), range.root);
-        let is_last = range.first == (1 << 58) / u64::from(range.leaf);
-        if !range.ends && !is_last {
-            let mut next = vec![0; 64 * count];
-            let hasher = range.hasher();
-            assert_eq!(
-                hasher.leaves_ahead(range.first, &range.bytes, &mut next),
-                Ok(())
-            );
-            assert_eq!(next, range.digests);
-        }
-        if range.first == 0 && range.ends {
-            let message = &range.bytes;
-            assert_eq!(range.hasher().update(message).finalize(), range.root);
-        }
-    }
-}
 
 #[test]
 fn leaf_counts() {
@@ -115,104 +28,6 @@ fn leaf_counts() {
         [0, 1, u64::MAX].map(|length| TreeParams::new(0).leaf_count(length)),
         [0; 3]
     );
-}
-
-#[test]
-fn ranges_are_refused() {
-    for range in ranges().into_iter().step_by(7) {
-        let room = range.digests.len();
-        for other in [0, 1, 63, room - 64, room - 1, room + 1, room + 64] {
-            assert_eq!(range.is_refused(other), other != room);
-        }
-        for long in [vec![0; 17], vec![0; 1 << 16]] {
-            assert!(Range {
-                salt: long.clone(),
-                ..Range::like(&range)
-            }
-            .is_refused(room));
-            assert!(Range {
-                persona: long,
-                ..Range::like(&range)
-            }
-            .is_refused(room));
-        }
-        for room in [0, 64, room] {
-            assert!(Range {
-                leaf: 0,
-                ..Range::like(&range)
-            }
-            .is_refused(room));
-        }
-        if range.leaf > 1 && range.bytes.len() > 1 {
-            let bytes = range.bytes[1..].to_vec();
-            let room = (bytes.len() + range.leaf as usize - 1) / range.leaf as usize * 64;
-            let shorter = Range {
-                bytes,
-                ends: false,
-                ..Range::like(&range)
-            };
-            let is_whole = shorter.bytes.len() % range.leaf as usize == 0;
-            assert_eq!(shorter.is_refused(room), !is_whole);
-        }
-    }
-}
-
-impl Range {
-    // The same range again.
-    fn like(other: &Range) -> Range {
-        Range {
-            salt: other.salt.clone(),
-            persona: other.persona.clone(),
-            bytes: other.bytes.clone(),
-            digests: other.digests.clone(),
-            root: other.root.clone(),
-            ..*other
-        }
-    }
-
-    // A range of zeros.
-    fn of(leaf: u32, first: u64, ends: bool, length: usize) -> Range {
-        let none = Vec::new;
-        let (salt, persona, digests, root) = (none(), none(), none(), none());
-        let bytes = vec![0; length];
-        Range {
-            leaf,
-            first,
-            ends,
-            salt,
-            persona,
-            bytes,
-            digests,
-            root,
-        }
-    }
-}
-
-#[test]
-fn empty_ranges_and_those_too_far() {
-    assert!(!Range::of(9, 0, true, 0).is_refused(64));
-    for (first, ends) in [
-        (0, false),
-        (1, true),
-        (1, false),
-        (1 << 40, true),
-        (u64::MAX, true),
-    ] {
-        for room in [0, 64] {
-            assert!(Range::of(9, first, ends, 0).is_refused(room));
-        }
-    }
-    let last = (1 << 58) - 1;
-    assert!(!Range::of(1, last - 1, true, 1).is_refused(64));
-    assert!(Range::of(1, last, true, 1).is_refused(64));
-    assert!(!Range::of(1, last - 1, false, 1).is_refused(64));
-    assert!(Range::of(1, last - 1, false, 2).is_refused(128));
-    assert!(!Range::of(1 << 10, (1 << 48) - 1, true, 1023).is_refused(64));
-    assert!(Range::of(1 << 10, (1 << 48) - 1, true, 1024).is_refused(64));
-    for first in [1 << 58, 1 << 63, u64::MAX] {
-        assert!(Range::of(1, first, true, 1).is_refused(64));
-        assert!(Range::of(1 << 31, first, true, 1).is_refused(64));
-    }
 }
 
 // Checks that a call with wrong parameters of a tree is refused, with the name, the value and the
@@ -276,34 +91,24 @@ fn roots_of_leaves_are_refused() {
 #[test]
 fn errors_of_ranges() {
     let most = (1u64 << 58) - 1;
-    let of = Range::of;
+    let of = |leaf, first, ends, length, room| {
+        let error = TreeParams::new(leaf).leaves(&vec![0; length], first, ends, &mut vec![0; room]);
+        error.unwrap_err().to_string()
+    };
     let said = "bytes.len() is 8, and must be a positive multiple of 9";
-    assert_eq!(of(9, 0, false, 8).error(64), said);
+    assert_eq!(of(9, 0, false, 8, 64), said);
     let said = "bytes.len() is 0, and must be a positive multiple of 9";
-    assert_eq!(of(9, 0, false, 0).error(64), said);
+    assert_eq!(of(9, 0, false, 0, 64), said);
     let said = "digests.len() is 65, and must be 192";
-    assert_eq!(of(9, 0, true, 20).error(65), said);
+    assert_eq!(of(9, 0, true, 20, 65), said);
     let said = format!("first is {most}, and must be 0 to {}", most - 1);
-    assert_eq!(of(1, most, true, 1).error(64), said);
-    assert_eq!(of(1, most, true, 0).error(64), said);
+    assert_eq!(of(1, most, true, 1, 64), said);
+    assert_eq!(of(1, most, true, 0, 64), said);
     let said = format!("first is {}, and must be 0 to {}", u64::MAX, most / 9);
-    assert_eq!(of(9, u64::MAX, true, 1).error(64), said);
+    assert_eq!(of(9, u64::MAX, true, 1, 64), said);
     let said = format!("bytes.len() is 0, and must be 1 to {}", most - 9);
-    assert_eq!(of(9, 1, true, 0).error(64), said);
-    assert_eq!(
-        of(0, 1, true, 0).error(64),
-        "leaf_length is 0, and must be 1 to 4294967295"
-    );
-    let long = Range {
-        salt: vec![0; 17],
-        ..of(9, 0, true, 9)
-    };
-    assert_eq!(long.error(64), "salt.len() is 17, and must be 0 to 16");
-    let long = Range {
-        persona: vec![0; 256],
-        ..of(9, 0, true, 9)
-    };
-    assert_eq!(long.error(64), "persona.len() is 256, and must be 0 to 16");
+    assert_eq!(of(9, 1, true, 0, 64), said);
+    assert_eq!(of(0, 1, true, 0, 64), "leaf_length is 0, and must be 1 to 4294967295");
 }
 
 #[test]
@@ -336,106 +141,12 @@ fn errors_of_hashers() {
         (1u64 << 58) - 1 - 200
     );
     assert_eq!(update(&mut hasher, 128, 0), said);
+    assert_eq!(hasher.update_leaves(b"", b"").unwrap().count(), 0);
     hasher.update([0; 101]);
+    assert_eq!(hasher.update_leaves(b"", b"").unwrap().count(), 101);
     let said = "count() is 101, and must be a multiple of 100";
     assert_eq!(next(&hasher, 0, 100, 64), said);
     assert_eq!(update(&mut hasher, 64, 1), said);
-}
-
-fn params() -> TreeParams<'static> {
-    TreeParams::new(100).salt(b"salt").persona(b"persona")
-}
-
-// A hasher that absorbs this number of bytes of the message before the leaves, by their digests.
-fn with_leaves(message: &[u8], before: usize, leaves: usize) -> TreeHasher {
-    let mut hasher = params().hasher().unwrap();
-    hasher.update(&message[..before]);
-    let end = before + 100 * leaves;
-    let mut digests = vec![0; 64 * leaves];
-    for (i, out) in digests.chunks_mut(128).enumerate().rev() {
-        let start = before + 200 * i;
-        let part = &message[start..end.min(start + 200)];
-        assert_eq!(hasher.leaves_ahead(2 * i as u64, part, out), Ok(()));
-    }
-    assert_eq!(hasher.count(), before as u64);
-    let rest = &message[end..end + 1];
-    assert_eq!(
-        hasher.update_leaves(&digests, rest).unwrap().count(),
-        end as u64 + 1
-    );
-    hasher.update(&message[end + 1..]);
-    hasher
-}
-
-#[test]
-fn leaves_by_their_digests() {
-    let message: Vec<u8> = (0..2000u32).map(|i| (i * i % 253) as u8).collect();
-    let wanted = params().root(&message);
-    for before in [0, 1, 2, 7] {
-        for leaves in [0, 1, 2, 3, 4, 5, 8, 9, 12] {
-            let hasher = with_leaves(&message, 100 * before, leaves);
-            assert_eq!((hasher.leaf_length(), hasher.count()), (100, 2000));
-            assert_eq!(Ok(hasher.finalize()), wanted);
-        }
-    }
-}
-
-#[test]
-fn leaves_by_their_digests_are_refused() {
-    let mut digests = [7; 128];
-    for (count, at_boundary) in [
-        (0, true),
-        (1, false),
-        (99, false),
-        (100, true),
-        (101, false),
-    ] {
-        let mut hasher = params().hasher().unwrap();
-        hasher.update(vec![1; count]);
-        let before = hasher.finalize();
-        for (length, room) in [
-            (0, 0),
-            (0, 64),
-            (100, 63),
-            (100, 65),
-            (100, 128),
-            (99, 64),
-            (101, 64),
-        ] {
-            let leaves = vec![0; length];
-            assert!(hasher
-                .leaves_ahead(0, &leaves, &mut digests[..room])
-                .is_err());
-        }
-        for (skip, is_taken) in [
-            (0, true),
-            (1 << 50, true),
-            (1 << 52, false),
-            (u64::MAX, false),
-        ] {
-            let hashed = hasher.leaves_ahead(skip, &[0; 100], &mut [0; 64]);
-            assert_eq!(hashed.is_ok(), is_taken && at_boundary);
-        }
-        assert_eq!(digests, [7; 128]);
-        for length in [1, 63, 65, 127] {
-            assert!(hasher.update_leaves(&digests[..length], b"x").is_err());
-        }
-        for length in [64, 128] {
-            assert!(hasher.update_leaves(&digests[..length], b"").is_err());
-            let taken = hasher
-                .clone()
-                .update_leaves(&digests[..length], b"x")
-                .is_ok();
-            assert_eq!(taken, at_boundary);
-        }
-        assert_eq!(
-            hasher.update_leaves(b"", b"").unwrap().count(),
-            count as u64
-        );
-        assert_eq!(hasher.finalize(), before);
-        let more = hasher.update_leaves(b"", b"xyz").unwrap();
-        assert_eq!(more.count(), count as u64 + 3);
-    }
 }
 
 // The length of the leaves, a message, the salt, the persona and the root.
@@ -443,7 +154,7 @@ type Long = (u32, Vec<u8>, Vec<u8>, Vec<u8>, Vec<u8>);
 
 fn long_messages() -> Vec<Long> {
     let message = |fields: &Vec<String>| {
-        let [salt, persona, root] = [2, 3, 5].map(|i| bytes(&fields[i]));
+        let [salt, persona, root] = [2, 3, 5].map(|i| bytes(&fields[i]).unwrap());
         let length: usize = fields[1].parse().unwrap();
         let message = (0..length)
             .map(|i| (i + i / 256 + i / 65536) as u8)

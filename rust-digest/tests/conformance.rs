@@ -1,0 +1,237 @@
+//! Makes the calls of the conformance cases (tests/conformance/README.md) by generic code over the traits of `digest`,
+//! and compares their outcomes. Of every digest, tag and output it tests each way that these traits have.
+#![cfg(feature = "std")]
+#[allow(dead_code)]
+#[path = "../../rust/tests/common/mod.rs"]
+mod common;
+
+use common::{bytes, done, hex, run, yes_or_no, Driver, Given, Hash};
+use digest::consts::{U1, U16, U20, U28, U32, U48, U63, U64};
+use digest::{
+    Digest, ExtendableOutput, ExtendableOutputReset, FixedOutput, FixedOutputReset, Mac, Output, Reset, Update,
+    VariableOutput, VariableOutputReset, XofReader,
+};
+use std::io::{Read, Write};
+use vulfsjor_digest::*;
+
+// An error of these traits does not name the argument.
+type Outcome = common::Outcome<()>;
+type Made = Option<Result<Box<dyn Hash<()>>, ()>>;
+
+/// Absorbs a message in two pieces.
+fn absorb(to: &mut (impl Update + Write), message: &[u8]) -> Outcome {
+    let (one, other) = message.split_at(message.len() / 3);
+    to.update(one);
+    to.write_all(other).unwrap();
+    done()
+}
+
+/// A hasher, a MAC or a hasher whose size is chosen at run time, with what it was before its input.
+#[derive(Clone)]
+struct Fixed<T>(T, T);
+#[derive(Clone)]
+struct Tagged<T>(T, T);
+#[derive(Clone)]
+struct Variable<T>(T, T);
+
+macro_rules! hash {
+    ($kind:ident: $($bounds:tt)*) => {
+        impl<T: $($bounds)* + Update + Write + Reset + Clone + 'static> Hash<()> for $kind<T> {
+            fn update(&mut self, message: &[u8]) -> Outcome {
+                absorb(&mut self.0, message)
+            }
+            fn copy(&self) -> Box<dyn Hash<()>> {
+                Box::new(self.clone())
+            }
+            fn reset(&mut self) -> Outcome {
+                Reset::reset(&mut self.0);
+                done()
+            }
+            fn digest(&self) -> Outcome {
+                let digest = self.by_all_ways(self.0.clone());
+                self.by_all_ways(self.1.clone());
+                Some(Ok(hex(&digest)))
+            }
+            fn verify(&self, tag: &[u8]) -> Outcome {
+                yes_or_no(self.is_tag(tag))
+            }
+        }
+    };
+}
+hash!(Fixed: Digest + FixedOutputReset);
+hash!(Tagged: Mac + FixedOutputReset);
+hash!(Variable: VariableOutputReset);
+
+impl<T: Digest + FixedOutputReset + Reset + Update + Clone> Fixed<T> {
+    fn by_all_ways(&self, mut hasher: T) -> Vec<u8> {
+        let digest = hasher.clone().finalize();
+        let mut out = Output::<T>::default();
+        FixedOutput::finalize_into(hasher.clone(), &mut out);
+        assert!(out == digest && <T as Digest>::output_size() == digest.len());
+        assert_eq!(Digest::finalize_reset(&mut hasher), digest);
+        assert_eq!(hasher.finalize(), self.1.clone().finalize());
+        digest.to_vec()
+    }
+
+    fn is_tag(&self, tag: &[u8]) -> bool {
+        self.0.clone().finalize()[..] == *tag
+    }
+}
+
+impl<T: Mac + FixedOutputReset + Reset + Clone> Tagged<T> {
+    fn by_all_ways(&self, mut mac: T) -> Vec<u8> {
+        let tag = mac.clone().finalize().into_bytes();
+        assert_eq!(Mac::finalize_reset(&mut mac).into_bytes(), tag);
+        assert!(mac.finalize() == self.1.clone().finalize());
+        tag.to_vec()
+    }
+
+    fn is_tag(&self, tag: &[u8]) -> bool {
+        self.0.clone().verify_slice(tag).is_ok()
+    }
+}
+
+impl<T: VariableOutputReset + Clone> Variable<T> {
+    fn by_all_ways(&self, mut hasher: T) -> Vec<u8> {
+        let size = hasher.output_size();
+        for other in [0, size - 1, size + 1] {
+            let mut out = vec![7; other];
+            assert!(hasher.clone().finalize_variable(&mut out).is_err());
+            assert!(hasher.finalize_variable_reset(&mut out).is_err() && out.iter().all(|byte| *byte == 7));
+        }
+        let digest = hasher.clone().finalize_boxed();
+        assert_eq!(hasher.finalize_boxed_reset(), digest);
+        assert_eq!(hasher.finalize_boxed(), self.1.clone().finalize_boxed());
+        digest.to_vec()
+    }
+
+    fn is_tag(&self, tag: &[u8]) -> bool {
+        *self.0.clone().finalize_boxed() == *tag
+    }
+}
+
+/// A hasher of an output, and the output if it was read.
+#[derive(Clone)]
+struct Long<T: ExtendableOutput>(T, Option<T::Reader>);
+
+impl<T> Hash<()> for Long<T>
+where
+    T: ExtendableOutputReset + Update + Write + Reset + Clone + 'static,
+    T::Reader: Read + Clone,
+{
+    fn update(&mut self, message: &[u8]) -> Outcome {
+        if self.1.is_some() {
+            return None; // the hasher absorbs more even so
+        }
+        absorb(&mut self.0, message)
+    }
+    fn copy(&self) -> Box<dyn Hash<()>> {
+        Box::new(self.clone())
+    }
+    fn reset(&mut self) -> Outcome {
+        Reset::reset(&mut self.0);
+        self.1 = None;
+        done()
+    }
+    fn read(&mut self, count: u64) -> Outcome {
+        let mut hasher = self.0.clone();
+        let (mut reader, mut by_trait) = (self.1.clone().unwrap_or_else(|| hasher.finalize_xof_reset()), Vec::new());
+        if count > 1 << 20 {
+            return None;
+        }
+        reader.clone().take(count).read_to_end(&mut by_trait).unwrap();
+        if by_trait.len() as u64 != count {
+            return Some(Err(())); // where `read` panics
+        }
+        let mut out = vec![0; by_trait.len()];
+        XofReader::read(&mut reader, &mut out);
+        assert_eq!(out, by_trait);
+        if self.1.is_none() {
+            assert_eq!(*self.0.clone().finalize_boxed(out.len()), out);
+            let mut again = self.0.clone();
+            absorb(&mut again, b"more").unwrap().unwrap();
+            assert_eq!(self.0.clone().finalize_boxed_reset(out.len()), self.0.clone().finalize_boxed(out.len()));
+        }
+        self.1 = Some(reader);
+        Some(Ok(hex(&out)))
+    }
+}
+
+macro_rules! family {
+    ($make:ident, $hasher:ident, $mac:ident, $var:ident, $longest:ty, $($size:ty)*) => {
+        /// A hasher or MAC with these arguments, if the size is one of those here, or at run time.
+        fn $make(given: &Given) -> Made {
+            use digest::typenum::Unsigned;
+            let [key, salt, persona] = [given.text("key")?, given.text("salt")?, given.text("person")?];
+            let size = given.number("size", <$longest>::USIZE)?;
+            macro_rules! boxed {
+                ($kind:ident, $made:expr) => {
+                    return Some($made.map(|made| Box::new($kind(made.clone(), made)) as _).map_err(|_| ()))
+                };
+            }
+            $(if size == <$size>::USIZE && given.has("key") {
+                boxed!(Tagged, $mac::<$size>::new_with_salt_and_personal(&key, &salt, &persona));
+            }
+            if size == <$size>::USIZE && given.has_only(&["size", "salt", "person"]) {
+                boxed!(Fixed, $hasher::<$size>::new_with_salt_and_personal(&salt, &persona));
+            })*
+            if given.has_only(&["size"]) {
+                boxed!(Variable, $var::new(size));
+            }
+            None
+        }
+    };
+}
+family!(blake2b, Blake2b, Blake2bMac, Blake2bVar, U64, U1 U20 U48 U63 U64);
+family!(blake2s, Blake2s, Blake2sMac, Blake2sVar, U32, U1 U16 U20 U28 U32);
+family!(blake2bp, Blake2bp, Blake2bpMac, Blake2bpVar, U64, U16 U64);
+family!(blake2sp, Blake2sp, Blake2spMac, Blake2spVar, U32, U16 U32);
+
+struct Crate;
+
+impl Driver for Crate {
+    type Error = ();
+
+    fn make(&self, name: &str, given: &Given) -> Made {
+        if !given.has_only(&["size", "key", "salt", "person"]) {
+            return None; // there are no nodes of trees
+        }
+        match name {
+            "blake2b" => blake2b(given),
+            "blake2s" => blake2s(given),
+            "blake2bp" => blake2bp(given),
+            "blake2sp" => blake2sp(given),
+            "blake2xb" => given.params(|params| {
+                Some(Blake2xb::with_params(params).map(|hasher| Box::new(Long(hasher, None)) as _).map_err(|_| ()))
+            }),
+            _ => given.params(|params| {
+                Some(Blake2xs::with_params(params).map(|hasher| Box::new(Long(hasher, None)) as _).map_err(|_| ()))
+            }),
+        }
+    }
+
+    fn call(&self, call: &[&str], given: &Given) -> Outcome {
+        if call[0] != "hash" {
+            return None;
+        }
+        let message = bytes(call[2])?;
+        match self.make(call[1], given)? {
+            Ok(mut hash) => {
+                hash.update(&message)?.unwrap();
+                if call[1].contains('x') { hash.read(given.number("size", 0)?) } else { hash.digest() }
+            }
+            Err(error) => Some(Err(error)),
+        }
+    }
+
+    fn is_error(&self, _: &(), _: &str, _: &[&str], _: &Given) -> bool {
+        true
+    }
+}
+
+#[test]
+fn cases() {
+    let names = ["blake2b", "blake2s", "blake2bp", "blake2sp", "blake2xb", "blake2xs"];
+    let skipped = [("derive", 15), ("equal", 328), ("hash", 709), ("many", 178), ("new", 867)];
+    run(&Crate, &names, (32133, &skipped));
+}
