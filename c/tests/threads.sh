@@ -5,9 +5,9 @@ source "$(dirname "$(readlink -f "$0")")/common.sh"
 # A number of random turns: of those of the full test a twelfth.
 turns() { [ -n "${VULFSJOR_TEST_HUGE-}" ] && echo "$1" || echo $(($1 / 12)); }
 
-# The words of the linker by which the calls that thread_faults.c replaces go to it.
+# The words of the linker by which the calls that thread_calls.h replaces go to it.
 replaced_calls() {
-    sed -n 's/^WRAP([^,]*, \([a-z0-9_]*\),.*$/-Wl,--wrap=\1/p' "$tests/thread_faults.c"
+    sed -n 's/^WRAP([^,]*, \([a-z0-9_]*\),.*$/-Wl,--wrap=\1/p' "$tests/thread_calls.h"
 }
 
 # Compiles a program from these files and words.
