@@ -83,9 +83,9 @@ test_aarch64() {
     check "install.sh with CC=$arm" env "CC=$arm" "$here/install.sh" --from "$dist" "$prefix" ||
         return
     for hash in "${hashes[@]}"; do
-        check "conformance.c, $hash, for aarch64" run_hash conformance $hash "$archive"
-        check "made_states.c, $hash, for aarch64" run_hash made_states $hash "$archive"
-        check_huge "conformance.c, $hash, for aarch64, with the shared library" run_hash conformance $hash "$shared"
+        check "conformance.c, $hash, for aarch64" run_hash conformance $hash -O1 "$archive"
+        check "made_states.c, $hash, for aarch64" run_hash made_states $hash -O1 "$archive"
+        check_huge "conformance.c, $hash, for aarch64, with the shared library" run_hash conformance $hash -O1 "$shared"
     done
     for family in b s; do
         check "edge_cases.c, blake2$family, for aarch64" compare_lines edge_cases -O2 -I"$include"
