@@ -1,8 +1,8 @@
 """Makes the calls of the conformance cases (tests/conformance/README.md) by the package, and compares their outcomes.
 
 Of every call it also tests: the bytes of the arguments, of several types, are unchanged, and no view of them is kept; a
-digest has the same digits, again and of a copy; a hash in one call is that of an object in pieces; the root of a tree
-is the same by threads.
+digest has the same digits, again and of a copy; a hash in one call is that of an object in pieces, and under a key that
+of the MAC; the root of a tree is the same by threads.
 """
 import array
 import hmac
@@ -20,6 +20,9 @@ NAMES = {"size": "digest_size", "leaf": "leaf_size", "offset": "node_offset", "n
          "inner": "inner_size",
          "last": "last_node"}
 HASHES = ("blake2b", "blake2s", "blake2bp", "blake2sp", "blake2xb", "blake2xs", "tree")
+FIRST = bytes((i + (i >> 8)) & 255 for i in range(1 << 16))
+# The beginning of the endless message. Each 65,536 bytes are those before them, and 1.
+MESSAGE = b"".join(FIRST.translate(bytes((i + k) & 255 for i in range(256))) for k in range(12))
 # What the message of an exception has, by the argument that is refused. Where a number is no int of C, it has no name.
 INTEGER = "|signed integer is|too (large|big) to convert|value must be positive"
 REASONS = {
@@ -61,7 +64,8 @@ class Driver:
             return None
         if ":" in word:
             start, end = map(int, word.split(":"))
-            data = bytes((i + (i >> 8) + (i >> 16)) & 255 for i in range(start, end))
+            assert end <= len(MESSAGE), word
+            data = MESSAGE[start:end]
         else:
             data = b"" if word == "-" else bytes.fromhex(word)
         kind = (len(data) + len(self.given)) % 4
@@ -111,16 +115,19 @@ class Driver:
         self.objects[slot] = self.places[slot] = None
         given = self.arguments(name, words)
         self.keyed[slot] = "key" in given
-        self.objects[slot] = vulfsjor.TreeHasher(**given) if name == "tree" else getattr(vulfsjor, name)(**given)
+        made = vulfsjor.TreeHasher(**given) if name == "tree" else getattr(vulfsjor, name)(**given)
+        assert name != "tree" or (made.leaf_size, made.count) == (given["leaf_size"], 0)
+        self.objects[slot] = made
 
     def update(self, slot, message):
         hasher = self.of(slot)
         if self.places[slot] is not None:
             raise Absent("an output that was read absorbs more")
-        hasher.update(self.bytes_of(message))
+        assert hasher.update(self.bytes_of(message)) is None
 
     def copy(self, slot, other):
         self.objects[other] = self.of(slot).copy()
+        assert type(self.objects[other]) is type(self.objects[slot])
         self.places[other], self.keyed[other] = self.places[slot], self.keyed[slot]
 
     def wipe(self, slot):
@@ -130,7 +137,7 @@ class Driver:
         hasher, self.objects[slot] = self.of(slot), None
         value = hasher.digest()
         assert value == hasher.copy().digest() == bytes.fromhex(hasher.hexdigest()), "another digest"
-        assert len(value) == hasher.digest_size
+        assert len(value) == hasher.digest_size == hasher.copy().digest_size
         return value
 
     def verify(self, slot, tag):
@@ -178,6 +185,8 @@ class Driver:
         for start in range(0, len(data), max(1, len(data) // 3)):
             hasher.update(data[start:start + max(1, len(data) // 3)])
         assert value == (hasher.digest(given["length"]) if "x" in name else hasher.digest()), "another digest in pieces"
+        if "key" in given and "x" not in name and set(given) <= {"key", "digest_size", "salt", "person"}:
+            assert value == getattr(vulfsjor, f"{name}_mac")(data=data, **given).digest(), "another tag"
         return value
 
     def many(self, name, *messages, **words):
