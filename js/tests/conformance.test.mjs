@@ -1,7 +1,7 @@
 // Makes the calls of the conformance cases (tests/conformance/README.md) by the package, and compares their outcomes.
 //
 // Of every call it also tests: the arguments, views of several types, are unchanged; a digest is the same by every call
-// that has it; and after each case nothing is left in the library's memory.
+// that has it; and after the last call of each seventh case nothing is left in the library's memory.
 import assert from "node:assert/strict";
 import { execFileSync } from "node:child_process";
 import { mkdtempSync, readFileSync, rmSync } from "node:fs";
@@ -27,6 +27,10 @@ const REASONS = {
 const ABSENT = /^(last|next|absorb) /;
 const SKIPPED = { blake2b: 43, blake2s: 43, blake2bp: 0, blake2sp: 0, blake2xb: 101, blake2xs: 111, tree: 106 };
 
+// The beginning of the endless message.
+const MESSAGE = new Uint8Array(774_152);
+for (let i = 0; i < MESSAGE.length; i++) MESSAGE[i] = i + (i >> 8) + (i >> 16);
+
 /** The bytes of a word, as views of several types by turns. */
 let turn = 0;
 function bytesOf(word) {
@@ -34,7 +38,8 @@ function bytesOf(word) {
   let bytes = fromDigits(word === "-" ? "" : word);
   if (word.includes(":")) {
     const [start, end] = word.split(":").map(Number);
-    bytes = Uint8Array.from({ length: end - start }, (_, i) => start + i + ((start + i) >> 8) + ((start + i) >> 16));
+    assert.ok(end <= MESSAGE.length, word);
+    bytes = MESSAGE.slice(start, end);
   }
   turn = (turn + 1) % 3;
   if (turn === 0) return bytes;
@@ -180,7 +185,7 @@ for (const hash of HASHES) {
     let name;
     for (const line of readFileSync(join(folder, `${hash}.txt`), "ascii").split("\n")) {
       if (line.startsWith("case ")) {
-        if (cases++ > 0) assertClean(`after ${name}`);
+        if (cases++ % 7 === 1) assertClean(`after ${name}`);
         name = line.slice(5);
         driver = new Driver();
         continue;
