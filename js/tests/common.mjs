@@ -32,15 +32,20 @@ export function sequence(length, seed) {
 
 let zeros = Buffer.alloc(0);
 
+/** Asserts that all bytes are zero. */
+export function assertZeros(bytes, what) {
+  if (zeros.length !== bytes.length) zeros = Buffer.alloc(bytes.length);
+  if (zeros.compare(bytes) !== 0) {
+    assert.fail(`${what} has a byte at ${bytes.findIndex((byte) => byte !== 0)}`);
+  }
+}
+
 /** Asserts that nothing is left in the library's memories, and that they have not grown. */
 export function assertClean(what = "after a call") {
   const all = memories();
   assert.ok(all.length > 0, "no memory");
   for (const bytes of all) {
     assert.equal(bytes.length, 2 ** 20 + 8 * 65536);
-    if (zeros.length !== bytes.length) zeros = Buffer.alloc(bytes.length);
-    if (zeros.compare(bytes) !== 0) {
-      assert.fail(`${what} a memory has a byte at ${bytes.findIndex((byte) => byte !== 0)}`);
-    }
+    assertZeros(bytes, `${what} a memory`);
   }
 }

@@ -44,6 +44,7 @@ const { BLAKE2B } = await import("../src/blake2b.js");
 const { Hasher } = await import("../src/hashers.js");
 const { partOfPlan, planOf } = await import("../src/leaves.js");
 const whole = await import("../src/whole_module.js");
+const { assertClean, assertZeros } = await import("./common.mjs");
 const { WAITING } = engine;
 
 const PIECE = 65536;
@@ -229,7 +230,7 @@ test("what the library refuses is an error, and the memory is given up", () => {
     refusedIn = undefined;
     assert.throws(work, { name: "Error", message }, name);
     refused = undefined;
-    assert.ok(new Uint8Array(refusedIn).every((byte) => byte === 0), name);
+    assertZeros(new Uint8Array(refusedIn), name);
     assert.ok(engine.memories().every(({ buffer }) => buffer !== refusedIn), name);
   }
 });
@@ -263,7 +264,7 @@ test("an update that is too long changes nothing", () => {
       assert.throws(() => run.update(part(length)),
         { name: "RangeError", message: `${Hasher.name}.update: the message is too long` });
       refused = undefined;
-      assert.ok(engine.memories().every((bytes) => bytes.every((byte) => byte === 0)));
+      assertClean();
       assert.equal(run.hex(), wanted);
     }
   }
@@ -340,7 +341,7 @@ test("digest and verify set the state to zero", () => {
         state.fill(7, kind.stateLength, kind.stateLength + waiting);
         end(state, waiting);
         assert.ok(state.every((byte) => byte === 0));
-        assert.ok(engine.memories().every((bytes) => bytes.every((byte) => byte === 0)));
+        assertClean();
       }
     }
   }
@@ -358,16 +359,17 @@ test("what has waited and was absorbed, or was reset, waits no longer", () => {
       state.fill(7, kind.stateLength);
       absorb(state);
       assert.ok(state.subarray(kind.stateLength).every((byte) => byte === 0));
-      assert.ok(engine.memories().every((bytes) => bytes.every((byte) => byte === 0)));
+      assertClean();
     }
   }
 });
 
 test("plans of ranges leave nothing in the memory", () => {
-  const isClean = () => engine.memories().every((bytes) => bytes.every((byte) => byte === 0));
   const plan = planOf(10_000, 7, 100, 1000);
-  assert.ok(plan.count > 1 && isClean());
-  assert.ok(partOfPlan(plan, 1).length > 0 && isClean());
+  assert.ok(plan.count > 1);
+  assertClean("planOf");
+  assert.ok(partOfPlan(plan, 1).length > 0);
+  assertClean("partOfPlan");
 });
 
 test("a memory that could not be wiped is wiped before the next call", () => {
