@@ -6,7 +6,6 @@ const NUMBERS = {
   fanout: "fanout", depth: "depth", leaf_size: "leafLength", node_offset: "nodeOffset",
   node_depth: "nodeDepth", inner_size: "innerLength", last_node: "lastNode",
 };
-const IS_TREE = { root: true, leaves: true };
 const STARTS = { key: 2, salt: 3, person: 5 };
 
 // The pattern of tests/vectors.py.
@@ -27,7 +26,7 @@ export function optionsOf(given) {
   for (const [name, value] of Object.entries(given)) {
     if (name in STARTS) {
       if (value > 0) options[NAMES[name] ?? name] = filler(STARTS[name] * (given.seed ?? 0), value);
-    } else if (name === "digest_size" || (name === "leaf_size" && IS_TREE[given.kind])) {
+    } else if (name === "digest_size" || (name === "leaf_size" && given.kind === "root")) {
       options[NAMES[name]] = value;
     } else if (name === "node_offset") {
       tree.nodeOffset = BigInt(value);
@@ -50,28 +49,6 @@ export function digestOf({ Blake2b }, digests) {
   const all = new Blake2b({ digestLength: 32 });
   for (const digest of digests) all.update(digest);
   return all.hex();
-}
-
-/** BLAKE2b-256 of the digests and roots of a case's ranges of leaves (tests/vectors.py, ranges). */
-export function leavesOf(vulfsjor, given) {
-  const { digestLength, ...options } = optionsOf(given);
-  const { leafLength } = options;
-  const isOne = "length" in given;
-  const digests = [];
-  let size = digestLength;
-  for (let count = 1; count <= (isOne ? 1 : 10); count++) {
-    const last = (2n ** 58n - 1n) / BigInt(leafLength) - BigInt(count);
-    const first = BigInt(given.first) < last ? BigInt(given.first) : last;
-    const cut = Math.floor((leafLength * count) / 11);
-    for (const [ends, less] of isOne ? [[true, 0]] : [[false, 0], [true, cut], [true, 0]]) {
-      const message = filler(given.seed ?? 0, given.length ?? count * leafLength - less);
-      const leaves = vulfsjor.treeLeaves(message, { ...options, first, ends });
-      size = 1 + (size % 64);
-      const root = vulfsjor.treeRootOfLeaves(leaves, { ...options, digestLength: size });
-      digests.push(leaves, root);
-    }
-  }
-  return digestOf(vulfsjor, digests);
 }
 
 // What verify says of a tag: right, or the name of its error.

@@ -1,6 +1,6 @@
 // Makes the calls of the conformance cases (tests/conformance/README.md) by the package, and compares their outcomes.
 //
-// Of every call it also tests: the arguments, views of several types, are unchanged; a digest is the same by every call
+// Of every call it also tests: the arguments, of several types, are unchanged; a digest is the same by every call
 // that has it; and after the last call of each seventh case nothing is left in the library's memory.
 import assert from "node:assert/strict";
 import { execFileSync } from "node:child_process";
@@ -31,8 +31,9 @@ const SKIPPED = { blake2b: 43, blake2s: 43, blake2bp: 0, blake2sp: 0, blake2xb: 
 const MESSAGE = new Uint8Array(774_152);
 for (let i = 0; i < MESSAGE.length; i++) MESSAGE[i] = i + (i >> 8) + (i >> 16);
 
-/** The bytes of a word, as views of several types by turns. */
+/** The bytes of a word, in several types by turns. */
 let turn = 0;
+const passed = []; // those of a call, and copies
 function bytesOf(word) {
   if (word === "none") return null;
   let bytes = fromDigits(word === "-" ? "" : word);
@@ -41,12 +42,21 @@ function bytesOf(word) {
     assert.ok(end <= MESSAGE.length, word);
     bytes = MESSAGE.slice(start, end);
   }
-  turn = (turn + 1) % 3;
-  if (turn === 0) return bytes;
-  const within = new Uint8Array(bytes.length + 5).fill(0x5a);
+  turn = (turn + 1) % 6;
+  const within = new Uint8Array(
+    turn === 0 ? new SharedArrayBuffer(bytes.length + 5) : new ArrayBuffer(bytes.length + 5)).fill(0x5a);
   within.set(bytes, 3);
-  return turn === 1 ? within.subarray(3, 3 + bytes.length) : new DataView(within.buffer, 3, bytes.length);
+  const view = [
+    within.subarray(3, 3 + bytes.length), new DataView(within.buffer, 3, bytes.length),
+    new Int8Array(within.buffer, 3, bytes.length), Buffer.from(bytes), bytes.slice().buffer, bytes.slice(),
+  ][turn];
+  passed.push([view, bytes]);
+  return view;
 }
+
+/** A view of the bytes of a view or a buffer. */
+const plain = (bytes) => (ArrayBuffer.isView(bytes)
+  ? new Uint8Array(bytes.buffer, bytes.byteOffset, bytes.byteLength) : new Uint8Array(bytes));
 
 /** Numbers as callers have them: a bigint beyond 2^53 where one is accepted. */
 function numberOf(word, name) {
@@ -77,7 +87,7 @@ function inPieces(name, message, options) {
   const length = message?.byteLength ?? 0;
   if (message === null) hash.update(message);
   for (let at = 0, size = Math.ceil(length / 3) || 1; at < length; at += size) {
-    hash.update(new Uint8Array(message.buffer, message.byteOffset + at, Math.min(size, length - at)));
+    hash.update(plain(message).subarray(at, at + size));
   }
   return "read" in hash ? hash.read(options.outputLength) : hash.digest();
 }
@@ -151,8 +161,10 @@ function outcomeOf(driver, call) {
   const [verb, ...words] = call.split(" ");
   const isOption = (word) => word.includes("=");
   const given = Object.fromEntries(words.filter(isOption).map((word) => word.split("=")));
+  passed.length = 0;
   try {
     const value = driver[verb](words.filter((word) => !isOption(word)), given);
+    for (const [view, bytes] of passed) assert.equal(Buffer.compare(plain(view), bytes), 0, "an argument has changed");
     if (value === undefined) return "";
     return `= ${value instanceof Uint8Array ? hexOf(value) || "-" : value}`;
   } catch (error) {

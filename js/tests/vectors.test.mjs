@@ -1,8 +1,10 @@
-// Values of RFC 7693, and the digests that hashlib gives for short inputs.
+// Values of RFC 7693, messages compared with node:crypto, and the names of the package. Digests under
+// all parameters are in conformance.test.mjs.
 import assert from "node:assert/strict";
+import { createHash, randomBytes, randomInt } from "node:crypto";
 import test from "node:test";
 import * as vulfsjor from "../index.js";
-import { hexOf, sequence } from "./common.mjs";
+import { assertClean, HUGE, hexOf, sequence } from "./common.mjs";
 
 const { Blake2b, Blake2s, blake2b, blake2s, treeRoot, utf8 } = vulfsjor;
 
@@ -60,4 +62,48 @@ test("the names that the package has", () => {
     "hashTransform", "hashWritable", "hex", "load", "treeLeaves", "treeRoot", "treeRootOfLeaves",
     "treeRootStream", "utf8",
   ]);
+});
+
+const native = (name, message) => createHash(name).update(message).digest("hex");
+
+test("all lengths from 0 to 600, and around the pieces, compared with node:crypto", () => {
+  const piece = 65536;
+  const window = 8 * 65536 - 8192;
+  const lengths = Array.from({ length: 601 }, (_, i) => i);
+  for (const around of [piece, 2 * piece, 3 * piece, window, 2 * window]) {
+    for (let i = -2; i <= 2; i++) lengths.push(around + i, around + 128 * i);
+  }
+  const bytes = randomBytes(2 * window + 300);
+  for (const length of lengths) {
+    const message = bytes.subarray(0, length);
+    assert.equal(hexOf(blake2b(message)), native("blake2b512", message), String(length));
+    assert.equal(hexOf(blake2s(message)), native("blake2s256", message), String(length));
+  }
+  assertClean();
+});
+
+test("messages in random pieces, compared with node:crypto", () => {
+  for (let i = 0; i < (HUGE ? 10000 : 300); i++) {
+    const message = randomBytes(randomInt(i % 100 === 0 ? 300000 : 2000));
+    const runs = [new Blake2b(), new Blake2s()];
+    for (let at = 0; at < message.length; ) {
+      const piece = message.subarray(at, (at += 1 + randomInt(1 + message.length)));
+      for (const run of runs) run.update(piece);
+    }
+    assert.equal(runs[0].hex(), native("blake2b512", message));
+    assert.equal(runs[1].hex(), native("blake2s256", message));
+  }
+});
+
+const MIB = HUGE ? 256 : 16;
+
+test(`a message of ${MIB} MiB, in one call and in pieces`, () => {
+  const message = Buffer.alloc(MIB * 2 ** 20, "all work and no play ");
+  const wanted = native("blake2b512", message);
+  assert.equal(hexOf(blake2b(message)), wanted);
+  assertClean();
+  const run = new Blake2b();
+  const piece = MIB * 200_003;
+  for (let at = 0; at < message.length; at += piece) run.update(message.subarray(at, at + piece));
+  assert.equal(run.hex(), wanted);
 });

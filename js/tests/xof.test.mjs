@@ -1,5 +1,5 @@
-// BLAKE2Xb, BLAKE2Xs and derived keys: the test vectors and the authors' vectors in pieces, copies,
-// and what is refused.
+// BLAKE2Xb, BLAKE2Xs and derived keys: the authors' vectors, what is refused and how, and what is
+// wiped. Other values are in conformance.test.mjs.
 
 import assert from "node:assert/strict";
 import { execFileSync } from "node:child_process";
@@ -16,57 +16,29 @@ const FAMILIES = [
   ["s", Blake2xs, 32, 8, 2 ** 16 - 2, 32n << 32n],
 ];
 
-// The lines of BLAKE2X that tests/vectors.py prints: size (0 is unknown), texts, message, output.
-function lines(...words) {
-  const text = execFileSync("python3", [SCRIPT, ...words], {
+// The authors' vectors, which tests/vectors.py prints: key, message, output.
+const vectorsOf = (family) =>
+  execFileSync("python3", [SCRIPT, "--authors", family], {
     encoding: "utf8", maxBuffer: 1 << 26, stdio: "pipe",
+  }).split("\n").filter((line) => line.startsWith("x ")).map((line) => {
+    const [, , key, , , message, wanted] = line.split(" ");
+    return [key, message, wanted].map((field) => fromHex(field === "-" ? "" : field));
   });
-  return text.split("\n").filter((line) => line.startsWith("x ")).map((line) => {
-    const [, size, ...fields] = line.split(" ");
-    const bytes = fields.map((field) => fromHex(field === "-" ? "" : field));
-    return [Number(size), ...bytes];
-  });
-}
-
-function check(Output, [size, key, salt, personalization, message, wanted], i) {
-  const options = { salt, personalization };
-  if (size) options.outputLength = size;
-  if (key.length) options.key = key;
-  const output = new Output(options);
-  for (let at = 0, n = 1 + ((i * 31) % 200); at < message.length; at += n) {
-    output.update(message.subarray(at, at + n));
-  }
-  const copy = output.copy();
-  const joined = new Uint8Array(wanted.length);
-  for (let at = 0, n = 1 + ((i * 57) % 700); at < wanted.length; at += n) {
-    joined.set(output.read(Math.min(n, wanted.length - at)), at);
-  }
-  assert.equal(hex(joined), hex(wanted));
-  assert.equal(hex(copy.read(wanted.length)), hex(wanted));
-  assert.equal(output.left, copy.left);
-  if (size) assert.equal(output.left, 0n);
-  if (Output === Blake2xb && size && key.length && !salt.length && !personalization.length) {
-    assert.equal(hex(deriveKey(key, message, size)), hex(wanted));
-  }
-}
 
 for (const [family, Output, longest, salt, most, whole] of FAMILIES) {
-  test(`the test vectors of ${Output.name}`, () => {
-    const found = lines("--lines", family);
-    assert.equal(found.length, 132);
-    found.forEach((line, i) => check(Output, line, i));
-  });
-
   test(`the authors' vectors of ${Output.name}`, (t) => {
     let found;
     try {
-      found = lines("--authors", family);
+      found = vectorsOf(family);
     } catch {
       t.skip("no golang-golang-x-crypto-dev");
       return;
     }
     assert.equal(found.length, 256);
-    found.forEach((line, i) => check(Output, line, i));
+    for (const [key, message, wanted] of found) {
+      const output = new Output({ ...(key.length && { key }), outputLength: wanted.length }).update(message);
+      assert.equal(hex(output.read(wanted.length)), hex(wanted));
+    }
   });
 
   test(`what ${Output.name} refuses`, () => {

@@ -1,15 +1,11 @@
-"""Compares the package with Python's own BLAKE2 over random calls, refused ones among them, and
-over a list of calls at the edges. Both have to return the same digests or raise the same exception.
-VULFSJOR_TEST_CALLS is the number of random calls.
-"""
+"""Compares the package with Python's own BLAKE2 over a list of calls at the edges, which both have to answer by the
+same digest or the same exception with the same message. test_conformance.py has the values of all other calls."""
 import array
 import ctypes
 import functools
 import itertools
 import mmap
-import os
 import pickle
-import random
 import threading
 import unittest
 
@@ -17,64 +13,7 @@ import _blake2
 import support  # noqa: F401
 import vulfsjor
 
-DICE = random.Random(7693)
 FAMILIES = (("blake2b", 64), ("blake2s", 32))
-
-
-def parameters(longest):
-    """Random parameters, now and then one that is refused."""
-    def beyond():
-        return DICE.random() < 0.05
-
-    choices = {
-        "digest_size": lambda: (
-            DICE.randint(-1, longest + 2) if beyond() else DICE.randint(1, longest)
-        ),
-        "key": lambda: DICE.randbytes(longest + 1 if beyond() else DICE.randint(0, longest)),
-        "salt": lambda: DICE.randbytes(DICE.randint(0, longest // 4 + beyond())),
-        "person": lambda: DICE.randbytes(DICE.randint(0, longest // 4 + beyond())),
-        "fanout": lambda: DICE.randint(0, 255 + beyond()),
-        "depth": lambda: DICE.randint(0, 256) if beyond() else DICE.randint(1, 255),
-        "leaf_size": lambda: DICE.choice([-1, 2**32]) if beyond() else DICE.getrandbits(32),
-        "node_offset": lambda: (
-            DICE.choice([-1, 2**48, 2**64]) if beyond() else DICE.getrandbits(48)
-        ),
-        "node_depth": lambda: DICE.randint(0, 255 + beyond()),
-        "inner_size": lambda: DICE.randint(0, longest + beyond()),
-        "last_node": lambda: DICE.choice([True, False, 1, 0]),
-        "usedforsecurity": lambda: DICE.choice([True, False]),
-    }
-    return {name: make() for name, make in choices.items() if DICE.random() < 0.3}
-
-
-def answer(make, words, message, cut):
-    """Digests after each step, or the exception's name."""
-    try:
-        hasher = make(message[:cut], **words)
-        hasher.update(memoryview(bytearray(message[cut:])))
-        copy = hasher.copy()
-        first = hasher.digest()
-        hasher.update(b"more")
-        facts = hasher.digest_size, hasher.block_size, hasher.name
-        return first, copy.hexdigest(), copy.digest(), hasher.digest(), facts
-    except (ValueError, OverflowError, TypeError) as fault:
-        return type(fault).__name__
-
-
-def compare_random_calls(count):
-    """Random calls. How many of them both refuse."""
-    refused = 0
-    for _ in range(count):
-        name, longest = DICE.choice(FAMILIES)
-        length = DICE.choice([0, 1, 63, 64, 65, 127, 128, 129, 2047, 2048, DICE.randint(0, 5000)])
-        words, message = parameters(longest), DICE.randbytes(length)
-        cut = DICE.randint(0, len(message))
-        ours, theirs = (
-            answer(getattr(module, name), words, message, cut) for module in (vulfsjor, _blake2)
-        )
-        assert ours == theirs, (name, words, message, cut, ours, theirs)
-        refused += isinstance(ours, str)
-    return refused
 
 
 def edge_parameters(longest):
@@ -239,11 +178,6 @@ def share_among_threads(make):
 
 class Compare(unittest.TestCase):
     """All comparisons."""
-
-    def test_random_calls(self):
-        most = 20000 if os.environ.get("VULFSJOR_TEST_HUGE") else 5000
-        count = int(os.environ.get("VULFSJOR_TEST_CALLS", most))
-        self.assertGreater(compare_random_calls(count), count // 50)
 
     def test_edges(self):
         self.assertGreater(compare_edges(), 1000)

@@ -1,5 +1,6 @@
-"""Tests of what test_against_hashlib.py can't compare: several messages, the tree root, what is left
-of a key, threads, and views that are let go."""
+"""Tests of what neither a list of calls nor a comparison with hashlib shows: iterables of messages, what is left of a key
+and of other memory, views that are let go, and modules. And the known answers, for a source distribution, which has not
+the conformance cases."""
 import array
 import collections
 import contextlib
@@ -12,15 +13,12 @@ import mmap
 import os
 import random
 import sys
-import threading
-import time
 import tracemalloc
 import unittest
 import weakref
 
 from support import WITHOUT_GIL
 from test_parallel import parallel
-import oracle
 import vectors
 import vulfsjor
 
@@ -30,15 +28,6 @@ PLAIN = (("blake2b", vulfsjor.blake2b, hashlib.blake2b, vulfsjor.blake2b_many, 6
 FAMILIES = (*PLAIN, ("blake2bp", vulfsjor.blake2bp, parallel("b"), None, 64),
             ("blake2sp", vulfsjor.blake2sp, parallel("s"), None, 32))
 OUTPUTS = (("blake2xb", vulfsjor.blake2xb, 64), ("blake2xs", vulfsjor.blake2xs, 32))
-LONG = bytes(1 << 26)
-
-
-def accepts(mac, tag):
-    """Whether `verify` accepts the tag."""
-    with contextlib.suppress(vulfsjor.InvalidTag):
-        mac.verify(tag)
-        return True
-    return False
 
 
 class KnownAnswers(unittest.TestCase):
@@ -56,35 +45,19 @@ class KnownAnswers(unittest.TestCase):
                 found = vectors.hash_of(b"".join(digests))
             elif case["kind"] == "root":
                 found = vulfsjor.tree_root(vectors.message(case), **words)
+            elif case["kind"] == "output":
+                words |= {"length": case["size"]} if case["is_known"] else {}
+                make = getattr(vulfsjor, f"blake2x{case['hash'][-1]}")
+                found = make(vectors.message(case), **words).digest(case["size"])
             else:
                 continue
             self.assertEqual(found.hex(), case["digest"], case)
             met[case["kind"]] += 1
-        self.assertEqual(met, {"hash": 1744, "many": 60, "root": 207, "parallel": 234})
+        self.assertEqual(met, {"hash": 1744, "many": 60, "root": 207, "parallel": 234, "output": 264})
 
 
 class Many(unittest.TestCase):
     """Several messages in one call."""
-
-    def test_digests_are_those_of_hashlib(self):
-        for _, _, theirs, many, longest in PLAIN:
-            for count in (0, 1, 2, 3, 4, 5, 7, 8, 9, 16, 33):
-                for length in (0, 1, 64, 128, 129, 1000, None):
-                    lengths = [
-                        DICE.choice([0, 1, 200]) if length is None else length for _ in range(count)
-                    ]
-                    messages = [DICE.randbytes(length) for length in lengths]
-                    self.assertEqual(
-                        many(messages), [theirs(message).digest() for message in messages]
-                    )
-                    words = dict(
-                        digest_size=DICE.randint(1, longest),
-                        key=DICE.randbytes(DICE.randint(0, longest)),
-                        salt=DICE.randbytes(longest // 4),
-                        person=DICE.randbytes(DICE.randint(0, 8)),
-                    )
-                    wanted = [theirs(message, **words).digest() for message in messages]
-                    self.assertEqual(many(messages, **words), wanted)
 
     def test_any_iterable_of_any_buffers(self):
         for _, _, theirs, many, _ in PLAIN:
@@ -140,46 +113,6 @@ class Many(unittest.TestCase):
             rows = ((ctypes.c_char * 3) * 2).from_buffer_copy(b"abcxyz")
             self.assertEqual(many(rows), [theirs(b"abc").digest(), theirs(b"xyz").digest()])
             self.assertEqual((many([]), many(())), ([], []))
-
-
-class TreeRoot(unittest.TestCase):
-    """The root of a tree of two levels."""
-
-    def test_roots_are_those_of_hashlib(self):
-        for leaf_size in (1, 7, 128, 1000, 4096, 2**32 - 1):
-            for length in (0, 1, 6, 7, 8, 128, 129, 1000, 5000, 9001):
-                data, salt, person = (
-                    DICE.randbytes(n) for n in (length, DICE.randint(0, 16), DICE.randint(0, 16))
-                )
-                wanted = oracle.tree_root(data, leaf_size)
-                self.assertEqual(vulfsjor.tree_root(data, leaf_size), wanted)
-                size = DICE.randint(1, 64)
-                words = dict(leaf_size=leaf_size, digest_size=size, salt=salt, person=person)
-                wanted = oracle.tree_root(data, **words)
-                self.assertEqual(vulfsjor.tree_root(bytearray(data), **words), wanted)
-        for size in range(1, 65):
-            wanted = oracle.tree_root(b"abc", 2, size)
-            self.assertEqual(vulfsjor.tree_root(memoryview(b"abc"), 2, digest_size=size), wanted)
-
-    def test_refusals(self):
-        root = vulfsjor.tree_root
-        for words in ({"leaf_size": 0}, {"leaf_size": -1}, {"leaf_size": 1, "digest_size": 0},
-                      {"leaf_size": 1, "digest_size": 65}, {"leaf_size": 1, "salt": bytes(17)},
-                      {"leaf_size": 1, "person": bytes(17)}):
-            self.assertRaises(ValueError, root, b"x", **words)
-        far = (2**32, 2**32 + 1, 2**63 + 1, 2**64, 2**64 + 1, 2**70 + 1, 0, -1, -(2**63), -(2**70))
-        for size in (*far, -(2**32) + 5):
-            with self.assertRaisesRegex(ValueError, "^leaf_size must be between 1 and 4294967295$"):
-                root(b"x", size)
-            with self.assertRaisesRegex(ValueError, "^digest_size must be between 1 and 64 bytes$"):
-                root(b"x", 1, digest_size=size)
-        for words in ({}, {"leaf_size": None}, {"leaf_size": 1.0}, {"leaf_size": 1, "salt": "text"},
-                      {"leaf_size": 1, "key": b"k"}):
-            self.assertRaises(TypeError, root, b"x", **words)
-        for data in ("text", None, 1):
-            self.assertRaises(TypeError, root, data, 1)
-        self.assertRaises(TypeError, root)
-        self.assertRaises(BufferError, root, memoryview(b"abcd")[::2], 1)
 
 
 # Room for a copy of a region of the memory. It is shared, so that places_of does not search it.
@@ -431,195 +364,6 @@ class Views(unittest.TestCase):
         tracemalloc.stop()
         self.assertLess(grown, 8000)
         self.assertEqual([sys.getrefcount(kind) for kind in kinds], references)
-
-
-class Threads(unittest.TestCase):
-    """Other threads run during long calls. Here, threads switch only when one releases the GIL."""
-
-    def setUp(self):
-        self.interval, self.turns, self.ended = sys.getswitchinterval(), 0, False
-        sys.setswitchinterval(1000)
-        self.other = threading.Thread(target=self.count)
-        self.other.start()
-
-    def tearDown(self):
-        self.ended = True
-        sys.setswitchinterval(self.interval)
-        self.other.join()
-
-    def count(self):
-        """Counts turns, and releases the GIL after each."""
-        while not self.ended:
-            self.turns += 1
-            time.sleep(0)
-
-    def turns_during(self, call):
-        """How many turns the other thread has during a call."""
-        before = self.turns
-        call()
-        return self.turns - before
-
-    def assert_lets_others_run(self, call):
-        """In one of fifty tries: on a busy machine the other thread may wait for a processor all the while."""
-        self.assertTrue(any(self.turns_during(call) > 10 for _ in range(50)))
-
-    def test_long_inputs_let_others_run(self):
-        for _, make, _, many, _ in FAMILIES:
-            hasher = make()
-            for call in (lambda: hasher.update(LONG), lambda: make(LONG),
-                         *([lambda: many([LONG])] if many else [])):
-                self.assert_lets_others_run(call)
-        for _, make, _ in OUTPUTS:
-            self.assert_lets_others_run(lambda: make().update(LONG))
-            self.assert_lets_others_run(lambda: make().digest(1 << 24))
-            self.assert_lets_others_run(lambda: make().hexdigest(1 << 24))
-        self.assert_lets_others_run(lambda: vulfsjor.derive_key(b"key", b"", 1 << 24))
-        for call in (
-            lambda: vulfsjor.derive_key(b"key", LONG, 9),
-            lambda: vulfsjor.TreeHasher(4096).update_leaves(LONG, b"x"),
-            lambda: vulfsjor.tree_root(LONG, 4096),
-            lambda: vulfsjor.TreeHasher(4096).update(LONG),
-            lambda: vulfsjor.TreeHasher(4096).leaves_ahead(LONG),
-            lambda: vulfsjor.tree_leaves(LONG, 4096, first=0, ends=True),
-            lambda: vulfsjor.tree_root_of_leaves(LONG, 4096),
-        ):
-            self.assert_lets_others_run(call)
-
-    def test_others_wait_for_a_long_update(self):
-        """A call of an object sees all of an update that is under way, at least once in a hundred
-        tries: in a single try the update may not have started."""
-        for _, make, theirs, _, _ in FAMILIES:
-            wanted = theirs(LONG).digest()
-            for call in (
-                lambda hasher: hasher.copy().digest() == wanted,
-                lambda hasher: hasher.digest() == wanted,
-            ):
-                self.assertTrue(any(self.is_met(call, make()) for _ in range(100)))
-            tag = make(LONG, key=b"key").digest()  # test_mac.py knows that it is right
-            self.assertTrue(any(self.is_met(lambda mac: accepts(mac, tag), make(key=b"key"))
-                                for _ in range(100)))
-        for _, make, _ in OUTPUTS:
-            wanted = make(LONG).digest(9)
-            for call in (lambda output: output.copy().digest(9) == wanted,
-                         lambda output: output.digest(9) == wanted):
-                self.assertTrue(any(self.is_met(call, make()) for _ in range(100)))
-
-    def is_met(self, call, hasher):
-        """The result of a call while another thread updates the object."""
-        thread = threading.Thread(target=hasher.update, args=(LONG,))
-        thread.start()
-        time.sleep(0.002)
-        answer = call(hasher)
-        thread.join()
-        return answer
-
-    @unittest.skipIf(WITHOUT_GIL, "no GIL")
-    def test_short_ones_do_not(self):
-        for _, make, _, _, _ in FAMILIES:
-            hasher, short = make(), bytes(2047)
-            self.assertEqual(
-                self.turns_during(lambda: [hasher.update(short) for _ in range(3000)]), 0
-            )
-
-    def test_2048_bytes_are_long(self):
-        for make in (*(make for _, make, *_ in (*FAMILIES, *OUTPUTS)),
-                     lambda: vulfsjor.TreeHasher(4096)):
-            hasher, before, end = make(), self.turns, time.monotonic() + 20
-            while self.turns == before and time.monotonic() < end:
-                hasher.update(bytes(2048))
-            self.assertGreater(self.turns, before)
-
-
-class Shared(unittest.TestCase):
-    """Objects that threads share. One updates with many bytes, the others with few as long as it
-    does. All are zeros, so that their order does not matter."""
-
-    def shared(self, hasher, call):
-        """Updates the hasher by threads, calls `call` meanwhile, and returns the number of bytes.
-        Threads switch often."""
-        self.addCleanup(sys.setswitchinterval, sys.getswitchinterval())
-        sys.setswitchinterval(1e-5)
-        counts, piece, short = [], bytes(1 << 20), bytes(100)
-
-        def work():
-            count = 0
-            while long.is_alive():
-                hasher.update(short)
-                count += len(short)
-            counts.append(count)
-
-        long = threading.Thread(target=lambda: [hasher.update(piece) for _ in range(24)])
-        others = [threading.Thread(target=work) for _ in range(2)]
-        for thread in (long, *others):
-            thread.start()
-        call()
-        while any(thread.is_alive() for thread in others):
-            call()
-        self.assertEqual(len(counts), 2)
-        return (24 << 20) + sum(counts)
-
-    def test_hashes(self):
-        for _, make, theirs, _, longest in FAMILIES:
-            hasher = make()
-
-            def call():
-                self.assertEqual((len(hasher.digest()), hasher.digest_size), (longest, longest))
-                hasher.copy().update(b"x")
-
-            length = self.shared(hasher, call)
-            self.assertEqual(hasher.digest(), theirs(bytes(length)).digest())
-
-    def test_outputs(self):
-        """The bytes are those of an object that absorbs them by itself; test_xof.py has these."""
-        for _, make, _ in OUTPUTS:
-            hasher = make()
-
-            def call():
-                self.assertEqual(len(hasher.digest(9)), 9)
-                hasher.copy().update(b"x")
-
-            length = self.shared(hasher, call)
-            self.assertEqual(hasher.digest(99), make(bytes(length)).digest(99))
-
-    def test_few_bytes(self):
-        """No thread has ever updated with many."""
-        for make, size, wanted in (
-                *((make, (), wanted) for _, make, wanted, _, _ in FAMILIES),
-                *((make, (99,), make) for _, make, _ in OUTPUTS)):
-            hasher, barrier = make(), threading.Barrier(4)
-
-            def work():
-                barrier.wait(20)
-                for _ in range(3000):
-                    hasher.update(bytes(99))
-
-            threads = [threading.Thread(target=work) for _ in range(4)]
-            for thread in threads:
-                thread.start()
-            for thread in threads:
-                thread.join()
-            self.assertEqual(hasher.digest(*size), wanted(bytes(4 * 3000 * 99)).digest(*size))
-
-    def test_trees(self):
-        """A count meanwhile never becomes less."""
-        hasher, counts = vulfsjor.TreeHasher(1 << 12, digest_size=20), []
-        length = self.shared(hasher, lambda: counts.append((hasher.count, hasher.digest_size)))
-        self.assertEqual((hasher.count, {size for _, size in counts}), (length, {20}))
-        self.assertEqual(counts, sorted(counts))
-        self.assertEqual(hasher.digest(), oracle.tree_root(bytes(length), 1 << 12, 20))
-
-    def test_counts_of_whole_updates(self):
-        hasher, counts, piece = vulfsjor.TreeHasher(64), set(), bytes(100_003)
-
-        def work():
-            for _ in range(100):
-                hasher.update(piece)
-
-        thread = threading.Thread(target=work)
-        thread.start()
-        while thread.is_alive():
-            counts.add(hasher.count)
-        self.assertEqual({count % len(piece) for count in counts}, {0})
 
 
 class Modules(unittest.TestCase):

@@ -63,12 +63,10 @@ class Test(unittest.TestCase):
         self.assertEqual(done.returncode, 0, done.stdout)
         return done.stdout
 
-    def agrees_with_hashlib(self, folder, *prefix, calls):
+    def compares(self, folder, *prefix):
         """The package in a folder returns what hashlib does."""
-        self.succeeds(*prefix, sys.executable, "-m", "unittest", "test_against_hashlib",
-                      "test_api.KnownAnswers", cwd=HERE,
-                      env={**os.environ, "VULFSJOR_PACKAGE": folder,
-                           "VULFSJOR_TEST_CALLS": str(calls)})
+        self.succeeds(*prefix, sys.executable, "-m", "unittest", "test_against_hashlib", "test_api.KnownAnswers",
+                      cwd=HERE, env={**os.environ, "VULFSJOR_PACKAGE": folder})
 
 
 @unittest.skipIf(absent(tools=["nm", "objdump"]), "no nm and objdump")
@@ -326,7 +324,7 @@ class Build(Test):
     def is_installed(self, folder):
         names = set(os.listdir(os.path.join(folder, "vulfsjor")))
         self.assertEqual(names - {"__pycache__"}, PACKAGE)
-        self.agrees_with_hashlib(folder, calls=1000)
+        self.compares(folder)
 
     def test_source_distribution(self):
         """It has what it needs and nothing else, and its own files are what it uses. In another
@@ -445,7 +443,7 @@ class Processors(Test):
 
     @long
     def test_processor_without_avx2(self):
-        self.agrees_with_hashlib(FOLDER, "qemu-x86_64", "-cpu", "Nehalem", calls=200)
+        self.compares(FOLDER, "qemu-x86_64", "-cpu", "Nehalem")
 
     def test_processors_below_x86_64_v2(self):
         """One that has fewer features, and in the full test each that has all but one. With other

@@ -58,10 +58,11 @@ class Interpreters(unittest.TestCase):
         """The same module returns what hashlib does in each version."""
         for version, python in interpreters().items():
             if not version[2] and version[:2] != sys.version_info[:2]:
-                for file in ("test_against_hashlib.py", "test_mac.py", "test_parallel.py", "test_tree_*.py"):
+                for file in ("test_against_hashlib.py", "test_conformance.py", "test_mac.py", "test_parallel.py",
+                             "test_tree_*.py"):
                     with self.subTest(python=python, file=file):
                         self.succeeds(python, "-m", "unittest", "discover", HERE, file,
-                                      VULFSJOR_PACKAGE=FOLDER, VULFSJOR_TEST_CALLS="500")
+                                      VULFSJOR_PACKAGE=FOLDER)
 
     def test_without_the_gil(self):
         """The module is built for that Python, leaves the GIL off, and passes the tests."""
@@ -76,10 +77,10 @@ class Interpreters(unittest.TestCase):
                 self.succeeds(python, "-c", f"import sys; sys.path.insert(0, {folder!r}); "
                               "import vulfsjor; assert not sys._is_gil_enabled()")
                 self.succeeds(python, os.path.join(HERE, "in_subinterpreters.py"), folder)
-                for file in ("test_against_hashlib.py", "test_api.py", "test_mac.py", "test_parallel.py",
-                             "test_tree_*.py"):
+                for file in ("test_against_hashlib.py", "test_api.py", "test_conformance.py", "test_mac.py",
+                             "test_parallel.py", "test_threads.py", "test_tree_*.py"):
                     self.succeeds(python, "-m", "unittest", "discover", HERE, file,
-                                  VULFSJOR_PACKAGE=folder, VULFSJOR_TEST_CALLS="500")
+                                  VULFSJOR_PACKAGE=folder)
 
 
 if __name__ == "__main__":

@@ -118,23 +118,6 @@ class Verify(unittest.TestCase):
 class Macs(unittest.TestCase):
     """The classes of MACs next to keyed hashes."""
 
-    def test_random_calls(self):
-        for _ in range(400):
-            _, make, make_mac, wanted, longest, salt = DICE.choice(FAMILIES)
-            key, data = DICE.randbytes(DICE.randint(1, longest)), DICE.randbytes(DICE.randint(0, 700))
-            words = {"salt": DICE.randbytes(DICE.randint(0, salt)), "person": DICE.randbytes(salt),
-                     "digest_size": DICE.randint(1, longest)}
-            words = {name: word for name, word in words.items() if DICE.random() < 0.5}
-            tag, cut = wanted(data, key=key, **words).digest(), DICE.randint(0, len(data))
-            mac = make_mac(key, data[:cut], **words)
-            early = mac.copy()
-            mac.update(memoryview(data)[cut:])
-            self.assertEqual((mac.digest(), mac.hexdigest()), (tag, tag.hex()))
-            early.update(data[cut:])
-            self.assertEqual((early.digest(), make(data, key=key, **words).digest()), (tag, tag))
-            self.assertEqual(make_mac(data=data, key=bytearray(key), **words).digest(), tag)
-            self.assertEqual((mac.digest_size, early.digest_size), (len(tag), len(tag)))
-
     def test_fields(self):
         for name, make, make_mac, _, longest, salt in FAMILIES:
             mac, plain = make_mac(KEY, digest_size=5), make()

@@ -1,16 +1,11 @@
-"""Compares BLAKE2bp and BLAKE2sp with the program written from the specification, over random
-cases, and their exceptions with those of Python's own BLAKE2b and BLAKE2s. VULFSJOR_TEST_CALLS is
-the number of random cases. test_api.py has the known answers, and what all families share.
-"""
+"""Compares the exceptions of BLAKE2bp and BLAKE2sp with those of Python's own BLAKE2b and BLAKE2s. test_conformance.py
+has their digests, and test_api.py what all families share."""
 import inspect
 import operator
-import os
-import random
 import types
 import unittest
 
 import _blake2
-from support import HUGE
 from test_against_hashlib import edge_parameters, edges_of_objects, inputs, outcome
 import oracle
 import vectors
@@ -32,67 +27,9 @@ def parallel(name):
     return make
 
 
-DICE = random.Random(2013)
 FAMILIES = (("blake2bp", "blake2b", parallel("b"), 64, 128),
             ("blake2sp", "blake2s", parallel("s"), 32, 64))
 TEXTS = ("key", "salt", "person")
-
-
-def random_length(block):
-    """A length of at most four stripes of 512 bytes, mostly around the end of a block."""
-    end = block * DICE.randint(0, 4 * 512 // block)
-    return DICE.choice([end, end + 1, max(0, end - 1), DICE.randint(0, 4 * 512)])
-
-
-def random_words(longest):
-    """Random parameters, each now and then, with the smallest and the largest among them."""
-    most = {"digest_size": longest, "key": longest, "salt": longest // 4, "person": longest // 4}
-    sizes = {name: DICE.choice([1, size, DICE.randint(1, size)])
-             for name, size in most.items() if DICE.random() < 0.5}
-    return {name: DICE.randbytes(size) if name in TEXTS else size for name, size in sizes.items()}
-
-
-def digests_in_pieces(make, words, message):
-    """The digests of an object that absorbs the message in pieces, and of a copy that is made
-    before the last of them and absorbs the rest in two."""
-    cuts = sorted(min(len(message), DICE.choice([random_length(64), DICE.randint(0, len(message))]))
-                  for _ in range(3))
-    hasher = make(message[:cuts[0]], **words)
-    hasher.update(message[cuts[0]:cuts[1]])
-    copy = hasher.copy()
-    hasher.update(bytearray(message[cuts[1]:]))
-    yield hasher.digest()
-    copy.update(memoryview(message)[cuts[1]:cuts[2]])
-    copy.update(message[cuts[2]:])
-    yield copy.digest()
-    yield hasher.digest()
-    yield bytes.fromhex(hasher.hexdigest())
-
-
-class Digests(unittest.TestCase):
-    """Digests and tags."""
-
-    def test_random_cases(self):
-        for _ in range(int(os.environ.get("VULFSJOR_TEST_CALLS", 1000 if HUGE else 300))):
-            name, _, wanted, longest, block = DICE.choice(FAMILIES)
-            make, words = getattr(vulfsjor, name), random_words(longest)
-            message = DICE.randbytes(random_length(block))
-            digest = wanted(message, **words).digest()
-            found = {make(message, **words).digest(), *digests_in_pieces(make, words, message)}
-            self.assertEqual(found, {digest}, (name, words, message))
-            if words.get("key"):
-                self.assertIsNone(make(message, **words).verify(digest))
-                wrong = bytes([digest[0] ^ 1]) + digest[1:]
-                self.assertRaises(vulfsjor.InvalidTag, make(message, **words).verify, wrong)
-
-    def test_long_messages(self):
-        """Against leaves and a root by hashlib, in pieces of each kind."""
-        for name, _, wanted, _, _ in FAMILIES:
-            for length in (65536, 100_003, 3 << 20):
-                message = DICE.randbytes(length)
-                for words in ({}, {"salt": b"salt", "person": b"person"}):
-                    digests = digests_in_pieces(getattr(vulfsjor, name), words, message)
-                    self.assertEqual(set(digests), {wanted(message, **words).digest()})
 
 
 class Arguments(unittest.TestCase):

@@ -1,45 +1,16 @@
-"""Tests of TreeHasher, against hashlib: data in pieces, copies, leaves by their digests, and threads that share one."""
-import array
+"""Tests of TreeHasher: what it refuses and how, lengths near 2^58, what is left of it, and threads that share one.
+test_conformance.py has its roots."""
 import ctypes
 import threading
 import unittest
 
-from common_trees import DATA, DICE, MIB, TEXTS, Test
+from trees import DATA, MIB, Test
 import oracle
 import vulfsjor
 
 
-class Pieces(Test):
-    """The tree over data in pieces."""
-
-    def test_roots_are_those_of_hashlib(self):
-        for length in (0, 1, 99, 100, 101, 400, 401, 5000, 30000):
-            for piece in (1, 99, 100, 101, 777, 5000):
-                if length // piece < 2000:
-                    size = DICE.randint(1, 64)
-                    hasher = vulfsjor.TreeHasher(100, digest_size=size, **TEXTS)
-                    for at in range(0, length, piece):
-                        self.assertIsNone(hasher.update(DATA[at:min(at + piece, length)]))
-                    wanted = oracle.tree_root(DATA[:length], 100, size, **TEXTS)
-                    self.assertEqual((hasher.digest(), hasher.hexdigest()), (wanted, wanted.hex()))
-                    self.assertEqual(
-                        (hasher.digest(), hasher.digest_size, hasher.leaf_size), (wanted, size, 100)
-                    )
-
-    def test_copies_go_on_by_themselves(self):
-        for size in (1, 20, 64):
-            hasher = vulfsjor.TreeHasher(10, digest_size=size, **TEXTS)
-            hasher.update(b"abc")
-            other = hasher.copy()
-            hasher.update(b"defghijklm")
-            self.assertEqual((type(other), other.leaf_size, other.digest_size, other.count),
-                             (vulfsjor.TreeHasher, 10, size, 3))
-            for each, data in ((other, b"abc"), (hasher, b"abcdefghijklm")):
-                wanted = oracle.tree_root(data, 10, size, **TEXTS)
-                self.assertEqual((each.digest(), each.hexdigest()), (wanted, wanted.hex()))
-            del hasher
-            other.update(bytes(5000))
-            self.assertEqual(other.copy().digest(), oracle.tree_root(b"abc" + bytes(5000), 10, size, **TEXTS))
+class Hasher(Test):
+    """A hasher by itself."""
 
     def test_data_is_refused(self):
         hasher = vulfsjor.TreeHasher(10)
@@ -125,31 +96,6 @@ class Pieces(Test):
 
 class Leaves(Test):
     """Leaves that a hasher absorbs by their digests."""
-
-    def test_leaves_by_their_digests(self):
-        data = DATA[:2000]
-        for before in (0, 1, 2, 7):
-            for leaves in (0, 1, 2, 3, 4, 5, 9, 12):
-                hasher = vulfsjor.TreeHasher(100, **TEXTS)
-                hasher.update(data[:100 * before])
-                end = 100 * (before + leaves)
-                starts = range(100 * before, end, 200)
-                digests = [
-                    hasher.leaves_ahead(data[at:min(at + 200, end)], at // 100 - before)
-                    for at in starts
-                ]
-                wanted = oracle.range_digests(data[100 * before:end], 100, before, False, **TEXTS)
-                self.assertEqual(b"".join(digests), wanted if leaves else b"")
-                self.assertEqual(hasher.count, 100 * before)
-                self.assertIsNone(hasher.update_leaves(b"".join(digests), data[end:end + 1]))
-                self.assertEqual(hasher.count, end + 1)
-                hasher.update(data[end + 1:])
-                self.assertEqual(hasher.digest(), oracle.tree_root(data, 100, **TEXTS))
-                self.assertEqual(hasher.count, 2000)
-        hasher = vulfsjor.TreeHasher(1000)
-        digests = hasher.leaves_ahead(memoryview(DATA)[:MIB // 1000 * 1000], skip=0)
-        hasher.update_leaves(bytearray(digests), memoryview(DATA)[MIB // 1000 * 1000:])
-        self.assertEqual(hasher.digest(), oracle.tree_root(DATA, 1000))
 
     def test_leaves_are_refused(self):
         boundary = "the hasher is not at a leaf boundary"

@@ -1,9 +1,7 @@
-"""Tests of what a tree refuses, and of its root by ranges of leaves, against hashlib."""
-import array
+"""Tests of what the calls of a tree refuse, with the texts. test_conformance.py has what they return."""
 import unittest
 
-from common_trees import DATA, DICE, MIB, ROOT, TEXTS, Test
-import oracle
+from trees import DATA, ROOT, TEXTS, Test
 import vulfsjor
 
 
@@ -84,45 +82,6 @@ class Parameters(Test):
 
 class Parts(Test):
     """Ranges of leaves."""
-
-    def test_ranges_are_those_of_hashlib(self):
-        for leaf_size in (1, 7, 64, 128, 129, 1000):
-            for count in (1, 2, 3, 4, 5, 8, 9):
-                for first in (0, 1, 5, 2**32 + 1, (2**58 - 1) // leaf_size - count):
-                    data = DICE.randbytes(count * leaf_size)
-                    for ends, part in (
-                        (False, data), (True, data), (True, data[:len(data) - leaf_size // 2])
-                    ):
-                        wanted = oracle.range_digests(part, leaf_size, first, ends, **TEXTS)
-                        found = vulfsjor.tree_leaves(
-                            part, leaf_size, first=first, ends=ends, **TEXTS
-                        )
-                        self.assertEqual(found, wanted)
-        found = vulfsjor.tree_leaves(b"", 5, first=0, ends=True)
-        self.assertEqual(found, oracle.range_digests(b"", 5))
-        for data in (bytearray(b"abc"), memoryview(b"xabcx")[1:4], array.array("b", b"abc")):
-            found = vulfsjor.tree_leaves(data, 2, first=1, ends=True)
-            self.assertEqual(found, oracle.range_digests(b"abc", 2, 1))
-
-    def test_the_root_of_any_cut(self):
-        for length in (0, 1, 99, 100, 101, 1000, 1234):
-            data = DATA[:length]
-            for part in (1, 3, 4, 100):
-                starts = range(0, max(length, 1), 100 * part)
-                digests = b"".join(
-                    vulfsjor.tree_leaves(
-                        data[at:at + 100 * part],
-                        100,
-                        first=at // 100,
-                        ends=at + 100 * part >= length,
-                        **TEXTS,
-                    )
-                    for at in starts
-                )
-                self.assertEqual(len(digests), 64 * vulfsjor.tree_leaf_count(length, 100))
-                for size in (1, 20, 64):
-                    root = vulfsjor.tree_root_of_leaves(digests, 100, digest_size=size, **TEXTS)
-                    self.assertEqual(root, oracle.tree_root(data, 100, size, **TEXTS))
 
     def test_ranges_are_refused(self):
         leaves, tail = vulfsjor.tree_leaves, "data must be whole leaves, unless it ends the message"

@@ -1,6 +1,5 @@
-"""BLAKE2Xb, BLAKE2Xs and derived keys: the test vectors and the authors' vectors in pieces, copies, threads, and what
-is refused."""
-import random
+"""BLAKE2Xb, BLAKE2Xs and derived keys: the authors' vectors, what is refused and how, and threads. test_conformance.py
+has other values."""
 import threading
 import unittest
 
@@ -12,47 +11,7 @@ FAMILIES = (("blake2xb", vulfsjor.blake2xb, "b", 64, 16, 2**32 - 2, 64 << 32),
             ("blake2xs", vulfsjor.blake2xs, "s", 32, 8, 2**16 - 2, 32 << 32))
 
 
-def in_pieces(make, data, dice, **words):
-    """An object that absorbs the data in random pieces."""
-    found, at = make(**words), 0
-    while at < len(data):
-        count = dice.choice([1, 64, 128, dice.randint(1, 200)])
-        found.update(data[at:at + count])
-        at += count
-    return found
-
-
 class Outputs(unittest.TestCase):
-    def outputs(self, make, data, wanted, dice, **words):
-        """All of an output and its beginnings, of an object, of a copy, and in one call."""
-        found = in_pieces(make, data, dice, **words)
-        self.assertEqual(found.digest(len(wanted)), wanted)
-        for count in (0, 1, len(wanted) // 2, len(wanted) - 1):
-            self.assertEqual(found.digest(count), wanted[:count])
-            self.assertEqual(found.hexdigest(count), wanted[:count].hex())
-        other = found.copy()
-        found.update(b"other")
-        self.assertNotEqual(found.digest(len(wanted) + 16 if "length" not in words else len(wanted)), wanted)
-        self.assertEqual(other.digest(len(wanted)), wanted)
-        self.assertEqual(make(data, **words).hexdigest(len(wanted)), wanted.hex())
-
-    def test_vectors(self):
-        dice, count, derived = random.Random(1), 0, 0
-        for case in vectors.cases():
-            if case["kind"] != "output":
-                continue
-            count += 1
-            words = vectors.arguments(case)
-            if case["is_known"]:
-                words["length"] = case["size"]
-            make = getattr(vulfsjor, "blake2x" + case["hash"][-1])
-            data, wanted = vectors.message(case), bytes.fromhex(case["digest"])
-            self.outputs(make, data, wanted, dice, **words)
-            if case["hash"] == "blake2b" and case["is_known"] and case["key"] and not case["salt"]:
-                derived += 1
-                self.assertEqual(vulfsjor.derive_key(words["key"], data, case["size"]), wanted)
-        self.assertEqual((count, derived), (264, 22))
-
     def test_the_authors_vectors(self):
         for name, make, letter, *_ in FAMILIES:
             try:
