@@ -156,12 +156,12 @@ def module_name():
         "_library.abi3.so")
 
 
-def compiled():
-    """The bytes of the module."""
+def compiled(files):
+    """The bytes of the module, from these files."""
     system, processor, options = target()
     includes = {sysconfig.get_path("include"), sysconfig.get_path("platinclude")}
     with tempfile.TemporaryDirectory() as work:
-        for name, path in source_files().items():
+        for name, path in files.items():
             if name.startswith("src/"):
                 os.makedirs(os.path.dirname(f"{work}/{name}"), exist_ok=True)
                 shutil.copyfile(path, f"{work}/{name}")
@@ -237,9 +237,9 @@ def prepare_metadata_for_build_wheel(metadata_directory, config_settings=None):
 def build_wheel(wheel_directory, config_settings=None, metadata_directory=None):
     """Makes a wheel."""
     del config_settings, metadata_directory
-    files = {name: path.read_bytes() for name, path in source_files().items()
-             if name.startswith("vulfsjor/")}
-    return write_wheel(wheel_directory, {**files, f"vulfsjor/{module_name()}": compiled()})
+    found = source_files()
+    files = {name: path.read_bytes() for name, path in found.items() if name.startswith("vulfsjor/")}
+    return write_wheel(wheel_directory, {**files, f"vulfsjor/{module_name()}": compiled(found)})
 
 
 prepare_metadata_for_build_editable = prepare_metadata_for_build_wheel
@@ -248,7 +248,7 @@ prepare_metadata_for_build_editable = prepare_metadata_for_build_wheel
 def build_editable(wheel_directory, config_settings=None, metadata_directory=None):
     """Writes the module to this folder's package, and makes a wheel that points to this folder."""
     del config_settings, metadata_directory
-    (HERE / "vulfsjor" / module_name()).write_bytes(compiled())
+    (HERE / "vulfsjor" / module_name()).write_bytes(compiled(source_files()))
     return write_wheel(wheel_directory, {f"{PROJECT['name']}.pth": os.fsencode(HERE) + b"\n"})
 
 

@@ -218,6 +218,16 @@ class Counts(unittest.TestCase):
                 self.assertEqual(hasher.digest(*size), before)
 
 
+def fail(*calls):
+    """Makes calls that are refused. assertRaises takes longer."""
+    for call in calls:
+        try:
+            call()
+        except (TypeError, ValueError):
+            continue
+        raise AssertionError("a call is not refused")
+
+
 class Views(unittest.TestCase):
     """A call lets go of its arguments, whether it succeeds or fails: a bytearray can then grow."""
 
@@ -286,7 +296,7 @@ class Views(unittest.TestCase):
                     hasher.digest(), hasher.hexdigest(), hasher.verify(hasher.digest())
                     make_mac(b"key", bytes(3000)).verify(make_mac(b"key", bytes(3000)).digest())
                     vulfsjor.file_digest(io.BytesIO(b"x"), make_mac, key=b"key").copy()
-                    for call in (
+                    fail(
                         lambda: hasher.verify(b"x"),
                         lambda: hasher.verify("x"),
                         lambda: make().verify(b"x"),
@@ -298,12 +308,11 @@ class Views(unittest.TestCase):
                         lambda: make(depth=0),
                         lambda: make(leaf_size=-1),
                         lambda: vulfsjor.tree_root("x", 1),
-                    ):
-                        self.assertRaises((TypeError, ValueError), call)
+                        lambda: (many or make)([b"x", "x"]),
+                    )
                     vulfsjor.tree_root(b"x", 1)
                     if many:
                         many([b"x"] * 5)
-                        self.assertRaises(TypeError, many, [b"x", "x"])
 
         self.keeps_nothing(work)
 
@@ -315,12 +324,11 @@ class Views(unittest.TestCase):
                     found.copy().update(bytes(3000))
                     found.digest(3000), found.hexdigest(3000)
                     vulfsjor.derive_key(b"key", b"", 3000)
-                    for call in (
+                    fail(
                         lambda: make("x"), lambda: make(length=0), lambda: found.digest(3001),
                         lambda: found.hexdigest(-1), lambda: found.digest("x"),
                         lambda: vulfsjor.derive_key(b"", b"", 1),
-                    ):
-                        self.assertRaises((TypeError, ValueError), call)
+                    )
 
         self.keeps_nothing(work)
 
@@ -335,13 +343,12 @@ class Views(unittest.TestCase):
                 hasher.digest(), hasher.hexdigest(), hasher.count
                 front = vulfsjor.tree_leaves(bytes(20), 10, first=0, ends=False)
                 vulfsjor.tree_root_of_leaves(front, 10), vulfsjor.tree_leaf_count(5, 10)
-                for call in (
+                fail(
                     lambda: vulfsjor.TreeHasher(0), lambda: hasher.update("x"),
                     lambda: hasher.leaves_ahead(b"x"), lambda: hasher.update_leaves(b"x", b""),
                     lambda: vulfsjor.tree_leaves(b"", 10, first=1, ends=True),
                     lambda: vulfsjor.tree_root_of_leaves(b"", 10),
-                ):
-                    self.assertRaises((TypeError, ValueError), call)
+                )
             for _ in range(100):
                 vulfsjor.tree_root(data, 4096, threads=2)
                 vulfsjor.TreeHasher(4096).update(data, threads=2)

@@ -2,14 +2,17 @@
 the module for 64-bit ARM and on processors that qemu emulates."""
 import base64
 import concurrent.futures
+import contextlib
 import email
 import glob
 import hashlib
+import io
 import os
 import pathlib
 import platform
 import re
 import resource
+import runpy
 import shutil
 import struct
 import sys
@@ -18,6 +21,7 @@ import tarfile
 import tempfile
 import tomllib
 import unittest
+from unittest import mock
 import zipfile
 
 import support
@@ -100,26 +104,35 @@ class Build(Test):
                             ignore=shutil.ignore_patterns("__pycache__", "*.so"))
         return os.path.join(folder, "python")
 
-    def words(self, call, folder, environment, prefix=""):
-        """The command that makes a wheel or a source distribution in self.folder, with lines of
-        Python before it, and its environment."""
+    def build(self, call, folder, environment, prefix):
+        """Runs the program that makes a wheel or a source distribution in self.folder, in this process, with lines of
+        Python before it. What it prints, and why it ends, or None."""
         path = os.path.join(folder, "build_package.py")
-        code = (f"import runpy, sys, sysconfig\nsys.argv[0] = {path!r}\n{prefix}\n"
-                "runpy.run_path(sys.argv[0], run_name='__main__')")
-        return ([sys.executable, *(["-c", code] if prefix else [path]), call, self.folder],
-                {**os.environ, **environment})
+        with contextlib.ExitStack() as changed:
+            changed.enter_context(mock.patch.dict(os.environ, environment))
+            changed.enter_context(mock.patch.object(sys, "argv", [path, call, self.folder]))
+            for owner, name in ((sys, "version_info"), (sys, "maxsize"), (sysconfig, "get_path"),
+                                (sysconfig, "get_config_var")):
+                changed.enter_context(mock.patch.object(owner, name, getattr(owner, name)))
+            printed = changed.enter_context(contextlib.redirect_stdout(io.StringIO()))
+            exec(prefix, {"sys": sys, "sysconfig": sysconfig})
+            try:
+                runpy.run_path(path, run_name="__main__")
+            except SystemExit as end:
+                return printed.getvalue(), end.code
+            return printed.getvalue(), None
 
     def made(self, call, folder, prefix="", **environment):
         """The path of a new wheel or source distribution."""
-        words, env = self.words(call, folder, environment, prefix)
-        return os.path.join(self.folder, self.succeeds(*words, env=env).splitlines()[-1])
+        printed, why = self.build(call, folder, environment, prefix)
+        self.assertIsNone(why)
+        return os.path.join(self.folder, printed.splitlines()[-1])
 
     def refused(self, folder=os.path.join(TOP, "python"), prefix="", **environment):
-        """What a build prints last when it ends with status 1, with lines of Python before it."""
-        words, env = self.words("wheel", folder, environment, prefix)
-        done = run(*words, env=env)
-        self.assertEqual(done.returncode, 1, done.stdout)
-        return done.stdout.splitlines()[-1]
+        """Why a build is refused, with lines of Python before it. It prints nothing else."""
+        printed, why = self.build("wheel", folder, environment, prefix)
+        self.assertEqual((printed, type(why)), ("", str), why)
+        return why
 
     def fake(self, name="fake compiler", printing="""printf '%s\\n' "$@\""""):
         """The path of a compiler that writes its words, or what another command prints."""
@@ -151,11 +164,10 @@ class Build(Test):
                                        CFLAGS="-O0")) as wheel:
             wheel.extractall(os.path.join(self.folder, "portable"))
         code = "import vulfsjor; print(vulfsjor.blake2b(b'abc', key=b'k').hexdigest())"
-        emulators = [[]] + [["qemu-x86_64", "-cpu", "core2duo"]] * (X86 and not absent(tools=["qemu-x86_64"]))
-        for emulator in emulators:
-            self.assertEqual(self.succeeds(*emulator, sys.executable, "-c", code,
-                                           cwd=os.path.join(self.folder, "portable")).strip(),
-                             hashlib.blake2b(b"abc", key=b"k").hexdigest())
+        has_emulator = X86 and not absent(tools=["qemu-x86_64"])
+        self.assertEqual(self.succeeds(*["qemu-x86_64", "-cpu", "core2duo"] * has_emulator, sys.executable, "-S", "-c",
+                                       code, cwd=os.path.join(self.folder, "portable")).strip(),
+                         hashlib.blake2b(b"abc", key=b"k").hexdigest())
 
     def test_what_is_missing(self):
         said = "build_package.py: there is no C compiler{}: install GCC{}, or set CC"
@@ -168,7 +180,7 @@ class Build(Test):
                          "GCC of MinGW-w64")
         self.assertEqual(self.refused(CC="false"), "build_package.py: the compiler failed")
         self.assertEqual(
-            self.refused(prefix="sysconfig.get_path = lambda name: '/absent'"),
+            self.refused(prefix="sysconfig.get_path = lambda name: '/absent'", CC="false"),
             "build_package.py: the compiler failed: Python.h is missing; install the headers, such "
             "as Debian's python3-dev")
         self.assertEqual(self.refused(prefix="sys.version_info = (3, 10, 9)"),
@@ -423,7 +435,7 @@ class Build(Test):
         os.makedirs(folder)
         with open(os.path.join(folder, "pyconfig.h"), "w", encoding="utf-8") as file:
             file.write(f'#include "/usr/include/{here}/{version}/pyconfig.h"\n')
-        done = support.build(self.folder, CFLAGS=f"-I{self.folder}/include",
+        done = support.build(self.folder, CFLAGS=f"-O0 -I{self.folder}/include",
                              CC="aarch64-linux-gnu-gcc", _PYTHON_HOST_PLATFORM="linux-aarch64")
         self.assertEqual(done.returncode, 0, done.stdout)
         path = os.path.join(self.folder, "vulfsjor", "_library.abi3.so")

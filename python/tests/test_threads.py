@@ -11,7 +11,7 @@ from test_api import FAMILIES, OUTPUTS
 import oracle
 import vulfsjor
 
-LONG = bytes(1 << 26)
+LONG = bytes(1 << 24)
 
 
 def accepts(mac, tag):

@@ -128,10 +128,10 @@ class Updates(Test):
     """Updates by threads."""
 
     def test_roots_are_those_of_hashlib(self):
-        for leaf_size in (1000, 1 << 16, MIB, MIB + 1, 3 * MIB, 20 * MIB):
+        for leaf_size in (1000, 1 << 16, MIB + 1, 3 * MIB, 20 * MIB):
             wanted = oracle.tree_root(DATA, leaf_size, 20, **TEXTS)
-            for cut in (0, 1, leaf_size, 5 * MIB, 5 * MIB + 7, len(DATA) - 1, len(DATA)):
-                for threads in (0, 1, 3):
+            for cut in (1, leaf_size, 5 * MIB + 7, len(DATA)):
+                for threads in (0, 3):
                     hasher = vulfsjor.TreeHasher(leaf_size, digest_size=20, **TEXTS)
                     for piece in (DATA[:cut], bytearray(DATA[cut:]), b""):
                         self.assertIsNone(hasher.update(piece, threads=threads))
