@@ -1,13 +1,11 @@
 // Each argument at its edges and beyond, and the exact texts of the errors.
 import assert from "node:assert/strict";
-import { execFileSync } from "node:child_process";
-import { createHash } from "node:crypto";
 import test from "node:test";
 import vm from "node:vm";
 import {
   Blake2b, Blake2bp, Blake2s, Blake2sp, TreeHash, blake2b, blake2bMany, blake2bStream, blake2bp,
   blake2bpStream, blake2s, blake2sMany, blake2sStream, blake2sp, blake2spStream, equal, fromHex,
-  hex, load, treeRoot, treeRootStream, utf8,
+  hex, load, treeLeaves, treeRoot, treeRootOfLeaves, treeRootStream, utf8,
 } from "../index.js";
 import { memories } from "../src/engine.js";
 import { assertClean, hexOf } from "./common.mjs";
@@ -120,43 +118,6 @@ test("memory that was taken away is refused", () => {
       "blake2b: the memory of message is detached or has shrunk");
   }
   assert.deepEqual(blake2b(follows), blake2b(new Uint8Array(6)));
-});
-
-test("a SharedArrayBuffer is bytes, wherever bytes are expected", async () => {
-  const shared = new SharedArrayBuffer(3);
-  new Uint8Array(shared).set(M);
-  const chunks = (async function* () { yield shared; })();
-  for (const digest of [
-    blake2b(shared), new Blake2b().update(shared).digest(), blake2bMany([shared])[0],
-    await blake2bStream(chunks),
-  ]) {
-    assert.deepEqual(digest, blake2b(M));
-  }
-  for (const what of ["key", "salt", "personalization"]) {
-    assert.deepEqual(blake2s(M, { [what]: shared }), blake2s(M, { [what]: M }));
-  }
-  assert.ok(equal(shared, M) && equal(M, shared) && hex(shared) === "616263");
-  assert.deepEqual(treeRoot(shared, { leafLength: 2 }), treeRoot(M, { leafLength: 2 }));
-});
-
-test("bytes of other realms, of subclasses, and of objects that lie about themselves", () => {
-  const wanted = createHash("blake2b512").update("abc").digest("hex");
-  const foreign = vm.runInNewContext(
-    "({ u: Uint8Array.of(97, 98, 99), b: Uint8Array.of(97, 98, 99).buffer, o: {} })");
-  assert.equal(hexOf(blake2b(foreign.u)), wanted);
-  assert.equal(hexOf(blake2b(foreign.b, foreign.o)), wanted);
-  class Liar extends Uint8Array {
-    get length() { return 1; }
-    get byteLength() { return 2; }
-    get buffer() { return new ArrayBuffer(3); }
-    get byteOffset() { return 1; }
-    subarray() { return M; }
-    static get [Symbol.species]() { return Array; }
-  }
-  assert.equal(hexOf(blake2b(Liar.of(97, 98, 99))), wanted);
-  assert.equal(hexOf(new Blake2b().update(Liar.of(97, 98)).update(Liar.of(99)).digest()), wanted);
-  assert.equal(hexOf(blake2b(new Uint16Array([0x6261]))), hexOf(blake2b(utf8("ab"))));
-  assert.equal(hexOf(blake2b(new Float64Array(2))), hexOf(blake2b(new Uint8Array(16))));
 });
 
 const NO_NUMBERS = [
@@ -290,128 +251,6 @@ for (const [name, hash, Hasher, most, short, offset] of FAMILIES) {
   });
 }
 
-test("properties of the prototype of all objects are not options", async () => {
-  const salt = bytes(3);
-  const calls = [
-    () => blake2b(M), () => blake2b(M, {}), () => blake2s(M, { salt }),
-    () => new Blake2b({ salt }).update(M).digest(),
-    () => blake2b(M, { tree: {} }), () => treeRoot(M, { leafLength: 2 }), () => blake2bMany([M])[0],
-    () => blake2bStream(new Blob([M])),
-  ];
-  const digests = async () => (await Promise.all(calls.map((call) => call()))).map(hexOf);
-  const wanted = await digests();
-  const names = [
-    "key", "digestLength", "personalization", "fanout", "lastNode", "tree", "signal", "onProgress",
-    "x",
-  ];
-  for (const name of names) Object.prototype[name] = 5;
-  const got = await digests().finally(() => names.forEach((name) => delete Object.prototype[name]));
-  assert.deepEqual(got, wanted);
-  assert.equal(wanted[0], createHash("blake2b512").update("abc").digest("hex"));
-});
-
-// A program that makes calls before and after Object.prototype has more properties, such as indices.
-const POLLUTED = `
-  const pollute = () => NAMES.forEach((name) => (Object.prototype[name] = "0"));
-  if (IS_BEFORE) pollute();
-  const { Blake2b, Blake2s, Blake2xb, blake2b, blake2bMany, blake2bp, blake2s, equal, treeRoot, utf8 } =
-    await import(INDEX);
-  if (!IS_BEFORE) pollute();
-  const [message, key, salt] = [utf8("a message"), utf8("a key"), utf8("salt")];
-  const digests = [
-    blake2b(message), blake2b(message, { key }), blake2s(message, { digestLength: 7 }),
-    blake2b(message, { key, salt }), new Blake2b({ key, salt }).update(message).digest(),
-    new Blake2s().update(message).digest(), new Blake2s().digest(),
-    blake2bMany([message, salt], { key })[1], treeRoot(message, { leafLength: 5, salt }),
-    new Blake2xb({ key }).update(message).read(9), blake2bp(message, { key }),
-  ];
-  const isEqual = [equal(message, message.slice()), equal(salt, utf8("pepper").subarray(0, 4))];
-  for (const name of NAMES) delete Object.prototype[name];
-  console.log(digests.map((digest) => Buffer.from(digest).toString("hex")).join(), isEqual.join());`;
-
-test("what other code gives to all objects is no length, no state and no digest", () => {
-  const index = JSON.stringify(new URL("../index.js", import.meta.url).href);
-  const run = (names, isBefore) => execFileSync(process.execPath, ["--input-type=module", "-e",
-    `const [INDEX, IS_BEFORE] = [${index}, ${isBefore}]; const NAMES = ${JSON.stringify(names)};` +
-      POLLUTED], { encoding: "utf8" });
-  const wanted = run([], false);
-  assert.match(wanted, / true,false\n$/);
-  const key = hexOf(utf8("a key"));
-  assert.equal(wanted.split(",")[1], execFileSync("python3", ["-c",
-    `import hashlib; print(hashlib.blake2b(b"a message", key=bytes.fromhex("${key}")).hexdigest())`],
-    { encoding: "utf8" }).trim());
-  // lengths of what the calls are passed, of digests and of hashes' tables
-  const names = [...Array(10).keys(), 32, 64, "node", "isPlain", "tree", "leafLength", "options",
-    "keyLength"];
-  for (const isBefore of [true, false]) assert.equal(run(names, isBefore), wanted);
-});
-
-test("it works without SharedArrayBuffer and Blob, as in some browsers", () => {
-  const index = new URL("../index.js", import.meta.url).href;
-  const program = `delete globalThis.SharedArrayBuffer;
-    delete globalThis.Blob;
-    const { blake2b, blake2bStream, hex } = await import("${index}");
-    const source = (async function* () { yield Uint8Array.of(97, 98, 99).buffer; })();
-    console.log(hex(blake2b(Uint8Array.of(97, 98, 99).buffer)));
-    console.log(hex(await blake2bStream(source)));`;
-  const words = ["--input-type=module", "-e", program];
-  const wanted = createHash("blake2b512").update("abc").digest("hex");
-  assert.equal(
-    execFileSync(process.execPath, words, { encoding: "utf8" }), `${wanted}\n${wanted}\n`);
-});
-
-test("options are read once, and code of theirs may hash", () => {
-  let count = 0;
-  const options = {
-    get key() {
-      count++;
-      blake2s(bytes(1000), { key: bytes(9) });
-      return bytes(3);
-    },
-  };
-  assert.deepEqual(blake2b(M, options), blake2b(M, { key: bytes(3) }));
-  assert.equal(count, 1);
-});
-
-test("the position of a node is read once, by a stream too", async () => {
-  let count = 0;
-  const tree = { get fanout() { return ++count; } };
-  assert.deepEqual(await blake2bStream(new Blob([M]), { tree }), blake2b(M, { tree: { fanout: 1 } }));
-  assert.equal(count, 1);
-});
-
-test("memory that code of the caller takes away during a call is no key of no bytes", async () => {
-  const take = (view) => structuredClone(0, { transfer: [view.buffer] });
-  const newKey = () => new Uint8Array(new ArrayBuffer(9)).fill(7);
-  const gone = { name: "TypeError", message: /the memory of key is detached or has shrunk$/ };
-  const calls = [
-    (key, tree) => blake2b(M, { key, tree }), (key, tree) => new Blake2b({ tree, key }),
-    (key, tree) => blake2s(M, { tree, key }),
-  ];
-  for (const call of calls) {
-    const key = newKey();
-    assert.throws(() => call(key, { get depth() { take(key); } }), gone, String(call));
-  }
-  for (const many of [blake2bMany, blake2sMany]) {
-    const key = newKey();
-    assert.throws(() => many((function* () { take(key); yield M; })(), { key }), gone);
-    const message = newKey();
-    assert.throws(() => many((function* () { yield message; take(message); })()),
-      { name: "TypeError", message: /the memory of message 0 is detached or has shrunk$/ });
-  }
-  for (const stream of [blake2bStream, blake2sStream]) {
-    const key = newKey();
-    const source = { [Symbol.iterator]() { take(key); return [M][Symbol.iterator](); } };
-    await assert.rejects(stream(source, { key }), gone);
-  }
-  for (const [hash, more] of [[blake2b, {}], [blake2sp, {}], [treeRoot, { leafLength: 5 }]]) {
-    const message = newKey();
-    assert.throws(() => hash(message, { ...more, get salt() { take(message); } }), TypeError);
-    blake2b(M);
-    assertClean();
-  }
-});
-
 test("the tree: leafLength and digestLength", () => {
   for (const leafLength of [1, 2, 3, 4, 2 ** 32 - 1]) treeRoot(M, { leafLength });
   for (const call of [(o) => treeRoot(M, o), (o) => new TreeHash(o)]) {
@@ -430,6 +269,61 @@ test("the tree: leafLength and digestLength", () => {
       `${caller}: unknown property "key" of options; ` +
         "known are leafLength, digestLength, salt, personalization");
   }
+});
+
+test("what is not a range of leaves is refused", () => {
+  const refuses = (call, name, message) => assert.throws(call, { name, message });
+  const leaves = (options, message = new Uint8Array(10)) =>
+    treeLeaves(message, { leafLength: 5, first: 0, ends: true, ...options });
+  assert.equal(leaves({}).length, 128);
+  refuses(() => leaves({ first: undefined }), "TypeError", "treeLeaves: first must be given");
+  refuses(() => leaves({ ends: undefined }), "TypeError", "treeLeaves: ends must be given");
+  refuses(() => leaves({ leafLength: undefined }), "TypeError",
+    "treeLeaves: leafLength must be given");
+  refuses(() => leaves({ leafLength: 0 }), "RangeError",
+    "treeLeaves: leafLength must be an integer from 1 to 4294967295, not 0");
+  refuses(() => leaves({ ends: 1 }), "TypeError",
+    "treeLeaves: ends must be a boolean, not a number");
+  refuses(() => leaves({ first: "0" }), "TypeError",
+    "treeLeaves: first must be a number or a bigint, not a string");
+  refuses(() => leaves({ first: -1 }), "RangeError",
+    `treeLeaves: first must be an integer from 0 to ${2n ** 58n - 1n}, not -1`);
+  refuses(() => leaves({ digestLength: 64 }), "TypeError",
+    'treeLeaves: unknown property "digestLength" of options; ' +
+      "known are leafLength, first, ends, salt, personalization");
+  refuses(() => leaves({ salt: new Uint8Array(17) }), "RangeError",
+    "treeLeaves: salt must have 0 to 16 bytes, not 17");
+  refuses(() => leaves({ ends: false, leafLength: 4 }), "RangeError",
+    "treeLeaves: message must be whole leaves of 4 bytes, not 10 bytes, unless it ends");
+  for (const wrong of [{ ends: false }, { first: 1 }]) {
+    refuses(() => leaves(wrong, new Uint8Array(0)), "RangeError",
+      "treeLeaves: message must have at least one leaf");
+  }
+  assert.equal(leaves({}, new Uint8Array(0)).length, 64);
+  const last = (2n ** 58n - 10n) / 5n; // leaf numbers whose range ends at 2^58 - 4, and 2^58 + 1
+  assert.equal(leaves({ first: last }).length, 128);
+  refuses(() => leaves({ first: last + 1n }), "RangeError",
+    "treeLeaves: the leaves must end below byte 2^58 of the message");
+  const text = "treeLeaves: the leaves must end below byte 2^58 of the message";
+  refuses(() => leaves({ first: 2n ** 58n - 10n, leafLength: 1 }), "RangeError", text);
+  assert.equal(leaves({ first: 2n ** 58n - 11n, leafLength: 1 }).length, 640);
+  refuses(() => treeLeaves("text", {}), "TypeError",
+    "treeLeaves: message must be a Uint8Array, another view or an ArrayBuffer, " +
+      "not a string (utf8() encodes a string)");
+  refuses(() => treeLeaves(M, {}, 1), "TypeError",
+    "treeLeaves: too many arguments, 3 instead of at most 2; key, length and so on are options");
+  for (const length of [0, 1, 63, 65]) {
+    refuses(() => treeRootOfLeaves(new Uint8Array(length), { leafLength: 5 }), "RangeError",
+      `treeRootOfLeaves: digests must have 64 bytes for each leaf, not ${length} bytes`);
+  }
+  refuses(() => treeRootOfLeaves(new Uint8Array(64)), "TypeError",
+    "treeRootOfLeaves: leafLength must be given");
+  refuses(() => treeRootOfLeaves([], {}), "TypeError",
+    "treeRootOfLeaves: digests must be a Uint8Array, another view or an ArrayBuffer, not an array");
+  refuses(() => treeRootOfLeaves(new Uint8Array(64), { leafLength: 5 }, 1), "TypeError",
+    "treeRootOfLeaves: too many arguments, 3 instead of at most 2; " +
+      "key, length and so on are options");
+  assertClean();
 });
 
 test("several messages", () => {

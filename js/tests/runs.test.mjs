@@ -1,4 +1,5 @@
-// Hashes in pieces, what ends a run, and what stays in memory.
+// What ends a run, the texts of what is refused then, and what stays in memory. The digests of pieces,
+// copies and resets are in conformance.test.mjs.
 import assert from "node:assert/strict";
 import { execFileSync } from "node:child_process";
 import { createHash } from "node:crypto";
@@ -30,23 +31,6 @@ for (const [Hasher, options] of HASHERS) {
   const hasVerify = "key" in options || Hasher === TreeHash;
   const digestOf = (...pieces) =>
     pieces.reduce((run, piece) => run.update(piece), new Hasher(options)).hex();
-
-  test(`${name}: copies and resets go on by themselves`, () => {
-    const run = new Hasher(options);
-    assert.equal(run.update(M), run);
-    const copy = run.copy();
-    assert.ok(copy instanceof Hasher);
-    assert.equal(copy.digestLength, run.digestLength);
-    copy.update(M);
-    run.update(utf8("other"));
-    const again = copy.copy();
-    assert.equal(copy.hex(), digestOf(M, M));
-    assert.equal(run.copy().hex(), digestOf(M, utf8("other")));
-    assert.equal(run.reset(), run);
-    assert.equal(run.copy().hex(), digestOf());
-    assert.equal(run.update(M).reset().update(utf8("x")).hex(), digestOf(utf8("x")));
-    assert.equal(again.hex(), digestOf(M, M));
-  });
 
   test(`${name}: a run that has ended refuses all but wipe`, () => {
     const ends = {
@@ -93,34 +77,6 @@ for (const [Hasher, options] of HASHERS) {
       }
     }
     assert.equal(run.hex(), digestOf(M));
-  });
-
-  if (hasVerify) test(`${name}: verify returns nothing for the digest, and throws for all else`, () => {
-    const digest = new Hasher(options).update(M).digest();
-    const verify = (tag) => new Hasher(options).update(M).verify(tag);
-    const refuses = (tag) => assert.throws(() => verify(tag), (fault) => {
-      assert.ok(fault instanceof InvalidTagError && fault instanceof Error);
-      assert.deepEqual(
-        [fault.name, fault.message], ["InvalidTagError", `${Hasher.name}.verify: the tag is wrong`]);
-      assert.equal(String(fault), `InvalidTagError: ${fault.message}`);
-      return true;
-    });
-    assert.equal(verify(digest), undefined);
-    assert.equal(verify(digest.buffer), undefined);
-    for (let bit = 0; bit < 8 * digest.length; bit++) {
-      const wrong = digest.slice();
-      wrong[bit >> 3] ^= 1 << (bit & 7);
-      refuses(wrong);
-    }
-    const longer = new Uint8Array(digest.length + 1);
-    longer.set(digest);
-    for (const wrong of [
-      digest.subarray(1), digest.subarray(0, -1), longer, new Uint8Array(0),
-      new Uint8Array(10 ** 6),
-    ]) {
-      refuses(wrong);
-    }
-    assertClean();
   });
 
   test(`${name}: nothing is left in the library's memory after any call`, () => {

@@ -1,0 +1,174 @@
+// What stands around a call and must not change it: other kinds of memory, objects of other realms,
+// what other code gives to all objects, and code of the caller that runs during a call.
+import assert from "node:assert/strict";
+import { execFileSync } from "node:child_process";
+import { createHash } from "node:crypto";
+import test from "node:test";
+import vm from "node:vm";
+import {
+  Blake2b, Blake2s, blake2b, blake2bMany, blake2bStream, blake2s, blake2sMany, blake2sStream, blake2sp,
+  equal, hex, treeRoot, utf8,
+} from "../index.js";
+import { assertClean, hexOf } from "./common.mjs";
+
+const M = utf8("abc");
+const bytes = (length) => new Uint8Array(length).fill(7);
+
+test("a SharedArrayBuffer is bytes, wherever bytes are expected", async () => {
+  const shared = new SharedArrayBuffer(3);
+  new Uint8Array(shared).set(M);
+  const chunks = (async function* () { yield shared; })();
+  for (const digest of [
+    blake2b(shared), new Blake2b().update(shared).digest(), blake2bMany([shared])[0],
+    await blake2bStream(chunks),
+  ]) {
+    assert.deepEqual(digest, blake2b(M));
+  }
+  for (const what of ["key", "salt", "personalization"]) {
+    assert.deepEqual(blake2s(M, { [what]: shared }), blake2s(M, { [what]: M }));
+  }
+  assert.ok(equal(shared, M) && equal(M, shared) && hex(shared) === "616263");
+  assert.deepEqual(treeRoot(shared, { leafLength: 2 }), treeRoot(M, { leafLength: 2 }));
+});
+
+test("bytes of other realms, of subclasses, and of objects that lie about themselves", () => {
+  const wanted = createHash("blake2b512").update("abc").digest("hex");
+  const foreign = vm.runInNewContext(
+    "({ u: Uint8Array.of(97, 98, 99), b: Uint8Array.of(97, 98, 99).buffer, o: {} })");
+  assert.equal(hexOf(blake2b(foreign.u)), wanted);
+  assert.equal(hexOf(blake2b(foreign.b, foreign.o)), wanted);
+  class Liar extends Uint8Array {
+    get length() { return 1; }
+    get byteLength() { return 2; }
+    get buffer() { return new ArrayBuffer(3); }
+    get byteOffset() { return 1; }
+    subarray() { return M; }
+    static get [Symbol.species]() { return Array; }
+  }
+  assert.equal(hexOf(blake2b(Liar.of(97, 98, 99))), wanted);
+  assert.equal(hexOf(new Blake2b().update(Liar.of(97, 98)).update(Liar.of(99)).digest()), wanted);
+  assert.equal(hexOf(blake2b(new Uint16Array([0x6261]))), hexOf(blake2b(utf8("ab"))));
+  assert.equal(hexOf(blake2b(new Float64Array(2))), hexOf(blake2b(new Uint8Array(16))));
+});
+
+test("properties of the prototype of all objects are not options", async () => {
+  const salt = bytes(3);
+  const calls = [
+    () => blake2b(M), () => blake2b(M, {}), () => blake2s(M, { salt }),
+    () => new Blake2b({ salt }).update(M).digest(),
+    () => blake2b(M, { tree: {} }), () => treeRoot(M, { leafLength: 2 }), () => blake2bMany([M])[0],
+    () => blake2bStream(new Blob([M])),
+  ];
+  const digests = async () => (await Promise.all(calls.map((call) => call()))).map(hexOf);
+  const wanted = await digests();
+  const names = [
+    "key", "digestLength", "personalization", "fanout", "lastNode", "tree", "signal", "onProgress",
+    "x",
+  ];
+  for (const name of names) Object.prototype[name] = 5;
+  const got = await digests().finally(() => names.forEach((name) => delete Object.prototype[name]));
+  assert.deepEqual(got, wanted);
+  assert.equal(wanted[0], createHash("blake2b512").update("abc").digest("hex"));
+});
+
+// A program that makes calls before and after Object.prototype has more properties, such as indices.
+const POLLUTED = `
+  const pollute = () => NAMES.forEach((name) => (Object.prototype[name] = "0"));
+  if (IS_BEFORE) pollute();
+  const { Blake2b, Blake2s, Blake2xb, blake2b, blake2bMany, blake2bp, blake2s, equal, treeRoot, utf8 } =
+    await import(INDEX);
+  if (!IS_BEFORE) pollute();
+  const [message, key, salt] = [utf8("a message"), utf8("a key"), utf8("salt")];
+  const digests = [
+    blake2b(message), blake2b(message, { key }), blake2s(message, { digestLength: 7 }),
+    blake2b(message, { key, salt }), new Blake2b({ key, salt }).update(message).digest(),
+    new Blake2s().update(message).digest(), new Blake2s().digest(),
+    blake2bMany([message, salt], { key })[1], treeRoot(message, { leafLength: 5, salt }),
+    new Blake2xb({ key }).update(message).read(9), blake2bp(message, { key }),
+  ];
+  const isEqual = [equal(message, message.slice()), equal(salt, utf8("pepper").subarray(0, 4))];
+  for (const name of NAMES) delete Object.prototype[name];
+  console.log(digests.map((digest) => Buffer.from(digest).toString("hex")).join(), isEqual.join());`;
+
+test("what other code gives to all objects is no length, no state and no digest", () => {
+  const index = JSON.stringify(new URL("../index.js", import.meta.url).href);
+  const run = (names, isBefore) => execFileSync(process.execPath, ["--input-type=module", "-e",
+    `const [INDEX, IS_BEFORE] = [${index}, ${isBefore}]; const NAMES = ${JSON.stringify(names)};` +
+      POLLUTED], { encoding: "utf8" });
+  const wanted = run([], false);
+  assert.match(wanted, / true,false\n$/);
+  const key = hexOf(utf8("a key"));
+  assert.equal(wanted.split(",")[1], execFileSync("python3", ["-c",
+    `import hashlib; print(hashlib.blake2b(b"a message", key=bytes.fromhex("${key}")).hexdigest())`],
+    { encoding: "utf8" }).trim());
+  // lengths of what the calls are passed, of digests and of hashes' tables
+  const names = [...Array(10).keys(), 32, 64, "node", "isPlain", "tree", "leafLength", "options",
+    "keyLength"];
+  for (const isBefore of [true, false]) assert.equal(run(names, isBefore), wanted);
+});
+
+test("it works without SharedArrayBuffer and Blob, as in some browsers", () => {
+  const index = new URL("../index.js", import.meta.url).href;
+  const program = `delete globalThis.SharedArrayBuffer;
+    delete globalThis.Blob;
+    const { blake2b, blake2bStream, hex } = await import("${index}");
+    const source = (async function* () { yield Uint8Array.of(97, 98, 99).buffer; })();
+    console.log(hex(blake2b(Uint8Array.of(97, 98, 99).buffer)));
+    console.log(hex(await blake2bStream(source)));`;
+  const words = ["--input-type=module", "-e", program];
+  const wanted = createHash("blake2b512").update("abc").digest("hex");
+  assert.equal(
+    execFileSync(process.execPath, words, { encoding: "utf8" }), `${wanted}\n${wanted}\n`);
+});
+
+test("options are read once, and code of theirs may hash", () => {
+  let count = 0;
+  const options = {
+    get key() {
+      count++;
+      blake2s(bytes(1000), { key: bytes(9) });
+      return bytes(3);
+    },
+  };
+  assert.deepEqual(blake2b(M, options), blake2b(M, { key: bytes(3) }));
+  assert.equal(count, 1);
+});
+
+test("the position of a node is read once, by a stream too", async () => {
+  let count = 0;
+  const tree = { get fanout() { return ++count; } };
+  assert.deepEqual(await blake2bStream(new Blob([M]), { tree }), blake2b(M, { tree: { fanout: 1 } }));
+  assert.equal(count, 1);
+});
+
+test("memory that code of the caller takes away during a call is no key of no bytes", async () => {
+  const take = (view) => structuredClone(0, { transfer: [view.buffer] });
+  const newKey = () => new Uint8Array(new ArrayBuffer(9)).fill(7);
+  const gone = { name: "TypeError", message: /the memory of key is detached or has shrunk$/ };
+  const calls = [
+    (key, tree) => blake2b(M, { key, tree }), (key, tree) => new Blake2b({ tree, key }),
+    (key, tree) => blake2s(M, { tree, key }),
+  ];
+  for (const call of calls) {
+    const key = newKey();
+    assert.throws(() => call(key, { get depth() { take(key); } }), gone, String(call));
+  }
+  for (const many of [blake2bMany, blake2sMany]) {
+    const key = newKey();
+    assert.throws(() => many((function* () { take(key); yield M; })(), { key }), gone);
+    const message = newKey();
+    assert.throws(() => many((function* () { yield message; take(message); })()),
+      { name: "TypeError", message: /the memory of message 0 is detached or has shrunk$/ });
+  }
+  for (const stream of [blake2bStream, blake2sStream]) {
+    const key = newKey();
+    const source = { [Symbol.iterator]() { take(key); return [M][Symbol.iterator](); } };
+    await assert.rejects(stream(source, { key }), gone);
+  }
+  for (const [hash, more] of [[blake2b, {}], [blake2sp, {}], [treeRoot, { leafLength: 5 }]]) {
+    const message = newKey();
+    assert.throws(() => hash(message, { ...more, get salt() { take(message); } }), TypeError);
+    blake2b(M);
+    assertClean();
+  }
+});
