@@ -13,6 +13,7 @@ import mmap
 import os
 import random
 import sys
+import tempfile
 import tracemalloc
 import unittest
 import weakref
@@ -193,6 +194,32 @@ class Secrets(unittest.TestCase):
                 )
             del mac
             self.assertEqual(places_of(key) - before, set())
+
+    @unittest.skipIf(WITHOUT_GIL, "without the GIL the memory is too large to search")
+    def test_trees_leave_no_copy_of_a_state(self):
+        """Here of the bytes of a message that wait in it. A digest compresses them, which leaves them on the stack."""
+        message = os.urandom(32)
+        before = places_of(message)
+        ends, within = vulfsjor.TreeHasher(32), vulfsjor.TreeHasher(99)
+        for hasher in (ends, within):
+            hasher.update(message)
+        long = (ctypes.c_char * 2**58).from_address(id(self))  # no byte of it is read
+        with tempfile.TemporaryFile() as file:
+            os.truncate(file.fileno(), 1 << 19)
+            for call in (
+                lambda: ends.next_leaves(bytes(64)),
+                lambda: self.assertRaises(ValueError, within.next_leaves, bytes(99)),
+                lambda: self.assertRaises(ValueError, within.update_leaves, bytes(64), b"x"),
+                lambda: self.assertRaises(OverflowError, ends.update, long, threads=3),
+                lambda: ends._root_of_file("file", file.fileno(), 1 << 19, 2, None),
+            ):
+                deep(call)
+                new = places_of(message) - before
+                self.assertTrue(new)
+                self.assertEqual([place for place in new if not any(
+                    0 <= place - id(each) < each.__sizeof__() for each in (ends, within))], [])
+        del call, hasher, ends, within
+        self.assertEqual(places_of(message) - before, set())
 
 
 class Counts(unittest.TestCase):

@@ -111,6 +111,15 @@ class Threads(Test):
             met = self.most_of_tries(lambda: vulfsjor.tree_root(data, 4096, threads=asked), 3)
             self.assertTrue(3 <= met <= 256, met)
 
+    def test_memory(self):
+        """That of the digests of a few parts, which are no longer than these, however short the leaves are."""
+        program = (f"import resource, sys; sys.path.insert(0, {FOLDER!r}); import vulfsjor\n"
+                   "peak = lambda: resource.getrusage(resource.RUSAGE_SELF).ru_maxrss\n"
+                   "data, before = bytes(2 << 20), peak()\n"
+                   "vulfsjor.tree_root(data, 1, threads=4)\nprint(peak() - before)")
+        done = subprocess.run([sys.executable, "-c", program], capture_output=True, text=True, check=True)
+        self.assertLess(int(done.stdout), 32 << 10)
+
     def test_no_thread_can_be_started(self):
         """Where the stack of a thread would have 2^46 bytes."""
         if resource.getrlimit(resource.RLIMIT_STACK)[1] != resource.RLIM_INFINITY:
