@@ -207,8 +207,8 @@ class Secrets(unittest.TestCase):
         with tempfile.TemporaryFile() as file:
             os.truncate(file.fileno(), 1 << 19)
             for call in (
-                lambda: ends.next_leaves(bytes(64)),
-                lambda: self.assertRaises(ValueError, within.next_leaves, bytes(99)),
+                lambda: ends.leaves_ahead(bytes(64)),
+                lambda: self.assertRaises(ValueError, within.leaves_ahead, bytes(99)),
                 lambda: self.assertRaises(ValueError, within.update_leaves, bytes(64), b"x"),
                 lambda: self.assertRaises(OverflowError, ends.update, long, threads=3),
                 lambda: ends._root_of_file("file", file.fileno(), 1 << 19, 2, None),

@@ -183,6 +183,51 @@ class Updates(Test):
         self.assertEqual((len(done), hasher.count), (1500, sum(done)))
 
 
+class Shared(Test):
+    """A hasher that threads share."""
+
+    def test_threads_share_a_hasher(self):
+        """Each digest during an update is that of a prefix: all pieces are whole periods."""
+        piece, hasher, digests = b"12345678" * 1000, vulfsjor.TreeHasher(4000), []
+
+        def work():
+            for turn in range(100):
+                hasher.update((piece[:1000], piece)[turn % 2])
+                digests.append(hasher.copy().digest())
+                digests.append(hasher.digest())
+                digests.append(bytes.fromhex(hasher.hexdigest()))
+
+        threads = [threading.Thread(target=work) for _ in range(4)]
+        for thread in threads:
+            thread.start()
+        for thread in threads:
+            thread.join()
+        self.assertEqual(hasher.digest(), oracle.tree_root(piece * 225, 4000))
+        whole, prefixes = b"", set()  # the digests of the leaves that more data follows
+        for leaf in range(450):
+            for length in range(1000, 4001, 1000):
+                last = oracle.range_digests(piece[:length], 4000, leaf)
+                prefixes.add(oracle.root_of_leaves(whole + last, 4000))
+            whole += oracle.range_digests(piece[:4000], 4000, leaf, False)
+        self.assertEqual((len(digests), set(digests) - prefixes), (1200, set()))
+
+    def test_digests_during_an_update(self):
+        """A digest meanwhile is that of the data before the update, or after it."""
+        piece, hasher, digests = DATA[:MIB], vulfsjor.TreeHasher(1 << 14), set()
+
+        def work():
+            for _ in range(10):
+                hasher.update(piece)
+
+        thread = threading.Thread(target=work)
+        thread.start()
+        while thread.is_alive():
+            digests.update((hasher.copy().digest(), hasher.digest()))
+            digests.add(bytes.fromhex(hasher.hexdigest()))
+        prefixes = {oracle.tree_root(piece * count, 1 << 14) for count in range(11)}
+        self.assertLessEqual(digests, prefixes)
+
+
 class Signals(Test):
     """Signals while threads hash: a handler runs in the thread that has called, and its exception ends the call."""
 
