@@ -151,7 +151,7 @@ static PyObject *tree_leaves(PyObject *module, PyObject *args, PyObject *words) 
     if (!first || ends < 0)
         PyErr_SetString(PyExc_TypeError,
                         "tree_leaves() requires the keyword arguments first and ends");
-    else if (!check_given(&g) && 
+    else if (!check_given(&g) &&
              !place_of(first, g.leaf_length, "first", &first_leaf) && !view_of(g.data, &view)) {
         digests = digests_of(&g, &view, first_leaf, ends);
         PyBuffer_Release(&view);

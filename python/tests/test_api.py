@@ -1,6 +1,6 @@
-"""Tests of what neither a list of calls nor a comparison with hashlib shows: iterables of messages, what is left of a key
-and of other memory, views that are let go, and modules. And the known answers, for a source distribution, which has not
-the conformance cases."""
+"""Tests of what neither a list of calls nor a comparison with hashlib shows: iterables of messages, what is left of a
+key and of other memory, views that are let go, and modules. And the known answers, for a source distribution, which has
+not the conformance cases."""
 import array
 import collections
 import contextlib

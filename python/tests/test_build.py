@@ -122,7 +122,7 @@ class Build(Test):
                 return printed.getvalue(), end.code
             return printed.getvalue(), None
 
-    def made(self, call, folder, prefix="", **environment):
+    def made(self, call="wheel", folder=os.path.join(TOP, "python"), prefix="", **environment):
         """The path of a new wheel or source distribution."""
         printed, why = self.build(call, folder, environment, prefix)
         self.assertIsNone(why)
@@ -143,10 +143,9 @@ class Build(Test):
 
     def test_other_platforms(self):
         for name in ("macosx-11.0-universal2", "win32", "win-arm32"):
-            self.assertEqual(
-                self.refused(_PYTHON_HOST_PLATFORM=name),
-                "build_package.py: vulfsjor is assembly for Linux, macOS and Windows on x86-64 and "
-                f"on 64-bit ARM, and has none for {name}")
+            self.assertEqual(self.refused(_PYTHON_HOST_PLATFORM=name),
+                             "build_package.py: vulfsjor is assembly for Linux, macOS and Windows on x86-64 and on "
+                             f"64-bit ARM, and has none for {name}")
 
     def test_portable(self):
         """Portable C where there is no assembly, and on a word, over which the module works."""
@@ -155,13 +154,12 @@ class Build(Test):
                             {"_PYTHON_HOST_PLATFORM": "freebsd-14.0-release-amd64"},
                             {"_PYTHON_HOST_PLATFORM": "linux-x86_64", "VULFSJOR_PORTABLE": "1"},
                             {"_PYTHON_HOST_PLATFORM": "linux-x86_64", "prefix": "sys.maxsize = 2**31 - 1"}):
-            with zipfile.ZipFile(self.made("wheel", os.path.join(TOP, "python"), CC=fake, **environment)) as wheel:
+            with zipfile.ZipFile(self.made(CC=fake, **environment)) as wheel:
                 names = [name for name in wheel.namelist() if name.startswith("vulfsjor/_library")]
                 words = wheel.read(names[0]).decode().splitlines()
             self.assertEqual([word for word in words if word.endswith((".c", ".s"))],
                              ["src/library.c", "src/by_threads.c", "src/trees.c", "src/xof.c", "src/portable.c"])
-        with zipfile.ZipFile(self.made("wheel", os.path.join(TOP, "python"), VULFSJOR_PORTABLE="1",
-                                       CFLAGS="-O0")) as wheel:
+        with zipfile.ZipFile(self.made(VULFSJOR_PORTABLE="1", CFLAGS="-O0")) as wheel:
             wheel.extractall(os.path.join(self.folder, "portable"))
         code = "import vulfsjor; print(vulfsjor.blake2b(b'abc', key=b'k').hexdigest())"
         has_emulator = X86 and not absent(tools=["qemu-x86_64"])
@@ -173,16 +171,13 @@ class Build(Test):
         said = "build_package.py: there is no C compiler{}: install GCC{}, or set CC"
         self.assertEqual(self.refused(PATH=""), said.format("", " or Clang"))
         self.assertEqual(self.refused(CC="absent -x"), said.format(" absent -x", " or Clang"))
-        self.assertEqual(self.refused(PATH="", _PYTHON_HOST_PLATFORM="win-amd64"),
-                         said.format("", " of MinGW-w64"))
-        self.assertEqual(self.refused(CC=self.fake("CL.exe"), _PYTHON_HOST_PLATFORM="win-amd64"),
-                         "build_package.py: MSVC cannot assemble the code of vulfsjor: set CC to the "
-                         "GCC of MinGW-w64")
+        self.assertEqual(self.refused(PATH="", _PYTHON_HOST_PLATFORM="win-amd64"), said.format("", " of MinGW-w64"))
+        self.assertEqual(self.refused(CC=self.fake("CL.exe"), _PYTHON_HOST_PLATFORM="win-amd64"), "build_package.py: "
+                         "MSVC cannot assemble the code of vulfsjor: set CC to the GCC of MinGW-w64")
         self.assertEqual(self.refused(CC="false"), "build_package.py: the compiler failed")
-        self.assertEqual(
-            self.refused(prefix="sysconfig.get_path = lambda name: '/absent'", CC="false"),
-            "build_package.py: the compiler failed: Python.h is missing; install the headers, such "
-            "as Debian's python3-dev")
+        self.assertEqual(self.refused(prefix="sysconfig.get_path = lambda name: '/absent'", CC="false"),
+                         "build_package.py: the compiler failed: Python.h is missing; install the headers, such as "
+                         "Debian's python3-dev")
         self.assertEqual(self.refused(prefix="sys.version_info = (3, 10, 9)"),
                          "build_package.py: vulfsjor needs CPython 3.11 or later")
         for arguments in (["wheel"], ["egg", self.folder], ["wheel", self.folder, "more"]):
@@ -196,8 +191,7 @@ class Build(Test):
         for name in names:
             self.fake(os.path.join(folder, name), f"echo {name}")
         for name in names:
-            wheel = self.made("wheel", os.path.join(TOP, "python"), CC="", PATH=folder,
-                              prefix="sysconfig.get_config_var = {'CC': 'own -x'}.get")
+            wheel = self.made(CC="", PATH=folder, prefix="sysconfig.get_config_var = {'CC': 'own -x'}.get")
             with zipfile.ZipFile(wheel) as file:
                 self.assertEqual(file.read("vulfsjor/_library.abi3.so"), f"{name}\n".encode())
             os.remove(os.path.join(folder, name))
@@ -205,12 +199,10 @@ class Build(Test):
     def test_a_python_without_the_gil(self):
         """Its module and its wheel are for one version, which the name of the wheel has."""
         wheel = self.made(
-            "wheel", os.path.join(TOP, "python"), CC=f"'{self.fake()}'",
-            VULFSJOR_WHEEL_PLATFORM="a-platform.5",
+            CC=f"'{self.fake()}'", VULFSJOR_WHEEL_PLATFORM="a-platform.5",
             prefix="sysconfig.get_config_var = {'Py_GIL_DISABLED': 1, 'EXT_SUFFIX': '.own.so'}.get")
         version = f"cp3{sys.version_info.minor}"
-        self.assertEqual(os.path.basename(wheel),
-                         f"vulfsjor-{VERSION}-{version}-{version}t-a_platform_5.whl")
+        self.assertEqual(os.path.basename(wheel), f"vulfsjor-{VERSION}-{version}-{version}t-a_platform_5.whl")
         with zipfile.ZipFile(wheel) as file:
             words = file.read("vulfsjor/_library.own.so").decode().splitlines()
             self.assertIn(f"\nTag: {version}-{version}t-a_platform_5\n",
@@ -228,8 +220,7 @@ class Build(Test):
                 ("macosx-11.0-arm64", mac.format("arm64", "11.0")),
                 ("mingw_x86_64_ucrt_gnu", windows), ("win-amd64", windows),
                 ("win-arm64", windows)):
-            wheel = self.made("wheel", os.path.join(TOP, "python"), CC=fake, CFLAGS="-g '-D A'",
-                              LDFLAGS="-lz", _PYTHON_HOST_PLATFORM=name)
+            wheel = self.made(CC=fake, CFLAGS="-g '-D A'", LDFLAGS="-lz", _PYTHON_HOST_PLATFORM=name)
             with zipfile.ZipFile(wheel) as file:
                 end = "pyd" if options == windows else "abi3.so"
                 words = file.read(f"vulfsjor/_library.{end}").decode().splitlines()
@@ -241,8 +232,7 @@ class Build(Test):
                               "src/vulfsjor.s"])
             self.assertEqual((words[0], words[-1]),
                              ("-x", "-lpython3" if options == windows else "-lz"))
-            self.assertEqual(words[words.index("-g"):words.index("-o")],
-                             ["-g", "-D A", *options.split()])
+            self.assertEqual(words[words.index("-g"):words.index("-o")], ["-g", "-D A", *options.split()])
             self.assertIn(f"-I{sysconfig.get_path('include')}", words)
 
     def test_the_text_of_a_platform(self):
@@ -252,7 +242,7 @@ class Build(Test):
                 ("linux-x86_64", "x86_64/elf", ["x86_64/vulfsjor-v2", "x86_64/vulfsjor-v3", "x86_64/vulfsjor-v4"]),
                 ("macosx-11.0-arm64", "aarch64/macho", ["aarch64/vulfsjor"]),
                 ("win-arm64", "aarch64/coff", ["aarch64/vulfsjor"])):
-            wheel = self.made("wheel", os.path.join(TOP, "python"), CC=keep, _PYTHON_HOST_PLATFORM=name)
+            wheel = self.made(CC=keep, _PYTHON_HOST_PLATFORM=name)
             with zipfile.ZipFile(wheel) as file:
                 text = file.read(f"vulfsjor/_library.{'pyd' if 'win' in name else 'abi3.so'}")
             head, *parts = (pathlib.Path(TOP, "dist", it).read_bytes()
@@ -261,15 +251,13 @@ class Build(Test):
 
     def test_a_copy_of_the_folder_alone(self):
         shutil.move(self.copied("clone"), os.path.join(self.folder, "alone"))
-        self.assertEqual(
-            self.refused(os.path.join(self.folder, "alone")),
-            "build_package.py: ../c/include/vulfsjor.h is missing: build in a clone of the "
-            "repository, since the package shares files with c/ and dist/, or from a source "
-            "distribution")
+        self.assertEqual(self.refused(os.path.join(self.folder, "alone")),
+                         "build_package.py: ../c/include/vulfsjor.h is missing: build in a clone of the repository, "
+                         "since the package shares files with c/ and dist/, or from a source distribution")
 
     def test_wheel(self):
         """What is in a wheel, next to a module of the fake compiler."""
-        wheel = self.made("wheel", os.path.join(TOP, "python"), CC=self.fake().replace(" ", "\\ "))
+        wheel = self.made(CC=self.fake().replace(" ", "\\ "))
         with open(os.path.join(TOP, "python", "pyproject.toml"), "rb") as file:
             project = tomllib.load(file)["project"]
         with zipfile.ZipFile(wheel) as file:
@@ -327,8 +315,8 @@ class Build(Test):
 
     @staticmethod
     def time_of(act):
-        """The processor time of the programs that are run meanwhile."""
-        used = lambda: sum(resource.getrusage(resource.RUSAGE_CHILDREN)[:2])
+        """The processor time meanwhile, with that of the programs that are run."""
+        used = lambda: sum(sum(resource.getrusage(who)[:2]) for who in (resource.RUSAGE_SELF, resource.RUSAGE_CHILDREN))
         before = used()
         act()
         return used() - before
@@ -341,7 +329,7 @@ class Build(Test):
     def test_source_distribution(self):
         """It has what it needs and nothing else, and its own files are what it uses. In another
         folder and at another time it is the same."""
-        path = self.made("sdist", os.path.join(TOP, "python"))
+        path = self.made("sdist")
         with open(path, "rb") as file:
             first = file.read()
         folder = os.path.join(self.folder, f"vulfsjor-{VERSION}")
@@ -351,8 +339,7 @@ class Build(Test):
         with open(path, "rb") as file:
             self.assertEqual(file.read(), first)
         with tarfile.open(path) as file:
-            self.assertEqual({(each.mode, each.uid, each.mtime) for each in file},
-                             {(0o644, 0, 315532800)})
+            self.assertEqual({(each.mode, each.uid, each.mtime) for each in file}, {(0o644, 0, 315532800)})
             file.extractall(self.folder)
         own = {"README.md", "build_package.py", "pyproject.toml", "src/by_threads.c", "src/library.c",
                "src/library.h", "src/trees.c", "src/xof.c",
@@ -401,7 +388,7 @@ class Build(Test):
         with open(wheel, "rb") as file:
             first = file.read()
         os.remove(wheel)
-        source = self.made("sdist", os.path.join(TOP, "python"))
+        source = self.made("sdist")
         self.pip("wheel", source, CFLAGS="-g")
         with open(wheel, "rb") as file:
             self.assertEqual(file.read(), first)
@@ -421,7 +408,7 @@ class Build(Test):
         named = dict(cwd=os.path.join(self.folder, "a clone"), env={
             **os.environ, "PATH": f"{self.folder}:{os.environ['PATH']}", "PIP_NO_INDEX": "1"})
         self.succeeds("sh", "-ec", first, **named)
-        build = self.time_of(lambda: self.made("wheel", os.path.join(TOP, "python")))
+        build = self.time_of(lambda: self.made())
         self.assertLess(self.time_of(lambda: self.succeeds("sh", "-ec", last, **named)), 5 * build)
         self.is_installed(*glob.glob(f"{self.folder}/a clone/venv/lib/python*/site-packages"))
 

@@ -1,5 +1,5 @@
-"""Tests of what the calls of a tree refuse, with the texts, and of what is left of a dead hasher. test_conformance.py has
-what they return."""
+"""Tests of what the calls of a tree refuse, with the texts, and of what is left of a dead hasher. test_conformance.py
+has what they return."""
 import ctypes
 import unittest
 
