@@ -17,8 +17,7 @@ import vulfsjor
 
 needs_clone()
 NAMES = {"size": "digest_size", "leaf": "leaf_size", "offset": "node_offset", "node": "node_depth",
-         "inner": "inner_size",
-         "last": "last_node"}
+         "inner": "inner_size", "last": "last_node"}
 HASHES = ("blake2b", "blake2s", "blake2bp", "blake2sp", "blake2xb", "blake2xs", "tree")
 FIRST = bytes((i + (i >> 8)) & 255 for i in range(1 << 16))
 # The beginning of the endless message. Each 65,536 bytes are those before them, and 1.
@@ -27,16 +26,13 @@ MESSAGE = b"".join(FIRST.translate(bytes((i + k) & 255 for i in range(256))) for
 INTEGER = "|signed integer is|too (large|big) to convert|value must be positive"
 REASONS = {
     "size": "digest_size|length must be|the output has|length is too large" + INTEGER,
-    "key": "key", "salt": "salt", "person": "person",
-    "fanout": "fanout" + INTEGER, "depth": "depth" + INTEGER, "node": "node_depth" + INTEGER,
-    "inner": "inner_size" + INTEGER,
-    "leaf": "leaf_size" + INTEGER, "offset": "node_offset" + INTEGER,
+    "key": "key", "salt": "salt", "person": "person", "fanout": "fanout" + INTEGER, "depth": "depth" + INTEGER,
+    "node": "node_depth" + INTEGER, "inner": "inner_size" + INTEGER, "leaf": "leaf_size" + INTEGER,
+    "offset": "node_offset" + INTEGER,
     "left": "the output has only|length must be between",
     "message": "data must|last leaf|least one byte|must follow|empty", "digests": "64 bytes|digests",
     "first": r"2\^58|first", "skip": r"2\^58|skip",
     "state": "leaf boundary|at the start|in the middle|boundary"}
-
-
 # How many cases of each hash end early, by the call that Python does not have.
 SKIPPED = {
     "blake2b": {"last": 43, "equal": 98, "reset": 96},
