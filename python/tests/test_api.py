@@ -208,12 +208,13 @@ class Secrets(unittest.TestCase):
             os.truncate(file.fileno(), 1 << 19)
             for call in (
                 lambda: ends.leaves_ahead(bytes(64)),
-                lambda: self.assertRaises(ValueError, within.leaves_ahead, bytes(99)),
-                lambda: self.assertRaises(ValueError, within.update_leaves, bytes(64), b"x"),
-                lambda: self.assertRaises(OverflowError, ends.update, long, threads=3),
+                lambda: within.leaves_ahead(bytes(99)),
+                lambda: within.update_leaves(bytes(64), b"x"),
+                lambda: ends.update(long, threads=3),
                 lambda: ends._root_of_file("file", file.fileno(), 1 << 19, 2, None),
             ):
-                deep(call)
+                with contextlib.suppress(ValueError, OverflowError):
+                    deep(call)
                 new = places_of(message) - before
                 self.assertTrue(new)
                 self.assertEqual([place for place in new if not any(
