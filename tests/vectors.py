@@ -4,7 +4,6 @@
     tests/vectors.py                    writes the file, with the digests of Python's hashlib
     tests/vectors.py --check            ends with status 1 if the file is another
     tests/vectors.py --lines b|s        prints the cases of a family in lines, for C and Rust
-    tests/vectors.py --random SEED N    prints N random cases, for JavaScript
 
 The file is a list of groups. Each row of a group is a case: its values are those of the group's
 columns, and all else in the group holds for each row. The names are those of hashlib's arguments.
@@ -30,8 +29,8 @@ import re
 import sys
 
 from b2_model import Input, Place, bytes_of, parameter_words
-from common import FAMILIES, Parser, at_least
-from oracle import SCALAR, parallel_by_hashlib, parallel_digest, range_digests, root_of_leaves, tree_root, xof_output
+from common import FAMILIES, Parser
+from oracle import SCALAR, output, parallel_by_hashlib, parallel_digest, range_digests, root_of_leaves, tree_root
 
 FILE = os.path.join(os.path.dirname(os.path.abspath(__file__)), "vectors.json")
 NUMBERS = ("fanout", "depth", "leaf_size", "node_offset", "node_depth", "inner_size", "last_node")
@@ -119,7 +118,7 @@ def answer(case):
             return parallel_by_hashlib(case["hash"][-1], message(case), **given)
         return parallel_digest(case["hash"][-1], message(case), **{"digest_size": family.key, **given})
     if case["kind"] == "output":
-        return xof_output(case["hash"][-1], message(case), case["size"], is_known=bool(case["is_known"]), **given)
+        return output(case["hash"][-1], message(case), case["size"], is_known=bool(case["is_known"]), **given)
     if case["kind"] == "hmac":
         return hmac.new(given["key"], message(case), family.function).digest()
     if case["kind"] == "hkdf":
@@ -334,60 +333,11 @@ def authors_cases(letter):
         yield bytes(range(FAMILIES[letter].key)), bytes(range(256)), bytes.fromhex(digits_)
 
 
-# ---- random cases
-
-def random_length(dice):
-    """A length of a message: mostly short or around blocks, sometimes around the pieces that JavaScript hashes."""
-    kind, piece, window = dice.random(), 65536, 8 * 65536 - 8192
-    if kind < 0.5:
-        return dice.randint(0, 300)
-    if kind < 0.8:
-        return max(0, dice.choice([64, 128]) * dice.randint(0, 40) + dice.randint(-2, 2))
-    if kind < 0.98:
-        return dice.randint(0, 5000)
-    return dice.choice([piece, 2 * piece, window, 2 * window]) + dice.randint(-130, 130)
-
-
-def stripes_length(dice, block):
-    """A length of a message of BLAKE2bp or BLAKE2sp: at most four stripes, mostly around blocks."""
-    end = block * dice.randint(0, 4 * 512 // block)
-    return dice.choice([end, end + 1, max(0, end - 1), dice.randint(0, 4 * 512)])
-
-
-def random_case(dice, number):
-    """A case of any kind for which a package has a call, with any of its arguments."""
-    def some(least, most, *more):
-        return dice.choice([least, most, *more, *[dice.randint(least, most)] * 2])
-    kind = dice.choice(["hash"] * 4 + ["parallel"] * 3 + ["root", "many"])
-    family = "b" if kind == "root" else dice.choice("bs")
-    longest, salt, length = FAMILIES[family].key, FAMILIES[family].salt, random_length(dice)
-    case = {"digest_size": dice.randint(1, longest), "key": some(1, longest), "salt": some(0, salt),
-            "person": some(0, salt)}
-    case = {name: value for name, value in case.items() if dice.random() < 0.5}
-    if kind == "root":
-        case.pop("key", None)
-        longest = max(1, length)
-        case["leaf_size"] = some(max(1, longest // 40), longest, max(1, longest // 7), longest // 3 + 1, 2**32 - 1)
-    elif kind == "hash" and dice.random() < 0.4:
-        offset_bits = 8 * SCALAR[family].offset
-        case |= {"fanout": some(0, 255, 1, 2), "depth": some(1, 255, 2), "leaf_size": some(0, 2**32 - 1, 1),
-                 "node_offset": str(some(0, 2**offset_bits - 1, 1)), "node_depth": some(0, 255, 1),
-                 "inner_size": some(0, longest), "last_node": dice.randint(0, 1)}
-    elif kind == "parallel" and not given_by_hashlib(case):
-        length = stripes_length(dice, SCALAR[family].block)
-    same = dice.randint(0, 700)
-    lengths = [same if dice.random() < 0.8 else random_length(dice) for _ in range(dice.randint(0, 40))]
-    case |= {"lengths": lengths} if kind == "many" else {"length": length}
-    case |= {"kind": kind, "hash": "blake2" + family, "seed": number}
-    return {**case, "digest": answer(case).hex()}
-
-
 def main():
     parser = Parser(description=__doc__.split("\n\n")[0])
     parser.add_argument("--check", action="store_true", help="compare the file with what would be written")
     parser.add_argument("--lines", choices=sorted(FAMILIES), help="print the cases of a family in lines")
     parser.add_argument("--authors", choices=sorted(FAMILIES), help="print the authors' outputs of BLAKE2X in lines")
-    parser.add_argument("--random", nargs=2, type=at_least(0), metavar=("SEED", "N"), help="print random cases")
     chosen = parser.parse_args()
     if chosen.lines:
         for case in cases():
@@ -400,9 +350,6 @@ def main():
                 print(*map(digits, ("x", len(wanted), key, b"", b"", data, wanted)))
         except FileNotFoundError:
             return 1
-    elif chosen.random:
-        dice = random.Random(chosen.random[0])
-        print(json.dumps([random_case(dice, number) for number in range(chosen.random[1])]))
     else:
         text = written([*groups_of("b"), *groups_of("s"), *groups_of_trees()])
         if chosen.check:

@@ -9,7 +9,7 @@ import { extname, join } from "node:path";
 import test from "node:test";
 import { fileURLToPath } from "node:url";
 import { endBrowser } from "./chromium.mjs";
-import { HUGE, randomCases } from "./common.mjs";
+import { HUGE } from "./common.mjs";
 
 const top = fileURLToPath(new URL("..", import.meta.url));
 const TYPES = {
@@ -73,9 +73,14 @@ try {
 }
 </script>`;
 
-const COUNT = HUGE ? "800" : "200";
-const shortCases = () =>
-  randomCases("2", COUNT).filter(({ length, lengths = [length] }) => Math.max(...lengths) <= 6000);
+// Some of tests/vectors.json: those of hashes and roots, of short messages.
+const VECTORS = JSON.parse(readFileSync(new URL("../../tests/vectors.json", import.meta.url)));
+const CASES = VECTORS
+  .filter(({ kind }) => ["hash", "parallel", "many", "root"].includes(kind))
+  .flatMap(({ columns, rows, ...fixed }) => rows.map((row) =>
+    ({ ...fixed, ...Object.fromEntries(columns.map((name, i) => [name, row[i]])) })))
+  .filter(({ length, lengths = [length] }) => Math.max(...lengths) <= 6000)
+  .filter((_, i) => i % (HUGE ? 2 : 9) === 0);
 
 // Serves the package, opens the page in a browser, and returns what the page sends back.
 async function answerOf(command, wordsOf, cases) {
@@ -131,12 +136,9 @@ const BROWSERS = {
 const has = (command) => spawnSync(command, ["--version"]).error === undefined;
 
 for (const [command, wordsOf] of Object.entries(BROWSERS)) {
-  test(`${COUNT} cases of hashlib and a tree by workers in ${command}`, async (t) => {
-    if (!has(command) || !has("python3")) {
-      return t.skip(`no ${has("python3") ? command : "python3"}`);
-    }
-    const cases = shortCases();
-    const { fault, page, worker, threads, piped, streams } = await answerOf(command, wordsOf, cases);
+  test(`${CASES.length} cases of hashlib and a tree by workers in ${command}`, async (t) => {
+    if (!has(command)) return t.skip(`no ${command}`);
+    const { fault, page, worker, threads, piped, streams } = await answerOf(command, wordsOf, CASES);
     assert.equal(fault, undefined);
     const [root, byThreads, cause, byOne, failed, ...more] = threads;
     assert.deepEqual(
@@ -149,17 +151,16 @@ for (const [command, wordsOf] of Object.entries(BROWSERS)) {
       "TypeError: blake2bStream: source was already read, or something else is reading it")]);
     for (const { right, wrong } of [page, worker]) {
       assert.deepEqual(wrong, []);
-      assert.equal(right, cases.length);
+      assert.equal(right, CASES.length);
     }
   });
 }
 
-test(`${COUNT} cases of hashlib in jsc, the engine of Safari`, (t) => {
+test(`${CASES.length} cases of hashlib in jsc, the engine of Safari`, (t) => {
   // jsc does not know --version, and then ends with another status
-  if (!has("jsc") || !has("python3")) return t.skip(`no ${has("python3") ? "jsc" : "python3"}`);
+  if (!has("jsc")) return t.skip("no jsc");
   const folder = mkdtempSync(join(tmpdir(), "vulfsjor-jsc-"));
   try {
-    const cases = shortCases();
     // the shell has no atob, and no encoder of texts
     writeFileSync(join(folder, "main.mjs"), `
       const digits = "ABCDEFGHIJKLMNOPQRSTUVWXYZabcdefghijklmnopqrstuvwxyz0123456789+/";
@@ -178,13 +179,13 @@ test(`${COUNT} cases of hashlib in jsc, the engine of Safari`, (t) => {
       const { checkCases } = await import(${JSON.stringify(join(top, "tests/check_cases.mjs"))});
       print(JSON.stringify(await checkCases(vulfsjor, cases)));
     `);
-    writeFileSync(join(folder, "cases.json"), JSON.stringify(cases));
+    writeFileSync(join(folder, "cases.json"), JSON.stringify(CASES));
     const { stdout, stderr } = spawnSync(
       "jsc", ["-m", join(folder, "main.mjs")], { encoding: "utf8", maxBuffer: 2 ** 28 });
     assert.match(stdout, /^\{/, stderr);
     const { right, wrong } = JSON.parse(stdout);
     assert.deepEqual(wrong, []);
-    assert.equal(right, cases.length);
+    assert.equal(right, CASES.length);
   } finally {
     rmSync(folder, { recursive: true });
   }

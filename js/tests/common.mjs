@@ -1,7 +1,5 @@
 // Helpers of several tests.
 import assert from "node:assert/strict";
-import { execFileSync } from "node:child_process";
-import { fileURLToPath } from "node:url";
 import { memories } from "../src/engine.js";
 
 /** Whether this is the full test, and the options of a test that only it has. */
@@ -11,13 +9,6 @@ export const LONG = { skip: HUGE ? false : "VULFSJOR_TEST_HUGE is not set" };
 export const bytesOf = (text) => Uint8Array.from(Buffer.from(text, "hex"));
 export const hexOf = (bytes) =>
   Buffer.from(bytes.buffer, bytes.byteOffset, bytes.length).toString("hex");
-
-/** Random cases that tests/vectors.py makes, from a seed and their number in digits. */
-export function randomCases(seed, count) {
-  const script = fileURLToPath(new URL("../../tests/vectors.py", import.meta.url));
-  return JSON.parse(execFileSync(
-    "python3", [script, "--random", seed, count], { maxBuffer: 2 ** 30, encoding: "utf8" }));
-}
 
 /** The sequence of RFC 7693, appendix E. */
 export function sequence(length, seed) {
