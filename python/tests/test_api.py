@@ -257,7 +257,7 @@ def fail(*calls):
 
 
 class Views(unittest.TestCase):
-    """Calls keep nothing, whether they succeed or fail. test_conformance.py has views of arguments that no call keeps."""
+    """Calls keep nothing, whether they succeed or fail. test_conformance.py sees that they keep no view."""
 
     def test_what_is_no_bytes(self):
         """Views of the other arguments are let go: a bytearray can then grow."""
