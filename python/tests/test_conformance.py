@@ -122,8 +122,10 @@ class Driver:
         assert hasher.update(self.bytes_of(message)) is None
 
     def copy(self, slot, other):
-        self.objects[other] = self.of(slot).copy()
-        assert type(self.objects[other]) is type(self.objects[slot])
+        one = self.of(slot)
+        made = self.objects[other] = one.copy()
+        for name in ("__class__", "digest_size", "leaf_size", "count"):
+            assert getattr(made, name, None) == getattr(one, name, None), name
         self.places[other], self.keyed[other] = self.places[slot], self.keyed[slot]
 
     def wipe(self, slot):
