@@ -3,7 +3,7 @@ has what they return."""
 import ctypes
 import unittest
 
-from trees import DATA, ROOT, TEXTS, Test
+from common_trees import DATA, ROOT, TEXTS, Test
 import vulfsjor
 
 NOT_BYTES = ((TypeError, "Strings must be encoded before hashing", "x" * 64),
