@@ -73,9 +73,10 @@ FOLDERS = {
     "vulfsjor-digest.crate: vulfsjor-digest-VERSION/src/": "rust-digest/src",
     "vulfsjor-digest.crate: vulfsjor-digest-VERSION/tests/": "rust-digest/tests",
 }
-# What they have from other folders.
-OTHERS = {"sdist: vulfsjor-VERSION/tests/": {"b2_model.py", "common.py", "oracle.py", "read_sources.py",
-                                             "vectors.json", "vectors.py"}}
+# What they have from other folders, or lack of these: by `exclude` in rust-digest/Cargo.toml.
+OTHERS = {"vulfsjor-digest.crate: vulfsjor-digest-VERSION/tests/": {"conformance.rs"},
+          "sdist: vulfsjor-VERSION/tests/": {"b2_model.py", "common.py", "oracle.py", "read_sources.py", "vectors.json",
+                                             "vectors.py"}}
 
 
 def read(name):
