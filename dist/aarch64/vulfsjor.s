@@ -43733,7 +43733,7 @@
 	ret
 	vj_end	vulfsjor_ffi_tree_leaves_1_arm
 
-	vj_export	vulfsjor_ffi_tree_next_leaves_1_arm
+	vj_export	vulfsjor_ffi_tree_leaves_ahead_1_arm
 	ldr	x8, [x0, #152]
 	mov	w9, #4096
 	cmp	x1, #0
@@ -43844,7 +43844,7 @@
 	add	sp, sp, #32
 3:
 	ret
-	vj_end	vulfsjor_ffi_tree_next_leaves_1_arm
+	vj_end	vulfsjor_ffi_tree_leaves_ahead_1_arm
 
 	vj_export	vulfsjor_ffi_tree_part_1_arm
 	ldr	x9, [x1, #24]

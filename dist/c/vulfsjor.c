@@ -12362,8 +12362,8 @@ l2:;
  return v11;
 }
 
-/* rattle::export vulfsjor_ffi_tree_next_leaves */
-APART u32 exported_tree_next_leaves(u64 v0, u64 v1, u64 v2, u64 v3, u64 v4, u64 v5) {
+/* rattle::export vulfsjor_ffi_tree_leaves_ahead */
+APART u32 exported_tree_leaves_ahead(u64 v0, u64 v1, u64 v2, u64 v3, u64 v4, u64 v5) {
  u32 v7, v12, t0;
  u64 v8, v9, v10, v11, t3;
  v7 = 0xffffffff;
@@ -13363,9 +13363,9 @@ int32_t NAME(tree_root_of_leaves)(uint8_t *out, size_t out_length, const uint8_t
     return (int32_t)exported_tree_root_of_leaves(ADDRESS(out), out_length, ADDRESS(digests), digests_length, ADDRESS(salt), salt_length, ADDRESS(personal), personal_length, leaf_length);
 }
 
-int32_t NAME(tree_next_leaves)(const vulfsjor_tree_state *state, uint8_t *out, size_t out_length,
+int32_t NAME(tree_leaves_ahead)(const vulfsjor_tree_state *state, uint8_t *out, size_t out_length,
         uint64_t skip, const uint8_t *input, size_t input_length) {
-    return (int32_t)exported_tree_next_leaves(ADDRESS(state), ADDRESS(out), out_length, skip, ADDRESS(input), input_length);
+    return (int32_t)exported_tree_leaves_ahead(ADDRESS(state), ADDRESS(out), out_length, skip, ADDRESS(input), input_length);
 }
 
 int32_t NAME(tree_update_leaves)(vulfsjor_tree_state *state, const uint8_t *digests, size_t

@@ -14796,10 +14796,10 @@ unsafe fn exported_tree_root_of_leaves(mut v0: u64, mut v1: u64, mut v2: u64, mu
  return v11;
 }
 
-// rattle::export vulfsjor_ffi_tree_next_leaves
+// rattle::export vulfsjor_ffi_tree_leaves_ahead
 #[inline(never)]
-unsafe fn exported_tree_next_leaves(mut v0: u64, mut v1: u64, mut v2: u64, mut v3: u64, mut v4: u64,
-        mut v5: u64) -> u32 {
+unsafe fn exported_tree_leaves_ahead(mut v0: u64, mut v1: u64, mut v2: u64, mut v3: u64, mut v4:
+        u64, mut v5: u64) -> u32 {
  let mut v7: u32;
  let mut v8: u64;
  let mut v9: u64;
@@ -15893,9 +15893,9 @@ pub(crate) unsafe fn tree_root_of_leaves(out: *mut u8, out_length: usize, digest
     exported_tree_root_of_leaves(out as u64, out_length as u64, digests as u64, digests_length as u64, salt as u64, salt_length as u64, personal as u64, personal_length as u64, leaf_length) as i32
 }
 
-pub(crate) unsafe fn tree_next_leaves<S>(state: &S, out: *mut u8, out_length: usize, skip: u64,
+pub(crate) unsafe fn tree_leaves_ahead<S>(state: &S, out: *mut u8, out_length: usize, skip: u64,
         input: *const u8, input_length: usize) -> i32 {
-    exported_tree_next_leaves(state as *const _ as u64, out as u64, out_length as u64, skip, input as u64, input_length as u64) as i32
+    exported_tree_leaves_ahead(state as *const _ as u64, out as u64, out_length as u64, skip, input as u64, input_length as u64) as i32
 }
 
 pub(crate) unsafe fn tree_update_leaves<S>(state: &mut S, digests: *const u8, digests_length: usize,

@@ -35528,7 +35528,7 @@
 	retq
 	vj_end	vulfsjor_ffi_tree_leaves_1_v2
 
-	vj_export	vulfsjor_ffi_tree_next_leaves_1_v2
+	vj_export	vulfsjor_ffi_tree_leaves_ahead_1_v2
 	pushq	%rbp
 	pushq	%r15
 	pushq	%r14
@@ -35718,7 +35718,7 @@
 	callq	blake2_tree..ranges..hash_leaves_1_v2
 	xorl	%eax, %eax
 	jmp	10b
-	vj_end	vulfsjor_ffi_tree_next_leaves_1_v2
+	vj_end	vulfsjor_ffi_tree_leaves_ahead_1_v2
 
 	vj_export	vulfsjor_ffi_tree_part_1_v2
 	pushq	%rbp

@@ -31164,7 +31164,7 @@
 	retq
 	vj_end	vulfsjor_ffi_tree_leaves_1_v3
 
-	vj_export	vulfsjor_ffi_tree_next_leaves_1_v3
+	vj_export	vulfsjor_ffi_tree_leaves_ahead_1_v3
 	pushq	%rbp
 	pushq	%r15
 	pushq	%r14
@@ -31352,7 +31352,7 @@
 	callq	blake2_tree..ranges..hash_leaves_1_v3
 	xorl	%eax, %eax
 	jmp	10b
-	vj_end	vulfsjor_ffi_tree_next_leaves_1_v3
+	vj_end	vulfsjor_ffi_tree_leaves_ahead_1_v3
 
 	vj_export	vulfsjor_ffi_tree_part_1_v3
 	pushq	%rbp

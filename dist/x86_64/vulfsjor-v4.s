@@ -31042,7 +31042,7 @@
 	retq
 	vj_end	vulfsjor_ffi_tree_leaves_1_v4
 
-	vj_export	vulfsjor_ffi_tree_next_leaves_1_v4
+	vj_export	vulfsjor_ffi_tree_leaves_ahead_1_v4
 	pushq	%rbp
 	pushq	%r15
 	pushq	%r14
@@ -31230,7 +31230,7 @@
 	callq	blake2_tree..ranges..hash_leaves_1_v4
 	xorl	%eax, %eax
 	jmp	10b
-	vj_end	vulfsjor_ffi_tree_next_leaves_1_v4
+	vj_end	vulfsjor_ffi_tree_leaves_ahead_1_v4
 
 	vj_export	vulfsjor_ffi_tree_part_1_v4
 	pushq	%rbp

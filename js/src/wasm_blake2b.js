@@ -1,5 +1,5 @@
 // Made by tools/build.mjs from dist/wasm/vulfsjor.wasm. Do not edit.
-// sha256 of that module:       c5c0b98bf3edb9fe9beeb449ecc220d9d16faef1e399e4f32aa349184d458d4e
+// sha256 of that module:       4881c67a0aee48be474a506fdd31caf4aa14508ee1a59f8a3397e944a6d7918e
 // sha256 of the lowered one:   cf0f117375ae8bde892aff655eb906be218f79ad164458461851a8b51fef58a3
 
 const text =

@@ -1,5 +1,5 @@
 // Made by tools/build.mjs from dist/wasm/vulfsjor.wasm. Do not edit.
-// sha256 of that module:       c5c0b98bf3edb9fe9beeb449ecc220d9d16faef1e399e4f32aa349184d458d4e
+// sha256 of that module:       4881c67a0aee48be474a506fdd31caf4aa14508ee1a59f8a3397e944a6d7918e
 // sha256 of the lowered one:   e2552f5725322ec46e88f128b5b54ef119860e586767f8ac87c817302de1850c
 
 const text =
