@@ -1,9 +1,9 @@
 #!/usr/bin/env python3
 """Shows, for the code in dist/ and the modules in js/src/wasm*.js, that each function that compresses
-computes F of RFC 7693 (section 3.2) for all inputs, in constant time; that calls of BLAKE2b and
-BLAKE2s write what the RFC says; and that no branch and no address of a whole call depends on a
-secret. Prints TAP; the status is 1 if something failed. docs/MACHINE.md says what is shown and how
-to read the output.
+computes F of RFC 7693 (section 3.2) for all inputs, in constant time; that calls of BLAKE2b, BLAKE2s
+and BLAKE2X write what the RFC and the BLAKE2X document say; and that no branch and no address of a
+whole call depends on a secret. Prints TAP; the status is 1 if something failed. docs/MACHINE.md says
+what is shown and how to read the output.
 
     tests/machine/check.py            the proofs: of one message in all files; of several messages,
                                       and some cases of whole calls, each function in one file; some
@@ -67,7 +67,10 @@ SHORT = ("dist/x86_64/vulfsjor-v3.s", "dist/aarch64/vulfsjor.s", "js/src/wasm.js
 SHORT_MANY = {entry: SHORT[k % 3] for k, entry in enumerate(
     entry for entry in functions.LIBRARY if entry[2] > 1)}
 SHORT_FOLLOWED = {part: SHORT[k % 2] for k, part in enumerate(FOLLOWED)}
-SHORT_WRITTEN = {"blake2b": SHORT[1], "blake2s": SHORT[0], "": SHORT[0]}
+SHORT_WRITTEN = {"blake2b": SHORT[1], "blake2s": SHORT[0], "blake2xb": SHORT[0], "blake2xs": SHORT[1],
+                 "": SHORT[0]}
+# The exports whose cases take long, which are parts of their own.
+LONG_EXPORTS = ("_verify", "_squeeze", "_derive_key", "")
 SHORT_WIDTHS = (8,)
 LONG_CALLS = ("vulfsjor_ffi_tree_root", "vulfsjor_ffi_tree_update_leaves")
 LONG_CHANGES = (mutations.secret_forgotten, mutations.carry_forgotten)
@@ -295,7 +298,8 @@ def parts_of_calls(path: str, is_short: bool) -> Iterator:
         pending = list(range(call_cases.KINDS[family].block + 1))
         for numbers in (pending[k::4] for k in range(4)):
             yield path, family, ["_update"], numbers, None
-        for part in (["_verify"], [e for e in exports if e not in ("_update", "_verify")]):
+        for part in [[e] for e in exports if e in LONG_EXPORTS] + [
+                [e for e in exports if e not in LONG_EXPORTS + ("_update",)]]:
             yield path, family, part, None, None
 
 

@@ -151,7 +151,7 @@ def show_scrub(program: Any, _: Any, count: Any) -> None:
 
 def compute_call(program: programs.Program, name: str, exported: str) -> None:
     """Shows what a call of an exported function of a family writes, in some cases."""
-    family = programs.found(r"vulfsjor_ffi_(blake2[bs]|)", exported)[1]
+    family = programs.found(r"vulfsjor_ffi_(blake2x?[bs]|)", exported)[1]
     families.cases(program, family, *families.some(family)).show(exported[len(families.PREFIX + family):])
 
 
@@ -283,6 +283,13 @@ def wrong_refusal() -> Any:
     return _seen("a specification that accepts too long an output fails", verdict == "not ok" and why)
 
 
+def wrong_output() -> Any:
+    """A specification of BLAKE2X whose last block has the length of the others."""
+    verdict, why = _with(check_specification.Numbers, "least", lambda self, most, n: most,
+                         lambda: check_contracts.check(30))
+    return _seen("a specification without the length of the last block fails", verdict == "not ok" and why)
+
+
 def wrong_choice() -> Any:
     """A copy of a variable length that takes one byte too many."""
     f = lambda machine, j, n, a, b: symbolic.choice(j, n, b, a)
@@ -339,4 +346,4 @@ def _seen(title: str, why: Any) -> list:
 
 OF_THE_TOOL = (wrong_model, wrong_rule, function_left_out, secret_forgotten, call_left_out,
                name_changed, carry_forgotten, path_forgotten, step_forgotten, wrong_specification,
-               wrong_refusal, wrong_choice, form_not_run, form_left_out)
+               wrong_refusal, wrong_output, wrong_choice, form_not_run, form_left_out)
