@@ -60,6 +60,7 @@ FORMS = {compression.EachCall: " with a counter each", compression.StripesCall: 
 FOLLOWED = {"BLAKE2b": ("blake2b",), "BLAKE2s": ("blake2s", "memcmp", "wipe"),
             "BLAKE2bp": ("blake2bp",), "BLAKE2sp": ("blake2sp",), "BLAKE2X": ("blake2xb", "blake2xs"),
             "trees": ("tree",)}
+ALL_WHOLE = "BLAKE2X"                  # the part of which all calls are shown whole
 # What there is without --long: one message in all files; each function of several messages in one of
 # these, by turns; each family of calls in one of the first two, and the tests of the models there;
 # rules of one width; and nothing that takes as long as all others.
@@ -248,7 +249,8 @@ def whole(path: str) -> Any:
 
 
 def follow(path: str, family: str, left_out: tuple = ()) -> Any:
-    """That whole calls of a family's functions, except some, do not depend on secrets."""
+    """That whole calls of a family's functions, except some, do not depend on secrets. What calls of
+    the functions write that are shown whole shows that too."""
     title = "%s: no branch and no address of a call depends on a secret: %s" % (path, family)
     if missing(path):
         return [("skip", title, "no " + missing(path))]
@@ -257,7 +259,7 @@ def follow(path: str, family: str, left_out: tuple = ()) -> Any:
     for entry in constant_time.exports(program):
         if entry[2] not in FOLLOWED[family]:
             continue
-        if entry[0] in left_out:
+        if entry[0] in left_out or facts.z3 and entry[0] in families.names(program):
             continue
         try:
             found = constant_time.follow(program, entry)
@@ -400,7 +402,7 @@ def jobs(arguments: list) -> Any:
     followed = [path for path in libraries if path not in constant_time.NOT_FOLLOWED]
     found[:0] = [(follow, (path, part, LONG_CALLS if is_short else ()))
                  for part in reversed(FOLLOWED) for path in followed
-                 if path == SHORT_FOLLOWED[part] or not is_short]
+                 if (path == SHORT_FOLLOWED[part] or not is_short) and not (facts.z3 and part == ALL_WHOLE)]
     if not arguments:
         found += [(specification, ()), (contracts, ()), (numbers_in_ranges, ())]
         found += [(table_of_forms, (kind,)) for kind in ("x86_64", "aarch64")]
