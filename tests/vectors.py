@@ -30,7 +30,7 @@ import sys
 
 from b2_model import Input, Place, bytes_of, parameter_words
 from common import FAMILIES, Parser
-from oracle import SCALAR, output, parallel_by_hashlib, parallel_digest, range_digests, root_of_leaves, tree_root
+from oracle import SCALAR, parallel_by_hashlib, parallel_digest, range_digests, root_of_leaves, tree_root, xof_output
 
 FILE = os.path.join(os.path.dirname(os.path.abspath(__file__)), "vectors.json")
 NUMBERS = ("fanout", "depth", "leaf_size", "node_offset", "node_depth", "inner_size", "last_node")
@@ -118,7 +118,7 @@ def answer(case):
             return parallel_by_hashlib(case["hash"][-1], message(case), **given)
         return parallel_digest(case["hash"][-1], message(case), **{"digest_size": family.key, **given})
     if case["kind"] == "output":
-        return output(case["hash"][-1], message(case), case["size"], is_known=bool(case["is_known"]), **given)
+        return xof_output(case["hash"][-1], message(case), case["size"], is_known=bool(case["is_known"]), **given)
     if case["kind"] == "hmac":
         return hmac.new(given["key"], message(case), family.function).digest()
     if case["kind"] == "hkdf":
