@@ -20263,7 +20263,7 @@
 	sub	x0, x29, #160
 	mov	x2, x5
 	mov	w23, w1
-	bl	b2sum_lines..reads..digest_of_1_a64
+	bl	b2sum_lines..reads..digest_of_digits_1_a64
 	ldurb	w8, [x29, #-160]
 	cbz	w8, 26f
 25:
@@ -20318,7 +20318,7 @@
 	vj_address	x2, x2, .L1_a64_static.1
 	sub	x0, x29, #160
 	mov	w1, w21
-	bl	b2sum_lines..reads..digest_of_1_a64
+	bl	b2sum_lines..reads..digest_of_digits_1_a64
 	ldurb	w8, [x29, #-160]
 	cbnz	w8, 25b
 30:
@@ -20451,7 +20451,7 @@
 	neg	x3, x9
 	sub	x0, x29, #160
 	mov	w1, w21
-	bl	b2sum_lines..reads..digest_of_1_a64
+	bl	b2sum_lines..reads..digest_of_digits_1_a64
 	ldurb	w8, [x29, #-160]
 	cbnz	w8, 25b
 	b	30b
@@ -20658,11 +20658,11 @@
 	b	47b
 	vj_end	b2sum_lines..reads..read_body_1_a64
 
-	vj_function	b2sum_lines..reads..digest_of_1_a64
+	vj_function	b2sum_lines..reads..digest_of_digits_1_a64
 	stp	x29, x30, [sp, #-64]!
 	mov	w8, w1
-	vj_page	x9, .L1_a64_switch.table.b2sum_lines..reads..digest_of_1_a64
-	vj_address	x9, x9, .L1_a64_switch.table.b2sum_lines..reads..digest_of_1_a64
+	vj_page	x9, .L1_a64_switch.table.b2sum_lines..reads..digest_of_digits_1_a64
+	vj_address	x9, x9, .L1_a64_switch.table.b2sum_lines..reads..digest_of_digits_1_a64
 	and	x8, x8, #0xff
 	stp	x24, x23, [sp, #16]
 	mov	x29, sp
@@ -20798,7 +20798,7 @@
 	mov	w8, #1
 	mov	x0, x20
 	b	13b
-	vj_end	b2sum_lines..reads..digest_of_1_a64
+	vj_end	b2sum_lines..reads..digest_of_digits_1_a64
 
 	vj_function	b2sum_lines..reads..entry_with_1_a64
 	sub	sp, sp, #192
@@ -27482,9 +27482,9 @@
 	.quad	.L1_a64_static.28
 	.quad	.L1_a64_static.29
 
-	vj_data	Lswitch.table.b2sum_lines..reads..digest_of_1_a64
+	vj_data	Lswitch.table.b2sum_lines..reads..digest_of_digits_1_a64
 	.p2align	3, 0x0
-.L1_a64_switch.table.b2sum_lines..reads..digest_of_1_a64:
+.L1_a64_switch.table.b2sum_lines..reads..digest_of_digits_1_a64:
 	.quad	128
 	.quad	64
 	.quad	128

@@ -21472,7 +21472,7 @@
 	leaq	160(%rsp), %rdi
 	movl	%ebp, %esi
 	movq	%r9, %rdx
-	callq	b2sum_lines..reads..digest_of_1_x86
+	callq	b2sum_lines..reads..digest_of_digits_1_x86
 	cmpb	$0, 160(%rsp)
 	je	11f
 10:
@@ -21698,7 +21698,7 @@
 	movzbl	16(%rsp), %r14d
 	leaq	160(%rsp), %rdi
 	movl	%r14d, %esi
-	callq	b2sum_lines..reads..digest_of_1_x86
+	callq	b2sum_lines..reads..digest_of_digits_1_x86
 	cmpb	$0, 160(%rsp)
 	jne	10b
 	movq	%r14, 16(%rsp)
@@ -22054,7 +22054,7 @@
 	jmp	45b
 	vj_end	b2sum_lines..reads..read_body_1_x86
 
-	vj_function	b2sum_lines..reads..digest_of_1_x86
+	vj_function	b2sum_lines..reads..digest_of_digits_1_x86
 	pushq	%rbp
 	pushq	%r15
 	pushq	%r14
@@ -22063,7 +22063,7 @@
 	pushq	%rbx
 	pushq	%rax
 	movzbl	%sil, %r13d
-	leaq	.L1_x86_switch.table.b2sum_lines..reads..digest_of_1_x86(%rip), %rax
+	leaq	.L1_x86_switch.table.b2sum_lines..reads..digest_of_digits_1_x86(%rip), %rax
 	cmpq	%rcx, (%rax,%r13,8)
 	jae	2f
 1:
@@ -22205,7 +22205,7 @@
 	movl	$1, %ecx
 	xorl	%eax, %eax
 	jmp	16b
-	vj_end	b2sum_lines..reads..digest_of_1_x86
+	vj_end	b2sum_lines..reads..digest_of_digits_1_x86
 
 	vj_function	b2sum_lines..reads..entry_with_1_x86
 	pushq	%rbp
@@ -28983,9 +28983,9 @@
 	.quad	.L1_x86_static.28
 	.quad	.L1_x86_static.29
 
-	vj_data	Lswitch.table.b2sum_lines..reads..digest_of_1_x86
+	vj_data	Lswitch.table.b2sum_lines..reads..digest_of_digits_1_x86
 	.p2align	3, 0x0
-.L1_x86_switch.table.b2sum_lines..reads..digest_of_1_x86:
+.L1_x86_switch.table.b2sum_lines..reads..digest_of_digits_1_x86:
 	.quad	128
 	.quad	64
 	.quad	128
