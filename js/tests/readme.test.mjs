@@ -18,7 +18,7 @@ import { BLAKE2BP, BLAKE2SP, TREE } from "../src/whole_module.js";
 const cwd = fileURLToPath(new URL("..", import.meta.url));
 const read = (path) => readFileSync(new URL(path, import.meta.url), "utf8");
 
-for (const [page, count] of [["js/README.md", 6], ["README.md", 1]]) {
+for (const [page, count] of [["js/README.md", 7], ["README.md", 1]]) {
   test(`each example of ${page} runs alone`, () => {
     const blocks = [...read(`../../${page}`).matchAll(/```js\n([^`]*)```/g)];
     assert.equal(blocks.length, count);
