@@ -16,7 +16,7 @@ use vulfsjor_digest::*;
 
 // An error of these traits does not name the argument.
 type Outcome = common::Outcome<()>;
-type Made = Option<Result<Box<dyn Hash<()>>, ()>>;
+type Made = common::Made<()>;
 
 /// Absorbs a message in two pieces.
 fn absorb(to: &mut (impl Update + Write), message: &[u8]) -> Outcome {

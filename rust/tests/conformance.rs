@@ -306,11 +306,11 @@ impl Driver for Crate {
             }
             "equal" => {
                 let (one, other) = (Digest::try_from(&bytes(call[1])?[..]).ok()?, bytes(call[2])?);
-                let is_equal = one == other;
-                assert!((other == one) == is_equal && (one == &other[..]) == is_equal);
-                assert!((one == other[..]) == is_equal);
-                assert!((other[..] == one) == is_equal && (&other[..] == one) == is_equal);
-                assert!(Digest::try_from(&other[..]).map_or(true, |other| (one == other) == is_equal));
+                let (is_equal, slice) = (one == other, &other[..]);
+                assert!((other == one) == is_equal && (one == slice) == is_equal);
+                assert!((one == *slice) == is_equal);
+                assert!((*slice == one) == is_equal && (slice == one) == is_equal);
+                assert!(Digest::try_from(slice).map_or(true, |other| (one == other) == is_equal));
                 yes_or_no(is_equal)
             }
             "derive" => {

@@ -121,6 +121,9 @@ pub trait Hash<E> {
     }
 }
 
+/// A hash that was made, or its error, if there is such a hash.
+pub type Made<E> = Option<Result<Box<dyn Hash<E>>, E>>;
+
 pub type Hashes<E> = HashMap<String, Box<dyn Hash<E>>>;
 
 /// The outcome of a call of one of these hashes.
@@ -153,7 +156,7 @@ fn call_of_hash<E>(hashes: &mut Hashes<E>, call: &[&str]) -> Outcome<E> {
 /// this call.
 pub trait Driver {
     type Error: Debug;
-    fn make(&self, hash: &str, given: &Given) -> Option<Result<Box<dyn Hash<Self::Error>>, Self::Error>>;
+    fn make(&self, hash: &str, given: &Given) -> Made<Self::Error>;
     fn call(&self, call: &[&str], given: &Given) -> Outcome<Self::Error>;
     fn is_error(&self, error: &Self::Error, argument: &str, call: &[&str], given: &Given) -> bool;
 }
