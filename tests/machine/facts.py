@@ -141,6 +141,10 @@ class Facts:
             return [low <= total, total <= high]
         return Facts(claim, tuple(u for _, u in parts if u is not None), self)
 
+    def no_more_than_sum(self, r: T.Term, a: T.Term, b: T.Term) -> Facts:
+        """With the fact that a word is no more than the sum of two others, which has no width."""
+        return Facts(lambda of, _: [of(r) <= of(a) + of(b)], (r, a, b), self)
+
     def apart(self, a: T.Term, n: T.Term, b: T.Term, m: T.Term) -> Facts:
         """With the fact that n bytes from a on and m bytes from b on are apart."""
         x, y = (T.add(64, (1, p), (-1, q)) for p, q in ((a, b), (b, a)))

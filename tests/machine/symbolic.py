@@ -360,7 +360,7 @@ class Exact(Taint):
         """An or of which only the bounds are known: it is no less than either, and no more than the sum."""
         r = self.new(a.w)
         facts = self.path_facts.plus(">=", r, a).plus(">=", r, b)
-        self.path_facts = facts.between([(1, a), (1, b), (-1, r)], 0, 2 << a.w)
+        self.path_facts = facts.no_more_than_sum(r, a, b)
         return r
 
     @staticmethod
