@@ -1,9 +1,9 @@
 #!/usr/bin/env python3
 """Shows, for the code in dist/ and the modules in js/src/wasm*.js, that each function that compresses
-computes F of RFC 7693 (section 3.2) for all inputs, in constant time; that calls of BLAKE2b, BLAKE2s
-and BLAKE2X write what the RFC and the BLAKE2X document say; and that no branch and no address of a
-whole call depends on a secret. Prints TAP; the status is 1 if something failed. docs/MACHINE.md says
-what is shown and how to read the output.
+computes F of RFC 7693 (section 3.2) for all inputs, in constant time; that calls of BLAKE2b and
+BLAKE2s write what the RFC says; and that no branch and no address of a whole call depends on a
+secret. Prints TAP; the status is 1 if something failed. docs/MACHINE.md says what is shown and how
+to read the output.
 
     tests/machine/check.py            the proofs: of one message in all files; of several messages,
                                       and some cases of whole calls, each function in one file; some
@@ -60,7 +60,6 @@ FORMS = {compression.EachCall: " with a counter each", compression.StripesCall: 
 FOLLOWED = {"BLAKE2b": ("blake2b",), "BLAKE2s": ("blake2s", "memcmp", "wipe"),
             "BLAKE2bp": ("blake2bp",), "BLAKE2sp": ("blake2sp",), "BLAKE2X": ("blake2xb", "blake2xs"),
             "trees": ("tree",)}
-ALL_WHOLE = "BLAKE2X"                  # the part of which all calls are shown whole
 # What there is without --long: one message in all files; each function of several messages in one of
 # these, by turns; each family of calls in one of the first two, and the tests of the models there;
 # rules of one width; and nothing that takes as long as all others.
@@ -68,10 +67,7 @@ SHORT = ("dist/x86_64/vulfsjor-v3.s", "dist/aarch64/vulfsjor.s", "js/src/wasm.js
 SHORT_MANY = {entry: SHORT[k % 3] for k, entry in enumerate(
     entry for entry in functions.LIBRARY if entry[2] > 1)}
 SHORT_FOLLOWED = {part: SHORT[k % 2] for k, part in enumerate(FOLLOWED)}
-SHORT_WRITTEN = {"blake2b": SHORT[1], "blake2s": SHORT[0], "blake2xb": SHORT[0], "blake2xs": SHORT[1],
-                 "": SHORT[0]}
-# The exports whose cases take long, which are parts of their own.
-LONG_EXPORTS = ("_verify", "_squeeze", "_derive_key", "")
+SHORT_WRITTEN = {"blake2b": SHORT[1], "blake2s": SHORT[0], "": SHORT[0]}
 SHORT_WIDTHS = (8,)
 LONG_CALLS = ("vulfsjor_ffi_tree_root", "vulfsjor_ffi_tree_update_leaves")
 LONG_CHANGES = (mutations.secret_forgotten, mutations.carry_forgotten)
@@ -249,8 +245,7 @@ def whole(path: str) -> Any:
 
 
 def follow(path: str, family: str, left_out: tuple = ()) -> Any:
-    """That whole calls of a family's functions, except some, do not depend on secrets. What calls of
-    the functions write that are shown whole shows that too."""
+    """That whole calls of a family's functions, except some, do not depend on secrets."""
     title = "%s: no branch and no address of a call depends on a secret: %s" % (path, family)
     if missing(path):
         return [("skip", title, "no " + missing(path))]
@@ -259,7 +254,7 @@ def follow(path: str, family: str, left_out: tuple = ()) -> Any:
     for entry in constant_time.exports(program):
         if entry[2] not in FOLLOWED[family]:
             continue
-        if entry[0] in left_out or facts.z3 and entry[0] in families.names(program):
+        if entry[0] in left_out:
             continue
         try:
             found = constant_time.follow(program, entry)
@@ -300,8 +295,7 @@ def parts_of_calls(path: str, is_short: bool) -> Iterator:
         pending = list(range(call_cases.KINDS[family].block + 1))
         for numbers in (pending[k::4] for k in range(4)):
             yield path, family, ["_update"], numbers, None
-        for part in [[e] for e in exports if e in LONG_EXPORTS] + [
-                [e for e in exports if e not in LONG_EXPORTS + ("_update",)]]:
+        for part in (["_verify"], [e for e in exports if e not in ("_update", "_verify")]):
             yield path, family, part, None, None
 
 
@@ -402,7 +396,7 @@ def jobs(arguments: list) -> Any:
     followed = [path for path in libraries if path not in constant_time.NOT_FOLLOWED]
     found[:0] = [(follow, (path, part, LONG_CALLS if is_short else ()))
                  for part in reversed(FOLLOWED) for path in followed
-                 if (path == SHORT_FOLLOWED[part] or not is_short) and not (facts.z3 and part == ALL_WHOLE)]
+                 if path == SHORT_FOLLOWED[part] or not is_short]
     if not arguments:
         found += [(specification, ()), (contracts, ()), (numbers_in_ranges, ())]
         found += [(table_of_forms, (kind,)) for kind in ("x86_64", "aarch64")]
