@@ -1,14 +1,20 @@
-"""The programs that the tests of b2sum run. Not a program."""
+"""What the tests of b2sum share: the programs that they run, runs of them over files, and the lines that these have to
+print. Not a program."""
 import contextlib
+import functools
+import hashlib
 import os
 import shutil
 import subprocess
+import sys
 import tempfile
 
 import tap
 from common import TOP
+from oracle import parallel_digest, tree_root
 
 ASSEMBLE = 'source "$0/tests/tap.sh" && trap "" EXIT && rmdir "$work" && work=$1 && assemble_all b2sum'
+FILES = {"a": b"", "b": b"abc", "with\nline": b"x" * 1000, "caf\udcff": bytes(range(256)) * 5}
 
 
 @contextlib.contextmanager
@@ -28,3 +34,121 @@ def programs(given):
         yield [os.path.abspath(program) for program in given]
     finally:
         shutil.rmtree(folder)
+
+
+class Runs:
+    """Runs of a program in a folder that has FILES."""
+
+    def __init__(self, program, folder):
+        self.program, self.folder, self.wrong, self.count = program, folder, [], 0
+        for name, data in FILES.items():
+            self.write(name, data)
+
+    def path(self, name):
+        return os.path.join(self.folder, name)
+
+    def write(self, name, data):
+        """Writes a file, which only its owner may read if it has a key."""
+        with open(self.path(name), "wb") as file:
+            if name.startswith("key"):
+                os.chmod(file.fileno(), 0o600)
+            file.write(data)
+
+    def run(self, words, data=b"", called="b2sum", **more):
+        """What the program prints to both streams, and its status."""
+        more = {"env": {"LC_ALL": "C"}, "stdout": subprocess.PIPE, "stderr": subprocess.PIPE, "timeout": 100, **more}
+        if "stdin" not in more:
+            more["input"] = data
+        done = subprocess.run([called, *words], executable=self.program, cwd=self.folder, **more)
+        return done.stdout or b"", done.stderr or b"", done.returncode
+
+    def wants(self, words, out, err="", status=0, data=b"", **more):
+        """A run that has to print these texts and end with this status. Each line of `err` is a message."""
+        err = b"".join(b"b2sum: " + os.fsencode(line) + b"\n" for line in err.splitlines())
+        if "Try" in more:
+            err += b"Try 'b2sum --help' for more information.\n"
+            del more["Try"]
+        wanted, got = (os.fsencode(out), err, status), self.run(words, data, **more)
+        self.count += 1
+        if got != wanted:
+            self.wrong.append(f"{words}\n  wanted {wanted}\n  got    {got}")
+
+    def holds(self, words, condition, got=""):
+        """A condition of a run."""
+        self.count += 1
+        if not condition:
+            self.wrong.append(f"{words}\n  got {got}")
+
+    def ends(self, name):
+        """One test of all runs so far."""
+        label = f"{os.path.basename(self.program)}: {name} ({self.count} runs)"
+        tap.result(self.count and not self.wrong, label, "\n".join(self.wrong[:5])[:6000])
+        self.wrong, self.count = [], 0
+
+
+def escaped(name):
+    for byte, text in (("\\", "\\\\"), ("\n", "\\n"), ("\r", "\\r")):
+        name = name.replace(byte, text)
+    return name
+
+
+def digest(family, data, size, **parameters):
+    """The digest of a family, such as "b" of BLAKE2b and "bp" of BLAKE2bp."""
+    if family in ("bp", "sp"):
+        return parallel_digest(family[0], data, size, **parameters)
+    return getattr(hashlib, "blake2" + family)(data, digest_size=size, **parameters).digest()
+
+
+def needs(key=b"", salt=b"", person=b""):
+    """What a tag says of the parameters of a digest."""
+    return ("-key" if key else "") + ("-salt" if salt else "") + ("-personal" if person else "")
+
+
+def line(name, data, bits=512, family="b", mark=" ", tag=False, **parameters):
+    """The line of a file."""
+    digits = digest(family, data, bits // 8, **parameters).hex()
+    start = "\\" if escaped(name) != name else ""
+    if tag:
+        longest = 512 if family[0] == "b" else 256
+        tag = f"BLAKE2{family}{needs(**parameters)}{'' if bits == longest else f'-{bits}'}"
+        return f"{start}{tag} ({escaped(name)}) = {digits}\n"
+    return f"{start}{digits} {mark}{escaped(name)}\n"
+
+
+def checked(name):
+    """The line of a file that has its digest."""
+    return ("\\" if "\n" in name else "") + (escaped(name) if "\n" in name else name) + ": OK\n"
+
+
+def lines(**more):
+    return "".join(line(name, data, **more) for name, data in FILES.items())
+
+
+root = functools.cache(tree_root)
+
+
+def root_line(name, data, leaf, bits=512, **texts):
+    """The line of the root of a tree."""
+    tag = f"BLAKE2b-tree-{leaf}{needs(**texts)}{'' if bits == 512 else f'-{bits}'}"
+    return f"{tag} ({name}) = {root(data, leaf, bits // 8, **texts).hex()}\n"
+
+
+def run_tests(tests, others=(), faulty=()):
+    """Runs tests of the programs that the command line names, or of those of dist/: all of them for the first program,
+    and the others for the rest. The faulty ones need the libraries FAULTS and SCANS, which are built first."""
+    work = tempfile.mkdtemp()
+    os.environ["FAULTS"], os.environ["SCANS"] = (os.path.join(work, it) for it in ("faults.so", "scans.so"))
+    has_faults = not faulty or shutil.which("cc") and all(subprocess.run(
+        ["cc", "-shared", "-fPIC", "-O1", "-Wl,-z,now", os.path.join(TOP, "tests", source), "-o", os.environ[it]],
+        stdout=subprocess.DEVNULL).returncode == 0 for it, source in (
+            ("FAULTS", "b2sum_faults.c"), ("SCANS", "b2sum_key.c")))
+    with programs(sys.argv[1:]) as built:
+        for number, program in enumerate(built):
+            for test in others if number else tests:
+                if test in faulty and not has_faults:
+                    tap.result(True, "calls that fail", skipped="no C compiler cc")
+                    continue
+                with tempfile.TemporaryDirectory() as folder:
+                    test(Runs(program, folder))
+    shutil.rmtree(work)
+    tap.finish()

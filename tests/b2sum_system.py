@@ -1,0 +1,412 @@
+#!/usr/bin/env python3
+"""Runs the program b2sum over pipes and devices, with what cannot be read, written or allocated, and looks for its key
+in its memory. What it has to print is known from hashlib and from the system's texts of errors. Then it makes single
+calls of the system fail, one after the other (tests/b2sum_faults.c), and checks that no line is wrong, and that the
+status shows it.
+
+Only the first program is tested: the others are the same program, with older builds of the library.
+
+usage: tests/b2sum_system.py [PROGRAM..]
+"""
+import errno
+import functools
+import hashlib
+import itertools
+import os
+import random
+import resource
+import select
+import signal
+import socket
+import subprocess
+
+from b2sum_support import FILES, checked, line, lines, root_line, run_tests
+
+HUGE = bool(os.environ.get("VULFSJOR_TEST_HUGE"))
+CALLS = {"readv": errno.EIO, "openat": errno.EACCES, "write": errno.ENOSPC, "malloc": errno.ENOMEM,
+         "realloc": errno.ENOMEM}
+# A key is in the options and, while a file is read, in the state: in its pending block, or in one for each leaf, and in
+# that of a reset.
+MOST_COPIES = {"b": 3, "s": 3, "bp": 6, "sp": 10}
+NAME_REQUESTS = 3  # for memory, before the name of the program is known
+
+zeros = functools.cache(bytes)
+
+
+class Marked:
+    """This many zero bytes, except for a one at some offsets. Slices of zeros of one length are one object."""
+
+    def __init__(self, size, marks):
+        self.size, self.marks = size, marks
+
+    def __len__(self):
+        return self.size
+
+    def __getitem__(self, part):
+        some = range(*part.indices(self.size))
+        data, found = zeros(len(some)), [at - some.start for at in self.marks if at in some]
+        if found:
+            data = bytearray(data)
+            for at in found:
+                data[at] = 1
+        return data
+
+
+def scanned(runs, words, key, call, at):
+    """What a run has in its memory at a call: the number of pieces of the key, whether the process can be dumped, and
+    whether it can leave a core file; or nothing if there is no such call."""
+    out = runs.path("scan")
+    got = runs.run(words, b"abc", env={
+        "LD_PRELOAD": os.environ["SCANS"], "SCAN_KEY": bytes(255 - byte for byte in key).hex(), "SCAN_CALL": call,
+        "SCAN_AT": str(at), "SCAN_OUT": out})
+    runs.holds([*words, call, at], got[1:] == (b"", 0), got)
+    if not os.path.exists(out):
+        return None
+    with open(out, encoding="ascii") as file:
+        found = tuple(map(int, file.read().split()))
+    os.remove(out)
+    return found
+
+
+def test_secrets(runs):
+    """A key is in memory only where it has to be, and nowhere at the end: in the options, and while a file is read in
+    the state. Once a key file is opened, the process cannot be dumped."""
+    key = random.Random(3).randbytes(64)
+    runs.write("long", bytes(200000))
+    for family, bits, some in (("b", 512, key), ("s", 256, key[:32]), ("bp", 512, key), ("sp", 256, key[:32])):
+        runs.write("key", some)
+        words = ["-a", "blake2" + family, "--key-file", "key"]
+        manifest = line("long", bytes(200000), bits, family, key=some)
+        runs.write("sums", (manifest + line("b", b"abc", bits, family, key=some)).encode())
+        for more in (["long", "b", "-"], ["-c", "sums"]):
+            ends, most = [], 0
+            for call in ("readv", "close"):
+                for at in itertools.count(1):
+                    found = scanned(runs, words + more, some, call, at)
+                    if not found:
+                        break
+                    most = max(most, found[0])
+                    runs.holds([*words, call, at, found], found[1:] == (0, 0))
+                ends.append(at - 1)
+            pieces = len(some) // 8
+            runs.holds([*words, "at most", most],
+                       1 <= most // pieces <= MOST_COPIES[family] and ends[0] > 6 and ends[1] > 4)
+            for at in range(ends[1] - 1, ends[1] + 1):
+                runs.holds([*words, "the end", at], scanned(runs, words + more, some, "close", at) == (0, 0, 0))
+    for at in (1, 3):
+        found = scanned(runs, ["long", "b"], key, "readv", at)
+        runs.holds(["no key", found], found and found[:2] == (0, 1))
+    runs.ends("keys in memory")
+
+
+def stop(process):
+    """Ends a process, which waits for a reader of its pipe if there was none."""
+    process.kill()
+    process.wait()
+
+
+def test_system(runs):
+    """What cannot be opened or read, and files that are no regular ones."""
+    os.mkdir(runs.path("dir"))
+    for target, name in (("loop", "loop"), ("b", "link"), ("dir", "folder"), ("nothing", "dangling")):
+        os.symlink(target, runs.path(name))
+    server = socket.socket(socket.AF_UNIX)
+    server.bind(runs.path("socket"))
+    reasons = {"none": errno.ENOENT, "dir": errno.EISDIR, "loop": errno.ELOOP, "a/x": errno.ENOTDIR,
+               "folder": errno.EISDIR, "dangling": errno.ENOENT, "link/": errno.ENOTDIR,
+               "n" * 256: errno.ENAMETOOLONG, "n" * 131071: errno.ENAMETOOLONG, "x/" * 2050: errno.ENAMETOOLONG,
+               "socket": errno.ENXIO,
+               "/proc/self/mem": errno.EIO, "": errno.ENOENT}
+    for name, error in reasons.items():
+        shown = name or "''"
+        runs.wants(["b", name, "a"], line("b", b"abc") + line("a", b""), f"{shown}: {os.strerror(error)}", 1)
+        if name:
+            runs.wants(["-c"], f"{name}: FAILED open or read\nb: OK\n", f"{name}: {os.strerror(error)}\n"
+                       "WARNING: 1 listed file could not be read", 1,
+                       os.fsencode(line(name, b"abc") + line("b", b"abc")))
+            said = "read error" if error in (errno.EISDIR, errno.EIO) else os.strerror(error)
+            runs.wants(["-c", name], "", f"{name}: {said}",
+                       1)
+    runs.wants(["link", "dir/../b"], line("link", b"abc") + line("dir/../b", b"abc"))
+    runs.wants(["/dev/null"], line("/dev/null", b""))
+    runs.wants(["/dev/stdin", "/dev/fd/0"], line("/dev/stdin", b"abc") + line("/dev/fd/0", b""), data=b"abc")
+    with open("/proc/version", "rb") as file:  # whose length is 0 for the system
+        data = file.read()
+    runs.wants(["/proc/version"], line("/proc/version", data))
+    runs.wants(["--tree", "64", "/proc/version"], root_line("/proc/version", data, 64))
+    runs.wants(["-"], "", f"-: {os.strerror(errno.EISDIR)}", 1, stdin=os.open(runs.folder, os.O_RDONLY))
+    runs.wants(["b", "-"], line("b", b"abc"), f"-: {os.strerror(errno.EBADF)}\nstandard input: "
+               f"{os.strerror(errno.EBADF)}", 1, stdin=None, preexec_fn=lambda: os.close(0))
+    os.mkfifo(runs.path("pipe"))
+    writer = subprocess.Popen(["sh", "-c", "exec >pipe; printf ab; sleep 0.3; printf c"], cwd=runs.folder)
+    runs.wants(["pipe"], line("pipe", b"abc"))
+    stop(writer)
+    writer = subprocess.Popen(["sh", "-c", "exec >pipe; cat a b"], cwd=runs.folder)
+    runs.wants(["--tree", "2", "pipe"], root_line("pipe", b"abc", 2))
+    stop(writer)
+    server.close()
+    runs.ends("what cannot be read, pipes and devices")
+
+
+def test_changes(runs):
+    """Files that end before their length, and large reads by threads of which some fail or are cut short: the digest
+    is that of the bytes that were read, each of them once."""
+    data = random.Random(2).randbytes((4 << 20) + 5)
+    runs.write("data", data)
+    for at in range(1, 6):
+        runs.holds(["ends", at], fault(runs, ["data"], b"", "readv", at, 1 << 30, -1) ==
+                   (line("data", data[:(at - 1) << 16]).encode(), b"", 0))
+    wanted = (root_line("data", data, 65536).encode(), b"", 0)
+    for error in (0, -1, errno.EIO, errno.EINTR):
+        for at, last in ((1, 1), (2, 2), (3, 4), (9, 9), (1, 1 << 30)):
+            if (error, last) != (errno.EINTR, 1 << 30):  # no call would end
+                got = fault(runs, ["--tree", "65536", "data"], b"", "pread", at, last, error)
+                runs.holds(["threads", at, last, error], got in (wanted, None) and (got or at > 1), got)
+    runs.ends("files that end early, and threads whose reads fail")
+
+
+def test_outputs(runs):
+    """Standard output and standard error that are full or closed, and a pipe that nobody reads."""
+    full = os.open("/dev/full", os.O_WRONLY)
+    sums = os.fsencode(lines())
+    no_space = f"write error: {os.strerror(errno.ENOSPC)}"
+    for words in ([*FILES], ["-c"], ["--tag", "b"], ["-z", "a"], ["--help"], ["--version"]):
+        runs.wants(words, "", no_space, 1, sums, stdout=full)
+        runs.wants(words, "", f"write error: {os.strerror(errno.EBADF)}", 1, sums, stdout=None,
+                   preexec_fn=lambda: os.close(1))
+    runs.wants(["-c", "--status"], "", data=sums, stdout=full)
+    for words, out, status in ((["b", "none"], line("b", b"abc"), 1), (["-c", "none"], "", 1), (["-l", "7"], "", 1),
+                               (["b"], line("b", b"abc"), 0)):
+        runs.wants(words, out, "", status, stderr=full)
+        runs.wants(words, out, "", status, stderr=None, preexec_fn=lambda: os.close(2))
+    os.close(full)
+    runs.ends("outputs that are full or closed")
+
+
+def test_called(runs):
+    """Messages, the usage and the pointer to it have the last part of argument 0, or `b2sum` if that is empty."""
+    runs.write("key", b"")
+    runs.write("sums", line("b", b"abd").encode() + b"x\n")
+    usage, version = (runs.run([word])[0] for word in ("--help", "--version"))
+    first = b"Usage: b2sum [OPTION].. [FILE]..\n"
+    runs.holds("the usage", usage.startswith(first) and usage.count(b"b2sum") == 1, usage)
+    missing, no_space = (os.strerror(it).encode() for it in (errno.ENOENT, errno.ENOSPC))
+    for path, name in (("vulfsjor-b2sum", b""), ("/usr/bin/vulfsjor-b2sum", b"vulfsjor-b2sum"),
+                       ("./b2sum.exe", b"b2sum.exe"), ("a b/c\n\udcff d", b"c\n\xff d"), ("//s", b"s"),
+                       ("x" * 255 + "/" + "y" * 256, b"y" * 256), ("z" * 70000, b""), ("", b"b2sum"), ("a/", b"b2sum"),
+                       ("/", b"b2sum")):
+        name = name or os.fsencode(path)
+        for words, out, said in (
+                (["none"], b"", b"%s: none: " + missing), (["-c", "none"], b"", b"%s: none: " + missing),
+                (["-x"], b"", b"%s: invalid option -- 'x'\nTry '%s --help' for more information."),
+                (["-l", "7"], b"", b"%s: invalid length: '7'\n%s: length is not a multiple of 8"),
+                (["--key-file", "key", "b"], b"", b"%s: key: a key has 1 to 64 bytes"),
+                (["-cw", "sums"], b"b: FAILED\n", b"%s: sums: 2: improperly formatted BLAKE2b checksum line\n"
+                 b"%s: WARNING: 1 line is improperly formatted\n%s: WARNING: 1 computed checksum did NOT match")):
+            got = runs.run(words, called=path)
+            runs.holds([path[:99], *words], got == (out, said.replace(b"%s", name) + b"\n", 1), got)
+        runs.holds([path[:99], "--help"], runs.run(["--help"], called=path) ==
+                   (usage.replace(b"b2sum", name), b"", 0))
+        runs.holds([path[:99], "--version"], runs.run(["--version"], called=path) == (version, b"", 0))
+        with open("/dev/full", "wb") as full:
+            got = runs.run(["--help"], called=path, stdout=full)
+        runs.holds([path[:99], "/dev/full"], got == (b"", name + b": write error: " + no_space + b"\n", 1), got)
+    os.symlink(runs.program, runs.path("linked sum"))
+    done = subprocess.run([runs.path("linked sum"), "none"], stderr=subprocess.PIPE)
+    runs.holds("a link", done.stderr == b"linked sum: none: " + missing + b"\n", done.stderr)
+    runs.ends("other names of the program")
+
+
+def test_pipes(runs):
+    """A pipe that nobody reads ends the program by SIGPIPE, unless it was ignored when the program started."""
+    sums = os.fsencode(lines())
+    for words in (["b"], ["-c"], ["--help"]):
+        for disposition in (signal.SIG_DFL, signal.SIG_IGN):
+            reader, writer = os.pipe()
+            os.close(reader)
+            got = runs.run(words, sums, stdout=writer, restore_signals=False,
+                           preexec_fn=lambda it=disposition: signal.signal(signal.SIGPIPE, it))
+            os.close(writer)
+            runs.holds([*words, disposition], got == (
+                (b"", b"", -signal.SIGPIPE) if disposition == signal.SIG_DFL else
+                (b"", f"b2sum: write error: {os.strerror(errno.EPIPE)}\n".encode(), 1)), got)
+    runs.ends("pipes that nobody reads")
+
+
+def test_streams(runs):
+    """Each line of a manifest has its verdict before the next is written, on standard input and in a pipe."""
+    os.mkfifo(runs.path("lines"))
+    for words in ([], ["lines"]):
+        process = subprocess.Popen([runs.program, "-c", *words], cwd=runs.folder, stdin=subprocess.PIPE,
+                                   stdout=subprocess.PIPE)
+        with open(runs.path("lines"), "wb", 0) if words else process.stdin as manifest:
+            for name, data in FILES.items():
+                text, verdict = os.fsencode(line(name, data)), os.fsencode(checked(name))
+                for part in text[:7], text[7:]:
+                    manifest.write(part)
+                    manifest.flush()
+                ready, _, _ = select.select([process.stdout], [], [], 60)
+                got = os.read(process.stdout.fileno(), len(verdict)) if ready else b""
+                runs.holds([*words, name], got == verdict, got)
+        runs.holds([*words, "status"], process.wait() == 0, process.returncode)
+        process.stdout.close()
+        process.stdin.close()
+    runs.ends("lines that are checked as they come")
+
+
+def test_closing(runs):
+    """Files and outputs whose closing fails, as some systems report a late read or write."""
+    quota = f"b2sum: write error: {os.strerror(errno.EDQUOT)}\n".encode()
+    whole = line("b", b"abc").encode()
+    late = f"b2sum: close error: {os.strerror(errno.EDQUOT)}\n".encode()
+    for at, wanted in ((1, (whole, late, 1)), (2, (whole, quota, 1)), (3, (whole, b"", 1)), (4, None)):
+        got = fault(runs, ["b"], b"", "close", at, at, errno.EDQUOT)
+        runs.holds(["close", at], got == wanted, got)
+    got = fault(runs, ["b"], b"", "close", 2, 3, errno.EBADF)
+    runs.holds("closing what is closed", got == (whole, b"", 0), got)
+    for path in "sums", "/usr/bin/sums":
+        got = fault(runs, ["b"], b"", "close", 2, 2, errno.EDQUOT, path)
+        runs.holds([path, "close"], got == (whole, quota.replace(b"b2sum", b"sums"), 1), got)
+    runs.ends("outputs whose closing fails")
+
+
+def test_progress(runs):
+    """What --progress shows on a terminal over a pipe that waits, and that nothing else shows anything."""
+    os.mkfifo(runs.path("slow"))
+    runs.write("--prog", b"k")
+    os.chmod(runs.path("--prog"), 0o600)
+    shown = b"\rslow: 0 MiB\x1b[K\r\x1b[K"
+    for words, wanted, parameters in ((["--progress"], shown, {}), (["--prog", "--tag"], shown, {"tag": True}),
+                                      (["--key-file", "--prog"], b"", {"key": b"k"}), ([], b"", {})):
+        terminal, end = os.openpty()
+        writer = subprocess.Popen(["sh", "-c", "exec >slow; printf ab; sleep 0.7; printf c"], cwd=runs.folder)
+        runs.wants([*words, "slow"], line("slow", b"abc", **parameters), stderr=end)
+        stop(writer)
+        os.write(end, b"end")
+        got = b""
+        while not got.endswith(b"end"):
+            got += os.read(terminal, 1000)
+        runs.holds(words, got == wanted + b"end", got)
+        os.close(terminal)
+        os.close(end)
+    runs.wants(["--progress", "b"], line("b", b"abc"))
+    runs.ends("progress")
+
+
+def test_large(runs):
+    """A sparse file of more than 4 GiB, and a manifest with a line of 1 MiB."""
+    long_name = "n" * (1 << 20)
+    runs.wants(["-c"], f"{long_name}: FAILED open or read\nb: OK\n", f"{long_name}: {os.strerror(errno.ENAMETOOLONG)}\n"
+               "WARNING: 1 listed file could not be read", 1, os.fsencode(line(long_name, b"") + line("b", b"abc")))
+    if HUGE:
+        # Marks on both sides of 4 GiB, and at each MiB after it, so that no two pieces there are the same.
+        size, state = (1 << 32) + (40 << 20) + 4097, hashlib.blake2b()
+        data = Marked(size, [5, (1 << 32) - 1, *((1 << 32) + (i << 20) + 3 * i for i in range(40)), size - 1])
+        with open(runs.path("sparse"), "wb") as file:
+            file.truncate(size)
+            for at in data.marks:
+                os.pwrite(file.fileno(), b"\1", at)
+        for at in range(0, size, 1 << 20):
+            state.update(data[at:at + (1 << 20)])
+        runs.wants(["sparse"], f"{state.hexdigest()}  sparse\n", timeout=1000)
+        runs.wants(["--tree", "1048576", "sparse"], root_line("sparse", data, 1 << 20), timeout=1000)
+        os.remove(runs.path("sparse"))
+    runs.ends(f"a long line{' and a file beyond 4 GiB' if HUGE else ''}")
+
+
+# ---- Memory.
+
+def run_within(runs, kib, words, data=b""):
+    """A run in this many KiB of address space."""
+    return runs.run(words, data, preexec_fn=lambda: resource.setrlimit(resource.RLIMIT_AS, (kib << 10,) * 2))
+
+
+def test_memory(runs):
+    """A fixed amount for digests, and for a check up to twice the longest line. With less, it says so."""
+    low, high = 0, 1 << 16
+    while high - low > 16:
+        middle = (low + high) // 2
+        low, high = (low, middle) if run_within(runs, middle, ["a"])[2] == 0 else (middle, high)
+    with open(runs.path("large"), "wb") as file:
+        file.truncate(64 << 20)
+    got = run_within(runs, high + 64, ["large"])
+    runs.holds("64 MiB", got == (os.fsencode(line("large", bytes(64 << 20))), b"", 0), got)
+    manifest = os.fsencode("# comment\n" * 400000 + line("b", b"abc"))
+    got = run_within(runs, high + 192, ["-c"], manifest)
+    runs.holds("a manifest of 4 MB", got == (b"b: OK\n", b"", 0), got)
+    got = run_within(runs, high + 192, ["-c"], b"y\n" * (1 << 20))
+    runs.holds("lines of yes",
+               got == (b"", b"b2sum: 'standard input': no properly formatted checksum lines found\n", 1),
+               got)
+    manifest = os.fsencode("#" * (1 << 22) + "\n" + line("b", b"abc"))
+    got = run_within(runs, high + 192 + 2 * len(manifest) // 1024, ["-c"], manifest)
+    runs.holds("a line of 4 MiB", got == (b"b: OK\n", b"", 0), got)
+    got = run_within(runs, high + len(manifest) // 1024, ["-c"], manifest)
+    runs.holds("with less", got == (b"", b"b2sum: memory exhausted\n", 1), got)
+    runs.ends("memory")
+
+
+# ---- Faults.
+
+def fault(runs, words, data, call, at, last, error, called="b2sum"):
+    """A run in which these calls of a function fail, or nothing if it makes no such call."""
+    hit = runs.path("hit")
+    got = runs.run(words, data, called, env={
+        "LC_ALL": "C", "LD_PRELOAD": os.environ["FAULTS"], "FAULT_CALL": call, "FAULT_AT": str(at),
+        "FAULT_LAST": str(last), "FAULT_ERROR": str(error), "FAULT_HIT": hit})
+    if not os.path.exists(hit):
+        return None
+    os.remove(hit)
+    return got
+
+
+def check_faults(runs, words, data, good, call, error):
+    """The first call of a function fails, the second, and so on; each alone, and with all later ones."""
+    for at in itertools.count(1):
+        for last in (at, 1 << 30):
+            got = fault(runs, words, data, call, at, last, error)
+            if not got:
+                runs.holds([*words, call], at > 1, "it is never called")
+                return
+            whole = set(got[0].splitlines(keepends=True))
+            runs.holds([*words, call, at, last, error], got[2] == 1 and whole <= good and said(call, error, got[1]),
+                got)
+
+
+def test_faults(runs):
+    """Each call of the system fails in turn."""
+    sums = os.fsencode(lines())
+    runs.write("sums", sums)
+    names = [b"a", b"b", b"\\with\\nline", b"caf\xff"]
+    outcomes = {name + end for name in names for end in (b": OK\n", b": FAILED open or read\n")}
+    for words, data, good in (([*FILES, "-"], b"abc", {*(sums + os.fsencode(line("-", b"abc"))).splitlines(True)}),
+                              (["-c", "sums"], b"", outcomes), (["-c"], sums, outcomes),
+                              (["-c", "--ignore-missing", "--strict", "-w", "sums", "sums"], b"", outcomes)):
+        whole = runs.run(words, data)
+        runs.holds(words, whole[1:] == (b"", 0) and not b"FAILED" in whole[0], whole)
+        for call, error in CALLS.items():
+            check_faults(runs, words, data, good, call, error)
+        for call in ("readv", "write"):
+            for at, last in ((1, 1), (2, 2), (3, 3), (1, 1 << 30)):
+                runs.holds([words, call, at, last], fault(runs, words, data, call, at, last, 0) == whole)
+    runs.holds("a write of no byte", fault(runs, ["b"], b"", "write", 1, 1, -1) ==
+               (b"", b"b2sum: write error: write zero\n", 1))
+    for at in range(1, 9):
+        got = fault(runs, ["b"], b"", "malloc", at, 1 << 30, errno.ENOMEM, "/bin/sums")
+        name = b"b2sum" if at <= NAME_REQUESTS else b"sums"
+        runs.holds(["another name", at], got == (b"", name + b": memory exhausted\n", 1), got)
+    runs.ends("each read, open, write and request for memory fails in turn")
+
+
+def said(call, error, err):
+    """Whether the messages name the cause."""
+    if call in ("malloc", "realloc"):
+        return err == b"b2sum: memory exhausted\n" or b": out of memory\n" in err  # for one file
+    if call == "write":
+        return err in (b"", b"b2sum: write error: No space left on device\n")
+    return os.fsencode(os.strerror(error)) in err or b"read error" in err
+
+
+TESTS = (test_system, test_changes, test_outputs, test_called, test_pipes, test_streams, test_closing, test_progress,
+         test_large, test_memory, test_secrets, test_faults)
+run_tests(TESTS, faulty=(test_changes, test_closing, test_secrets, test_faults))
