@@ -1,6 +1,6 @@
 -- Command lines that mean the same.
-use Rattle.std.proofs.Common.{◌≡◌, ◌≢◌, ℕ, ◌+◌, ◌<◌, ◌≤◌, ◌==◌, Bool, true, false, not, List, [], ◌∷◌, ◌++◌}
-use Rattle.std.proofs.Common.{length, take, drop, get_or, Option, Some, None, Result, Ok, Err, refl, ap}
+use Rattle.std.proofs.Common.{◌≡◌, ◌≢◌, ℕ, ◌+◌, ◌==◌, Bool, true, false, List, [], ◌∷◌, ◌++◌}
+use Rattle.std.proofs.Common.{length, take, drop, Some, None, Result, Ok, Err, refl, ap}
 use Rattle.std.proofs.Common.{◌∙◌, sym, append_assoc, append-nil, length-append, arith, codes, nat_eq}
 use Rattle.std.proofs.Common.{◌&&◌, eq-eqb, true≢false}
 use Rattle.std.proofs.lemmas.Bool.{ne_eqb, lt-ltb, le-ltb}
@@ -13,7 +13,7 @@ use Rattle.text_lines.specs.Cuts.{cut_at}
 use Rattle.b2sum_commands.specs.declared.option_names.Flag.{Flag}
 use Rattle.b2sum_commands.specs.Flags.{has_value, letter_flag}
 use Rattle.b2sum_commands.specs.CommandLine.{Choice, End, Next, Anything, ValueOf, OnlyFile, State}
-use Rattle.b2sum_commands.specs.CommandLine.{choosing, flag_named, read_alone, read_any, read_cut}
+use Rattle.b2sum_commands.specs.CommandLine.{choosing, read_alone, read_any, read_cut}
 use Rattle.b2sum_commands.specs.CommandLine.{read_letters, read_long, read_with, read_words}
 use Rattle.b2sum_commands.specs.CommandLine.{set_flag, set_value, with_option}
 use Rattle.b2sum_commands.specs.CommandLineLaws.{before_any, FilesFollow, LettersAreWords}

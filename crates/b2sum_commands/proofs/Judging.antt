@@ -1,5 +1,5 @@
 -- Verdicts.
-use Rattle.std.proofs.Common.{◌≡◌, ◌≢◌, ◌⊎◌, ℕ, ◌&&◌, ◌||◌, Bool, true, false, not, List, [], ◌∷◌, ◌++◌}
+use Rattle.std.proofs.Common.{◌≡◌, ◌≢◌, ◌⊎◌, ℕ, Bool, true, false, List, [], ◌∷◌}
 use Rattle.std.proofs.Common.{Option, Some, inl, inr, refl, ap, ◌∙◌, sym, subst, length, arith}
 use Rattle.std.proofs.Common.{Result, Ok, Err, IfOk, true≢false}
 use Rattle.std.proofs.KnownBytes.{Consumes-nil}

@@ -1,6 +1,6 @@
 -- Laws of the command line: which command lines mean the same. Codes: 45 is a hyphen, 61 `=`.
-use Rattle.std.specs.Prelude.{◌≡◌, ℕ, ◌<◌, ◌==◌, Bool, true, false, List, [], ◌∷◌, ◌++◌, length}
-use Rattle.std.specs.Prelude.{codes, Option, Some, Ok}
+use Rattle.std.specs.Prelude.{◌≡◌, ℕ, ◌<◌, ◌==◌, true, false, List, [], ◌∷◌, ◌++◌, length}
+use Rattle.std.specs.Prelude.{codes, Some, Ok}
 use Rattle.std.specs.List.{All}
 use Rattle.b2sum_commands.specs.declared.option_names.Flag.{Flag}
 use Rattle.b2sum_commands.specs.Flags.{has_value, letter_flag}
