@@ -4,7 +4,8 @@ use Rattle.std.specs.Prelude.{Option, Some, None}
 use Rattle.b2sum_commands.specs.declared.option_names.Flag.{Flag}
 use Rattle.b2sum_commands.specs.declared.option_names.Flag.TheVariants.{Algorithm, Length, KeyFile}
 use Rattle.b2sum_commands.specs.declared.option_names.Flag.TheVariants.{Personal, Salt, Tree}
-use Rattle.b2sum_commands.specs.declared.option_names.Flag.TheVariants.{Progress}
+use Rattle.b2sum_commands.specs.declared.option_names.Flag.TheVariants.{PersonalText, Progress}
+use Rattle.b2sum_commands.specs.declared.option_names.Flag.TheVariants.{ShowDigests}
 use Rattle.b2sum_commands.specs.declared.option_names.Flag.TheVariants.{Threads, NoNames, Raw}
 use Rattle.b2sum_commands.specs.declared.option_names.Flag.TheVariants.{Check, IgnoreMissing, Quiet}
 use Rattle.b2sum_commands.specs.declared.option_names.Flag.TheVariants.{Status, Warn, Strict, Tag}
@@ -17,12 +18,14 @@ long_name Algorithm = codes "algorithm"
 long_name Length = codes "length"
 long_name KeyFile = codes "key-file"
 long_name Personal = codes "personal"
+long_name PersonalText = codes "personal-text"
 long_name Salt = codes "salt"
 long_name Tree = codes "tree"
 long_name Threads = codes "threads"
 long_name Progress = codes "progress"
 long_name NoNames = codes "no-names"
 long_name Raw = codes "raw"
+long_name ShowDigests = codes "show-digests"
 long_name Check = codes "check"
 long_name IgnoreMissing = codes "ignore-missing"
 long_name Quiet = codes "quiet"
@@ -42,12 +45,14 @@ has_value Algorithm = true
 has_value Length = true
 has_value KeyFile = true
 has_value Personal = true
+has_value PersonalText = true
 has_value Salt = true
 has_value Tree = true
 has_value Threads = true
 has_value Progress = false
 has_value NoNames = false
 has_value Raw = false
+has_value ShowDigests = false
 has_value Check = false
 has_value IgnoreMissing = false
 has_value Quiet = false

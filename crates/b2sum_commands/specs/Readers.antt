@@ -22,6 +22,7 @@ choice_of r = record {
   key_file = option_map (λ v. v.items) r.key_file;
   salt = r.salt.items;
   persona = r.persona.items;
+  persona_text = r.persona_text.items;
   checks = r.checks;
   is_binary = r.is_binary;
   is_tagged = r.is_tagged;
@@ -33,6 +34,7 @@ choice_of r = record {
   shows_progress = r.shows_progress;
   has_no_names = r.has_no_names;
   is_raw = r.is_raw;
+  shows_digests = r.shows_digests;
 }
 
 -- What the next word is.

@@ -1,7 +1,8 @@
 //! Which options go together, and what they choose.
 
-ghost use Rattle.std.specs.Prelude.{◌≡◌, ◌≢◌, ◌*◌, ◌≤◌, ◌/◌, length, map, true, false, [], None};
-ghost use Rattle.std.specs.Prelude.{Some, IfSome, IfOk, IfErr, OnOk, is_none};
+ghost use Rattle.std.specs.Prelude.{◌≡◌, ◌≢◌, ◌*◌, ◌≤◌, ◌/◌, length, map, true, false, not, []};
+ghost use Rattle.std.specs.Prelude.{None, Some, IfSome, IfOk, IfErr, OnOk, is_none};
+ghost use Rattle.std.specs.Prelude.{if◌then◌else◌};
 ghost use Rattle.std.specs.List.{list_any};
 ghost use Rattle.b2sum_lines.specs.Lines.{max_bytes, is_tree};
 ghost use Rattle.b2sum_lines.specs.declared.entry.Algorithm.TheVariants.{Tree};
@@ -11,7 +12,7 @@ ghost use Rattle.b2sum_commands.specs.Accepted.{accepted, has_length, has_labels
 ghost use Rattle.b2sum_commands.specs.Accepted.{goes_with_check, goes_with_sums, goes_with_files};
 ghost use Rattle.b2sum_commands.specs.Accepted.{chosen_needs, chosen_style, chosen_shape};
 ghost use Rattle.b2sum_commands.specs.Accepted.{has_bytes, has_trees, with_leaf, AreOptions};
-ghost use Rattle.b2sum_commands.specs.Accepted.{is_input};
+ghost use Rattle.b2sum_commands.specs.Accepted.{has_one_persona, is_input};
 ghost use Rattle.b2sum_commands.specs.Sums.{is_dash};
 ghost use Rattle.b2sum_commands.specs.Readers.{choice_of, IsUnfit};
 
@@ -47,11 +48,12 @@ pub(crate) fn finish(alloc: Global, reader: Reader, files: Vec<Vec<u8>>) -> Resu
         ends_zero: reader.ends_zero,
         ignores_missing: reader.ignores_missing,
         report: reader.report,
+        shows_digests: reader.shows_digests,
         is_strict: reader.is_strict || reader.key_file.is_some(),
         threads: reader.threads.unwrap_or(0),
         shows_progress: reader.shows_progress,
         salt: reader.salt,
-        persona: reader.persona,
+        persona: chosen_persona(reader.persona, reader.persona_text),
     };
     Ok(Arguments {
         options,
@@ -79,6 +81,13 @@ fn check_choice(alloc: Global, reader: &Reader, files: &[Vec<u8>]) -> Result<(),
         return Err(Stop::Usage(joined(alloc, text, b"", b"")?));
     }
     Ok(())
+}
+
+// Returns the persona of digits and that of a text, of which one has no bytes.
+fn chosen_persona(digits: Vec<u8>, text: Vec<u8>) -> Vec<u8>
+    ensures { result.items ≡ (if has_bytes text.items then text.items else digits.items) }
+{
+    if text.is_empty() { digits } else { text }
 }
 
 // Returns the algorithm, with the leaves of a tree.
@@ -141,7 +150,7 @@ fn needs_of(reader: &Reader) -> Needs
     Needs {
         key: reader.key_file.is_some(),
         salt: !reader.salt.is_empty(),
-        personal: !reader.persona.is_empty(),
+        personal: !reader.persona.is_empty() || !reader.persona_text.is_empty(),
     }
 }
 
@@ -199,12 +208,14 @@ fn check_labels(alloc: Global, reader: &Reader) -> Result<(), Stop>
         (4 * length reader.now.salt.items ≤ max_bytes reader.now.algorithm) }
     ensures persona { OnOk result
         (4 * length reader.now.persona.items ≤ max_bytes reader.now.algorithm) }
+    ensures text { OnOk result
+        (4 * length reader.now.persona_text.items ≤ max_bytes reader.now.algorithm) }
     ensures stop { IfErr result (IsUnfit (has_labels (choice_of reader.now))) }
 {
     let most = reader.algorithm.max_bytes() / 4;
     let reason: &[u8] = if reader.salt.len() > most {
         b"the salt is too long: at most 16 bytes, 8 for BLAKE2s and BLAKE2sp"
-    } else if reader.persona.len() > most {
+    } else if reader.persona.len() > most || reader.persona_text.len() > most {
         b"the personalization is too long: at most 16 bytes, 8 for BLAKE2s and BLAKE2sp"
     } else {
         return Ok(());
@@ -236,6 +247,9 @@ fn conflict(reader: &Reader) -> Option<&'static [u8]>
     if reader.is_tagged && (reader.has_no_names || reader.is_raw) {
         return Some(b"--tag does not support --no-names and --raw");
     }
+    if has_two_personas(reader) {
+        return Some(b"the --personal and --personal-text options are mutually exclusive");
+    }
     if reader.leaf.is_some() {
         if !has_trees(reader.algorithm) {
             return Some(b"the --tree option supports blake2b only");
@@ -256,6 +270,17 @@ fn conflict(reader: &Reader) -> Option<&'static [u8]>
     }
 }
 
+// Returns whether there is a persona of digits and one of a text.
+fn has_two_personas(reader: &Reader) -> bool
+    ensures { result ≡ not (has_one_persona (choice_of reader.now)) }
+{
+    !reader.persona.is_empty() && !reader.persona_text.is_empty()
+}
+
+// Why the digests of a check with a key are not shown.
+const SHOWN_MAC: &[u8] =
+    b"--show-digests does not support --key-file: it would print a valid MAC of a changed file";
+
 fn conflict_of_check(reader: &Reader) -> Option<&'static [u8]>
     ensures is { is_none result ≡ goes_with_check (choice_of reader.now) }
     ensures check { result ≡ None → (reader.now.ends_zero ≡ false)
@@ -272,6 +297,9 @@ fn conflict_of_check(reader: &Reader) -> Option<&'static [u8]>
     }
     if reader.has_no_names || reader.is_raw {
         return Some(b"the --no-names and --raw options are meaningless when verifying checksums");
+    }
+    if reader.shows_digests && reader.key_file.is_some() {
+        return Some(SHOWN_MAC);
     }
     None
 }
@@ -324,6 +352,9 @@ fn conflict_of_sums(reader: &Reader) -> Option<&'static [u8]>
     }
     if reader.is_strict {
         return Some(b"the --strict option is meaningful only when verifying checksums");
+    }
+    if reader.shows_digests {
+        return Some(b"the --show-digests option is meaningful only when verifying checksums");
     }
     None
 }

@@ -13,12 +13,14 @@ pub(crate) enum Flag {
     Length,
     KeyFile,
     Personal,
+    PersonalText,
     Salt,
     Tree,
     Threads,
     Progress,
     NoNames,
     Raw,
+    ShowDigests,
     Check,
     IgnoreMissing,
     Quiet,
@@ -43,12 +45,14 @@ impl Flag {
             Flag::Length => b"length",
             Flag::KeyFile => b"key-file",
             Flag::Personal => b"personal",
+            Flag::PersonalText => b"personal-text",
             Flag::Salt => b"salt",
             Flag::Tree => b"tree",
             Flag::Threads => b"threads",
             Flag::Progress => b"progress",
             Flag::NoNames => b"no-names",
             Flag::Raw => b"raw",
+            Flag::ShowDigests => b"show-digests",
             Flag::Check => b"check",
             Flag::IgnoreMissing => b"ignore-missing",
             Flag::Quiet => b"quiet",
@@ -74,6 +78,7 @@ impl Flag {
                 | Flag::Length
                 | Flag::KeyFile
                 | Flag::Personal
+                | Flag::PersonalText
                 | Flag::Salt
                 | Flag::Tree
                 | Flag::Threads
@@ -98,7 +103,7 @@ impl Flag {
 }
 
 /// The long options, in the order in which messages list them.
-pub(crate) static FLAGS: [Flag; 22] = [
+pub(crate) static FLAGS: [Flag; 24] = [
     Flag::Length,
     Flag::Check,
     Flag::IgnoreMissing,
@@ -113,12 +118,14 @@ pub(crate) static FLAGS: [Flag; 22] = [
     Flag::Algorithm,
     Flag::KeyFile,
     Flag::Personal,
+    Flag::PersonalText,
     Flag::Salt,
     Flag::Tree,
     Flag::Threads,
     Flag::Progress,
     Flag::NoNames,
     Flag::Raw,
+    Flag::ShowDigests,
     Flag::Help,
     Flag::Version,
 ];

@@ -13,7 +13,7 @@ ghost use Rattle.b2sum_commands.specs.declared.options.Next.TheVariants.{Any};
 use crate::choices::finish;
 use crate::option_names::{FLAGS, Flag, beginning_flags, exact_flag, first_beginning};
 use crate::quoting::quoted_value;
-use crate::values::{algorithm_of, bits_of, bytes_of, leaf_of, threads_of};
+use crate::values::{algorithm_of, bits_of, bytes_of, leaf_of, text_of, threads_of};
 use b2sum_lines::{Algorithm, Needs, Style};
 use std::alloc::{AllocError, Global};
 use text_lines::split_once;
@@ -75,6 +75,8 @@ pub struct Options {
     pub ignores_missing: bool,
     /// What a check prints.
     pub report: Report,
+    /// A check prints both digests of a file that has another one than its entry.
+    pub shows_digests: bool,
     /// A check fails for lines that are not properly formatted. It always does under a key.
     pub is_strict: bool,
     /// The number of threads that read a large file for a tree, 0 for one on each processor.
@@ -138,6 +140,7 @@ pub(crate) struct Reader {
     pub(crate) key_file: Option<Vec<u8>>,
     pub(crate) salt: Vec<u8>,
     pub(crate) persona: Vec<u8>,
+    pub(crate) persona_text: Vec<u8>,
     pub(crate) checks: bool,
     pub(crate) is_binary: Option<bool>,
     pub(crate) is_tagged: bool,
@@ -149,6 +152,7 @@ pub(crate) struct Reader {
     pub(crate) shows_progress: bool,
     pub(crate) has_no_names: bool,
     pub(crate) is_raw: bool,
+    pub(crate) shows_digests: bool,
 }
 
 impl Reader {
@@ -164,6 +168,7 @@ impl Reader {
             key_file: None,
             salt: Vec::new(alloc),
             persona: Vec::new(alloc),
+            persona_text: Vec::new(alloc),
             checks: false,
             is_binary: None,
             is_tagged: false,
@@ -175,6 +180,7 @@ impl Reader {
             shows_progress: false,
             has_no_names: false,
             is_raw: false,
+            shows_digests: false,
         }
     }
 }
@@ -421,6 +427,7 @@ fn take_flag(reader: &mut Reader, flag: Flag) -> Result<(), Stop>
         Flag::Progress => reader.shows_progress = true,
         Flag::NoNames => reader.has_no_names = true,
         Flag::Raw => reader.is_raw = true,
+        Flag::ShowDigests => reader.shows_digests = true,
         Flag::Tag => {
             reader.is_tagged = true;
             reader.is_binary = Some(true);
@@ -435,6 +442,9 @@ fn take_flag(reader: &mut Reader, flag: Flag) -> Result<(), Stop>
     Ok(())
 }
 
+// What the message of a wrong personalization begins with.
+const PERSONAL: &[u8] = b"invalid personalization: ";
+
 // Takes an option and its value.
 fn take_value(alloc: Global, reader: &mut Reader, flag: Flag, value: &[u8]) -> Result<(), Stop>
     ensures taken { OnOk result
@@ -447,7 +457,8 @@ fn take_value(alloc: Global, reader: &mut Reader, flag: Flag, value: &[u8]) -> R
             reader.names_algorithm = true;
         }
         Flag::KeyFile => reader.key_file = Some(copied(alloc, value)?),
-        Flag::Personal => reader.persona = bytes_of(alloc, b"invalid personalization: ", value)?,
+        Flag::Personal => reader.persona = bytes_of(alloc, PERSONAL, value)?,
+        Flag::PersonalText => reader.persona_text = text_of(alloc, PERSONAL, value)?,
         Flag::Salt => reader.salt = bytes_of(alloc, b"invalid salt: ", value)?,
         Flag::Tree => reader.leaf = Some(leaf_of(alloc, value)?),
         Flag::Threads => reader.threads = Some(threads_of(alloc, value)?),

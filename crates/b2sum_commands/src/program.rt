@@ -42,12 +42,15 @@ Print or check BLAKE2 digests. With no FILE, or if FILE is -, read standard inpu
                         at most 64, or 32 for blake2s and blake2sp
       --salt HEX        use this salt: at most 16 bytes, or 8 for blake2s and blake2sp
       --personal HEX    use this personalization: at most 16 bytes, or 8 for blake2s and blake2sp
+      --personal-text TEXT
+                        use the bytes of TEXT as the personalization
       --tree LEAF       print roots of trees of blake2b with leaves of LEAF bytes
   -c, --check           read digests from the FILEs and check them
       --ignore-missing  do not fail for missing files
       --quiet           do not print OK
       --status          print nothing, the status shows success
       --strict          fail for improperly formatted lines
+      --show-digests    print the expected and the found digest of each file that differs
   -w, --warn            warn about improperly formatted lines
       --threads N       hash trees by at most N threads; 0, the default: all processors
       --progress        show the progress of long reads on a terminal
