@@ -2,9 +2,11 @@ mod Accepting
 mod Digits
 mod Filling
 mod Hashing
+mod LeafLines
 mod LineLemmas
 mod OutputLaws
 mod Printing
+mod PartLeaves
 mod PrintedRoot
 mod ScriptLemmas
 mod Statuses

@@ -3,6 +3,7 @@ pub mod Ends
 pub mod Faults
 pub mod Inputs
 pub mod Kinds
+pub mod Leaves
 pub mod Lines
 pub mod Numbers
 pub mod Options

@@ -18,15 +18,19 @@ Print BLAKE2 digests of standard input in hexadecimal, and what they are made of
   steps KIND [OPTION]..         the transcript: the words and blocks that are compressed
   witness KIND MESSAGE MESSAGE  a pair of steps of two messages with equal digests
   tree KIND LEAF [SALT]..       the root of a tree with leaves of LEAF bytes
+  leaves LEAF FIRST more|last [SALT]..
+                                the digests of the leaves of a part, from leaf FIRST on
+  root KIND LEAF [SALT]..       the root of a tree over such digests of all its leaves
   xof KIND LENGTH [OPTION]..    LENGTH bytes of output of BLAKE2X
   derive LENGTH CONTEXT         a key of LENGTH bytes for a context, from the key that is read
   --help                        this help
   --version                     the version
 
 KIND is b128, b256, b512, s128 or s256: the family, and the bits of the digest. witness accepts
-b0, b8, s0 and s8 too, tree only those of BLAKE2b, and xof has xb and xs.
+b0, b8, s0 and s8 too, tree and root only those of BLAKE2b, and xof has xb and xs.
 OPTION is key=HEX, or a SALT: salt=HEX, persona=HEX or persona-text=TEXT.
 MESSAGE is HEX, or - for no bytes.
+FIRST counts leaves from 0, and last says that the part is the end of the file, more that it is not.
 
 Other users of the machine can see a key on the command line.
 The status is 0 for success, 1 if a read, a write or an allocation fails, and 2 for wrong
@@ -87,6 +91,9 @@ fn usage(command: &str) -> &'static [u8]
         "steps" => b"usage: b2 steps KIND [key=HEX] [salt=HEX] [persona=HEX | persona-text=TEXT]\n",
         "witness" => b"usage: b2 witness KIND MESSAGE MESSAGE\n",
         "tree" => b"usage: b2 tree KIND LEAF [salt=HEX] [persona=HEX | persona-text=TEXT]\n",
+        "leaves" =>
+            b"usage: b2 leaves LEAF FIRST more|last [salt=HEX] [persona=HEX | persona-text=TEXT]\n",
+        "root" => b"usage: b2 root KIND LEAF [salt=HEX] [persona=HEX | persona-text=TEXT]\n",
         "xof" =>
             b"usage: b2 xof KIND LENGTH [key=HEX] [salt=HEX] [persona=HEX | persona-text=TEXT]\n",
         "derive" => b"usage: b2 derive LENGTH CONTEXT\n",

@@ -199,11 +199,8 @@ impl Line {
 /// Prints a digest of at most 64 bytes as a line, two lower-case hexadecimal digits for each
 /// byte. The sink must not have failed before. The error is `Fault::WriteFailed`, if a write
 /// fails.
-pub(crate) fn print_digest<K: Sink, const N: usize>(
-    digest: &[u8; N],
-    sink: &mut K,
-) -> Result<(), Fault>
-    requires size { N ≤ 64 }
+pub(crate) fn print_digest<K: Sink>(digest: &[u8], sink: &mut K) -> Result<(), Fault>
+    requires size { length digest.now ≤ 64 }
     requires sink { K.failed sink.old ≡ false }
     ensures write { IsErrOf result Fault.WriteFailed ↔ IsTrue (K.failed sink.new) }
     ensures fault { IsOkUnless result Fault.WriteFailed }

@@ -9,6 +9,5 @@ print-requires-clause-room g c =
     (omega (
       arith,
       c.requires.size,
-      c.told-digest,
       length-encode_with lower_digits c.args.digest.now,
     ))

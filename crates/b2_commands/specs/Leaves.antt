@@ -1,0 +1,41 @@
+-- The digests of leaves that `leaves` prints and `root` reads, 64 bytes each, in lines.
+use Rattle.std.specs.Prelude.{◌≡◌, ℕ, ◌+◌, ◌*◌, ◌/◌, ◌%◌, ◌<◌, ◌⊎◌, Bool, true, List, [], ◌∷◌}
+use Rattle.std.specs.Prelude.{◌++◌, length, Result, Ok, Err}
+use Rattle.std.specs.List.{flat_map, range_with_len}
+use Rattle.std.specs.Result.{result_map_both}
+use Rattle.hex.specs.Hex.{decode_sized}
+use Rattle.text_lines.specs.Cuts.{lines_of}
+use Rattle.blake2.specs.Streams.{line_of}
+use Rattle.blake2_compress.specs.Pieces.{piece}
+use Rattle.b2_commands.specs.declared.fault.Fault.{Fault}
+use Rattle.b2_commands.specs.declared.fault.Fault.TheVariants.{WrongLine}
+use Rattle.b2_commands.specs.Words.{and_then}
+
+-- n bytes are a part of a message, from the leaf with index `first` on: whole leaves, except that
+-- the last leaf of the message may be shorter. No bytes are only a whole message.
+pub record IsPart (size first : ℕ) (ends : Bool) (n : ℕ) : Type 0 where
+  pub some : (0 < n) ⊎ ((ends ≡ true) × (first ≡ 0))
+  pub whole : (ends ≡ true) ⊎ (n % size ≡ 0)
+
+-- The lines of joined digests of 64 bytes.
+abbrev pub digest_lines : List ℕ → List ℕ
+digest_lines digests =
+    flat_map (λ i. line_of (piece 64 digests i)) (range_with_len 0 (length digests / 64))
+
+-- The digest in the line with this number: 128 hexadecimal digits.
+abbrev pub digest_at : ℕ → List ℕ → Result (List ℕ) Fault
+digest_at number line =
+    result_map_both (λ digest. digest) (λ _. WrongLine number) (decode_sized line 64)
+
+-- The joined digests of lines, the first of which has this number.
+abbrev pub digests_from : ℕ → List (List ℕ) → Result (List ℕ) Fault
+digests_from number [] = Ok []
+digests_from number (line ∷ lines) =
+    and_then (digest_at number line)
+    (λ digest. and_then (digests_from (number + 1) lines) (λ digests. Ok (digest ++ digests)))
+
+-- The joined digests of a text, in a line each, or the error of its first wrong line. No text has no
+-- first line.
+abbrev pub read_digests : List ℕ → Result (List ℕ) Fault
+read_digests [] = Err (WrongLine 1)
+read_digests (b ∷ text) = digests_from 1 (lines_of (b ∷ text))

@@ -1,0 +1,204 @@
+//! `b2 leaves`: the digests of the leaves of a part of a message.
+
+ghost use Rattle.std.specs.Prelude.{◌≡◌, ◌≢◌, ◌↔◌, ◌⊎◌, ◌+◌, ◌-◌, ◌*◌, ◌%◌, ◌^◌, ◌<◌, ◌≤◌, ◌++◌, ℕ};
+ghost use Rattle.std.specs.Prelude.{List, length, take, unwrap_or, [], false, IsTrue, IfErr, IfOk, OnOk};
+ghost use Rattle.std.specs.Prelude.{IfSome, IsOkUnless};
+ghost use Rattle.std.specs.Io.KnownBytes.{Consumes, IsAtEnd};
+ghost use Rattle.std.specs.Result.{IsErrOf};
+ghost use Rattle.blake2_tree.specs.Ranges.{IsRange, range_digests};
+ghost use Rattle.b2_commands.specs.declared.fault.Fault.TheVariants.{WrongLength, TooLong};
+ghost use Rattle.b2_commands.specs.declared.fault.Fault.TheVariants.{ReadFailed, NoMemory};
+ghost use Rattle.b2_commands.specs.Ends.{EndsTask};
+ghost use Rattle.b2_commands.specs.Leaves.{IsPart};
+ghost use Rattle.b2_commands.specs.Options.{given_of};
+ghost use Rattle.b2_commands.specs.Parsed.{part_task};
+ghost use Rattle.b2_commands.specs.Tasks.{IsRefusedByTree, tree_with};
+ghost use Rattle.b2_commands.specs.TreeFaults.{IsFaultOfPart};
+
+use crate::arguments::Options;
+use crate::fault::Fault;
+use crate::input::fill;
+use crate::leaf_lines::print_digests;
+use crate::tree_arguments::Part;
+use blake2::streams::{Sink, Source};
+use blake2_tree::{LABEL_BYTES, MESSAGE_LIMIT, hash_leaves, is_range, leaf_count};
+use std::alloc::Global;
+
+// The number of bytes of a piece, unless a leaf is longer, without the last leaf that has no room.
+const PIECE_BYTES: usize = 1 << 18;
+
+/// Prints the digests of the leaves of all that the source returns, which is this part of a
+/// message, a line each. It reads the source in pieces, and allocates memory for one and for all
+/// digests. Neither device may have failed before.
+///
+/// The error is a `Fault`: `WrongLength` if the salt or the persona has more than 16 bytes, or the
+/// input is no such part; `ReadFailed` if a read returns an error; `TooLong` if the part ends at
+/// 2^58 bytes of the message or more; `NoMemory` if an allocation fails; `WriteFailed` if a write
+/// fails. If it is not `WriteFailed`, nothing was printed.
+pub(crate) fn leaves<S: Source, K: Sink>(
+    alloc: Global,
+    part: &Part,
+    source: &mut S,
+    sink: &mut K,
+) -> Result<(), Fault>
+    requires source { S.failed source.old ≡ false }
+    requires sink { K.failed sink.old ≡ false }
+    ensures { EndsTask (part_task part.now) result (S.left source.old)
+        (S.failed source.new) (K.failed sink.new) (K.held sink.old) (K.held sink.new) }
+{
+    let options = &part.options;
+    if options.salt().len() > LABEL_BYTES || options.persona().len() > LABEL_BYTES {
+        return Err(Fault::WrongLength);
+    }
+    let digests = hash_part(alloc, part, source)?;
+    print_digests(digests.as_slice(), sink)
+}
+
+// Returns the joined digests of the leaves of all that the source returns, which is this part. The
+// salt and the persona have at most 16 bytes each. The errors are those of `leaves`.
+fn hash_part<S: Source>(alloc: Global, part: &Part, source: &mut S) -> Result<Vec<u8>, Fault>
+    requires source { S.failed source.old ≡ false }
+    requires salt { length (unwrap_or (given_of part.now.options).salt []) ≤ 16 }
+    requires persona { length (unwrap_or (given_of part.now.options).persona []) ≤ 16 }
+    ensures read { IsErrOf result Fault.ReadFailed ↔ IsTrue (S.failed source.new) }
+    ensures fault { IfErr result (λ fault.
+        IsFaultOfPart part.now.leaf_length part.now.first part.now.ends fault (S.left source.old)) }
+    ensures whole { IfOk result (λ digests. IfSome (S.left source.old) (λ bytes.
+        IsPart part.now.leaf_length part.now.first part.now.ends (length bytes)
+        × (part.now.first * part.now.leaf_length + length bytes < 2 ^ 58)
+        × (digests.items ≡ range_digests
+        (tree_with part.now.leaf_length (given_of part.now.options)) part.now.first part.now.ends
+        bytes))) }
+{
+    if part.first > (MESSAGE_LIMIT - 1) / u64::from(part.leaf_length) {
+        return Err(Fault::TooLong);
+    }
+    let mut buffer = vec![in alloc; 0u8; piece_length(part.leaf_length) + 1]?;
+    absorb(alloc, part, source, buffer.as_mut_slice())
+}
+
+// Returns the number of bytes of a piece: whole leaves, of at most 256 KiB, or one longer leaf. A
+// leaf has at least 1 byte.
+fn piece_length(leaf_length: u32) -> usize
+    requires { 1 ≤ leaf_length }
+    ensures some { 1 ≤ result }
+    ensures whole { result % leaf_length ≡ 0 }
+    ensures most { result < 2 ^ 32 }
+{
+    let leaf = leaf_length as usize;
+    if leaf < PIECE_BYTES {
+        PIECE_BYTES - PIECE_BYTES % leaf
+    } else {
+        leaf
+    }
+}
+
+// Does what `hash_part` does, with a buffer that has room for whole leaves and one byte more, which
+// shows whether others follow them. The part begins before 2^58 bytes of the message.
+fn absorb<S: Source>(
+    alloc: Global,
+    part: &Part,
+    source: &mut S,
+    buffer: &mut [u8],
+) -> Result<Vec<u8>, Fault>
+    requires source { S.failed source.old ≡ false }
+    requires salt { length (unwrap_or (given_of part.now.options).salt []) ≤ 16 }
+    requires persona { length (unwrap_or (given_of part.now.options).persona []) ≤ 16 }
+    requires begins { part.now.first * part.now.leaf_length < 2 ^ 58 }
+    requires room { 1 < length buffer.old }
+    requires buffer { (length buffer.old - 1) % part.now.leaf_length ≡ 0 }
+    ensures read { IsErrOf result Fault.ReadFailed ↔ IsTrue (S.failed source.new) }
+    ensures fault { IfErr result (λ fault.
+        IsFaultOfPart part.now.leaf_length part.now.first part.now.ends fault (S.left source.old)) }
+    ensures whole { IfOk result (λ digests. IfSome (S.left source.old) (λ bytes.
+        IsPart part.now.leaf_length part.now.first part.now.ends (length bytes)
+        × (part.now.first * part.now.leaf_length + length bytes < 2 ^ 58)
+        × (digests.items ≡ range_digests
+        (tree_with part.now.leaf_length (given_of part.now.options)) part.now.first part.now.ends
+        bytes))) }
+{
+    let leaf = u64::from(part.leaf_length);
+    let size = buffer.len() - 1;
+    let mut digests = Vec::new(alloc);
+    let mut next = part.first;
+    let mut held = 0;
+    'pieces: loop {
+        let filled = fill_after(source, buffer, held)?;
+        if filled as u64 >= MESSAGE_LIMIT - next * leaf {
+            return Err(Fault::TooLong);
+        }
+        if filled <= size {
+            if !is_range(part.leaf_length, next, part.ends, filled as u64) {
+                return Err(Fault::WrongLength);
+            }
+            push_digests(
+                alloc,
+                part,
+                next,
+                part.ends,
+                &buffer[..filled],
+                &mut digests,
+            )?;
+            return Ok(digests);
+        }
+        push_digests(alloc, part, next, false, &buffer[..size], &mut digests)?;
+        buffer[0] = buffer[size];
+        held = 1;
+        next += size as u64 / leaf;
+    }
+}
+
+// Fills the buffer after its first `held` bytes with the next bytes of the source, and returns how
+// many bytes the buffer then holds: fewer than its length only if the source is at its end. The
+// source must not have failed before. The error is `Fault::ReadFailed`, if a read returns an error.
+fn fill_after<S: Source>(source: &mut S, buffer: &mut [u8], held: usize) -> Result<usize, Fault>
+    requires source { S.failed source.old ≡ false }
+    requires held { held ≤ length buffer.old }
+    ensures read { IsErrOf result Fault.ReadFailed ↔ IsTrue (S.failed source.new) }
+    ensures fault { IsOkUnless result Fault.ReadFailed }
+    ensures size { length buffer.new ≡ length buffer.old }
+    ensures least { IfOk result (λ n. held ≤ n) }
+    ensures within { IfOk result (λ n. n ≤ length buffer.new) }
+    ensures bytes { IfOk result (λ n. (x : List ℕ)
+        × (take n buffer.new ≡ take held buffer.old ++ x)
+        × Consumes (S.left source.old) (S.left source.new) x) }
+    ensures end { IfOk result (λ n. n < length buffer.new → IsAtEnd (S.left source.new)) }
+{
+    let filled = fill(source, &mut buffer[held..])?;
+    Ok(held + filled)
+}
+
+// Appends the digests of a range of a message's leaves, the first of which is leaf `first`. The
+// bytes must be a range that `ends` the message or not. The salt and the persona have at most 16
+// bytes each. The error is `Fault::NoMemory`, if an allocation fails.
+fn push_digests(
+    alloc: Global,
+    part: &Part,
+    first: u64,
+    ends: bool,
+    bytes: &[u8],
+    digests: &mut Vec<u8>,
+) -> Result<(), Fault>
+    requires salt { length (unwrap_or (given_of part.now.options).salt []) ≤ 16 }
+    requires persona { length (unwrap_or (given_of part.now.options).persona []) ≤ 16 }
+    requires range { IsRange part.now.leaf_length first ends (length bytes.now) }
+    ensures fault { IsOkUnless result Fault.NoMemory }
+    ensures pushed { OnOk result (digests.new.items ≡ digests.old.items ++ range_digests
+        (tree_with part.now.leaf_length (given_of part.now.options)) first ends bytes.now) }
+{
+    let leaf_length = part.leaf_length;
+    let count = leaf_count(leaf_length, bytes.len() as u64);
+    let mut room = vec![in alloc; 0u8; 64 * count as usize]?;
+    let (salt, persona) = (part.options.salt(), part.options.persona());
+    hash_leaves(
+        salt,
+        persona,
+        leaf_length,
+        first,
+        ends,
+        bytes,
+        room.as_mut_slice(),
+    );
+    digests.extend_from_slice(room.as_slice())?;
+    Ok(())
+}
