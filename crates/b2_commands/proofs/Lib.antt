@@ -8,6 +8,7 @@ mod OutputLaws
 mod Printing
 mod PartLeaves
 mod PrintedRoot
+mod RootLines
 mod ScriptLemmas
 mod Statuses
 mod Unread
