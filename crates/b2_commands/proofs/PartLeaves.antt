@@ -45,11 +45,11 @@ hashed_more p first bytes digests x next held k some before whole =
       count = before.count + suc k;
       size = omega (arith, size, length-append bytes x, whole);
       next_is = omega (arith, before.next_is);
-      none = λ zero. absurd (omega arith);
+      none = λ nothing. absurd (omega (arith, nothing));
       future = λ ends y more.
           ap (range_digests p first ends) (append_assoc bytes x y)
           ∙ before.future ends (x ++ y) (omega (arith, before.most, more, length-append x y))
-          ∙ ap (λ d. digests ++ d) (range_digests-whole p next k ends x y some whole more)
+          ∙ ap (λ d. digests ++ d) (range_digests-whole p next k ends x y some whole (omega (arith, more)))
           ∙ sym (append_assoc digests (range_digests p next false x)
           (range_digests p (next + suc k) ends y));
     }

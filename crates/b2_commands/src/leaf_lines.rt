@@ -7,7 +7,7 @@ ghost use Rattle.b2_commands.specs.Leaves.{digest_at, digest_lines, read_digests
 ghost use Rattle.b2_commands.specs.Reading.{IsLineFault};
 
 use crate::fault::Fault;
-use crate::print::print_digest;
+use crate::print::print_bytes;
 use blake2::streams::Sink;
 use std::alloc::Global;
 use text_lines::split_line;
@@ -26,7 +26,7 @@ pub(crate) fn print_digests<K: Sink>(digests: &[u8], sink: &mut K) -> Result<(),
 {
     for i in 0..digests.len() / DIGEST_BYTES {
         let start = i * DIGEST_BYTES;
-        print_digest(&digests[start..start + DIGEST_BYTES], sink)?;
+        print_bytes(&digests[start..start + DIGEST_BYTES], sink)?;
     }
     Ok(())
 }
