@@ -267,14 +267,15 @@ check_memory_of_streams() {
     lacks_room 8192 tree b512 3355443
 }
 
-# A piece of 256 KiB or one leaf, and 64 bytes for each leaf of the piece and of the input: twice as
-# much for the list of these, which grows. The input and the digests for the root.
+# A piece of 256 KiB or one longer leaf, if the input has that many bytes, and 64 bytes for each leaf
+# of the piece and of the input: up to thrice as much while a list grows. The input and the digests
+# for the root.
 check_memory_of_leaves() {
     take_zeros $((40 << 20))
     leaves_of_input 65536 9 >"$work/wanted"
-    has_room $((256 + 3 * 40 + 64)) - leaves 65536 9 last
+    has_room $((3 * 256 + 3 * 40 + 64)) - leaves 65536 9 last
     leaves_of_input 4194304 0 >"$work/wanted"
-    has_room $((4096 + 64)) - leaves 4194304 0 last
+    has_room $((3 * 4096 + 64)) - leaves 4194304 0 last
     lacks_room 4096 leaves 8388608 0 last
     leaves_of_input 1024 0 >"$work/lines"
     local wanted

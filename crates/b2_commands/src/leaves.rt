@@ -1,7 +1,7 @@
 //! `b2 leaves`: the digests of the leaves of a part of a message.
 
-ghost use Rattle.std.specs.Prelude.{◌≡◌, ◌≢◌, ◌↔◌, ◌⊎◌, ◌+◌, ◌-◌, ◌*◌, ◌%◌, ◌^◌, ◌<◌, ◌≤◌, ◌++◌, ℕ};
-ghost use Rattle.std.specs.Prelude.{List, length, take, unwrap_or, [], false, IsTrue, IfErr, IfOk, OnOk};
+ghost use Rattle.std.specs.Prelude.{◌≡◌, ◌≢◌, ◌↔◌, ◌⊎◌, ◌+◌, ◌*◌, ◌%◌, ◌^◌, ◌<◌, ◌≤◌, ◌++◌, ℕ};
+ghost use Rattle.std.specs.Prelude.{List, length, unwrap_or, [], false, IsTrue, IfErr, IfOk, OnOk};
 ghost use Rattle.std.specs.Prelude.{IfSome, IsOkUnless};
 ghost use Rattle.std.specs.Io.KnownBytes.{Consumes, IsAtEnd};
 ghost use Rattle.std.specs.Result.{IsErrOf};
@@ -26,6 +26,9 @@ use std::alloc::Global;
 
 // The number of bytes of a piece, unless a leaf is longer, without the last leaf that has no room.
 const PIECE_BYTES: usize = 1 << 18;
+
+// The length of the buffer between the source and a piece, in bytes.
+const BUFFER_BYTES: usize = 4096;
 
 /// Prints the digests of the leaves of all that the source returns, which is this part of a
 /// message, a line each. It reads the source in pieces, and allocates memory for one and for all
@@ -70,11 +73,36 @@ fn hash_part<S: Source>(alloc: Global, part: &Part, source: &mut S) -> Result<Ve
         (tree_with part.now.leaf_length (given_of part.now.options)) part.now.first part.now.ends
         bytes))) }
 {
-    if part.first > (MESSAGE_LIMIT - 1) / u64::from(part.leaf_length) {
+    let leaf = u64::from(part.leaf_length);
+    if part.first > (MESSAGE_LIMIT - 1) / leaf {
         return Err(Fault::TooLong);
     }
-    let mut buffer = vec![in alloc; 0u8; piece_length(part.leaf_length) + 1]?;
-    absorb(alloc, part, source, buffer.as_mut_slice())
+    let size = piece_length(part.leaf_length);
+    let mut digests = Vec::new(alloc);
+    // The bytes that were read and are not hashed. One byte more than a piece shows that others
+    // follow its leaves.
+    let mut bytes = Vec::new(alloc);
+    let mut next = part.first;
+    'pieces: loop {
+        read_up_to(source, &mut bytes, size + 1)?;
+        let count = bytes.len();
+        if count as u64 >= MESSAGE_LIMIT - next * leaf {
+            return Err(Fault::TooLong);
+        }
+        if count <= size {
+            if !is_range(part.leaf_length, next, part.ends, count as u64) {
+                return Err(Fault::WrongLength);
+            }
+            push_digests(alloc, part, next, part.ends, bytes.as_slice(), &mut digests)?;
+            return Ok(digests);
+        }
+        let piece = &bytes.as_slice()[..size];
+        push_digests(alloc, part, next, false, piece, &mut digests)?;
+        let byte = bytes.as_slice()[size];
+        bytes.clear();
+        bytes.push(byte)?;
+        next += size as u64 / leaf;
+    }
 }
 
 // Returns the number of bytes of a piece: whole leaves, of at most 256 KiB, or one longer leaf. A
@@ -93,79 +121,30 @@ fn piece_length(leaf_length: u32) -> usize
     }
 }
 
-// Does what `hash_part` does, with a buffer that has room for whole leaves and one byte more, which
-// shows whether others follow them. The part begins before 2^58 bytes of the message.
-fn absorb<S: Source>(
-    alloc: Global,
-    part: &Part,
-    source: &mut S,
-    buffer: &mut [u8],
-) -> Result<Vec<u8>, Fault>
+// Appends the next bytes of the source, until there are `most`, or fewer if the source is at its
+// end. There must not be more at first, and the source must not have failed before. The error is a
+// `Fault`: `ReadFailed` if a read returns an error, `NoMemory` if an allocation fails.
+fn read_up_to<S: Source>(source: &mut S, bytes: &mut Vec<u8>, most: usize) -> Result<(), Fault>
     requires source { S.failed source.old ≡ false }
-    requires salt { length (unwrap_or (given_of part.now.options).salt []) ≤ 16 }
-    requires persona { length (unwrap_or (given_of part.now.options).persona []) ≤ 16 }
-    requires begins { part.now.first * part.now.leaf_length < 2 ^ 58 }
-    requires room { 1 < length buffer.old }
-    requires buffer { (length buffer.old - 1) % part.now.leaf_length ≡ 0 }
+    requires room { length bytes.old.items ≤ most }
     ensures read { IsErrOf result Fault.ReadFailed ↔ IsTrue (S.failed source.new) }
-    ensures fault { IfErr result (λ fault.
-        IsFaultOfPart part.now.leaf_length part.now.first part.now.ends fault (S.left source.old)) }
-    ensures whole { IfOk result (λ digests. IfSome (S.left source.old) (λ bytes.
-        IsPart part.now.leaf_length part.now.first part.now.ends (length bytes)
-        × (part.now.first * part.now.leaf_length + length bytes < 2 ^ 58)
-        × (digests.items ≡ range_digests
-        (tree_with part.now.leaf_length (given_of part.now.options)) part.now.first part.now.ends
-        bytes))) }
-{
-    let leaf = u64::from(part.leaf_length);
-    let size = buffer.len() - 1;
-    let mut digests = Vec::new(alloc);
-    let mut next = part.first;
-    let mut held = 0;
-    'pieces: loop {
-        let filled = fill_after(source, buffer, held)?;
-        if filled as u64 >= MESSAGE_LIMIT - next * leaf {
-            return Err(Fault::TooLong);
-        }
-        if filled <= size {
-            if !is_range(part.leaf_length, next, part.ends, filled as u64) {
-                return Err(Fault::WrongLength);
-            }
-            push_digests(
-                alloc,
-                part,
-                next,
-                part.ends,
-                &buffer[..filled],
-                &mut digests,
-            )?;
-            return Ok(digests);
-        }
-        push_digests(alloc, part, next, false, &buffer[..size], &mut digests)?;
-        buffer[0] = buffer[size];
-        held = 1;
-        next += size as u64 / leaf;
-    }
-}
-
-// Fills the buffer after its first `held` bytes with the next bytes of the source, and returns how
-// many bytes the buffer then holds: fewer than its length only if the source is at its end. The
-// source must not have failed before. The error is `Fault::ReadFailed`, if a read returns an error.
-fn fill_after<S: Source>(source: &mut S, buffer: &mut [u8], held: usize) -> Result<usize, Fault>
-    requires source { S.failed source.old ≡ false }
-    requires held { held ≤ length buffer.old }
-    ensures read { IsErrOf result Fault.ReadFailed ↔ IsTrue (S.failed source.new) }
-    ensures fault { IsOkUnless result Fault.ReadFailed }
-    ensures size { length buffer.new ≡ length buffer.old }
-    ensures least { IfOk result (λ n. held ≤ n) }
-    ensures within { IfOk result (λ n. n ≤ length buffer.new) }
-    ensures bytes { IfOk result (λ n. (x : List ℕ)
-        × (take n buffer.new ≡ take held buffer.old ++ x)
+    ensures fault { IfErr result (λ fault. (fault ≡ ReadFailed) ⊎ (fault ≡ NoMemory)) }
+    ensures most { OnOk result (length bytes.new.items ≤ most) }
+    ensures bytes { OnOk result ((x : List ℕ) × (bytes.new.items ≡ bytes.old.items ++ x)
         × Consumes (S.left source.old) (S.left source.new) x) }
-    ensures end { IfOk result (λ n. n < length buffer.new → IsAtEnd (S.left source.new)) }
+    ensures end { OnOk result (length bytes.new.items < most → IsAtEnd (S.left source.new)) }
 {
-    let filled = fill(source, &mut buffer[held..])?;
-    Ok(held + filled)
+    let mut buffer = [0u8; BUFFER_BYTES];
+    'reading: while bytes.len() < most {
+        let room = (most - bytes.len()).min(BUFFER_BYTES);
+        let piece = &mut buffer[..room];
+        let filled = fill(source, piece)?;
+        bytes.extend_from_slice(&piece[..filled])?;
+        if filled < room {
+            return Ok(());
+        }
+    }
+    Ok(())
 }
 
 // Appends the digests of a range of a message's leaves, the first of which is leaf `first`. The

@@ -12,14 +12,14 @@ use blake2_test_support::no_memory::{hoard, is_refused};
 use std::alloc::{AllocError, Global};
 use std::process::Abort;
 
-// The number of bytes that a hoard leaves free in one block. The shortest pieces of the inputs of
-// `tree` and `leaves` have fewer.
-const SPARE_BYTES: usize = 524_288;
+// The number of bytes that a hoard leaves free in one block. The shortest piece of a tree's input
+// has fewer.
+const SPARE_BYTES: usize = 131_072;
 
 // The number of times that a command is tried.
 const TRIES: usize = 1024;
 
-// Runs a command under a hoard, with `left` bytes of memory left, at most 524,288. Returns its
+// Runs a command under a hoard, with `left` bytes of memory left, at most 131,072. Returns its
 // status, and how many bytes it prints into the room.
 fn run_with_memory(
     alloc: Global,
@@ -28,7 +28,7 @@ fn run_with_memory(
     room: &mut [u8],
     left: usize,
 ) -> Result<(u8, usize), AllocError>
-    requires { left ≤ 524288 }
+    requires { left ≤ 131072 }
 {
     let plug: Vec<u8> = Vec::with_capacity(alloc, SPARE_BYTES - left)?;
     let mut source = SliceSource::new(input, 4096, None);
@@ -57,7 +57,7 @@ fn answer_with_memory(
     wanted: &str,
     left: usize,
 ) -> Answer
-    requires { left ≤ 524288 }
+    requires { left ≤ 131072 }
 {
     let mut room = [0u8; 1024];
     let Ok((status, written)) = run_with_memory(alloc, words, input, &mut room, left) else {
@@ -83,7 +83,7 @@ fn count_refused(
     wanted: &str,
     step: usize,
 ) -> Option<usize>
-    requires { step ≤ 512 }
+    requires { step ≤ 128 }
 {
     let mut refused = 0usize;
     for tries in 0..TRIES {
@@ -105,7 +105,7 @@ fn count_refused_of(
     wanted: &[&str],
     step: usize,
 ) -> Result<Option<usize>, AllocError>
-    requires { step ≤ 512 }
+    requires { step ≤ 128 }
 {
     let words = words_of(alloc, text)?;
     let wanted = text_of(alloc, wanted)?;
@@ -125,7 +125,7 @@ fn check_refusals(
     wanted: &[&str],
     step: usize,
 )
-    requires { step ≤ 512 }
+    requires { step ≤ 128 }
 {
     let refused = count_refused_of(rt.alloc(), text, input, wanted, step);
     assert!(rt;
@@ -197,15 +197,9 @@ fn each_request_for_memory_refused(rt: HostRuntime) {
     let root = "14b0752e3ca5c2b4f5df98dcb4fab97caeda23424260d531f9b0b52310bb58ee\
         cb6e13211a8298c3e52d543a21efa545053f3006100629ff6bd181611b38f8c8\n";
     check_refusals(&rt, "tree b512 4 salt= persona=", b"abcde", &[root], 128);
-    check_refusals(&rt, "leaves 4 0 more salt=", b"abcd", &[FIRST, "\n"], 512);
+    check_refusals(&rt, "leaves 4 0 more salt=", b"abcd", &[FIRST, "\n"], 16);
     let lines = text_of(rt.alloc(), &[FIRST, "\n", LAST]).expect(&rt, "memory for the test");
-    check_refusals(
-        &rt,
-        "root b512 4 salt=",
-        lines.as_bytes(),
-        &[ROOT, "\n"],
-        16,
-    );
+    check_refusals(&rt, "root b512 4 salt=", lines.as_bytes(), &[ROOT, "\n"], 16);
 }
 
 #[test]
