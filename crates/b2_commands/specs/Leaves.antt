@@ -34,8 +34,8 @@ digests_from number (line ∷ lines) =
     and_then (digest_at number line)
     (λ digest. and_then (digests_from (number + 1) lines) (λ digests. Ok (digest ++ digests)))
 
--- The joined digests of a text, in a line each, or the error of its first wrong line. No text has no
--- first line.
+-- The joined digests of a text, in a line each, or the error of its first wrong line. A text of no
+-- bytes has a wrong first line.
 abbrev pub read_digests : List ℕ → Result (List ℕ) Fault
 read_digests [] = Err (WrongLine 1)
 read_digests (b ∷ text) = digests_from 1 (lines_of (b ∷ text))

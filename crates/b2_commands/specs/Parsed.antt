@@ -5,7 +5,8 @@ use Rattle.b2_commands.specs.declared.witness_arguments.Comparison.{Comparison}
 use Rattle.b2_commands.specs.declared.task.Output.{Output}
 use Rattle.b2_commands.specs.declared.task.Output.TheVariants.{Digest, Digests, Transcript}
 use Rattle.b2_commands.specs.declared.tree_arguments.Over.{Over}
-use Rattle.b2_commands.specs.declared.tree_arguments.Over.TheVariants.{Message, Leaves as OverLeaves}
+use Rattle.b2_commands.specs.declared.tree_arguments.Over.TheVariants.{Message}
+use Rattle.b2_commands.specs.declared.tree_arguments.Over.TheVariants.{Leaves as OverLeaves}
 use Rattle.b2_commands.specs.declared.tree_arguments.Part.{Part}
 use Rattle.b2_commands.specs.declared.tree_arguments.Root.{Root}
 use Rattle.b2_commands.specs.declared.output_arguments.Extended.{Extended}

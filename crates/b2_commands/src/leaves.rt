@@ -100,7 +100,7 @@ fn hash_part<S: Source>(alloc: Global, part: &Part, source: &mut S) -> Result<Ve
         push_digests(alloc, part, next, false, piece, &mut digests)?;
         let byte = bytes.as_slice()[size];
         bytes.clear();
-        bytes.push(byte)?;
+        bytes.push(byte).map_err(|_| Fault::NoMemory)?;
         next += size as u64 / leaf;
     }
 }

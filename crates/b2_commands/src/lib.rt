@@ -1,6 +1,6 @@
 //! The commands of `b2`: digests, scripts, transcripts and witnesses of BLAKE2b and BLAKE2s, roots
-//! of trees and the digests of their leaves, and outputs of BLAKE2X. They read a source of bytes and
-//! print to a sink. The program passes standard input and standard output to them.
+//! of trees and the digests of their leaves, and outputs of BLAKE2X. They read a source of bytes
+//! and print to a sink. The program passes standard input and standard output to them.
 
 #![tactic(auto)]
 
