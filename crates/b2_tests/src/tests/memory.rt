@@ -199,7 +199,13 @@ fn each_request_for_memory_refused(rt: HostRuntime) {
     check_refusals(&rt, "tree b512 4 salt= persona=", b"abcde", &[root], 128);
     check_refusals(&rt, "leaves 4 0 more salt=", b"abcd", &[FIRST, "\n"], 16);
     let lines = text_of(rt.alloc(), &[FIRST, "\n", LAST]).expect(&rt, "memory for the test");
-    check_refusals(&rt, "root b512 4 salt=", lines.as_bytes(), &[ROOT, "\n"], 16);
+    check_refusals(
+        &rt,
+        "root b512 4 salt=",
+        lines.as_bytes(),
+        &[ROOT, "\n"],
+        16,
+    );
 }
 
 #[test]
