@@ -8,7 +8,7 @@ use Rattle.std.proofs.lemmas.Bool.{cases_lt}
 use Rattle.blake2.specs.Family.{Family, blake2b, blake2s, block_bytes, key_bytes}
 use Rattle.blake2.specs.Hash.{AdmitsTree, AreBytes, Input, key_block, padded, sequential}
 use Rattle.blake2.specs.Inputs.{Accepts, KeyFits}
-use Rattle.blake2.specs.MacArguments.{key_count, Admits, IsRefused, KeyLengthFits}
+use Rattle.blake2.specs.MacArguments.{key_count, AdmitsMac, IsRefused, KeyLengthFits}
 use Rattle.blake2.specs.States.{input}
 use Rattle.b2_commands.specs.Inputs.{IsKeyOfBytes, IsOfBytes}
 
@@ -55,7 +55,8 @@ length_fits f (Some key) fits = (fits.0, fits.1)
 
 -- An input of bytes is accepted if its lengths are admitted and it does not count too much.
 accepted : (f : Family) (a : Input) → IsOfBytes a → a.tree ≡ sequential
-    → Admits f a.key a.salt a.persona → key_count f a.key + length a.message < 2 ^ 64 → Accepts f a
+    → AdmitsMac f a.key a.salt a.persona → key_count f a.key + length a.message < 2 ^ 64
+    → Accepts f a
 accepted f a bytes whole lengths short =
     let key : KeyFits f a.key = fits_by_length f a.key bytes.key lengths.key_fits in
     record {

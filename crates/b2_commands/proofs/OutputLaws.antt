@@ -8,7 +8,8 @@ use Rattle.blake2.specs.MacArguments.{key_count, IsRefused}
 use Rattle.blake2.specs.Streams.{line_of}
 use Rattle.blake2_digest.specs.States.{Fresh, Meaning, Updated, digest_now}
 use Rattle.blake2_state.specs.ConstructorArguments.{given_count}
-use Rattle.blake2_xof.specs.Xof.{Admits, IsKnown, Settings, outputs, settings, unknown_length, xof}
+use Rattle.blake2_xof.specs.Xof.{AdmitsXof, IsKnown, Settings, outputs, settings, unknown_length}
+use Rattle.blake2_xof.specs.Xof.{xof}
 use Rattle.blake2_xof.proofs.KnownOutputs.{whole_output}
 use Rattle.b2_commands.specs.declared.fault.Fault.{Fault}
 use Rattle.b2_commands.specs.declared.fault.Fault.TheVariants.{WriteFailed}
@@ -22,7 +23,7 @@ empty_refused f salt persona admits = absurd (omega (arith, admits.key_fits.0))
 -- Any other is refused as the lengths of an output are.
 pub refused_with : (f : Family) (n : ℕ) (key : Option (List ℕ)) (salt persona : List ℕ)
     → (key ≡ Some [] → ⊥) → 1 ≤ n → n < unknown_length f
-    → (Admits f (settings n (unwrap_or key []) salt persona) → ⊥) ↔ IsRefused f key salt persona
+    → (AdmitsXof f (settings n (unwrap_or key []) salt persona) → ⊥) ↔ IsRefused f key salt persona
 unfolding IsRefused
 refused_with f n None salt persona other some known = (
   λ no fits. no (record {
@@ -71,12 +72,12 @@ same n key salt persona k s p are = λ i. settings n (are.key_is i) (are.salt_is
 
 pub start_refused : (f : Family) (n : ℕ) (key : Option (List ℕ)) (salt persona k s p : List ℕ)
     (E : Type 0) → AreGiven key salt persona k s p → 1 ≤ n → n < unknown_length f
-    → E ↔ (Admits f (settings n k s p) → ⊥) → E ↔ IsRefused f key salt persona
+    → E ↔ (AdmitsXof f (settings n k s p) → ⊥) → E ↔ IsRefused f key salt persona
 start_refused f n key salt persona k s p E are some known told =
     let is = same n key salt persona k s p are in
     let law = refused_with f n key salt persona are.not_empty some known in (
-      λ e. law.0 (λ fits. told.0 e (subst (Admits f) (sym is) fits)),
-      λ no. told.1 (λ fits. law.1 no (subst (Admits f) is fits)),
+      λ e. law.0 (λ fits. told.0 e (subst (AdmitsXof f) (sym is) fits)),
+      λ no. told.1 (λ fits. law.1 no (subst (AdmitsXof f) is fits)),
     )
 
 pub start_fresh : {S : Type 0} (f : Family) (m : Meaning S) (n : ℕ) (key : Option (List ℕ))

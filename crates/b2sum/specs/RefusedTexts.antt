@@ -1,9 +1,9 @@
 -- Which texts have no digest.
 use Rattle.std.specs.Prelude.{◌≡◌, ◌↔◌, ◌⊎◌, ℕ, ◌+◌, ◌^◌, ◌≤◌, Bool, false, List, length, Result}
 use Rattle.blake2_simd.specs.Family.{blake2b, blake2s}
-use Rattle.blake2_compress.specs.Hash.{Parameters, sequential}
-use Rattle.blake2_parallel.specs.Parallel.{key_count, settings, Admits as AdmitsParallel}
-use Rattle.blake2_state.specs.ConstructorArguments.{Admits, given_count}
+use Rattle.blake2_compress.specs.Hash.{parameters_of}
+use Rattle.blake2_parallel.specs.Parallel.{parallel_key_count, settings, AdmitsParallel}
+use Rattle.blake2_state.specs.ConstructorArguments.{AdmitsState, given_count}
 use Rattle.blake2_tree.specs.TreeLengths.{AcceptsLengths, lengths_of}
 use Rattle.blake2_tree.specs.TreeRoot.{tree_parameters}
 use Rattle.b2sum_lines.specs.declared.entry.Algorithm.{Algorithm}
@@ -23,36 +23,25 @@ IsTooLong {A} result failed accepted counted limit bytes =
     IsErrOf result TooLong
     ↔ ((failed ≡ false) × ((accepted → ⊥) ⊎ (limit ≤ counted + length bytes)))
 
--- What a parameter block names, for a digest of n bytes under a key (no bytes: none), a salt and a
--- persona.
-abbrev pub parameters_of : ℕ → List ℕ → List ℕ → List ℕ → Parameters
-parameters_of n key salt persona = record {
-  size = n;
-  key_size = length key;
-  salt = salt;
-  persona = persona;
-  tree = sequential;
-}
-
 -- The algorithm accepts these lengths. A tree has no key.
 abbrev pub accepts : Algorithm → ℕ → List ℕ → List ℕ → List ℕ → Type 0
-accepts Blake2b n key salt persona = Admits blake2b (parameters_of n key salt persona)
-accepts Blake2s n key salt persona = Admits blake2s (parameters_of n key salt persona)
+accepts Blake2b n key salt persona = AdmitsState blake2b (parameters_of n (length key) salt persona)
+accepts Blake2s n key salt persona = AdmitsState blake2s (parameters_of n (length key) salt persona)
 accepts Blake2bp n key salt persona = AdmitsParallel blake2b (settings n key salt persona)
 accepts Blake2sp n key salt persona = AdmitsParallel blake2s (settings n key salt persona)
 accepts (Tree leaf) n key salt persona =
     AcceptsLengths (lengths_of n (tree_parameters salt persona leaf))
 
 -- The function has digests with the lengths of the options.
-abbrev pub HasLengths : Options → Function → Type 0
-HasLengths o f = accepts f.algorithm f.bytes o.key.items o.salt.items o.persona.items
+abbrev pub AcceptsOptions : Options → Function → Type 0
+AcceptsOptions o f = accepts f.algorithm f.bytes o.key.items o.salt.items o.persona.items
 
 -- The number of bytes that a key counts for.
 abbrev pub counted_key : Algorithm → List ℕ → ℕ
 counted_key Blake2b key = given_count blake2b key
 counted_key Blake2s key = given_count blake2s key
-counted_key Blake2bp key = key_count blake2b key
-counted_key Blake2sp key = key_count blake2s key
+counted_key Blake2bp key = parallel_key_count blake2b key
+counted_key Blake2sp key = parallel_key_count blake2s key
 counted_key (Tree leaf) key = 0
 
 -- The least number of bytes that is too much.

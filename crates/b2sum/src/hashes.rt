@@ -9,7 +9,7 @@ ghost use Rattle.blake2_state.specs.TreeStates.{IsReady as IsReadyTree, count, f
 ghost use Rattle.blake2_tree.specs.TreeLengths.{AcceptsLengths, lengths_of};
 ghost use Rattle.blake2_tree.specs.TreeRoot.{tree_parameters, tree_root};
 ghost use Rattle.b2sum.specs.FileDigests.{digest_with};
-ghost use Rattle.b2sum.specs.RefusedTexts.{IsTooLong, HasLengths, counted_key, limit_of};
+ghost use Rattle.b2sum.specs.RefusedTexts.{IsTooLong, AcceptsOptions, counted_key, limit_of};
 
 use crate::states::{Absorb, HashState};
 use b2sum_commands::{Function, Hashes, OpenFile, Options};
@@ -58,7 +58,8 @@ impl Hashes for Blake2 {
 
         // It refuses exactly lengths that the algorithm does not accept, and too many bytes.
         ensures too_long { IfSome (S.left source.old) (IsTooLong result (S.failed source.new)
-            (HasLengths options.now function) (counted_key function.algorithm options.now.key.items)
+            (AcceptsOptions options.now function)
+            (counted_key function.algorithm options.now.key.items)
             (limit_of function.algorithm)) }
         ensures name { S.named source.new ≡ S.named source.old }
     {

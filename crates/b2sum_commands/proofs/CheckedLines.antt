@@ -17,13 +17,13 @@ use Rattle.b2sum_commands.specs.declared.check.Verdict.TheVariants.{Skipped, Mal
 use Rattle.b2sum_commands.specs.declared.options.Options.{Options}
 use Rattle.b2sum_commands.specs.World.{Streams}
 use Rattle.b2sum_commands.specs.World.{World, HasFailed, InTurn, IsQuiet}
-use Rattle.b2sum_commands.specs.PrintedSums.{is_dash, ReadsAs, Leaves}
+use Rattle.b2sum_commands.specs.PrintedSums.{is_dash, ReadsAs, LeavesInput}
 use Rattle.b2sum_commands.specs.Manifests.{item, checkable, trimmed, meets, IsItem}
 use Rattle.b2sum_commands.specs.Manifests.{IsLine, IsVerdict, holds_by}
 use Rattle.b2sum_commands.specs.LineReads.{IsOneLine, IsCutOff, IsAfter, source_left}
 use Rattle.b2sum_commands.specs.Reports.{AreCounted, Adds, IsReported}
-use Rattle.b2sum_commands.specs.ManifestChecks.{read_to, AreRead, EndsAt, IsText, IsBegun}
-use Rattle.b2sum_commands.specs.ManifestChecks.{IsJudged, IsCut}
+use Rattle.b2sum_commands.specs.ManifestChecks.{read_to, AreRead, EndsAt, IsText, IsBeginning}
+use Rattle.b2sum_commands.specs.ManifestChecks.{IsJudged, IsCutShort}
 use Rattle.b2sum_commands.specs.declared.check.Counts.{Counts}
 use Rattle.b2sum_commands.specs.declared.line_reader.LineEnd.{LineEnd}
 use Rattle.b2sum_commands.specs.declared.line_reader.LineEnd.TheVariants.{Newline, Last, Failure}
@@ -101,7 +101,7 @@ verdict_moved w o left after now (Ok e) Equal other is =
 verdict_moved w o left after now (Ok e) Different other is =
     (is.0, reads_moved (is_dash e.name) (w.files.holds e.name) left after now is.0 other is.1, is.2)
 verdict_moved w o left after now (Ok e) Unread other is =
-    (subst (λ (b : Bool). Leaves b now now) (sym other) refl, is.1)
+    (subst (λ (b : Bool). LeavesInput b now now) (sym other) refl, is.1)
 verdict_moved w o left after now (Ok e) Skipped other is = (is.0, is.1, refl, is.3, is.4)
 verdict_moved w o left after now (Ok e) Malformed other is = absurd is
 verdict_moved w o left after now (Ok e) Unmet other is = absurd is
@@ -135,7 +135,7 @@ verdict_left w o left after (Ok e) Equal other is =
 verdict_left w o left after (Ok e) Different other is =
     reads_left (is_dash e.name) (w.files.holds e.name) left after is.0 other is.1
 verdict_left w o left after (Ok e) Unread other is =
-    subst (λ (b : Bool). Leaves b left after) other is.0
+    subst (λ (b : Bool). LeavesInput b left after) other is.0
 verdict_left w o left after (Ok e) Skipped other is = is.2
 verdict_left w o left after (Ok e) Malformed other is = absurd is
 verdict_left w o left after (Ok e) Unmet other is = absurd is
@@ -401,7 +401,7 @@ is_text false held left opened after text before rest at from same passed is end
 
 is_begun : (dash : Bool) (held left : Option (List ℕ)) (text : List ℕ)
     (before rest : Option (List ℕ)) → before ≡ (if dash then left else held)
-    → Consumes before rest text → IsBegun dash held left text
+    → Consumes before rest text → IsBeginning dash held left text
 is_begun true held left text before rest from passed =
     (rest, subst (λ (l : Option (List ℕ)). Consumes l rest text) from passed)
 is_begun false held left text before rest from passed =
@@ -438,7 +438,7 @@ pub is_cut_short : (w : World) (o : Options) (name : List ℕ) (old opened mid n
     (vs : List Verdict) (before rest : Option (List ℕ))
     → before ≡ (if is_dash name then old.left else w.files.holds name)
     → IsQuiet old opened → AreRead w o (is_dash name) before rest opened mid vs → w.breaks name
-    → IsQuiet mid new → new.left ≡ mid.left → IsCut w o name old new
+    → IsQuiet mid new → new.left ≡ mid.left → IsCutShort w o name old new
 is_cut_short w o name old opened mid new vs before rest from quiet read broken told left = record {
   text = read.text;
   start = read_to (is_dash name) mid.left opened;

@@ -12,7 +12,8 @@ use Rattle.std.specs.Str.{bytes_eq}
 use Rattle.text_lines.specs.Cuts.{cut_at}
 use Rattle.b2sum_commands.specs.declared.option_names.Flag.{Flag}
 use Rattle.b2sum_commands.specs.OptionNames.{has_value, letter_flag}
-use Rattle.b2sum_commands.specs.CommandLine.{Choice, End, Next, Anything, ValueOf, OnlyFile, State}
+use Rattle.b2sum_commands.specs.CommandLine.{Choice, End, Next, Anything, ValueOf, OnlyFile}
+use Rattle.b2sum_commands.specs.CommandLine.{ReadWords}
 use Rattle.b2sum_commands.specs.CommandLine.{choosing, read_alone, read_any, read_cut}
 use Rattle.b2sum_commands.specs.CommandLine.{read_letters, read_long, read_with, read_words}
 use Rattle.b2sum_commands.specs.CommandLine.{set_flag, set_value, with_option}
@@ -20,13 +21,14 @@ use Rattle.b2sum_commands.specs.CommandLineLaws.{before_any, FilesFollow, Letter
 use Rattle.b2sum_commands.specs.CommandLineLaws.{LettersHaveValues, NamesHaveValues}
 
 -- The words after an option.
-abbrev after_option : List (List ℕ) → List (List ℕ) → Result (Choice × Next) End → Result State End
+abbrev after_option : List (List ℕ) → List (List ℕ) → Result (Choice × Next) End
+    → Result ReadWords End
 after_option files words (Err e) = Err e
 after_option files words (Ok read) =
     read_words (record { choice = read.0; files = files; next = read.1 }) words
 
 -- The words after a word that is read as an option.
-via_option : (s : State) (words : List (List ℕ)) (r : Result (Choice × Next) End)
+via_option : (s : ReadWords) (words : List (List ℕ)) (r : Result (Choice × Next) End)
     → elim (with_option s r) [ Err e ↦ Err e | Ok t ↦ read_words t words ]
     ≡ after_option s.files words r
 via_option s words (Err e) = refl
@@ -35,7 +37,7 @@ via_option s words (Ok read) = refl
 -- ---- letters
 
 -- A word that one hyphen begins.
-any_letters : (s : State) (word : List ℕ) → bytes_eq word (codes "--") ≡ false
+any_letters : (s : ReadWords) (word : List ℕ) → bytes_eq word (codes "--") ≡ false
     → starts_with nat_eq word (codes "--") ≡ false → starts_with nat_eq word (codes "-") ≡ true
     → bytes_eq word (codes "-") ≡ false
     → read_any s word ≡ with_option s (read_letters s.choice (drop 1 word))
@@ -55,7 +57,7 @@ letters_word c files a letters words other =
     ap (λ (x : Bool). x && bytes_eq letters []) other in
     let front : starts_with nat_eq word (codes "--") ≡ false =
     ap (λ (x : Bool). x && true) (turned a other) in
-    ap (λ (r : Result State End). elim r [ Err e ↦ Err e | Ok t ↦ read_words t words ])
+    ap (λ (r : Result ReadWords End). elim r [ Err e ↦ Err e | Ok t ↦ read_words t words ])
     (any_letters (before_any c files) word whole front refl refl)
     ∙ via_option (before_any c files) words (read_letters c (a ∷ letters))
 

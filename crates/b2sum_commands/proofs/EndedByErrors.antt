@@ -15,11 +15,12 @@ use Rattle.b2sum_commands.specs.declared.line_reader.LineEnd.TheVariants.{Newlin
 use Rattle.b2sum_commands.specs.declared.options.Options.{Options}
 use Rattle.b2sum_commands.specs.World.{Streams}
 use Rattle.b2sum_commands.specs.World.{World, IsQuiet, StopsIn}
-use Rattle.b2sum_commands.specs.PrintedSums.{is_dash, Leaves, ReadsAs, IsSum, printed, entry_of}
+use Rattle.b2sum_commands.specs.PrintedSums.{is_dash, LeavesInput, ReadsAs, IsSum, printed}
+use Rattle.b2sum_commands.specs.PrintedSums.{entry_of}
 use Rattle.b2sum_commands.specs.Manifests.{item, IsVerdict, verdict_line, BeginsVerdict, BeginsItem}
 use Rattle.b2sum_commands.specs.Manifests.{BeginsLine}
 use Rattle.b2sum_commands.specs.LineReads.{IsOneLine, IsCutOff, IsAfter}
-use Rattle.b2sum_commands.specs.ManifestChecks.{read_to, AreRead, EndsAt, AreWhole, AreStopped}
+use Rattle.b2sum_commands.specs.ManifestChecks.{read_to, AreRead, EndsAt, AreWholeLines, AreStopped}
 use Rattle.b2sum_commands.specs.ManifestChecks.{manifest_bytes}
 use Rattle.b2sum_commands.specs.ManifestChecks.{GoesOn}
 use Rattle.b2sum_commands.proofs.CheckedLines.{Reading, line_first, line_only, IsOther, item_other}
@@ -105,11 +106,11 @@ consumes_first (Some x) None bs cs p = absurd p
 consumes_first (Some x) (Some z) bs cs p = (Some (cs ++ z), p ∙ append_assoc bs cs z)
 
 left_to : (input : Bool) (left : Option (List ℕ)) (s : Streams)
-    → Leaves input s.left (read_to input left s).left
+    → LeavesInput input s.left (read_to input left s).left
 left_to true left s = tt
 left_to false left s = refl
 
-left_same : (input : Bool) (left : Option (List ℕ)) → Leaves input left left
+left_same : (input : Bool) (left : Option (List ℕ)) → LeavesInput input left left
 left_same true left = tt
 left_same false left = refl
 
@@ -147,7 +148,8 @@ stopped_line : (w : World) (o : Options) (name : List ℕ) (input : Bool) (befor
     (unread : List ℕ) (rest : Option (List ℕ)) (now : Streams) (vs : List Verdict)
     (line text : List ℕ) (rest' : Option (List ℕ)) (mid new : Streams)
     (r : Reading w o input before old unread rest now vs) → Consumes before rest' text
-    → lines_of text ≡ lines_of r.done ++ (line ∷ []) → AreWhole text ⊎ (IsAtEnd rest' ⊎ w.breaks name)
+    → lines_of text ≡ lines_of r.done ++ (line ∷ [])
+    → AreWholeLines text ⊎ (IsAtEnd rest' ⊎ w.breaks name)
     → ((left : Option (List ℕ)) → read_to input left mid ≡ read_to input left now)
     → BeginsLine w o input line mid new → AreStopped w o name input before old new
 stopped_line w o name input before old unread rest now vs line text rest' mid new r passed all whole same begun = record {
@@ -190,8 +192,8 @@ stopped_last w o name input before old unread rest now vs more line rest' mid ne
     (inr ends) same begun
 
 -- The lines of a text are whole with one more line and its newline.
-whole_line : (text line : List ℕ) → AreWhole text → IsOneLine line
-    → AreWhole (text ++ (line ++ (10 ∷ [])))
+whole_line : (text line : List ℕ) → AreWholeLines text → IsOneLine line
+    → AreWholeLines (text ++ (line ++ (10 ∷ [])))
 whole_line text line whole one = λ rest.
     let shut : List ℕ = line ++ (10 ∷ []) in
     ap lines_of (append_assoc text shut rest) ∙ whole (shut ++ rest)
@@ -277,7 +279,7 @@ stopped_opened w o name old opened new input before is from quiet same stopped =
         held = s.quiet.held ∙ quiet.held;
         spacing = s.quiet.spacing ∙ quiet.spacing;
       };
-      left = subst (λ (l : Option (List ℕ)). Leaves (is_dash name) l s.start.left) same s.left;
+      left = subst (λ (l : Option (List ℕ)). LeavesInput (is_dash name) l s.start.left) same s.left;
       lines = s.lines;
     }
 

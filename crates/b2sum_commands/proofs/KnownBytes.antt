@@ -6,7 +6,7 @@ use Rattle.blake2_streams.specs.Streams.{GivesAll}
 use Rattle.b2sum_commands.specs.declared.check.Counts.{Counts}
 use Rattle.b2sum_commands.specs.declared.check.Verdict.{Verdict}
 use Rattle.b2sum_commands.specs.declared.options.Options.{Options}
-use Rattle.b2sum_commands.specs.ManifestChecks.{AreRead, AreStopped, AreWhole, EndsAt}
+use Rattle.b2sum_commands.specs.ManifestChecks.{AreRead, AreStopped, AreWholeLines, EndsAt}
 use Rattle.b2sum_commands.specs.World.{World, Streams, IsKey, IsNoKey}
 
 -- What an open file has left, if something is known of the file of its name.
@@ -96,8 +96,8 @@ seen_ends dash held (Some counts) vs rest left failed ends =
     (ends.0, ap (seen dash held) ends.1, seen_end dash held left ends.2)
 
 seen_whole : (dash : Bool) (held : Option (List ℕ)) (text : List ℕ) (rest : Option (List ℕ))
-    (failed : Type 0) → AreWhole text ⊎ (IsAtEnd rest ⊎ failed)
-    → AreWhole text ⊎ (IsAtEnd (seen dash held rest) ⊎ failed)
+    (failed : Type 0) → AreWholeLines text ⊎ (IsAtEnd rest ⊎ failed)
+    → AreWholeLines text ⊎ (IsAtEnd (seen dash held rest) ⊎ failed)
 seen_whole dash held text rest failed (inl whole) = inl whole
 seen_whole dash held text rest failed (inr (inl end)) = inr (inl (seen_end dash held rest end))
 seen_whole dash held text rest failed (inr (inr broken)) = inr (inr broken)

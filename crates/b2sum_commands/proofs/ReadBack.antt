@@ -33,7 +33,7 @@ use Rattle.b2sum_commands.specs.Manifests.{checkable, has_demanded_length, item,
 use Rattle.b2sum_commands.specs.Manifests.{trimmed, listed_function, IsItem, IsLine, IsVerdict}
 use Rattle.b2sum_commands.specs.LineReads.{IsOneLine}
 use Rattle.b2sum_commands.specs.ReadBack.{items, spacing_past, AreReadAs, IsEntry, entries_in}
-use Rattle.b2sum_commands.specs.ReadBack.{AreReadable, Accepts, AreNames, IsManifest}
+use Rattle.b2sum_commands.specs.ReadBack.{AreReadable, AcceptsPrinted, AreNames, IsManifest}
 use Rattle.b2sum_commands.specs.ReadBack.{AreKept, HaveSameDigests, is_kept}
 use Rattle.b2sum_commands.proofs.CheckedLines.{line_first}
 
@@ -116,7 +116,8 @@ lines_read c input s (e ∷ es) all two =
     (lines_read c input (spacing_after s e.style) es all.1 (two_after s e.style two all.0.marked))
 
 readable : (w : World) (c o : Options) (input : Bool) (name text : List ℕ) → AreReadable w o
-    → Accepts c o → AreNames (input || c.input_is_key) (name ∷ []) → Readable c input (entry_of w o name text)
+    → AcceptsPrinted c o → AreNames (input || c.input_is_key) (name ∷ [])
+    → Readable c input (entry_of w o name text)
 readable w c o input name text are accepts names =
     let e = entry_of w o name text in
     let is = names 0 name (omega arith) in
@@ -139,7 +140,7 @@ readable w c o input name text are accepts names =
     }
 
 all_readable : (w : World) (c o : Options) (input : Bool) (names : List (List ℕ))
-    (old new : Streams) (found : List (Option Line)) → AreReadable w o → Accepts c o
+    (old new : Streams) (found : List (Option Line)) → AreReadable w o → AcceptsPrinted c o
     → AreNames (input || c.input_is_key) names → InTurn (IsEntry w o) names old new found
     → AllByRecursion (Readable c input) (entries_in found)
 all_readable w c o input [] old new [] are accepts named done = tt

@@ -8,7 +8,8 @@ use Rattle.std.specs.Str.{bytes_eq}
 use Rattle.b2sum_commands.specs.declared.options.Stop.{Stop}
 use Rattle.b2sum_commands.specs.declared.options.Stop.TheVariants.{Help, Version, Usage, Value}
 use Rattle.b2sum_commands.specs.declared.options.Stop.TheVariants.{NoMemory}
-use Rattle.b2sum_commands.specs.CommandLine.{Choice, Next, State, End, Helped, Versioned, Refused}
+use Rattle.b2sum_commands.specs.CommandLine.{Choice, Next, ReadWords, End, Helped, Versioned}
+use Rattle.b2sum_commands.specs.CommandLine.{Refused}
 use Rattle.b2sum_commands.specs.CommandLine.{with_option, read_any, read_long, read_letters}
 use Rattle.b2sum_commands.specs.World.{Streams}
 use Rattle.b2sum_commands.specs.CommandLineViews.{StopsBy, IsPrinted}
@@ -28,13 +29,13 @@ stops_through f keeps r (Value first second) h = ap f h ∙ keeps Refused
 stops_through f keeps r NoMemory h = tt
 
 -- The stop of an option.
-pub option_stops : {A : Type 0} (s : State) (r : Result (Choice × Next) End)
+pub option_stops : {A : Type 0} (s : ReadWords) (r : Result (Choice × Next) End)
     (result : Result A Stop) → IfErr result (StopsBy r) → IfErr result (StopsBy (with_option s r))
 option_stops s r (Ok x) h = tt
 option_stops s r (Err stop) h = stops_through (with_option s) (λ e. refl) r stop h
 
 -- The stop of an option with two hyphens.
-pub long_stops : {A : Type 0} (s : State) (word rest : List ℕ) (result : Result A Stop)
+pub long_stops : {A : Type 0} (s : ReadWords) (word rest : List ℕ) (result : Result A Stop)
     → bytes_eq word (codes "--") ≡ false → starts_with nat_eq word (codes "--") ≡ true
     → rest ≡ drop 2 word → IfErr result (StopsBy (read_long s.choice rest))
     → IfErr result (StopsBy (read_any s word))
@@ -42,7 +43,7 @@ long_stops s word rest result whole front is h =
     rw whole (rw front (option_stops s (read_long s.choice (drop 2 word)) result (rw (sym is) h)))
 
 -- The stop of letters.
-pub letters_stop : {A : Type 0} (s : State) (word rest : List ℕ) (result : Result A Stop)
+pub letters_stop : {A : Type 0} (s : ReadWords) (word rest : List ℕ) (result : Result A Stop)
     → bytes_eq word (codes "--") ≡ false → starts_with nat_eq word (codes "--") ≡ false
     → starts_with nat_eq word (codes "-") ≡ true → bytes_eq word (codes "-") ≡ false
     → rest ≡ drop 1 word → IfErr result (StopsBy (read_letters s.choice rest))

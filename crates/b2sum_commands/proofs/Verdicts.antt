@@ -7,11 +7,11 @@ use Rattle.std.specs.Io.KnownBytes.{Appends}
 use Rattle.b2sum_lines.specs.ManifestLines.{Line}
 use Rattle.b2sum_commands.specs.World.{Streams}
 use Rattle.b2sum_commands.specs.World.{World, IsTold}
-use Rattle.b2sum_commands.specs.ManifestChecks.{IsBegun}
+use Rattle.b2sum_commands.specs.ManifestChecks.{IsBeginning}
 use Rattle.b2sum_commands.specs.Manifests.{IsVerdict, is_silent}
 use Rattle.b2sum_commands.specs.Manifests.{item, spacing_after, verdict_line, IsItem, IsLine}
 use Rattle.b2sum_commands.specs.Manifests.{listed_function}
-use Rattle.b2sum_commands.specs.PrintedSums.{is_dash, ReadsAs, Leaves, CannotSum}
+use Rattle.b2sum_commands.specs.PrintedSums.{is_dash, ReadsAs, LeavesInput, CannotSum}
 use Rattle.b2sum_commands.specs.declared.check.Verdict.{Verdict}
 use Rattle.b2sum_commands.specs.declared.check.Verdict.TheVariants.{Equal, Different, Unread}
 use Rattle.b2sum_commands.specs.declared.check.Verdict.TheVariants.{Skipped, Malformed, Unmet, Comment}
@@ -38,7 +38,7 @@ unread_cause w o f name Failed other missing failed = failed refl
 -- A verdict on an entry is right.
 pub entry_verdict : (w : World) (o : Options) (left after : Option (List ℕ)) (e : Line)
     (v : Verdict) (found : List ℕ)
-    → Leaves (is_dash e.name) left after
+    → LeavesInput (is_dash e.name) left after
     → ((v ≡ Equal) ⊎ (v ≡ Different) → (text : List ℕ)
     × ReadsAs (is_dash e.name) (w.files.holds e.name) left after text
     × (found ≡ w.hashing.digest o (listed_function e) text))
@@ -57,7 +57,7 @@ entry_verdict w o left after e Skipped found leaves whole same other absent unre
     let is = absent refl in (
       is.0,
       is.1,
-      subst (λ (b : Bool). Leaves b left after) is.1 leaves,
+      subst (λ (b : Bool). LeavesInput b left after) is.1 leaves,
       is.2,
       is.3,
     )
@@ -96,6 +96,6 @@ entry_line w o input line old mid new e (Ok v) is at verdict printed told silent
 entry_line w o input line old mid new e (Err error) is at verdict printed told silent spaced = tt
 
 -- Nothing is a beginning of each text.
-pub nothing_begins : (input : Bool) (held left : Option (List ℕ)) → IsBegun input held left []
+pub nothing_begins : (input : Bool) (held left : Option (List ℕ)) → IsBeginning input held left []
 nothing_begins true held left = (left, Consumes-nil left)
 nothing_begins false held left = (held, Consumes-nil held)

@@ -86,13 +86,13 @@ passing test None = None
 passing test (Some n) = if test n then Some n else None
 
 -- A blank: a space, or a byte of 9 to 13, such as a tab or a newline.
-abbrev pub is_blank : ℕ → Bool
-is_blank b = (b == 32) || (nat_le 9 b && nat_lt b 14)
+abbrev pub is_white_space : ℕ → Bool
+is_white_space b = (b == 32) || (nat_le 9 b && nat_lt b 14)
 
 -- A text without the blanks at its front.
 abbrev pub without_blanks : List ℕ → List ℕ
 without_blanks [] = []
-without_blanks (b ∷ text) = if is_blank b then without_blanks text else b ∷ text
+without_blanks (b ∷ text) = if is_white_space b then without_blanks text else b ∷ text
 
 -- A text without one plus at its front.
 abbrev pub without_plus : List ℕ → List ℕ
@@ -274,22 +274,22 @@ abbrev pub read_long : Choice → List ℕ → Result (Choice × Next) End
 read_long c word = read_cut c word (cut_at 61 word)
 
 -- What is read so far.
-pub record State : Type 0 where
+pub record ReadWords : Type 0 where
   pub choice : Choice
   pub files : List (List ℕ)
   pub next : Next
 
 -- The state after an option. The files stay.
-abbrev pub with_option : State → Result (Choice × Next) End → Result State End
+abbrev pub with_option : ReadWords → Result (Choice × Next) End → Result ReadWords End
 with_option s (Ok read) = Ok (record { choice = read.0; files = s.files; next = read.1 })
 with_option s (Err e) = Err e
 
 -- The state with one more file.
-abbrev pub with_file : State → List ℕ → State
+abbrev pub with_file : ReadWords → List ℕ → ReadWords
 with_file s name = record s { files = s.files ++ name ∷ [] }
 
 -- A word that is not a value: `--`, a long option, letters, or a file. `-` alone is a file.
-abbrev pub read_any : State → List ℕ → Result State End
+abbrev pub read_any : ReadWords → List ℕ → Result ReadWords End
 read_any s word =
     if bytes_eq word (codes "--") then Ok (record s { next = OnlyFile })
     else if starts_with nat_eq word (codes "--")
@@ -299,13 +299,13 @@ read_any s word =
     else Ok (with_file s word)
 
 -- A word, which is what the state says.
-abbrev pub read_next : Next → State → List ℕ → Result State End
+abbrev pub read_next : Next → ReadWords → List ℕ → Result ReadWords End
 read_next Anything s word = read_any s word
 read_next (ValueOf f) s word = with_option s (choosing Anything (set_value f word s.choice))
 read_next OnlyFile s word = Ok (with_file s word)
 
 -- Words from a state on.
-abbrev pub read_words : State → List (List ℕ) → Result State End
+abbrev pub read_words : ReadWords → List (List ℕ) → Result ReadWords End
 read_words s [] = Ok s
 read_words s (word ∷ words) =
     elim (read_next s.next s word) [ Err e ↦ Err e | Ok t ↦ read_words t words ]
@@ -316,7 +316,7 @@ or_dash [] = codes "-" ∷ []
 or_dash (name ∷ names) = name ∷ names
 
 -- The choice and the files at the end of the words. A value that is still to come is missing.
-abbrev pub ended : Next → State → Result (Choice × List (List ℕ)) End
+abbrev pub ended : Next → ReadWords → Result (Choice × List (List ℕ)) End
 ended Anything s = Ok (s.choice, or_dash s.files)
 ended (ValueOf f) s = Err Refused
 ended OnlyFile s = Ok (s.choice, or_dash s.files)

@@ -4,11 +4,11 @@ use Rattle.std.specs.Prelude.{codes, Some, Ok}
 use Rattle.std.specs.List.{All}
 use Rattle.b2sum_commands.specs.declared.option_names.Flag.{Flag}
 use Rattle.b2sum_commands.specs.OptionNames.{has_value, letter_flag}
-use Rattle.b2sum_commands.specs.CommandLine.{Choice, Anything, OnlyFile, State, read_words}
+use Rattle.b2sum_commands.specs.CommandLine.{Choice, Anything, OnlyFile, ReadWords, read_words}
 use Rattle.b2sum_commands.specs.CommandLine.{flag_named}
 
 -- What is read before a word that may be an option.
-abbrev pub before_any : Choice → List (List ℕ) → State
+abbrev pub before_any : Choice → List (List ℕ) → ReadWords
 before_any c files = record { choice = c; files = files; next = Anything }
 
 -- `-ab` is `-a -b`, if `a` is the letter of an option without a value, and `b` is not a hyphen.

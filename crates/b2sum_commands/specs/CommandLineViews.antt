@@ -10,7 +10,7 @@ use Rattle.b2sum_commands.specs.declared.options.Next.TheVariants.{Any, Awaited,
 use Rattle.b2sum_commands.specs.World.{Streams}
 use Rattle.b2sum_commands.specs.ProgramRuns.{PrintsText, IsRefused}
 use Rattle.b2sum_commands.specs.CommandLine.{Choice, End, Helped, Versioned, Refused}
-use Rattle.b2sum_commands.specs.CommandLine.{Next, Anything, ValueOf, OnlyFile, State}
+use Rattle.b2sum_commands.specs.CommandLine.{Next, Anything, ValueOf, OnlyFile, ReadWords}
 
 -- The choice of the options that are read.
 abbrev pub choice_of : Reader → Choice
@@ -42,8 +42,8 @@ next_of (Awaited flag letter) = ValueOf flag
 next_of File = OnlyFile
 
 -- The state of the words that are read.
-abbrev pub state_of : Reader → List (List ℕ) → next.Next → State
-state_of r files n = record { choice = choice_of r; files = files; next = next_of n }
+abbrev pub read_words_of : Reader → List (List ℕ) → next.Next → ReadWords
+read_words_of r files n = record { choice = choice_of r; files = files; next = next_of n }
 
 -- The program stops for the reason of the definition, unless an allocation failed.
 abbrev pub StopsBy : {A : Type 0} → Result A End → stop.Stop → Type 0

@@ -14,7 +14,7 @@ use Rattle.b2sum_commands.specs.declared.check.Verdict.TheVariants as verdict
 use Rattle.b2sum_commands.specs.declared.options.Options.{Options}
 use Rattle.b2sum_commands.specs.World.{Streams}
 use Rattle.b2sum_commands.specs.World.{World, InTurn, IsQuiet, IsStopped}
-use Rattle.b2sum_commands.specs.PrintedSums.{is_dash, CannotGet, Leaves}
+use Rattle.b2sum_commands.specs.PrintedSums.{is_dash, CannotGet, LeavesInput}
 use Rattle.b2sum_commands.specs.Manifests.{IsLine, BeginsLine, first_spacing, holds_by}
 use Rattle.b2sum_commands.specs.Reports.{AreCounted, IsReported}
 
@@ -39,9 +39,9 @@ IsText false held left after text =
     (after ≡ left) × (end : Option (List ℕ)) × Consumes held end text × IsAtEnd end
 
 -- The text is a beginning of what standard input or a file returned.
-abbrev pub IsBegun : Bool → Option (List ℕ) → Option (List ℕ) → List ℕ → Type 0
-IsBegun true held left text = (rest : Option (List ℕ)) × Consumes left rest text
-IsBegun false held left text = (rest : Option (List ℕ)) × Consumes held rest text
+abbrev pub IsBeginning : Bool → Option (List ℕ) → Option (List ℕ) → List ℕ → Type 0
+IsBeginning true held left text = (rest : Option (List ℕ)) × Consumes left rest text
+IsBeginning false held left text = (rest : Option (List ℕ)) × Consumes held rest text
 
 -- Streams of which this is left of standard input, if the manifest is that.
 abbrev pub read_to : Bool → Option (List ℕ) → Streams → Streams
@@ -88,18 +88,18 @@ pub record IsJudged (w : World) (o : Options) (name : List ℕ) (old new : Strea
   pub reported : IsReported w o name verdicts are_judged.end new
 
 -- A manifest was not read to its end, for a cause. Then the lines of its beginning are checked.
-pub record IsCut (w : World) (o : Options) (name : List ℕ) (old new : Streams) : Type 0 where
+pub record IsCutShort (w : World) (o : Options) (name : List ℕ) (old new : Streams) : Type 0 where
   pub text : List ℕ
   pub start : Streams
   pub verdicts : List Verdict
   pub cause : CannotGet w name
-  pub begins : IsBegun (is_dash name) (w.files.holds name) old.left text
+  pub begins : IsBeginning (is_dash name) (w.files.holds name) old.left text
   pub quiet : IsQuiet old start
   pub are_judged : AreJudged w o (is_dash name) text start new verdicts
 
 -- The lines of a text are whole: they stay the same, whatever comes after it.
-abbrev pub AreWhole : List ℕ → Type 0
-AreWhole text = (more : List ℕ) → lines_of (text ++ more) ≡ lines_of text ++ lines_of more
+abbrev pub AreWholeLines : List ℕ → Type 0
+AreWholeLines text = (more : List ℕ) → lines_of (text ++ more) ≡ lines_of text ++ lines_of more
 
 -- An error ended the check of a manifest, which had `before` left, one line after the other. These
 -- are whole lines, unless it was read to its end, or a read failed.
@@ -108,10 +108,10 @@ pub record AreStopped (w : World) (o : Options) (name : List ℕ) (input : Bool)
   pub text : List ℕ
   pub rest : Option (List ℕ)
   pub passed : Consumes before rest text
-  pub whole : AreWhole text ⊎ (IsAtEnd rest ⊎ w.breaks name)
+  pub whole : AreWholeLines text ⊎ (IsAtEnd rest ⊎ w.breaks name)
   pub start : Streams
   pub quiet : IsQuiet old start
-  pub left : Leaves input old.left start.left
+  pub left : LeavesInput input old.left start.left
   pub lines : IsStopped (IsLine w o input) (BeginsLine w o input) (lines_of text) start new
 
 -- What the manifest of this name has: what is left of standard input for `-`.
@@ -122,7 +122,7 @@ manifest_bytes w left name = if is_dash name then left else w.files.holds name
 -- hold. If there is no result, an error ended the check.
 abbrev pub GoesOn : World → Options → List ℕ → Streams → Streams → Option Bool → Type 0
 GoesOn w o name old new (Some result) =
-    ((result ≡ false) × IsCut w o name old new) ⊎ IsJudged w o name old new result
+    ((result ≡ false) × IsCutShort w o name old new) ⊎ IsJudged w o name old new result
 GoesOn w o name old new None =
     AreStopped w o name (is_dash name) (manifest_bytes w old.left name) old new
 

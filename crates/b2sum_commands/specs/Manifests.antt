@@ -26,7 +26,7 @@ use Rattle.b2sum_commands.specs.declared.options.Report.TheVariants.{Each, Warni
 use Rattle.b2sum_commands.specs.declared.options.Report.TheVariants.{Nothing}
 use Rattle.b2sum_commands.specs.World.{Streams}
 use Rattle.b2sum_commands.specs.World.{World, IsTold}
-use Rattle.b2sum_commands.specs.PrintedSums.{is_dash, ReadsAs, Leaves, CannotSum}
+use Rattle.b2sum_commands.specs.PrintedSums.{is_dash, ReadsAs, LeavesInput, CannotSum}
 
 -- ---- lines
 
@@ -140,7 +140,7 @@ IsVerdict w o left (Ok e) Different after =
     (text : List ℕ) × ReadsAs (is_dash e.name) (w.files.holds e.name) left after text
     × (w.hashing.digest o (listed_function e) text ≢ e.digest)
 IsVerdict w o left (Ok e) Unread after =
-    Leaves (is_dash e.name) left after × CannotSum w o (listed_function e) e.name
+    LeavesInput (is_dash e.name) left after × CannotSum w o (listed_function e) e.name
 IsVerdict w o left (Ok e) Skipped after =
     (o.ignores_missing ≡ true) × (is_dash e.name ≡ false) × (after ≡ left)
     × (w.files.refuses e.name ≡ true) × (w.files.lacks e.name ≡ true)

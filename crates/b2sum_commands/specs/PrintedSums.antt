@@ -25,9 +25,9 @@ ReadsAs false held left after text =
     (after ≡ left) × (end : Option (List ℕ)) × GivesAll held end text
 
 -- A file that is not standard input leaves that as it is.
-abbrev pub Leaves : Bool → Option (List ℕ) → Option (List ℕ) → Type 0
-Leaves true left after = ⊤
-Leaves false left after = after ≡ left
+abbrev pub LeavesInput : Bool → Option (List ℕ) → Option (List ℕ) → Type 0
+LeavesInput true left after = ⊤
+LeavesInput false left after = after ≡ left
 
 -- The file of this name is not read to its end: it cannot be opened, or a read of it failed.
 abbrev pub CannotGet : World → List ℕ → Type 0
@@ -81,7 +81,7 @@ abbrev pub IsSum : World → Options → List ℕ → Streams → Streams → Op
 IsSum w o name old new (Some true) =
     HasSum Appends w o name old new × (new.told ≡ old.told)
 IsSum w o name old new (Some false) =
-    Leaves (is_dash name) old.left new.left × (new.held ≡ old.held)
+    LeavesInput (is_dash name) old.left new.left × (new.held ≡ old.held)
     × CannotSum w o (printed_function o) name
     × (o.ignores_missing ≡ false → IsTold old new)
 IsSum w o name old new None = (new.held ≡ old.held) ⊎ HasSum TakesPart w o name old new

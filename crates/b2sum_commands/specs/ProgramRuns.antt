@@ -20,13 +20,14 @@ AreDone true w o names old new end = AllInTurn (IsChecked w o) names old new end
 AreDone false w o names old new end = AllInTurn (IsSum w o) names old new end
 
 -- The bytes of the key file of this name: those that are left of standard input for `-`.
-abbrev pub key_bytes : World → Option (List ℕ) → List ℕ → Option (List ℕ)
-key_bytes w left name = if is_dash name then left else w.files.holds name
+abbrev pub key_file_bytes : World → Option (List ℕ) → List ℕ → Option (List ℕ)
+key_file_bytes w left name = if is_dash name then left else w.files.holds name
 
 -- The key of the options is that of the key file, if the choice has one.
 abbrev pub HasKey : World → Option (List ℕ) → Choice → Options → Type 0
 HasKey w left c o =
-    IfSome c.key_file (λ name. IsKey (key_bytes w left name) (max_bytes o.algorithm) o.key.items)
+    IfSome c.key_file (λ name.
+        IsKey (key_file_bytes w left name) (max_bytes o.algorithm) o.key.items)
 
 -- Standard input is at its end after the key, if that is there, and else as it was.
 abbrev pub IsPastKey : Bool → Option (List ℕ) → Option (List ℕ) → Type 0
@@ -41,7 +42,7 @@ AfterKey file old new = (left : Option (List ℕ)) × (new ≡ record old { left
 -- The key file of this name has no key: it is not read to its end, or has too few bytes or too
 -- many.
 abbrev pub LacksKey : World → Option (List ℕ) → ℕ → List ℕ → Type 0
-LacksKey w left most name = CannotGet w name ⊎ IsNoKey (key_bytes w left name) most
+LacksKey w left most name = CannotGet w name ⊎ IsNoKey (key_file_bytes w left name) most
 
 -- There is a key file, and it has no key, as a message says. Nothing is printed.
 pub record IsKeyless (w : World) (file : Option (List ℕ)) (most : ℕ) (old new : Streams) : Type 0

@@ -62,7 +62,7 @@ pub record AreReadable (w : World) (o : Options) : Type 0 where
 
 -- A check by the options `c` accepts digests that were printed by the options `o`: it has what they
 -- need, is of their algorithm if no tag names it, and demands no other length and algorithm.
-pub record Accepts (c o : Options) : Type 0 where
+pub record AcceptsPrinted (c o : Options) : Type 0 where
   pub algorithm : is_tagged o.style ≡ false → c.algorithm ≡ o.algorithm
   pub length : (not c.demands_length || (o.bytes == c.bytes)) ≡ true
   pub needs : has_needs c o.style ≡ true
@@ -106,11 +106,11 @@ pub record IsManifest (w : World) (o : Options) (names : List (List ℕ)) (old n
   pub all : are_read ≡ list_all is_some found
   pub text : List ℕ
   pub printed : Appends old.held new.held text
-  pub read_back : (c : Options) (input : Bool) (s : Spacing) → AreReadable w o → Accepts c o
+  pub read_back : (c : Options) (input : Bool) (s : Spacing) → AreReadable w o → AcceptsPrinted c o
       → AreNames (input || c.input_is_key) names → s ≢ One
       → AreReadAs c input s (lines_of text) (entries_in found)
   pub kept : (c : Options) (input : Bool) (before after : Streams) (verdicts : List Verdict)
-      → AreReadable w o → Accepts c o → HaveSameDigests w c o
+      → AreReadable w o → AcceptsPrinted c o → HaveSameDigests w c o
       → AreNames (input || c.input_is_key) names → AreKept w names → before.spacing ≢ One
       → InTurn (IsLine w c input) (lines_of text) before after verdicts
       → (list_all is_kept verdicts ≡ true) × (length verdicts ≡ length (entries_in found))

@@ -6,7 +6,7 @@ ghost use Rattle.b2sum_commands.specs.CommandLine.{flag_named, value_or_next, re
 ghost use Rattle.b2sum_commands.specs.CommandLine.{read_alone, read_with, read_long, read_any};
 ghost use Rattle.b2sum_commands.specs.CommandLine.{read_next, reading};
 ghost use Rattle.b2sum_commands.specs.AcceptedOptions.{AreArguments, command_line};
-ghost use Rattle.b2sum_commands.specs.CommandLineViews.{choice_of, next_of, state_of, StopsBy};
+ghost use Rattle.b2sum_commands.specs.CommandLineViews.{choice_of, next_of, read_words_of, StopsBy};
 ghost use Rattle.b2sum_commands.specs.CommandLineViews.{IsWrong};
 ghost use Rattle.b2sum_commands.specs.declared.options.Stop.TheVariants.{NoMemory};
 ghost use Rattle.b2sum_commands.specs.declared.options.Next.TheVariants.{Any};
@@ -241,10 +241,11 @@ fn read_word(
     word: &[u8],
 ) -> Result<Next, Stop>
     ensures read { IfOk result (λ after.
-        read_next (next_of next) (state_of reader.old (map (λ f. f.items) files.old.items) next)
-        word.now ≡ Ok (state_of reader.new (map (λ f. f.items) files.new.items) after)) }
+        read_next (next_of next)
+            (read_words_of reader.old (map (λ f. f.items) files.old.items) next)
+        word.now ≡ Ok (read_words_of reader.new (map (λ f. f.items) files.new.items) after)) }
     ensures stop { IfErr result (StopsBy (read_next (next_of next)
-        (state_of reader.old (map (λ f. f.items) files.old.items) next) word.now)) }
+        (read_words_of reader.old (map (λ f. f.items) files.old.items) next) word.now)) }
 {
     match next {
         Next::Any => read_any(alloc, reader, files, word),
@@ -267,10 +268,10 @@ fn read_any(
     word: &[u8],
 ) -> Result<Next, Stop>
     ensures read { IfOk result (λ after.
-        read_any (state_of reader.old (map (λ f. f.items) files.old.items) Any) word.now
-        ≡ Ok (state_of reader.new (map (λ f. f.items) files.new.items) after)) }
+        read_any (read_words_of reader.old (map (λ f. f.items) files.old.items) Any) word.now
+        ≡ Ok (read_words_of reader.new (map (λ f. f.items) files.new.items) after)) }
     ensures stop { IfErr result (StopsBy
-        (read_any (state_of reader.old (map (λ f. f.items) files.old.items) Any) word.now)) }
+        (read_any (read_words_of reader.old (map (λ f. f.items) files.old.items) Any) word.now)) }
 {
     if word == b"--".as_slice() {
         return Ok(Next::File);

@@ -8,7 +8,7 @@ ghost use Rattle.std.specs.Prelude.{IsErrOf, IsOkUnless};
 ghost use Rattle.std.specs.Result.{result_ok};
 ghost use Rattle.b2sum_commands.specs.declared.sums.Read.TheVariants.{Whole, Missing, Failed};
 ghost use Rattle.b2sum_commands.specs.World.{world_of, AllInTurn, IsQuiet, IsTold};
-ghost use Rattle.b2sum_commands.specs.PrintedSums.{is_dash, ReadsAs, Leaves, CannotSum, IsSum};
+ghost use Rattle.b2sum_commands.specs.PrintedSums.{is_dash, ReadsAs, LeavesInput, CannotSum, IsSum};
 ghost use Rattle.b2sum_commands.specs.PrintedSums.{ended_line};
 
 use crate::devices::{Disk, Fault, OpenFile, Output, put};
@@ -55,7 +55,7 @@ pub(crate) fn digest_file<H: Hashes, D: Disk, K: Output, E: Sink>(
         options.now function name.now) }
     ensures told { IfOk result (λ read. read ≡ Failed → IsTold session.old session.new) }
     ensures silent { IfOk result (λ read. read ≢ Failed → session.new.told ≡ session.old.told) }
-    ensures leaves { Leaves (is_dash name.now) session.old.left session.new.left }
+    ensures leaves { LeavesInput (is_dash name.now) session.old.left session.new.left }
     ensures quiet { IsQuiet session.old session.new }
     ensures memory { IsOkUnless result Fault.NoMemory }
 {

@@ -14,11 +14,11 @@ KeyLengthFits f (Some key) = (1 ≤ length key) × (length key ≤ key_bytes f)
 
 -- The family accepts the lengths of the key, the salt and the personalization (RFC 7693, 2.1; the
 -- BLAKE2 document, 2.8).
-pub record Admits (f : Family) (key : Option (List ℕ)) (salt persona : List ℕ) : Type 0 where
+pub record AdmitsMac (f : Family) (key : Option (List ℕ)) (salt persona : List ℕ) : Type 0 where
   pub key_fits : KeyLengthFits f key
   pub salt_fits : length salt ≤ salt_bytes f
   pub persona_fits : length persona ≤ salt_bytes f
 
 -- The key, the salt or the personalization has a length that the family does not accept.
 unfoldable pub IsRefused : Family → Option (List ℕ) → List ℕ → List ℕ → Type 0
-IsRefused f key salt persona = ¬ Admits f key salt persona
+IsRefused f key salt persona = ¬ AdmitsMac f key salt persona

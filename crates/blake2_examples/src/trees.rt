@@ -8,7 +8,7 @@ ghost use Rattle.blake2_compress.specs.Views.{tree_of};
 ghost use Rattle.blake2.specs.States.{node_digest_of};
 ghost use Rattle.blake2_tree.specs.TreeRoot.{tree_parameters, tree_root as root_of, leaf_count};
 ghost use Rattle.blake2_tree.specs.TreeRoot.{leaf_digests};
-ghost use Rattle.blake2_tree.specs.LeafRanges.{IsRange, AreWhole, TakesPlace, with_part};
+ghost use Rattle.blake2_tree.specs.LeafRanges.{IsRange, AreWholeLeaves, TakesPlace, with_part};
 
 use blake2::digest::{Digest, LastNode};
 use blake2::{Blake2b512, Tree};
@@ -66,7 +66,7 @@ pub fn fill_root(out: &mut [u8], first: &[u8], second: &[u8]) -> Result<(), Inva
 /// Returns the root of a message, of which two ranges of leaves are hashed separately: `front`,
 /// which is whole leaves, and `last`. Each could be hashed by another thread.
 pub fn root_of_ranges(front: &[u8], last: &[u8], digests: &mut [u8]) -> [u8; 64]
-    requires whole { AreWhole 65536 front.now }
+    requires whole { AreWholeLeaves 65536 front.now }
     requires some { 0 < length last.now }
     requires fits { length front.now + length last.now < 2 ^ 58 }
     requires room { length digests.old ≡ 64
@@ -91,8 +91,8 @@ pub fn root_by_digests(
     digests: &mut [u8],
 ) -> [u8; 64]
     requires first { length first.now % 65536 ≡ 0 }
-    requires middle { AreWhole 65536 middle.now }
-    requires more { AreWhole 65536 more.now }
+    requires middle { AreWholeLeaves 65536 middle.now }
+    requires more { AreWholeLeaves 65536 more.now }
     requires last { 0 < length last.now }
     requires fits { length first.now + length middle.now + length more.now + length last.now
         < 2 ^ 58 }

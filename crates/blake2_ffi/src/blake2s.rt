@@ -10,7 +10,7 @@ ghost use Rattle.blake2_compress.specs.Hash.{AdmitsTree, parameters_of, sequenti
 ghost use Rattle.blake2_compress.specs.Views.{tree_of};
 ghost use Rattle.blake2_digest.specs.States.{Fresh, NodeSet, Updated, StartedAgain, digest_now};
 ghost use Rattle.blake2_state.specs.ConstructorArguments.{given_key, given_count, digest_given};
-ghost use Rattle.blake2_state.specs.ConstructorArguments.{Admits};
+ghost use Rattle.blake2_state.specs.ConstructorArguments.{AdmitsState};
 ghost use Rattle.blake2_state.specs.ConstructorArguments.{parameters_given};
 ghost use Rattle.blake2_state.specs.Blake2s.{IsReady, IsReadyFor, meaning, zeros};
 ghost use Rattle.blake2_state.specs.RawParameterBlocks.{block_digest, AdmitsBlock};
@@ -55,7 +55,7 @@ fn write_longest(out: &mut [u8], input: &[u8])
 #[inline(never)]
 fn write_keyed(out: &mut [u8], input: &[u8], key: &[u8]) -> i32
     ensures status { Returns result
-        (Admits blake2s (parameters_of (length out.old) (length key.now) [] [])
+        (AdmitsState blake2s (parameters_of (length out.old) (length key.now) [] [])
         × (given_count blake2s key.now + length input.now < 2 ^ 64)) }
     ensures digest { result ≡ pos 0
         → out.new ≡ digest_of blake2s (length out.old) [] [] (given_key key.now) input.now }
@@ -80,7 +80,7 @@ fn write_keyed(out: &mut [u8], input: &[u8], key: &[u8]) -> i32
 #[unsafe(no_mangle)]
 pub extern "C" fn vulfsjor_ffi_blake2s(out: &mut [u8], input: &[u8], key: &[u8]) -> i32
     ensures status { Returns result
-        (Admits blake2s (parameters_of (length out.old) (length key.now) [] [])
+        (AdmitsState blake2s (parameters_of (length out.old) (length key.now) [] [])
         × (given_count blake2s key.now + length input.now < 2 ^ 64)) }
     ensures digest { result ≡ pos 0
         → out.new ≡ digest_of blake2s (length out.old) [] [] (given_key key.now) input.now }
@@ -111,7 +111,7 @@ pub extern "C" fn vulfsjor_ffi_blake2s(out: &mut [u8], input: &[u8], key: &[u8])
 fn initialize(state: &mut State, given: &StateParameters<'_>, tree: &Tree) -> i32
     requires tree { AdmitsTree blake2s (tree_of tree.now) }
     ensures status { Returns result
-        (Admits blake2s (parameters_given given.now (tree_of tree.now))) }
+        (AdmitsState blake2s (parameters_given given.now (tree_of tree.now))) }
     ensures ready { result ≡ pos 0 → IsReadyFor given.now.output_size state.new }
     ensures fresh { result ≡ pos 0
         → Fresh meaning (digest_given blake2s given.now (tree_of tree.now))
@@ -138,7 +138,7 @@ pub extern "C" fn vulfsjor_ffi_blake2s_init_salt_personal(
     persona: &[u8],
 ) -> i32
     ensures status { Returns result
-        (Admits blake2s (parameters_of output_size (length key.now) salt.now persona.now)) }
+        (AdmitsState blake2s (parameters_of output_size (length key.now) salt.now persona.now)) }
     ensures ready { result ≡ pos 0 → IsReadyFor output_size state.new }
     ensures fresh { result ≡ pos 0 → Fresh meaning
         (node_digest_of blake2s output_size salt.now persona.now (given_key key.now) sequential)
@@ -168,7 +168,8 @@ pub extern "C" fn vulfsjor_ffi_blake2s_init_key(
     key: &[u8],
 ) -> i32
     ensures status { Returns result
-        ((1 ≤ length key.now) × Admits blake2s (parameters_of output_size (length key.now) [] [])) }
+        ((1 ≤ length key.now)
+        × AdmitsState blake2s (parameters_of output_size (length key.now) [] [])) }
     ensures ready { result ≡ pos 0 → IsReadyFor output_size state.new }
     ensures fresh { result ≡ pos 0 → Fresh meaning
         (node_digest_of blake2s output_size [] [] (given_key key.now) sequential)
@@ -196,7 +197,7 @@ pub extern "C" fn vulfsjor_ffi_blake2s_init_tree(
     persona: &[u8],
     tree: &NodeParameters,
 ) -> i32
-    ensures status { Returns result (Admits blake2s
+    ensures status { Returns result (AdmitsState blake2s
         (node_parameters output_size (length key.now) salt.now persona.now
         (given_tree tree.now))) }
     ensures ready { result ≡ pos 0 → IsReadyFor output_size state.new }

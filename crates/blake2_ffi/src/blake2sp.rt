@@ -6,7 +6,8 @@ ghost use Rattle.std.specs.Prelude.{pos, negsuc, IsTrue};
 ghost use Rattle.blake2.specs.Family.{blake2s};
 ghost use Rattle.blake2_digest.specs.States.{Fresh, Updated, StartedAgain, digest_now};
 ghost use Rattle.blake2_parallel.specs.Blake2sp.{IsReady, IsReadyFor, meaning, zeros};
-ghost use Rattle.blake2_parallel.specs.Parallel.{Admits, digests, key_count, parallel_digest};
+ghost use Rattle.blake2_parallel.specs.Parallel.{AdmitsParallel, digests, parallel_key_count};
+ghost use Rattle.blake2_parallel.specs.Parallel.{parallel_digest};
 ghost use Rattle.blake2_parallel.specs.Parallel.{settings};
 ghost use Rattle.blake2_ffi.specs.Status.{Returns};
 
@@ -36,8 +37,8 @@ fn has_key_pending(state: &State) -> bool {
 #[inline(never)]
 fn write(out: &mut [u8], input: &[u8], key: &[u8]) -> i32
     ensures status { Returns result
-        (Admits blake2s (settings (length out.old) key.now [] [])
-        × (key_count blake2s key.now + length input.now < 2 ^ 64)) }
+        (AdmitsParallel blake2s (settings (length out.old) key.now [] [])
+        × (parallel_key_count blake2s key.now + length input.now < 2 ^ 64)) }
     ensures digest { result ≡ pos 0
         → out.new ≡ parallel_digest blake2s (settings (length out.old) key.now [] []) input.now }
     ensures nothing { result ≡ negsuc 0 → out.new ≡ out.old }
@@ -62,8 +63,8 @@ fn write(out: &mut [u8], input: &[u8], key: &[u8]) -> i32
 #[unsafe(no_mangle)]
 pub extern "C" fn vulfsjor_ffi_blake2sp(out: &mut [u8], input: &[u8], key: &[u8]) -> i32
     ensures status { Returns result
-        (Admits blake2s (settings (length out.old) key.now [] [])
-        × (key_count blake2s key.now + length input.now < 2 ^ 64)) }
+        (AdmitsParallel blake2s (settings (length out.old) key.now [] [])
+        × (parallel_key_count blake2s key.now + length input.now < 2 ^ 64)) }
     ensures digest { result ≡ pos 0
         → out.new ≡ parallel_digest blake2s (settings (length out.old) key.now [] []) input.now }
     ensures nothing { result ≡ negsuc 0 → out.new ≡ out.old }
@@ -80,11 +81,11 @@ pub extern "C" fn vulfsjor_ffi_blake2sp(out: &mut [u8], input: &[u8], key: &[u8]
 #[inline(never)]
 fn initialize(state: &mut State, output_size: usize, key: &[u8], salt: &[u8], persona: &[u8]) -> i32
     ensures status { Returns result
-        (Admits blake2s (settings output_size key.now salt.now persona.now)) }
+        (AdmitsParallel blake2s (settings output_size key.now salt.now persona.now)) }
     ensures ready { result ≡ pos 0 → IsReadyFor output_size state.new }
     ensures fresh { result ≡ pos 0 → Fresh meaning
         (digests blake2s (settings output_size key.now salt.now persona.now))
-        (key_count blake2s key.now) state.new }
+        (parallel_key_count blake2s key.now) state.new }
     ensures zeros { result ≡ negsuc 0 → state.new ≡ zeros }
 {
     let Ok(made) = State::init_salt_personal(output_size, key, salt, persona) else {
@@ -108,11 +109,11 @@ pub extern "C" fn vulfsjor_ffi_blake2sp_init_salt_personal(
     persona: &[u8],
 ) -> i32
     ensures status { Returns result
-        (Admits blake2s (settings output_size key.now salt.now persona.now)) }
+        (AdmitsParallel blake2s (settings output_size key.now salt.now persona.now)) }
     ensures ready { result ≡ pos 0 → IsReadyFor output_size state.new }
     ensures fresh { result ≡ pos 0 → Fresh meaning
         (digests blake2s (settings output_size key.now salt.now persona.now))
-        (key_count blake2s key.now) state.new }
+        (parallel_key_count blake2s key.now) state.new }
     ensures zeros { result ≡ negsuc 0 → state.new ≡ zeros }
 {
     let status = initialize(state, output_size, key, salt, persona);
@@ -132,10 +133,10 @@ pub extern "C" fn vulfsjor_ffi_blake2sp_init_key(
     key: &[u8],
 ) -> i32
     ensures status { Returns result
-        ((1 ≤ length key.now) × Admits blake2s (settings output_size key.now [] [])) }
+        ((1 ≤ length key.now) × AdmitsParallel blake2s (settings output_size key.now [] [])) }
     ensures ready { result ≡ pos 0 → IsReadyFor output_size state.new }
     ensures fresh { result ≡ pos 0 → Fresh meaning
-        (digests blake2s (settings output_size key.now [] [])) (key_count blake2s key.now)
+        (digests blake2s (settings output_size key.now [] [])) (parallel_key_count blake2s key.now)
         state.new }
     ensures zeros { result ≡ negsuc 0 → state.new ≡ zeros }
 {

@@ -9,7 +9,8 @@ ghost use Rattle.blake2_state.specs.ConstructorArguments.{given_count};
 ghost use Rattle.blake2_state.specs.Blake2s as Root;
 ghost use Rattle.blake2_xof.specs.Blake2xs.{HasSqueezed, IsAbsorbing, IsReady, length_of, meaning};
 ghost use Rattle.blake2_xof.specs.Blake2xs.{output_now, zeros};
-ghost use Rattle.blake2_xof.specs.Xof.{Admits, CanDerive, IsKnown, derived, outputs, settings, xof};
+ghost use Rattle.blake2_xof.specs.Xof.{AdmitsXof, CanDerive, IsKnown, derived, outputs, settings};
+ghost use Rattle.blake2_xof.specs.Xof.{xof};
 ghost use Rattle.blake2_ffi.specs.Status.{Returns};
 
 use blake2_digest::scrub_stack;
@@ -45,7 +46,8 @@ fn has_key_pending(state: &State) -> bool {
 #[inline(never)]
 fn write(out: &mut [u8], input: &[u8], key: &[u8]) -> i32
     ensures status { Returns result
-        (IsKnown blake2s (length out.old) × Admits blake2s (settings (length out.old) key.now [] [])
+        (IsKnown blake2s (length out.old)
+        × AdmitsXof blake2s (settings (length out.old) key.now [] [])
         × (given_count blake2s key.now + length input.now < 2 ^ 64)) }
     ensures output { result ≡ pos 0
         → out.new ≡ xof blake2s (settings (length out.old) key.now [] []) input.now }
@@ -75,7 +77,8 @@ fn write(out: &mut [u8], input: &[u8], key: &[u8]) -> i32
 #[unsafe(no_mangle)]
 pub extern "C" fn vulfsjor_ffi_blake2xs(out: &mut [u8], input: &[u8], key: &[u8]) -> i32
     ensures status { Returns result
-        (IsKnown blake2s (length out.old) × Admits blake2s (settings (length out.old) key.now [] [])
+        (IsKnown blake2s (length out.old)
+        × AdmitsXof blake2s (settings (length out.old) key.now [] [])
         × (given_count blake2s key.now + length input.now < 2 ^ 64)) }
     ensures output { result ≡ pos 0
         → out.new ≡ xof blake2s (settings (length out.old) key.now [] []) input.now }
@@ -113,7 +116,7 @@ pub extern "C" fn vulfsjor_ffi_blake2xs_derive_key(
 #[inline(never)]
 fn initialize(state: &mut State, xof_length: u64, key: &[u8], salt: &[u8], persona: &[u8]) -> i32
     ensures status { Returns result
-        (Admits blake2s (settings xof_length key.now salt.now persona.now)) }
+        (AdmitsXof blake2s (settings xof_length key.now salt.now persona.now)) }
     ensures absorbing { result ≡ pos 0 → IsAbsorbing state.new }
     ensures xof_length { result ≡ pos 0 → state.new.reader.xof_length ≡ xof_length }
     ensures fresh { result ≡ pos 0 → Fresh meaning
@@ -142,7 +145,7 @@ pub extern "C" fn vulfsjor_ffi_blake2xs_init_salt_personal(
     persona: &[u8],
 ) -> i32
     ensures status { Returns result
-        (Admits blake2s (settings xof_length key.now salt.now persona.now)) }
+        (AdmitsXof blake2s (settings xof_length key.now salt.now persona.now)) }
     ensures absorbing { result ≡ pos 0 → IsAbsorbing state.new }
     ensures xof_length { result ≡ pos 0 → state.new.reader.xof_length ≡ xof_length }
     ensures fresh { result ≡ pos 0 → Fresh meaning

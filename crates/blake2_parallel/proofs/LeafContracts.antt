@@ -13,8 +13,9 @@ use Rattle.blake2_compress.specs.Hash.{start}
 use Rattle.blake2_compress.specs.MessagePieces.{piece}
 use Rattle.blake2_compress.proofs.ByteSizes.{length-padded}
 use Rattle.blake2_compress.proofs.Padding.{padded-whole}
-use Rattle.blake2_parallel.specs.Parallel.{Settings, dealt, key_count, leaf_key, leaf_output}
-use Rattle.blake2_parallel.specs.Parallel.{leaves, node_parameters, output_from, parallel_digest}
+use Rattle.blake2_parallel.specs.Parallel.{Settings, dealt, parallel_key_count, leaf_key}
+use Rattle.blake2_parallel.specs.Parallel.{leaf_output}
+use Rattle.blake2_parallel.specs.Parallel.{leaves, parameters_at, output_from, parallel_digest}
 use Rattle.blake2_parallel.specs.Parallel.{stripe_bytes}
 use Rattle.blake2_parallel.specs.LeafStates.{Leaves, Took, WentOn, end_flags, leaf_chain}
 use Rattle.blake2_parallel.specs.LeafStates.{leaf_future}
@@ -383,21 +384,21 @@ root-same f n root old new y words count pending =
 -- What the leaves start from: the words of their parameters, no bytes counted, and a key's block
 -- for each of them pending, or nothing.
 pub record AtStart (f : Family) (a : Settings) (s : Leaves) : Type 0 where
-  pub words : (j : ℕ) → j < leaves f → s.words j ≡ start f (node_parameters f a j 0)
+  pub words : (j : ℕ) → j < leaves f → s.words j ≡ start f (parameters_at f a j 0)
   pub count : s.count ≡ 0
   pub pending : (y : List ℕ) (j : ℕ) → j < leaves f
       → dealt f (s.pending ++ y) j ≡ leaf_key f a.key ++ dealt f y j
-  pub long : length s.pending ≡ key_count f a.key
+  pub long : length s.pending ≡ parallel_key_count f a.key
 
 -- The digests of a hasher at its start are those of the definition.
 pub root-start : (f : Family) (a : Settings) (root : List ℕ) (s : Leaves) (y : List ℕ)
-    → root ≡ start f (node_parameters f a 0 1) → AtStart f a s
+    → root ≡ start f (parameters_at f a 0 1) → AtStart f a s
     → root_future f a.size root s y ≡ parallel_digest f a y
 unfolding parallel_digest
 root-start f a root s y is begun =
     (λ i. take a.size (output_from f (is i) 0
     (flat_map (leaf_future f s y) (range_with_len 0 (leaves f))) true))
-    ∙ ap (λ (z : List ℕ). take a.size (output_from f (start f (node_parameters f a 0 1)) 0 z true))
+    ∙ ap (λ (z : List ℕ). take a.size (output_from f (start f (parameters_at f a 0 1)) 0 z true))
     (flat_map-range_each (leaf_future f s y) (leaf_output f a y) 0 (leaves f) (leaves f)
     (omega arith)
     (λ j lane. leaf_future-over f s y j
@@ -451,7 +452,7 @@ held-rest s n m p q y begun fits is =
 pub count-start : (f : Family) (key : List ℕ) (n : ℕ) → length key ≤ key_bytes f
     → (length key ≡ 0 → n ≡ 0) → (0 < length key → n ≡ stripe_bytes f)
     → length (take n (repeated (leaves f) (padded (block_bytes f) key)))
-    ≡ key_count f key
+    ≡ parallel_key_count f key
 count-start f [] n fits none some =
     ap (λ (k : ℕ). length (take k (repeated (leaves f) (padded (block_bytes f) [])))) (none refl)
     ∙ zero-of f
@@ -472,7 +473,7 @@ count-start f (x ∷ xs) n fits none some =
 pub at_start : (f : Family) (a : Settings) (n : ℕ) (block : List ℕ) (words : ℕ → List ℕ)
     → length a.key ≤ key_bytes f → block ≡ padded (block_bytes f) a.key
     → (length a.key ≡ 0 → n ≡ 0) → (0 < length a.key → n ≡ stripe_bytes f)
-    → ((j : ℕ) → j < leaves f → words j ≡ start f (node_parameters f a j 0))
+    → ((j : ℕ) → j < leaves f → words j ≡ start f (parameters_at f a j 0))
     → AtStart f a (record {
       words = words;
       count = 0;
@@ -500,7 +501,7 @@ at_start-same f a old new words count pending begun = record {
 
 -- The number of bytes that a key counts for: a stripe.
 pub key_count-some : (f : Family) (key : List ℕ) → 0 < length key → length key ≤ key_bytes f
-    → key_count f key ≡ stripe_bytes f
+    → parallel_key_count f key ≡ stripe_bytes f
 key_count-some f [] some fits = absurd (omega arith)
 key_count-some f (x ∷ xs) some fits =
     ap (λ (n : ℕ). leaves f * n)

@@ -4,15 +4,16 @@ use Rattle.blake2_simd.specs.Family.{Family}
 use Rattle.blake2_compress.specs.Hash.{start}
 use Rattle.blake2_digest.specs.States.{Fresh, StartedAgain, Updated}
 use Rattle.blake2_parallel.specs.LeafStates.{Leaves, Took, root_future, total}
-use Rattle.blake2_parallel.specs.Parallel.{Settings, digests, key_count, leaves, node_parameters}
-use Rattle.blake2_parallel.specs.States.{Held, future, meaning_by, started}
+use Rattle.blake2_parallel.specs.Parallel.{Settings, digests, parallel_key_count, leaves}
+use Rattle.blake2_parallel.specs.Parallel.{parameters_at}
+use Rattle.blake2_parallel.specs.States.{Held, future, parallel_meaning_by, started}
 use Rattle.blake2_parallel.proofs.LeafContracts.{AtStart, root-same, root-start, root-took}
 
 -- The leaves took an input, and the rest of the state is the same.
 pub Updated_took : {S : Type 0} (f : Family) (held : S → Held) (old new : S) (x : List ℕ)
     → (held new).first ≡ (held old).first → (held new).root ≡ (held old).root
     → (held new).size ≡ (held old).size → Took f (held old).leaves x (held new).leaves
-    → Updated (meaning_by f held) old x new
+    → Updated (parallel_meaning_by f held) old x new
 unfolding future started
 Updated_took f held old new x first root size took = record {
   future = λ flag y.
@@ -31,7 +32,7 @@ pub StartedAgain_same : {S : Type 0} (f : Family) (held : S → Held) (old new :
     → ((j : ℕ) → (held new).leaves.words j ≡ (held old).first.words j)
     → (held new).leaves.count ≡ (held old).first.count
     → (held new).leaves.pending ≡ (held old).first.pending
-    → StartedAgain (meaning_by f held) old new
+    → StartedAgain (parallel_meaning_by f held) old new
 unfolding future started
 StartedAgain_same f held old new first root size words count pending = record {
   future = λ flag y.
@@ -46,9 +47,9 @@ StartedAgain_same f held old new first root size words count pending = record {
 
 -- All of the state is at the start of a hash.
 pub Fresh_start : {S : Type 0} (f : Family) (held : S → Held) (a : Settings) (new : S)
-    → (held new).size ≡ a.size → (held new).root ≡ start f (node_parameters f a 0 1)
+    → (held new).size ≡ a.size → (held new).root ≡ start f (parameters_at f a 0 1)
     → AtStart f a (held new).leaves → AtStart f a (held new).first
-    → Fresh (meaning_by f held) (digests f a) (key_count f a.key) new
+    → Fresh (parallel_meaning_by f held) (digests f a) (parallel_key_count f a.key) new
 unfolding future started
 Fresh_start f held a new size root begun first = record {
   future = λ flag y. ap (λ (n : ℕ). root_future f n (held new).root (held new).leaves y) size
@@ -66,8 +67,8 @@ Fresh_start f held a new size root begun first = record {
 -- ---- types that hold a state
 
 pub Updated_by : {S T : Type 0} (f : Family) (held : S → Held) (part : T → S) (old new : T)
-    (x : List ℕ) → Updated (meaning_by f held) (part old) x (part new)
-    → Updated (meaning_by f (λ t. held (part t))) old x new
+    (x : List ℕ) → Updated (parallel_meaning_by f held) (part old) x (part new)
+    → Updated (parallel_meaning_by f (λ t. held (part t))) old x new
 Updated_by f held part old new x updated = record {
   future = updated.future;
   started = updated.started;
@@ -77,8 +78,8 @@ Updated_by f held part old new x updated = record {
 }
 
 pub StartedAgain_by : {S T : Type 0} (f : Family) (held : S → Held) (part : T → S) (old new : T)
-    → StartedAgain (meaning_by f held) (part old) (part new)
-    → StartedAgain (meaning_by f (λ t. held (part t))) old new
+    → StartedAgain (parallel_meaning_by f held) (part old) (part new)
+    → StartedAgain (parallel_meaning_by f (λ t. held (part t))) old new
 StartedAgain_by f held part old new again = record {
   future = again.future;
   started = again.started;
@@ -89,8 +90,8 @@ StartedAgain_by f held part old new again = record {
 
 pub Fresh_by : {S T : Type 0} (f : Family) (held : S → Held) (part : T → S)
     (digest : Bool → List ℕ → List ℕ) (n m : ℕ) (new : T) → n ≡ m
-    → Fresh (meaning_by f held) digest n (part new)
-    → Fresh (meaning_by f (λ t. held (part t))) digest m new
+    → Fresh (parallel_meaning_by f held) digest n (part new)
+    → Fresh (parallel_meaning_by f (λ t. held (part t))) digest m new
 Fresh_by f held part digest n m new same fresh = record {
   future = fresh.future;
   started = fresh.started;

@@ -7,7 +7,7 @@ use Rattle.blake2_digest.specs.States.{Meaning}
 use Rattle.blake2_parallel.specs.declared.lanes.blake2bp.Lanes.{Lanes}
 use Rattle.blake2_parallel.specs.declared.blake2bp.State.{State}
 use Rattle.blake2_parallel.specs.LeafStates.{Leaves}
-use Rattle.blake2_parallel.specs.States.{Held, meaning_by}
+use Rattle.blake2_parallel.specs.States.{Held, parallel_meaning_by}
 
 -- The leaves that lanes hold. The pending bytes are at the beginning of their field.
 abbrev pub leaves_of : Lanes → Leaves
@@ -38,7 +38,7 @@ held_by s = record {
 -- The meaning of a state: the digests that it will return, of the length that it holds, and the
 -- bytes that it counts.
 abbrev pub meaning : Meaning State
-meaning = meaning_by blake2b held_by
+meaning = parallel_meaning_by blake2b held_by
 
 -- The state's lengths and counts are those of a hash. Its digest may be empty.
 pub record IsWithin (s : State) : Type 0 where

@@ -52,21 +52,21 @@ settings size key salt persona = record {
 }
 
 -- The settings are within the limits of the family (RFC 7693, 2.1; the BLAKE2 document, 2.8).
-pub record Fits (f : Family) (a : Settings) : Type 0 where
+pub record SettingsFit (f : Family) (a : Settings) : Type 0 where
   pub size : a.size ≤ output_bytes f
   pub key : length a.key ≤ key_bytes f
   pub salt : length a.salt ≤ salt_bytes f
   pub persona : length a.persona ≤ salt_bytes f
 
 -- The settings are those of a hash: they are within the limits, and the digest is not empty.
-pub record Admits (f : Family) (a : Settings) : Type 0 where
+pub record AdmitsParallel (f : Family) (a : Settings) : Type 0 where
   pub some : 1 ≤ a.size
-  pub fits : Fits f a
+  pub fits : SettingsFit f a
 
 -- The tree parameters of a node (the BLAKE2 document, 2.8 and 2.10): the fanout is P, there are two
 -- levels, a leaf has no limit, and the digests of leaves are as long as the longest of the family.
-abbrev pub place : Family → ℕ → ℕ → Tree
-place f offset depth = record {
+abbrev pub parallel_place : Family → ℕ → ℕ → Tree
+parallel_place f offset depth = record {
   fanout = leaves f;
   depth = 2;
   leaf_length = 0;
@@ -76,13 +76,13 @@ place f offset depth = record {
 }
 
 -- The parameters of a node. All nodes name the length of the hash's digest and that of the key.
-abbrev pub node_parameters : Family → Settings → ℕ → ℕ → Parameters
-node_parameters f a offset depth = record {
+abbrev pub parameters_at : Family → Settings → ℕ → ℕ → Parameters
+parameters_at f a offset depth = record {
   size = a.size;
   key_size = length a.key;
   salt = a.salt;
   persona = a.persona;
-  tree = place f offset depth;
+  tree = parallel_place f offset depth;
 }
 
 -- The whole output of a node that starts from h: the bytes of its last h.
@@ -96,20 +96,20 @@ leaf_key f [] = []
 leaf_key f (x ∷ key) = padded (block_bytes f) (x ∷ key)
 
 -- The number of bytes that a key counts for: a block in each leaf.
-abbrev pub key_count : Family → List ℕ → ℕ
-key_count f key = leaves f * length (leaf_key f key)
+abbrev pub parallel_key_count : Family → List ℕ → ℕ
+parallel_key_count f key = leaves f * length (leaf_key f key)
 
 -- The whole output of leaf j. The last leaf has the last-node flag.
 abbrev pub leaf_output : Family → Settings → List ℕ → ℕ → List ℕ
 leaf_output f a message j =
-    output_from f (start f (node_parameters f a j 0)) 0 (leaf_key f a.key ++ dealt f message j)
+    output_from f (start f (parameters_at f a j 0)) 0 (leaf_key f a.key ++ dealt f message j)
     (nat_eq (j + 1) (leaves f))
 
 -- The digest of a message: the first bytes of the root's output, which hashes the outputs of the
 -- leaves. The root has the last-node flag, and no key block.
 unfoldable pub parallel_digest : Family → Settings → List ℕ → List ℕ
 parallel_digest f a message =
-    take a.size (output_from f (start f (node_parameters f a 0 1)) 0
+    take a.size (output_from f (start f (parameters_at f a 0 1)) 0
     (flat_map (leaf_output f a message) (range_with_len 0 (leaves f))) true)
 
 -- The same as a function of a last-node flag too, which changes nothing: the tree is fixed.

@@ -22,8 +22,8 @@ started f s y = root_future f s.size s.root s.first y
 
 -- The meaning of a type whose values hold a state each. It has no last-node flag of its own, since
 -- the hash fixes those of its nodes: a digest does not depend on one.
-abbrev pub meaning_by : {S : Type 0} → Family → (S → Held) → Meaning S
-meaning_by f held_by = record {
+abbrev pub parallel_meaning_by : {S : Type 0} → Family → (S → Held) → Meaning S
+parallel_meaning_by f held_by = record {
   future = λ s last_node. future f (held_by s);
   started = λ s last_node. started f (held_by s);
   last_node = λ s. false;

@@ -10,8 +10,9 @@ ghost use Rattle.blake2_simd.specs.Rows.{eight};
 ghost use Rattle.blake2_compress.specs.Hash.{start};
 ghost use Rattle.blake2_compress.specs.Views.{given_parameters};
 ghost use Rattle.blake2_digest.specs.States.{Fresh, Updated, StartedAgain, digest_now};
-ghost use Rattle.blake2_parallel.specs.Parallel.{Admits, Fits, digests, key_count};
-ghost use Rattle.blake2_parallel.specs.Parallel.{node_parameters, output_from, settings};
+ghost use Rattle.blake2_parallel.specs.Parallel.{AdmitsParallel, SettingsFit, digests};
+ghost use Rattle.blake2_parallel.specs.Parallel.{parallel_key_count};
+ghost use Rattle.blake2_parallel.specs.Parallel.{parameters_at, output_from, settings};
 ghost use Rattle.blake2_parallel.specs.Blake2sp.{IsReady, IsWithin, meaning, zeros, zeros_for};
 
 use crate::lanes::blake2sp::Lanes;
@@ -35,7 +36,7 @@ fn parameters<'a>(
     node_depth: u8,
 ) -> Parameters<'a>
     ensures { given_parameters result
-        ≡ node_parameters blake2s (settings output_size key.now salt.now persona.now) node_offset
+        ≡ parameters_at blake2s (settings output_size key.now salt.now persona.now) node_offset
         node_depth }
 {
     Parameters {
@@ -57,9 +58,9 @@ fn parameters<'a>(
 // The words that the leaves start from, row by row. They differ in the node offset, which is in the
 // third word of the parameter block.
 fn first_rows(output_size: usize, key: &[u8], salt: &[u8], persona: &[u8]) -> [[u32; 8]; 8]
-    requires { Fits blake2s (settings output_size key.now salt.now persona.now) }
+    requires { SettingsFit blake2s (settings output_size key.now salt.now persona.now) }
     ensures { (j : ℕ) → j < 8 → in_lane j result ≡ start blake2s
-        (node_parameters blake2s (settings output_size key.now salt.now persona.now) j 0) }
+        (parameters_at blake2s (settings output_size key.now salt.now persona.now) j 0) }
 {
     let first = parameters(output_size, key, salt, persona, 0, 0);
     let [h0, h1, h2, h3, h4, h5, h6, h7] = start_words(&first);
@@ -193,12 +194,12 @@ impl State {
 
     // A state that has absorbed no message.
     pub(crate) fn new(output_size: usize, key: &[u8], salt: &[u8], persona: &[u8]) -> Self
-        requires { Fits blake2s (settings output_size key.now salt.now persona.now) }
+        requires { SettingsFit blake2s (settings output_size key.now salt.now persona.now) }
         ensures within { IsWithin result }
         ensures size { result.output_size ≡ output_size }
         ensures fresh { Fresh meaning
             (digests blake2s (settings output_size key.now salt.now persona.now))
-            (key_count blake2s key.now) result }
+            (parallel_key_count blake2s key.now) result }
     {
         let first = first_rows(output_size, key, salt, persona);
         let root = start_words(&parameters(output_size, key, salt, persona, 0, 1));
@@ -218,7 +219,7 @@ impl State {
     /// 32 (no bytes mean no key), a salt and a persona of up to 8 each.
     pub fn accepts(output_size: usize, key: &[u8], salt: &[u8], persona: &[u8]) -> bool
         ensures { IsTrue result
-            ↔ Admits blake2s (settings output_size key.now salt.now persona.now) }
+            ↔ AdmitsParallel blake2s (settings output_size key.now salt.now persona.now) }
     {
         output_size >= 1
             && output_size <= 32
@@ -238,12 +239,12 @@ impl State {
         persona: &[u8],
     ) -> Result<Self, InvalidLength>
         ensures refused { IsErr result
-            ↔ ¬ Admits blake2s (settings output_size key.now salt.now persona.now) }
+            ↔ ¬ AdmitsParallel blake2s (settings output_size key.now salt.now persona.now) }
         ensures ready { IfOk result (λ s. IsReady s) }
         ensures size { IfOk result (λ s. s.output_size ≡ output_size) }
         ensures fresh { IfOk result (λ s. Fresh meaning
             (digests blake2s (settings output_size key.now salt.now persona.now))
-            (key_count blake2s key.now) s) }
+            (parallel_key_count blake2s key.now) s) }
     {
         if !Self::accepts(output_size, key, salt, persona) {
             return Err(InvalidLength);

@@ -28,7 +28,7 @@ parameters_given given tree = record {
 
 -- The family accepts the parameters of a state: its limits hold, and the digest is not empty (RFC
 -- 7693, 2.1; the BLAKE2 document, 2.8).
-pub record Admits (f : Family) (p : Parameters) : Type 0 where
+pub record AdmitsState (f : Family) (p : Parameters) : Type 0 where
   pub some : 1 ≤ p.size
   pub fits : Fits f p
 

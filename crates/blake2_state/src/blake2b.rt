@@ -6,7 +6,7 @@ ghost use Rattle.blake2_simd.specs.Family.{blake2b};
 ghost use Rattle.blake2_compress.specs.Hash.{AdmitsTree, sequential};
 ghost use Rattle.blake2_compress.specs.Views.{given_parameters, tree_of};
 ghost use Rattle.blake2_digest.specs.States.{Fresh, NodeSet, Updated, StartedAgain, digest_now};
-ghost use Rattle.blake2_state.specs.ConstructorArguments.{Admits, given_count, digest_given};
+ghost use Rattle.blake2_state.specs.ConstructorArguments.{AdmitsState, given_count, digest_given};
 ghost use Rattle.blake2_state.specs.ConstructorArguments.{digest_under};
 ghost use Rattle.blake2_state.specs.ConstructorArguments.{parameters_given};
 ghost use Rattle.blake2_state.specs.RawParameterBlocks.{block_digest, AdmitsBlock};
@@ -106,14 +106,14 @@ impl State {
     // Whether Blake2b accepts the parameters of a state.
     #[inline]
     fn admits(parameters: &Parameters<'_>) -> bool
-        ensures { IsTrue result ↔ Admits blake2b (given_parameters parameters.now) }
+        ensures { IsTrue result ↔ AdmitsState blake2b (given_parameters parameters.now) }
     {
         parameters.output_size >= 1 && fits(parameters)
     }
 
     // A state of these parameters that has absorbed nothing, under no key.
     pub(crate) fn unkeyed(parameters: &Parameters<'_>) -> Self
-        requires admitted { Admits blake2b (given_parameters parameters.now) }
+        requires admitted { AdmitsState blake2b (given_parameters parameters.now) }
         requires keyless { parameters.now.key_size ≡ 0 }
         ensures ready { IsReady result }
         ensures size { result.output_size ≡ parameters.now.output_size }
@@ -126,7 +126,7 @@ impl State {
 
     // A state under this key that has absorbed nothing else.
     fn under_key(parameters: &Parameters<'_>, key: &[u8]) -> Self
-        requires admitted { Admits blake2b (given_parameters parameters.now) }
+        requires admitted { AdmitsState blake2b (given_parameters parameters.now) }
         requires key_size { parameters.now.key_size ≡ length key.now }
         ensures ready { IsReady result }
         ensures size { result.output_size ≡ parameters.now.output_size }
@@ -152,7 +152,7 @@ impl State {
     /// Returns whether Blake2b accepts these parameters: a digest of 1 to 64 bytes, a key of up to
     /// 64 (no bytes mean no key), a salt and a persona of up to 16 each.
     pub fn accepts(given: &StateParameters<'_>) -> bool
-        ensures { IsTrue result ↔ Admits blake2b (parameters_given given.now sequential) }
+        ensures { IsTrue result ↔ AdmitsState blake2b (parameters_given given.now sequential) }
     {
         Self::admits(&given.parameters(&Tree::sequential()))
     }
@@ -161,7 +161,8 @@ impl State {
     /// bytes, a key of up to 64 (no bytes mean no key), a salt and a persona of up to 16 each.
     /// The last-node flag is off. The error is `InvalidLength`, exactly for other lengths.
     pub fn init_salt_personal(given: &StateParameters<'_>) -> Result<Self, InvalidLength>
-        ensures refused { IsErr result ↔ ¬ Admits blake2b (parameters_given given.now sequential) }
+        ensures refused { IsErr result
+            ↔ ¬ AdmitsState blake2b (parameters_given given.now sequential) }
         ensures ready { IfOk result (λ s. IsReady s) }
         ensures size { IfOk result (λ s. s.output_size ≡ given.now.output_size) }
         ensures fresh { IfOk result (λ s. Fresh meaning
@@ -189,7 +190,7 @@ impl State {
     pub fn init_tree(given: &StateParameters<'_>, tree: &Tree) -> Result<Self, InvalidLength>
         requires tree { AdmitsTree blake2b (tree_of tree.now) }
         ensures refused { IsErr result
-            ↔ ¬ Admits blake2b (parameters_given given.now (tree_of tree.now)) }
+            ↔ ¬ AdmitsState blake2b (parameters_given given.now (tree_of tree.now)) }
         ensures ready { IfOk result (λ s. IsReady s) }
         ensures size { IfOk result (λ s. s.output_size ≡ given.now.output_size) }
         ensures fresh { IfOk result (λ s. Fresh meaning

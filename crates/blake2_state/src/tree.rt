@@ -11,7 +11,8 @@ ghost use Rattle.blake2_state.specs.Blake2b.{IsReady as IsNodeReady, meaning};
 ghost use Rattle.blake2_tree.specs.NodeViews.{shared_parameters, node_digest};
 ghost use Rattle.blake2_tree.specs.TreeRoot.{tree_parameters, tree_root as root_of, root_over};
 ghost use Rattle.blake2_tree.specs.TreeRoot.{leaf_count};
-ghost use Rattle.blake2_tree.specs.LeafRanges.{AreWhole, range_digests, ArePartOfAll, IsRootOfCuts};
+ghost use Rattle.blake2_tree.specs.LeafRanges.{AreWholeLeaves, range_digests, ArePartOfAll};
+ghost use Rattle.blake2_tree.specs.LeafRanges.{IsRootOfCuts};
 ghost use Rattle.blake2_tree.specs.LeafRanges.{IsRootOfChanges};
 ghost use Rattle.blake2_state.specs.TreeStates.{HasLengths, HasCounts, IsReady, IsBegun};
 ghost use Rattle.blake2_state.specs.TreeStates.{IsAsOpened, Took, parameters, state_tree, future};
@@ -403,7 +404,7 @@ impl TreeState {
         ensures shared { parameters self.new ≡ parameters self.old }
         ensures begun { IsBegun self.new }
         ensures future { IsBegun self.old
-            → (x y : List ℕ) → AreWhole self.old.leaf_length x → 0 < length y
+            → (x y : List ℕ) → AreWholeLeaves self.old.leaf_length x → 0 < length y
             → digests.now ≡ range_digests (parameters self.old) self.old.closed false x
             → future self.new y ≡ future self.old (x ++ y) }
         ensures root { (y : List ℕ) → future self.new y

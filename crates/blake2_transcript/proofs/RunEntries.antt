@@ -16,7 +16,8 @@ use Rattle.blake2_transcript.specs.declared.steps.Entry as GivenEntry
 use Rattle.blake2_transcript.specs.StepViews.{entry_of}
 use Rattle.blake2_transcript.specs.Transcript.{Entry, joined, no_entry}
 use Rattle.blake2_transcript.specs.Reader.{told_count, last_entry, told_key, told_message, AreInner}
-use Rattle.blake2_transcript.specs.Reader.{IsInner, AreWhole, IsRun, HasKey, EndsRun, IsZeroFrom}
+use Rattle.blake2_transcript.specs.Reader.{IsInner, AreWholeBlocks, IsRun, HasKey, EndsRun}
+use Rattle.blake2_transcript.specs.Reader.{IsZeroFrom}
 use Rattle.blake2_simd.proofs.Texts.{AreBytes-append}
 use Rattle.blake2_compress.proofs.InputBlocks.{block_within}
 
@@ -30,7 +31,7 @@ joined-snoc (x ∷ xs) e =
     ∙ sym (append_assoc x.block (joined xs) e.block)
 
 -- The number of bytes in blocks of bb bytes.
-pub joined-length : (f : Family) (es : List Entry) → AreWhole f es
+pub joined-length : (f : Family) (es : List Entry) → AreWholeBlocks f es
     → length (joined es) ≡ length es * block_bytes f
 joined-length f [] whole = omega arith
 joined-length f (e ∷ es) whole =
@@ -42,7 +43,7 @@ joined-length f (e ∷ es) whole =
     length-append e.block (joined es) ∙ omega arith
 
 -- Blocks of bytes, joined, are bytes.
-pub joined-bytes : (f : Family) (es : List Entry) → AreWhole f es → AreBytes (joined es)
+pub joined-bytes : (f : Family) (es : List Entry) → AreWholeBlocks f es → AreBytes (joined es)
 joined-bytes f [] whole = λ i. omega arith
 joined-bytes f (e ∷ es) whole = AreBytes-append e.block (joined es) (whole 0 (omega arith)).bytes
     (joined-bytes f es (λ i h. whole (suc i) (omega arith)))
@@ -94,7 +95,7 @@ given_some f es run = omega (arith, run.number, length-map es entry_of)
 
 -- The first block has bb bytes.
 pub given_first : {B : ℕ} (f : Family) (es : List (GivenEntry.Entry B)) (e : GivenEntry.Entry B)
-    → AreWhole f (map entry_of es) → 0 < length es
+    → AreWholeBlocks f (map entry_of es) → 0 < length es
     → e ≡ get_or es 0 e → length e.block ≡ block_bytes f
 given_first f es e whole some at =
     sym (ap (λ (x : Entry). length x.block) (entry_of-at es 0 e some at))
@@ -129,7 +130,7 @@ given_inner f es xs e split run i h =
 -- A run's counted bytes end in the last block, which is zero after them.
 pub given_run : {B : ℕ} (f : Family) (b : ℕ) (es xs : List (GivenEntry.Entry B))
     (e : GivenEntry.Entry B) → block_bytes f ≡ b → es ≡ xs ++ e ∷ []
-    → AreWhole f (map entry_of xs) → EndsRun f (length xs) (entry_of e)
+    → AreWholeBlocks f (map entry_of xs) → EndsRun f (length xs) (entry_of e)
     → AreInner f (map entry_of xs)
     → IsZeroFrom (e.counter - length xs * b) e.block ↔ IsRun f (map entry_of es)
 given_run f b es xs e family split whole end inners =

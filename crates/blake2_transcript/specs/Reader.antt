@@ -92,10 +92,11 @@ pub record IsWhole (f : Family) (e : Entry) : Type 0 where
   pub bytes : AreBytes e.block
 
 -- The block of every entry consists of bb bytes.
-abbrev pub AreWhole : Family → List Entry → Type 0
-AreWhole f entries = (i : ℕ) → i < length entries → IsWhole f (slice_index_or entries i no_entry)
+abbrev pub AreWholeBlocks : Family → List Entry → Type 0
+AreWholeBlocks f entries =
+    (i : ℕ) → i < length entries → IsWhole f (slice_index_or entries i no_entry)
 
 -- The blocks are whole, and the last counter is below 2^64.
 pub record AreTyped (f : Family) (entries : List Entry) : Type 0 where
-  pub whole : AreWhole f entries
+  pub whole : AreWholeBlocks f entries
   pub counter : told_count entries < 2 ^ 64

@@ -8,13 +8,13 @@ use Rattle.blake2_tree.specs.TreeRoot.{TreeParameters}
 use Rattle.blake2_tree.specs.OpenTrees.{OpenTree, future, count, Took}
 use Rattle.blake2_tree.specs.LeafUpdates.{AcceptsLeaves, next_leaf, joined_digests, root_after}
 use Rattle.blake2_tree.specs.LeafUpdates.{TookDigests, TookLeaves}
-use Rattle.blake2_tree.specs.LeafRanges.{AreWhole, range_digests}
+use Rattle.blake2_tree.specs.LeafRanges.{AreWholeLeaves, range_digests}
 use Rattle.blake2_tree.proofs.RangeLaws.{length-range_digests, leaf_count-is, AreWhole-count}
 use Rattle.blake2_tree.proofs.RangeLaws.{range_digests-cut}
 
 -- Whole leaves and their digests have the same number.
 length-given : (old : OpenTree) (digests x : List ℕ) → 0 < old.shared.leaf_length
-    → AreWhole old.shared.leaf_length x
+    → AreWholeLeaves old.shared.leaf_length x
     → digests ≡ range_digests old.shared (next_leaf old) false x
     → length digests / 64 * old.shared.leaf_length ≡ length x
 length-given old digests x some whole are =
@@ -31,8 +31,9 @@ no_leaves : (d l : ℕ) → d ≡ 0 → d / 64 * l ≡ 0
 no_leaves d l none = rw none (omega arith)
 
 -- Whole leaves after whole leaves are whole leaves.
-AreWhole-append : (size : ℕ) (x y : List ℕ) → 0 < size → AreWhole size x → AreWhole size y
-    → AreWhole size (x ++ y)
+AreWhole-append : (size : ℕ) (x y : List ℕ) → 0 < size → AreWholeLeaves size x
+    → AreWholeLeaves size y
+    → AreWholeLeaves size (x ++ y)
 AreWhole-append size x y some whole_x whole_y =
     let i = AreWhole-count size x some whole_x in
     let k = AreWhole-count size y some whole_y in
@@ -45,17 +46,17 @@ AreWhole-append size x y some whole_x whole_y =
 
 -- Ranges of whole leaves are whole leaves, and their digests, joined, are those of all of them.
 joined_digests-all : (s : TreeParameters) (first : ℕ) (x : List ℕ) (xs : List (List ℕ))
-    → 0 < s.leaf_length → All (AreWhole s.leaf_length) (x ∷ xs)
-    → AreWhole s.leaf_length (concat (x ∷ xs))
+    → 0 < s.leaf_length → All (AreWholeLeaves s.leaf_length) (x ∷ xs)
+    → AreWholeLeaves s.leaf_length (concat (x ∷ xs))
     × (joined_digests s first (x ∷ xs) ≡ range_digests s first false (concat (x ∷ xs)))
 joined_digests-all s first x [] some whole =
-    let is_whole : AreWhole s.leaf_length x = whole 0 [] (omega arith) in
+    let is_whole : AreWholeLeaves s.leaf_length x = whole 0 [] (omega arith) in
     let same : x ++ [] ≡ x = append-nil x in (
-      subst (AreWhole s.leaf_length) (sym same) is_whole,
+      subst (AreWholeLeaves s.leaf_length) (sym same) is_whole,
       append-nil (range_digests s first false x) ∙ ap (range_digests s first false) (sym same),
     )
 joined_digests-all s first x (y ∷ ys) some whole =
-    let is_whole : AreWhole s.leaf_length x = whole 0 [] (omega arith) in
+    let is_whole : AreWholeLeaves s.leaf_length x = whole 0 [] (omega arith) in
     let next : ℕ = first + length x / s.leaf_length in
     let rest = joined_digests-all s next y ys some (λ k d below. whole (suc k) d (omega arith)) in (
       AreWhole-append s.leaf_length x (concat (y ∷ ys)) some is_whole rest.0,
@@ -66,9 +67,9 @@ joined_digests-all s first x (y ∷ ys) some whole =
 -- What holds of one range holds of several.
 took-ranges : (old new : OpenTree) (digests input : List ℕ) → 0 < old.shared.leaf_length
     → (digests ≡ [] → Took old input new)
-    → ((x : List ℕ) → AreWhole old.shared.leaf_length x
+    → ((x : List ℕ) → AreWholeLeaves old.shared.leaf_length x
     → digests ≡ range_digests old.shared (next_leaf old) false x → Took old (x ++ input) new)
-    → (xs : List (List ℕ)) → All (AreWhole old.shared.leaf_length) xs
+    → (xs : List (List ℕ)) → All (AreWholeLeaves old.shared.leaf_length) xs
     → digests ≡ joined_digests old.shared (next_leaf old) xs → Took old (concat xs ++ input) new
 took-ranges old new digests input some none leaves [] whole are = none are
 took-ranges old new digests input some none leaves (x ∷ xs) whole are =
@@ -90,7 +91,7 @@ pub TookLeaves-none : {old new : OpenTree} {digests input : List ℕ} → 0 < ol
 TookLeaves-none {old} {new} {digests} {input} some nothing took =
     let none : length digests / 64 * old.shared.leaf_length ≡ 0 =
     no_leaves (length digests) old.shared.leaf_length nothing in
-    let leaves : (x : List ℕ) → AreWhole old.shared.leaf_length x
+    let leaves : (x : List ℕ) → AreWholeLeaves old.shared.leaf_length x
     → digests ≡ range_digests old.shared (next_leaf old) false x → Took old (x ++ input) new =
     λ x whole are. absurd (omega (
       arith,
@@ -155,7 +156,7 @@ pub TookLeaves-given : {old given new : OpenTree} (begun : OpenTree) {digests in
     → 0 < old.shared.leaf_length → AcceptsLeaves old (length digests) (length input)
     → 0 < length digests → ((y : List ℕ) → 0 < length y → future begun y ≡ future old y)
     → begun.closed ≡ next_leaf old → begun.shared ≡ old.shared → count begun ≡ count old
-    → ((x y : List ℕ) → AreWhole begun.shared.leaf_length x → 0 < length y
+    → ((x y : List ℕ) → AreWholeLeaves begun.shared.leaf_length x → 0 < length y
     → digests ≡ range_digests begun.shared begun.closed false x
     → future given y ≡ future begun (x ++ y))
     → given.shared ≡ begun.shared
@@ -169,14 +170,14 @@ TookLeaves-given {old} {given} {new} begun {digests} {input} some accepted more 
     let bytes : 0 < length input = followed old (length digests) (length input) accepted more in
     let none : digests ≡ [] → Took old input new =
     λ nothing. absurd (omega (arith, ap length nothing)) in
-    let leaves : (x : List ℕ) → AreWhole old.shared.leaf_length x
+    let leaves : (x : List ℕ) → AreWholeLeaves old.shared.leaf_length x
     → digests ≡ range_digests old.shared (next_leaf old) false x → Took old (x ++ input) new =
     λ x whole are. record {
       shared = took.shared ∙ same ∙ first;
       future = λ y.
           took.future y
           ∙ takes x (input ++ y)
-          (subst (λ (s : TreeParameters). AreWhole s.leaf_length x) (sym first) whole)
+          (subst (λ (s : TreeParameters). AreWholeLeaves s.leaf_length x) (sym first) whole)
           (omega (arith, length-append input y))
           (are ∙ (λ i. range_digests (sym first i) (sym closed i) false x))
           ∙ begins (x ++ (input ++ y))

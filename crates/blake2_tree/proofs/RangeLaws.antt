@@ -13,7 +13,8 @@ use Rattle.blake2_compress.specs.Hash.{digest}
 use Rattle.blake2_compress.proofs.RunSizes.{length-digest}
 use Rattle.blake2_tree.specs.TreeRoot.{TreeParameters, leaf_count, node, leaf_digests, root_over}
 use Rattle.blake2_tree.specs.TreeRoot.{tree_root}
-use Rattle.blake2_tree.specs.LeafRanges.{range_leaf, range_digests, AreWhole, IsCut, cut_digests}
+use Rattle.blake2_tree.specs.LeafRanges.{range_leaf, range_digests, AreWholeLeaves, IsCut}
+use Rattle.blake2_tree.specs.LeafRanges.{cut_digests}
 use Rattle.blake2_tree.specs.LeafRanges.{IsRange, TakesPlace, with_part, ArePartOfAll, IsRootOfCuts}
 use Rattle.blake2_tree.specs.LeafRanges.{IsRootOfChanges}
 use Rattle.blake2_tree.proofs.NodeLemmas.{length-leaf_digests}
@@ -71,7 +72,7 @@ whole-count : (size n q : ℕ) → q * size ≡ n → 0 < n → (k : ℕ) × (q 
 whole-count size n zero whole some = absurd (omega arith)
 whole-count size n (suc k) whole some = (k, refl)
 
-pub AreWhole-count : (size : ℕ) (x : List ℕ) → 0 < size → AreWhole size x
+pub AreWhole-count : (size : ℕ) (x : List ℕ) → 0 < size → AreWholeLeaves size x
     → (k : ℕ) × (length x / size ≡ suc k) × (length x ≡ suc k * size)
 AreWhole-count size x some is_whole =
     let q : ℕ = length x / size in
@@ -80,7 +81,7 @@ AreWhole-count size x some is_whole =
     (k.0, k.1, sym whole ∙ ap (λ m. m * size) k.1)
 
 pub range_digests-cut : (s : TreeParameters) (first : ℕ) (ends : Bool) (x y : List ℕ)
-    → 0 < s.leaf_length → AreWhole s.leaf_length x → 0 < length y
+    → 0 < s.leaf_length → AreWholeLeaves s.leaf_length x → 0 < length y
     → range_digests s first ends (x ++ y)
     ≡ range_digests s first false x ++ range_digests s (first + length x / s.leaf_length) ends y
 range_digests-cut s first ends x y some whole more =
@@ -103,7 +104,7 @@ range_digests-next s p (suc k) ends x some one more =
 -- ---- any number of ranges
 
 cut_digests-more : (s : TreeParameters) (first : ℕ) (front : List (List ℕ)) (last : List ℕ)
-    → 0 < s.leaf_length → All (AreWhole s.leaf_length) front → 0 < length last
+    → 0 < s.leaf_length → All (AreWholeLeaves s.leaf_length) front → 0 < length last
     → cut_digests s first front last ≡ range_digests s first true (concat front ++ last)
 cut_digests-more s first [] last some whole more = refl
 cut_digests-more s first (x ∷ front) last some whole more =
@@ -205,7 +206,7 @@ digests_behind s first true old new after some is_range at_end before_end is_aft
 digests_behind s first false old new after some is_range at_end before_end is_after =
     let l : ℕ = s.leaf_length in
     let within : length new < length old = before_end refl in
-    let is_whole : AreWhole l new = record {
+    let is_whole : AreWholeLeaves l new = record {
       some = elim is_range.some [ inl h ↦ h | inr h ↦ absurd (false≢true h.0) ];
       whole = elim is_range.whole [ inl h ↦ absurd (false≢true h) | inr h ↦ h ];
     } in
@@ -335,7 +336,7 @@ is_root_of_changes size s digests some old new first ends is_range placed are =
     (are ∙ sym (leaf_digests-placed s first ends old new some is_range placed))
 
 -- The number of leaves in whole ones.
-pub leaf_count-is : (size : ℕ) (x : List ℕ) → 0 < size → AreWhole size x
+pub leaf_count-is : (size : ℕ) (x : List ℕ) → 0 < size → AreWholeLeaves size x
     → leaf_count size (length x) ≡ length x / size
 leaf_count-is size x some whole =
     let k = AreWhole-count size x some whole in

@@ -8,7 +8,7 @@ use Rattle.std.specs.List.{concat, flat_map}
 use Rattle.blake2_digest.specs.States.{Meaning, digest_now, Updated, Fresh, NodeSet}
 use Rattle.blake2_tree.specs.NodeViews.{node_digest, IsOpened, four_digests}
 use Rattle.blake2_tree.specs.TreeRoot.{TreeParameters, tree_root}
-use Rattle.blake2_tree.specs.LeafRanges.{AreWhole, range_digests}
+use Rattle.blake2_tree.specs.LeafRanges.{AreWholeLeaves, range_digests}
 use Rattle.blake2_tree.specs.OpenTrees.{digests_to_come, OpenTree, open_tree, count, future, Took}
 use Rattle.blake2_tree.specs.OpenTrees.{WentOn}
 use Rattle.blake2_tree.proofs.MessageLeaves.{range_digests-first}
@@ -139,7 +139,7 @@ WentOn-closed roots {leaves} {s} {closed} old {leaf} {full} {new} {room} {x} {he
 
 -- The bytes of k leaves are whole leaves.
 pub AreWhole-taken : (size k : ℕ) (x : List ℕ) → 0 < size → 1 ≤ k → k * size < length x
-    → AreWhole size (take (k * size) x)
+    → AreWholeLeaves size (take (k * size) x)
 AreWhole-taken size k x some one more =
     let long : length (take (k * size) x) ≡ k * size = length-take-le (k * size) x (omega arith) in
     record {
@@ -201,7 +201,7 @@ future-by_digests {roots} {leaves} s next {new} {opened} some updated fresh y =
 -- is opened, if something comes.
 pub future-given : {R S : Type 0} {roots : Meaning R} {leaves : Meaning S} {s : TreeParameters}
     {closed : ℕ} {old new : R} {leaf opened : S} {digests x : List ℕ} → 0 < s.leaf_length
-    → IsOpened leaves s closed leaf → AreWhole s.leaf_length x
+    → IsOpened leaves s closed leaf → AreWholeLeaves s.leaf_length x
     → digests ≡ range_digests s closed false x → Updated roots old digests new
     → Fresh leaves (node_digest 64 s (closed + length digests / 64) 0) 0 opened
     → (y : List ℕ) → 0 < length y → future (open_tree roots leaves s (closed + length digests / 64) new opened) y

@@ -34,14 +34,14 @@ range_digests p first ends bytes =
 -- ---- a message that is cut into ranges
 
 -- The bytes are whole leaves, at least one.
-pub record AreWhole (size : ℕ) (bytes : List ℕ) : Type 0 where
+pub record AreWholeLeaves (size : ℕ) (bytes : List ℕ) : Type 0 where
   pub some : 0 < length bytes
   pub whole : length bytes % size ≡ 0
 
 -- A message is cut at boundaries of its leaves: into parts of whole leaves, followed by the last
 -- part, which is not empty unless it is the only one.
 pub record IsCut (size : ℕ) (front : List (List ℕ)) (last : List ℕ) : Type 0 where
-  pub whole : All (AreWhole size) front
+  pub whole : All (AreWholeLeaves size) front
   pub some : (0 < length last) ⊎ (front ≡ [])
 
 -- The digests of the ranges of a cut, joined. Each range begins at the index at which the one

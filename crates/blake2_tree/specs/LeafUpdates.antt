@@ -4,7 +4,7 @@ use Rattle.std.specs.Prelude.{length, true, nat_eq, if◌then◌else◌}
 use Rattle.std.specs.List.{All, concat}
 use Rattle.blake2_tree.specs.TreeRoot.{TreeParameters}
 use Rattle.blake2_tree.specs.OpenTrees.{OpenTree, Took, count, future}
-use Rattle.blake2_tree.specs.LeafRanges.{IsRange, AreWhole, range_digests}
+use Rattle.blake2_tree.specs.LeafRanges.{IsRange, AreWholeLeaves, range_digests}
 
 -- The tree has absorbed whole leaves, or nothing.
 abbrev pub IsAtBoundary : OpenTree → Type 0
@@ -55,8 +55,8 @@ pub record TookDigests (old : OpenTree) (digests rest : List ℕ) (new : OpenTre
 pub record TookLeaves (old : OpenTree) (digests rest : List ℕ) (new : OpenTree) : Type 0 where
   pub shared : new.shared ≡ old.shared
   pub none : digests ≡ [] → Took old rest new
-  pub leaves : (x : List ℕ) → AreWhole old.shared.leaf_length x
+  pub leaves : (x : List ℕ) → AreWholeLeaves old.shared.leaf_length x
       → digests ≡ range_digests old.shared (next_leaf old) false x → Took old (x ++ rest) new
-  pub ranges : (xs : List (List ℕ)) → All (AreWhole old.shared.leaf_length) xs
+  pub ranges : (xs : List (List ℕ)) → All (AreWholeLeaves old.shared.leaf_length) xs
       → digests ≡ joined_digests old.shared (next_leaf old) xs → Took old (concat xs ++ rest) new
   pub count : count new ≡ count old + length digests / 64 * old.shared.leaf_length + length rest

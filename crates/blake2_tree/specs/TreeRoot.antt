@@ -33,8 +33,8 @@ leaf = piece
 
 -- The tree parameters of a node (the BLAKE2 document, 2.8 and 2.10): the fanout 0 is unlimited,
 -- there are two levels, and the digests of inner nodes have 64 bytes.
-abbrev pub place : ℕ → ℕ → ℕ → Tree
-place leaf_length offset depth = record {
+abbrev pub tree_place : ℕ → ℕ → ℕ → Tree
+tree_place leaf_length offset depth = record {
   fanout = 0;
   depth = 2;
   leaf_length = leaf_length;
@@ -50,7 +50,7 @@ node p offset depth last bytes = record {
   salt = p.salt;
   persona = p.persona;
   key = None;
-  tree = place p.leaf_length offset depth;
+  tree = tree_place p.leaf_length offset depth;
   last_node = last;
   message = bytes;
 }

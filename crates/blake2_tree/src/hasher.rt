@@ -4,7 +4,7 @@ ghost use Rattle.std.specs.Prelude.{◌≡◌, ℕ, ◌+◌, ◌*◌, ◌^◌, �
 ghost use Rattle.std.specs.Prelude.{false, ◌/◌, ◌%◌, ◌↔◌, IsTrue};
 ghost use Rattle.blake2.specs.Hashers.{blake2b_meaning};
 ghost use Rattle.blake2_tree.specs.NodeViews.{shared_parameters, IsOpened};
-ghost use Rattle.blake2_tree.specs.LeafRanges.{AreWhole, range_digests};
+ghost use Rattle.blake2_tree.specs.LeafRanges.{AreWholeLeaves, range_digests};
 ghost use Rattle.blake2_tree.specs.TreeRoot.{tree_parameters, tree_root as root_of};
 
 use crate::limits::has_room_for;
@@ -208,7 +208,7 @@ impl<const N: usize> TreeHasher<N> {
         requires whole { length digests.now % 64 ≡ 0 }
         requires fits { count self.old + length digests.now / 64 * self.old.nodes.leaf_length + 1
             < 2 ^ 58 }
-        ensures future { (x y : List ℕ) → AreWhole self.old.nodes.leaf_length x → 0 < length y
+        ensures future { (x y : List ℕ) → AreWholeLeaves self.old.nodes.leaf_length x → 0 < length y
             → digests.now ≡ range_digests (shared_parameters self.old.nodes) self.old.closed false x
             → future self.new y ≡ future self.old (x ++ y) }
         ensures root { (y : List ℕ) → future self.new y

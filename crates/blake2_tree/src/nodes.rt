@@ -7,7 +7,8 @@ ghost use Rattle.blake2_digest.specs.States.{Fresh};
 ghost use Rattle.blake2_simd.specs.Family.{blake2b};
 ghost use Rattle.blake2_compress.specs.Inputs.{Accepts};
 ghost use Rattle.blake2_compress.specs.Views.{tree_of, input_of};
-ghost use Rattle.blake2_tree.specs.TreeRoot.{place, node, leaf_count, leaf_digests, leaf_input};
+ghost use Rattle.blake2_tree.specs.TreeRoot.{tree_place, node, leaf_count, leaf_digests};
+ghost use Rattle.blake2_tree.specs.TreeRoot.{leaf_input};
 ghost use Rattle.blake2_tree.specs.TreeRoot.{root_over, tree_parameters};
 ghost use Rattle.blake2_tree.specs.LeafRanges.{IsRange, range_digests, with_part};
 
@@ -75,7 +76,7 @@ impl Nodes {
     /// root's, at offset 0.
     pub fn place(&self, node_offset: u64, node_depth: u8) -> Tree
         ensures { tree_of result
-            ≡ place (shared_parameters self.now).leaf_length node_offset node_depth }
+            ≡ tree_place (shared_parameters self.now).leaf_length node_offset node_depth }
     {
         Tree {
             fanout: 0,

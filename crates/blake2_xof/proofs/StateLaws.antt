@@ -9,7 +9,7 @@ use Rattle.blake2_compress.specs.Hash.{Tree, padded}
 use Rattle.blake2_compress.proofs.ParameterTexts.{zeros_leave_digests}
 use Rattle.blake2_state.specs.ConstructorArguments.{digest_given}
 use Rattle.blake2_state.specs.declared.StateParameters.{StateParameters}
-use Rattle.blake2_xof.specs.States.{meaning_by}
+use Rattle.blake2_xof.specs.States.{xof_meaning_by}
 use Rattle.blake2_xof.specs.Xof.{Settings, block_input, block_size, output_block, outputs}
 use Rattle.blake2_xof.specs.Xof.{output_blocks, output_length, root_hash, settings}
 use Rattle.blake2_xof.specs.Xof.{stream}
@@ -46,7 +46,7 @@ pub Fresh_by : {S R : Type 0} (f : Family) (m : Meaning R) (root_of : S → R)
     (n : ℕ) → Fresh m (digest_given f given tree) n (root_of s)
     → ((y : List ℕ) → digest_given f given tree false y ≡ root_hash f a y)
     → ((x : List ℕ) → stream f (settings_of s) x ≡ stream f a x)
-    → Fresh (meaning_by f m root_of settings_of) (outputs f a) n s
+    → Fresh (xof_meaning_by f m root_of settings_of) (outputs f a) n s
 Fresh_by f m root_of settings_of s a given tree n fresh same texts =
     let own : Bool = m.last_node (root_of s) in
     let off = λ (y : List ℕ).
@@ -65,7 +65,7 @@ Fresh_by f m root_of settings_of s a given tree n fresh same texts =
 pub Updated_by : {S R : Type 0} (f : Family) (m : Meaning R) (root_of : S → R)
     (settings_of : S → Settings) (old : S) (x : List ℕ) (new : S)
     → settings_of new ≡ settings_of old → Updated m (root_of old) x (root_of new)
-    → Updated (meaning_by f m root_of settings_of) old x new
+    → Updated (xof_meaning_by f m root_of settings_of) old x new
 Updated_by f m root_of settings_of old x new same u =
     let own : Bool = m.last_node (root_of old) in
     record {
@@ -82,7 +82,7 @@ Updated_by f m root_of settings_of old x new same u =
 pub StartedAgain_by : {S R : Type 0} (f : Family) (m : Meaning R) (root_of : S → R)
     (settings_of : S → Settings) (old new : S) → settings_of new ≡ settings_of old
     → StartedAgain m (root_of old) (root_of new)
-    → StartedAgain (meaning_by f m root_of settings_of) old new
+    → StartedAgain (xof_meaning_by f m root_of settings_of) old new
 StartedAgain_by f m root_of settings_of old new same again =
     let own : Bool = m.last_node (root_of old) in
     record {

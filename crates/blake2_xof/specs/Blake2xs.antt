@@ -8,7 +8,7 @@ use Rattle.blake2_state.specs.Blake2s as Root
 use Rattle.blake2_state.specs.States.{is_on}
 use Rattle.blake2_xof.specs.declared.blake2xs.State.{State}
 use Rattle.blake2_xof.specs.declared.reader.blake2xs.Reader.{Reader}
-use Rattle.blake2_xof.specs.States.{meaning_by}
+use Rattle.blake2_xof.specs.States.{xof_meaning_by}
 use Rattle.blake2_xof.specs.Xof.{Settings, output_length, settings, stream, unknown_length}
 
 -- ---- readers
@@ -52,7 +52,7 @@ no_reader = record {
 
 -- The meaning of a state: the whole outputs that it will return, and the bytes that it counts.
 abbrev pub meaning : Meaning State
-meaning = meaning_by blake2s Root.meaning (λ s. s.root) (λ s. settings_of s.reader)
+meaning = xof_meaning_by blake2s Root.meaning (λ s. s.root) (λ s. settings_of s.reader)
 
 -- The state returns output: its root hash has the longest digest, and its reader is readable.
 pub record IsReady (s : State) : Type 0 where

@@ -54,7 +54,7 @@ settings xof_length key salt persona = record {
 -- The family accepts the settings: the output is not empty, and its length fits its field. Key,
 -- salt and personalization are within the limits of the family (RFC 7693, 2.1; the BLAKE2 document,
 -- 2.8).
-pub record Admits (f : Family) (a : Settings) : Type 0 where
+pub record AdmitsXof (f : Family) (a : Settings) : Type 0 where
   pub some : 1 ≤ a.xof_length
   pub xof_length : a.xof_length ≤ unknown_length f
   pub key : length a.key ≤ key_bytes f
@@ -84,8 +84,8 @@ block_place f n i = record {
 -- ---- the output
 
 -- The input of the root hash of a message.
-abbrev pub root_input : Settings → List ℕ → Input
-root_input a message = record {
+abbrev pub root_hash_input : Settings → List ℕ → Input
+root_hash_input a message = record {
   salt = a.salt;
   persona = a.persona;
   key = given_key a.key;
@@ -96,15 +96,15 @@ root_input a message = record {
 
 -- The parameter block of the root hash.
 abbrev pub root_block : Family → Settings → List ℕ
-root_block f a = parameter_block f (input_parameters (output_bytes f) (root_input a []))
+root_block f a = parameter_block f (input_parameters (output_bytes f) (root_hash_input a []))
 
 -- The data of the root hash: the key block and the message (RFC 7693, 3.3).
 abbrev pub root_data : Family → Settings → List ℕ → List ℕ
-root_data f a message = input_data f (root_input a message)
+root_data f a message = input_data f (root_hash_input a message)
 
 -- H0, the root hash: the longest digest of the family.
 abbrev pub root_hash : Family → Settings → List ℕ → List ℕ
-root_hash f a message = digest f (output_bytes f) (root_input a message)
+root_hash f a message = digest f (output_bytes f) (root_hash_input a message)
 
 -- The input of block i, whose message is the root hash. No block has a key.
 abbrev pub block_input : Family → Settings → List ℕ → ℕ → Input

@@ -10,7 +10,7 @@ ghost use Rattle.blake2_state.specs.ConstructorArguments.{given_count};
 ghost use Rattle.blake2_state.specs.States.{is_on};
 ghost use Rattle.blake2_xof.specs.Blake2xs.{HasSqueezed, IsAbsorbing, IsReady, length_of, meaning};
 ghost use Rattle.blake2_xof.specs.Blake2xs.{output_now, output_of, zeros};
-ghost use Rattle.blake2_xof.specs.Xof.{Admits, outputs, root_place, settings};
+ghost use Rattle.blake2_xof.specs.Xof.{AdmitsXof, outputs, root_place, settings};
 
 use crate::reader::blake2xs::{Reader, UNKNOWN_LENGTH};
 use blake2_compress::params::Tree;
@@ -84,7 +84,7 @@ impl State {
     /// persona of up to 8 each.
     pub fn accepts(xof_length: u64, key: &[u8], salt: &[u8], persona: &[u8]) -> bool
         ensures { IsTrue result
-            ↔ Admits blake2s (settings xof_length key.now salt.now persona.now) }
+            ↔ AdmitsXof blake2s (settings xof_length key.now salt.now persona.now) }
     {
         xof_length >= 1
             && xof_length <= UNKNOWN_LENGTH
@@ -104,7 +104,7 @@ impl State {
         persona: &[u8],
     ) -> Result<Self, InvalidLength>
         ensures refused { IsErr result
-            ↔ ¬ Admits blake2s (settings xof_length key.now salt.now persona.now) }
+            ↔ ¬ AdmitsXof blake2s (settings xof_length key.now salt.now persona.now) }
         ensures ready { IfOk result (λ s. IsAbsorbing s) }
         ensures xof_length { IfOk result (λ s. s.reader.xof_length ≡ xof_length) }
         ensures fresh { IfOk result (λ s. Fresh meaning

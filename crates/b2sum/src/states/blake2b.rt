@@ -32,10 +32,11 @@ impl HashState for State {
     ghost use Rattle.std.specs.Prelude.{false};
     ghost use Rattle.blake2_simd.specs.Family.{blake2b};
     ghost use Rattle.blake2_compress.specs.Hash.{sequential};
-    ghost use Rattle.blake2_state.specs.ConstructorArguments.{Admits, digest_given, given_count};
+    ghost use Rattle.blake2_state.specs.ConstructorArguments.{AdmitsState, digest_given};
+    ghost use Rattle.blake2_state.specs.ConstructorArguments.{given_count};
     ghost use Rattle.blake2_state.specs.ConstructorArguments.{parameters_given};
 
-    ghost accepts = { λ given. Admits blake2b (parameters_given given sequential) };
+    ghost accepts = { λ given. AdmitsState blake2b (parameters_given given sequential) };
 
     ghost digest = { λ given. digest_given blake2b given sequential false };
 

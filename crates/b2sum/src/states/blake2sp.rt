@@ -31,14 +31,15 @@ impl Absorb for State {
 
 impl HashState for State {
     ghost use Rattle.blake2_simd.specs.Family.{blake2s};
-    ghost use Rattle.blake2_parallel.specs.Parallel.{Admits, key_count, parallel_digest};
+    ghost use Rattle.blake2_parallel.specs.Parallel.{AdmitsParallel, parallel_key_count};
+    ghost use Rattle.blake2_parallel.specs.Parallel.{parallel_digest};
     ghost use Rattle.b2sum.specs.FileDigests.{settings_given};
 
-    ghost accepts = { λ given. Admits blake2s (settings_given given) };
+    ghost accepts = { λ given. AdmitsParallel blake2s (settings_given given) };
 
     ghost digest = { λ given. parallel_digest blake2s (settings_given given) };
 
-    ghost key_count = { λ given. key_count blake2s given.key.now };
+    ghost key_count = { λ given. parallel_key_count blake2s given.key.now };
 
     fn zeros() -> Self {
         State::zeros()

@@ -7,7 +7,7 @@ ghost use Rattle.blake2.specs.States as Held;
 ghost use Rattle.blake2_compress.specs.Views.{input_of};
 ghost use Rattle.blake2_compress.specs.Hash.{parameters_of, sequential};
 ghost use Rattle.blake2_state.specs.ConstructorArguments.{given_key, given_count, digest_given};
-ghost use Rattle.blake2_state.specs.ConstructorArguments.{Admits};
+ghost use Rattle.blake2_state.specs.ConstructorArguments.{AdmitsState};
 ghost use Rattle.blake2_state.specs.ConstructorArguments.{parameters_given};
 ghost use Rattle.blake2_ffi.specs.SeveralMessages.{AreCounted, digests_of, digests_given};
 ghost use Rattle.blake2_ffi.specs.Status.{Returns};
@@ -49,7 +49,7 @@ fn key_count(key: &[u8]) -> u64
 
 // Writes the digest of one message at the beginning of `out`.
 fn write_one(out: &mut [u8], given: &StateParameters<'_>, message: &[u8])
-    requires taken { Admits blake2s (parameters_given given.now sequential) }
+    requires taken { AdmitsState blake2s (parameters_given given.now sequential) }
     requires counted { given_count blake2s given.now.key.now + length message.now < 2 ^ 64 }
     requires room { given.now.output_size ≤ length out.old }
     ensures { out.new
@@ -69,7 +69,7 @@ fn write_one(out: &mut [u8], given: &StateParameters<'_>, message: &[u8])
 // Writes the digests of the first messages at the beginning of `out`, 8 if these are hashed in
 // parallel, otherwise one, and returns how many.
 fn write_next(out: &mut [u8], given: &StateParameters<'_>, messages: &[Text<'_>]) -> usize
-    requires taken { Admits blake2s (parameters_given given.now sequential) }
+    requires taken { AdmitsState blake2s (parameters_given given.now sequential) }
     requires counted { AreCounted blake2s given.now.key.now messages.now }
     requires some { 1 ≤ length messages.now }
     requires room { length messages.now * given.now.output_size ≤ length out.old }
@@ -119,7 +119,7 @@ pub extern "C" fn vulfsjor_ffi_blake2s_many(
     persona: &[u8],
 ) -> i32
     ensures status { Returns result
-        (Admits blake2s (parameters_of output_size (length key.now) salt.now persona.now)
+        (AdmitsState blake2s (parameters_of output_size (length key.now) salt.now persona.now)
         × (length out.old ≡ length messages.now * output_size)
         × AreCounted blake2s key.now messages.now) }
     ensures digests { result ≡ pos 0 → out.new
@@ -149,7 +149,7 @@ pub extern "C" fn vulfsjor_ffi_blake2s_many(
 // it.
 #[inline(never)]
 fn write_all(out: &mut [u8], given: &StateParameters<'_>, messages: &[Text<'_>])
-    requires taken { Admits blake2s (parameters_given given.now sequential) }
+    requires taken { AdmitsState blake2s (parameters_given given.now sequential) }
     requires counted { AreCounted blake2s given.now.key.now messages.now }
     requires room { length out.old ≡ length messages.now * given.now.output_size }
     ensures { out.new ≡ digests_given blake2s given.now messages.now }

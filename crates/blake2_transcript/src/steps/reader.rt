@@ -7,7 +7,8 @@ ghost use Rattle.blake2_simd.specs.Family.{Family, block_bytes, salt_bytes};
 ghost use Rattle.blake2_compress.specs.Hash.{Fits};
 ghost use Rattle.blake2_compress.specs.Views.{given_parameters};
 ghost use Rattle.blake2_transcript.specs.StepViews.{entry_of, items_of, reading_of};
-ghost use Rattle.blake2_transcript.specs.Reader.{AreInner, AreWhole, EndsRun, HasKey, IsInner};
+ghost use Rattle.blake2_transcript.specs.Reader.{AreInner, AreWholeBlocks, EndsRun, HasKey};
+ghost use Rattle.blake2_transcript.specs.Reader.{IsInner};
 ghost use Rattle.blake2_transcript.specs.Reader.{IsRun, IsWhole, IsZeroFrom, told_count, told_data};
 ghost use Rattle.blake2_transcript.specs.Reader.{told_input, told_key, told_message};
 ghost use Rattle.blake2_transcript.specs.Transcript.{joined};
@@ -50,7 +51,7 @@ fn are_inner<const B: usize>(entries: &[Entry<B>]) -> bool
     ghost f: { Family }
     requires family { block_bytes f ≡ B }
     ensures inner { IsTrue result ↔ AreInner f (map entry_of entries.now) }
-    ensures whole { IsTrue result → AreWhole f (map entry_of entries.now) }
+    ensures whole { IsTrue result → AreWholeBlocks f (map entry_of entries.now) }
 {
     for (i, entry) in entries.iter().enumerate() {
         if !is_inner(*entry, i as u64) {
@@ -75,7 +76,7 @@ pub(crate) fn is_run<const B: usize>(entries: &[Entry<B>]) -> bool
     ghost f: { Family }
     requires family { block_bytes f ≡ B }
     ensures run { IsTrue result ↔ IsRun f (map entry_of entries.now) }
-    ensures whole { IsTrue result → AreWhole f (map entry_of entries.now) }
+    ensures whole { IsTrue result → AreWholeBlocks f (map entry_of entries.now) }
     ensures counter { IsTrue result → told_count (map entry_of entries.now) < 2 ^ 64 }
 {
     let Some((last, before)) = entries.split_last() else {
@@ -128,7 +129,7 @@ fn key_and_message<const B: usize>(
     requires family { block_bytes f ≡ B }
     requires size { key_size ≤ B }
     requires run { IsRun f (map entry_of entries.now) }
-    requires whole { AreWhole f (map entry_of entries.now) }
+    requires whole { AreWholeBlocks f (map entry_of entries.now) }
     requires key { 0 < key_size → HasKey f key_size (map entry_of entries.now) }
     ensures key { IfOk result
         (λ p. items_of p.0 ≡ told_key key_size (told_data (map entry_of entries.now))) }
@@ -156,7 +157,7 @@ pub(crate) fn reading<const B: usize, const S: usize>(
     requires fits { Fits f (given_parameters told.now) }
     requires key_size { told.now.key_size ≤ B }
     requires run { IsRun f (map entry_of entries.now) }
-    requires whole { AreWhole f (map entry_of entries.now) }
+    requires whole { AreWholeBlocks f (map entry_of entries.now) }
     requires key { 0 < told.now.key_size → HasKey f told.now.key_size (map entry_of entries.now) }
     ensures size { IfOk result (λ x. x.output_size ≡ told.now.output_size) }
     ensures input { IfOk result (λ x. reading_of x

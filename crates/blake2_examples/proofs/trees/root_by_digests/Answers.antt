@@ -4,7 +4,7 @@ use Rattle.std.proofs.Common.{length-append, length-drop}
 use Rattle.std.specs.List.{All}
 use borrow.Rule.Slice.PartMut.{put_mid}
 use Rattle.blake2_tree.specs.TreeRoot.{TreeParameters, tree_parameters, tree_root, leaf_count}
-use Rattle.blake2_tree.specs.LeafRanges.{range_digests, AreWhole}
+use Rattle.blake2_tree.specs.LeafRanges.{range_digests, AreWholeLeaves}
 use Rattle.blake2_tree.specs.LeafUpdates.{next_leaf, joined_digests}
 use Rattle.blake2_tree.specs.TreeHashers.{held_tree, count as count-of}
 use Rattle.blake2_tree.proofs.RangeLaws.{leaf_count-is, length-range_digests}
@@ -15,7 +15,8 @@ abbrev p : TreeParameters
 p = tree_parameters [] [] 65536
 
 -- The digests of the two ranges, one after the other.
-joined : (next : ℕ) (middle more d a b : List ℕ) → AreWhole 65536 middle → AreWhole 65536 more
+joined : (next : ℕ) (middle more d a b : List ℕ) → AreWholeLeaves 65536 middle
+    → AreWholeLeaves 65536 more
     → length d ≡ 64 * (leaf_count 65536 (length middle) + leaf_count 65536 (length more))
     → a ≡ range_digests p next false middle
     → b ≡ range_digests p (next + leaf_count 65536 (length middle)) false more
@@ -96,8 +97,8 @@ returns c =
     let size = ap (λ s. s.leaf_length) shared in
     let first : c.counted-next.result / 65536 ≡ next_leaf (held_tree begun) =
     (λ i. c.counted-next.ensures i / sym size i) in
-    let whole : All (AreWhole begun.nodes.leaf_length) (middle ∷ more ∷ []) =
-    subst (λ n. All (AreWhole n) (middle ∷ more ∷ [])) (sym size)
+    let whole : All (AreWholeLeaves begun.nodes.leaf_length) (middle ∷ more ∷ []) =
+    subst (λ n. All (AreWholeLeaves n) (middle ∷ more ∷ [])) (sym size)
     (search (rules, c.requires.middle, c.requires.more)) in
     let at = c.leaf_count-count.ensures in
     let are = joined (c.counted-next.result / 65536) middle more c.args.digests.now

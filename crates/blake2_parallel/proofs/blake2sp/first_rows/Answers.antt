@@ -5,7 +5,7 @@ use Rattle.blake2_simd.specs.Family.{blake2s}
 use Rattle.blake2_simd.specs.Lanes.{in_lane}
 use Rattle.blake2_simd.proofs.Lanes.{in_eight}
 use Rattle.blake2_compress.specs.Hash.{parameter_block, parameter_words, start, words_of, xor_words}
-use Rattle.blake2_parallel.specs.Parallel.{Settings, node_parameters, settings}
+use Rattle.blake2_parallel.specs.Parallel.{Settings, parameters_at, settings}
 use Rattle.blake2_parallel.proofs.blake2sp.first_rows.Goals as goal
 
 pub returns : goal.returns
@@ -13,7 +13,7 @@ unfolding start parameter_words parameter_block words_of xor_words
 returns c j lane =
     let a : Settings =
     settings c.args.output_size c.args.key.now c.args.salt.now c.args.persona.now in
-    let from : ℕ → List ℕ = λ k. start blake2s (node_parameters blake2s a k 0) in
+    let from : ℕ → List ℕ = λ k. start blake2s (parameters_at blake2s a k 0) in
     let same : List ℕ → ℕ → List ℕ = λ h k. replicate 8 (slice_index h k) in
     let offset : List ℕ → ℕ → ℕ → ℕ = λ h k m. bit_xor (slice_index h k) m in
     let each : List ℕ → ℕ → List ℕ = λ h k.
