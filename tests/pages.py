@@ -19,10 +19,12 @@ from page_packages import wrong_in_packages
 from page_sources import LANGUAGES, Values, definition, find, one_spaced, paths
 from page_speeds import wrong_ratios
 from page_systems import check_platforms, check_systems
-from read_sources import anchor, modules
+from read_sources import anchor, modules, words_of
 
 WORD = re.compile(r"`([^`]+)`")
 FUNCTION = r"^///.*?^}$"
+# What several types of states have, each under the name of its own file.
+OF_EACH_TYPE = ("IsReady", "IsReadyFor", "Took", "WentOn", "count", "future", "meaning", "started", "zeros")
 
 
 def pages():
@@ -77,6 +79,23 @@ def check_must_fail():
                     yield f"{path}: its file has {text.count(old)} times {old!r}"
             elif word == "new":
                 text = text.replace(old, rest)
+
+
+def check_definitions():
+    """The names of definitions: in the crates that one file imports, each stands for one thing"""
+    crates = [path.split("/")[1] for path in paths("crates/*/specs/Lib.antt")]
+    owners = {}
+    for crate in crates:
+        for word in words_of(crate):
+            owners.setdefault(word.name, set()).add(crate)
+    imported = {frozenset([path.split("/")[1], *re.findall(r"\b(\w+)(?:\.|::)specs\b", read(path))])
+                for end in ("antt", "rt") for path in paths(f"crates/**/*.{end}") if "/out/" not in path}
+    for name, having in sorted(owners.items()):
+        together = any(len(having & crates) > 1 for crates in imported)
+        if together and name not in OF_EACH_TYPE:
+            yield f"{name} stands for things of {', '.join(sorted(having))}, which one file imports"
+        elif not together and name in OF_EACH_TYPE:
+            yield f"{name} is of one crate"
 
 
 def columns(path):
@@ -159,7 +178,8 @@ def node_words():
 
     def command(file, name, pattern):
         return number("b2_commands", file, name, pattern)
-    fanout, depth, inner = (tree("place", rf"\b{name} = ([0-9]+);") for name in ("fanout", "depth", "inner_length"))
+    fanout, depth, inner = (tree("tree_place", rf"\b{name} = ([0-9]+);")
+                            for name in ("fanout", "depth", "inner_length"))
     yield f"fanout {fanout}, depth {depth}, leaf length L, inner length {inner}"
     root = (tree("root_over", form) for form in (r"node p ([0-9]+) [0-9]+ true", r"node p [0-9]+ ([0-9]+) true"))
     yield f"| root | N | {' | '.join(root)} | on |"
@@ -377,10 +397,10 @@ def check_merges():
 def main():
     if sys.argv[1:]:
         sys.exit("usage: tests/pages.py")
-    for check in (check_clauses, check_edits, check_must_fail, check_columns, check_specification, check_version,
-                  check_files, check_crates, check_links, check_quotes, check_ratios, check_guides, check_names,
-                  check_numbers, check_commands, check_comments, check_reference, check_systems, check_platforms,
-                  check_symbolic_links, check_merges):
+    for check in (check_clauses, check_edits, check_must_fail, check_definitions, check_columns, check_specification,
+                  check_version, check_files, check_crates, check_links, check_quotes, check_ratios, check_guides,
+                  check_names, check_numbers, check_commands, check_comments, check_reference, check_systems,
+                  check_platforms, check_symbolic_links, check_merges):
         absent = check in (check_symbolic_links, check_merges) and not os.path.exists(os.path.join(TOP, ".git"))
         try:
             wrong = [] if absent else list(check())

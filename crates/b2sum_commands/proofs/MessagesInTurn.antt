@@ -8,7 +8,7 @@ use Rattle.std.specs.Io.KnownBytes.{Appends}
 use Rattle.b2sum_commands.specs.World.{World, IsWritten, HasMessage, HasMore, IsTold, IsEnded}
 use Rattle.b2sum_commands.specs.CommandLine.{Choice, End, Refused}
 use Rattle.b2sum_commands.specs.World.{Streams}
-use Rattle.b2sum_commands.specs.ProgramRuns.{DoesLine, RunsLine, IsRefused, status_of}
+use Rattle.b2sum_commands.specs.ProgramRuns.{DoesLine, RunsLine, RefusesLine, status_of}
 
 both_accepted : (b c : Bool) (x y z : Option (List ℕ)) (first second : List ℕ)
     → (b ≡ true → c ≡ true) → (b ≡ true) ⊎ Appends x y first → (c ≡ true) ⊎ Appends y z second
@@ -109,16 +109,16 @@ pub refused_told : (name : List ℕ) (w : World) (help version : List ℕ)
     → r ≡ Err Refused → RunsLine name w help version r old new end
     → (status_of end ≡ 1) × (new.held ≡ old.held) × IsTold old new
 refused_told name w help version r old new (Some true) is runs =
-    let does : IsRefused old new (Some true) =
+    let does : RefusesLine old new (Some true) =
     subst (λ r. DoesLine w help version r old new (Some true)) is runs in
     absurd (grind (arith, does.0))
 refused_told name w help version r old new (Some false) is runs =
-    let does : IsRefused old new (Some false) =
+    let does : RefusesLine old new (Some false) =
     subst (λ r. DoesLine w help version r old new (Some false)) is runs in
     (refl, does.1, does.2)
 refused_told name w help version r old new None is runs =
     let mid : Streams = runs.0 in
-    let does : IsRefused old mid None =
+    let does : RefusesLine old mid None =
     subst (λ r. DoesLine w help version r old mid None) is runs.1 in (
       refl,
       runs.2.held ∙ does.0,

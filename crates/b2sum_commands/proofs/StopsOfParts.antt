@@ -14,7 +14,7 @@ use Rattle.b2sum_commands.specs.CommandLine.{with_option, read_any, read_long, r
 use Rattle.b2sum_commands.specs.World.{Streams}
 use Rattle.b2sum_commands.specs.CommandLineViews.{StopsBy, IsPrinted}
 use Rattle.b2sum_commands.specs.World.{World}
-use Rattle.b2sum_commands.specs.ProgramRuns.{DoesLine, DoesChoice, IsRefused}
+use Rattle.b2sum_commands.specs.ProgramRuns.{DoesLine, DoesChoice, RefusesLine}
 use Rattle.b2sum_commands.specs.AcceptedOptions.{AreArguments, AreOptions, command_line}
 use Rattle.b2sum_commands.specs.declared.options.Arguments.{Arguments}
 
@@ -54,7 +54,7 @@ letters_stop s word rest result whole front first alone is h =
 
 -- An error that comes before all else ends what any command line means.
 pub nothing_done : (w : World) (help version : List ℕ)
-    (r : Result (Choice × List (List ℕ)) End) (old new : Streams) → IsRefused old new None
+    (r : Result (Choice × List (List ℕ)) End) (old new : Streams) → RefusesLine old new None
     → DoesLine w help version r old new None
 nothing_done w help version (Ok read) old new none = inr none.0
 nothing_done w help version (Err Helped) old new none = inl none.0
@@ -62,7 +62,7 @@ nothing_done w help version (Err Versioned) old new none = inl none.0
 nothing_done w help version (Err Refused) old new none = none
 
 no_memory : (w : World) (help version : List ℕ) (r : Result (Choice × List (List ℕ)) End)
-    (old new : Streams) (end : Option Bool) → end ≡ None → IsRefused old new None
+    (old new : Streams) (end : Option Bool) → end ≡ None → RefusesLine old new None
     → DoesLine w help version r old new end
 no_memory w help version r old new end is none =
     subst (DoesLine w help version r old new) (sym is) (nothing_done w help version r old new none)

@@ -8,7 +8,7 @@ use Rattle.b2sum_commands.specs.declared.options.Stop.TheVariants.{Value}
 use Rattle.b2sum_commands.specs.declared.options.Next as next
 use Rattle.b2sum_commands.specs.declared.options.Next.TheVariants.{Any, Awaited, File}
 use Rattle.b2sum_commands.specs.World.{Streams}
-use Rattle.b2sum_commands.specs.ProgramRuns.{PrintsText, IsRefused}
+use Rattle.b2sum_commands.specs.ProgramRuns.{PrintsText, RefusesLine}
 use Rattle.b2sum_commands.specs.CommandLine.{Choice, End, Helped, Versioned, Refused}
 use Rattle.b2sum_commands.specs.CommandLine.{Next, Anything, ValueOf, OnlyFile, ReadWords}
 
@@ -82,6 +82,6 @@ IsUnfit test NoMemory = ⊤
 abbrev pub IsPrinted : List ℕ → List ℕ → Streams → Streams → stop.Stop → Option Bool → Type 0
 IsPrinted help version old new Help end = PrintsText help old new end
 IsPrinted help version old new Version end = PrintsText version old new end
-IsPrinted help version old new (Usage line) end = IsRefused old new end
-IsPrinted help version old new (Value first second) end = IsRefused old new end
-IsPrinted help version old new NoMemory end = (end ≡ None) × IsRefused old new None
+IsPrinted help version old new (Usage line) end = RefusesLine old new end
+IsPrinted help version old new (Value first second) end = RefusesLine old new end
+IsPrinted help version old new NoMemory end = (end ≡ None) × RefusesLine old new None

@@ -82,9 +82,9 @@ PrintsText text old new None = StopsIn old.held new.held text
 
 -- Nothing is printed but a message. If there is no result, an error ended it, and there may be
 -- none.
-abbrev pub IsRefused : Streams → Streams → Option Bool → Type 0
-IsRefused old new (Some well) = (well ≡ false) × (new.held ≡ old.held) × IsTold old new
-IsRefused old new None = (new.held ≡ old.held)
+abbrev pub RefusesLine : Streams → Streams → Option Bool → Type 0
+RefusesLine old new (Some well) = (well ≡ false) × (new.held ≡ old.held) × IsTold old new
+RefusesLine old new None = (new.held ≡ old.held)
     × HasMore old.messages_failed new.messages_failed old.told new.told
 
 -- What a command line means is done, and all went well or not: the help, the version or only a
@@ -94,7 +94,7 @@ abbrev pub DoesLine : World → List ℕ → List ℕ → Result (Choice × List
     → Streams → Option Bool → Type 0
 DoesLine w help version (Err Helped) old new end = PrintsText help old new end
 DoesLine w help version (Err Versioned) old new end = PrintsText version old new end
-DoesLine w help version (Err Refused) old new end = IsRefused old new end
+DoesLine w help version (Err Refused) old new end = RefusesLine old new end
 DoesLine w help version (Ok read) old new end = DoesChoice w read.0 read.1 old new end
 
 -- A run of the program of this name did what its command line means, or an error ended that, as
