@@ -27,7 +27,7 @@ key_file_bytes w left name = if is_dash name then left else w.files.holds name
 abbrev pub HasKey : World → Option (List ℕ) → Choice → Options → Type 0
 HasKey w left c o =
     IfSome c.key_file (λ name.
-        IsKey (key_file_bytes w left name) (max_bytes o.algorithm) o.key.items)
+    IsKey (key_file_bytes w left name) (max_bytes o.algorithm) o.key.items)
 
 -- Standard input is at its end after the key, if that is there, and else as it was.
 abbrev pub IsPastKey : Bool → Option (List ℕ) → Option (List ℕ) → Type 0

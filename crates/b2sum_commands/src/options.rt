@@ -242,7 +242,7 @@ fn read_word(
 ) -> Result<Next, Stop>
     ensures read { IfOk result (λ after.
         read_next (next_of next)
-            (read_words_of reader.old (map (λ f. f.items) files.old.items) next)
+        (read_words_of reader.old (map (λ f. f.items) files.old.items) next)
         word.now ≡ Ok (read_words_of reader.new (map (λ f. f.items) files.new.items) after)) }
     ensures stop { IfErr result (StopsBy (read_next (next_of next)
         (read_words_of reader.old (map (λ f. f.items) files.old.items) next) word.now)) }
