@@ -38,9 +38,9 @@ OF_TEXT int MAIN(void);
 
 #if defined(__x86_64__) && !defined(CHOOSE_ONE)
 unsigned char vulfsjor_ffi_find(void);
-static int start(void) { return vulfsjor_ffi_find() ? MAIN() : 1; }
+static int run_main(void) { return vulfsjor_ffi_find() ? MAIN() : 1; }
 #else
-static int start(void) { return MAIN(); }
+static int run_main(void) { return MAIN(); }
 #endif
 
 #ifdef END
@@ -56,12 +56,12 @@ void *REALLOC(void *place, size_t size);
 static size_t count;
 static char **arguments;
 
-static int end(int status) { return END(status, count ? arguments[0] : ""); }
+static int end_program(int status) { return END(status, count ? arguments[0] : ""); }
 
 #ifdef _WIN32
 /* A copy of the text in UTF-8, in which U+FFFD replaces what is not Unicode, and / replaces \, which
  * is only in names of files: so a line of b2sum has the name that other systems have for the file. */
-static char *utf8(const wchar_t *text) {
+static char *utf8_of(const wchar_t *text) {
     const int size = WideCharToMultiByte(CP_UTF8, 0, text, -1, NULL, 0, NULL, NULL);
     char *copy = malloc((size_t)size + 1);
 
@@ -83,22 +83,22 @@ static void cut_suffix(char *path) {
 int wmain(int argc, wchar_t **argv) {
     arguments = malloc(((size_t)argc + 1) * sizeof *arguments);
     if (!arguments) abort();
-    for (count = 0; count < (size_t)argc; count++) arguments[count] = utf8(argv[count]);
+    for (count = 0; count < (size_t)argc; count++) arguments[count] = utf8_of(argv[count]);
     if (count) cut_suffix(arguments[0]);
     for (int file = 0; file <= 2; file++) _setmode(file, _O_BINARY);
-    return end(start());
+    return end_program(run_main());
 }
 
 /* At most 2^30 bytes a call, since lengths of Windows have 32 bits. */
-static unsigned some(size_t size) { return size < 1u << 30 ? (unsigned)size : 1u << 30; }
+static unsigned size_of_one_call(size_t size) { return size < 1u << 30 ? (unsigned)size : 1u << 30; }
 
 /* read and write of other systems. */
 OF_TEXT ssize_t b2_read(int file, void *bytes, size_t size) {
-    return _read(file, bytes, some(size));
+    return _read(file, bytes, size_of_one_call(size));
 }
 
 OF_TEXT ssize_t b2_write(int file, const void *bytes, size_t size) {
-    return _write(file, bytes, some(size));
+    return _write(file, bytes, size_of_one_call(size));
 }
 
 /* signal, which has nothing to do: a write to a pipe that nobody reads fails. */
@@ -111,7 +111,7 @@ OF_TEXT void *b2_signal(int signal, void *handler) {
 int main(int argc, char **argv) {
     count = (size_t)argc;
     arguments = argv;
-    return end(start());
+    return end_program(run_main());
 }
 #endif
 
@@ -138,25 +138,25 @@ _Static_assert(_Alignof(max_align_t) >= 16, "malloc aligns to 16 bytes");
 #endif
 
 /* Whether there is memory, and where. The place is never null. */
-struct tried {
+struct allocation {
     bool is_there;
     void *place;
 };
 
-static struct tried tried(void *place) {
+static struct allocation allocation_of(void *place) {
     static char nothing;
-    return (struct tried){place != NULL, place ? place : &nothing};
+    return (struct allocation){place != NULL, place ? place : &nothing};
 }
 
-OF_TEXT struct tried rattle_alloc(size_t size, size_t alignment) {
-    return tried(malloc(size ? size : alignment));
+OF_TEXT struct allocation rattle_alloc(size_t size, size_t alignment) {
+    return allocation_of(malloc(size ? size : alignment));
 }
 
 /* The first `kept` bytes stay as they are, as do all that fit. If there is no memory, the block
  * stays. */
-OF_TEXT struct tried rattle_realloc(void *place, size_t kept, size_t size, size_t alignment) {
+OF_TEXT struct allocation rattle_realloc(void *place, size_t kept, size_t size, size_t alignment) {
     (void)kept;
-    return tried(REALLOC(place, size ? size : alignment));
+    return allocation_of(REALLOC(place, size ? size : alignment));
 }
 
 OF_TEXT void rattle_dealloc(void *place) { FREE(place); }

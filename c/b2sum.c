@@ -145,7 +145,7 @@ static const char *name_of(const char *path) {
 
 /* Prints that something has failed, and why, as a message of the program of this path. Returns the
  * status for that. */
-static int complain(const char *path, const char *what) {
+static int print_failure(const char *path, const char *what) {
     dprintf(STDERR_FILENO, "%s: %s: %s\n", name_of(path), what, strerror(errno));
     return 1;
 }
@@ -158,9 +158,9 @@ int b2sum_end(int status, const char *path) {
     if (is_secret) wipe_stack();
     if (is_key_shared)
         dprintf(STDERR_FILENO, "%s: WARNING: others may read the key file\n", name_of(path));
-    if ((errno = close_error)) status = complain(path, "close error");
-    if (is_input_read && close(STDIN_FILENO)) status = complain(path, "standard input");
-    if (close(STDOUT_FILENO) && errno != EBADF) status = complain(path, "write error");
+    if ((errno = close_error)) status = print_failure(path, "close error");
+    if (is_input_read && close(STDIN_FILENO)) status = print_failure(path, "standard input");
+    if (close(STDOUT_FILENO) && errno != EBADF) status = print_failure(path, "write error");
     return close(STDERR_FILENO) && errno != EBADF ? 1 : status;
 }
 
@@ -185,7 +185,7 @@ HIDDEN OF_TEXT void b2sum_show_progress(void) __asm__(SYMBOL(SHOW_PROGRESS));
 OF_TEXT void b2sum_show_progress(void) { is_shown = is_terminal(STDERR_FILENO); }
 
 /* Begins with another file. */
-static void begin(int file, const char *name) {
+static void begin_progress(int file, const char *name) {
     size_t length = strlen(name);
     struct stat about;
 
@@ -196,13 +196,13 @@ static void begin(int file, const char *name) {
         if (*c < ' ' || *c > '~') *c = '?';
     shown.length = !fstat(file, &about) && S_ISREG(about.st_mode) ? (uint64_t)about.st_size : 0;
     shown.count = shown.printed = 0;
-    shown.start = now();
+    shown.start = milliseconds();
 }
 
 /* Prints the line of the file after half a second, and then ten times a second; or removes it. */
-static void show(bool is_read) {
+static void draw_progress(bool is_read) {
     char line[NAME_BYTES + 64];
-    uint64_t time = now();
+    uint64_t time = milliseconds();
     int length;
 
     if (is_read && (time - shown.start < 500 || time - shown.printed < 100)) return;
@@ -219,17 +219,17 @@ static void show(bool is_read) {
 }
 
 /* Counts what a read of this file has returned. */
-static void note(int file, ssize_t count) {
-    if (file != shown.file) begin(file, file ? "" : "-");
+static void count_progress(int file, ssize_t count) {
+    if (file != shown.file) begin_progress(file, file ? "" : "-");
     if (count > 0) shown.count += (uint64_t)count;
-    show(count > 0);
+    draw_progress(count > 0);
 }
 
 /* ---- Files. */
 
 /* A name that is not UTF-8, or that has a byte 0xF4, comes with each of its bytes from 0x80 on as
  * the character U+10FF00 + byte, which UTF-8 writes in four bytes. This turns these back. */
-static void decode(char *name) {
+static void decode_name(char *name) {
     const unsigned char *from = (const unsigned char *)name;
     unsigned char *to = (unsigned char *)name;
 
@@ -272,13 +272,13 @@ __attribute__((noinline)) static int open_file(const char *name) {
         return -1;
     }
     strcpy(path, name);
-    decode(path);
+    decode_name(path);
     do file = open_path(path);
     while (file < 0 && errno == EINTR);
     file = move_up(file);
     if (file < 0) return -1;
     read_ahead(file);
-    if (is_shown) begin(file, path);
+    if (is_shown) begin_progress(file, path);
     return file;
 }
 
@@ -306,7 +306,7 @@ OF_TEXT ssize_t b2sum_read(int file, void *bytes, size_t size) {
     error = errno;
     if (file == STDIN_FILENO) is_input_read = true;
     is_key_next = false;
-    if (is_shown) note(file, count);
+    if (is_shown) count_progress(file, count);
     errno = error;
     return count;
 }
@@ -327,22 +327,22 @@ static off_t large_from(int file) {
 }
 
 /* Shows that this many bytes were read after those before. */
-static int report(void *before, uint64_t count) {
+static int report_by_threads(void *before, uint64_t count) {
     shown.count = *(const uint64_t *)before + count;
-    show(true);
+    draw_progress(true);
     return 0;
 }
 
 /* Absorbs a large regular file from its position to its end, by this many threads, and moves the
  * position. If it is none, or cannot be read so, nothing changes. */
-static void absorb(int file, unsigned threads, vulfsjor_tree_state *state) {
+static void absorb_large_file(int file, unsigned threads, vulfsjor_tree_state *state) {
     const off_t from = large_from(file);
     uint64_t before;
 
     if (from < 0) return;
-    if (is_shown) note(file, 0);
+    if (is_shown) count_progress(file, 0);
     before = shown.count;
-    if (!vulfsjor_tree_update_fd(state, file, threads, is_shown ? report : NULL, &before)) return;
+    if (!vulfsjor_tree_update_fd(state, file, threads, is_shown ? report_by_threads : NULL, &before)) return;
     shown.count = before;
     if (lseek(file, from, SEEK_SET) != from) abort();
 }
@@ -357,6 +357,6 @@ static void absorb(int file, unsigned threads, vulfsjor_tree_state *state) {
 HIDDEN OF_TEXT bool b2sum_absorb_tree(ARGUMENTS) __asm__(SYMBOL(ABSORB_TREE));
 HIDDEN OF_TEXT bool b2sum_absorb_proved(ARGUMENTS) __asm__(SYMBOL(PROVED_TREE));
 OF_TEXT bool b2sum_absorb_tree(ARGUMENTS) {
-    absorb(file, threads, state);
+    absorb_large_file(file, threads, state);
     return b2sum_absorb_proved(source, file, threads, state, room, size);
 }

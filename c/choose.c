@@ -146,7 +146,7 @@ enum {
  * completely, 4, 3 or 2, or 0 if it is below 2. Level 3 also requires that the system saves the
  * registers of SSE and AVX (XCR0, bits 1 and 2), and level 4 those of AVX-512: the masks, the
  * upper halves, and the upper 16 registers (bits 5 to 7). */
-static unsigned char level_here(void) {
+static unsigned char level_of_processor(void) {
     const unsigned v2 = SSE3 | SSSE3 | CMPXCHG16B | SSE4_1 | SSE4_2 | POPCNT;
     const unsigned v3 = FMA | MOVBE | OSXSAVE | AVX | F16C, v3_seventh = BMI1 | AVX2 | BMI2;
     const unsigned v4_seventh = AVX512F | AVX512DQ | AVX512CD | AVX512BW | AVX512VL;
@@ -162,19 +162,19 @@ static unsigned char level_here(void) {
     return (seventh & v4_seventh) == v4_seventh && (saved & 0xe6) == 0xe6 ? 4 : 3;
 }
 
-static void keep(unsigned char level) {
+static void store_level(unsigned char level) {
     __atomic_store_n(&vulfsjor_ffi_level, level, __ATOMIC_RELAXED);
 }
 #elif CHOOSE_TEST < 10
-static unsigned char level_here(void) { return CHOOSE_TEST; }
-static void keep(unsigned char level) { vulfsjor_ffi_level = level; }
+static unsigned char level_of_processor(void) { return CHOOSE_TEST; }
+static void store_level(unsigned char level) { vulfsjor_ffi_level = level; }
 #else
-static unsigned char level_here(void) {
+static unsigned char level_of_processor(void) {
     static unsigned turn;
     turn = turn * 1664525u + 1013904223u;
     return 2 + (turn >> 16) % (CHOOSE_TEST % 10 - 1);
 }
-static void keep(unsigned char level) { (void)level; }
+static void store_level(unsigned char level) { (void)level; }
 #endif
 
 #ifndef CHOOSE_PART
@@ -182,13 +182,13 @@ static void keep(unsigned char level) { (void)level; }
 __attribute__((used)) HIDDEN unsigned char vulfsjor_ffi_find(void) {
     static const char refusal[] =
         "vulfsjor: this processor is below x86-64-v2, which the library needs\n";
-    unsigned char level = level_here();
+    unsigned char level = level_of_processor();
 
     if (!level) {
         if (write(2, refusal, sizeof refusal - 1) < 0) abort();
         abort();
     }
-    keep(level);
+    store_level(level);
     return level;
 }
 #endif

@@ -45,9 +45,9 @@ typedef struct gate {
 } gate;
 #define GATE {PTHREAD_MUTEX_INITIALIZER, PTHREAD_COND_INITIALIZER}
 
-static inline void enter(gate *it) { pthread_mutex_lock(&it->lock); }
-static inline void leave(gate *it) { pthread_mutex_unlock(&it->lock); }
-static inline void wait_in(gate *it) { pthread_cond_wait(&it->changed, &it->lock); }
+static inline void lock_gate(gate *it) { pthread_mutex_lock(&it->lock); }
+static inline void unlock_gate(gate *it) { pthread_mutex_unlock(&it->lock); }
+static inline void wait_in_gate(gate *it) { pthread_cond_wait(&it->changed, &it->lock); }
 static inline void wake_all(gate *it) { pthread_cond_broadcast(&it->changed); }
 
 /* Starts up to count threads, and returns how many: the system may have no more. They block all
@@ -79,7 +79,7 @@ static inline int begin_call(void) {
 static inline void end_call(int before) { pthread_setcancelstate(before, NULL); }
 
 /* The number of processors that the caller's thread may run on. */
-static inline unsigned processors(void) {
+static inline unsigned processor_count(void) {
     long n;
 #ifdef CPU_COUNT
     cpu_set_t set;
@@ -134,7 +134,7 @@ static inline bool is_shared(int file) {
 static inline bool is_terminal(int file) { return isatty(file); }
 
 /* A time in milliseconds. */
-static inline uint64_t now(void) {
+static inline uint64_t milliseconds(void) {
     struct timespec t;
 
     clock_gettime(CLOCK_MONOTONIC, &t);
@@ -177,9 +177,9 @@ typedef struct gate {
 } gate;
 #define GATE {SRWLOCK_INIT, CONDITION_VARIABLE_INIT}
 
-static inline void enter(gate *it) { AcquireSRWLockExclusive(&it->lock); }
-static inline void leave(gate *it) { ReleaseSRWLockExclusive(&it->lock); }
-static inline void wait_in(gate *it) {
+static inline void lock_gate(gate *it) { AcquireSRWLockExclusive(&it->lock); }
+static inline void unlock_gate(gate *it) { ReleaseSRWLockExclusive(&it->lock); }
+static inline void wait_in_gate(gate *it) {
     SleepConditionVariableSRW(&it->changed, &it->lock, INFINITE, 0);
 }
 static inline void wake_all(gate *it) { WakeAllConditionVariable(&it->changed); }
@@ -203,7 +203,7 @@ static inline int begin_call(void) { return 0; }
 
 static inline void end_call(int before) { (void)before; }
 
-static inline unsigned processors(void) {
+static inline unsigned processor_count(void) {
     DWORD_PTR own, all;
 
     if (!GetProcessAffinityMask(GetCurrentProcess(), &own, &all) || !own) return 1;
@@ -330,7 +330,7 @@ static inline bool is_terminal(int file) {
            SetConsoleMode(handle, mode | ENABLE_VIRTUAL_TERMINAL_PROCESSING);
 }
 
-static inline uint64_t now(void) { return GetTickCount64(); }
+static inline uint64_t milliseconds(void) { return GetTickCount64(); }
 
 static inline size_t size_of_block(void *place) { return place ? _msize(place) : 0; }
 

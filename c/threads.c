@@ -76,7 +76,7 @@ static int init_leaf(const job *j, vulfsjor_blake2b_state *leaf, const vulfsjor_
 }
 
 /* Reports this number, in the caller's thread. Returns 0 or an error. */
-static int report(const job *j, uint64_t count) {
+static int report_progress(const job *j, uint64_t count) {
     return j->progress && j->progress(j->context, count) ? ECANCELED : 0;
 }
 
@@ -86,11 +86,11 @@ static int count_bytes(job *j, uint64_t length, int reports) {
     uint64_t count;
     int error;
 
-    enter(&j->gate);
+    lock_gate(&j->gate);
     count = j->count += length;
     error = j->error;
-    leave(&j->gate);
-    return error || !reports ? error : report(j, count);
+    unlock_gate(&j->gate);
+    return error || !reports ? error : report_progress(j, count);
 }
 
 /* Writes the digest of a leaf of the file, which is longer than the buffer, and counts its bytes but
@@ -142,15 +142,15 @@ static int hash_part(job *j, vulfsjor_part *part, unsigned char *buffer, size_t 
 static int take_part(job *j, uint64_t *i, vulfsjor_part *part) {
     int error;
 
-    enter(&j->gate);
+    lock_gate(&j->gate);
     while (!j->error && j->next < j->plan.part_count && j->next - j->absorbed >= j->rooms)
-        wait_in(&j->gate);
+        wait_in_gate(&j->gate);
     error = j->error;
     if (!error && j->next >= j->plan.part_count) error = -1;
     *i = j->next;
     if (!error && vulfsjor_tree_part(part, &j->plan, *i)) error = EINVAL;
     if (!error) j->next++;
-    leave(&j->gate);
+    unlock_gate(&j->gate);
     return error;
 }
 
@@ -177,16 +177,16 @@ static int put_part(job *j, uint64_t i) {
     int error;
 
     if (j->state) return 0;
-    enter(&j->gate);
+    lock_gate(&j->gate);
     j->digests[j->rooms * j->room + i % j->rooms] = 1;
     error = absorb_digests(j);
     wake_all(&j->gate);
-    leave(&j->gate);
+    unlock_gate(&j->gate);
     return error;
 }
 
 /* What each thread does. That of the caller reports what all have done. */
-static void hash(job *j, int reports) {
+static void hash_in_thread(job *j, int reports) {
     size_t room = j->bytes ? 0 : j->plan.part_length;
     unsigned char *buffer = NULL;
     uint64_t i;
@@ -202,14 +202,14 @@ static void hash(job *j, int reports) {
     }
     free(buffer);
     if (error <= 0) return;
-    enter(&j->gate);
+    lock_gate(&j->gate);
     if (!j->error) j->error = error;
     wake_all(&j->gate);
-    leave(&j->gate);
+    unlock_gate(&j->gate);
 }
 
-static thread_result THREAD_CALL run(void *given) {
-    hash(given, 0);
+static thread_result THREAD_CALL thread_main(void *given) {
+    hash_in_thread(given, 0);
     return 0;
 }
 
@@ -219,7 +219,7 @@ static vulfsjor_limits limits_of(const job *j, unsigned threads) {
     const uint64_t most = (uint64_t)j->leaf_length * PART_LEAVES;
 
     if (most < PART_BYTES) limits.part_bytes = most;
-    if (!threads) limits.threads = processors();
+    if (!threads) limits.threads = processor_count();
     if (limits.threads > MOST_THREADS) limits.threads = MOST_THREADS;
     if (!j->bytes) limits.most_bytes = MOST_BUFFER_BYTES;
     return limits;
@@ -259,8 +259,8 @@ static int hash_parts(job *j) {
     int error = make_room(j);
 
     if (error) return error;
-    started = start_threads(others, (unsigned)j->plan.threads - 1, run, j);
-    hash(j, 1);
+    started = start_threads(others, (unsigned)j->plan.threads - 1, thread_main, j);
+    hash_in_thread(j, 1);
     for (i = 0; i < started; i++) join_thread(others[i]);
     if (j->error) free(j->digests);
     return j->error;
@@ -300,7 +300,7 @@ static int root_of_bytes(job *j, void *out, size_t outlen, size_t inlen, unsigne
 
 /* Reads until the buffer is full or the file ends, and sets *length to the bytes that were read.
  * Returns 0 or an error. */
-static int fill(int file, unsigned char *buffer, size_t room, size_t *length) {
+static int fill_buffer(int file, unsigned char *buffer, size_t room, size_t *length) {
     ssize_t n;
 
     *length = 0;
@@ -317,9 +317,9 @@ static int update_by_stream(job *j, vulfsjor_tree_state *S, unsigned char *buffe
     int error = 0;
 
     while (!error && length == PART_BYTES) {
-        error = fill(j->file, buffer, PART_BYTES, &length);
+        error = fill_buffer(j->file, buffer, PART_BYTES, &length);
         if (!error && vulfsjor_tree_update(S, buffer, length)) error = EFBIG;
-        if (!error && length) error = report(j, j->count += length);
+        if (!error && length) error = report_progress(j, j->count += length);
     }
     return error;
 }
@@ -373,7 +373,7 @@ static int root_of_file(job *j, void *out, size_t outlen, unsigned threads) {
 /* ---- Updates of a state, which is ready. After an error the state is of no use. */
 
 /* Absorbs the input of the job. Returns 0 or an error. */
-static int update(job *j, vulfsjor_tree_state *S, size_t inlen, unsigned threads) {
+static int absorb_input(job *j, vulfsjor_tree_state *S, size_t inlen, unsigned threads) {
     const unsigned char *in = j->bytes;
     vulfsjor_limits limits = limits_of(j, threads);
     int error, status;
@@ -399,7 +399,7 @@ static int update_by_one(job *j, vulfsjor_tree_state *S, size_t digests_length, 
         size_t n = end - at < PART_BYTES ? (size_t)(end - at) : PART_BYTES;
         if ((error = read_at(j->file, buffer, n, j->from + at))) return error;
         if (vulfsjor_tree_update_leaves(S, j->digests, digests_length, buffer, n)) return EINVAL;
-        if ((error = report(j, j->count += n))) return error;
+        if ((error = report_progress(j, j->count += n))) return error;
         digests_length = 0;
         at += n;
     }
@@ -452,7 +452,7 @@ static int is_accepted(const job *j, size_t outlen) {
 
 /* Ends a call that began with begin_call: a thread that is canceled within one would lose memory,
  * files and threads. */
-static int answer(int error, int before) {
+static int finish_call(int error, int before) {
     end_call(before);
     if (error) errno = error;
     return error ? -1 : 0;
@@ -467,7 +467,7 @@ int vulfsjor_tree_root_threads(void *out, size_t outlen, const void *in, size_t 
 
     if (out && (in || !inlen) && is_accepted(&j, outlen))
         error = root_of_bytes(&j, out, outlen, inlen, threads);
-    return answer(error, before);
+    return finish_call(error, before);
 }
 
 int vulfsjor_tree_root_fd(void *out, size_t outlen, int fd, const void *salt, size_t saltlen,
@@ -477,7 +477,7 @@ int vulfsjor_tree_root_fd(void *out, size_t outlen, int fd, const void *salt, si
     int before = begin_call(), error = EINVAL;
 
     if (out && is_accepted(&j, outlen)) error = root_of_file(&j, out, outlen, threads);
-    return answer(error, before);
+    return finish_call(error, before);
 }
 
 int vulfsjor_tree_root_file(void *out, size_t outlen, const char *path, const void *salt,
@@ -491,7 +491,7 @@ int vulfsjor_tree_root_file(void *out, size_t outlen, const char *path, const vo
         error = j.file < 0 ? errno : root_of_file(&j, out, outlen, threads);
         if (j.file >= 0) close(j.file);
     }
-    return answer(error, before);
+    return finish_call(error, before);
 }
 
 int vulfsjor_tree_update_threads(vulfsjor_tree_state *S, const void *in, size_t inlen,
@@ -503,9 +503,9 @@ int vulfsjor_tree_update_threads(vulfsjor_tree_state *S, const void *in, size_t 
     if (S && (in || !inlen)) {
         next = *S;
         j.leaf_length = vulfsjor_tree_leaf_length(S);
-        if (!(error = update(&j, &next, inlen, threads))) *S = next;
+        if (!(error = absorb_input(&j, &next, inlen, threads))) *S = next;
     }
-    return answer(error, before);
+    return finish_call(error, before);
 }
 
 int vulfsjor_tree_update_fd(vulfsjor_tree_state *S, int fd, unsigned threads,
@@ -523,5 +523,5 @@ int vulfsjor_tree_update_fd(vulfsjor_tree_state *S, int fd, unsigned threads,
         free(buffer);
         if (!error) *S = next;
     }
-    return answer(error, before);
+    return finish_call(error, before);
 }

@@ -22,7 +22,7 @@
     OF_TEXT type name##_one parameters NAMED(name, TEXT(CHOOSE_ONE));
 #define CHOSEN(name, arguments) name##_one arguments
 #else
-static unsigned char level(void) {
+static unsigned char chosen_level(void) {
     unsigned char found = __atomic_load_n(&vulfsjor_ffi_level, __ATOMIC_RELAXED);
     return found ? found : vulfsjor_ffi_find();
 }
@@ -31,8 +31,8 @@ static unsigned char level(void) {
     OF_TEXT type name##_v3 parameters NAMED(name, "v3"); \
     OF_TEXT type name##_v4 parameters NAMED(name, "v4");
 #define CHOSEN(name, arguments)               \
-    (level() > 3   ? name##_v4 arguments      \
-     : level() > 2 ? name##_v3 arguments      \
+    (chosen_level() > 3   ? name##_v4 arguments      \
+     : chosen_level() > 2 ? name##_v3 arguments      \
                    : name##_v2 arguments)
 #endif
 

@@ -17,43 +17,43 @@ enum { STRIPE = 512, LONGEST = 12 * STRIPE };
 
 static uint8_t message[LONGEST], key[MAX], wanted[MAX], out[MAX];
 
-static uint32_t below(size_t most) { return random_number() % (uint32_t)most; }
+static uint32_t random_below(size_t most) { return random_number() % (uint32_t)most; }
 
 /* A length that is often near the end of a block or a stripe. */
 static size_t random_length(void) {
-    const size_t unit = below(2) ? BLOCK : STRIPE;
-    const size_t near = below(LONGEST / (uint32_t)unit) * unit + below(5);
-    return below(4) ? near - (near >= 2 ? 2 : near) : below(LONGEST);
+    const size_t unit = random_below(2) ? BLOCK : STRIPE;
+    const size_t near = random_below(LONGEST / (uint32_t)unit) * unit + random_below(5);
+    return random_below(4) ? near - (near >= 2 ? 2 : near) : random_below(LONGEST);
 }
 
 /* Absorbs the message in random pieces, in ours and sometimes in libb2's too. */
-static void take(state_t *ours, X(_state) *theirs, size_t length) {
-    const size_t most = below(3) ? 2 * STRIPE : 50;
+static void absorb_in_pieces(state_t *ours, X(_state) *theirs, size_t length) {
+    const size_t most = random_below(3) ? 2 * STRIPE : 50;
     for (size_t at = 0, n; at < length; at += n) {
-        n = 1 + below(most);
+        n = 1 + random_below(most);
         if (n > length - at) n = length - at;
         CHECK(BLAKE(update)(ours, message + at, n) == 0);
         if (theirs) CHECK(X(_update)(theirs, message + at, n) == 0);
     }
 }
 
-static void compare(size_t size, size_t keylen, size_t length) {
+static void compare_digests(size_t size, size_t keylen, size_t length) {
     state_t state, copy;
     X(_state) theirs;
     CHECK(BLAKE2(wanted, message, key, size, length, keylen) == 0);
     CHECK(ONE_CALL(out, size, message, length, keylen ? key : NULL, keylen) == 0 && !memcmp(out, wanted, size));
     CHECK((keylen ? BLAKE(init_key)(&state, size, key, keylen) : BLAKE(init)(&state, size)) == 0);
-    if (below(2)) { /* other bytes, which a reset discards */
-        take(&state, NULL, random_length());
+    if (random_below(2)) { /* other bytes, which a reset discards */
+        absorb_in_pieces(&state, NULL, random_length());
         CHECK(BLAKE(reset)(&state) == 0);
     }
     CHECK((keylen ? X(_init_key)(&theirs, size, key, keylen) : X(_init)(&theirs, size)) == 0);
-    take(&state, below(4) ? NULL : &theirs, length);
+    absorb_in_pieces(&state, random_below(4) ? NULL : &theirs, length);
     CHECK(BLAKE(count)(&state) == length);
     copy = state;
     CHECK(BLAKE(verify)(&copy, wanted, size) == (keylen ? 0 : -1));
     copy = state;
-    wanted[below(size)] ^= (uint8_t)(1 << below(8));
+    wanted[random_below(size)] ^= (uint8_t)(1 << random_below(8));
     CHECK(BLAKE(verify)(&copy, wanted, size) == -1);
     CHECK(BLAKE2(wanted, message, key, size, length, keylen) == 0);
     CHECK(BLAKE(final)(&state, out, size) == 0 && !memcmp(out, wanted, size));
@@ -65,7 +65,7 @@ int main(int argc, char **argv) {
     for (int i = 0, cases = atoi(argv[1]); i < cases; i++) {
         for (size_t k = 0; k < LONGEST; k++) message[k] = (uint8_t)random_number();
         for (size_t k = 0; k < MAX; k++) key[k] = (uint8_t)random_number();
-        compare(1 + below(MAX), below(2) ? 0 : 1 + below(MAX), random_length());
+        compare_digests(1 + random_below(MAX), random_below(2) ? 0 : 1 + random_below(MAX), random_length());
     }
     printf("%s cases, %d checks, %d failures\n", argv[1], checks, fails);
     return fails != 0;

@@ -14,15 +14,15 @@
 #include <sys/types.h>
 #include <unistd.h>
 
-struct tried {
+struct allocation {
     bool is_there;
     void *place;
 };
 ssize_t rattle_arg(size_t i, char *bytes, size_t size);
 int rattle_errno(void);
 void rattle_set_errno(int error);
-struct tried rattle_alloc(size_t size, size_t alignment);
-struct tried rattle_realloc(void *place, size_t kept, size_t size, size_t alignment);
+struct allocation rattle_alloc(size_t size, size_t alignment);
+struct allocation rattle_realloc(void *place, size_t kept, size_t size, size_t alignment);
 void rattle_dealloc(void *place);
 
 static int fails;
@@ -89,7 +89,7 @@ static void check_errno(void) {
 static void check_memory(void) {
     static const size_t sizes[] = {0, 1, 15, 16, 17, 4096, 1 << 20};
     unsigned char *bytes;
-    struct tried block, more;
+    struct allocation block, more;
 
     for (size_t i = 0; i < sizeof sizes / sizeof *sizes; i++) {
         block = rattle_alloc(sizes[i], 16);

@@ -12,13 +12,13 @@ static int asked_file, returned;
 static const void *asked_bytes;
 static unsigned asked;
 
-static int noted(int file, const void *bytes, unsigned size) {
+static int record_call(int file, const void *bytes, unsigned size) {
     asked_file = file, asked_bytes = bytes, asked = size;
     return returned;
 }
 
-#define _read noted
-#define _write noted
+#define _read record_call
+#define _write record_call
 #include "../b2.c"
 
 /* Whether a call with this length asks for `wanted` bytes, and returns what it gets. */

@@ -43,7 +43,7 @@ static int fails;
 static char opened[4200];
 static int opened_in, opened_flags, opened_as = 9, interrupts, error_of_calls, calls;
 
-static int fault(void) {
+static int result_of_call(void) {
     calls++;
     errno = interrupts > 0 ? EINTR : error_of_calls;
     return interrupts-- > 0 || error_of_calls ? -1 : 0;
@@ -53,7 +53,7 @@ int __wrap_openat(int folder, const char *name, int flags, ...) {
     opened_in = folder;
     opened_flags = flags;
     strcpy(opened, name);
-    return fault() ? -1 : opened_as;
+    return result_of_call() ? -1 : opened_as;
 }
 
 /* The file that is read from its start to its end, as the system is advised. */
@@ -97,7 +97,7 @@ static int read_from;
 ssize_t __wrap_readv(int file, const struct iovec *room, int count) {
     read_from = file;
     CHECK(count == 1);
-    if (fault()) return -1;
+    if (result_of_call()) return -1;
     if (next_count > 0 && next_count <= (ssize_t)room->iov_len)
         memset(room->iov_base, 'r', (size_t)next_count);
     return next_count;
@@ -342,7 +342,7 @@ bool proved_tree(ARGUMENTS) {
 
 /* Whether the function calls the proved one once, with its arguments, and returns what that
  * returns; and, before that, this many updates by threads, of the same file. */
-static int absorbs(int file, int updates) {
+static int absorbs_once(int file, int updates) {
     static vulfsjor_tree_state state;
     static char source, buffer[7];
     bool result;
@@ -371,15 +371,15 @@ static void check_trees(void) {
 
     for (int result = 0; result < 2; result++) {
         proved.result = result;
-        CHECK(lseek(large, 7, SEEK_SET) == 7 && absorbs(large, 1));
+        CHECK(lseek(large, 7, SEEK_SET) == 7 && absorbs_once(large, 1));
         CHECK(lseek(large, 0, SEEK_CUR) == 8); /* the update is where it stopped */
     }
-    CHECK(absorbs(large, 0) && absorbs(small, 0) && absorbs(none, 0));
+    CHECK(absorbs_once(large, 0) && absorbs_once(small, 0) && absorbs_once(none, 0));
     CHECK(lseek(small, 0, SEEK_CUR) == 8 && lseek(none, 0, SEEK_CUR) == 9);
-    CHECK(!pipe(ends) && absorbs(ends[0], 0) && absorbs(-1, 0));
+    CHECK(!pipe(ends) && absorbs_once(ends[0], 0) && absorbs_once(-1, 0));
     proved.result = true;
     update.status = -1;
-    CHECK(lseek(large, 7, SEEK_SET) == 7 && absorbs(large, 1));
+    CHECK(lseek(large, 7, SEEK_SET) == 7 && absorbs_once(large, 1));
     CHECK(lseek(large, 0, SEEK_CUR) == 7); /* nothing was read */
     update.status = 0;
     __real_close(large);
@@ -535,7 +535,7 @@ static void check_secrets(void) {
 
 /* Reads this many bytes at this time, and returns whether that writes these. Of many bytes only the
  * number is known. */
-static int shows(long long at, ssize_t count, const char *wanted) {
+static int shows_progress(long long at, ssize_t count, const char *wanted) {
     static char bytes[1 << 20];
     int is_same;
 
@@ -555,19 +555,19 @@ static void check_progress(void) {
 
     time_now = 1000;
     CHECK(opens_as("some\x1f\x7f\xf4\x8f\xbf\xbf ~", "some\x1f\x7f\xff ~"));
-    CHECK(shows(1499, 1 << 20, "") && shows(1500, 1 << 20, "\rsome??? ~: 2 MiB\033[K"));
-    CHECK(shows(1599, 1 << 20, "") && shows(1600, (1 << 20) - 1, "\rsome??? ~: 3 MiB\033[K"));
-    CHECK(shows(1601, 0, "\r\033[K") && shows(1602, 0, ""));
+    CHECK(shows_progress(1499, 1 << 20, "") && shows_progress(1500, 1 << 20, "\rsome??? ~: 2 MiB\033[K"));
+    CHECK(shows_progress(1599, 1 << 20, "") && shows_progress(1600, (1 << 20) - 1, "\rsome??? ~: 3 MiB\033[K"));
+    CHECK(shows_progress(1601, 0, "\r\033[K") && shows_progress(1602, 0, ""));
     memset(name, 'n', 49);
     strcpy(name + 41, "end");
     CHECK(opens_as(name, name));
     time_now = 2000;
-    CHECK(shows(2600, 1, "\rnnnnnnnnnnnnnnnnnnnnnnnnnnnnnnnnnnnnnend: 0 MiB\033[K"));
+    CHECK(shows_progress(2600, 1, "\rnnnnnnnnnnnnnnnnnnnnnnnnnnnnnnnnnnnnnend: 0 MiB\033[K"));
     write_fails = 1;
-    CHECK(shows(2700, 1, "\rnnnnnnnnnnnnnnnnnnnnnnnnnnnnnnnnnnnnnend: 0 MiB\033[K"));
+    CHECK(shows_progress(2700, 1, "\rnnnnnnnnnnnnnnnnnnnnnnnnnnnnnnnnnnnnnend: 0 MiB\033[K"));
     write_fails = 0;
-    CHECK(shows(2701, 0, ""));
-    CHECK(shows(2801, 1, "\rnnnnnnnnnnnnnnnnnnnnnnnnnnnnnnnnnnnnnend: 0 MiB\033[K"));
+    CHECK(shows_progress(2701, 0, ""));
+    CHECK(shows_progress(2801, 1, "\rnnnnnnnnnnnnnnnnnnnnnnnnnnnnnnnnnnnnnend: 0 MiB\033[K"));
     write_fails = 1;
     error_of_calls = EIO;
     CHECK(b2sum_read(9, name, 1) == -1 && errno == EIO && !strcmp(written, "\r\033[K"));
@@ -591,10 +591,10 @@ static void check_length(void) {
     time_now = 5000;
     memset(name, 'n', sizeof name - 1);
     sprintf(line, "\r%s: 4294967297 MiB of 1048576\033[K", name);
-    CHECK(opens_as(name, name) && shows(5100, (ssize_t)1 << 52, "") && shows(5500, 1 << 20, line));
+    CHECK(opens_as(name, name) && shows_progress(5100, (ssize_t)1 << 52, "") && shows_progress(5500, 1 << 20, line));
     sprintf(line, "\r%s: 4398046511105 MiB of 1048576\033[K", name);
-    CHECK(shows(5550, ((ssize_t)1 << 62) - ((ssize_t)1 << 52), "") && shows(5600, 0, "\r\033[K"));
-    CHECK(opens_as(name, name) && shows(6000, (ssize_t)1 << 62, "") && shows(6500, 1 << 20, line));
+    CHECK(shows_progress(5550, ((ssize_t)1 << 62) - ((ssize_t)1 << 52), "") && shows_progress(5600, 0, "\r\033[K"));
+    CHECK(opens_as(name, name) && shows_progress(6000, (ssize_t)1 << 62, "") && shows_progress(6500, 1 << 20, line));
     __real_close(9);
 }
 
@@ -606,13 +606,13 @@ static void check_tree(void) {
     CHECK(dup2(file, 0) == 0 && !__real_close(file));
     time_now = 7000;
     update.reports = 2;
-    CHECK(absorbs(0, 1) && !strcmp(written, "\r-: 1 MiB of 5\033[K\r-: 2 MiB of 5\033[K"));
+    CHECK(absorbs_once(0, 1) && !strcmp(written, "\r-: 1 MiB of 5\033[K\r-: 2 MiB of 5\033[K"));
     written[0] = 0;
     update.status = -1;
-    CHECK(absorbs(0, 1) && !strcmp(written, "\r\033[K\r-: 3 MiB of 5\033[K\r-: 4 MiB of 5\033[K"));
+    CHECK(absorbs_once(0, 1) && !strcmp(written, "\r\033[K\r-: 3 MiB of 5\033[K\r-: 4 MiB of 5\033[K"));
     written[0] = 0;
     update.more = (uint64_t)1 << 40;
-    CHECK(absorbs(0, 1) &&
+    CHECK(absorbs_once(0, 1) &&
           !strcmp(written, "\r\033[K\r-: 1048579 MiB of 5\033[K\r-: 1048580 MiB of 5\033[K"));
     update.more = 0;
     update.status = update.reports = written[0] = 0;
@@ -640,7 +640,7 @@ int checks(void) {
         check_tree();
     } else {
         CHECK(opens_as("a", "a"));
-        CHECK(shows(1000, 1, "") && shows(9000, 1, "") && shows(9999, 0, ""));
+        CHECK(shows_progress(1000, 1, "") && shows_progress(9000, 1, "") && shows_progress(9999, 0, ""));
     }
     check_open();
     check_signal();

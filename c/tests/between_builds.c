@@ -79,7 +79,7 @@ static uint32_t random_below(uint32_t most) {
 }
 
 /* The same calls on a state that stays in one build, each in turn, and on one that crosses. */
-static void run(int kind) {
+static void compare_builds(int kind) {
     static const size_t sizes[KINDS] = {sizeof(vulfsjor_blake2b_state),
                                         sizeof(vulfsjor_blake2s_state),
                                         sizeof(vulfsjor_tree_state)};
@@ -124,7 +124,7 @@ int main(int count, char **names) {
     }
     check(builds[0] != builds[1], "there are two modules", 0, 0);
     for (int kind = 0; kind < KINDS; kind++)
-        for (int i = 0; i < 4000; i++) run(kind);
+        for (int i = 0; i < 4000; i++) compare_builds(kind);
     printf("%lu checks, %lu failures\n", checks, fails);
     return fails != 0;
 }

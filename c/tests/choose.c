@@ -30,7 +30,7 @@ typedef uint32_t half;
 #define PARAMETERS                                                                            \
     number a, number b, number c, number d, number e, number f, uint8_t g, uint8_t h, half i, \
         number j, uint8_t k, uint8_t l, number m, number n, number o, number p
-static number weighed(PARAMETERS) {
+static number weighted_sum(PARAMETERS) {
     return 2 * a + 3 * b + 5 * c + 7 * d + 11 * e + 13 * f + 17 * g + 19 * h + 23 * i + 29 * j +
            31 * k + 37 * l + 41 * m + 43 * n + 47 * o + 53 * p;
 }
@@ -38,9 +38,9 @@ static number weighed(PARAMETERS) {
 number probe_arguments_v2(PARAMETERS) __asm__(IN_BUILD("probe_arguments", "v2"));
 number probe_arguments_v3(PARAMETERS) __asm__(IN_BUILD("probe_arguments", "v3"));
 number probe_arguments_v4(PARAMETERS) __asm__(IN_BUILD("probe_arguments", "v4"));
-__attribute__((noinline)) number probe_arguments_v2(PARAMETERS) { return weighed(GIVEN) + 2; }
-__attribute__((noinline)) number probe_arguments_v3(PARAMETERS) { return weighed(GIVEN) + 3; }
-__attribute__((noinline)) number probe_arguments_v4(PARAMETERS) { return weighed(GIVEN) + 4; }
+__attribute__((noinline)) number probe_arguments_v2(PARAMETERS) { return weighted_sum(GIVEN) + 2; }
+__attribute__((noinline)) number probe_arguments_v3(PARAMETERS) { return weighted_sum(GIVEN) + 3; }
+__attribute__((noinline)) number probe_arguments_v4(PARAMETERS) { return weighted_sum(GIVEN) + 4; }
 number probe_arguments(PARAMETERS);
 
 /* Whether the stack is as a function may take it to be: 8 beyond a multiple of 16. */
@@ -62,7 +62,7 @@ int probe(void);
 /* The arguments arrive, by a call that asks and by one that does not. */
 static void check_arguments(int level) {
     const number big = ~0ull - 6,
-                 wanted = weighed(big, 2, 3, 4, 5, big, 7, 8, 9, 10, 11, 12, big, 14, 15, 16) + level;
+                 wanted = weighted_sum(big, 2, 3, 4, 5, big, 7, 8, 9, 10, 11, 12, big, 14, 15, 16) + level;
 
     for (int asked = 0; asked < 2; asked++) {
         if (!asked) vulfsjor_ffi_level = 0;
@@ -74,8 +74,8 @@ static void check_arguments(int level) {
 
 #ifdef PROCESSOR
 /* The level that is chosen, by the function and by a call. */
-static int chosen(void) {
-    int found = level_here();
+static int level_by_call(void) {
+    int found = level_of_processor();
     vulfsjor_ffi_level = 0;
     if (found) CHECK(probe() == found && vulfsjor_ffi_level == found && probe() == found);
     return found;
@@ -108,57 +108,57 @@ int main(void) {
     size_t i;
 
     made_up = all;
-    CHECK(chosen() == 4);
+    CHECK(level_by_call() == 4);
     check_arguments(4);
     for (i = 0; i < sizeof v2_first / sizeof *v2_first; i++) {
         made_up = all;
         made_up.first &= ~(1u << v2_first[i]);
-        CHECK(chosen() == 0);
+        CHECK(level_by_call() == 0);
     }
     for (i = 0; i < sizeof v3_first / sizeof *v3_first; i++) {
         made_up = all;
         made_up.first &= ~(1u << v3_first[i]);
-        CHECK(chosen() == 2);
+        CHECK(level_by_call() == 2);
     }
     for (i = 0; i < sizeof v3_seventh / sizeof *v3_seventh; i++) {
         made_up = all;
         made_up.seventh &= ~(1u << v3_seventh[i]);
-        CHECK(chosen() == 2);
+        CHECK(level_by_call() == 2);
     }
     for (i = 0; i < sizeof v4_seventh / sizeof *v4_seventh; i++) {
         made_up = all;
         made_up.seventh &= ~(1u << v4_seventh[i]);
-        CHECK(chosen() == 3);
+        CHECK(level_by_call() == 3);
     }
     check_arguments(3);
     made_up = all;
     made_up.extended = 0x20; /* no LAHF */
-    CHECK(chosen() == 0);
+    CHECK(level_by_call() == 0);
     made_up.extended = 1; /* no LZCNT */
-    CHECK(chosen() == 2);
+    CHECK(level_by_call() == 2);
     for (unsigned saved = 0; saved < 512; saved++) {
         made_up = all;
         made_up.saved = saved;
-        CHECK(chosen() == ((saved >> 1 & 3) != 3 ? 2 : (saved >> 5 & 7) != 7 ? 3 : 4));
+        CHECK(level_by_call() == ((saved >> 1 & 3) != 3 ? 2 : (saved >> 5 & 7) != 7 ? 3 : 4));
     }
     /* All other bits may be set, or not. */
     made_up.first = made_up.seventh = made_up.extended = made_up.saved = ~0u;
-    CHECK(chosen() == 4);
+    CHECK(level_by_call() == 4);
     made_up.seventh = 0;
-    CHECK(chosen() == 2);
+    CHECK(level_by_call() == 2);
     made_up.seventh = ~0u;
     made_up.first = 0x00982201u;
     made_up.extended = 1;
-    CHECK(chosen() == 2);
+    CHECK(level_by_call() == 2);
     check_arguments(2);
     made_up = all;
     made_up.last = 1; /* leaf 7 is not there */
-    CHECK(chosen() == 2);
+    CHECK(level_by_call() == 2);
     made_up.last = 0;
-    CHECK(chosen() == 0);
+    CHECK(level_by_call() == 0);
     made_up = all;
     made_up.last_extended = 0x80000000u;
-    CHECK(chosen() == 0);
+    CHECK(level_by_call() == 0);
     refuses_processor();
     return fails != 0;
 }

@@ -57,7 +57,7 @@ static const char *value_of(const char *argument, const char *otherwise) {
     return otherwise;
 }
 
-static uint64_t field(const char *name, const char *otherwise, uint64_t most, int *is_node) {
+static uint64_t number_field(const char *name, const char *otherwise, uint64_t most, int *is_node) {
     *is_node |= value_of(name, NULL) != NULL;
     return number_of(value_of(name, otherwise), most);
 }
@@ -67,13 +67,13 @@ static given read_given(void) {
     given made = {.size = MAX}, *g = &made;
     if (key) g->key = text_of(key);
     g->salt = text_of(value_of("salt", "-")), g->person = text_of(value_of("person", "-"));
-    g->tree.fanout = (uint8_t)field("fanout", "1", 255, &g->is_node);
-    g->tree.depth = (uint8_t)field("depth", "1", 255, &g->is_node);
-    g->tree.leaf_length = (uint32_t)field("leaf", "0", UINT32_MAX, &g->is_node);
-    g->tree.node_offset = field("offset", "0", UINT64_MAX, &g->is_node);
-    g->tree.node_depth = (uint8_t)field("node", "0", 255, &g->is_node);
-    g->tree.inner_length = (uint8_t)field("inner", "0", 255, &g->is_node);
-    g->last = field("last", "0", 1, &g->is_node);
+    g->tree.fanout = (uint8_t)number_field("fanout", "1", 255, &g->is_node);
+    g->tree.depth = (uint8_t)number_field("depth", "1", 255, &g->is_node);
+    g->tree.leaf_length = (uint32_t)number_field("leaf", "0", UINT32_MAX, &g->is_node);
+    g->tree.node_offset = number_field("offset", "0", UINT64_MAX, &g->is_node);
+    g->tree.node_depth = (uint8_t)number_field("node", "0", 255, &g->is_node);
+    g->tree.inner_length = (uint8_t)number_field("inner", "0", 255, &g->is_node);
+    g->last = number_field("last", "0", 1, &g->is_node);
     if (size && strcmp(size, "unknown")) g->size = number_of(size, SIZE_MAX);
 #ifdef TEST_X /* the length that is not known is a number of C's */
     if (size && IS("new") && g->size == CONSTANT(UNKNOWN_LENGTH)) can = 0;
@@ -100,7 +100,7 @@ static void gives_number(const state_t *S, uint64_t number) {
 static uint8_t *room_of(size_t n) { return memset(malloc(n + 9), 0xaa, n + 9); }
 
 /* A call with room for nine bytes more than the n that it writes, or writes nothing. Frees the room. */
-static void gives(int status, uint8_t *out, size_t n) {
+static void gives_bytes(int status, uint8_t *out, size_t n) {
     size_t at = 2;
     for (size_t i = status ? 0 : n; i < n + 9; i++) CHECK(out[i] == 0xaa);
     if (status) gives_refusal("");
@@ -110,7 +110,7 @@ static void gives(int status, uint8_t *out, size_t n) {
 }
 
 /* The word for the argument that an init refuses, or "" for none. */
-static const char *refused(const given *g) {
+static const char *refused_argument(const given *g) {
     static const char *const names[][2] = {
         {"outlen", "size"}, {"key", "key"}, {"salt", "salt"}, {"personal", "person"}, {"leaf_length", "leaf"},
         {"tree->node_offset", "offset"}, {"tree->depth", "depth"}, {"tree->inner_length", "inner"}};
@@ -135,8 +135,8 @@ static void new_state(state_t **S, const given *g) {
     if (!can) return;
     int status = init_by(0, *S, g);
     has_key[S - slots] = g->key.length > 0;
-    if (status) gives_refusal(refused(g));
-    CHECK(!status == !*refused(g) && !status == !is_ended(*S) && refuses_no_key(g));
+    if (status) gives_refusal(refused_argument(g));
+    CHECK(!status == !*refused_argument(g) && !status == !is_ended(*S) && refuses_no_key(g));
     for (int i = 0; i < INITS; i++) {
         memset(&other, 0xa5, sizeof other);
         int another = init_by(i, &other, g);
@@ -146,29 +146,29 @@ static void new_state(state_t **S, const given *g) {
 }
 
 /* In one call, and by a state in two pieces. */
-static void hash(const given *g) {
+static void call_hash(const given *g) {
     text message = text_of(part[2]);
     size_t n = g->size > sizeof got / 4 ? 0 : g->size, half = message.length / 2;
     uint8_t *one = room_of(n), *run = room_of(n);
     state_t S;
     int status = in_one_call(one, g, message), by_state = init_by(0, &S, g);
-    const char *argument = by_state ? refused(g) : "";
+    const char *argument = by_state ? refused_argument(g) : "";
     if (!by_state && !message.bytes && message.length) by_state = BLAKE(update)(&S, TEXT(message));
     else if (!by_state)
         by_state = BLAKE(update)(&S, half ? message.bytes : NULL, half) || BLAKE(count)(&S) != half ||
                    BLAKE(update)(&S, message.bytes + (half ? half : 0), message.length - half) ||
-                   BLAKE(count)(&S) != message.length || end(&S, run, n) ? -1 : 0;
+                   BLAKE(count)(&S) != message.length || write_output(&S, run, n) ? -1 : 0;
     if (status != ABSENT) CHECK(in_one_call(NULL, g, message) == -1);
 #ifdef TEST_X
     if (g->size >= CONSTANT(UNKNOWN_LENGTH)) by_state = -1, memset(run, 0xaa, n);
 #endif
     if (status != ABSENT) CHECK(status == by_state && !memcmp(one, run, n + 9));
     free(one), free(message.bytes);
-    gives(by_state, run, n);
+    gives_bytes(by_state, run, n);
     if (by_state) gives_refusal(argument);
 }
 
-static void equal(void) {
+static void call_equal(void) {
     text one = text_of(part[1]), other = text_of(part[2]);
     gives_answer(one.length == other.length && !vulfsjor_memcmp(one.bytes, other.bytes, one.length));
     if (one.length) CHECK(vulfsjor_memcmp(one.bytes, NULL, 1) == -1 && vulfsjor_memcmp(NULL, one.bytes, 1) == -1);
@@ -176,7 +176,7 @@ static void equal(void) {
 }
 
 #ifdef TEST_NODES
-static void many(const given *g) {
+static void call_many(const given *g) {
     static vulfsjor_message messages[2000];
     static uint8_t nothing[1];
     size_t count = 0, null = 0, n = g->size > 64 ? 0 : g->size;
@@ -193,14 +193,14 @@ static void many(const given *g) {
     CHECK(vulfsjor_null_message(messages, count) == null);
     CHECK(BLAKE(many)(out, g->size, NULL, count, TEXTS) == -1);
     CHECK(BLAKE(many)(NULL, g->size, messages, count, TEXTS) == -1);
-    gives(BLAKE(many)(out, g->size, messages, count, TEXTS), out, n * count);
+    gives_bytes(BLAKE(many)(out, g->size, messages, count, TEXTS), out, n * count);
     while (count)
         if (messages[--count].bytes != nothing) free((void *)messages[count].bytes);
 }
 #endif
 
 #if defined(TEST_X) && !defined(TEST_S)
-static void derive(const given *g) {
+static void call_derive(const given *g) {
     text context = text_of(part[1]);
     size_t n = g->size < 1 << 16 ? g->size : 0;
     uint8_t *out = room_of(n), *other = room_of(n);
@@ -211,7 +211,7 @@ static void derive(const given *g) {
     CHECK(vulfsjor_blake2xb_derive_key(out, g->size, "", 0, TEXT(context)) == -1);
     CHECK(vulfsjor_blake2xb_derive_key(out, g->size, TEXT(g->key), "", 0) == status && !memcmp(out, other, n + 9));
     memset(out, 0xaa, n);
-    gives(vulfsjor_blake2xb_derive_key(out, g->size, TEXT(g->key), TEXT(context)), out, n);
+    gives_bytes(vulfsjor_blake2xb_derive_key(out, g->size, TEXT(g->key), TEXT(context)), out, n);
     free(context.bytes), free(other);
 }
 #endif
@@ -227,14 +227,14 @@ static int leaves_in(uint8_t *out, size_t n, text t, const given *g) {
                                 TEXT(g->person), g->tree.leaf_length);
 }
 
-static void leaves(const given *g) {
+static void call_leaves(const given *g) {
     text t = text_of(part[1]);
     size_t n = 64 * (size_t)vulfsjor_tree_leaf_count(t.length, g->tree.leaf_length);
     uint8_t *out = room_of(n);
     CHECK(leaves_in(NULL, n, t, g) == -1 && leaves_in(out, n + 1, t, g) == -1 && leaves_in(out, n + 64, t, g) == -1);
     CHECK(!n || (leaves_in(out, n - 1, t, g) == -1 && leaves_in(out, n - 64, t, g) == -1));
     CHECK(leaves_in(out, n, t, &no_salt) == -1 && leaves_in(out, n, t, &no_person) == -1);
-    gives(leaves_in(out, n, t, g), out, n);
+    gives_bytes(leaves_in(out, n, t, g), out, n);
     free(t.bytes);
 }
 
@@ -242,17 +242,17 @@ static int top_in(uint8_t *out, text t, const given *g) {
     return vulfsjor_tree_root_of_leaves(out, g->size, TEXT(t), TEXT(g->salt), TEXT(g->person), g->tree.leaf_length);
 }
 
-static void top(const given *g) {
+static void call_top(const given *g) {
     text t = text_of(part[1]);
     size_t n = g->size > 64 ? 0 : g->size;
     uint8_t *out = room_of(n);
     CHECK(top_in(NULL, t, g) == -1 && top_in(out, t, &no_salt) == -1 && top_in(out, t, &no_person) == -1);
     CHECK(top_in(out, (text){NULL, 64}, g) == -1);
-    gives(top_in(out, t, g), out, n);
+    gives_bytes(top_in(out, t, g), out, n);
     free(t.bytes);
 }
 
-static void leaves_ahead(state_t *S) {
+static void call_next(state_t *S) {
     text t = text_of(part[3]);
     uint64_t skip = strtoull(part[2], NULL, 10), leaf = vulfsjor_tree_leaf_length(S);
     size_t n = leaf ? 64 * (size_t)(t.length / leaf) : 64;
@@ -263,11 +263,11 @@ static void leaves_ahead(state_t *S) {
     CHECK(vulfsjor_tree_leaves_ahead(S, out, n + 1, skip, TEXT(t)) == -1);
     CHECK(vulfsjor_tree_leaves_ahead(S, out, n + 64, skip, TEXT(t)) == -1);
     CHECK(!n || vulfsjor_tree_leaves_ahead(S, out, n - 1, skip, TEXT(t)) == -1);
-    gives(vulfsjor_tree_leaves_ahead(S, out, n, skip, TEXT(t)), out, n);
+    gives_bytes(vulfsjor_tree_leaves_ahead(S, out, n, skip, TEXT(t)), out, n);
     free(t.bytes);
 }
 
-static void absorb(state_t *S) {
+static void call_absorb(state_t *S) {
     text whole = text_of(part[2]), more = text_of(part[3]);
     uint64_t leaf = vulfsjor_tree_leaf_length(S), count = vulfsjor_tree_count(S);
     size_t n = leaf ? 64 * (size_t)(whole.length / leaf) : 0;
@@ -287,7 +287,7 @@ static void absorb(state_t *S) {
 
 /* ---- calls of a state */
 
-static void update(state_t *S) {
+static void call_update(state_t *S) {
     text t = text_of(part[2]);
     uint64_t count = BLAKE(count)(S);
     CHECK(BLAKE(update)(NULL, TEXT(t)) == -1);
@@ -296,18 +296,18 @@ static void update(state_t *S) {
     free(t.bytes);
 }
 
-static void copy(const state_t *S) {
+static void call_copy(const state_t *S) {
     state_t **to = &slots[part[2][0] - 'a'];
     if (is_ended(S)) gives_refusal("");
     else *to = realloc(*to, sizeof **to), **to = *S, has_key[to - slots] = has_key[*part[1] - 'a'];
 }
 
-static void wipe(state_t *S) {
+static void call_wipe(state_t *S) {
     BLAKE(wipe)(NULL);
     BLAKE(wipe)(S);
 }
 
-static void count(const state_t *S) {
+static void call_count(const state_t *S) {
     CHECK(!BLAKE(count)(NULL) && !room_in(NULL));
 #ifdef TEST_T
     CHECK(!vulfsjor_tree_leaf_length(NULL));
@@ -316,29 +316,30 @@ static void count(const state_t *S) {
 }
 
 #ifdef TEST_X
-static void left(const state_t *S) { gives_number(S, BLAKE(left)(S)); }
+static void call_left(const state_t *S) { gives_number(S, BLAKE(left)(S)); }
 
-static void read_output(state_t *S) {
+static void call_read(state_t *S) {
     size_t n = number_of(part[2], SIZE_MAX), room = n < 1 << 16 ? n : 0;
     if (!can) return;
     uint8_t *out = room_of(room);
     uint64_t before = BLAKE(left)(S);
-    CHECK(end(NULL, out, n) == -1 && (!n || end(S, NULL, n) == -1));
-    gives(end(S, n ? out : NULL, n), out, room);
+    CHECK(write_output(NULL, out, n) == -1 && (!n || write_output(S, NULL, n) == -1));
+    gives_bytes(write_output(S, n ? out : NULL, n), out, room);
     CHECK(*got == '!' || BLAKE(left)(S) == before - n);
 }
 #else
-static void digest(state_t *S) {
+static void call_digest(state_t *S) {
     size_t n = BLAKE(digest_size)(S);
     uint8_t *out = room_of(n);
-    CHECK(end(NULL, out, n) == -1 && end(S, NULL, n) == -1 && end(S, out, n + 1) == -1 && end(S, out, n + 9) == -1);
-    CHECK(!n || (end(S, out, n - 1) == -1 && end(S, out, 0) == -1));
-    gives(end(S, out, n), out, n);
+    CHECK(write_output(NULL, out, n) == -1 && write_output(S, NULL, n) == -1);
+    CHECK(write_output(S, out, n + 1) == -1 && write_output(S, out, n + 9) == -1);
+    CHECK(!n || (write_output(S, out, n - 1) == -1 && write_output(S, out, 0) == -1));
+    gives_bytes(write_output(S, out, n), out, n);
 }
 #endif
 
 #ifndef TEST_T
-static void reset(state_t *S) {
+static void call_reset(state_t *S) {
     CHECK(BLAKE(reset)(NULL) == -1);
     gives_status(BLAKE(reset)(S));
     CHECK(*got || !BLAKE(count)(S));
@@ -346,14 +347,14 @@ static void reset(state_t *S) {
 #endif
 
 #if !defined(TEST_T) && !defined(TEST_X)
-static void verify(state_t *S) {
+static void call_verify(state_t *S) {
     text t = text_of(part[2]);
     uint8_t wanted[MAX];
     size_t n = BLAKE(digest_size)(S);
     int is_ready = n && (t.bytes || !t.length), status = BLAKE(verify)(S, TEXT(t));
     CHECK(BLAKE(verify)(NULL, TEXT(t)) == -1);
     if (is_ready && !has_key[*part[1] - 'a']) {
-        CHECK(status == -1 && !end(S, wanted, n));
+        CHECK(status == -1 && !write_output(S, wanted, n));
         status = t.length != n || memcmp(wanted, t.bytes, n);
     }
     if (is_ready) gives_answer(!status);
@@ -363,7 +364,7 @@ static void verify(state_t *S) {
 #endif
 
 #ifdef TEST_NODES
-static void last(state_t *S) {
+static void call_last(state_t *S) {
     CHECK(BLAKE(set_last_node)(NULL, 1) == -1);
     gives_status(BLAKE(set_last_node)(S, flag_of(*part[2] == '1')));
 }
@@ -373,27 +374,27 @@ static void last(state_t *S) {
 
 /* Makes the call of the line if it is one of a state. */
 static void call_state(state_t *S) {
-    if (IS("update")) update(S);
-    else if (IS("copy")) copy(S);
-    else if (IS("wipe")) wipe(S);
-    else if (IS("count")) count(S);
+    if (IS("update")) call_update(S);
+    else if (IS("copy")) call_copy(S);
+    else if (IS("wipe")) call_wipe(S);
+    else if (IS("count")) call_count(S);
 #ifdef TEST_X
-    else if (IS("left")) left(S);
-    else if (IS("read")) read_output(S);
+    else if (IS("left")) call_left(S);
+    else if (IS("read")) call_read(S);
 #else
-    else if (IS("digest")) digest(S);
+    else if (IS("digest")) call_digest(S);
 #endif
 #ifdef TEST_T
-    else if (IS("next")) leaves_ahead(S);
-    else if (IS("absorb")) absorb(S);
+    else if (IS("next")) call_next(S);
+    else if (IS("absorb")) call_absorb(S);
 #else
-    else if (IS("reset")) reset(S);
+    else if (IS("reset")) call_reset(S);
 #endif
 #if !defined(TEST_T) && !defined(TEST_X)
-    else if (IS("verify")) verify(S);
+    else if (IS("verify")) call_verify(S);
 #endif
 #ifdef TEST_NODES
-    else if (IS("last")) last(S);
+    else if (IS("last")) call_last(S);
 #endif
     else can = 0;
 }
@@ -408,23 +409,23 @@ static void call_slot(state_t **S) {
 }
 
 /* Makes the call of the line. */
-static void call(void) {
+static void make_call(void) {
     given g = read_given();
     state_t **S = &slots[parts > 1 && *part[1] >= 'a' && *part[1] <= 'z' ? *part[1] - 'a' : 25];
     *got = 0;
     if (IS("new")) new_state(S, &g);
     else if (!can) (void)0;
-    else if (IS("hash")) hash(&g);
-    else if (IS("equal")) equal();
+    else if (IS("hash")) call_hash(&g);
+    else if (IS("equal")) call_equal();
 #ifdef TEST_NODES
-    else if (IS("many")) many(&g);
+    else if (IS("many")) call_many(&g);
 #endif
 #if defined(TEST_X) && !defined(TEST_S)
-    else if (IS("derive")) derive(&g);
+    else if (IS("derive")) call_derive(&g);
 #endif
 #ifdef TEST_T
-    else if (IS("leaves")) leaves(&g);
-    else if (IS("top")) top(&g);
+    else if (IS("leaves")) call_leaves(&g);
+    else if (IS("top")) call_top(&g);
 #endif
     else call_slot(S);
     free_given(&g);
@@ -463,7 +464,7 @@ int main(int argc, char **argv) {
         if (!*line || *line == '#' || !can) continue;
         int before = fails;
         const char *wanted = words_of(line);
-        call();
+        make_call();
         if (can) CHECK(is_outcome(wanted));
         *(can ? &calls : &skipped) += 1;
         if (fails > before) fprintf(stderr, "%s: %s\n  gives %.70s\n", name, whole, got);

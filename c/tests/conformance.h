@@ -123,7 +123,7 @@ static inline int in_one_call(uint8_t *out, const given *g, text message) {
 }
 
 /* Writes the digest, or the next bytes of the output. */
-static inline int end(state_t *S, void *out, size_t room) {
+static inline int write_output(state_t *S, void *out, size_t room) {
 #ifdef TEST_X
     return BLAKE(squeeze)(S, out, room);
 #else

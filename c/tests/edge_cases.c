@@ -27,7 +27,7 @@ static void print_hex(const uint8_t *data, size_t length) {
 
 /* A line for hashlib: KIND FAMILY SIZE KEYLEN SALTLEN PERSONALEN START LENGTH DIGEST. The message
  * is LENGTH of the bytes from START on. */
-static void tell(size_t size, size_t keylen, size_t saltlen, size_t personalen, size_t start,
+static void print_hash_line(size_t size, size_t keylen, size_t saltlen, size_t personalen, size_t start,
                  size_t length, const uint8_t *digest) {
     printf("hash %s %zu %zu %zu %zu %zu %zu ", FAMILY, size, keylen, saltlen, personalen, start,
            length);
@@ -42,14 +42,14 @@ static int is_zero(const void *memory, size_t length) {
     return 1;
 }
 
-/* Whether all bytes from `from` on are as `fresh` left them. */
+/* Whether all bytes from `from` on are as `fill_with_marks` left them. */
 static int is_untouched(const uint8_t *out, size_t from, size_t room) {
     for (size_t i = from; i < room; i++)
         if (out[i] != 0xaa) return 0;
     return 1;
 }
 
-static uint8_t *fresh(uint8_t *out, size_t room) {
+static uint8_t *fill_with_marks(uint8_t *out, size_t room) {
     memset(out, 0xaa, room);
     return out;
 }
@@ -70,12 +70,12 @@ static uint8_t *fresh(uint8_t *out, size_t room) {
     } while (0)
 
 /* A pointer to a key of 0 bytes is no null key: each call that accepts a key refuses it. */
-static void empty_keys(void) {
+static void check_empty_keys(void) {
     uint8_t out[MAX];
     state_t state;
     vulfsjor_tree tree = {.fanout = 1, .depth = 1};
     vulfsjor_message message = {bytes, 3};
-    CHECK(ONE_CALL(fresh(out, MAX), MAX, bytes, 3, key, 0) == -1);
+    CHECK(ONE_CALL(fill_with_marks(out, MAX), MAX, bytes, 3, key, 0) == -1);
     CHECK(BLAKE(many)(out, MAX, &message, 1, key, 0, salt, 1, persona, 1) == -1);
     CHECK(BLAKE(many)(out, MAX, &message, 0, key, 0, NULL, 0, NULL, 0) == -1);
     CHECK(is_untouched(out, 0, MAX));
@@ -91,7 +91,7 @@ static void empty_keys(void) {
 }
 
 /* What the cases do not have: trees and blocks that are null, and null pointers with length 0 and 1. */
-static void null_pointers(void) {
+static void check_null_pointers(void) {
     uint8_t out[MAX];
     state_t state;
     param_t param = {.digest_length = MAX, .fanout = 1, .depth = 1};
@@ -124,7 +124,7 @@ static int accepts_if_equal(const uint8_t *tag, const uint8_t *want, size_t leng
     return 0;
 }
 
-static void comparisons(void) {
+static void check_comparisons(void) {
     uint8_t a[70], b[70], digests[6][MAX];
     int duplicates = 0;
     for (size_t i = 0; i < 6; i++) {
@@ -148,10 +148,10 @@ static void comparisons(void) {
     }
 }
 
-static void wiped_bytes(void) {
+static void check_wipe(void) {
     uint8_t out[80];
     for (size_t length = 0; length < 80; length++) {
-        vulfsjor_wipe(fresh(out, 80) + 1, length);
+        vulfsjor_wipe(fill_with_marks(out, 80) + 1, length);
         CHECK(out[0] == 0xaa && is_zero(out + 1, length) && is_untouched(out, length + 1, 80));
     }
     vulfsjor_wipe(NULL, 0);
@@ -161,7 +161,7 @@ static void wiped_bytes(void) {
 
 /* ---- hexadecimal digits */
 
-static void bytes_to_digits(void) {
+static void check_bin2hex(void) {
     char out[2 * 70 + 9], wanted[2 * 256 + 1], all[2 * 256 + 1];
     uint8_t values[256];
     for (int i = 0; i < 256; i++) {
@@ -171,13 +171,13 @@ static void bytes_to_digits(void) {
     CHECK(vulfsjor_bin2hex(all, sizeof all, values, 256) == 0 && !strcmp(all, wanted));
     for (size_t length = 0; length <= 70; length++)
         for (size_t room = 0; room <= sizeof out; room++) {
-            uint8_t *fill = fresh((uint8_t *)out, sizeof out);
+            uint8_t *fill = fill_with_marks((uint8_t *)out, sizeof out);
             int taken = room >= 2 * length + 1;
             CHECK(vulfsjor_bin2hex(out, room, values + 90, length) == (taken ? 0 : -1));
             CHECK(is_untouched(fill, taken ? 2 * length + 1 : 0, sizeof out));
             CHECK(!taken || (!memcmp(out, wanted + 180, 2 * length) && !out[2 * length]));
         }
-    fresh((uint8_t *)out, sizeof out);
+    fill_with_marks((uint8_t *)out, sizeof out);
     CHECK(vulfsjor_bin2hex(out, 9, values, ~(size_t)0) == -1);
     CHECK_64(vulfsjor_bin2hex(out, 9, values, TWO_TO(63)) == -1);
     CHECK(vulfsjor_bin2hex(out, ~(size_t)0, values, ~(size_t)0 / 2 + 1) == -1);
@@ -193,21 +193,21 @@ static int value_of(int character) {
     return at ? (int)(at - digits) % 16 : -1;
 }
 
-static void digits_to_bytes(void) {
+static void check_hex2bin(void) {
     uint8_t out[72];
     char digits[2 * 70 + 2];
     for (int high = 0; high < 256; high++)
         for (int low = 0; low < 256; low++) {
             const char pair[2] = {(char)high, (char)low};
             int taken = value_of(high) >= 0 && value_of(low) >= 0;
-            CHECK(vulfsjor_hex2bin(fresh(out, 2), 1, pair, 2) == (taken ? 0 : -1));
+            CHECK(vulfsjor_hex2bin(fill_with_marks(out, 2), 1, pair, 2) == (taken ? 0 : -1));
             CHECK(out[0] == (taken ? 16 * value_of(high) + value_of(low) : 0xaa) && out[1] == 0xaa);
         }
     for (size_t i = 0; i < sizeof digits; i++) digits[i] = "0aF9b4"[i * i % 6];
     for (size_t length = 0; length <= 70; length++) {
         for (size_t given = 0; given <= sizeof digits; given++) {
             int taken = given == 2 * length;
-            CHECK(vulfsjor_hex2bin(fresh(out, 72), length, digits, given) == (taken ? 0 : -1));
+            CHECK(vulfsjor_hex2bin(fill_with_marks(out, 72), length, digits, given) == (taken ? 0 : -1));
             CHECK(is_untouched(out, taken ? length : 0, 72));
             for (size_t i = 0; taken && i < length; i++)
                 CHECK(out[i] == 16 * value_of(digits[2 * i]) + value_of(digits[2 * i + 1]));
@@ -215,7 +215,7 @@ static void digits_to_bytes(void) {
         for (size_t i = 0; i < 2 * length; i++) {
             char kept = digits[i];
             digits[i] = 'g';
-            CHECK(vulfsjor_hex2bin(fresh(out, 72), length, digits, 2 * length) == -1 &&
+            CHECK(vulfsjor_hex2bin(fill_with_marks(out, 72), length, digits, 2 * length) == -1 &&
                   is_untouched(out, 0, 72));
             digits[i] = kept;
         }
@@ -228,7 +228,7 @@ static void digits_to_bytes(void) {
 
 /* ---- flags */
 
-static void flags(void) {
+static void check_last_node_flags(void) {
     static const int on[] = {1, 2, 255, 256, 65536, -1, 1 << 30, (int)(1u << 31), 0x7fffffff};
     uint8_t off_digest[MAX], on_digest[MAX], out[MAX];
     state_t made, state;
@@ -236,7 +236,7 @@ static void flags(void) {
           BLAKE(update)(&made, bytes, 10) == 0);
     state = made;
     CHECK(BLAKE(final)(&state, off_digest, MAX) == 0);
-    tell(MAX, 0, 0, 0, 0, 10, off_digest);
+    print_hash_line(MAX, 0, 0, 0, 0, 10, off_digest);
     state = made;
     state.last_node = IN_STATE(1);
     CHECK(BLAKE(final)(&state, on_digest, MAX) == 0);
@@ -294,7 +294,7 @@ static void verify_by_block(state_t state, size_t keylen) {
     else CHECK(SAME(state, other) && BLAKE(final)(&other, state.pending, MAX) == 0 && !memcmp(state.pending, wanted, MAX));
 }
 
-static void blocks(void) {
+static void check_param_blocks(void) {
     uint8_t out[MAX];
     state_t state;
     param_t plain = {.digest_length = MAX, .fanout = 1, .depth = 1}, param;
@@ -334,7 +334,7 @@ static void blocks(void) {
 }
 
 /* Each digest length with each key length, and which of them _refused returns. */
-static void params(void) {
+static void check_param_refusals(void) {
     CHECK(BLAKE(param_refused)(NULL) == VULFSJOR_ARGUMENT_PARAM);
     for (int i = 0; i < 256 * 256; i++) {
         param_t param = {.digest_length = (uint8_t)i, .key_length = (uint8_t)(i >> 8)};
@@ -350,7 +350,7 @@ static void params(void) {
 
 /* ---- what stays of a key: the fields, before and after each call */
 
-static void keyed_states(void) {
+static void check_keyed_states(void) {
     state_t made, state;
     uint8_t out[MAX], wrong[MAX] = {0}, block[BLOCK] = {0};
     memcpy(block, key, MAX);
@@ -374,7 +374,7 @@ static void keyed_states(void) {
     CHECK(BLAKE(reset)(&state) == 0 && SAME(state, made));
     state = later;
     CHECK(BLAKE(final)(&state, out, MAX) == 0 && is_zero(&state, sizeof state));
-    tell(MAX, MAX, 0, 0, 0, 3 * BLOCK + 5, out);
+    print_hash_line(MAX, MAX, 0, 0, 0, 3 * BLOCK + 5, out);
     state = later;
     CHECK(BLAKE(verify)(&state, out, MAX) == 0 && is_zero(&state, sizeof state));
     state = later;
@@ -395,10 +395,10 @@ static void keyed_states(void) {
 
 /* ---- several messages */
 
-static void refused_messages(void) {
+static void check_refused_messages(void) {
     uint8_t out[9 * MAX];
     vulfsjor_message messages[9];
-    fresh(out, sizeof out);
+    fill_with_marks(out, sizeof out);
     for (size_t i = 0; i < 9; i++) messages[i].bytes = bytes, messages[i].length = i;
     CHECK(BLAKE(many)(NULL, MAX, messages, 9, 0, 0, 0, 0, 0, 0) == -1);
     CHECK(BLAKE(many)(NULL, MAX, messages, 0, 0, 0, 0, 0, 0, 0) == -1);
@@ -437,7 +437,7 @@ static void refused_last_message(void) {
     enum { COUNT = 65 };
     static uint8_t out[COUNT * MAX];
     vulfsjor_message messages[COUNT];
-    fresh(out, sizeof out);
+    fill_with_marks(out, sizeof out);
     for (size_t i = 0; i < COUNT; i++) messages[i].bytes = bytes, messages[i].length = i;
     messages[COUNT - 1].length = ~(size_t)0 - BLOCK + 1;
     CHECK_64(BLAKE(many)(out, MAX, messages, COUNT, key, 1, 0, 0, 0, 0) == -1);
@@ -446,7 +446,7 @@ static void refused_last_message(void) {
 
 /* ---- constants, fields and sizes */
 
-static void constants(void) {
+static void check_constants(void) {
     state_t state;
     param_t param;
     CHECK(CONSTANT(BLOCKBYTES) == BLOCK && CONSTANT(OUTBYTES) == MAX && CONSTANT(KEYBYTES) == MAX);
@@ -476,19 +476,19 @@ static void constants(void) {
 
 int main(void) {
     fill_all();
-    empty_keys();
-    null_pointers();
-    comparisons();
-    wiped_bytes();
-    bytes_to_digits();
-    digits_to_bytes();
-    flags();
-    blocks();
-    params();
-    keyed_states();
-    refused_messages();
+    check_empty_keys();
+    check_null_pointers();
+    check_comparisons();
+    check_wipe();
+    check_bin2hex();
+    check_hex2bin();
+    check_last_node_flags();
+    check_param_blocks();
+    check_param_refusals();
+    check_keyed_states();
+    check_refused_messages();
     refused_last_message();
-    constants();
+    check_constants();
     printf("end\n");
     fprintf(stderr, "%d checks, %d failures\n", checks, fails);
     return fails != 0;

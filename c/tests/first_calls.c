@@ -26,7 +26,7 @@ __attribute__((constructor)) static void call_early(void) { before_main = is_rig
 enum { THREADS = 16 };
 static pthread_barrier_t begin;
 
-static void *call(void *right) {
+static void *call_at_barrier(void *right) {
     int all = 1;
     pthread_barrier_wait(&begin);
     for (int i = 0; i < 100; i++) all &= is_right();
@@ -41,7 +41,7 @@ int main(void) {
     if (!before_main) puts("first_calls.c: a constructor's call was answered wrong");
     if (pthread_barrier_init(&begin, NULL, THREADS)) return 2;
     for (int i = 0; i < THREADS; i++)
-        if (pthread_create(&threads[i], NULL, call, &right[i])) return 2;
+        if (pthread_create(&threads[i], NULL, call_at_barrier, &right[i])) return 2;
     for (int i = 0; i < THREADS; i++) {
         pthread_join(threads[i], NULL);
         if (!right[i]) printf("first_calls.c: thread %d had another digest\n", i);

@@ -92,7 +92,7 @@ static uint8_t *message, *other, out[64];
 static int huge;
 
 /* Memory of this length and some more, all of which is the same PERIOD bytes. */
-static uint8_t *repeated(size_t length) {
+static uint8_t *repeated_pages(size_t length) {
     int file = memfd_create("period", 0);
     uint8_t *at = mmap(NULL, length + PERIOD, PROT_NONE,
                        MAP_PRIVATE | MAP_ANONYMOUS | MAP_NORESERVE, -1, 0);
@@ -107,7 +107,7 @@ static uint8_t *repeated(size_t length) {
 }
 
 /* Whether these are the bytes with these digits. */
-static int is(const uint8_t *bytes, const char *digits) {
+static int has_digits(const uint8_t *bytes, const char *digits) {
     for (; *digits; digits += 2, bytes++) {
         unsigned byte;
         if (sscanf(digits, "%2x", &byte) != 1 || byte != *bytes) return 0;
@@ -117,16 +117,16 @@ static int is(const uint8_t *bytes, const char *digits) {
 
 /* ---- one message */
 
-static void one_call(void) {
-    CHECK(!ONE_CALL(out, MAX, message, LENGTH, NULL, 0) && is(out, HASH));
+static void check_one_call(void) {
+    CHECK(!ONE_CALL(out, MAX, message, LENGTH, NULL, 0) && has_digits(out, HASH));
 }
 
-static void update(void) {
+static void check_update(void) {
     state_t state;
 
     CHECK(!BLAKE(init)(&state, MAX) && !BLAKE(update)(&state, message, LENGTH));
     CHECK(BLAKE(count)(&state) == LENGTH && !BLAKE(final)(&state, out, MAX));
-    CHECK(is(out, HASH));
+    CHECK(has_digits(out, HASH));
 }
 
 /* Lengths that are those of a digest, or of nothing, in 32 bits, and one that is not. */
@@ -153,7 +153,7 @@ static void long_tag(void) {
 
 /* Two buffers that differ only after 2^32 bytes. */
 static void same_bytes(void) {
-    uint8_t *twin = repeated(LENGTH), *end = twin + (LENGTH - LEAF) / PERIOD * PERIOD;
+    uint8_t *twin = repeated_pages(LENGTH), *end = twin + (LENGTH - LEAF) / PERIOD * PERIOD;
 
     memcpy(twin, message, PERIOD);
     CHECK(!vulfsjor_memcmp(message, twin, LENGTH));
@@ -170,42 +170,42 @@ static void same_bytes(void) {
 /* ---- several messages */
 
 /* Messages of one byte whose digests have 2^32 bytes in sum, and one message of LENGTH bytes. */
-static void many(void) {
+static void check_many(void) {
     const size_t count = ((size_t)1 << 32) / MAX, entries = PERIOD / sizeof(vulfsjor_message);
-    vulfsjor_message *messages = (void *)repeated(count * sizeof *messages);
+    vulfsjor_message *messages = (void *)repeated_pages(count * sizeof *messages);
 
     for (size_t i = 0; i < entries; i++)
         messages[i] = (vulfsjor_message){message + i % 251, 1};
     CHECK(!BLAKE(many)(other, MAX, messages, count, NULL, 0, NULL, 0, NULL, 0));
-    CHECK(is(other + (count - 1) * MAX, LAST));
+    CHECK(has_digits(other + (count - 1) * MAX, LAST));
     for (size_t i = count - PERIOD / MAX; i < count; i++) {
         CHECK(!ONE_CALL(out, MAX, message + i % entries % 251, 1, NULL, 0));
         CHECK(!memcmp(out, other + i * MAX, MAX));
     }
     messages[0].length = LENGTH;
     CHECK(!BLAKE(many)(out, MAX, messages, 1, NULL, 0, NULL, 0, NULL, 0));
-    CHECK(is(out, HASH));
+    CHECK(has_digits(out, HASH));
     munmap(messages, count * sizeof *messages + PERIOD);
 }
 
 #ifndef TEST_S
 /* ---- the tree */
 
-static void root(void) {
-    CHECK(!vulfsjor_tree_root(out, 64, message, LENGTH, 0, 0, 0, 0, LEAF) && is(out, ROOT));
+static void check_root(void) {
+    CHECK(!vulfsjor_tree_root(out, 64, message, LENGTH, 0, 0, 0, 0, LEAF) && has_digits(out, ROOT));
 }
 
-static void tree_update(void) {
+static void check_tree_update(void) {
     vulfsjor_tree_state state;
 
     CHECK(!vulfsjor_tree_init(&state, 64, 0, 0, 0, 0, LEAF));
     CHECK(!vulfsjor_tree_update(&state, message, LENGTH) && vulfsjor_tree_count(&state) == LENGTH);
     for (size_t i = 0; i < 3; i++)
         CHECK(vulfsjor_tree_final(&state, other, long_lengths[i]) == -1);
-    CHECK(!vulfsjor_tree_final(&state, out, 64) && is(out, ROOT));
+    CHECK(!vulfsjor_tree_final(&state, out, 64) && has_digits(out, ROOT));
 }
 
-static void leaves(void) {
+static void check_leaves(void) {
     const size_t whole = LENGTH / LEAF;
     uint8_t digests[(LENGTH / LEAF + 1) * 64];
 
@@ -215,10 +215,10 @@ static void leaves(void) {
     CHECK(!vulfsjor_tree_leaves(digests + 64 * whole, 64, whole, 1, message + whole * LEAF,
                                 LENGTH % LEAF, 0, 0, 0, 0, LEAF));
     CHECK(!vulfsjor_tree_root_of_leaves(out, 64, digests, sizeof digests, 0, 0, 0, 0, LEAF));
-    CHECK(is(out, ROOT));
+    CHECK(has_digits(out, ROOT));
 }
 
-static void leaves_ahead(void) {
+static void check_leaves_ahead(void) {
     const size_t whole = LENGTH / LEAF;
     uint8_t digests[LENGTH / LEAF * 64];
     vulfsjor_tree_state state;
@@ -228,39 +228,39 @@ static void leaves_ahead(void) {
     CHECK(!vulfsjor_tree_update_leaves(&state, digests, sizeof digests, message + whole * LEAF,
                                        LENGTH % LEAF));
     CHECK(vulfsjor_tree_count(&state) == LENGTH && !vulfsjor_tree_final(&state, out, 64));
-    CHECK(is(out, ROOT));
+    CHECK(has_digits(out, ROOT));
 }
 
 /* 2^26 digests, which are the bytes of the message here. */
-static void root_of_leaves(void) {
+static void check_root_of_leaves(void) {
     CHECK(!vulfsjor_tree_root_of_leaves(out, 64, message, (size_t)1 << 32, 0, 0, 0, 0, 64));
-    CHECK(is(out, ROOT_OF_LEAVES));
+    CHECK(has_digits(out, ROOT_OF_LEAVES));
 }
 
-static void update_leaves(void) {
+static void check_update_leaves(void) {
     vulfsjor_tree_state state;
 
     CHECK(!vulfsjor_tree_init(&state, 64, 0, 0, 0, 0, 64));
     CHECK(!vulfsjor_tree_update_leaves(&state, message, (size_t)1 << 32,
                                        message + ((size_t)1 << 32), 1));
     CHECK(vulfsjor_tree_count(&state) == ((size_t)1 << 32) + 1);
-    CHECK(!vulfsjor_tree_final(&state, out, 64) && is(out, ROOT_AND_LEAF));
+    CHECK(!vulfsjor_tree_final(&state, out, 64) && has_digits(out, ROOT_AND_LEAF));
 }
 
 /* Leaves of so few bytes that their digests have more than 2^32. */
-static void digests(void) {
+static void check_many_digests(void) {
     const size_t bytes = ((size_t)1 << 32) + 1, count = ((size_t)1 << 26) + 1;
 
     CHECK(vulfsjor_tree_leaf_count(bytes, 64) == count);
     CHECK(!vulfsjor_tree_leaves(other, 64 * count, 0, 1, message, bytes, 0, 0, 0, 0, 64));
-    CHECK(is(other + 64 * (count - 1), LAST_LEAF));
+    CHECK(has_digits(other + 64 * (count - 1), LAST_LEAF));
 }
 
 /* ---- threads and files */
 
-static void root_threads(void) {
+static void check_root_threads(void) {
     CHECK(!vulfsjor_tree_root_threads(out, 64, message, LENGTH, 0, 0, 0, 0, LEAF, 0));
-    CHECK(is(out, ROOT));
+    CHECK(has_digits(out, ROOT));
 }
 
 static void update_threads(void) {
@@ -269,7 +269,7 @@ static void update_threads(void) {
     CHECK(!vulfsjor_tree_init(&state, 64, 0, 0, 0, 0, LEAF));
     CHECK(!vulfsjor_tree_update_threads(&state, message, LENGTH, 0));
     CHECK(vulfsjor_tree_count(&state) == LENGTH && !vulfsjor_tree_final(&state, out, 64));
-    CHECK(is(out, ROOT));
+    CHECK(has_digits(out, ROOT));
 }
 
 /* A file of LENGTH bytes that takes no room, and its path. */
@@ -286,18 +286,18 @@ static int sparse_file(char *path, size_t room) {
     return file;
 }
 
-static void files(void) {
+static void check_files(void) {
     char path[40];
     int file = sparse_file(path, sizeof path);
 
     if (huge) {
-        CHECK(!vulfsjor_tree_root_file(out, 64, path, 0, 0, 0, 0, LEAF, 0) && is(out, FILE_4));
-        CHECK(!vulfsjor_tree_root_fd(out, 64, file, 0, 0, 0, 0, 1 << 26, 0) && is(out, FILE_64));
+        CHECK(!vulfsjor_tree_root_file(out, 64, path, 0, 0, 0, 0, LEAF, 0) && has_digits(out, FILE_4));
+        CHECK(!vulfsjor_tree_root_fd(out, 64, file, 0, 0, 0, 0, 1 << 26, 0) && has_digits(out, FILE_64));
         CHECK(lseek(file, 0, SEEK_CUR) == (off_t)LENGTH);
     }
     /* From a position before 2^32 on. */
     CHECK(lseek(file, ((off_t)1 << 32) - 1000, SEEK_SET) > 0);
-    CHECK(!vulfsjor_tree_root_fd(out, 64, file, 0, 0, 0, 0, 4096, 0) && is(out, FILE_TAIL));
+    CHECK(!vulfsjor_tree_root_fd(out, 64, file, 0, 0, 0, 0, 4096, 0) && has_digits(out, FILE_TAIL));
     CHECK(lseek(file, 0, SEEK_CUR) == (off_t)LENGTH);
     close(file);
 }
@@ -314,12 +314,12 @@ static void *write_message(void *given) {
     return NULL;
 }
 
-static void stream(void) {
+static void check_stream(void) {
     int ends[2];
     pthread_t writer;
 
     CHECK(!pipe(ends) && !pthread_create(&writer, NULL, write_message, &ends[1]));
-    CHECK(!vulfsjor_tree_root_fd(out, 64, ends[0], 0, 0, 0, 0, LEAF, 0) && is(out, ROOT));
+    CHECK(!vulfsjor_tree_root_fd(out, 64, ends[0], 0, 0, 0, 0, LEAF, 0) && has_digits(out, ROOT));
     CHECK(!pthread_join(writer, NULL));
     close(ends[0]);
 }
@@ -327,30 +327,30 @@ static void stream(void) {
 
 int main(void) {
     huge = getenv("VULFSJOR_TEST_HUGE") != NULL;
-    message = repeated(LENGTH);
-    other = repeated(LENGTH);
+    message = repeated_pages(LENGTH);
+    other = repeated_pages(LENGTH);
     for (size_t i = 0; i < PERIOD; i++) message[i] = (uint8_t)(i % 251);
     long_room();
     long_tag();
     same_bytes();
 #ifndef TEST_S
     update_threads();
-    files();
+    check_files();
 #endif
     if (huge) {
-        one_call();
-        update();
-        many();
+        check_one_call();
+        check_update();
+        check_many();
 #ifndef TEST_S
-        leaves();
-        root_of_leaves();
-        root();
-        tree_update();
-        leaves_ahead();
-        update_leaves();
-        digests();
-        root_threads();
-        stream();
+        check_leaves();
+        check_root_of_leaves();
+        check_root();
+        check_tree_update();
+        check_leaves_ahead();
+        check_update_leaves();
+        check_many_digests();
+        check_root_threads();
+        check_stream();
 #endif
     }
     fprintf(stderr, "%d checks, %d failures\n", checks, fails);

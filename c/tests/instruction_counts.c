@@ -115,7 +115,7 @@ COUNTED static int hash_each_blake2s(size_t count) {
 }
 
 /* Calls the function that has this name. */
-static int hash(const char *name, size_t size) {
+static int call_by_name(const char *name, size_t size) {
     size_t i;
 
     if (!strcmp(name, "hash_root")) return size > sizeof input ? 2 : hash_root(size) ? 2 : 0;
@@ -141,7 +141,7 @@ int main(int argc, char **argv) {
     for (i = 0; i < sizeof input; i++) input[i] = (unsigned char)(i % 251);
     /* the first call of a library may choose among its builds, which is not to be counted */
     if (vulfsjor_memcmp(text, other, sizeof other)) return 2;
-    if (strncmp(argv[1], "compare_", 8)) return hash(argv[1], size);
+    if (strncmp(argv[1], "compare_", 8)) return call_by_name(argv[1], size);
     if (size > sizeof other) return 2;
     if (!strcmp(argv[1], "compare_memcmp"))
         return compare_each(begin_memcmp, compare_memcmp, size);

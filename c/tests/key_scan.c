@@ -46,7 +46,7 @@ static size_t length;
 static uint8_t stack[DEPTH + 16 * 64];
 static int fails;
 
-static void fail(const char *name) {
+static void report_failure(const char *name) {
     printf("FAILED: %s, message of %zu bytes\n", name, length);
     fails++;
 }
@@ -55,13 +55,13 @@ static void fail(const char *name) {
 
 static void nothing(void) {}
 
-static void start(void) {
-    if (BLAKE(init_key)(&state, SIZE, key, MAX)) fail("an init");
+static void start_keyed(void) {
+    if (BLAKE(init_key)(&state, SIZE, key, MAX)) report_failure("an init");
 }
 
 static void start_and_take(void) {
-    start();
-    if (BLAKE(update)(&state, message, length)) fail("an update");
+    start_keyed();
+    if (BLAKE(update)(&state, message, length)) report_failure("an update");
 }
 
 /* ---- The calls. Each returns 0 if its status is the expected one. */
@@ -102,17 +102,17 @@ static int call_wipe(void) {
 #ifdef TEST_X
 static void start_and_read(void) {
     start_and_take();
-    if (BLAKE(squeeze)(&state, out, MAX)) fail("a squeeze");
+    if (BLAKE(squeeze)(&state, out, MAX)) report_failure("a squeeze");
 }
 
 static void start_and_read_part(void) {
     start_and_take();
-    if (BLAKE(squeeze)(&state, out, 7)) fail("a squeeze");
+    if (BLAKE(squeeze)(&state, out, 7)) report_failure("a squeeze");
 }
 
 static void start_read_and_reset(void) {
     start_and_read();
-    if (BLAKE(reset)(&state)) fail("a reset");
+    if (BLAKE(reset)(&state)) report_failure("a reset");
 }
 
 static int call_derive_key(void) {
@@ -287,7 +287,7 @@ static int pieces_on_stack(void) {
 static int pieces_after(void (*before)(void), int (*call)(void), const char *name) {
     before();
     fill_stack();
-    if (call_and_keep(call)) fail(name);
+    if (call_and_keep(call)) report_failure(name);
     return pieces_on_stack();
 }
 
@@ -334,7 +334,7 @@ static void finds_copies(void) {
 static void sees_bytes(void) {
     for (size_t i = 0; i < sizeof state; i++) {
         memset(&state, 0, sizeof state);
-        if (!is_zero(&state, sizeof state)) fail("zeros in the state");
+        if (!is_zero(&state, sizeof state)) report_failure("zeros in the state");
         ((uint8_t *)&state)[i] = 1;
         if (is_zero(&state, sizeof state)) {
             printf("FAILED: byte %zu of the state is not looked at\n", i);
@@ -353,16 +353,16 @@ static const struct {
     const char *name;
 } CALLED[] = {
     {call_init_key, nothing, 0, "init_key"},
-    {call_refused_size, start, 1, "init_key, refused for its length"},
+    {call_refused_size, start_keyed, 1, "init_key, refused for its length"},
     {call_one_call, nothing, 0, "the hash in one call"},
-    {call_update, start, 0, "update"},
+    {call_update, start_keyed, 0, "update"},
     {call_update, start_and_take, 0, "update, after an update"},
 #ifndef TEST_X
     {call_final, start_and_take, 1, "final"},
 #endif
 #ifndef LIBB2_NAMES
     {call_init_salt, nothing, 0, "init_salt_personal with a key"},
-    {call_refused_salt, start, 1, "init_salt_personal, refused for its salt"},
+    {call_refused_salt, start_keyed, 1, "init_salt_personal, refused for its salt"},
     {call_reset, start_and_take, 0, "reset"},
     {call_wipe, start_and_take, 1, "wipe"},
 #ifdef TEST_X
@@ -385,7 +385,7 @@ static const struct {
     {call_refused_null, nothing, 0, "which argument of a keyed call is refused, a null salt"},
 #ifndef TEST_P
     {call_init_tree, nothing, 0, "init_tree with a key"},
-    {call_refused_depth, start, 1, "init_tree, refused for its depth"},
+    {call_refused_depth, start_keyed, 1, "init_tree, refused for its depth"},
     {call_many_one, nothing, 0, "many, one message"},
     {call_many_four, nothing, 0, "many, four messages"},
     {call_many_lanes, nothing, 0, "many, as many as are hashed at once"},
@@ -411,10 +411,10 @@ static void take_secrets(void) {
     if (SEQUENTIAL(init_tree)(&root, MAX, key, MAX, NULL, 0, NULL, 0, &root_place) ||
         SEQUENTIAL(update)(&root, message, length) || SEQUENTIAL(final)(&root, key + MAX, MAX) ||
         call_one_call())
-        fail("the secrets");
+        report_failure("the secrets");
     memcpy(key + 2 * MAX, out, MAX);
     start_and_read();
-    if (memcmp(state.reader.root, key + MAX, MAX)) fail("another root hash");
+    if (memcmp(state.reader.root, key + MAX, MAX)) report_failure("another root hash");
 }
 #endif
 
@@ -426,7 +426,7 @@ static void take_length(size_t bytes) {
 #endif
     for (size_t i = 0; i < LANES; i++) messages[i] = (vulfsjor_message){message, length};
     messages[LANES] = (vulfsjor_message){message, length / 2};
-    if (ONE_CALL(tag, MAX, message, length, key, MAX)) fail("a tag");
+    if (ONE_CALL(tag, MAX, message, length, key, MAX)) report_failure("a tag");
     memcpy(wrong, tag, MAX);
     wrong[MAX - 1] ^= 1;
 }

@@ -81,7 +81,7 @@ static const uint8_t last_empty[] = {0x05, 0xcc, 0x8c, 0xc5, 0x31, 0x83, 0xc6, 0
 static X(_state) *null_state(void) { return NULL; }
 
 /* The digest of a message in random pieces, where the run may be copied between two of them. */
-static void take(X(_state) *S, size_t length, size_t digest) {
+static void check_in_pieces(X(_state) *S, size_t length, size_t digest) {
     X(_state) copy;
     for (size_t at = 0, n; at < length; at += n) {
         n = random_below(random_below(2) ? 20 : 700) + 1;
@@ -111,10 +111,10 @@ static void hash_case(size_t digest, size_t keys, size_t salted, size_t named, s
     memset(S, 0x5a, sizeof *S);
     CHECK(X(_init_param)(S, &P) == 0 && S->outlen == digest && S->last_node == 0);
     if (keys) CHECK(X(_update)(S, first, BLOCK) == 0);
-    take(S, length, digest);
+    check_in_pieces(S, length, digest);
     if (!salted && !named) {
         CHECK((keys ? X(_init_key)(S, digest, key, keys) : X(_init)(S, digest)) == 0);
-        take(S, length, digest);
+        check_in_pieces(S, length, digest);
         memset(out, 0xaa, sizeof out);
         CHECK(BLAKE2(out, message, key, digest, length, keys) == 0 && !memcmp(out, wanted, digest));
         CHECK(out[digest] == 0xaa);
@@ -145,7 +145,7 @@ static int status_of(X(_state) *S, uint8_t digest, uint8_t keys) {
     return X(_init_param)(S, &P);
 }
 
-static void null_pointers(void) {
+static void check_null_pointers(void) {
     X(_state) S;
     CHECK(STATUS(X(_init)(null_state(), LONGEST)) == ROW(DIES, -1));
     CHECK(STATUS(X(_init_key)(null_state(), LONGEST, "k", 1)) == ROW(DIES, -1));
@@ -163,7 +163,7 @@ static void null_pointers(void) {
           BLAKE2(out, NULL, NULL, LONGEST, 0, 0) == 0);
 }
 
-static void lengths(void) {
+static void check_lengths(void) {
     X(_state) S;
     CHECK(sizeof S == SIZE && __alignof__(X(_state)) == 1 &&
           offsetof(X(_state), last_node) == SIZE - 1);
@@ -186,7 +186,7 @@ static void lengths(void) {
 }
 
 /* Calls with a state after finalization, and with a zeroed state. */
-static void no_run(void) {
+static void check_without_run(void) {
     X(_state) S, before;
     CHECK(X(_init)(&S, LONGEST) == 0 && X(_update)(&S, message, 200) == 0);
     CHECK(X(_final)(&S, out, LONGEST) == 0);
@@ -200,7 +200,7 @@ static void no_run(void) {
 }
 
 /* A state that holds more than a block is refused and stays; libb2 may hold two. */
-static void refused_states(void) {
+static void check_refused_states(void) {
     static const uint32_t lengths[] = {BLOCK + 1, 256, 65536, (uint32_t)1 << 31, UINT32_MAX};
     X(_state) S, before;
     for (size_t i = 0; i < sizeof lengths / sizeof *lengths; i++) {
@@ -215,7 +215,7 @@ static void refused_states(void) {
 }
 
 /* A count that would pass 2^64 is refused, and the state stays. */
-static void long_message(void) {
+static void check_long_message(void) {
     X(_state) S, before;
     CHECK(X(_init)(&S, LONGEST) == 0);
     memset(S.t, 0xff, 8);
@@ -225,7 +225,7 @@ static void long_message(void) {
 }
 
 /* The two words of the counter are one number. BLAKE2s needs the second from 2^32 bytes on. */
-static void counter_words(void) {
+static void check_counter_words(void) {
     const uint64_t begun = ((uint64_t)1 << 32) - BLOCK, more = 3 * BLOCK + 1;
     uint64_t count;
     X(_state) S;
@@ -243,7 +243,7 @@ static void counter_words(void) {
 /* 2^32 + 100 zeros, whose digest hashlib has too:
  * hashed = hashlib.blake2b()
  * for n in [2**22] * 1024 + [100]: hashed.update(bytes(n)) */
-static void long_input(void) {
+static void check_long_input(void) {
 #ifdef TEST_S
     static const uint8_t wanted_bytes[] = {0x1f, 0x45, 0xae, 0xa8, 0x24, 0x53, 0xd6, 0x0d};
 #else
@@ -261,7 +261,7 @@ static void long_input(void) {
 }
 
 /* The fields that libb2's header names, and the digest over its own input or key. */
-static void alike(void) {
+static void check_fields_and_overlaps(void) {
     X(_state) S;
     CHECK(X(_init)(&S, 7) == 0 && X(_update)(&S, message, 5 * BLOCK + 3) == 0);
     CHECK(S.outlen == 7 && S.t[0] + S.buflen == 5 * BLOCK + 3 && S.t[1] == 0);
@@ -273,7 +273,7 @@ static void alike(void) {
 }
 
 /* The last-node flag is any value but 0. */
-static void last_node(void) {
+static void check_last_node(void) {
     X(_state) S;
     CHECK(X(_init)(&S, LONGEST) == 0 && X(_final)(&S, wanted, LONGEST) == 0);
     for (int value = 1; value < 256; value++) {
@@ -292,15 +292,15 @@ int main(int count, char **names) {
     int cases = count > 1 ? cases_of(names[1]) : 0;
 
     CHECK(cases > 50);
-    null_pointers();
-    lengths();
-    no_run();
-    if (!IS_LIBB2) refused_states();
-    long_message();
-    counter_words();
-    if (!IS_LIBB2 && getenv("VULFSJOR_TEST_HUGE")) long_input();
-    alike();
-    last_node();
+    check_null_pointers();
+    check_lengths();
+    check_without_run();
+    if (!IS_LIBB2) check_refused_states();
+    check_long_message();
+    check_counter_words();
+    if (!IS_LIBB2 && getenv("VULFSJOR_TEST_HUGE")) check_long_input();
+    check_fields_and_overlaps();
+    check_last_node();
     printf("%d cases, %d checks, %d failures\n", cases, checks, fails);
     return fails != 0;
 }

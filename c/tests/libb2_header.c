@@ -36,7 +36,7 @@ typedef B(param) param_t;
 static uint8_t bytes[4 * BLOCK];
 static uint8_t key[MAX + 1];
 
-static void tell(size_t size, size_t keylen, size_t length, const uint8_t *digest) {
+static void print_hash_line(size_t size, size_t keylen, size_t length, const uint8_t *digest) {
     printf("hash %s %zu %zu 0 0 0 %zu ", FAMILY, size, keylen, length);
     for (size_t i = 0; i < size; i++) printf("%02x", digest[i]);
     putchar('\n');
@@ -53,26 +53,26 @@ static int is_untouched(const uint8_t *out, size_t from, size_t room) {
     return 1;
 }
 
-static uint8_t *fresh(uint8_t *out, size_t room) {
+static uint8_t *fill_with_marks(uint8_t *out, size_t room) {
     memset(out, 0xaa, room);
     return out;
 }
 
 #define SAME(a, b) (!memcmp(&(a), &(b), sizeof(a)))
 
-static void every_size(void) {
+static void print_every_size(void) {
     for (size_t size = 0; size <= 65; size++) {
         uint8_t out[80];
         state_t state, before;
         int taken = size >= 1 && size <= MAX, wanted = taken ? 0 : -1;
         size_t written = taken ? size : 0;
-        CHECK(HASH(fresh(out, 80), bytes, NULL, size, 200, 0) == wanted &&
+        CHECK(HASH(fill_with_marks(out, 80), bytes, NULL, size, 200, 0) == wanted &&
               is_untouched(out, written, 80));
-        if (taken) tell(size, 0, 200, out);
-        CHECK(HASH(fresh(out, 80), bytes, key, size, 201, 5) == wanted &&
+        if (taken) print_hash_line(size, 0, 200, out);
+        CHECK(HASH(fill_with_marks(out, 80), bytes, key, size, 201, 5) == wanted &&
               is_untouched(out, written, 80));
-        if (taken) tell(size, 5, 201, out);
-        CHECK(blake2(fresh(out, 80), bytes, key, size, 9, 3) == (size >= 1 && size <= 64 ? 0 : -1));
+        if (taken) print_hash_line(size, 5, 201, out);
+        CHECK(blake2(fill_with_marks(out, 80), bytes, key, size, 9, 3) == (size >= 1 && size <= 64 ? 0 : -1));
         CHECK(is_untouched(out, size <= 64 ? size : 0, 80));
         memset(&state, 0x5a, sizeof state);
         CHECK(B(init)(&state, size) == wanted && (taken || is_zero(&state)));
@@ -80,15 +80,15 @@ static void every_size(void) {
         before = state;
         for (size_t room = 0; room <= 66; room++)
             if (room != size)
-                CHECK(B(final)(&state, fresh(out, 80), room) == -1 && is_untouched(out, 0, 80));
+                CHECK(B(final)(&state, fill_with_marks(out, 80), room) == -1 && is_untouched(out, 0, 80));
         CHECK(SAME(state, before));
-        CHECK(B(final)(&state, fresh(out, 80), size) == wanted && is_untouched(out, written, 80) &&
+        CHECK(B(final)(&state, fill_with_marks(out, 80), size) == wanted && is_untouched(out, written, 80) &&
               is_zero(&state));
-        if (taken) tell(size, 0, 7, out);
+        if (taken) print_hash_line(size, 0, 7, out);
         memset(&state, 0x5a, sizeof state);
         CHECK(B(init_key)(&state, size, key, 3) == wanted && (taken || is_zero(&state)));
-        CHECK(B(final)(&state, fresh(out, 80), size) == wanted && is_untouched(out, written, 80));
-        if (taken) tell(size, 3, 0, out);
+        CHECK(B(final)(&state, fill_with_marks(out, 80), size) == wanted && is_untouched(out, written, 80));
+        if (taken) print_hash_line(size, 3, 0, out);
     }
     for (size_t length = 0; length <= MAX + 1; length++) {
         state_t state;
@@ -97,17 +97,17 @@ static void every_size(void) {
         memset(&state, 0x5a, sizeof state);
         CHECK(B(init_key)(&state, MAX, key, length) == wanted && (!wanted || is_zero(&state)));
         CHECK(B(final)(&state, out, MAX) == wanted);
-        if (!wanted) tell(MAX, length, 0, out);
+        if (!wanted) print_hash_line(MAX, length, 0, out);
         CHECK(HASH(out, bytes, key, MAX, 3, length) == (length <= MAX ? 0 : -1));
-        if (length <= MAX) tell(MAX, length, 3, out);
+        if (length <= MAX) print_hash_line(MAX, length, 3, out);
     }
 }
 
-static void null_pointers(void) {
+static void check_null_pointers(void) {
     uint8_t out[MAX];
     state_t state, before;
     param_t param = {.digest_length = MAX, .fanout = 1, .depth = 1};
-    fresh(out, MAX);
+    fill_with_marks(out, MAX);
     CHECK(B(init)(NULL, MAX) == -1 && B(init)(NULL, 0) == -1);
     CHECK(B(init_key)(NULL, MAX, key, 1) == -1 && B(init_key)(&state, MAX, NULL, 1) == -1 &&
           is_zero(&state));
@@ -131,10 +131,10 @@ static void null_pointers(void) {
     CHECK(blake2(NULL, bytes, key, MAX, 1, 1) == -1 && blake2(out, NULL, key, MAX, 1, 1) == -1);
     CHECK(blake2(out, bytes, NULL, MAX, 1, 1) == -1 && is_untouched(out, 0, MAX));
     CHECK(HASH(out, NULL, key, MAX, 0, 1) == 0);
-    tell(MAX, 1, 0, out);
+    print_hash_line(MAX, 1, 0, out);
     CHECK(HASH(out, NULL, NULL, MAX, 0, 0) == 0);
-    tell(MAX, 0, 0, out);
-    fresh(out, MAX);
+    print_hash_line(MAX, 0, 0, out);
+    fill_with_marks(out, MAX);
     CHECK_64(HASH(out, bytes, key, TWO_TO(32) | MAX, 1, 1) == -1);
     CHECK_64(HASH(out, bytes, key, MAX, 1, TWO_TO(32) | 1) == -1);
     CHECK(HASH(out, bytes, key, ~(size_t)0, 1, 1) == -1);
@@ -151,29 +151,29 @@ static void blake2_is_blake2b(void) {
 }
 
 /* The output may overlap the input or the key, at any offset. */
-static void overlaps(void) {
+static void check_overlaps(void) {
     for (size_t at = 0; at + MAX <= 2 * BLOCK; at += 13) {
         uint8_t text[2 * BLOCK], other[2 * MAX];
         memcpy(text, bytes, sizeof text);
         CHECK(HASH(text + at, text, key, MAX, sizeof text, 7) == 0);
-        tell(MAX, 7, sizeof text, text + at);
+        print_hash_line(MAX, 7, sizeof text, text + at);
         CHECK(!memcmp(text, bytes, at) &&
               !memcmp(text + at + MAX, bytes + at + MAX, sizeof text - at - MAX));
         memcpy(other, key, MAX);
         if (at > MAX) continue;
         CHECK(HASH(other + at % MAX, bytes, other, MAX, 5, MAX) == 0);
-        tell(MAX, MAX, 5, other + at % MAX);
+        print_hash_line(MAX, MAX, 5, other + at % MAX);
     }
 }
 
 /* What is stricter than libb2. */
-static void stricter(void) {
+static void check_stricter_refusals(void) {
     uint8_t out[MAX], again[MAX];
     state_t state;
     CHECK(B(init)(&state, MAX) == 0 && B(update)(&state, bytes, 20) == 0 &&
           B(final)(&state, out, MAX) == 0);
-    tell(MAX, 0, 20, out);
-    CHECK(is_zero(&state) && B(final)(&state, fresh(again, MAX), MAX) == -1 &&
+    print_hash_line(MAX, 0, 20, out);
+    CHECK(is_zero(&state) && B(final)(&state, fill_with_marks(again, MAX), MAX) == -1 &&
           is_untouched(again, 0, MAX));
     CHECK(B(update)(&state, bytes, 1) == -1 && B(update)(&state, bytes, 0) == -1 &&
           is_zero(&state));
@@ -192,7 +192,7 @@ static void stricter(void) {
         CHECK(B(init)(&state, MAX) == 0 && B(update)(&state, bytes, 10) == 0);
         state.last_node = (uint8_t)on;
         CHECK(B(final)(&state, out, MAX) == 0);
-        if (!on) tell(MAX, 0, 10, out);
+        if (!on) print_hash_line(MAX, 0, 10, out);
         else {
             printf("last %s %d 10 ", FAMILY, MAX);
             for (size_t i = 0; i < MAX; i++) printf("%02x", out[i]);
@@ -201,7 +201,7 @@ static void stricter(void) {
     }
 }
 
-static void params(void) {
+static void check_params(void) {
     uint8_t out[MAX];
     state_t state;
     param_t param = {
@@ -224,7 +224,7 @@ static void params(void) {
     putchar('\n');
 }
 
-static void constants(void) {
+static void check_constants(void) {
     constant_t block = CONSTANT(BLOCKBYTES), longest = CONSTANT(OUTBYTES),
                keys = CONSTANT(KEYBYTES);
     CHECK(block == BLOCK && longest == MAX && keys == MAX);
@@ -235,13 +235,13 @@ static void constants(void) {
 int main(void) {
     for (size_t i = 0; i < sizeof bytes; i++) bytes[i] = (uint8_t)(i % 251);
     for (size_t i = 0; i < sizeof key; i++) key[i] = (uint8_t)(i + 100);
-    every_size();
-    null_pointers();
+    print_every_size();
+    check_null_pointers();
     blake2_is_blake2b();
-    overlaps();
-    stricter();
-    params();
-    constants();
+    check_overlaps();
+    check_stricter_refusals();
+    check_params();
+    check_constants();
     printf("end\n");
     fprintf(stderr, "%d checks, %d failures\n", checks, fails);
     return fails != 0;

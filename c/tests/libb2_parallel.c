@@ -56,7 +56,7 @@ static int is_zero(const void *bytes, size_t length) {
 static uint8_t out[256], message[2000];
 
 /* The digest of a message in random pieces, where the state may be copied between two of them. */
-static void take(X(_state) *S, text given, text wanted) {
+static void check_in_pieces(X(_state) *S, text given, text wanted) {
     X(_state) copy;
     for (size_t at = 0, n; at < given.length; at += n) {
         n = random_number() % (random_number() % 2 ? 20 : 1500) + 1;
@@ -79,7 +79,7 @@ static void hash_case(text key, text given, text wanted) {
     CHECK((key.length ? X(_init_key)(S, wanted.length, key.bytes, key.length)
                       : X(_init)(S, wanted.length)) == 0);
     CHECK(S->outlen == wanted.length);
-    take(S, given, wanted);
+    check_in_pieces(S, given, wanted);
     memset(out, 0xaa, sizeof out);
     CHECK(BLAKE2(out, or_null(given), or_null(key), wanted.length, given.length, key.length) == 0);
     CHECK(!memcmp(out, wanted.bytes, wanted.length) && out[wanted.length] == 0xaa);
@@ -106,7 +106,7 @@ static int cases_of(const char *name) {
     return cases;
 }
 
-static void null_pointers(void) {
+static void check_null_pointers(void) {
     X(_state) S;
     CHECK(STATUS(X(_init)(null_state(), LONGEST)) == ROW(DIES, -1));
     CHECK(STATUS(X(_init_key)(null_state(), LONGEST, "k", 1)) == ROW(DIES, -1));
@@ -123,7 +123,7 @@ static void null_pointers(void) {
           BLAKE2(out, NULL, NULL, LONGEST, 0, 0) == 0);
 }
 
-static void lengths(void) {
+static void check_lengths(void) {
     X(_state) S;
     CHECK(sizeof S == SIZE && __alignof__(X(_state)) == 1 &&
           offsetof(X(_state), outlen) == SIZE - 1);
@@ -140,7 +140,7 @@ static void lengths(void) {
 }
 
 /* Calls with a state after finalization, and with a zeroed state. */
-static void no_state(void) {
+static void check_without_state(void) {
     X(_state) S, before;
     CHECK(X(_init)(&S, LONGEST) == 0 && X(_update)(&S, message, 2000) == 0);
     CHECK(X(_final)(&S, out, LONGEST) == 0);
@@ -153,7 +153,7 @@ static void no_state(void) {
 }
 
 /* The output may overlap the input or the key. */
-static void overlaps(void) {
+static void check_overlaps(void) {
     uint8_t wanted[LONGEST], mixed[2000];
     CHECK(BLAKE2(wanted, message, message + 40, LONGEST, 2000, LONGEST) == 0);
     for (size_t at = 0; at + LONGEST <= 2000; at += 113) {
@@ -165,11 +165,11 @@ static void overlaps(void) {
 
 int main(int argc, char **argv) {
     for (size_t i = 0; i < sizeof message; i++) message[i] = (uint8_t)(i % 251);
-    null_pointers(); /* first: no process may fork once libb2 has threads */
+    check_null_pointers(); /* first: no process may fork once libb2 has threads */
     CHECK(argc > 1 && cases_of(argv[1]) > 50);
-    lengths();
-    no_state();
-    overlaps();
+    check_lengths();
+    check_without_state();
+    check_overlaps();
     printf("%d checks, %d failures\n", checks, fails);
     return fails != 0;
 }

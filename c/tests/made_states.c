@@ -12,14 +12,15 @@
 static uint8_t bytes[2048];
 
 /* The calls refuse a state, and it stays as it is. */
-static void stays(state_t state) {
+static void check_refused_and_unchanged(state_t state) {
     uint8_t out[MAX], blank[MAX];
     const state_t before = state;
     memset(out, 0xaa, sizeof out);
     memset(blank, 0xaa, sizeof blank);
     CHECK(!room_in(&state) && !BLAKE(count)(&state));
     CHECK(BLAKE(update)(&state, bytes, 5) == -1 && BLAKE(update)(&state, bytes, 0) == -1);
-    CHECK(end(&state, out, MAX) == -1 && end(&state, out, 1) == -1 && end(&state, out, 0) == -1);
+    CHECK(write_output(&state, out, MAX) == -1 && write_output(&state, out, 1) == -1);
+    CHECK(write_output(&state, out, 0) == -1);
 #ifdef TEST_T
     CHECK(vulfsjor_tree_leaves_ahead(&state, out, 64, 0, bytes, 7) == -1 && !vulfsjor_tree_leaf_length(&state));
     CHECK(vulfsjor_tree_update_leaves(&state, bytes, 64, bytes, 1) == -1);
@@ -43,7 +44,7 @@ static void stays(state_t state) {
     do {                                                                        \
         state_t state = made;                                                   \
         change;                                                                 \
-        stays(state);                                                           \
+        check_refused_and_unchanged(state);                                                           \
     } while (0)
 
 #define PAST_32 ((uint64_t)1 << 32)
@@ -113,7 +114,7 @@ static void long_counts(void) {
     CHECK(vulfsjor_tree_update(&state, bytes, 1001) == 0 && vulfsjor_tree_count(&state) == 1000 * (PAST_32 + 7) + 1001);
 }
 
-static void shape(state_t *state, int i) {
+static void vary_state(state_t *state, int i) {
     const uint64_t pending = 64 * (uint64_t)(i % 3), closed = state->closed % (i % 5 ? 1000 : (uint64_t)1 << 58);
     state->leaf.output_size = IN_STATE(MAX);
     state->root.output_size = IN_STATE(state->root.output_size % (MAX + 2));
@@ -178,7 +179,7 @@ static void long_counts(void) {
     CHECK(BLAKE(squeeze)(&state, out, 1) == -1 && BLAKE(squeeze)(&state, NULL, 0) == 0);
 }
 
-static void shape(state_t *state, int i) {
+static void vary_state(state_t *state, int i) {
     const uint64_t length = i % 4 == 1 ? UNKNOWN : random_number() % UNKNOWN;
     state->root.output_size = IN_STATE(MAX);
     state->root.pending_length = IN_STATE(random_number() % (BLOCK + 9));
@@ -234,7 +235,7 @@ static void long_counts(void) {
     }
 }
 
-static void shape(state_t *state, int i) {
+static void vary_state(state_t *state, int i) {
     uint64_t counter = IN_STATE(state->lanes.counter) / (2 * LEAVES);
     if (i % 4 == 1) counter = MOST / LEAVES - random_number() % STRIPE;
     state->output_size = IN_STATE(IN_STATE(state->output_size) % (MAX + 6));
@@ -288,7 +289,7 @@ static void long_counts(void) {
     CHECK(BLAKE(update)(&state, bytes, 3 * BLOCK) == 0 && state.counter == IN_STATE(((uint64_t)1 << 40) + 10 * BLOCK));
 }
 
-static void shape(state_t *state, int i) {
+static void vary_state(state_t *state, int i) {
     state->output_size = IN_STATE(state->output_size % (MAX + 6));
     state->pending_length = IN_STATE(state->pending_length % (BLOCK + 12));
     state->start_length = IN_STATE(state->start_length % (BLOCK + 12));
@@ -303,7 +304,7 @@ static void random_states(void) {
     int taken = 0;
     for (int i = 0; i < 4000; i++) {
         for (size_t j = 0; j < sizeof state; j++) ((uint8_t *)&state)[j] = (uint8_t)random_number();
-        if (i % 4) shape(&state, i);
+        if (i % 4) vary_state(&state, i);
         int updated = BLAKE(update)(&state, bytes, (size_t)i % (4 * BLOCK)), other = 0;
         size_t room = room_in(&state) < sizeof out ? (size_t)room_in(&state) : random_number() % sizeof out;
 #ifdef TEST_NODES
@@ -312,7 +313,7 @@ static void random_states(void) {
 #ifndef TEST_T
         if (i % 3 == 0) other |= BLAKE(reset)(&state);
 #endif
-        int ended = end(&state, out, room);
+        int ended = write_output(&state, out, room);
         CHECK((updated == 0 || updated == -1) && (other == 0 || other == -1) && (ended == 0 || ended == -1));
         taken += ended == 0;
 #if !defined(TEST_T) && !defined(TEST_X)
@@ -363,8 +364,8 @@ static void long_arguments(size_t n) {
     }
 #ifndef TEST_X
     state_t state = made_state(), before = state;
-    UNTOUCHED(end(&state, out, n));
-    UNTOUCHED(end(&state, out, n | MAX));
+    UNTOUCHED(write_output(&state, out, n));
+    UNTOUCHED(write_output(&state, out, n | MAX));
     CHECK(SAME(state, before));
 #endif
 #ifdef TEST_T
@@ -400,9 +401,9 @@ int main(void) {
     state_t state;
     for (size_t i = 0; i < sizeof bytes; i++) bytes[i] = (uint8_t)(i % 251);
     memset(&state, 0, sizeof state);
-    stays(state);
+    check_refused_and_unchanged(state);
     memset(&state, 0xff, sizeof state);
-    stays(state);
+    check_refused_and_unchanged(state);
     unready_states(made_state());
     long_counts();
     random_states();

@@ -48,7 +48,7 @@ static struct {
     uint64_t given[11], answer;
 } last, before;
 
-static uint64_t note(const char *name, size_t count, const uint64_t *given) {
+static uint64_t record_call(const char *name, size_t count, const uint64_t *given) {
     puts(name);
     before = last;
     last.name = name;
@@ -63,7 +63,7 @@ static int wipes;
 /* A function of the library with N parameters. */
 #define NOTE(type, name, n, parameters, names)                            \
     DEFINED(type, name) parameters {                                      \
-        return (type)note(#name, n, (const uint64_t[]){Z##n names});      \
+        return (type)record_call(#name, n, (const uint64_t[]){Z##n names});      \
     }
 #define BYTES(name) const uint8_t *name, size_t name##_length
 #define OUT uint8_t *o, size_t n
@@ -88,7 +88,7 @@ static int wipes;
     NOTE(size_t, vulfsjor_ffi_##x##_state_size, 0, (void), ())                                     \
     DEFINED(void, vulfsjor_ffi_##x##_wipe)(vulfsjor_##x##_state * S) {                             \
         wipes++;                                                                                   \
-        note("vulfsjor_ffi_" #x "_wipe", 1, (const uint64_t[]){Z(S)});                             \
+        record_call("vulfsjor_ffi_" #x "_wipe", 1, (const uint64_t[]){Z(S)});                             \
     }
 #define MORE_NOTES(x)                                                                              \
     NOTE(int32_t, vulfsjor_ffi_##x##_many, 11,                                                     \
@@ -124,7 +124,7 @@ MORE_NOTES(blake2s)
     NOTE(uint64_t, vulfsjor_ffi_##x##_count, 1, (const vulfsjor_##x##_state *S), (S))              \
     NOTE(size_t, vulfsjor_ffi_##x##_state_size, 0, (void), ())                                     \
     DEFINED(void, vulfsjor_ffi_##x##_wipe)(vulfsjor_##x##_state * S) {                             \
-        note("vulfsjor_ffi_" #x "_wipe", 1, (const uint64_t[]){Z(S)});                             \
+        record_call("vulfsjor_ffi_" #x "_wipe", 1, (const uint64_t[]){Z(S)});                             \
     }
 OUTPUT_NOTES(blake2xb)
 OUTPUT_NOTES(blake2xs)
@@ -170,10 +170,10 @@ NOTE(size_t, vulfsjor_ffi_tree_state_size, 0, (void), ())
 NOTE(uint32_t, vulfsjor_library_version, 0, (void), ())
 #endif
 DEFINED(void, vulfsjor_ffi_tree_wipe)(vulfsjor_tree_state *S) {
-    note("vulfsjor_ffi_tree_wipe", 1, (const uint64_t[]){Z(S)});
+    record_call("vulfsjor_ffi_tree_wipe", 1, (const uint64_t[]){Z(S)});
 }
 DEFINED(void, vulfsjor_ffi_wipe)(uint8_t *b, size_t n) {
-    note("vulfsjor_ffi_wipe", 2, (const uint64_t[]){Z(b), n});
+    record_call("vulfsjor_ffi_wipe", 2, (const uint64_t[]){Z(b), n});
 }
 
 /* ---- the tests */
@@ -241,7 +241,7 @@ static uint8_t in[1], out[1], key[1], salt[1], persona[1];
 static state_t state;
 
 #ifdef TEST_X
-static void outputs(void) {
+static void check_outputs(void) {
     PASSES(BLAKE(init)(&state, L1), NAME(init_salt_personal), 8,
            (&state, L1, ANY, 0, ANY, 0, ANY, 0));
     PASSES(BLAKE(init_key)(&state, L1, key, L2), NAME(init_salt_personal), 8,
@@ -269,7 +269,7 @@ static void outputs(void) {
            (out, L1, key, L2, ANY, 0));
 }
 #else
-static void inits(void) {
+static void check_inits(void) {
     PASSES(BLAKE(init)(&state, L1), NAME(init_salt_personal), 8,
            (&state, L1, ANY, 0, ANY, 0, ANY, 0));
     PASSES(BLAKE(init_key)(&state, L1, key, L2), NAME(init_key), 4, (&state, L1, key, L2));
@@ -282,7 +282,7 @@ static void inits(void) {
 }
 
 #ifndef TEST_P
-static void nodes_and_messages(void) {
+static void check_nodes_and_messages(void) {
     static const vulfsjor_tree place = {~(uint64_t)1, ~(uint32_t)2, 3, 4, 5, 6};
     vulfsjor_message messages[3] = {{in, L1}, {in, L2}, {in, 0}};
     param_t param = {0};
@@ -297,7 +297,7 @@ static void nodes_and_messages(void) {
 }
 #endif
 
-static void calls(void) {
+static void check_calls(void) {
     PASSES(BLAKE(update)(&state, in, L1), NAME(update), 3, (&state, in, L1));
     PASSES(BLAKE(update)(&state, NULL, 0), NAME(update), 3, (&state, ANY, 0));
     PASSES(BLAKE(final)(&state, out, L1), NAME(final), 3, (&state, out, L1));
@@ -351,7 +351,7 @@ static void names_of_libb2(void) {
 #endif
 
 #if !defined(TEST_S) && !defined(TEST_P) && !defined(TEST_X)
-static void trees(void) {
+static void check_trees(void) {
     vulfsjor_tree_state tree;
     const uint32_t leaf = ~(uint32_t)6;
     const vulfsjor_limits limits = {0};
@@ -409,16 +409,16 @@ static void trees(void) {
 
 int main(void) {
 #ifdef TEST_X
-    outputs();
+    check_outputs();
 #else
-    inits();
+    check_inits();
 #ifndef TEST_P
-    nodes_and_messages();
+    check_nodes_and_messages();
 #endif
-    calls();
+    check_calls();
     names_of_libb2();
 #if !defined(TEST_S) && !defined(TEST_P)
-    trees();
+    check_trees();
 #endif
 #endif
     fprintf(stderr, "%d checks, %d failures\n", checks, fails);

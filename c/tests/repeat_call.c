@@ -10,7 +10,7 @@ static vulfsjor_tree_state t;
 static uint8_t data[256], out[64];
 
 /* Returns the status of the call of this task, or -1 if there is no such task. */
-static int call(int task) {
+static int call_task(int task) {
     vulfsjor_tree node = {.depth = 2, .inner_length = 64};
     switch (task) {
         case 0: return vulfsjor_blake2b_update(&b, data, 1);
@@ -35,6 +35,6 @@ int main(int count, char **words) {
     if (vulfsjor_blake2b_init(&b, 64) || vulfsjor_blake2s_init(&s, 32)) return 2;
     if (vulfsjor_tree_init(&t, 64, 0, 0, 0, 0, 4096)) return 2;
     for (int i = 0; i < times; i++)
-        if (call(task)) return 1;
+        if (call_task(task)) return 1;
     return 0;
 }

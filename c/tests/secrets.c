@@ -48,7 +48,7 @@ static const uint8_t *key_or_null(void) {
     return key.length ? key.bytes : NULL;
 }
 
-static void hide(text *secret) { (void)VALGRIND_MAKE_MEM_UNDEFINED(secret->bytes, secret->length); }
+static void mark_secret(text *secret) { (void)VALGRIND_MAKE_MEM_UNDEFINED(secret->bytes, secret->length); }
 
 /* Whether these bytes are the expected ones, the first and the last of which memcheck knows for a
  * secret, or not. */
@@ -74,7 +74,7 @@ static size_t next_piece(size_t left, unsigned cut) {
     return piece < left ? piece : left;
 }
 
-static void absorb(state_t *state, unsigned cut) {
+static void absorb_in_pieces(state_t *state, unsigned cut) {
     for (size_t from = 0, piece; from < message.length; from += piece, cut += 3) {
         piece = next_piece(message.length - from, cut);
         require(!BLAKE(update)(state, message.bytes + from, piece), "update is refused");
@@ -91,7 +91,7 @@ static void one_call(void) {
 static unsigned long allowed;
 
 #ifdef TEST_X
-static void squeeze(state_t *state, unsigned cut) {
+static void squeeze_in_pieces(state_t *state, unsigned cut) {
     for (size_t from = 0, piece; from < wanted.length; from += piece, cut += 3) {
         piece = next_piece(wanted.length - from, cut);
         require(!BLAKE(squeeze)(state, out + from, piece), "squeeze is refused");
@@ -101,14 +101,14 @@ static void squeeze(state_t *state, unsigned cut) {
 /* An output in pieces, and again after a reset, with a root hash that is a secret by itself. */
 static void in_pieces(const state_t *made, unsigned cut) {
     state_t state = *made;
-    absorb(&state, cut);
-    squeeze(&state, cut);
+    absorb_in_pieces(&state, cut);
+    squeeze_in_pieces(&state, cut);
     require(is_wanted(out), "another output in pieces");
     require(!BLAKE(reset)(&state), "reset is refused");
-    absorb(&state, cut + 1);
+    absorb_in_pieces(&state, cut + 1);
     require(!BLAKE(squeeze)(&state, NULL, 0), "a squeeze of nothing is refused");
     (void)VALGRIND_MAKE_MEM_UNDEFINED(state.reader.root, sizeof state.reader.root);
-    squeeze(&state, cut + 1);
+    squeeze_in_pieces(&state, cut + 1);
     require(is_wanted_secret(out, 1), "another output of a secret root hash");
     BLAKE(wipe)(&state);
 }
@@ -121,8 +121,8 @@ static void of_state(const state_t *made) {
 static void output_case(size_t size) {
     const size_t length = size ? size : (size_t)CONSTANT(UNKNOWN_LENGTH);
     state_t made;
-    hide(&key);
-    hide(&message);
+    mark_secret(&key);
+    mark_secret(&message);
     require(!BLAKE(init_salt_personal)(&made, length, key_or_null(), key.length, salt.bytes,
                                        salt.length, persona.bytes, persona.length),
             "init_salt_personal is refused");
@@ -141,7 +141,7 @@ static void output_case(size_t size) {
 }
 #else
 /* Checks the result of a comparison. `before` is the number of reports before it. */
-static void compared(unsigned long before, int result, int is_right) {
+static void check_comparison(unsigned long before, int result, int is_right) {
     unsigned long reports = VALGRIND_COUNT_ERRORS - before;
     require(reports <= 1, "more than one report in a comparison");
     allowed += reports;
@@ -153,24 +153,24 @@ static void compared(unsigned long before, int result, int is_right) {
 static int has_key;
 
 /* Compares with the right digest, or with one that is wrong in its first or its last byte. */
-static void verify(state_t *state, int wrong) {
+static void check_verify(state_t *state, int wrong) {
     state_t copy = *state;
     text tag = wanted;
     unsigned long before;
     if (wrong) tag.bytes[wrong == 1 ? 0 : tag.length - 1] ^= 1;
     before = VALGRIND_COUNT_ERRORS;
-    compared(before, BLAKE(verify)(&copy, tag.bytes, tag.length), !wrong && has_key);
+    check_comparison(before, BLAKE(verify)(&copy, tag.bytes, tag.length), !wrong && has_key);
     require(!BLAKE(final)(state, out, wanted.length), "final is refused");
     before = VALGRIND_COUNT_ERRORS;
-    compared(before, vulfsjor_memcmp(out, tag.bytes, tag.length), !wrong);
+    check_comparison(before, vulfsjor_memcmp(out, tag.bytes, tag.length), !wrong);
 }
 
 static void in_pieces(const state_t *made, unsigned cut) {
     state_t state = *made, copy;
-    absorb(&state, cut);
+    absorb_in_pieces(&state, cut);
     copy = state;
     require(!BLAKE(reset)(&copy), "reset is refused");
-    absorb(&copy, cut + 1);
+    absorb_in_pieces(&copy, cut + 1);
     require(!BLAKE(final)(&copy, out, wanted.length) && is_wanted(out),
             "another digest behind a reset");
     copy = state;
@@ -184,14 +184,14 @@ static void of_state(const state_t *made) {
     for (unsigned cut = 0; cut < 7; cut++) in_pieces(made, cut);
     for (int wrong = 0; wrong < 3; wrong++) {
         state_t state = *made;
-        absorb(&state, 6);
-        verify(&state, wrong);
+        absorb_in_pieces(&state, 6);
+        check_verify(&state, wrong);
     }
 }
 
 #ifndef TEST_P
 /* One to nine messages: some are hashed in parallel, and some one by one. */
-static void many(void) {
+static void check_many(void) {
     vulfsjor_message messages[9];
     for (size_t i = 0; i < 9; i++) {
         messages[i].bytes = message.bytes;
@@ -209,28 +209,28 @@ static void many(void) {
 #endif
 
 /* The key as digits, and back. The status depends on whether all characters are digits. */
-static void hexadecimal(void) {
+static void check_hexadecimal(void) {
     char digits[2 * MAX + 1];
     uint8_t bytes[MAX];
     unsigned long before;
     require(!vulfsjor_bin2hex(digits, sizeof digits, key.bytes, key.length), "bin2hex is refused");
     before = VALGRIND_COUNT_ERRORS;
-    compared(before, vulfsjor_hex2bin(bytes, key.length, digits, 2 * key.length), 1);
+    check_comparison(before, vulfsjor_hex2bin(bytes, key.length, digits, 2 * key.length), 1);
     vulfsjor_wipe(bytes, key.length);
 }
 
 static void hash_case(void) {
     state_t made;
     has_key = key.length > 0;
-    hide(&key);
-    hide(&message);
-    hexadecimal();
+    mark_secret(&key);
+    mark_secret(&message);
+    check_hexadecimal();
     require(!BLAKE(init_salt_personal)(&made, wanted.length, key_or_null(), key.length, salt.bytes,
                                        salt.length, persona.bytes, persona.length),
             "init_salt_personal is refused");
     of_state(&made);
 #ifndef TEST_P
-    many();
+    check_many();
 #endif
     if (salt.length + persona.length) return;
     one_call();
@@ -259,8 +259,8 @@ static void node_case(const char *numbers) {
     tree.node_depth = (uint8_t)node_depth;
     tree.inner_length = (uint8_t)inner_length;
     has_key = key.length > 0;
-    hide(&key);
-    hide(&message);
+    mark_secret(&key);
+    mark_secret(&message);
     require(!BLAKE(init_tree)(&made, wanted.length, key_or_null(), key.length, salt.bytes, salt.length,
                               persona.bytes, persona.length, &tree),
             "init_tree is refused");
@@ -276,7 +276,7 @@ static void block_case(const char *digits, int last_node) {
     memcpy(&given, block.bytes, sizeof given);
     has_key = given.key_length > 0;
     key.length = 0;
-    hide(&message);
+    mark_secret(&message);
     require(!BLAKE(init_param)(&made, &given), "init_param is refused");
     require(!BLAKE(set_last_node)(&made, last_node), "set_last_node is refused");
     of_state(&made);
@@ -290,7 +290,7 @@ static void root_case(uint32_t leaf) {
     vulfsjor_tree_state state;
     size_t leaves = (size_t)vulfsjor_tree_leaf_count(message.length, leaf);
     key.length = 0;
-    hide(&message);
+    mark_secret(&message);
     require(!vulfsjor_tree_root(out, wanted.length, message.bytes, message.length, salt.bytes,
                                 salt.length, persona.bytes, persona.length, leaf) &&
                 is_wanted(out),
@@ -361,12 +361,12 @@ static void one_case(char kind) {
 }
 
 /* Returns 0 if memcheck reports the branch or the address. */
-static int planted(int is_branch) {
+static int plant_leak(int is_branch) {
     volatile unsigned found = 0;
     static const uint8_t table[256] = {1};
     memset(key.bytes, 3, 1);
     key.length = 1;
-    hide(&key);
+    mark_secret(&key);
     if (!is_branch) found += ((volatile const uint8_t *)table)[key.bytes[0]];
     else if (((volatile uint8_t *)key.bytes)[0] > 3) found = (unsigned)puts("never");
     return VALGRIND_COUNT_ERRORS ? 0 : 1;
@@ -377,7 +377,7 @@ int main(int count, char **words) {
     FILE *file;
     if (count != 2 || !RUNNING_ON_VALGRIND) return 2;
     if (!strcmp(words[1], "branch") || !strcmp(words[1], "address"))
-        return planted(words[1][0] == 'b');
+        return plant_leak(words[1][0] == 'b');
     file = fopen(words[1], "r");
     if (!file) return 2;
     while (fscanf(file, "%2s", kind) == 1) {

@@ -43,7 +43,7 @@ static int open_at(long from) {
 }
 
 static uint64_t reported;
-static int report(void *answer, uint64_t count) {
+static int note_progress(void *answer, uint64_t count) {
     CHECK(count > reported);
     reported = count;
     return *(int *)answer;
@@ -58,7 +58,7 @@ static void update_from(unsigned threads, int answer) {
     reported = 0;
     CHECK(!vulfsjor_tree_init(&state, ROOT, NULL, 0, NULL, 0, LEAF) &&
           !vulfsjor_tree_update(&state, message, FROM));
-    status = vulfsjor_tree_update_fd(&state, file, threads, report, &answer);
+    status = vulfsjor_tree_update_fd(&state, file, threads, note_progress, &answer);
     if (answer) {
         CHECK(status == -1 && errno == ECANCELED && vulfsjor_tree_count(&state) == FROM);
     } else {
@@ -237,7 +237,7 @@ static void try_affinity(void) {
     DWORD_PTR own, all;
 
     CHECK(GetProcessAffinityMask(GetCurrentProcess(), &own, &all));
-    CHECK(SetProcessAffinityMask(GetCurrentProcess(), own & -own) && processors() == 1);
+    CHECK(SetProcessAffinityMask(GetCurrentProcess(), own & -own) && processor_count() == 1);
     CHECK(SetProcessAffinityMask(GetCurrentProcess(), own));
 }
 #else
@@ -261,7 +261,7 @@ static thread_result THREAD_CALL run_with_others(void *given) {
 static void try_start(unsigned wanted_processors) {
     thread threads[COUNT];
 
-    CHECK(processors() == wanted_processors);
+    CHECK(processor_count() == wanted_processors);
     CHECK(start_threads(threads, COUNT, run_with_others, &running) == COUNT);
     for (int i = 0; i < COUNT; i++) join_thread(threads[i]);
     CHECK(running == COUNT);

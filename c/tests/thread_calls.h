@@ -41,8 +41,8 @@ static struct {
 
 static int allocated, running, started; /* blocks and threads that are left; threads in all */
 
-static void add(int *counter, int n) { __atomic_fetch_add(counter, n, __ATOMIC_SEQ_CST); }
-static int value(int *counter) { return __atomic_load_n(counter, __ATOMIC_SEQ_CST); }
+static void atomic_add(int *counter, int n) { __atomic_fetch_add(counter, n, __ATOMIC_SEQ_CST); }
+static int atomic_value(int *counter) { return __atomic_load_n(counter, __ATOMIC_SEQ_CST); }
 
 /* Whether this call is the one that fails. */
 static int fails_now(const char *call) {
@@ -66,14 +66,14 @@ static struct {
 } reads;
 
 static void wait_for(int *counter, int n) {
-    while (value(counter) < n) usleep(100);
+    while (atomic_value(counter) < n) usleep(100);
 }
 
 /* Waits for reads.least reads, which come before that of the first byte ends, and no more do. */
 static void wait_for_reads(void) {
     wait_for(&reads.calls, reads.least);
     usleep(20000);
-    CHECK(value(&reads.calls) == reads.least);
+    CHECK(atomic_value(&reads.calls) == reads.least);
 }
 
 /* Whether this read is interrupted. */
@@ -83,7 +83,7 @@ static int is_interrupted(int file) {
     if (!(fcntl(file, F_GETFD) & FD_CLOEXEC)) reads.inherited = 1;
     if (call == reads.resized_at) {
         if (ftruncate(reads.file, reads.size)) abort();
-        add(&reads.resized, 1);
+        atomic_add(&reads.resized, 1);
     }
     if (reads.resized_at && call > reads.resized_at) wait_for(&reads.resized, 1);
     if (reads.waits) wait_for(call == 1 ? &reads.calls : &reads.ended, call == 1 ? 2 : 1);
@@ -92,7 +92,7 @@ static int is_interrupted(int file) {
     return 1;
 }
 
-static size_t shortened(size_t n) { return reads.most && n > reads.most ? reads.most : n; }
+static size_t shortened_read(size_t n) { return reads.most && n > reads.most ? reads.most : n; }
 
 /* How many bytes of each MiB of a long file were read; null: files are read, and not only noted. */
 static uint32_t *seen;
@@ -185,12 +185,12 @@ WRAP(void *, malloc, (size_t n)) {
 
     if (n > __atomic_load_n(&largest, __ATOMIC_RELAXED))
         __atomic_store_n(&largest, n, __ATOMIC_RELAXED);
-    if (block) add(&allocated, 1), memset(block, 0x5a, n); /* no digests of the call before */
+    if (block) atomic_add(&allocated, 1), memset(block, 0x5a, n); /* no digests of the call before */
     return block;
 }
 
 WRAP(void, free, (void *block)) {
-    if (block) add(&allocated, -1);
+    if (block) atomic_add(&allocated, -1);
     __real_free(block);
 }
 
@@ -211,10 +211,10 @@ static int blocks_signals(void) {
 static void *(*hash)(void *);
 static int wrong_masks;
 static void *hash_and_end(void *given) {
-    if (!blocks_signals()) add(&wrong_masks, 1);
+    if (!blocks_signals()) atomic_add(&wrong_masks, 1);
     void *answer = hash(given);
 
-    add(&reads.ended, 1);
+    atomic_add(&reads.ended, 1);
     return answer;
 }
 
@@ -225,13 +225,13 @@ WRAP(int, pthread_create, (pthread_t *t, const pthread_attr_t *a, void *(*f)(voi
     error = fails_now("pthread_create") ? fault.error
                                         : __real_pthread_create(t, a, hash_and_end, x);
 
-    if (!error) add(&running, 1), add(&started, 1);
+    if (!error) atomic_add(&running, 1), atomic_add(&started, 1);
     return error;
 }
 
 WRAP(int, pthread_join, (pthread_t t, void **x)) {
-    add(&reads.ended, 1); /* the caller's thread has no more to do */
-    add(&running, -1);
+    atomic_add(&reads.ended, 1); /* the caller's thread has no more to do */
+    atomic_add(&running, -1);
     return __real_pthread_join(t, x);
 }
 
@@ -250,15 +250,15 @@ WRAP(long, sysconf, (int name)) {
 WRAP(ssize_t, pread, (int f, void *to, size_t n, off_t from)) {
     if (seen) return note_read(n, from);
     if (reads.least && !from) {
-        add(&reads.calls, 1);
+        atomic_add(&reads.calls, 1);
         wait_for_reads();
         return fails_now("first pread") ? -1 : __real_pread(f, to, n, from);
     }
-    return is_interrupted(f) || fails_now("pread") ? -1 : __real_pread(f, to, shortened(n), from);
+    return is_interrupted(f) || fails_now("pread") ? -1 : __real_pread(f, to, shortened_read(n), from);
 }
 
 WRAP(ssize_t, read, (int f, void *to, size_t n)) {
-    return is_interrupted(f) || fails_now("read") ? -1 : __real_read(f, to, shortened(n));
+    return is_interrupted(f) || fails_now("read") ? -1 : __real_read(f, to, shortened_read(n));
 }
 
 /* ---- what is called over them */
@@ -269,7 +269,7 @@ static size_t length;
 static uint32_t leaf;
 static unsigned asked;
 
-static void wish(const char *call, int at, int error) {
+static void plan_fault(const char *call, int at, int error) {
     fault.call = call;
     fault.at = at;
     fault.error = error;
@@ -287,8 +287,8 @@ static void write_file(size_t n) {
 }
 
 /* Takes the file of this length, and the root that it has. */
-static void take(size_t n, uint32_t leaf_length, unsigned threads) {
-    wish("", 0, 0);
+static void use_file(size_t n, uint32_t leaf_length, unsigned threads) {
+    plan_fault("", 0, 0);
     length = n;
     leaf = leaf_length;
     asked = threads;
@@ -402,7 +402,7 @@ static int root_of_piped_rest(void) {
 }
 
 /* How many descriptors are open. */
-static int descriptors(void) {
+static int open_descriptors(void) {
     DIR *all = opendir("/proc/self/fd");
     int count = 0;
 
@@ -413,8 +413,8 @@ static int descriptors(void) {
 
 /* Makes the call, which has to fail with this errno, or to succeed if `error` is 0. No memory,
  * thread or descriptor may be left. */
-static void expect(int (*call)(void), int error) {
-    int open = descriptors(), status;
+static void expect_errno(int (*call)(void), int error) {
+    int open = open_descriptors(), status;
 
     memcpy(root, blank, 64);
     errno = reads.inherited = 0;
@@ -422,25 +422,25 @@ static void expect(int (*call)(void), int error) {
     CHECK(call != root_of_file || !reads.inherited);
     CHECK(status == (error ? -1 : 0) && (!error || errno == error));
     CHECK(!memcmp(root, error ? blank : wanted, 64));
-    CHECK(!value(&allocated) && !value(&running) && descriptors() == open);
+    CHECK(!atomic_value(&allocated) && !atomic_value(&running) && open_descriptors() == open);
 }
 
 /* Fails the first call of this name, then the second, until there is no such call. There have to be
  * at least `least` of them. */
-static void each_fails(int (*call)(void), const char *name, int given, int error, int least) {
+static void each_call_fails(int (*call)(void), const char *name, int given, int error, int least) {
     int at = 0, hit = 1;
 
     while (hit) {
-        int open = descriptors(), status;
-        wish(name, ++at, given);
+        int open = open_descriptors(), status;
+        plan_fault(name, ++at, given);
         memcpy(root, blank, 64);
         errno = 0;
         status = call();
         hit = is_hit();
         CHECK(status == (hit && error ? -1 : 0) && (!status || errno == error));
         CHECK(!memcmp(root, status ? blank : wanted, 64));
-        CHECK(!value(&allocated) && !value(&running) && descriptors() == open);
+        CHECK(!atomic_value(&allocated) && !atomic_value(&running) && open_descriptors() == open);
     }
     CHECK(at > least);
-    wish("", 0, 0);
+    plan_fault("", 0, 0);
 }

@@ -15,151 +15,151 @@
 #include "thread_calls.h"
 
 /* The file has another length from this read on. */
-static void resize(int at, size_t size, int error) {
+static void resize_at_read(int at, size_t size, int error) {
     int (*const calls[])(void) = {root_of_file, root_of_all};
 
     for (size_t i = 0; i < sizeof calls / sizeof *calls; i++) {
         write_file(length);
-        wish("", 0, 0);
+        plan_fault("", 0, 0);
         reads.resized_at = at;
         reads.size = (off_t)size;
         reads.file = open(path, O_RDWR);
-        expect(calls[i], error);
+        expect_errno(calls[i], error);
         close(reads.file);
         memset(&reads, 0, sizeof reads);
     }
 }
 
 static void memory_is_refused(void) {
-    take(FEW, 4096, 4);
-    each_fails(root_of_bytes, "malloc", 0, ENOMEM, 1);
-    each_fails(root_of_updates, "malloc", 0, ENOMEM, 1);
-    wish("malloc", 2, 0);
-    expect(root_of_bytes, 0); /* one for digests, since the bytes are in memory */
+    use_file(FEW, 4096, 4);
+    each_call_fails(root_of_bytes, "malloc", 0, ENOMEM, 1);
+    each_call_fails(root_of_updates, "malloc", 0, ENOMEM, 1);
+    plan_fault("malloc", 2, 0);
+    expect_errno(root_of_bytes, 0); /* one for digests, since the bytes are in memory */
     CHECK(!is_hit());
-    each_fails(root_of_file, "malloc", 0, ENOMEM, 2); /* that, and a buffer or more */
-    each_fails(root_of_pipe, "malloc", 0, ENOMEM, 1);
-    each_fails(root_of_rest, "malloc", 0, ENOMEM, 3); /* and one for what one thread reads */
-    each_fails(root_of_piped_rest, "malloc", 0, ENOMEM, 1);
+    each_call_fails(root_of_file, "malloc", 0, ENOMEM, 2); /* that, and a buffer or more */
+    each_call_fails(root_of_pipe, "malloc", 0, ENOMEM, 1);
+    each_call_fails(root_of_rest, "malloc", 0, ENOMEM, 3); /* and one for what one thread reads */
+    each_call_fails(root_of_piped_rest, "malloc", 0, ENOMEM, 1);
     asked = 1;
-    wish("malloc", 1, 0);
-    expect(root_of_bytes, 0); /* one thread needs none */
-    expect(root_of_updates, 0);
+    plan_fault("malloc", 1, 0);
+    expect_errno(root_of_bytes, 0); /* one thread needs none */
+    expect_errno(root_of_updates, 0);
     CHECK(!is_hit());
     asked = 0;
 }
 
 /* Those that run hash everything. */
 static void threads_do_not_start(void) {
-    take(FEW, 100, 8);
-    each_fails(root_of_bytes, "pthread_create", EAGAIN, 0, 7);
-    each_fails(root_of_file, "pthread_create", EPERM, 0, 7);
-    each_fails(root_of_updates, "pthread_create", EAGAIN, 0, 7);
-    each_fails(root_of_rest, "pthread_create", EAGAIN, 0, 7);
-    wish("pthread_create", 1, EAGAIN);
-    expect(root_of_bytes, 0);
+    use_file(FEW, 100, 8);
+    each_call_fails(root_of_bytes, "pthread_create", EAGAIN, 0, 7);
+    each_call_fails(root_of_file, "pthread_create", EPERM, 0, 7);
+    each_call_fails(root_of_updates, "pthread_create", EAGAIN, 0, 7);
+    each_call_fails(root_of_rest, "pthread_create", EAGAIN, 0, 7);
+    plan_fault("pthread_create", 1, EAGAIN);
+    expect_errno(root_of_bytes, 0);
     CHECK(started == 0); /* after one that failed no other is tried */
-    wish("pthread_create", 4, EAGAIN);
-    expect(root_of_file, 0);
+    plan_fault("pthread_create", 4, EAGAIN);
+    expect_errno(root_of_file, 0);
     CHECK(started == 3);
 }
 
 static void library_refuses(void) {
-    take(FEW, 4096, 4);
-    each_fails(root_of_bytes, "vulfsjor_ffi_tree_leaves", 0, EINVAL, 4);
-    each_fails(root_of_bytes, "vulfsjor_ffi_tree_init_root", 0, EINVAL, 1);
-    each_fails(root_of_bytes, "vulfsjor_ffi_blake2b_update", 0, EINVAL, 4);
-    each_fails(root_of_bytes, "vulfsjor_ffi_blake2b_final", 0, EINVAL, 1);
-    each_fails(root_of_file, "vulfsjor_ffi_tree_leaves", 0, EINVAL, 4);
-    each_fails(root_of_file, "vulfsjor_ffi_tree_init_root", 0, EINVAL, 1);
-    each_fails(root_of_file, "vulfsjor_ffi_blake2b_update", 0, EINVAL, 4);
-    each_fails(root_of_bytes, "vulfsjor_ffi_tree_plan", 0, EINVAL, 1);
-    each_fails(root_of_file, "vulfsjor_ffi_tree_plan", 0, EFBIG, 1);
-    each_fails(root_of_updates, "vulfsjor_ffi_tree_plan_update", 0, EINVAL, 1);
-    each_fails(root_of_bytes, "vulfsjor_ffi_tree_part", 0, EINVAL, 4);
-    each_fails(root_of_updates, "vulfsjor_ffi_tree_leaves_ahead", 0, EINVAL, 4);
-    each_fails(root_of_updates, "vulfsjor_ffi_tree_update_leaves", 0, EINVAL, 1);
-    each_fails(root_of_updates, "vulfsjor_ffi_tree_update", 0, EINVAL, 1);
-    each_fails(root_of_pipe, "vulfsjor_ffi_tree_update", 0, EFBIG, 1);
-    each_fails(root_of_pipe, "vulfsjor_ffi_tree_final", 0, EINVAL, 1);
-    wish("vulfsjor_ffi_tree_plan_update", 1, 0);
-    expect(root_of_rest, EFBIG);
-    wish("vulfsjor_ffi_tree_plan_update", 2, 0);
-    expect(root_of_rest, EINVAL);
-    each_fails(root_of_rest, "vulfsjor_ffi_tree_part", 0, EINVAL, 4);
-    each_fails(root_of_rest, "vulfsjor_ffi_tree_leaves_ahead", 0, EINVAL, 4);
-    each_fails(root_of_rest, "vulfsjor_ffi_tree_update_leaves", 0, EINVAL, 2);
-    each_fails(root_of_piped_rest, "vulfsjor_ffi_tree_update", 0, EFBIG, 1);
+    use_file(FEW, 4096, 4);
+    each_call_fails(root_of_bytes, "vulfsjor_ffi_tree_leaves", 0, EINVAL, 4);
+    each_call_fails(root_of_bytes, "vulfsjor_ffi_tree_init_root", 0, EINVAL, 1);
+    each_call_fails(root_of_bytes, "vulfsjor_ffi_blake2b_update", 0, EINVAL, 4);
+    each_call_fails(root_of_bytes, "vulfsjor_ffi_blake2b_final", 0, EINVAL, 1);
+    each_call_fails(root_of_file, "vulfsjor_ffi_tree_leaves", 0, EINVAL, 4);
+    each_call_fails(root_of_file, "vulfsjor_ffi_tree_init_root", 0, EINVAL, 1);
+    each_call_fails(root_of_file, "vulfsjor_ffi_blake2b_update", 0, EINVAL, 4);
+    each_call_fails(root_of_bytes, "vulfsjor_ffi_tree_plan", 0, EINVAL, 1);
+    each_call_fails(root_of_file, "vulfsjor_ffi_tree_plan", 0, EFBIG, 1);
+    each_call_fails(root_of_updates, "vulfsjor_ffi_tree_plan_update", 0, EINVAL, 1);
+    each_call_fails(root_of_bytes, "vulfsjor_ffi_tree_part", 0, EINVAL, 4);
+    each_call_fails(root_of_updates, "vulfsjor_ffi_tree_leaves_ahead", 0, EINVAL, 4);
+    each_call_fails(root_of_updates, "vulfsjor_ffi_tree_update_leaves", 0, EINVAL, 1);
+    each_call_fails(root_of_updates, "vulfsjor_ffi_tree_update", 0, EINVAL, 1);
+    each_call_fails(root_of_pipe, "vulfsjor_ffi_tree_update", 0, EFBIG, 1);
+    each_call_fails(root_of_pipe, "vulfsjor_ffi_tree_final", 0, EINVAL, 1);
+    plan_fault("vulfsjor_ffi_tree_plan_update", 1, 0);
+    expect_errno(root_of_rest, EFBIG);
+    plan_fault("vulfsjor_ffi_tree_plan_update", 2, 0);
+    expect_errno(root_of_rest, EINVAL);
+    each_call_fails(root_of_rest, "vulfsjor_ffi_tree_part", 0, EINVAL, 4);
+    each_call_fails(root_of_rest, "vulfsjor_ffi_tree_leaves_ahead", 0, EINVAL, 4);
+    each_call_fails(root_of_rest, "vulfsjor_ffi_tree_update_leaves", 0, EINVAL, 2);
+    each_call_fails(root_of_piped_rest, "vulfsjor_ffi_tree_update", 0, EFBIG, 1);
     asked = 1;
-    each_fails(root_of_bytes, "vulfsjor_ffi_tree_root", 0, EINVAL, 1);
-    each_fails(root_of_updates, "vulfsjor_ffi_tree_update", 0, EINVAL, 1);
-    take(BYTES, 17 << 20, 2);
-    each_fails(root_of_file, "vulfsjor_ffi_tree_init_leaf", 0, EINVAL, 2);
-    each_fails(root_of_file, "vulfsjor_ffi_blake2b_final", 0, EINVAL, 2);
-    each_fails(root_of_all, "vulfsjor_ffi_tree_init_leaf", 0, EINVAL, 2);
-    wish("vulfsjor_ffi_blake2b_update", 20, 0);
-    expect(root_of_file, EINVAL);
+    each_call_fails(root_of_bytes, "vulfsjor_ffi_tree_root", 0, EINVAL, 1);
+    each_call_fails(root_of_updates, "vulfsjor_ffi_tree_update", 0, EINVAL, 1);
+    use_file(BYTES, 17 << 20, 2);
+    each_call_fails(root_of_file, "vulfsjor_ffi_tree_init_leaf", 0, EINVAL, 2);
+    each_call_fails(root_of_file, "vulfsjor_ffi_blake2b_final", 0, EINVAL, 2);
+    each_call_fails(root_of_all, "vulfsjor_ffi_tree_init_leaf", 0, EINVAL, 2);
+    plan_fault("vulfsjor_ffi_blake2b_update", 20, 0);
+    expect_errno(root_of_file, EINVAL);
 }
 
 static void reads_fail(void) {
-    take(FEW, 4096, 4);
-    each_fails(root_of_file, "pread", ESTALE, ESTALE, 4);
-    each_fails(root_of_pipe, "read", ECONNRESET, ECONNRESET, 2);
-    each_fails(root_of_file, "lseek", EOVERFLOW, EOVERFLOW, 2);
-    each_fails(root_of_rest, "pread", ESTALE, ESTALE, 6);
-    each_fails(root_of_piped_rest, "read", ECONNRESET, ECONNRESET, 2);
-    each_fails(root_of_rest, "lseek", EOVERFLOW, EOVERFLOW, 2);
+    use_file(FEW, 4096, 4);
+    each_call_fails(root_of_file, "pread", ESTALE, ESTALE, 4);
+    each_call_fails(root_of_pipe, "read", ECONNRESET, ECONNRESET, 2);
+    each_call_fails(root_of_file, "lseek", EOVERFLOW, EOVERFLOW, 2);
+    each_call_fails(root_of_rest, "pread", ESTALE, ESTALE, 6);
+    each_call_fails(root_of_piped_rest, "read", ECONNRESET, ECONNRESET, 2);
+    each_call_fails(root_of_rest, "lseek", EOVERFLOW, EOVERFLOW, 2);
 #if __GLIBC_PREREQ(2, 33)
-    each_fails(root_of_file, "fstat", EOVERFLOW, EOVERFLOW, 1);
-    each_fails(root_of_rest, "fstat", EOVERFLOW, EOVERFLOW, 1);
+    each_call_fails(root_of_file, "fstat", EOVERFLOW, EOVERFLOW, 1);
+    each_call_fails(root_of_rest, "fstat", EOVERFLOW, EOVERFLOW, 1);
 #endif
-    take(BYTES, 17 << 20, 2);
-    wish("pread", 1, EIO);
-    expect(root_of_file, EIO);
-    wish("pread", 30, ENXIO);
-    expect(root_of_file, ENXIO);
+    use_file(BYTES, 17 << 20, 2);
+    plan_fault("pread", 1, EIO);
+    expect_errno(root_of_file, EIO);
+    plan_fault("pread", 30, ENXIO);
+    expect_errno(root_of_file, ENXIO);
     /* The first error stays, and the other threads see it and stop after the read that each is
      * in. */
-    take(BYTES, 65536, 4);
+    use_file(BYTES, 65536, 4);
     reads.waits = 1;
-    wish("pread", 1, ENXIO);
-    expect(root_of_file, ENXIO);
+    plan_fault("pread", 1, ENXIO);
+    expect_errno(root_of_file, ENXIO);
     CHECK(reads.calls >= 2 && reads.calls <= 4);
-    wish("pread", 1, ENXIO);
+    plan_fault("pread", 1, ENXIO);
     reads.resized_at = 1;
     reads.file = open(path, O_RDWR);
     reads.size = 0;
-    expect(root_of_file, ENXIO); /* where the others have EIO */
+    expect_errno(root_of_file, ENXIO); /* where the others have EIO */
     close(reads.file);
     memset(&reads, 0, sizeof reads);
 }
 
 static void reads_are_short(void) {
-    take(FEW, 777, 4);
+    use_file(FEW, 777, 4);
     for (reads.interrupted = 0; reads.interrupted < 2; reads.interrupted++)
         for (reads.most = 1; reads.most < 1 << 17; reads.most = reads.most * 5 + 3) {
-            wish("", 0, 0);
-            expect(root_of_file, 0);
-            expect(root_of_pipe, 0);
-            expect(root_of_rest, 0);
-            expect(root_of_piped_rest, 0);
+            plan_fault("", 0, 0);
+            expect_errno(root_of_file, 0);
+            expect_errno(root_of_pipe, 0);
+            expect_errno(root_of_rest, 0);
+            expect_errno(root_of_piped_rest, 0);
         }
-    take(20 << 20, 17 << 20, 2);
+    use_file(20 << 20, 17 << 20, 2);
     reads.interrupted = 1;
     reads.most = 300001;
-    expect(root_of_file, 0);
-    expect(root_of_rest, 0);
+    expect_errno(root_of_file, 0);
+    expect_errno(root_of_rest, 0);
     memset(&reads, 0, sizeof reads);
 }
 
 /* While the first part is read, the others are hashed, as far as there is room for their digests:
  * for those of eight parts. Then the first read fails. */
 static void threads_wait_for_the_first_part(void) {
-    take(BYTES, 100, 4);
+    use_file(BYTES, 100, 4);
     reads.least = 8;
-    expect(root_of_file, 0);
-    wish("first pread", 1, ENXIO);
-    expect(root_of_file, ENXIO);
+    expect_errno(root_of_file, 0);
+    plan_fault("first pread", 1, ENXIO);
+    expect_errno(root_of_file, ENXIO);
     memset(&reads, 0, sizeof reads);
 }
 
@@ -167,13 +167,13 @@ static void threads_wait_for_the_first_part(void) {
  * none. */
 static void files_change(void) {
     for (asked = 1; asked <= 4; asked += 3) {
-        take(FEW, 4096, asked);
-        resize(1, 2 * FEW, 0);
-        resize(1, FEW - 1, EIO);
-        resize(1, 0, EIO);
-        take(34 << 20, 17 << 20, asked);
-        resize(3, 70 << 20, 0);
-        resize(3, (34 << 20) - 1, EIO);
+        use_file(FEW, 4096, asked);
+        resize_at_read(1, 2 * FEW, 0);
+        resize_at_read(1, FEW - 1, EIO);
+        resize_at_read(1, 0, EIO);
+        use_file(34 << 20, 17 << 20, asked);
+        resize_at_read(3, 70 << 20, 0);
+        resize_at_read(3, (34 << 20) - 1, EIO);
     }
 }
 
@@ -181,31 +181,31 @@ static void files_change(void) {
 static void progress_ends_calls(void) {
     int (*const calls[])(void) = {root_of_rest, root_of_all, root_of_piped_rest};
 
-    take(FEW, 4096, 3);
+    use_file(FEW, 4096, 3);
     for (size_t i = 0; i < sizeof calls / sizeof *calls; i++) {
-        expect(calls[i], 0);
+        expect_errno(calls[i], 0);
         CHECK(reported.calls >= 1);
         for (int most = reported.calls, at = 1; at <= most; at++) {
             reported.last_call = at;
-            wish("", 0, 0);
+            plan_fault("", 0, 0);
             memcpy(root, blank, 64);
             if (!calls[i]()) {
                 CHECK(reported.calls < at); /* this thread had fewer parts now */
                 continue;
             }
             CHECK(errno == ECANCELED && reported.calls == at && !memcmp(root, blank, 64));
-            CHECK(!value(&allocated) && !value(&running));
+            CHECK(!atomic_value(&allocated) && !atomic_value(&running));
         }
         reported.last_call = 0;
     }
-    take(FEW, 4096, 1);
-    expect(root_of_all, 0);
+    use_file(FEW, 4096, 1);
+    expect_errno(root_of_all, 0);
     CHECK(reported.calls >= 2);
-    take((1 << 20) + 1000, 4096, 1);
-    expect(root_of_piped_rest, 0);
+    use_file((1 << 20) + 1000, 4096, 1);
+    expect_errno(root_of_piped_rest, 0);
     CHECK(reported.calls == 1); /* not again at the end of a stream of whole pieces */
-    take(34 << 20, 17 << 20, 1); /* two leaves that are longer than a buffer */
-    expect(root_of_all, 0);
+    use_file(34 << 20, 17 << 20, 1); /* two leaves that are longer than a buffer */
+    expect_errno(root_of_all, 0);
     CHECK(reported.calls == 34);
     reported.last_call = 3;
     CHECK(root_of_all() == -1 && errno == ECANCELED && reported.calls == 3);
@@ -219,7 +219,7 @@ static void expect_threads(int others) {
 
     for (size_t i = 0; i < sizeof calls / sizeof *calls; i++) {
         started = 0;
-        expect(calls[i], 0);
+        expect_errno(calls[i], 0);
         CHECK(started == others);
     }
 }
@@ -227,22 +227,22 @@ static void expect_threads(int others) {
 static void numbers_of_threads(void) {
     cpu_set_t all, few;
 
-    take(FEW, 1, 300);
+    use_file(FEW, 1, 300);
     expect_threads(255);
-    take(FEW, 100, 5);
+    use_file(FEW, 100, 5);
     expect_threads(4);
-    take(FEW, FEW / 2, 5); /* two leaves */
-    expect(root_of_bytes, 0);
+    use_file(FEW, FEW / 2, 5); /* two leaves */
+    expect_errno(root_of_bytes, 0);
     CHECK(started == 1);
-    take(3001, 1000, 5); /* two leaves after one that is whole, and a byte */
-    expect(root_of_updates, 0);
+    use_file(3001, 1000, 5); /* two leaves after one that is whole, and a byte */
+    expect_errno(root_of_updates, 0);
     CHECK(started == 1);
     started = 0;
-    expect(root_of_rest, 0);
+    expect_errno(root_of_rest, 0);
     CHECK(started == 1);
-    take(FEW, 100, 1);
+    use_file(FEW, 100, 1);
     expect_threads(0);
-    take(FEW, 100, 0);
+    use_file(FEW, 100, 0);
     CHECK(!sched_getaffinity(0, sizeof all, &all));
     expect_threads(CPU_COUNT(&all) - 1);
     CPU_ZERO(&few);
@@ -256,7 +256,7 @@ static void numbers_of_threads(void) {
 static void more_processors_than_the_set_has(void) {
     static const int answers[][2] = {{3, 2}, {1, 0}, {0, 0}, {-1, 0}};
 
-    take(FEW, 100, 0);
+    use_file(FEW, 100, 0);
     for (size_t i = 0; i < sizeof answers / sizeof *answers; i++) {
         processors = answers[i][0];
         expect_threads(answers[i][1]);
@@ -273,20 +273,20 @@ static void least_bytes(void) {
                 {1 << 19, 1},       {(1 << 20) - 1, 2}, {1 << 20, 3}};
 
     for (size_t i = 0; i < sizeof rows / sizeof *rows; i++) {
-        take(rows[i].length, 1000, 8);
-        expect(root_of_bytes, 0);
+        use_file(rows[i].length, 1000, 8);
+        expect_errno(root_of_bytes, 0);
         CHECK(started == rows[i].others);
         started = 0;
-        expect(root_of_file, 0);
+        expect_errno(root_of_file, 0);
         CHECK(started == rows[i].others);
     }
-    take((1 << 18) - 1, 1000, 8);
-    each_fails(root_of_file, "read", ENXIO, ENXIO, 1);
-    take(1 << 18, 1000, 8);
-    each_fails(root_of_file, "pread", ENXIO, ENXIO, 1);
-    take((1 << 18) - 1, 1000, 8);
+    use_file((1 << 18) - 1, 1000, 8);
+    each_call_fails(root_of_file, "read", ENXIO, ENXIO, 1);
+    use_file(1 << 18, 1000, 8);
+    each_call_fails(root_of_file, "pread", ENXIO, ENXIO, 1);
+    use_file((1 << 18) - 1, 1000, 8);
     CHECK(!vulfsjor_tree_root(wanted, 64, message, 1 << 17, 0, 0, 0, 0, leaf));
-    resize(1, 1 << 17, 0);
+    resize_at_read(1, 1 << 17, 0);
 }
 
 /* What vulfsjor_threads.h says of memory: 1 MiB of digests or those of two parts for each thread,
@@ -305,28 +305,28 @@ static void memory_is_as_said(void) {
                                      {16 * MIB, 16 * MIB}, {16 * MIB + 1, MIB}};
 
     for (size_t i = 0; i < sizeof messages / sizeof *messages; i++) {
-        take(messages[i].length, (uint32_t)messages[i].leaf, 2);
-        wish("malloc", 0, 0);
+        use_file(messages[i].length, (uint32_t)messages[i].leaf, 2);
+        plan_fault("malloc", 0, 0);
         largest = 0;
-        expect(root_of_bytes, 0);
+        expect_errno(root_of_bytes, 0);
         CHECK(largest == messages[i].digests && fault.counted == 1);
     }
-    take(FEW * 6, 100, 2);
+    use_file(FEW * 6, 100, 2);
     largest = 0;
-    expect(root_of_updates, 0);
+    expect_errno(root_of_updates, 0);
     CHECK(largest == 64 * ((FEW * 6 - 1000) / 100 - 1)); /* all but the last leaf */
     for (size_t i = 0; i < sizeof rows / sizeof *rows; i++) {
-        take(BYTES, (uint32_t)rows[i][0], 2);
+        use_file(BYTES, (uint32_t)rows[i][0], 2);
         largest = 0;
-        expect(root_of_file, 0);
+        expect_errno(root_of_file, 0);
         CHECK(largest == rows[i][1]);
         largest = 0;
-        expect(root_of_all, 0);
+        expect_errno(root_of_all, 0);
         CHECK(largest == rows[i][1]);
     }
-    take(BYTES, 100, 2);
+    use_file(BYTES, 100, 2);
     largest = 0;
-    expect(root_of_all, 0);
+    expect_errno(root_of_all, 0);
     CHECK(largest > 15 * MIB && largest <= 16 * MIB);
 }
 
@@ -338,7 +338,7 @@ static void long_files(void) {
     const size_t size = MIBS * sizeof *seen;
     int once;
 
-    take(FEW, 65536, 3);
+    use_file(FEW, 65536, 3);
     length = ((size_t)(MIBS - 1) << 20) + 1;
     CHECK(!truncate(path, (off_t)length) && (seen = __real_malloc(size)));
     for (size_t i = 0; i < sizeof leaves / sizeof *leaves; i++)

@@ -57,7 +57,7 @@ static uint64_t random_below(uint64_t n) {
 }
 
 /* How many entries a folder has; . and .. among them. */
-static int entries(const char *folder) {
+static int entry_count(const char *folder) {
     DIR *all = opendir(folder);
     int count = 0;
 
@@ -68,8 +68,8 @@ static int entries(const char *folder) {
 
 /* Whether there are this many threads, once the kernel has removed those that were joined. */
 static int has_threads(int count) {
-    for (int i = 0; i < 1000 && entries("/proc/self/task") > count; i++) usleep(1000);
-    return entries("/proc/self/task") == count;
+    for (int i = 0; i < 1000 && entry_count("/proc/self/task") > count; i++) usleep(1000);
+    return entry_count("/proc/self/task") == count;
 }
 
 /* Makes the file at this path hold the beginning of the message. */
@@ -88,7 +88,7 @@ static void write_file(const char *name, size_t length) {
 
 /* Fills the memory that the next call gets for its digests, so that none of the last call is
  * there. */
-static void forget(size_t length, uint32_t leaf) {
+static void overwrite_free_memory(size_t length, uint32_t leaf) {
     size_t size = 64 * vulfsjor_tree_leaf_count(length, leaf);
     void *block = malloc(size);
 
@@ -98,23 +98,23 @@ static void forget(size_t length, uint32_t leaf) {
 }
 
 /* Compares the roots of the message and of the file that has it with vulfsjor_tree_root. */
-static void compare(size_t length, size_t outlen, uint32_t leaf, unsigned threads) {
+static void compare_roots(size_t length, size_t outlen, uint32_t leaf, unsigned threads) {
     const void *in = length ? message : NULL;
     int file = open(path, O_RDONLY);
 
     memcpy(wanted, blank, 64);
     CHECK(!vulfsjor_tree_root(wanted, outlen, in, length, "salt", 4, "pers", 4, leaf));
     memcpy(root, blank, 64);
-    forget(length, leaf);
+    overwrite_free_memory(length, leaf);
     CHECK(
         !vulfsjor_tree_root_threads(root, outlen, in, length, "salt", 4, "pers", 4, leaf, threads));
     CHECK(!memcmp(root, wanted, 64));
     memcpy(root, blank, 64);
-    forget(length, leaf);
+    overwrite_free_memory(length, leaf);
     CHECK(!vulfsjor_tree_root_file(root, outlen, path, "salt", 4, "pers", 4, leaf, threads));
     CHECK(!memcmp(root, wanted, 64));
     memcpy(root, blank, 64);
-    forget(length, leaf);
+    overwrite_free_memory(length, leaf);
     CHECK(!vulfsjor_tree_root_fd(root, outlen, file, "salt", 4, "pers", 4, leaf, threads));
     CHECK(!memcmp(root, wanted, 64) && lseek(file, 0, SEEK_CUR) == (off_t)length);
     close(file);
@@ -157,7 +157,7 @@ static void random_roots(int turns) {
         if (leaf < 100) length %= 50000;
         write_file(path, length);
         for (unsigned threads = 0; threads <= 9; threads += 1 + (unsigned)random_below(4)) {
-            compare(length, 1 + random_below(64), leaf, threads);
+            compare_roots(length, 1 + random_below(64), leaf, threads);
             compare_by_file(length, random_below(3) ? random_below(length + 1) : 0, leaf, threads);
         }
     }
@@ -174,7 +174,7 @@ static void roots_at_edges(void) {
     for (size_t i = 0; i < sizeof lengths / sizeof *lengths; i++) {
         write_file(path, lengths[i]);
         for (size_t k = 0; k < sizeof leaves / sizeof *leaves; k++)
-            compare(lengths[i], 64, leaves[k], threads[(i + k) % 6]);
+            compare_roots(lengths[i], 64, leaves[k], threads[(i + k) % 6]);
         compare_by_file(lengths[i], 0, 1 << 16, threads[i % 6]);
     }
 }
@@ -186,10 +186,10 @@ static void roots_of_long_leaves(size_t step) {
 
     write_file(path, BYTES);
     for (size_t i = 0; i < sizeof leaves / sizeof *leaves; i += step) {
-        compare(BYTES, 64, leaves[i], 3);
+        compare_roots(BYTES, 64, leaves[i], 3);
         compare_by_file(BYTES, i % 2 ? 777 : leaves[i] % BYTES, leaves[i], 3);
     }
-    compare(BYTES, 64, 17 << 20, 1);
+    compare_roots(BYTES, 64, 17 << 20, 1);
     compare_by_file(BYTES, 0, 100, 3); /* more digests than are kept at a time */
 }
 
@@ -228,7 +228,7 @@ static void compare_updates(size_t length, uint32_t leaf, size_t most, unsigned 
     CHECK(!memcmp(root, wanted, 64));
 }
 
-static void updates(int turns) {
+static void check_updates(int turns) {
     for (int turn = 0; turn < turns; turn++)
         compare_updates(random_below(30000), (uint32_t)(1 + random_below(turn % 2 ? 2000 : 60)),
                         turn % 3 ? 10000 : 300, (unsigned)random_below(6));
@@ -365,7 +365,7 @@ static void compare_stream(int from, int to) {
     close(from);
 }
 
-static int grows(void *context, uint64_t count) {
+static int check_growing_count(void *context, uint64_t count) {
     uint64_t *const last = context;
 
     CHECK(count > *last);
@@ -382,7 +382,7 @@ static void update_by_stream(void) {
 
     CHECK(!vulfsjor_tree_init(&state, 64, 0, 0, 0, 0, 65536) && !pipe(ends));
     CHECK(!pthread_create(&writer, NULL, write_pieces, &ends[1]));
-    CHECK(!vulfsjor_tree_update_fd(&state, ends[0], 4, grows, &count) && count == 3 << 20);
+    CHECK(!vulfsjor_tree_update_fd(&state, ends[0], 4, check_growing_count, &count) && count == 3 << 20);
     CHECK(!vulfsjor_tree_final(&state, root, 64) && !memcmp(root, wanted, 64));
     CHECK(!pthread_join(writer, NULL) && !close(ends[0]));
 }
@@ -393,7 +393,7 @@ static void *open_and_write(void *given) {
     return write_pieces(&file);
 }
 
-static void streams(void) {
+static void check_streams(void) {
     int ends[2];
     pthread_t writer;
 
@@ -411,7 +411,7 @@ static void streams(void) {
 }
 
 /* A file of /proc, which says that it has no bytes, one of /sys, which says 4,096, and a device. */
-static void special_files(void) {
+static void check_special_files(void) {
     static const char *const names[] = {"/proc/version",
                                         "/sys/kernel/mm/transparent_hugepage/enabled", "/dev/null"};
 
@@ -441,7 +441,7 @@ static void special_files(void) {
         CHECK((call) == -1 && errno == (error) && !memcmp(root, blank, 64)); \
     } while (0)
 
-static void refused_arguments(void) {
+static void check_refused_arguments(void) {
     REFUSED(EINVAL, root_threads(root, 0, message, 5, 0, 0, 0, 0, 4, 2));
     REFUSED(EINVAL, root_threads(root, 65, message, 5, 0, 0, 0, 0, 4, 2));
     REFUSED(EINVAL, root_threads(NULL, 64, message, 5, 0, 0, 0, 0, 4, 2));
@@ -534,7 +534,7 @@ static void *take_signals(void *given) {
     sigemptyset(&one);
     sigaddset(&one, SIGUSR1);
     pthread_sigmask(SIG_UNBLOCK, &one, NULL);
-    for (int i = 0; i < 12; i++) compare(5 << 20, 64, 65536, 4);
+    for (int i = 0; i < 12; i++) compare_roots(5 << 20, 64, 65536, 4);
     CHECK(!pthread_sigmask(SIG_BLOCK, &one, &now) && !sigismember(&now, SIGUSR1));
     __atomic_store_n((int *)given, 1, __ATOMIC_RELEASE);
     return NULL;
@@ -583,8 +583,8 @@ static void *cancel_myself(void *given) {
 }
 
 /* A call is not a cancellation point, and leaves the thread as cancelable as it was. */
-static void cancellation(void) {
-    int file, given, files = entries("/proc/self/fd");
+static void check_cancellation(void) {
+    int file, given, files = entry_count("/proc/self/fd");
     void *answer = NULL;
     pthread_t thread;
 
@@ -594,7 +594,7 @@ static void cancellation(void) {
     CHECK(!pthread_create(&thread, NULL, cancel_myself, &given) && !pthread_join(thread, &answer));
     CHECK(answer == PTHREAD_CANCELED && given == 0);
     close(file);
-    CHECK(entries("/proc/self/fd") == files);
+    CHECK(entry_count("/proc/self/fd") == files);
 }
 
 static void exit_in_handler(int number) {
@@ -665,26 +665,26 @@ int main(int count, char **words) {
     }
     RUN(calls_at_the_same_time());
     usleep(100000);
-    files = entries("/proc/self/fd");
-    threads = entries("/proc/self/task"); /* a sanitizer has one more, from the first thread on */
+    files = entry_count("/proc/self/fd");
+    threads = entry_count("/proc/self/task"); /* a sanitizer has one more, from the first thread on */
     RUN(random_roots(turns));
     RUN(roots_at_edges());
     RUN(roots_of_long_leaves(turns < 60 ? 2 : 1));
-    RUN(updates(turns < 60 ? 20 : 200));
+    RUN(check_updates(turns < 60 ? 20 : 200));
     RUN(updates_at_leaves());
     RUN(refused_updates());
     RUN(refused_updates_by_files());
     RUN(position_of_descriptor());
-    RUN(streams());
+    RUN(check_streams());
     RUN(descriptor_zero());
-    RUN(special_files());
-    RUN(refused_arguments());
+    RUN(check_special_files());
+    RUN(check_refused_arguments());
     RUN(refused_arguments_of_files());
     RUN(refused_files());
     RUN(signals_while_hashing());
-    RUN(cancellation());
+    RUN(check_cancellation());
     RUN(faults_of_memory());
-    CHECK(entries("/proc/self/fd") == files && has_threads(threads));
+    CHECK(entry_count("/proc/self/fd") == files && has_threads(threads));
     unlink(path);
     free(message);
     return fails ? 1 : 0;

@@ -198,7 +198,7 @@ static void update_by_plan(const vulfsjor_limits *limits) {
 }
 
 /* A leaf and a root by states of their nodes are those of the calls for ranges. */
-static void nodes(void) {
+static void check_nodes(void) {
     static const int lasts[] = {0, 1, 2, 256, -1};
     vulfsjor_blake2b_state node;
 
@@ -374,7 +374,7 @@ static void random_messages(int turns) {
 int main(int count, char **words) {
     fill_all();
     leaf_counts();
-    nodes();
+    check_nodes();
     refused_nodes();
     refused_plans();
     changed_plans();

@@ -103,7 +103,7 @@ int root_of_regular_file(const vulfsjor_tree_state *tree, uint8_t *out, int file
     int before = let_go(&to), error = EFBIG;
     j.file = file;
     if (!plan_message(&j, 0, length, threads)) error = hash_message(&j, size);
-    if (!error && to.told < length) error = report(&j, length); /* other threads have hashed the last bytes */
+    if (!error && to.told < length) error = report_progress(&j, length); /* other threads have hashed the last bytes */
     if (!error) error = write_root(&j, out, size);
     take_up(&to, before);
     return raised_of_file(error, file, length, path);
@@ -115,7 +115,7 @@ int update_tree_by_threads(vulfsjor_tree_state *tree, const Py_buffer *view, uns
     int before = let_go(&to), error;
     j.state = tree;
     j.bytes = vulfsjor_text(view->buf);
-    error = update(&j, tree, (size_t)view->len, threads);
+    error = absorb_input(&j, tree, (size_t)view->len, threads);
     take_up(&to, before);
     return raised(error);
 }

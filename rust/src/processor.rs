@@ -45,7 +45,7 @@ pub(crate) fn level() -> u8 {
 /// If it is below x86-64-v2.
 #[cold]
 pub(crate) fn ask() {
-    let level = level_here();
+    let level = level_of_processor();
     assert!(
         level >= 2,
         "this processor is below x86-64-v2, which vulfsjor needs"
@@ -113,7 +113,7 @@ pub(crate) fn level_of(leaves: &Leaves, saved: impl FnOnce() -> u32) -> u8 {
 
 // The level of this processor, as `level_of` returns it.
 #[allow(unused_unsafe)] // later versions of Rust know that CPUID is safe
-pub(crate) fn level_here() -> u8 {
+pub(crate) fn level_of_processor() -> u8 {
     // Safety: every x86-64 processor has CPUID.
     let leaves = unsafe {
         let last = __cpuid(0).eax;

@@ -601,7 +601,7 @@ mod files {
 ))]
 mod choice {
     use super::*;
-    use crate::processor::{level, level_here, level_of, Leaves};
+    use crate::processor::{level, level_of_processor, level_of, Leaves};
     use std::is_x86_feature_detected as has;
     use std::process::Command;
 
@@ -618,7 +618,7 @@ mod choice {
             Ok(level) => level.parse().unwrap(),
             Err(_) => 2 + u8::from(v3) + u8::from(v4),
         };
-        assert_eq!(level_here(), wanted);
+        assert_eq!(level_of_processor(), wanted);
         if wanted > 1 {
             library::need_a_build();
             assert_eq!(level(), wanted);
@@ -703,7 +703,7 @@ mod choice {
     fn third_update(state: &mut Blake2bState, part: &[u8]) -> i32 {
         // Safety: the length is that of the slice, and the processor runs these builds.
         unsafe {
-            match level_here() {
+            match level_of_processor() {
                 3 => library::v3::blake2b_update(state, part.as_ptr(), part.len()),
                 _ => library::v4::blake2b_update(state, part.as_ptr(), part.len()),
             }
@@ -712,7 +712,7 @@ mod choice {
     fn third_final(state: &mut Blake2bState, digest: &mut [u8; 64]) -> i32 {
         // Safety: as above.
         unsafe {
-            match level_here() {
+            match level_of_processor() {
                 3 => library::v3::blake2b_final(state, digest.as_mut_ptr(), 64),
                 _ => library::v4::blake2b_final(state, digest.as_mut_ptr(), 64),
             }
@@ -721,7 +721,7 @@ mod choice {
 
     #[test]
     fn a_run_may_go_from_one_build_to_another() {
-        if level_here() < 3 {
+        if level_of_processor() < 3 {
             return;
         }
         let message = [7; 1000];

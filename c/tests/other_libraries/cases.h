@@ -20,7 +20,7 @@ static size_t from_to(size_t least, size_t most) {
     return least + (size_t)(random_number() >> 20) % (most - least + 1);
 }
 
-static void fill(uint8_t *bytes, size_t count) {
+static void fill_randomly(uint8_t *bytes, size_t count) {
     for (size_t i = 0; i < count; i++) bytes[i] = (uint8_t)(random_number() >> 33);
 }
 
@@ -30,20 +30,20 @@ static inline const uint8_t *key_or_null(void) {
 }
 
 /* A call of a family whose digests and keys have this many bytes at most. */
-static void draw(size_t longest) {
+static void draw_case(size_t longest) {
     length = from_to(0, from_to(0, 3) ? 300 : sizeof message);
     size = from_to(1, longest);
     key_length = from_to(0, 1) ? from_to(0, longest) : 0;
-    fill(message, length);
-    fill(key, key_length);
-    fill(salt, sizeof salt);
-    fill(persona, sizeof persona);
-    fill(ours, sizeof ours);
-    fill(theirs, sizeof theirs);
+    fill_randomly(message, length);
+    fill_randomly(key, key_length);
+    fill_randomly(salt, sizeof salt);
+    fill_randomly(persona, sizeof persona);
+    fill_randomly(ours, sizeof ours);
+    fill_randomly(theirs, sizeof theirs);
 }
 
 /* A library's call failed. */
-static void need(int holds, const char *what) {
+static void require(int holds, const char *what) {
     if (holds) return;
     printf("%s failed\n", what);
     exit(2);

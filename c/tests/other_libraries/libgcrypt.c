@@ -14,16 +14,16 @@ static int compare(int number) {
     const int small = kinds[number % 8].small, algorithm = kinds[number % 8].algorithm;
     gcry_md_hd_t handle;
 
-    if (number == 0) need(gcry_check_version(NULL) != NULL, "gcry_check_version");
-    draw(small ? 32 : 64);
+    if (number == 0) require(gcry_check_version(NULL) != NULL, "gcry_check_version");
+    draw_case(small ? 32 : 64);
     size = kinds[number % 8].size;
-    need(!gcry_md_open(&handle, algorithm, 0), "gcry_md_open");
-    if (key_length) need(!gcry_md_setkey(handle, key, key_length), "gcry_md_setkey");
+    require(!gcry_md_open(&handle, algorithm, 0), "gcry_md_open");
+    if (key_length) require(!gcry_md_setkey(handle, key, key_length), "gcry_md_setkey");
     IN_PIECES(gcry_md_write(handle, piece, n))
-    need(gcry_md_get_algo_dlen(algorithm) == size, "the digest's length");
+    require(gcry_md_get_algo_dlen(algorithm) == size, "the digest's length");
     memcpy(theirs, gcry_md_read(handle, algorithm), size);
     gcry_md_close(handle);
-    need(!(small ? vulfsjor_blake2s(ours, size, message, length, key_or_null(), key_length)
+    require(!(small ? vulfsjor_blake2s(ours, size, message, length, key_or_null(), key_length)
                  : vulfsjor_blake2b(ours, size, message, length, key_or_null(), key_length)),
          "a call in one");
     return !memcmp(ours, theirs, size);
