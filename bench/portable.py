@@ -24,39 +24,39 @@ ROWS = (("b", 1 << 20, "BLAKE2b-512, 1 MiB", "MB/s"), ("s", 1 << 20, "BLAKE2s-25
         ("b", 64, "BLAKE2b-512, 64 bytes", "ns"), ("s", 64, "BLAKE2s-256, 64 bytes", "ns"))
 
 
-def run(*words):
+def output_of(*words):
     """What a command prints."""
     return subprocess.run(words, check=True, capture_output=True, text=True).stdout
 
 
-def measured(compiler, sodium, mib):
+def measure_speeds(compiler, sodium, mib):
     """The numbers by name, family and length."""
     with tempfile.TemporaryDirectory() as room:
         objects = []
 
-        def compiled(source, *words):
+        def compile_source(source, *words):
             objects.append(os.path.join(room, f"{len(objects)}.o"))
-            run(compiler, "-O2", "-w", "-c", *words, source, "-o", objects[-1])
+            output_of(compiler, "-O2", "-w", "-c", *words, source, "-o", objects[-1])
 
-        compiled(os.path.join(TOP, "dist/c/vulfsjor.c"), "-I" + os.path.join(TOP, "c/include"))
+        compile_source(os.path.join(TOP, "dist/c/vulfsjor.c"), "-I" + os.path.join(TOP, "c/include"))
         for words in (["-DWIDE"], []):
-            compiled(os.path.join(HERE, "plain/plain.c"), *words)
-        compiled(os.path.join(HERE, "portable.c"), "-I" + os.path.join(TOP, "c/include"),
+            compile_source(os.path.join(HERE, "plain/plain.c"), *words)
+        compile_source(os.path.join(HERE, "portable.c"), "-I" + os.path.join(TOP, "c/include"),
                  "-I" + os.path.join(HERE, "plain"), *["-DSODIUM"] * bool(sodium))
         if sodium:
             folder = os.path.join(sodium, "src/libsodium")
             words = ["-DCONFIGURED=1", f"-DNATIVE_{sys.byteorder.upper()}_ENDIAN=1",
                      *("-I" + os.path.join(folder, name) for name in ("include/sodium", "include"))]
             for name in ("blake2b-ref.c", "blake2b-compress-ref.c"):
-                compiled(os.path.join(folder, "crypto_generichash/blake2b/ref", name), *words)
+                compile_source(os.path.join(folder, "crypto_generichash/blake2b/ref", name), *words)
         program = os.path.join(room, "portable")
-        run(compiler, *objects, "-o", program)
-        lines = run(program, str(mib)).split("\n")
+        output_of(compiler, *objects, "-o", program)
+        lines = output_of(program, str(mib)).split("\n")
     return {(name, family, int(length)): float(number)
             for name, family, length, number in (line.split() for line in lines if line)}
 
 
-def table(sodium, mib):
+def markdown_table(sodium, mib):
     """The table."""
     with open("/proc/cpuinfo", encoding="utf-8") as file:
         model = next((line.partition(":")[2].strip() for line in file if line.startswith("model name")), "unknown")
@@ -67,8 +67,8 @@ def table(sodium, mib):
         if not shutil.which(compiler):
             print(f"portable.py: there is no {compiler}", file=sys.stderr)
             continue
-        numbers = measured(compiler, sodium, mib)
-        version = run(compiler, "--version").split("\n", maxsplit=1)[0]
+        numbers = measure_speeds(compiler, sodium, mib)
+        version = output_of(compiler, "--version").split("\n", maxsplit=1)[0]
         for family, length, name, unit in ROWS:
             ours, *others = (numbers.get((each, family, length)) for each in ("ours", "plain", "sodium"))
             cells = [f"{ours:.0f} {unit}"]
@@ -86,7 +86,7 @@ def main():
     parser.add_argument("--sodium")
     parser.add_argument("--write", action="store_true")
     given = parser.parse_args()
-    text = table(given.sodium, given.mib)
+    text = markdown_table(given.sodium, given.mib)
     print(text, end="")
     if given.write:
         with open(os.path.join(HERE, "results", "portable.txt"), "w", encoding="utf-8") as file:

@@ -96,12 +96,12 @@ class Column:
                                       if not name.startswith("ours")), key=lambda pair: pair[1])
 
 
-def say(text):
+def report_progress(text):
     """Says on standard error what goes on."""
     print("speed: " + text, file=sys.stderr, flush=True)
 
 
-def outcome(command, folder=TOP):
+def run_quietly(command, folder=TOP):
     """Runs a command without showing its output: whether it succeeded, and what it printed."""
     try:
         done = subprocess.run(command, cwd=folder, stdin=subprocess.DEVNULL, stdout=subprocess.PIPE,
@@ -128,7 +128,7 @@ def program_of(cpu):
         for name in (os.path.join(TOP, "dist", "macros.h"), *texts):
             all_texts.write(f'#include "{name}"\n')
     sources = [os.path.join(TOP, "c", name) for name in ("b2.c", "choose.c")]
-    path = compiled(cpu + "-b2", ["-DMAIN=" + main, "-DCHOOSE_TEST=" + cpu[-1],
+    path = compile_program(cpu + "-b2", ["-DMAIN=" + main, "-DCHOOSE_TEST=" + cpu[-1],
                                   "-I" + os.path.join(TOP, "c", "include"),
                                   *sources, assembly])
     if path is None:
@@ -140,34 +140,34 @@ def program_of(cpu):
 def library_of(cpu):
     """The shared library over vulfsjor for the processor, linked from dist/."""
     folder = os.path.join(OUT, cpu)
-    good, output = outcome([os.path.join(TOP, "c", "make_libraries.sh"), folder, text_of("vulfsjor", cpu)])
+    good, output = run_quietly([os.path.join(TOP, "c", "make_libraries.sh"), folder, text_of("vulfsjor", cpu)])
     if not good:
         sys.exit("speed: vulfsjor was not linked: " + output)
     sources = [os.path.join(PEERS, name) for name in ("ours.c", "several.c", "vulfsjor_tree.c", "xof.c")]
-    return shared(cpu + "-vulfsjor.so", [*sources, os.path.join(folder, "libvulfsjor.a")])
+    return compile_shared_library(cpu + "-vulfsjor.so", [*sources, os.path.join(folder, "libvulfsjor.a")])
 
 
-def compiled(name, words):
+def compile_program(name, words):
     """Compiles C at -O3 to this file of bench/out; None if the compiler or what it needs is absent."""
     path = os.path.join(OUT, name)
-    good, _ = outcome(["cc", "-O3", "-o", path] + words)
+    good, _ = run_quietly(["cc", "-O3", "-o", path] + words)
     return path if good else None
 
 
-def shared(name, words):
+def compile_shared_library(name, words):
     """Compiles C to a shared library, as `compiled` does."""
-    return compiled(name, ["-shared", "-fPIC"] + words)
+    return compile_program(name, ["-shared", "-fPIC"] + words)
 
 
 @functools.cache
-def libb2():
+def build_libb2():
     """The program and the shared library over libb2; None for each if it is absent."""
     source = os.path.join(PEERS, "libb2.c")
-    program = compiled("libb2_sum", [source, "-lb2"])
+    program = compile_program("libb2_sum", [source, "-lb2"])
     if program is None:
-        say("libb2 is absent (libb2-dev)")
+        report_progress("libb2 is absent (libb2-dev)")
         return None, None
-    return program, shared("libb2.so", [source, "-lb2"])
+    return program, compile_shared_library("libb2.so", [source, "-lb2"])
 
 
 @functools.cache
@@ -175,43 +175,43 @@ def blake2_simd():
     """The program and the shared library over the Rust crates; None for each if they are absent."""
     folder = os.path.join(OUT, "simd")
     shutil.copytree(os.path.join(PEERS, "simd"), folder, dirs_exist_ok=True)
-    good, _ = outcome(["cargo", "build", "--release", "--offline"] + DEBIAN_CRATES, folder)
+    good, _ = run_quietly(["cargo", "build", "--release", "--offline"] + DEBIAN_CRATES, folder)
     if not good:
-        say("blake2b/s_simd is absent (librust-blake2b-simd-dev and librust-blake2s-simd-dev, and cargo)")
+        report_progress("blake2b/s_simd is absent (librust-blake2b-simd-dev and librust-blake2s-simd-dev, and cargo)")
         return None, None
     release = os.path.join(folder, "target", "release")
     return os.path.join(release, "simd_sum"), os.path.join(release, "libsimd.so")
 
 
 @functools.cache
-def openssl():
+def build_openssl():
     """The shared library over OpenSSL; None if it is absent."""
-    library = shared("openssl.so", [os.path.join(PEERS, "openssl.c"), "-lcrypto"])
+    library = compile_shared_library("openssl.so", [os.path.join(PEERS, "openssl.c"), "-lcrypto"])
     if library is None:
-        say("OpenSSL's library is absent (libssl-dev)")
+        report_progress("OpenSSL's library is absent (libssl-dev)")
     return library
 
 
 @functools.cache
-def golang():
+def build_golang():
     """The shared library over Go's golang.org/x/crypto; None if it is absent."""
     path = os.path.join(OUT, "golang.so")
     settings = ["GO111MODULE=off", "GOPATH=/usr/share/gocode", "GOCACHE=" + os.path.join(OUT, "go")]
     command = ["go", "build", "-buildmode=c-shared", "-o", path, os.path.join(PEERS, "xof.go")]
-    good, _ = outcome(["env"] + settings + command)
+    good, _ = run_quietly(["env"] + settings + command)
     if not good:
-        say("golang.org/x/crypto is absent (golang-go and golang-golang-x-crypto-dev)")
+        report_progress("golang.org/x/crypto is absent (golang-go and golang-golang-x-crypto-dev)")
     return path if good else None
 
 
-def versions():
+def peer_versions():
     """The versions of the peers, as they tell them."""
     found = []
     for name, command, pattern in (("b2sum", ["b2sum", "--version"], r"^b2sum .* (\S+)$"),
                                    ("OpenSSL", ["openssl", "version"], r"^OpenSSL (\S+)"),
                                    ("libb2", ["pkg-config", "--modversion", "libb2"], r"^([\d.]+)$"),
                                    ("Go", ["go", "version"], r"^go version go(\S+)")):
-        match = re.search(pattern, outcome(command)[1], re.MULTILINE)
+        match = re.search(pattern, run_quietly(command)[1], re.MULTILINE)
         found += [f"{name} {match[1]}"] if match else []
     if blake2_simd()[0]:
         with open(os.path.join(OUT, "simd", "Cargo.lock")) as file:
@@ -232,7 +232,7 @@ def best_of(turns, timers):
     return best
 
 
-def programs():
+def programs_to_time():
     """The programs to time by their names: functions from a kind to the command, or None."""
     found = {}
     for cpu in CPUS:
@@ -242,7 +242,7 @@ def programs():
         found["`b2sum`"] = lambda kind: ["b2sum"] if kind.word == "b512" else None
     if shutil.which("openssl"):
         found["`openssl dgst`"] = lambda kind: ["openssl", "dgst", "-" + kind.function]
-    for name, (program, _) in (("libb2", libb2()), ("blake2b/s_simd", blake2_simd())):
+    for name, (program, _) in (("libb2", build_libb2()), ("blake2b/s_simd", blake2_simd())):
         if program:
             found[name] = lambda kind, program=program: [program, kind.word]
     return found
@@ -263,7 +263,7 @@ def peak_and_digest(command, file):
     return peak, max(printed.split(), key=len)
 
 
-def times(command, file, wanted=""):
+def time_run(command, file, wanted=""):
     """The nanoseconds of one run over this input by the clock, and of the processor. The run prints what is wanted."""
     file.seek(0)
     start = time.perf_counter_ns()
@@ -279,7 +279,7 @@ def times(command, file, wanted=""):
 
 def program_timer(command, file):
     """A function that returns the CPU time in nanoseconds of one run over this input."""
-    return lambda: times(command, file)[1]
+    return lambda: time_run(command, file)[1]
 
 
 def file_digest_timer(kind, file):
@@ -302,7 +302,7 @@ def addresses_in(path):
     """The addresses of the functions of a module that this Python has loaded, by their names."""
     with open("/proc/self/maps") as maps:
         base = min(int(line.split("-")[0], 16) for line in maps if line.rstrip().endswith(path))
-    entries = [line.split() for line in outcome(["nm", path])[1].splitlines()]
+    entries = [line.split() for line in run_quietly(["nm", path])[1].splitlines()]
     return {entry[2]: base + int(entry[0], 16) for entry in entries if len(entry) == 3}
 
 
@@ -311,21 +311,22 @@ def functions_of_hashlib():
     import _blake2
     addresses = addresses_in(_blake2.__file__) if hasattr(_blake2, "__file__") else {}
     if "PyBlake2_blake2b" not in addresses or "PyBlake2_blake2s" not in addresses:
-        say("hashlib's C functions are not to be found in this Python")
+        report_progress("hashlib's C functions are not to be found in this Python")
         return None
-    path = shared("hashlib.so", [os.path.join(PEERS, "hashlib.c")])
+    path = compile_shared_library("hashlib.so", [os.path.join(PEERS, "hashlib.c")])
     library = ctypes.CDLL(path)
     for name in ("blake2b", "blake2s"):
         ctypes.c_void_p.in_dll(library, "python_" + name).value = addresses["PyBlake2_" + name]
     return functions_of(path)
 
 
-def libraries():
+def functions_in_memory():
     """The functions to time in memory, by the names of their libraries and their kinds' words."""
     found = {}
     for cpu in CPUS:
         found[f"ours: `vulfsjor`, {cpu}"] = functions_of(library_of(cpu), "ours_")
-    for name, path in (("libb2", libb2()[1]), ("blake2b/s_simd", blake2_simd()[1]), ("OpenSSL's EVP", openssl())):
+    for name, path in (("libb2", build_libb2()[1]), ("blake2b/s_simd", blake2_simd()[1]),
+                       ("OpenSSL's EVP", build_openssl())):
         if path:
             found[name] = functions_of(path)
     inside = functions_of_hashlib()
@@ -357,7 +358,7 @@ def python_loop(kind, message):
 @functools.cache
 def clock_in_c():
     """The function in C that times a loop of digests."""
-    path = shared("clock.so", [os.path.join(PEERS, "clock.c")])
+    path = compile_shared_library("clock.so", [os.path.join(PEERS, "clock.c")])
     if path is None:
         sys.exit("speed: the tables in memory need a C compiler (cc)")
     clock = ctypes.CDLL(path).nanoseconds
@@ -401,7 +402,7 @@ class Memory:
 
     def timed(self, kind, length):
         """The same, timed now."""
-        say(f"timing libraries at {kind.title} of {length:,} bytes")
+        report_progress(f"timing libraries at {kind.title} of {length:,} bytes")
         message = mmap.mmap(-1, max(length, 1))
         message[:] = os.urandom(len(message))
         wanted = hashlib.new(kind.algorithm, message[:length]).digest()
@@ -414,7 +415,7 @@ class Memory:
 
 # What is printed.
 
-def rate(length):
+def speed_text(length):
     """The speed, as text, of a time in nanoseconds for this number of bytes: 10^9 bytes a second."""
     return lambda nanoseconds: f"{length / nanoseconds:.2f}"
 
@@ -424,7 +425,7 @@ def row_text(cells):
     return "| " + " | ".join(cells) + " |\n"
 
 
-def table(corner, columns, last=None):
+def markdown_table(corner, columns, last=None):
     """The columns as a Markdown table, each with its ratios, and last a title and its cells."""
     title, cells = last if last else (None, {})
     titles = [corner]
@@ -443,7 +444,7 @@ def table(corner, columns, last=None):
 
 def random_file(mebibytes):
     """A file of this number of MiB of random bytes, without a name."""
-    say(f"writing a file of {mebibytes} MiB")
+    report_progress(f"writing a file of {mebibytes} MiB")
     file = tempfile.TemporaryFile()
     for _ in range(mebibytes):
         file.write(os.urandom(1 << 20))
@@ -453,10 +454,10 @@ def random_file(mebibytes):
 
 def long_table(options):
     """The table of programs over a file."""
-    commands, columns, peaks = programs(), [], {}
+    commands, columns, peaks = programs_to_time(), [], {}
     with random_file(options.mebibytes) as file:
         for kind in TIMED:
-            say(f"timing programs at {kind.title}")
+            report_progress(f"timing programs at {kind.title}")
             file.seek(0)
             wanted = hashlib.file_digest(file, kind.algorithm).hexdigest()
             timers = {}
@@ -469,24 +470,24 @@ def long_table(options):
                 peaks[name] = max(peak / 1024, peaks.get(name, 0))
                 timers[name] = program_timer(command, file)
             timers["hashlib's `file_digest`"] = file_digest_timer(kind, file)
-            text = rate(options.mebibytes << 20)
+            text = speed_text(options.mebibytes << 20)
             columns.append(Column(kind.title + ", GB/s", best_of(options.turns, timers), text))
     peaks = {name: f"{peak:.1f}" for name, peak in peaks.items()}
-    return table(f"{options.mebibytes} MiB from a file", columns, ("peak memory, MiB", peaks))
+    return markdown_table(f"{options.mebibytes} MiB from a file", columns, ("peak memory, MiB", peaks))
 
 
 def kernel_table(memory):
     """The table of libraries over one long message in memory."""
-    text = rate(KERNEL_BYTES)
+    text = speed_text(KERNEL_BYTES)
     columns = [Column(kind.title + ", GB/s", memory.best(kind, KERNEL_BYTES), text) for kind in TIMED]
-    return table("1 MiB in memory", columns)
+    return markdown_table("1 MiB in memory", columns)
 
 
 def short_table(kind, memory):
     """The table of libraries over short messages in memory."""
     columns = [Column(f"{length:,} bytes, ns", memory.best(kind, length), "{:.0f}".format)
                for length in SHORT_BYTES]
-    return table(f"one {kind.title} digest", columns)
+    return markdown_table(f"one {kind.title} digest", columns)
 
 
 def several_functions():
@@ -508,7 +509,7 @@ def several_table(kind, count, functions, turns):
     function = kind.function if count == SEVERAL[kind.word] else f"{kind.function}_{count}"
     columns = []
     for length in SEVERAL_BYTES:
-        say(f"timing {count} messages at {kind.title} of {length:,} bytes")
+        report_progress(f"timing {count} messages at {kind.title} of {length:,} bytes")
         messages = bytearray(os.urandom(count * length))
         wanted = b"".join(hashlib.new(kind.algorithm, messages[at:at + length]).digest()
                           for at in range(0, len(messages), length))
@@ -517,18 +518,18 @@ def several_table(kind, count, functions, turns):
                   for name, (path, prefix) in functions.items()}
         best = best_of(turns * MEMORY_TURNS, timers)
         columns.append(Column(f"{length:,} bytes, ns", best, "{:.0f}".format))
-    return table(f"{count} messages of {kind.title}", columns)
+    return markdown_table(f"{count} messages of {kind.title}", columns)
 
 
 def parallel_table(kind, turns):
     """The table of BLAKE2bp or BLAKE2sp. libb2 starts a thread for each leaf, so its time is that of all of them by the
     clock; ratios are to the crates, which have one."""
     found = {f"ours: `vulfsjor`, {cpu}": (library_of(cpu), "ours_") for cpu in CPUS}
-    found |= {name: (path, "") for name, path in (("libb2, with its threads", libb2()[1]), (CRATES, blake2_simd()[1]))
-              if path}
+    found |= {name: (path, "") for name, path in (("libb2, with its threads", build_libb2()[1]),
+                                                  (CRATES, blake2_simd()[1])) if path}
     columns = []
     for length in PARALLEL_BYTES:
-        say(f"timing {kind.title} of {length:,} bytes")
+        report_progress(f"timing {kind.title} of {length:,} bytes")
         message = bytearray(os.urandom(max(length, 1)))
         wanted = parallel_by_hashlib(kind.word[0], bytes(message[:length]))
         timers = {name: loop_timer(checked_loop(name, getattr(ctypes.CDLL(path), prefix + kind.function), message,
@@ -538,25 +539,26 @@ def parallel_table(kind, turns):
         if length < 1 << 16:
             columns.append(Column(f"{length:,} bytes, ns", best, "{:.0f}".format, base))
         else:
-            columns.append(Column(f"{length:,} bytes, GB/s", best, rate(length), base))
-    return table(f"one {kind.title} digest", columns)
+            columns.append(Column(f"{length:,} bytes, GB/s", best, speed_text(length), base))
+    return markdown_table(f"one {kind.title} digest", columns)
 
 
 def xof_table(turns):
     """The table of outputs of BLAKE2X."""
     found = {f"ours: {title}, {cpu}": (library_of(cpu), prefix) for cpu in CPUS
              for prefix, title in (("each_", "one block after another"), ("whole_", "blocks in parallel"))}
-    found |= {"golang.org/x/crypto": (golang(), "go_")} if golang() else {}
+    found |= {"golang.org/x/crypto": (build_golang(), "go_")} if build_golang() else {}
     message, columns = bytearray(os.urandom(64)), []
     for letter, title in OUTPUTS:
-        say(f"timing outputs of {title}")
+        report_progress(f"timing outputs of {title}")
         wanted = xof_output(letter, bytes(message), OUTPUT_BYTES)
         timers = {name: loop_timer(checked_loop(name, getattr(ctypes.CDLL(path), f"{prefix}blake2x{letter}"), message,
                                                 len(message), wanted)) for name, (path, prefix) in found.items()}
         best = best_of(turns * MEMORY_TURNS, timers)
         base = next(iter(found))
-        columns.append(Column(title + ", GB/s", best, rate(OUTPUT_BYTES), None if golang() else (base, best[base])))
-    return table(f"{OUTPUT_BYTES:,} bytes of output", columns)
+        columns.append(Column(title + ", GB/s", best, speed_text(OUTPUT_BYTES),
+                              None if build_golang() else (base, best[base])))
+    return markdown_table(f"{OUTPUT_BYTES:,} bytes of output", columns)
 
 
 def tree_functions():
@@ -591,16 +593,16 @@ def tree_table(turns):
         if shutil.which("b2sum"):
             timers["`b2sum` over the file, with its start"] = program_timer(["b2sum"], file)
         for leaf in TREE_LEAVES:
-            say(f"timing roots over leaves of {leaf:,} bytes")
+            report_progress(f"timing roots over leaves of {leaf:,} bytes")
             root = tree_root(bytes(message), leaf, 64)
             for name, library in roots.items():
                 library.set_leaf(ctypes.c_size_t(leaf))
                 timers[name] = tree_timer(name, library.tree_blake2b512, message, root)
-            columns.append(Column(f"leaves of {leaf:,} bytes, GB/s", best_of(turns, timers), rate(len(message))))
-    return table(f"{TREE_MEBIBYTES} MiB", columns)
+            columns.append(Column(f"leaves of {leaf:,} bytes, GB/s", best_of(turns, timers), speed_text(len(message))))
+    return markdown_table(f"{TREE_MEBIBYTES} MiB", columns)
 
 
-def picture(places, label, bytes_at, best_at):
+def svg_plot(places, label, bytes_at, best_at):
     """A plot of speed as SVG: for each kind and each length, the bytes a second in the best time of each candidate."""
     panels = {}
     for kind in TIMED:
@@ -617,7 +619,7 @@ def write_results(parts, name):
         file.write("\n".join(parts))
 
 
-def machine():
+def machine_text():
     """The processor's name, and its cores."""
     with open("/proc/cpuinfo") as info:
         models = [line.split(":", 1)[1].strip() for line in info if line.startswith("model name")]
@@ -629,10 +631,10 @@ def with_load(part):
     return f"{part}\n(Load {os.getloadavg()[0]:.1f} in the last minute of this.)\n"
 
 
-def heading(options):
+def heading_text(options):
     """The machine, the versions of the peers, and how often each candidate is timed."""
     turns = f"best of {options.turns} over the file, of {options.turns * MEMORY_TURNS} in memory"
-    return f"{machine()}; {versions()}; {turns}.\n"
+    return f"{machine_text()}; {peer_versions()}; {turns}.\n"
 
 
 def options_of(text, mebibytes, turns, only=()):
@@ -649,11 +651,11 @@ def options_of(text, mebibytes, turns, only=()):
 
 def parts_of(options):
     """The heading and the tables, each once it is measured; with --write the plot is drawn last."""
-    yield heading(options)
+    yield heading_text(options)
     if options.only in (None, "long"):
         yield with_load(long_table(options))
     if options.only in (None, "kernel", "short"):
-        memory = Memory(options.turns, libraries(), through_python)
+        memory = Memory(options.turns, functions_in_memory(), through_python)
     if options.only in (None, "kernel"):
         yield with_load(kernel_table(memory))
     if options.only in (None, "short"):
@@ -670,12 +672,12 @@ def parts_of(options):
         yield with_load(tree_table(options.turns * TREE_TURNS))
     if options.write:
         with open(PICTURE, "w") as file:
-            file.write(picture(PLOT_BYTES, "bytes of the message", lambda length: length, memory.best))
+            file.write(svg_plot(PLOT_BYTES, "bytes of the message", lambda length: length, memory.best))
 
 
-def run(options, parts_of, name):
+def run_benchmark(options, parts_of, name):
     """Measures the parts, prints each, and with --write writes them to the results of this name."""
-    if not outcome([os.path.join(TOP, "tools", "dist.sh"), "current"])[0]:
+    if not run_quietly([os.path.join(TOP, "tools", "dist.sh"), "current"])[0]:
         sys.exit("speed: dist/ was not made from these sources (tools/dist.sh make)")
     if sys.version_info < (3, 11):
         sys.exit("speed: Python 3.11 or later is needed, whose hashlib has file_digest")
@@ -689,8 +691,8 @@ def run(options, parts_of, name):
 
 
 def main():
-    run(options_of(__doc__, 512, 6, ("long", "kernel", "short", "several", "parallel", "xof", "tree")), parts_of,
-        "speed")
+    run_benchmark(options_of(__doc__, 512, 6, ("long", "kernel", "short", "several", "parallel", "xof", "tree")),
+                  parts_of, "speed")
 
 
 if __name__ == "__main__":

@@ -23,13 +23,13 @@ import tempfile
 
 import speed
 from speed import OUT, TOP, Parser, at_least
-from threads import clocked
+from threads import clock_call
 
 PEER = "/usr/bin/b2sum"
 ALL = len(os.sched_getaffinity(0))
 
 
-def printed(folder, words, processors=ALL):
+def output_of(folder, words, processors=ALL):
     """What a command prints in this folder, on this many processors."""
     allowed = sorted(os.sched_getaffinity(0))[:processors]
     return subprocess.run(words, cwd=folder, check=True, stdout=subprocess.PIPE,
@@ -50,7 +50,7 @@ def commands(program):
     }
 
 
-def fill(folder, options):
+def make_files(folder, options):
     """Makes the files. Returns their names by what reads them."""
     small = [f"small{i}" for i in range(options.files)]
     for name in small:
@@ -62,15 +62,15 @@ def fill(folder, options):
     return {"one": ["large"], "small": small, "tree": ["large"]}
 
 
-def rows(program, folder, options):
+def table_rows(program, folder, options):
     """The rows of the table."""
     titles = {"one": f"a file of {options.mebibytes} MiB", "small": f"{options.files} files of 1,000 bytes",
         "tree": "the same file"}
-    names = fill(folder, options)
+    names = make_files(folder, options)
     for what, found in commands(program).items():
-        if what != "tree" and printed(folder, [program, *names[what]]) != printed(folder, [PEER, *names[what]]):
+        if what != "tree" and output_of(folder, [program, *names[what]]) != output_of(folder, [PEER, *names[what]]):
             sys.exit("sums: the digests are not those of coreutils")
-        timers = {name: clocked(lambda words=[*words, *names[what]], n=processors: printed(folder, words, n))
+        timers = {name: clock_call(lambda words=[*words, *names[what]], n=processors: output_of(folder, words, n))
                   for name, (words, processors) in found.items() if shutil.which(words[0])}
         best = speed.best_of(options.turns, timers)
         base = best.get("`b2sum` of coreutils", best.get("`b2sum --tree 65536`, 1 processor"))
@@ -88,12 +88,12 @@ def main():
     options = parser.parse_args()
     os.makedirs(OUT, exist_ok=True)
     program = options.program and os.path.abspath(options.program) or os.path.join(OUT, "b2sum")
-    if not options.program and not speed.outcome([os.path.join(TOP, "b2sum"), "--build", program])[0]:
+    if not options.program and not speed.run_quietly([os.path.join(TOP, "b2sum"), "--build", program])[0]:
         sys.exit("sums: ./b2sum --build failed")
     table = speed.row_text(["read", "program", "ms", "ratio"]) + speed.row_text(["---"] * 4)
     with tempfile.TemporaryDirectory(dir="/dev/shm" if os.path.isdir("/dev/shm") else None) as folder:
-        table += "".join(map(speed.row_text, rows(program, folder, options)))
-    parts = [f"{speed.machine()}; best of {options.turns}, by the clock.\n", speed.with_load(table)]
+        table += "".join(map(speed.row_text, table_rows(program, folder, options)))
+    parts = [f"{speed.machine_text()}; best of {options.turns}, by the clock.\n", speed.with_load(table)]
     print("\n".join(parts), flush=True)
     if options.write:
         speed.write_results(parts, "sums")

@@ -22,7 +22,7 @@ import sys
 import time
 
 import speed
-from speed import OUT, TOP, Column, say
+from speed import OUT, TOP, Column, report_progress
 
 sys.path.insert(0, os.path.join(TOP, "tests"))
 from oracle import tree_root  # noqa: E402
@@ -40,27 +40,27 @@ def function_of(library, name, *types):
                          ctypes.c_uint32, ctypes.c_uint]
     out = ctypes.create_string_buffer(SIZE)
 
-    def root(*given, threads=0):
+    def root_of(*given, threads=0):
         if function(out, SIZE, *given, b"", 0, b"", 0, LEAF, threads):
             sys.exit(f"threads: {name} failed")
         return out.raw
-    return root
+    return root_of
 
 
-def installed():
+def installed_library():
     """The folder where c/install.sh has put the library."""
     folder = os.path.join(OUT, "installed")
-    good, output = speed.outcome([os.path.join(TOP, "c", "install.sh"), folder])
+    good, output = speed.run_quietly([os.path.join(TOP, "c", "install.sh"), folder])
     if not good:
         sys.exit("threads: the library was not installed: " + output)
     return folder
 
 
-def functions(folder):
+def functions_of_library(folder):
     """The functions over the library that is installed in this folder, by their names in C."""
     words = ["-I" + os.path.join(folder, "include"), os.path.join(TOP, "c", "threads.c"),
              os.path.join(folder, "lib", "libvulfsjor.a"), "-pthread"]
-    path = speed.shared("threads.so", words)
+    path = speed.compile_shared_library("threads.so", words)
     if path is None:
         sys.exit("threads: a C compiler (cc) is needed")
     one = ctypes.CDLL(os.path.join(folder, "lib", "libvulfsjor.so"))
@@ -71,7 +71,7 @@ def functions(folder):
             "vulfsjor_tree_root_file": function_of(several, "vulfsjor_tree_root_file", ctypes.c_char_p)}
 
 
-def clocked(call, wanted=None):
+def clock_call(call, wanted=None):
     """A function that returns the nanoseconds of one call by the clock. Its result is compared first."""
     if wanted is not None and call() != wanted:
         sys.exit("threads: a root is not the one of hashlib")
@@ -83,7 +83,7 @@ def clocked(call, wanted=None):
     return timer
 
 
-def printed(command, path=None):
+def first_word_printed(command, path=None):
     """The first word that a program prints, with the file as its standard input if there is a path."""
     with open(path or os.devnull, "rb") as file:
         return subprocess.run(command, stdin=file, stdout=subprocess.PIPE, check=True, text=True).stdout.split()[0]
@@ -91,68 +91,68 @@ def printed(command, path=None):
 
 def table(corner, length, best, base):
     """The best times of the pairs of name and number of threads as a Markdown table, with ratios to one of them."""
-    return speed.table(corner, [
+    return speed.markdown_table(corner, [
         Column(f"{threads} thread{'s' * (threads > 1)}, GB/s",
                {name: taken for (name, n), taken in best.items() if n == threads},
-               speed.rate(length), (base, best[base, 1])) for threads in THREADS])
+               speed.speed_text(length), (base, best[base, 1])) for threads in THREADS])
 
 
 def memory_table(found, message, wanted, turns):
     """The table of roots in memory."""
     place = (ctypes.addressof(ctypes.c_char.from_buffer(message)), len(message))
     one, several = found["vulfsjor_tree_root"], found["vulfsjor_tree_root_threads"]
-    timers = {("`vulfsjor_tree_root`", 1): clocked(lambda: one(*place), wanted)}
+    timers = {("`vulfsjor_tree_root`", 1): clock_call(lambda: one(*place), wanted)}
     for threads in THREADS:
-        timers["`vulfsjor_tree_root_threads`", threads] = clocked(
+        timers["`vulfsjor_tree_root_threads`", threads] = clock_call(
             functools.partial(several, *place, threads=threads), wanted)
     return table(f"{len(message) >> 20} MiB in memory", len(message), speed.best_of(turns, timers),
                  "`vulfsjor_tree_root`")
 
 
-def built(name):
+def build_program(name):
     """The program of this name, built from dist/."""
     program = os.path.join(OUT, name)
-    if not speed.outcome([os.path.join(TOP, name), "--build", program])[0]:
+    if not speed.run_quietly([os.path.join(TOP, name), "--build", program])[0]:
         sys.exit(f"threads: ./{name} --build failed")
     return program
 
 
 def file_table(found, path, length, wanted, turns):
     """The table of roots and digests of a file."""
-    command = [built("b2"), "tree", "b512", str(LEAF)]
-    sums = [built("b2sum"), "--no-names", "--tree", str(LEAF), path, "--threads"]
-    timers = {("`b2 tree`", 1): clocked(lambda: printed(command, path), wanted.hex())}
+    command = [build_program("b2"), "tree", "b512", str(LEAF)]
+    sums = [build_program("b2sum"), "--no-names", "--tree", str(LEAF), path, "--threads"]
+    timers = {("`b2 tree`", 1): clock_call(lambda: first_word_printed(command, path), wanted.hex())}
     for threads in THREADS:
         by_threads = functools.partial(found["vulfsjor_tree_root_file"], os.fsencode(path), threads=threads)
-        timers["`vulfsjor_tree_root_file`", threads] = clocked(by_threads, wanted)
+        timers["`vulfsjor_tree_root_file`", threads] = clock_call(by_threads, wanted)
         words = [*sums, str(threads)]
-        timers["`b2sum --tree`", threads] = clocked(lambda words=words: printed(words), wanted.hex())
+        timers["`b2sum --tree`", threads] = clock_call(lambda words=words: first_word_printed(words), wanted.hex())
         if shutil.which("b3sum"):
             words = ["b3sum", "--num-threads", str(threads), path]
-            timers["`b3sum`", threads] = clocked(lambda words=words: printed(words))
+            timers["`b3sum`", threads] = clock_call(lambda words=words: first_word_printed(words))
     if not shutil.which("b3sum"):
-        say("b3sum is absent")
+        report_progress("b3sum is absent")
     if shutil.which("b2sum"):
-        timers["`b2sum`", 1] = clocked(lambda: printed(["b2sum", path]))
+        timers["`b2sum`", 1] = clock_call(lambda: first_word_printed(["b2sum", path]))
     return table(f"a file of {length >> 20} MiB", length, speed.best_of(turns, timers), "`b2 tree`")
 
 
 def heading(options):
     """The machine, the versions of the peers, and how often each candidate is timed."""
-    found = re.search(r"b3sum (\S+)", speed.outcome(["b3sum", "--version"])[1])
+    found = re.search(r"b3sum (\S+)", speed.run_quietly(["b3sum", "--version"])[1])
     peers = f"b3sum {found[1]}; " if found else ""
-    return f"{speed.machine()}; {peers}leaves of 64 KiB; best of {options.turns}, by the clock.\n"
+    return f"{speed.machine_text()}; {peers}leaves of 64 KiB; best of {options.turns}, by the clock.\n"
 
 
 def parts_of(options):
     """The heading and the tables, each once it is measured."""
-    found = functions(installed())
+    found = functions_of_library(installed_library())
     with speed.random_file(options.mebibytes) as file:
         length = options.mebibytes << 20
         message = bytearray(length)
         file.seek(0)
         file.readinto(message)
-        say("comparing with hashlib")
+        report_progress("comparing with hashlib")
         wanted = tree_root(message, LEAF, SIZE)
         yield heading(options)
         yield speed.with_load(memory_table(found, message, wanted, options.turns))
@@ -161,7 +161,7 @@ def parts_of(options):
 
 
 def main():
-    speed.run(speed.options_of(__doc__, 1024, 10), parts_of, "threads")
+    speed.run_benchmark(speed.options_of(__doc__, 1024, 10), parts_of, "threads")
 
 
 if __name__ == "__main__":

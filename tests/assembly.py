@@ -57,7 +57,7 @@ PARALLEL = {"v2": [], "v3": [FOUR], "v4": [FOUR, EIGHT], "arm": [FOUR]}
 CODE = re.search(r'(?m)^#define CODE "(\d+)"$', read("c/choose.c"))[1]
 
 
-def functions(lines):
+def functions_of_text(lines):
     """The instructions and macros of each function, by its name."""
     found, own = {}, None
     for line in lines:
@@ -78,7 +78,7 @@ def count_vectors(code):
 def check_text(name, text, end):
     """Whether each statement about a file holds, by its words."""
     lines = text.split("\n")
-    code = functions(lines)
+    code = functions_of_text(lines)
     exported = [line.split("\t")[2] for line in lines if line.startswith(("\tvj_export\t", "\tvj_shared\t"))]
     called = {call[1] for line in lines if (call := CALL.match(line))}
     outside = {call[1] for line in lines if (call := OUTSIDE.match(line))}
@@ -122,7 +122,7 @@ def check_hashing(name, text, build):
     outside = {call[1] for line in lines if (call := OUTSIDE.match(line))}
     hashing = {f"{it}_{CODE}_{build.replace('a64', 'arm')}" for it in hashing_of(name)}
     yield "it has no compression, and calls those of the library", hashing <= outside and not any(
-        re.search(r"compress|hash_next|Lanes\.\.(outputs|update)", it) for it in functions(lines))
+        re.search(r"compress|hash_next|Lanes\.\.(outputs|update)", it) for it in functions_of_text(lines))
     yield "each goes to the library's build for the processor", chosen == [
         f"\tvj_choose\t{', '.join(f'{it}_{CODE}_{end}' for end in (build, *BUILDS))}"
         for it in hashing_of(name) if build == "x86"]
@@ -130,14 +130,14 @@ def check_hashing(name, text, build):
 
 def check_parallel(text, build):
     """Whether as many messages of BLAKE2b are compressed in parallel as is fastest."""
-    found = sorted(it for it in functions(text.split("\n")) if it.startswith((FOUR, EIGHT)))
+    found = sorted(it for it in functions_of_text(text.split("\n")) if it.startswith((FOUR, EIGHT)))
     yield "it compresses as many messages of BLAKE2b in parallel as is fastest", found == [
         f"{it}_{CODE}_{build}" for it in PARALLEL[build]]
 
 
 def check_arm(text):
     """Whether the compressions use the registers that they are to use."""
-    code = functions(text.split("\n"))
+    code = functions_of_text(text.split("\n"))
     for family in FAMILIES:
         one = [it for it in code if it.startswith(f"blake2_compress..compress..{family}..compress_{CODE}")]
         yield (f"{family}: one message is compressed without vector registers",
@@ -161,7 +161,7 @@ def before_returns(code):
 
 def check_upper(name, text):
     """Whether the code for AVX-512 leaves nothing in the upper vector registers."""
-    code = functions(text.split("\n"))
+    code = functions_of_text(text.split("\n"))
     used = {it: {number for line in lines for number in UPPER.findall(line)} for it, lines in code.items()}
     wide = f"{EIGHT}_{CODE}_v4"
     yield "only the compression of eight messages of BLAKE2b has instructions of 512 bits", [

@@ -16,7 +16,7 @@
 
 void *__libc_malloc(size_t size), *__libc_realloc(void *place, size_t size);
 
-static long number(const char *name) {
+static long number_variable(const char *name) {
     const char *text = getenv(name);
     return text ? atol(text) : 0;
 }
@@ -29,13 +29,13 @@ static int is_hit(const char *call) {
 
     if (!wanted || strcmp(call, wanted)) return 0;
     count = __atomic_add_fetch(&calls, 1, __ATOMIC_RELAXED);
-    if (count < number("FAULT_AT") || count > number("FAULT_LAST")) return 0;
+    if (count < number_variable("FAULT_AT") || count > number_variable("FAULT_LAST")) return 0;
     syscall(SYS_openat, AT_FDCWD, getenv("FAULT_HIT"), O_CREAT | O_WRONLY, 0600);
     return 1;
 }
 
-static long failed(void) {
-    errno = (int)number("FAULT_ERROR");
+static long fail_with_error(void) {
+    errno = (int)number_variable("FAULT_ERROR");
     return -1;
 }
 
@@ -43,8 +43,8 @@ ssize_t readv(int file, const struct iovec *room, int count) {
     struct iovec first = *room;
 
     if (is_hit("readv")) {
-        if (number("FAULT_ERROR") < 0) return 0;
-        if (number("FAULT_ERROR")) return failed();
+        if (number_variable("FAULT_ERROR") < 0) return 0;
+        if (number_variable("FAULT_ERROR")) return fail_with_error();
         if (first.iov_len > 1) first.iov_len = 1;
     }
     return syscall(SYS_readv, file, &first, count);
@@ -52,29 +52,29 @@ ssize_t readv(int file, const struct iovec *room, int count) {
 
 ssize_t pread(int file, void *bytes, size_t size, off_t from) {
     if (is_hit("pread")) {
-        if (number("FAULT_ERROR") < 0) return 0;
-        if (number("FAULT_ERROR")) return failed();
+        if (number_variable("FAULT_ERROR") < 0) return 0;
+        if (number_variable("FAULT_ERROR")) return fail_with_error();
         if (size > 1) size = 1;
     }
     return syscall(SYS_pread64, file, bytes, size, from);
 }
 
 int openat(int folder, const char *name, int flags, ...) {
-    if (is_hit("openat")) return (int)failed();
+    if (is_hit("openat")) return (int)fail_with_error();
     return (int)syscall(SYS_openat, folder, name, flags, 0);
 }
 
 ssize_t write(int file, const void *bytes, size_t size) {
     if (is_hit("write")) {
-        if (number("FAULT_ERROR") < 0) return 0;
-        if (number("FAULT_ERROR")) return failed();
+        if (number_variable("FAULT_ERROR") < 0) return 0;
+        if (number_variable("FAULT_ERROR")) return fail_with_error();
         if (size > 1) size = 1;
     }
     return syscall(SYS_write, file, bytes, size);
 }
 
 int close(int file) {
-    if (is_hit("close")) return (int)failed();
+    if (is_hit("close")) return (int)fail_with_error();
     return (int)syscall(SYS_close, file);
 }
 

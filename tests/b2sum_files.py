@@ -17,7 +17,7 @@ import random
 import shutil
 import subprocess
 
-from b2sum_support import FILES, checked, escaped, line, lines, needs, root, root_line, run_tests
+from b2sum_support import FILES, check_line, escaped, line, lines, needs_of_tag, root, root_line, run_tests
 from oracle import parallel_by_hashlib
 
 HUGE = bool(os.environ.get("VULFSJOR_TEST_HUGE"))
@@ -67,7 +67,7 @@ def test_lengths(runs):
             runs.wants([*words, "-"], line("-", b"some bytes", bits, family), data=b"some bytes")
             tagged = lines(bits=bits, family=family, tag=True)
             runs.wants([*words, "--tag", *FILES], tagged)
-            oks = "".join(map(checked, FILES))
+            oks = "".join(map(check_line, FILES))
             runs.wants(["-a", f"blake2{family}", "-c"], oks, data=os.fsencode(tagged))
             runs.wants(["-a", f"blake2{family}", "-c"], oks, data=os.fsencode(lines(bits=bits, family=family)))
     runs.wants([*FILES], lines())
@@ -156,7 +156,7 @@ NEEDED = {"key": "--key-file", "salt": "--salt", "person": "--personal"}
 NO_LINE = "'standard input': no properly formatted checksum lines found"
 
 
-def unmet(wanted, count=1, title="'standard input'"):
+def unmet_messages(wanted, count=1, title="'standard input'"):
     """The messages of this many lines that need other options."""
     return (f"{title}: lines need {wanted}\n"
             f"WARNING: {count} {'line needs' if count == 1 else 'lines need'} other options")
@@ -177,7 +177,7 @@ def test_needs(runs):
             continue
         own = ["--tree", "4"] if family == 4 else ["-a", "blake2" + family]
         texts = {it: given[it] for it in some}
-        said = (f"BLAKE2b-tree-4{needs(**texts)}-256 (b) = {root(b'abc', 4, 32, **texts).hex()}\n" if family == 4
+        said = (f"BLAKE2b-tree-4{needs_of_tag(**texts)}-256 (b) = {root(b'abc', 4, 32, **texts).hex()}\n" if family == 4
                 else line("b", b"abc", bits, family, tag=True, **given))
         options = [word for it in some for word in words[it]]
         runs.wants([*own, "-l", "256", "--tag", *options, "b"], said)
@@ -188,24 +188,24 @@ def test_needs(runs):
             if other == some:
                 runs.wants(check, "b: OK\n", data=said.encode())
             else:
-                runs.wants(check, "", unmet(" ".join(lacking)), 1, said.encode())
+                runs.wants(check, "", unmet_messages(" ".join(lacking)), 1, said.encode())
         for peer in peers if some else ():
             got = subprocess.run(peer, executable="/usr/bin/" + peer[0], cwd=runs.folder, input=said.encode(),
                                  stdout=subprocess.PIPE, stderr=subprocess.PIPE)
             runs.holds([*peer, said], got.returncode == 1 and got.stdout == b"" and b"no properly" in got.stderr, got)
     tagged = line("b", b"abc", 256, tag=True, key=values["key"])
     both = tagged + line("a", b"", 256, tag=True, salt=b"x")
-    runs.wants(["-c"], "", unmet("--key-file --salt --length 256", 2), 1, both.encode())
+    runs.wants(["-c"], "", unmet_messages("--key-file --salt --length 256", 2), 1, both.encode())
     plain = tagged + line("b", b"abc")
     for more in ([], ["--strict"], ["-w"], ["--ignore-missing"]):
-        runs.wants(["-c", *more], "b: OK\n", unmet("--key-file --length 256"), 1, plain.encode())
+        runs.wants(["-c", *more], "b: OK\n", unmet_messages("--key-file --length 256"), 1, plain.encode())
     for text in (both, plain):
         runs.wants(["-c", "--status"], "", "", 1, text.encode())
-    runs.wants(["-c", "--quiet"], "", unmet("--key-file --length 256"), 1, plain.encode())
+    runs.wants(["-c", "--quiet"], "", unmet_messages("--key-file --length 256"), 1, plain.encode())
     runs.write("one", tagged.encode())
     runs.write("two", line("b", b"abc").encode())
-    runs.wants(["-c", "one", "two"], "b: OK\n", unmet("--key-file --length 256", title="one"), 1)
-    runs.wants(["-c", "two", "one"], "b: OK\n", unmet("--key-file --length 256", title="one"), 1)
+    runs.wants(["-c", "one", "two"], "b: OK\n", unmet_messages("--key-file --length 256", title="one"), 1)
+    runs.wants(["-c", "two", "one"], "b: OK\n", unmet_messages("--key-file --length 256", title="one"), 1)
     for option, text, wanted in (
             ([], line("b", b"abc", 256, "s", tag=True, key=values["key"]), "--algorithm blake2s"),
             ([], line("b", b"abc", 256, "sp", tag=True, key=values["key"]), "--algorithm blake2sp"),
@@ -213,16 +213,16 @@ def test_needs(runs):
             (["-a", "blake2bp"], tagged.replace("2b-", "2bp-"), None),
             (["-a", "blake2s"], tagged, "--algorithm blake2b --length 256")):
         if wanted:
-            runs.wants(["-c", "-l256", *words["key"], *option], "", unmet(wanted), 1, text.encode())
+            runs.wants(["-c", "-l256", *words["key"], *option], "", unmet_messages(wanted), 1, text.encode())
         else:
             runs.wants(["-c", "-l256", *words["key"], *option], "b: FAILED\n",
                        "WARNING: 1 computed checksum did NOT match", 1, text.encode())
     tree = root_line("b", b"abc", 65536, 256, salt=values["salt"])
-    runs.wants(["-c", *words["salt"]], "", unmet("--tree 65536"), 1, tree.encode())
-    runs.wants(["-c", *words["salt"], "--tree", "4"], "", unmet("--tree 65536"), 1, tree.encode())
+    runs.wants(["-c", *words["salt"]], "", unmet_messages("--tree 65536"), 1, tree.encode())
+    runs.wants(["-c", *words["salt"], "--tree", "4"], "", unmet_messages("--tree 65536"), 1, tree.encode())
     runs.wants(["-c", *words["salt"], "--tree", "65536"], "b: OK\n", data=tree.encode())
     for salted in (["--salt", "00"], ["--personal", "00"]):
-        runs.wants(["-c", *salted], "b: OK\n", unmet("no " + salted[0]), 1,
+        runs.wants(["-c", *salted], "b: OK\n", unmet_messages("no " + salted[0]), 1,
                    (line("b", b"abc") + line("a", b"", tag=True)).encode())
     for text in ("-keyx", "-salt-key", "-personal-salt", "-key-key", "-Key", "-key-", "key", " -key"):
         runs.wants(["-c", *words["key"]], "", NO_LINE, 1, line("b", b"abc", 512, tag=True, key=values["key"]).replace(
@@ -240,8 +240,8 @@ def test_tags(runs):
                                 (["-a", "blake2s"], 3, "algorithm blake2b"),
                                 (["-a", "blake2bp"], 3, "algorithm blake2b"), (["--tree", "2"], 2, "algorithm blake2b"),
                                 (["--tree", "3"], 0, "algorithm blake2b"), (["-l", "256"], 4, "length 8")):
-        runs.wants(["-c", *words], "b: OK\n" * count, unmet("--" + other, 20 - count), 1, text.encode())
-    runs.wants(["-c", "-l", "512"], "b: OK\n" * 6, unmet("--length 8", 14), 1, text.encode())
+        runs.wants(["-c", *words], "b: OK\n" * count, unmet_messages("--" + other, 20 - count), 1, text.encode())
+    runs.wants(["-c", "-l", "512"], "b: OK\n" * 6, unmet_messages("--length 8", 14), 1, text.encode())
     runs.wants(["-c"], "b: OK\n" * 21, data=(text + line("b", b"abc", 128)).encode())
     changed = text.replace("(b)", "(a)")
     runs.wants(["-c"], "a: FAILED\n" * 20, "WARNING: 20 computed checksums did NOT match", 1, changed.encode())
@@ -305,10 +305,10 @@ def test_demanded_lengths(runs):
             if other == bits:
                 runs.wants(["-c", *words], "b: OK\n", data=text)
             else:
-                runs.wants(["-c", *words], "", unmet(f"--length {other}"), 1, text)
+                runs.wants(["-c", *words], "", unmet_messages(f"--length {other}"), 1, text)
                 runs.wants(["-c", "--strict", "--status", *words], "", "", 1, text)
     runs.write("M", "".join(f"{first:02x}  b\n" for first in range(256)).encode())
-    runs.wants(["-c", "--key-file", "key", "M"], "", unmet("--length 8", 256, "M"), 1)
+    runs.wants(["-c", "--key-file", "key", "M"], "", unmet_messages("--length 8", 256, "M"), 1)
     runs.wants(["-c", "-l0"], "b: OK\n", data=os.fsencode(line("b", b"abc", bits=8)))
     runs.ends("the lengths that a check demands")
 

@@ -75,7 +75,7 @@ static unsigned long found_in_all(void) {
 }
 
 /* Looks at the memory if this call is the one. */
-static void scan(const char *call) {
+static void scan_at_call(const char *call) {
     static long calls;
     struct rlimit core;
     char line[100];
@@ -93,11 +93,11 @@ static void scan(const char *call) {
 }
 
 ssize_t readv(int file, const struct iovec *room, int count) {
-    scan("readv");
+    scan_at_call("readv");
     return syscall(SYS_readv, file, room, count);
 }
 
 int close(int file) {
-    scan("close");
+    scan_at_call("close");
     return (int)syscall(SYS_close, file);
 }

@@ -99,7 +99,7 @@ def digest(family, data, size, **parameters):
     return getattr(hashlib, "blake2" + family)(data, digest_size=size, **parameters).digest()
 
 
-def needs(key=b"", salt=b"", person=b""):
+def needs_of_tag(key=b"", salt=b"", person=b""):
     """What a tag says of the parameters of a digest."""
     return ("-key" if key else "") + ("-salt" if salt else "") + ("-personal" if person else "")
 
@@ -110,12 +110,12 @@ def line(name, data, bits=512, family="b", mark=" ", tag=False, **parameters):
     start = "\\" if escaped(name) != name else ""
     if tag:
         longest = 512 if family[0] == "b" else 256
-        tag = f"BLAKE2{family}{needs(**parameters)}{'' if bits == longest else f'-{bits}'}"
+        tag = f"BLAKE2{family}{needs_of_tag(**parameters)}{'' if bits == longest else f'-{bits}'}"
         return f"{start}{tag} ({escaped(name)}) = {digits}\n"
     return f"{start}{digits} {mark}{escaped(name)}\n"
 
 
-def checked(name):
+def check_line(name):
     """The line of a file that has its digest."""
     return ("\\" if "\n" in name else "") + (escaped(name) if "\n" in name else name) + ": OK\n"
 
@@ -129,7 +129,7 @@ root = functools.cache(tree_root)
 
 def root_line(name, data, leaf, bits=512, **texts):
     """The line of the root of a tree."""
-    tag = f"BLAKE2b-tree-{leaf}{needs(**texts)}{'' if bits == 512 else f'-{bits}'}"
+    tag = f"BLAKE2b-tree-{leaf}{needs_of_tag(**texts)}{'' if bits == 512 else f'-{bits}'}"
     return f"{tag} ({name}) = {root(data, leaf, bits // 8, **texts).hex()}\n"
 
 

@@ -20,7 +20,7 @@ import signal
 import socket
 import subprocess
 
-from b2sum_support import FILES, checked, line, lines, root_line, run_tests
+from b2sum_support import FILES, check_line, line, lines, root_line, run_tests
 
 HUGE = bool(os.environ.get("VULFSJOR_TEST_HUGE"))
 CALLS = {"readv": errno.EIO, "openat": errno.EACCES, "write": errno.ENOSPC, "malloc": errno.ENOMEM,
@@ -52,7 +52,7 @@ class Marked:
         return data
 
 
-def scanned(runs, words, key, call, at):
+def scan_memory(runs, words, key, call, at):
     """What a run has in its memory at a call: the number of pieces of the key, whether the process can be dumped, and
     whether it can leave a core file; or nothing if there is no such call."""
     out = runs.path("scan")
@@ -82,7 +82,7 @@ def test_secrets(runs):
             ends, most = [], 0
             for call in ("readv", "close"):
                 for at in itertools.count(1):
-                    found = scanned(runs, words + more, some, call, at)
+                    found = scan_memory(runs, words + more, some, call, at)
                     if not found:
                         break
                     most = max(most, found[0])
@@ -92,14 +92,14 @@ def test_secrets(runs):
             runs.holds([*words, "at most", most],
                        1 <= most // pieces <= MOST_COPIES[family] and ends[0] > 6 and ends[1] > 4)
             for at in range(ends[1] - 1, ends[1] + 1):
-                runs.holds([*words, "the end", at], scanned(runs, words + more, some, "close", at) == (0, 0, 0))
+                runs.holds([*words, "the end", at], scan_memory(runs, words + more, some, "close", at) == (0, 0, 0))
     for at in (1, 3):
-        found = scanned(runs, ["long", "b"], key, "readv", at)
+        found = scan_memory(runs, ["long", "b"], key, "readv", at)
         runs.holds(["no key", found], found and found[:2] == (0, 1))
     runs.ends("keys in memory")
 
 
-def stop(process):
+def stop_process(process):
     """Ends a process, which waits for a reader of its pipe if there was none."""
     process.kill()
     process.wait()
@@ -140,10 +140,10 @@ def test_system(runs):
     os.mkfifo(runs.path("pipe"))
     writer = subprocess.Popen(["sh", "-c", "exec >pipe; printf ab; sleep 0.3; printf c"], cwd=runs.folder)
     runs.wants(["pipe"], line("pipe", b"abc"))
-    stop(writer)
+    stop_process(writer)
     writer = subprocess.Popen(["sh", "-c", "exec >pipe; cat a b"], cwd=runs.folder)
     runs.wants(["--tree", "2", "pipe"], root_line("pipe", b"abc", 2))
-    stop(writer)
+    stop_process(writer)
     server.close()
     runs.ends("what cannot be read, pipes and devices")
 
@@ -154,13 +154,13 @@ def test_changes(runs):
     data = random.Random(2).randbytes((4 << 20) + 5)
     runs.write("data", data)
     for at in range(1, 6):
-        runs.holds(["ends", at], fault(runs, ["data"], b"", "readv", at, 1 << 30, -1) ==
+        runs.holds(["ends", at], run_with_fault(runs, ["data"], b"", "readv", at, 1 << 30, -1) ==
                    (line("data", data[:(at - 1) << 16]).encode(), b"", 0))
     wanted = (root_line("data", data, 65536).encode(), b"", 0)
     for error in (0, -1, errno.EIO, errno.EINTR):
         for at, last in ((1, 1), (2, 2), (3, 4), (9, 9), (1, 1 << 30)):
             if (error, last) != (errno.EINTR, 1 << 30):  # no call would end
-                got = fault(runs, ["--tree", "65536", "data"], b"", "pread", at, last, error)
+                got = run_with_fault(runs, ["--tree", "65536", "data"], b"", "pread", at, last, error)
                 runs.holds(["threads", at, last, error], got in (wanted, None) and (got or at > 1), got)
     runs.ends("files that end early, and threads whose reads fail")
 
@@ -241,7 +241,7 @@ def test_streams(runs):
                                    stdout=subprocess.PIPE)
         with open(runs.path("lines"), "wb", 0) if words else process.stdin as manifest:
             for name, data in FILES.items():
-                text, verdict = os.fsencode(line(name, data)), os.fsencode(checked(name))
+                text, verdict = os.fsencode(line(name, data)), os.fsencode(check_line(name))
                 for part in text[:7], text[7:]:
                     manifest.write(part)
                     manifest.flush()
@@ -260,12 +260,12 @@ def test_closing(runs):
     whole = line("b", b"abc").encode()
     late = f"b2sum: close error: {os.strerror(errno.EDQUOT)}\n".encode()
     for at, wanted in ((1, (whole, late, 1)), (2, (whole, quota, 1)), (3, (whole, b"", 1)), (4, None)):
-        got = fault(runs, ["b"], b"", "close", at, at, errno.EDQUOT)
+        got = run_with_fault(runs, ["b"], b"", "close", at, at, errno.EDQUOT)
         runs.holds(["close", at], got == wanted, got)
-    got = fault(runs, ["b"], b"", "close", 2, 3, errno.EBADF)
+    got = run_with_fault(runs, ["b"], b"", "close", 2, 3, errno.EBADF)
     runs.holds("closing what is closed", got == (whole, b"", 0), got)
     for path in "sums", "/usr/bin/sums":
-        got = fault(runs, ["b"], b"", "close", 2, 2, errno.EDQUOT, path)
+        got = run_with_fault(runs, ["b"], b"", "close", 2, 2, errno.EDQUOT, path)
         runs.holds([path, "close"], got == (whole, quota.replace(b"b2sum", b"sums"), 1), got)
     runs.ends("outputs whose closing fails")
 
@@ -281,7 +281,7 @@ def test_progress(runs):
         terminal, end = os.openpty()
         writer = subprocess.Popen(["sh", "-c", "exec >slow; printf ab; sleep 0.7; printf c"], cwd=runs.folder)
         runs.wants([*words, "slow"], line("slow", b"abc", **parameters), stderr=end)
-        stop(writer)
+        stop_process(writer)
         os.write(end, b"end")
         got = b""
         while not got.endswith(b"end"):
@@ -348,7 +348,7 @@ def test_memory(runs):
 
 # ---- Faults.
 
-def fault(runs, words, data, call, at, last, error, called="b2sum"):
+def run_with_fault(runs, words, data, call, at, last, error, called="b2sum"):
     """A run in which these calls of a function fail, or nothing if it makes no such call."""
     hit = runs.path("hit")
     got = runs.run(words, data, called, env={
@@ -364,13 +364,13 @@ def check_faults(runs, words, data, good, call, error):
     """The first call of a function fails, the second, and so on; each alone, and with all later ones."""
     for at in itertools.count(1):
         for last in (at, 1 << 30):
-            got = fault(runs, words, data, call, at, last, error)
+            got = run_with_fault(runs, words, data, call, at, last, error)
             if not got:
                 runs.holds([*words, call], at > 1, "it is never called")
                 return
             whole = set(got[0].splitlines(keepends=True))
-            runs.holds([*words, call, at, last, error], got[2] == 1 and whole <= good and said(call, error, got[1]),
-                got)
+            runs.holds([*words, call, at, last, error],
+                       got[2] == 1 and whole <= good and names_the_cause(call, error, got[1]), got)
 
 
 def test_faults(runs):
@@ -388,17 +388,17 @@ def test_faults(runs):
             check_faults(runs, words, data, good, call, error)
         for call in ("readv", "write"):
             for at, last in ((1, 1), (2, 2), (3, 3), (1, 1 << 30)):
-                runs.holds([words, call, at, last], fault(runs, words, data, call, at, last, 0) == whole)
-    runs.holds("a write of no byte", fault(runs, ["b"], b"", "write", 1, 1, -1) ==
+                runs.holds([words, call, at, last], run_with_fault(runs, words, data, call, at, last, 0) == whole)
+    runs.holds("a write of no byte", run_with_fault(runs, ["b"], b"", "write", 1, 1, -1) ==
                (b"", b"b2sum: write error: write zero\n", 1))
     for at in range(1, 9):
-        got = fault(runs, ["b"], b"", "malloc", at, 1 << 30, errno.ENOMEM, "/bin/sums")
+        got = run_with_fault(runs, ["b"], b"", "malloc", at, 1 << 30, errno.ENOMEM, "/bin/sums")
         name = b"b2sum" if at <= NAME_REQUESTS else b"sums"
         runs.holds(["another name", at], got == (b"", name + b": memory exhausted\n", 1), got)
     runs.ends("each read, open, write and request for memory fails in turn")
 
 
-def said(call, error, err):
+def names_the_cause(call, error, err):
     """Whether the messages name the cause."""
     if call in ("malloc", "realloc"):
         return err == b"b2sum: memory exhausted\n" or b": out of memory\n" in err  # for one file

@@ -36,11 +36,11 @@ class Parser(argparse.ArgumentParser):
 
 def at_least(least):
     """Reads an argument that is a whole number, and not below this one."""
-    def number(text):
+    def whole_number(text):
         if not text.isdecimal() or int(text) < least:
             raise argparse.ArgumentTypeError(f"{text!r} is not a whole number of at least {least}")
         return int(text)
-    return number
+    return whole_number
 
 
 def program(path):

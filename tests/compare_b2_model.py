@@ -26,13 +26,13 @@ from oracle import tree_root
 FUNCTIONS = {name: family.function for name, family in FAMILIES.items()}
 
 
-def lengths(source, block):
+def random_length(source, block):
     """A random length: small, or around a boundary of blocks."""
     around = [block - 1, block, block + 1, 2 * block]
     return source.choice([0, 1, source.randrange(9), *around, source.randrange(4 * block)])
 
 
-def digits(source, data, wrong=0.06):
+def random_hex(source, data, wrong=0.06):
     """Bytes as HEX in random case, and with this probability something else."""
     text = data.hex()
     text = "".join(source.choice([c, c.upper()]) for c in text) if source.random() < 0.2 else text
@@ -42,7 +42,7 @@ def digits(source, data, wrong=0.06):
     return text
 
 
-def bracketed(source, kind, names):
+def random_options(source, kind, names):
     """Words in brackets, some of a length that is refused."""
     most = {"key": 64, "salt": 16, "persona": 16}
     half = 1 if kind.startswith("b") else 2
@@ -54,12 +54,12 @@ def bracketed(source, kind, names):
             if name == "persona" and source.random() < 0.3:
                 words.append("persona-text=" + "".join(source.choices("az09=- \u00e9", k=length)))
             else:
-                words.append(f"{name}={digits(source, source.randbytes(length))}")
+                words.append(f"{name}={random_hex(source, source.randbytes(length))}")
     source.shuffle(words)
     return words
 
 
-def spoiled(source, words):
+def spoil_words(source, words):
     """Words of which some are gone, repeated, changed or too many; most of the time as they were."""
     words = list(words)
     while source.random() < 0.12:
@@ -86,8 +86,8 @@ def script_lines(source, block):
             break
         slot = source.choice(live) if live and source.random() < 0.99 else source.randrange(len(slots) + 2)
         name = source.choice("uuuucrdf")
-        data = source.randbytes(lengths(source, block))
-        found.append(f"{name} {slot}" + (f" {digits(source, data, 0.01) if data else '-'}" if name == "u" else ""))
+        data = source.randbytes(random_length(source, block))
+        found.append(f"{name} {slot}" + (f" {random_hex(source, data, 0.01) if data else '-'}" if name == "u" else ""))
         if name == "c":
             slots.append(True)
         if name == "f" and slot < len(slots):
@@ -103,8 +103,8 @@ def script_lines(source, block):
 def sum_case(source, command):
     """The words and the input of a `sum` or a `steps`."""
     kind = source.choice(["b128", "b256", "b512", "s128", "s256"])
-    words = [command, kind, *bracketed(source, kind, ("key", "salt", "persona"))]
-    return words, source.randbytes(lengths(source, 128 if kind.startswith("b") else 64))
+    words = [command, kind, *random_options(source, kind, ("key", "salt", "persona"))]
+    return words, source.randbytes(random_length(source, 128 if kind.startswith("b") else 64))
 
 
 def script_case(source, command):
@@ -117,14 +117,15 @@ def witness_case(source, command):
     """The words of a `witness`, often of two messages with one digest."""
     kind = source.choice(["b0", "b8", "s0", "s8", "b128", "b256", "b512", "s128", "s256"])
     block = 128 if kind.startswith("b") else 64
-    a = source.randbytes(lengths(source, block))
-    b = source.choice([a, a + b"\0", a[:-1], bytes(block) + a, source.randbytes(lengths(source, block))])
+    a = source.randbytes(random_length(source, block))
+    b = source.choice([a, a + b"\0", a[:-1], bytes(block) + a, source.randbytes(random_length(source, block))])
     while kind.endswith("8") and len(kind) == 2 and source.random() < 0.995:
         one = FUNCTIONS[kind[0]](a, digest_size=1).digest()
         if a != b and one == FUNCTIONS[kind[0]](b, digest_size=1).digest():
             break
-        b = source.randbytes(len(b)) if source.random() < 0.9 else a[:block] + source.randbytes(lengths(source, block))
-    return [command, kind, *(digits(source, message) if message else "-" for message in (a, b))], b""
+        b = source.randbytes(len(b)) if source.random() < 0.9 else \
+            a[:block] + source.randbytes(random_length(source, block))
+    return [command, kind, *(random_hex(source, message) if message else "-" for message in (a, b))], b""
 
 
 def tree_case(source, command):
@@ -134,7 +135,7 @@ def tree_case(source, command):
     word = str(leaf) if source.random() < 0.9 else source.choice(
         ["0", "04", "4294967296", "-1", "+4", "4k", "", "99999999999", "\u0664", "12a"])
     kind = source.choice(["b128", "b256", "b512", "b512", source.choice(["s256", "b0"])])
-    return [command, kind, word, *bracketed(source, "b", ("salt", "persona"))], message
+    return [command, kind, word, *random_options(source, "b", ("salt", "persona"))], message
 
 
 def output_length(source, most):
@@ -149,8 +150,8 @@ def xof_case(source, command):
     kind = source.choice(["xb", "xs", "xb", "xs", source.choice(["b512", "x", "XB"])])
     most = 2**32 - 1 if kind == "xb" else 2**16 - 1
     return ([command, kind, output_length(source, most),
-             *bracketed(source, "b" if kind == "xb" else "s", ("key", "salt", "persona"))],
-            source.randbytes(lengths(source, 128 if kind == "xb" else 64)))
+             *random_options(source, "b" if kind == "xb" else "s", ("key", "salt", "persona"))],
+            source.randbytes(random_length(source, 128 if kind == "xb" else 64)))
 
 
 def derive_case(source, command):
@@ -164,12 +165,12 @@ CASES = {"sum": sum_case, "steps": sum_case, "script": script_case, "witness": w
          "xof": xof_case, "derive": derive_case}
 
 
-def unreadable():
+def unreadable_input():
     """Represents an input whose reads fail."""
     raise IsADirectoryError
 
 
-def outcome(path, words, message):
+def run_program(path, words, message):
     """The status and the output of the program; None is an input whose reads fail."""
     if message is not None:
         done = subprocess.run([path, *words], input=message, stdout=subprocess.PIPE)
@@ -194,7 +195,7 @@ def of_hashlib(words, message):
     return FUNCTIONS[words[1][0]](message, key=given.get("key", b""), **named).hexdigest()
 
 
-def worked():
+def compare_worked_examples():
     """The worked examples of the page: where each is, and whether program, hashlib and page agree."""
     page = " ".join(read_file("docs/SPECIFICATION.md").split())
     digest = {kind: run([b"sum", kind], lambda: b"abc")[1].decode().strip() for kind in (b"b512", b"s256")}
@@ -236,7 +237,7 @@ def worked():
         yield "the reader refuses " + name, read(B, words, other) is None
 
 
-def examples():
+def examples_of_page():
     """The words and the input of each example of docs/B2.md that runs `./b2`, and its line."""
     form = r"^    ((?:printf (\S+|'[^']*') \| )?\./b2 (?!--)([^#\n]*[a-z0-9]))  +#"
     found = re.findall(form, read_file("docs/B2.md"), re.M)
@@ -254,17 +255,17 @@ def is_unicode(word):
         return False
 
 
-def compare(path, source, command, cases, unicode):
+def compare_cases(path, source, command, cases, unicode):
     """Runs these cases of a command, of which some have to succeed and some to fail."""
     wrong, statuses = [], set()
     for number in range(cases):
         words, message = CASES[command](source, command)
-        words = spoiled(source, words)
+        words = spoil_words(source, words)
         message = None if source.random() < 0.02 else message
         if unicode and not all(map(is_unicode, words)):
             continue
-        wanted = run(words, unreadable if message is None else lambda: message)
-        found = outcome(path, words, message)
+        wanted = run(words, unreadable_input if message is None else lambda: message)
+        found = run_program(path, words, message)
         if command in ("sum", "tree") and wanted[0] == 0:
             wanted = 0, of_hashlib(words, message).encode() + b"\n"
         if found != wanted:
@@ -281,14 +282,14 @@ def main():
     parser.add_argument("--seed", type=at_least(0), default=7693, help="of the random inputs (7693)")
     parser.add_argument("--unicode", action="store_true", help="pass only Unicode, as Windows does")
     given = parser.parse_args()
-    for name, is_right in worked():
+    for name, is_right in compare_worked_examples():
         tap.result(is_right, f"worked value: {name}")
-    for line, words, message in examples():
+    for line, words, message in examples_of_page():
         wanted = run(words, lambda: message)
-        tap.result(wanted[0] == 0 and outcome(given.program, words, message) == wanted, line)
+        tap.result(wanted[0] == 0 and run_program(given.program, words, message) == wanted, line)
     source = random.Random(given.seed)
     for command in CASES:
-        compare(given.program, source, command, given.cases, given.unicode)
+        compare_cases(given.program, source, command, given.cases, given.unicode)
     tap.finish()
 
 

@@ -55,7 +55,7 @@ LONG = [b"binary", b"check", b"ignore-missing", b"length=16", b"quiet", b"status
 OURS = (b"a", b"k", b"p", b"s", b"t")
 
 
-def run(program, words, folder, data, user):
+def run_program(program, words, folder, data, user):
     """What the program prints to both streams, and its status. Without data standard input is closed."""
     if isinstance(program, list):
         done = subprocess.run([*program, *words], cwd=folder, input=data, timeout=60, stdout=subprocess.PIPE,
@@ -67,10 +67,10 @@ def run(program, words, folder, data, user):
     return done.stdout, done.stderr, done.returncode
 
 
-def difference(program, words, folder, data=b"", user=None):
+def difference_from_coreutils(program, words, folder, data=b"", user=None):
     """What differs between the program and that of coreutils, or nothing. coreutils begins some quoted names with
     quotes around nothing."""
-    ours, theirs = (run(it, words, folder, data, user) for it in (program, b"/usr/bin/b2sum"))
+    ours, theirs = (run_program(it, words, folder, data, user) for it in (program, b"/usr/bin/b2sum"))
     plain = (theirs[0], re.sub(rb"^(b2sum: )''(?=')", rb"\1", theirs[1], flags=re.MULTILINE), theirs[2])
     return "" if ours in (theirs, plain) else f"{words}\n  ours   {ours}\n  theirs {theirs}\n"
 
@@ -85,7 +85,7 @@ def random_name(rng):
     return name.replace(b"-a", b"-b")  # -a is an option of ours
 
 
-def fill(rng, folder):
+def make_files(rng, folder):
     """Makes files with odd names, and what cannot be read. Returns the names of the files and their bytes."""
     names = rng.sample(NAMES, rng.randint(1, 5)) + [random_name(rng) for _ in range(rng.randint(0, 2))]
     files = {}
@@ -104,7 +104,7 @@ def fill(rng, folder):
 
 # ---- Manifests.
 
-def escaped(name):
+def escaped_name(name):
     """The name as a line of a manifest has it, and what begins such a line."""
     for byte, text in ((b"\\", b"\\\\"), (b"\n", b"\\n"), (b"\r", b"\\r")):
         name = name.replace(byte, text)
@@ -115,11 +115,11 @@ def line_of(rng, name, data):
     """A line of a manifest for a file of this name, in one of three styles."""
     size = rng.choice([64, 64, rng.randint(1, 64)])
     digits = hashlib.blake2b(data, digest_size=size).hexdigest().encode()
-    start = b"\\" if escaped(name) != name else b""
+    start = b"\\" if escaped_name(name) != name else b""
     if rng.random() < 0.3:
         tag = b"BLAKE2b" + (b"" if size == 64 else b"-%d" % (8 * size))
-        return start + tag + b" (" + escaped(name) + b") = " + digits
-    return start + digits + rng.choice([b"  ", b" *"]) + escaped(name)
+        return start + tag + b" (" + escaped_name(name) + b") = " + digits
+    return start + digits + rng.choice([b"  ", b" *"]) + escaped_name(name)
 
 
 def with_noise(rng, line):
@@ -134,7 +134,7 @@ def with_noise(rng, line):
     return line[:at] + bytes([rng.choice(b"0123456789abcdefABCDEF")]) + line[at + 1:]
 
 
-def damaged(rng, line):
+def damage_line(rng, line):
     """The line with one of many damages."""
     kind = rng.randrange(9)
     if kind == 0:
@@ -176,7 +176,7 @@ def has_one_blank(line):
     return bool(re.match(rb"[0-9a-fA-F]+[ \t](?![ *].)", line, flags=re.DOTALL))
 
 
-def manifest(rng, files, is_only):
+def random_manifest(rng, files, is_only):
     """A manifest of some of these files and of others, a share of whose lines is damaged. If it is not the only one,
     no line has one byte before the name."""
     lines, share = [], rng.choice([0.0, 0.0, 0.1, 0.4])
@@ -185,7 +185,7 @@ def manifest(rng, files, is_only):
         if rng.random() < 0.2:
             name = rng.choice(UNREADABLE[:-2] + [b"-"])
         line = line_of(rng, name, files.get(name, b""))
-        line = damaged(rng, line) if rng.random() < share else line
+        line = damage_line(rng, line) if rng.random() < share else line
         lines.append(b"x" if is_left_out(line) or not is_only and has_one_blank(line) else line)
     text = b"\n".join(lines)
     end = rng.choice([b"\n", b"\n", b"\n", b"", b"\n\n", b"\r\n"])
@@ -204,9 +204,9 @@ def to_check(rng, folder, files):
     for k in range(count):
         names.append(rng.choice([b"sums", b"my sums", b"s'ums", b"s\nums"]) + b"%d" % k)
         with open(os.path.join(folder, names[-1]), "wb") as file:
-            file.write(manifest(rng, files, count + reads_input == 1))
+            file.write(random_manifest(rng, files, count + reads_input == 1))
     if reads_input:
-        data = manifest(rng, files, not count)
+        data = random_manifest(rng, files, not count)
         names += [b"-"] if names else []
     if rng.random() < 0.1:
         names.append(rng.choice([b"missing", b"dir", b"secret", b"loop"]))
@@ -226,7 +226,7 @@ def to_sum(rng, files):
     return options, names, rng.randbytes(rng.choice([0, 5, 700] + [70000] * (rng.random() < 0.1)))
 
 
-def command(rng, folder, files):
+def random_command(rng, folder, files):
     """A command line, and the input."""
     options, names, data = to_check(rng, folder, files) if rng.random() < 0.55 else to_sum(rng, files)
     if rng.random() < 0.06:
@@ -245,10 +245,10 @@ def random_run(program, seed):
     rng = random.Random(seed)
     folder = os.fsencode(tempfile.mkdtemp())
     try:
-        files = fill(rng, folder)
-        words, data = command(rng, folder, files)
+        files = make_files(rng, folder)
+        words, data = random_command(rng, folder, files)
         user = 65534 if os.geteuid() == 0 else None
-        said = difference(program, words, folder, data, user)
+        said = difference_from_coreutils(program, words, folder, data, user)
         return said and f"seed {seed}: {said}"
     finally:
         shutil.rmtree(folder)
@@ -284,7 +284,7 @@ def test_options(program, pool, every=1):
         with open(os.path.join(folder, "sums"), "wb") as file:
             file.write(lines)
         runs = [words + end for words in fixed_runs() for end in ([b"one", b"two"], [b"sums"], [])][::every]
-        said = list(pool.map(lambda words: difference(program, words, folder, lines), runs))
+        said = list(pool.map(lambda words: difference_from_coreutils(program, words, folder, lines), runs))
     tap.result(not any(said), f"{program}: {len(runs)} command lines of options and pairs of them",
         "".join(said)[:4000])
 
@@ -301,11 +301,11 @@ def test_closed(program, pool):
         runs = [[*options, *names] for options in ([], [b"-c"], [b"-c", b"--status"])
                 for names in ([], [b"-"], [b"one"], [b"one", b"-"], [b"-", b"one"], [b"-", b"-"], [b"none", b"-"],
                               [b"sums"], [b"input"], [b"more"], [b"sums", b"input"], [b"input", b"sums"])]
-        said = list(pool.map(lambda words: difference(program, words, folder, None), runs))
+        said = list(pool.map(lambda words: difference_from_coreutils(program, words, folder, None), runs))
     tap.result(not any(said), f"{program}: {len(runs)} command lines without standard input", "".join(said)[:4000])
 
 
-def forms():
+def manifest_forms():
     """Manifests for a file `f` of the bytes abc: lines of each form, what is almost one, and mixtures of them."""
     half, whole = (hashlib.blake2b(b"abc", digest_size=size).hexdigest().encode() for size in (32, 64))
     lines = [
@@ -346,12 +346,13 @@ def test_forms(program, pool, every=1):
     with tempfile.TemporaryDirectory() as folder:
         with open(os.path.join(folder, "f"), "wb") as file:
             file.write(b"abc")
-        runs = [([b"-c", *more], text) for text in forms() for more in ([], [b"-w", b"--strict"])]
+        runs = [([b"-c", *more], text) for text in manifest_forms() for more in ([], [b"-w", b"--strict"])]
         runs += [([b"-l", b"%d" % bits, *more, b"f"], b"") for bits in range(0, 1025) for more in ([], [b"--tag"])
                  if bits % 8 == 0 or bits < 20]
         if isinstance(program, list):  # a name of Windows ends in no blank
             runs = [it for it in runs if not re.search(rb"f[ \r](\n|\))", it[1])][::every]
-        said = list(pool.map(lambda run: difference(program, run[0], folder, run[1]) and f"{run}: differs\n", runs))
+        said = list(pool.map(
+            lambda run: difference_from_coreutils(program, run[0], folder, run[1]) and f"{run}: differs\n", runs))
     tap.result(not any(said), f"{program}: {len(runs)} manifests and lengths", "".join(said)[:4000])
 
 

@@ -77,7 +77,7 @@ class Runner:
         for name in ("b2", "b2sum", "c", "dist"):
             (folder / name).symlink_to(repository / name)
 
-    def filled(self, text):
+    def with_folders(self, text):
         """A block with the folders that it names."""
         return re.sub(r"\bPATH\b", str(self.repository), text.replace("FOLDER", str(self.library)))
 
@@ -89,7 +89,7 @@ class Runner:
             raise RuntimeError(f"{words[0]} ended with {done.returncode}: {done.stderr.strip()[-2000:]}")
         return done.stdout
 
-    def compiled(self, compiler, name, text, *words):
+    def run_compiled(self, compiler, name, text, *words):
         """Runs a program in C or C++."""
         (self.folder / name).write_text(text)
         library = self.library / "lib"
@@ -100,13 +100,13 @@ class Runner:
         return self.call("./example")
 
     def run_c(self, text):
-        return self.compiled("cc", "hello.c", text, "-std=c99", "-D_POSIX_C_SOURCE=200809L")
+        return self.run_compiled("cc", "hello.c", text, "-std=c99", "-D_POSIX_C_SOURCE=200809L")
 
     def run_cpp(self, text):
-        return self.compiled("c++", "hello.cpp", text)
+        return self.run_compiled("c++", "hello.cpp", text)
 
     def run_cmake(self, text):
-        (self.folder / "CMakeLists.txt").write_text(self.filled(text))
+        (self.folder / "CMakeLists.txt").write_text(self.with_folders(text))
         build = tempfile.mkdtemp(dir=self.folder)
         self.call("cmake", "-S", ".", "-B", build, f"-DCMAKE_PREFIX_PATH={self.library}")
         self.call("cmake", "--build", build)
@@ -125,7 +125,7 @@ class Runner:
         return self.call("python3", "-c", text)
 
     def run_sh(self, text):
-        return self.call("bash", "-euo", "pipefail", "-c", self.filled(text))
+        return self.call("bash", "-euo", "pipefail", "-c", self.with_folders(text))
 
 
 class RunnerAtTop(Runner):
@@ -153,7 +153,7 @@ class RunnerOfShell(Runner):
         self.environment["TMPDIR"] = str(folder)
         self.start = self.environment["PATH"]
 
-    def begin(self):
+    def open_shell(self):
         """Opens another shell."""
         self.place, self.environment["PATH"] = self.repository, self.start
 
@@ -203,7 +203,7 @@ def is_as_printed(printed, wanted):
         for line, each in zip(lines, wanted_lines))
 
 
-def absent(runner, language, text, module):
+def what_is_missing(runner, language, text, module):
     """What an example needs and is not here, or '': its tool, those that a block of the shell or of CMake calls, and
     for Python the built module."""
     called = {"cmake ": "cmake", "pkg-config": "pkg-config", "PkgConfig": "pkg-config", "tests/machine/": "objdump",
@@ -257,10 +257,10 @@ def run_page(page, name, work, repository, library, module):
     runner = kind(folder, repository, library, work / "module", name in WITH_DATA)
     for again in ("", ", again"):
         if kind is RunnerOfShell:
-            runner.begin()
+            runner.open_shell()
         for line, language, text, wanted in examples(page):
             test = f"{name}, line {line}{again}"
-            missing = absent(runner, language, text, module)
+            missing = what_is_missing(runner, language, text, module)
             if missing:
                 tap.result(True, test, skipped=f"no {missing}")
                 continue

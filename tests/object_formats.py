@@ -49,11 +49,11 @@ def run(*words, stdin=None):
     return subprocess.run(words, stdin=stdin, capture_output=True, text=True, check=True).stdout
 
 
-def symbols(path, *kinds):
+def symbols_of_object(path, *kinds):
     return {line.split()[-1] for line in run("llvm-nm", *kinds, path).splitlines()}
 
 
-def functions(path, arch):
+def functions_of_object(path, arch):
     """The instructions of each function of an object, by its name, except what labels and relocations decide."""
     # LLVM's assembler has a separate label where a section of Mach-O begins.
     first = next((line.split()[-1] for line in run("llvm-nm", "-n", path).splitlines()
@@ -84,7 +84,7 @@ def functions(path, arch):
     return {name: body for name, body in found.items() if not name.startswith("vj_sysv_")}
 
 
-def assembled(path, arch, system, made):
+def assemble_text(path, arch, system, made):
     """Assembles a text of dist/ with its macros, or vulfsjor.S, which has them."""
     words = [] if path.endswith(".S") else ["-include", os.path.join(TOP, "dist", "macros.h"),
                                             "-x", "assembler-with-cpp"]
@@ -92,7 +92,7 @@ def assembled(path, arch, system, made):
     return made
 
 
-def jumps(path):
+def functions_that_jump(path):
     """The instructions of each function of an x86-64 object that jumps to the library's build, with what each names."""
     found, body = {}, None
     for line in run("llvm-objdump", "--triple=x86_64-linux-gnu", "-dr", "--no-show-raw-insn", path).splitlines():
@@ -110,7 +110,7 @@ def jumps(path):
 
 def jump_right(path, count):
     """Whether each such function jumps to the three builds by the level that choose.c has found."""
-    found = jumps(path)
+    found = functions_that_jump(path)
     return len(found) == count and all(body[:4] == ["cmpb$3 vulfsjor_ffi_level", *(
         f"{jump} {name}_{code}_{build}" for jump, build in (("ja", "v4"), ("je", "v3"), ("jmp", "v2")))]
                                    for (name, code), body in found.items())
@@ -134,19 +134,20 @@ def is_read_so(path, arch, room, elf):
 
 def check_system(name, arch, system, made, elf):
     """The statements about the object of a text for a system, by their words, each with what else was found."""
-    found = functions(made, arch)
+    found = functions_of_object(made, arch)
     same = [it for it in elf if elf[it] == found.get(it)]
     yield (f"{len(same)} of {len(elf)} functions have the instructions of those for Linux",
            len(same) == len(elf) == len(found) > 40 and sum(map(len, elf.values())) > 8000,
            sorted(elf.keys() - set(same))[:5])
-    called = {re.sub("^_", "", it) if system == "macos" else it for it in symbols(made, "-u")}
+    called = {re.sub("^_", "", it) if system == "macos" else it for it in symbols_of_object(made, "-u")}
     of_c = {it for it in called if name.startswith("b2sum") and OF_C.fullmatch(it)}
     yield "it calls the functions that C has instead", len(of_c) == 3 * name.startswith("b2sum"), called
     hashing = {it for it in called if name.startswith("b2") and HASHING.fullmatch(it)}
     yield "it calls the functions of the library that hash, of each build", len(hashing) == (
         HASHING_COUNT.get(name, 0) * (3 if arch == "x86_64" else 1)), hashing
     if name.startswith("b2") and arch == "x86_64":
-        yield "it jumps to the library's build for the processor", jump_right(made, HASHING_COUNT[name]), jumps(made)
+        yield ("it jumps to the library's build for the processor", jump_right(made, HASHING_COUNT[name]),
+               functions_that_jump(made))
     called -= of_c | hashing | ({"vulfsjor_ffi_level"} if hashing and arch == "x86_64" else set())
     yield "it calls the C library and what the C of the programs has", (
         C_LIBRARY <= called <= may_call(name, system)), called - may_call(name, system)
@@ -155,7 +156,7 @@ def check_system(name, arch, system, made, elf):
     if system == "macos" and mac_linker:
         run(mac_linker, "-arch", arch.replace("aarch64", "arm64"), "-platform_version", "macos", "11", "11", "-dylib",
             "-undefined", "dynamic_lookup", made, "-o", link)
-        yield "ld64.lld links it, and exports nothing", not symbols(link, "-gU", "--extern-only"), ""
+        yield "ld64.lld links it, and exports nothing", not symbols_of_object(link, "-gU", "--extern-only"), ""
     elif system == "windows" and shutil.which("lld-link"):
         run("lld-link", "/dll", "/noentry", "/nodefaultlib", "/force:unresolved", f"/out:{link}", made)
         yield "lld-link links it", os.path.getsize(link) > 50000, ""
@@ -163,15 +164,15 @@ def check_system(name, arch, system, made, elf):
 
 def check_text(path, arch, name, room):
     """Prints the results of a text, and returns its functions."""
-    made = assembled(path, arch, "linux", os.path.join(room, "elf.o"))
-    elf = functions(made, arch)
+    made = assemble_text(path, arch, "linux", os.path.join(room, "elf.o"))
+    elf = functions_of_object(made, arch)
     tap.result(is_read_so(path, arch, room, made),
                f"{arch}/{name}.s: tests/machine reads what the assembler makes of it")
     if name.startswith("b2") and arch == "x86_64":
         tap.result(jump_right(os.path.join(room, "elf.o"), HASHING_COUNT[name]),
                    f"{arch}/{name}.s: it jumps to the library's build for the processor")
     for system in ("macos", "windows") if HUGE or name in FOR_EACH_SYSTEM else ():
-        made = assembled(path, arch, system, os.path.join(room, f"{arch}-{name}-{system}.o"))
+        made = assemble_text(path, arch, system, os.path.join(room, f"{arch}-{name}-{system}.o"))
         for words, holds, why in check_system(name, arch, system, made, elf):
             tap.result(holds, f"{arch}/{name}.s on {system}: {words}", str(why))
     return elf
@@ -190,8 +191,8 @@ def main():
                 of_file = found.setdefault(name.partition("-")[0], {})
                 of_file.update(check_text(os.path.join(dist, arch, f"{name}.s"), arch, name, room))
             for system in SYSTEMS if HUGE else ("linux",):
-                made = assembled(os.path.join(dist, "vulfsjor.S"), arch, system, os.path.join(room, "all.o"))
-                tap.result(functions(made, arch) == found["vulfsjor"],
+                made = assemble_text(os.path.join(dist, "vulfsjor.S"), arch, system, os.path.join(room, "all.o"))
+                tap.result(functions_of_object(made, arch) == found["vulfsjor"],
                            f"vulfsjor.S on {system}, {arch}: it has the functions of its texts, and no others")
     tap.finish()
 

@@ -79,20 +79,20 @@ OTHERS = {"vulfsjor-digest.crate: vulfsjor-digest-VERSION/tests/": {"conformance
                                              "vectors.py"}}
 
 
-def read(name):
+def read_packaging(name):
     return (TOP / "packaging" / name).read_text(encoding="utf-8")
 
 
-def control():
+def control_fields():
     """The fields of each package, those of several lines as one, but no description."""
-    for paragraph in read("debian/control").split("\n\n"):
+    for paragraph in read_packaging("debian/control").split("\n\n"):
         joined = re.sub(r"\n +", " ", paragraph)
         fields = dict(line.split(": ", 1) for line in joined.strip().split("\n"))
         yield fields.get("Package") or f"{fields['Source']} (source)", fields
 
 
 def wrong_fields():
-    found = dict(control())
+    found = dict(control_fields())
     if list(found) != list(CONTROL):
         yield f"the packages are {list(found)}"
     for name, wanted in CONTROL.items():
@@ -104,14 +104,15 @@ def wrong_fields():
 
 
 def missing_lines():
-    return (f"{name} has not: {line}" for name, lines in LINES.items() for line in lines if line not in read(name))
+    return (f"{name} has not: {line}" for name, lines in LINES.items() for line in lines
+            if line not in read_packaging(name))
 
 
 def wrong_symbols():
     """Each version of symbols is that of the first release that has it."""
     versions = re.findall(r"(?m)^VULFSJOR_([\d.]+) \{", (TOP / "c" / "vulfsjor.map").read_text(encoding="utf-8"))
     wanted = [f" (symver)VULFSJOR_{version} {version}.0" for version in versions]
-    found = [line for line in read("debian/libvulfsjor0.symbols").splitlines() if line.startswith(" ")]
+    found = [line for line in read_packaging("debian/libvulfsjor0.symbols").splitlines() if line.startswith(" ")]
     return [] if found == wanted else [f"libvulfsjor0.symbols has {found}, and not {wanted}"]
 
 
@@ -120,13 +121,14 @@ def other_sonames():
     soname = re.search(r"soname,libvulfsjor\.so\.(\d+)",
                        (TOP / "c" / "make_libraries.sh").read_text(encoding="utf-8"))[1]
     names = set(re.findall(r"libvulfsjor(\d+)\b",
-                           read("debian/control") + read("debian/rules") + read("vulfsjor.spec")))
+                           read_packaging("debian/control") + read_packaging("debian/rules") +
+                           read_packaging("vulfsjor.spec")))
     return [] if names == {soname} else [f"the packages have the sonames {names}, and the library {soname}"]
 
 
 def other_files():
     """files.txt has each file of these folders, and tools/release.sh only pages that are there."""
-    listed = read("files.txt").splitlines()
+    listed = read_packaging("files.txt").splitlines()
     for start, folder in FOLDERS.items():
         names = {line[len(start):] for line in listed if line.startswith(start)}
         names ^= OTHERS.get(start, set())
@@ -135,7 +137,7 @@ def other_files():
             yield f"{folder}: only one of it and files.txt has {sorted(different)}"
     script = (TOP / "tools" / "release.sh").read_text(encoding="utf-8")
     pages = re.search(r"for page in (.+); do", script)[1].split()
-    pages += read("debian/libvulfsjor-dev.docs").split()
+    pages += read_packaging("debian/libvulfsjor-dev.docs").split()
     yield from (f"there is no page {page}" for page in pages if not (TOP / page).is_file())
 
 
@@ -155,7 +157,7 @@ def rpm_patterns():
     """The same of the sections %files of the spec."""
     macros = {"%{_bindir}": "usr/bin", "%{_datadir}": "usr/share", "%{_includedir}": "usr/include",
               "%{_libdir}": "usr/lib64", "%{_mandir}": "usr/share/man"}
-    for section in read("vulfsjor.spec").split("%files")[1:]:
+    for section in read_packaging("vulfsjor.spec").split("%files")[1:]:
         end, *lines = section.split("\n")
         name = {"": "vulfsjor", "-n %{libs}": "vulfsjor-libs"}.get(end.strip(), f"vulfsjor-{end.strip()}")
         for line in itertools.takewhile(lambda it: it and not it.startswith("%endif"), lines):
@@ -170,7 +172,7 @@ def unlike_the_patterns():
     """Each file of a package has a pattern there, and each pattern a file, but for the files that all packages have."""
     for kind, patterns in (("debian", {*debian_patterns()}), ("rpm", {*rpm_patterns()})):
         files = {(name, path) for name, path in re.findall(
-            rf"(?m)^{kind}: ([a-z0-9-]+?)[_-]VERSION[^/]*/(.*)", read("files.txt"))
+            rf"(?m)^{kind}: ([a-z0-9-]+?)[_-]VERSION[^/]*/(.*)", read_packaging("files.txt"))
             if not re.search("/(changelog.*gz|copyright)$|^usr/lib/python3/", path)}
         matches = {(file, pattern) for file in files for pattern in patterns if file[0] == pattern[0] and re.match(
             re.escape(pattern[1]).replace(r"\*", "[^/]*") + "(/|$)", file[1])}

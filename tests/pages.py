@@ -32,7 +32,7 @@ def pages():
     return paths("*.md") + paths("*/*.md") + paths("crates/*/*.md") + paths("tests/*/*.md")
 
 
-def clauses():
+def clause_names():
     """The names of the clauses of each function, by its name. Functions of one name share them."""
     found = {}
     roots = paths("crates/*/src/lib.rt") + paths("crates/*/src/main.rt")
@@ -48,7 +48,7 @@ def clauses():
 
 def check_clauses():
     """The clauses that the pages name"""
-    known = clauses()
+    known = clause_names()
     for page in pages():
         for name, clause in re.findall(r"`(?:\w+::)*(\w+): (\w+)`", read(page)):
             if clause not in known.get(name, ()) and name != "function":
@@ -98,7 +98,7 @@ def check_definitions():
             yield f"{name} is of one crate"
 
 
-def columns(path):
+def measured_lines(path):
     """The lines of a file, without what can't be broken: in a page, rows of tables, code, and targets of links; in
     Rattle, attributes, which `rt fmt` joins."""
     text = read(path)
@@ -117,7 +117,7 @@ def check_columns():
     scripts = [path for end in ("py", "sh") for path in paths(f"**/*.{end}") if "/out/" not in path]
     for limit, files in ((100, rattle), (120, scripts + pages())):
         for path in files:
-            for number, line in enumerate(columns(path), 1):
+            for number, line in enumerate(measured_lines(path), 1):
                 if len(line) > limit and " " in line.strip():
                     yield f"{path}:{number}: {len(line)} columns"
 
@@ -127,13 +127,13 @@ def family_rows():
     of = {name: Values("blake2_simd", "Family", name) for name in (
         "word", "block_bytes", "key_bytes", "output_bytes", "salt_bytes")}
 
-    def row(label, name, shown=str):
+    def family_row(label, name, shown=str):
         return f"| {label} | " + " | ".join(shown(of[name][family]) for family in LANGUAGES) + " |"
-    yield row("w, bits of a word", "word", lambda width: width[1:])
-    yield row("B, bytes of a block", "block_bytes")
-    yield row("K, bytes of the longest key", "key_bytes")
-    yield row("M, bytes of the longest digest", "output_bytes")
-    yield row("S, bytes of salt and of persona", "salt_bytes")
+    yield family_row("w, bits of a word", "word", lambda width: width[1:])
+    yield family_row("B, bytes of a block", "block_bytes")
+    yield family_row("K, bytes of the longest key", "key_bytes")
+    yield family_row("M, bytes of the longest digest", "output_bytes")
+    yield family_row("S, bytes of salt and of persona", "salt_bytes")
 
 
 def field_rows():
@@ -170,29 +170,30 @@ def program_rows():
 
 def node_words():
     """Sentences that have the numbers of a tree's nodes and the limits of the program."""
-    def number(crate, file, name, pattern):
+    def number_in_definition(crate, file, name, pattern):
         return find(pattern, definition(crate, file, name), f"crates/{crate}/specs/{file}.antt, {name}")
 
-    def tree(name, pattern):
-        return number("blake2_tree", "TreeRoot", name, pattern)
+    def tree_number(name, pattern):
+        return number_in_definition("blake2_tree", "TreeRoot", name, pattern)
 
-    def command(file, name, pattern):
-        return number("b2_commands", file, name, pattern)
-    fanout, depth, inner = (tree("tree_place", rf"\b{name} = ([0-9]+);")
+    def command_number(file, name, pattern):
+        return number_in_definition("b2_commands", file, name, pattern)
+    fanout, depth, inner = (tree_number("tree_place", rf"\b{name} = ([0-9]+);")
                             for name in ("fanout", "depth", "inner_length"))
     yield f"fanout {fanout}, depth {depth}, leaf length L, inner length {inner}"
-    root = (tree("root_over", form) for form in (r"node p ([0-9]+) [0-9]+ true", r"node p [0-9]+ ([0-9]+) true"))
+    root = (tree_number("root_over", form) for form in (r"node p ([0-9]+) [0-9]+ true", r"node p [0-9]+ ([0-9]+) true"))
     yield f"| root | N | {' | '.join(root)} | on |"
-    size, depth = tree("leaf_digests", r"digest blake2b ([0-9]+) "), tree("leaf_input", r"node p i ([0-9]+) ")
+    size = tree_number("leaf_digests", r"digest blake2b ([0-9]+) ")
+    depth = tree_number("leaf_input", r"node p i ([0-9]+) ")
     yield f"| leaf i | {size} | i | {depth} | on only at the last leaf |"
-    limit = command("Tasks", "IsTooLongFor", r"\(to_tree [^)]*\) input = 2 \^ ([0-9]+) ≤")
+    limit = command_number("Tasks", "IsTooLongFor", r"\(to_tree [^)]*\) input = 2 \^ ([0-9]+) ≤")
     yield f"a message of fewer than 2^{limit} bytes"
     yield f"`tree` 2^{limit} bytes or more"
-    limit = command("Tasks", "IsTooLongBy", r"2 \^ ([0-9]+) ≤ key_count")
+    limit = command_number("Tasks", "IsTooLongBy", r"2 \^ ([0-9]+) ≤ key_count")
     yield f"with the key's block, of 2^{limit} or more"
-    digits = command("Scripts", "slot_value", r"number_value ([0-9]+) digits")
+    digits = command_number("Scripts", "slot_value", r"number_value ([0-9]+) digits")
     yield f"1 to {digits} decimal digits with no leading zero"
-    leaf = command("ArgumentTasks", "some_leaf", r"nat_lt n \(2 \^ ([0-9]+)\)")
+    leaf = command_number("ArgumentTasks", "some_leaf", r"nat_lt n \(2 \^ ([0-9]+)\)")
     yield f"a decimal number of 1 to {2 ** int(leaf) - 1}"
     yield f"a leaf length L of 1 to 2^{leaf} - 1"
 
@@ -312,12 +313,12 @@ def without_code(page):
 
 
 @functools.cache
-def anchors(path):
+def heading_anchors(path):
     """The anchors of a page's headings, as a browser of the repository makes them."""
     return set(map(anchor, re.findall(r"^#+ (.+)$", without_code(path), re.MULTILINE)))
 
 
-def links(page):
+def page_links(page):
     """The links of a page: text, path, and name of a heading, of which the last two may be empty. One whose target is
     elsewhere on the page (`[text][label]` and `[label]: target`) has a path that does not exist if that is absent."""
     text = without_code(page)
@@ -331,14 +332,14 @@ def links(page):
 def check_links():
     """The links"""
     for page in pages():
-        for text, target, name in links(page):
+        for text, target, name in page_links(page):
             path = os.path.normpath(os.path.join(os.path.dirname(page), target)) if target else page
             last = re.fullmatch(r"`(?:[\w.]+::)*(\w+)`", text)
             if "://" in target:
                 continue
             if not os.path.exists(os.path.join(TOP, path)):
                 yield f"{page}: there is no {target}"
-            elif name and name not in anchors(path):
+            elif name and name not in heading_anchors(path):
                 yield f"{page}: {path} has no heading for #{name}"
             elif path.endswith((".rt", ".antt")) and last and not re.search(rf"\b{last[1]}\b", read(path)):
                 yield f"{page}: {path} does not have {last[1]}"

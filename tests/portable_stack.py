@@ -31,15 +31,15 @@ def main():
     calls = {name: {*re.findall(r"\b(\w+)\(", body)} & {*bodies, *scrubbed} for name, body in bodies.items()}
     depths = {}
 
-    def depth(name):
+    def stack_depth(name):
         if name not in depths:
             # The compiler leaves out a function whose result is a number.
-            depths[name] = frames.get(name, 0) + max(map(depth, calls[name] - {*scrubbed}), default=0)
+            depths[name] = frames.get(name, 0) + max(map(stack_depth, calls[name] - {*scrubbed}), default=0)
         return depths[name]
 
     failed = not scrubbed or len(frames) < len(bodies) / 2
     for name, callees in sorted((name, callees) for name, callees in calls.items() if callees & {*scrubbed}):
-        used = max(map(depth, callees - {*scrubbed}), default=0)
+        used = max(map(stack_depth, callees - {*scrubbed}), default=0)
         for each in sorted(callees & {*scrubbed}):
             failed = failed or used > scrubbed[each]
             print(f"{name}: {used} bytes below it, {scrubbed[each]} overwritten{' TOO FEW' * (used > scrubbed[each])}")

@@ -33,7 +33,7 @@ CALLS = re.compile(r"(callq|vj_call|bl)\t([a-z]\S*)$|(vj_jump|b|b\.\w+|j\w+)\t([
 SCRUB = re.compile(r"blake2_digest\.\.wiping\.\.scrub_stack\.\.(\d+)_")
 
 
-def functions(path):
+def functions_of_text(path):
     """The lines of each function of a text, by its name."""
     with open(path, encoding="ascii") as f:
         text = f.read()
@@ -61,15 +61,15 @@ def calls_of(lines):
             yield m[2] or m[4], bool(m[2])
 
 
-def uncovered(path):
+def underscrubbed_functions(path):
     """The functions that call `scrub_stack` for too few bytes, and how many call it at all."""
-    bodies = functions(path)
+    bodies = functions_of_text(path)
     pushed = 8 if "x86_64" in path else 0  # the return address
 
     @functools.lru_cache(maxsize=None)
-    def reach(name):
+    def stack_reach(name):
         frame = frame_of(bodies[name])
-        return max([frame, *(reach(to) + is_call * (frame + pushed) for to, is_call in calls_of(bodies[name]))])
+        return max([frame, *(stack_reach(to) + is_call * (frame + pushed) for to, is_call in calls_of(bodies[name]))])
 
     short, count = [], 0
     for name, lines in bodies.items():
@@ -79,7 +79,7 @@ def uncovered(path):
             continue
         count += 1
         for to in called:
-            if not SCRUB.match(to) and (need := reach(to) + pushed) > min(sizes):
+            if not SCRUB.match(to) and (need := stack_reach(to) + pushed) > min(sizes):
                 short.append(f"{name} overwrites {min(sizes)} bytes, and {to} may have used {need}")
     return short, count
 
@@ -88,7 +88,7 @@ def main():
     dist = sys.argv[1] if len(sys.argv) > 1 else os.path.join(TOP, "dist")
     for text in TEXTS:
         try:
-            short, count = uncovered(os.path.join(dist, text))
+            short, count = underscrubbed_functions(os.path.join(dist, text))
         except (OSError, KeyError, ValueError) as e:
             short, count = [f"{type(e).__name__}: {e}"], 0
         tap.result(not short and count > 40, f"{text}: scrub_stack covers what was called before it",

@@ -168,7 +168,7 @@ class Case:
         return f"t{bad[0] // len(INPUTS)}: {pairs[bad[0]]}" if bad else f"ends early: {got[-2000:]}"
 
 
-def absent(tool, *emulator):
+def what_is_missing(tool, *emulator):
     """What is missing of a compiler, its C library and an emulator, or ''. Debian's compilers for other processors
     only recommend the library."""
     missing = [each for each in (tool, *emulator) if not shutil.which(each)]
@@ -184,7 +184,7 @@ def test_targets(case, name):
     targets.update({processor: ([compiler, "-O2", "-static"], [emulator])
                     for processor, (compiler, emulator) in CROSS.items()})
     for target, (compiler, emulator) in targets.items():
-        missing = absent(compiler[0], *emulator)
+        missing = what_is_missing(compiler[0], *emulator)
         if missing:
             tap.result(True, f"{name}, {target}", skipped=missing)
             continue
@@ -292,7 +292,7 @@ ACCEPTED = {
 }
 
 
-def refusal(translator, data):
+def why_refused(translator, data):
     """Why a module is refused, or nothing."""
     try:
         str(translator.Program(data, header_of([["i64"]])))
@@ -303,8 +303,9 @@ def refusal(translator, data):
 
 def wrong_refusals(translator):
     """The names of modules that are not refused, or refused although they are known."""
-    return ([name for name, data in REFUSED.items() if not refusal(translator, data)] +
-            [f"{name}: {refusal(translator, data)}" for name, data in ACCEPTED.items() if refusal(translator, data)])
+    return ([name for name, data in REFUSED.items() if not why_refused(translator, data)] +
+            [f"{name}: {why_refused(translator, data)}" for name, data in ACCEPTED.items()
+             if why_refused(translator, data)])
 
 
 # ---- changes of the translator
@@ -321,7 +322,7 @@ def mutations():
         yield FILES[name], old.replace("\\n", "\n"), new.replace("\\n", "\n")
 
 
-def changed(name, old, new, folder):
+def changed_translator(name, old, new, folder):
     """The translator with a change of the tool or of its part in C or Rust, which is in this folder."""
     tool = name.partition(".")[0] + ".py"
     texts = {}
@@ -341,7 +342,7 @@ def changed(name, old, new, folder):
     return made
 
 
-def sees(cases, translator):
+def test_notices(cases, translator):
     """Whether a test sees that this translator is another."""
     try:
         if translator.Program.language.__name__ == "C" and wrong_refusals(translator):
@@ -367,11 +368,11 @@ def sees(cases, translator):
 
 def test_mutations(cases):
     """Each change of a translator is seen, and none where there is none."""
-    same = [each for each in (wasm_to_c, wasm_to_rust) if sees(cases, each)]
+    same = [each for each in (wasm_to_c, wasm_to_rust) if test_notices(cases, each)]
     tap.result(not same, "no change of the translators is seen where there is none")
     for name, old, new in mutations():
         try:
-            seen = sees(cases, changed(name, old, new, cases[0].folder))
+            seen = test_notices(cases, changed_translator(name, old, new, cases[0].folder))
             why = "no test fails"
         except ValueError as error:
             seen, why = False, str(error)
@@ -395,7 +396,7 @@ def main():
         tap.result(len(case.wanted.splitlines()) == len(INPUTS) * count, "node calls each of them", case.wanted)
         case.translate()
         test_targets(case, f"{len(INPUTS) * count} calls of random functions next to node")
-    missing = [absent(compiler[0], *emulator) for compiler, emulator in SEEING] + [absent(RUSTC[0])]
+    missing = [what_is_missing(compiler[0], *emulator) for compiler, emulator in SEEING] + [what_is_missing(RUSTC[0])]
     if not huge or any(missing):
         tap.result(True, "changes of the translator are seen",
                    skipped=next(filter(None, missing)) if huge else "VULFSJOR_TEST_HUGE is not set")

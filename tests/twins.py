@@ -15,7 +15,7 @@ PROOF = "crates/blake2_parallel/proofs/blake2sp/State/reset/Answers.antt"
 TABLE, ATTRIBUTES = "tools/twins.txt", ".gitattributes"
 
 
-def copy(room):
+def copy_sources(room):
     """Copies what the tool reads."""
     shutil.copytree(f"{TOP}/crates", f"{room}/crates", ignore=shutil.ignore_patterns("out", "must-fail", "data"))
     os.mkdir(f"{room}/tools")
@@ -23,7 +23,7 @@ def copy(room):
         shutil.copy(f"{TOP}/{path}", f"{room}/{path}")
 
 
-def run(room, *words):
+def run_tool(room, *words):
     """The status of the tool over the copy, and what it prints."""
     done = subprocess.run([sys.executable, f"{room}/tools/twins.py", *words], capture_output=True, text=True)
     return done.returncode, done.stdout + done.stderr
@@ -39,13 +39,13 @@ def write(path, text):
         file.write(text)
 
 
-def plant(room, path, old, new, said):
+def plant_change(room, path, old, new, said):
     """Replaces a text once, or adds it at the end if there is no old one. Then the check has to say this."""
     before = read(f"{room}/{path}")
     if before.count(old) < 1:
         return f"{path} has no {old!r}"
     write(f"{room}/{path}", before.replace(old, new, 1) if old else before + new)
-    status, printed = run(room, "--check")
+    status, printed = run_tool(room, "--check")
     write(f"{room}/{path}", before)
     return "" if status == 1 and said in printed else f"status {status}: {printed}"
 
@@ -76,31 +76,31 @@ def check_missing(room):
     """A made file that is missing is reported, and made again; one whose source is gone is reported, and removed."""
     wanted, source = read(f"{room}/{MADE}"), read(f"{room}/{SOURCE}")
     os.remove(f"{room}/{MADE}")
-    status, printed = run(room, "--check")
+    status, printed = run_tool(room, "--check")
     tap.result(status == 1 and f"{MADE} is not as it is made" in printed, "a made file is missing", printed)
-    made = run(room)
+    made = run_tool(room)
     tap.result(made == (0, f"{MADE}\n") and read(f"{room}/{MADE}") == wanted, "it is made again", made)
     os.remove(f"{room}/{SOURCE}")
-    status, printed = run(room, "--check")
+    status, printed = run_tool(room, "--check")
     tap.result(status == 1 and f"{MADE} is made from no file" in printed, "the source of a made file is gone", printed)
-    made = run(room)
+    made = run_tool(room)
     tap.result(made[1] == f"{MADE}\n" and not os.path.exists(f"{room}/{MADE}"), "the made file is removed", made)
     write(f"{room}/{SOURCE}", source)
-    run(room)
+    run_tool(room)
 
 
 def main():
     with tempfile.TemporaryDirectory() as room:
-        copy(room)
-        fine = run(room, "--check")
+        copy_sources(room)
+        fine = run_tool(room, "--check")
         tap.result(fine == (0, ""), "nothing is wrong in a copy", fine)
         for name, *fault in FAULTS:
-            why = plant(room, *fault)
+            why = plant_change(room, *fault)
             tap.result(not why, name, why)
         check_missing(room)
-        again = run(room)
-        tap.result(again == (0, "") and run(room, "--check") == fine, "a second run makes nothing", again)
-        wrong = run(room, "--chekc")
+        again = run_tool(room)
+        tap.result(again == (0, "") and run_tool(room, "--check") == fine, "a second run makes nothing", again)
+        wrong = run_tool(room, "--chekc")
         tap.result(wrong == (1, "usage: tools/twins.py [--check]\n"), "a wrong option is refused", wrong)
     tap.finish()
 

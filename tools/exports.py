@@ -87,7 +87,7 @@ def of_rust(words, state):
     return [(SAME.get(name, name), type_)]
 
 
-def parts(text):
+def list_parts(text):
     """The parts of a list between commas."""
     return [" ".join(part.split()) for part in text.split(",") if part.strip() not in ("", "void")]
 
@@ -95,10 +95,10 @@ def parts(text):
 def prototypes():
     """The functions of the header, by name: result and parameters in C, and whether an empty line is above."""
     found = re.findall(r"(^\n)?^(\w+) (vulfsjor_ffi_\w+)\(([^)]*)\);", without_comments(read(HEADER)), re.MULTILINE)
-    return {name: (result, parts(given), bool(empty)) for empty, result, name, given in found}
+    return {name: (result, list_parts(given), bool(empty)) for empty, result, name, given in found}
 
 
-def signatures():
+def header_signatures():
     """The same as in Rust: parameters and result."""
     return {name: ([of_c(one) for one in given], NUMBERS[result]) for name, (result, given, _) in prototypes().items()}
 
@@ -106,10 +106,10 @@ def signatures():
 def signature(head, state):
     """The name of a function of Rust or Rattle, and its signature."""
     name, given, result = re.search(r"fn (\w+)\((.*?)\)(?: -> (\w+))?", head).groups("")
-    return name, ([each for one in parts(given) for each in of_rust(one, state)], result)
+    return name, ([each for one in list_parts(given) for each in of_rust(one, state)], result)
 
 
-def exports():
+def rattle_exports():
     """The exports of Rattle."""
     for module in modules("crates/blake2_ffi/src/lib.rt"):
         state = state_of("::".join(module.path))
@@ -126,17 +126,17 @@ def functions_of_rust():
         yield "vulfsjor_ffi_" + name, found
 
 
-def fields(text, name):
+def fields_of(text, name):
     """The fields of a struct of Rust or Rattle, if there is one of this name with C's layout."""
     head = rf"^#\[repr\(C\)\]\n(?:#\[[^\n]*\]\n)*pub(?:\(crate\))? struct {name}(?:<'a>)? "
     body = re.search(head + r"\{(.*?)^\}", without_comments(text), re.MULTILINE | re.DOTALL)
-    return body and parts(re.sub(r"#\[.*\]", "", body[1]))
+    return body and list_parts(re.sub(r"#\[.*\]", "", body[1]))
 
 
-def differences():
+def differences_from_header():
     """What differs from the header, as sentences."""
-    wanted = signatures()
-    found = dict(exports())
+    wanted = header_signatures()
+    found = dict(rattle_exports())
     yield from (f"{HEADER}: {name} has narrow arguments on the stack, which {CALLS} cannot pass on"
                 for name, (given, _) in wanted.items() if is_packed(given))
     yield from (f"crates/blake2_ffi: {name} is not as in {HEADER}" for name in sorted({*wanted, *found})
@@ -149,7 +149,7 @@ def differences():
         fields_of_c = [of_c(" ".join(one.split()).replace("void", "uint8_t")) for one in body.split(";") if one.strip()]
         for place, type_ in ((file, rattle), (LIBRARY, rust)):
             if type_:
-                given = [each for one in fields(read(place), type_) or () for each in of_rust(one, state_of(name))]
+                given = [each for one in fields_of(read(place), type_) or () for each in of_rust(one, state_of(name))]
                 if re.search("_(state|lanes|reader)$", name):  # whose layout in C is that of 64 bits on every platform
                     given = [(field, "u64" if each == "usize" else each) for field, each in given]
                 if given != fields_of_c:
@@ -167,7 +167,7 @@ def is_packed(given):
     return False
 
 
-def blocks(line_of):
+def lines_in_blocks(line_of):
     """The lines for all functions, with the header's empty lines between them."""
     lines = ["\n" * empty + line_of(name, result, given) for name, (result, given, empty) in prototypes().items()]
     return "\n".join(lines).lstrip() + "\n"
@@ -182,7 +182,7 @@ def in_calls(name, result, given):
     return "\n".join(lines).replace("~", " ")
 
 
-def layouts():
+def layout_lines():
     """The structs of the header: a line of c/abi.txt for each."""
     header = without_comments(read(HEADER))
     sizes = dict(re.findall(r"sizeof\((\w+)\) == (\d+)(?! \*)\b", header))
@@ -191,29 +191,29 @@ def layouts():
         yield f"{name}{size}", "; ".join(" ".join(one.split()) for one in body.split(";") if one.strip())
 
 
-def interface():
+def interface_lines():
     """The lines of c/abi.txt for functions and structs, in the order of the versions that added them."""
     of_functions = [(f"{result} {name}", ", ".join(re.sub(r" ?\w+$", "", one) for one in given) or "void")
                     for name, (result, given, _) in prototypes().items()]
     words = [IN_C, *(f"{head}({given})" for head, given in of_functions),
-             *(f"struct {head}: {fields_}" for head, fields_ in layouts())]
+             *(f"struct {head}: {fields_}" for head, fields_ in layout_lines())]
     added = {line.partition(" ")[2]: line.partition(" ")[0] for line in read(ABI).split("\n")}
     here = f"VULFSJOR_{version().rpartition('.')[0]}"
     return sorted((f"{added.get(one, here)} {one}" for one in words),
                   key=lambda line: [int(each) for each in re.findall(r"\d+", line.split()[0])])
 
 
-def changed():
+def removed_from_interface():
     """What is not in the interface any more, of earlier versions than this one."""
-    lines, here = interface(), f"VULFSJOR_{version().rpartition('.')[0]} "
+    lines, here = interface_lines(), f"VULFSJOR_{version().rpartition('.')[0]} "
     return [line for line in read(ABI).split("\n") if line.startswith("VULFSJOR_") and not line.startswith(here)
             and line not in lines]
 
 
-def nodes():
+def version_script():
     """The script of versions for the linker, one node for each version that added functions."""
     found: dict = {}
-    for line in interface():
+    for line in interface_lines():
         if function := re.search(r"(\w+)\(", line):
             found.setdefault(line.split()[0], []).append(function[1])
     text, above = "/* The functions of the shared library, as tools/exports.py writes them from abi.txt. */\n", ""
@@ -224,25 +224,26 @@ def nodes():
     return text
 
 
-def lists():
+def generated_lists():
     """The files with a list, as they should be: it reaches from the first function to the last."""
-    lines = blocks(lambda name, *_: f'CALL("{name}")')
+    lines = lines_in_blocks(lambda name, *_: f'CALL("{name}")')
     yield CHOOSE, re.sub(r'^CALL\("[^.]*"\)\n(?=#endif)', lambda _: lines, read(CHOOSE), flags=re.MULTILINE)
-    yield CALLS, re.sub(r"^CALL(_VOID)?\(vulfsjor.*\Z", lambda _: blocks(in_calls), read(CALLS),
+    yield CALLS, re.sub(r"^CALL(_VOID)?\(vulfsjor.*\Z", lambda _: lines_in_blocks(in_calls), read(CALLS),
                         flags=re.MULTILINE | re.DOTALL)
     head = re.match(r"(?:#.*\n|\n)*", read(ABI))[0]
-    yield ABI, head + "\n".join(interface()) + "\n"
-    yield MAP, nodes()
+    yield ABI, head + "\n".join(interface_lines()) + "\n"
+    yield MAP, version_script()
 
 
 def main():
     """Runs the program."""
     if sys.argv[1:] not in ([], ["--check"]):
         sys.exit("usage: tools/exports.py [--check]")
-    wrong = [*differences(), *(f"{ABI}: the soname has to change, since this did: {line}" for line in changed())]
+    wrong = [*differences_from_header(), *(f"{ABI}: the soname has to change, since this did: {line}"
+                                           for line in removed_from_interface())]
     if wrong and not sys.argv[1:]:
         sys.exit("\n".join(wrong))
-    for path, text in lists():
+    for path, text in generated_lists():
         if sys.argv[1:]:
             wrong += [f"{path} is not as {HEADER}: run tools/exports.py"] * (text != read(path))
         else:

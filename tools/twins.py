@@ -43,7 +43,7 @@ class Table:
 
         return re.sub("|".join(map(whole, sorted(here, key=len, reverse=True))), replace, text)
 
-    def twins(self):
+    def made_files(self):
         """The files to make, with their texts."""
         for path in sources():
             other = self.twin(path, path)
@@ -104,7 +104,7 @@ def wrong_attributes(made):
 def main(checks):
     """Makes or compares the files."""
     table = Table()
-    made = dict(table.twins())
+    made = dict(table.made_files())
     wrong = sorted(path for path, text in made.items() if read(path) != text)
     gone = sorted(path for path in sources() if MADE in read(path).partition("\n")[0] and path not in made)
     faults = [f"{TABLE}: no file has {old!r}" for old in table.unused()]

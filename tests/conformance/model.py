@@ -20,7 +20,7 @@ NODE = {"fanout": "fanout", "depth": "depth", "leaf": "leaf_size", "offset": "no
 UNKNOWN = {"b": 2**32 - 1, "s": 2**16 - 1}  # the length of an output whose length is not known
 
 
-def unrolled(family):
+def unrolled_compress(family):
     """b2_model.compress for a family, with a variable for each word and a statement for each operation: five times as
     fast. The sums are reduced where a word is rotated, and at the end."""
     full = (1 << family.w) - 1
@@ -40,7 +40,7 @@ def unrolled(family):
     return found["compress"]
 
 
-UNROLLED = {family: unrolled(family) for family in SCALAR.values()}
+UNROLLED = {family: unrolled_compress(family) for family in SCALAR.values()}
 
 
 def compress(family, h, entry):
@@ -61,7 +61,7 @@ class Refused(Exception):
 FIRST = bytes((i + (i >> 8)) & 255 for i in range(1 << 16))  # the first 65,536 bytes of the endless message
 
 
-def span(start, end):
+def message_span(start, end):
     """The bytes of the endless message from one place to another. Each 65,536 are those before them, and 1."""
     parts = [FIRST.translate(bytes((i + k) & 255 for i in range(256))) for k in range(start >> 16, (end >> 16) + 1)]
     return b"".join(parts)[start & 0xffff:end - (start & ~0xffff)]
@@ -73,7 +73,7 @@ def read_bytes(word):
     if word == "none":
         return None
     if ":" in word:
-        return span(*map(int, word.split(":")))
+        return message_span(*map(int, word.split(":")))
     return b"" if word == "-" else bytes.fromhex(word)
 
 
@@ -82,7 +82,7 @@ def family_of(name):
     return "s" if "s" in name.removeprefix("blake2") else "b"
 
 
-def limits(name):
+def argument_limits(name):
     """The least and the most of each argument of a hash: of numbers, and of the lengths of bytes."""
     family = FAMILIES[family_of(name)]
     is_s = family_of(name) == "s"
@@ -99,7 +99,7 @@ def limits(name):
 
 def read_given(name, words):
     """The arguments of a hash, or Refused by all that are wrong."""
-    allowed, given, wrong = limits(name), {}, []
+    allowed, given, wrong = argument_limits(name), {}, []
     assert set(words) <= set(allowed), words
     for argument, (least, most) in allowed.items():
         word = words.get(argument)
@@ -171,7 +171,7 @@ class State:
 
 
 @functools.lru_cache(100000)
-def node(letter, size, given):
+def xof_node_digest(letter, size, given):
     """The digest of a node of BLAKE2X. hashlib has none of depth 0."""
     return steps(SCALAR[letter], size, given)[1]
 
@@ -180,16 +180,16 @@ def output_of(letter, message, length, end, key=b"", salt=b"", person=b""):
     """The bytes of an output up to this place, of an output of this length (the BLAKE2X document, 2)."""
     longest, texts = FAMILIES[letter].key, {"salt": salt, "persona": person}
     place = SEQUENTIAL._replace(node_offset=length << 32)
-    root = node(letter, longest, Input(message, key or None, **texts, place=place))
+    root = xof_node_digest(letter, longest, Input(message, key or None, **texts, place=place))
     blocks = []
     for i in range(-(-end // longest)):
         size = longest if length == UNKNOWN[letter] else min(longest, length - i * longest)
         place = Place(0, 0, longest, (length << 32) + i, 0, longest)
-        blocks.append(node(letter, size, Input(root, **texts, place=place)))
+        blocks.append(xof_node_digest(letter, size, Input(root, **texts, place=place)))
     return b"".join(blocks)[:end]
 
 
-def yes(condition):
+def yes_or_no(condition):
     return "yes" if condition else "no"
 
 
@@ -258,7 +258,7 @@ class Model:
     def verify(self, slot, tag):
         self.state(slot)
         given = self.some(tag, "tag")
-        return yes(hmac.compare_digest(self.end(slot).digest(), given))
+        return yes_or_no(hmac.compare_digest(self.end(slot).digest(), given))
 
     def count(self, slot):
         return len(self.state(slot).message)
@@ -300,7 +300,7 @@ class Model:
 
     @staticmethod
     def equal(one, other):
-        return yes(read_bytes(one) == read_bytes(other))
+        return yes_or_no(read_bytes(one) == read_bytes(other))
 
     # ---- parts of a tree
 

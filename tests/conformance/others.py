@@ -181,7 +181,7 @@ class Libb2(Driver):
         return out.raw[:size]
 
 
-def outcome(driver, call):
+def outcome_text(driver, call):
     """What a call returns, as it is written."""
     verb, *words = call.split()
     method = getattr(driver, verb, None)
@@ -195,7 +195,7 @@ def outcome(driver, call):
     return "" if value is None else f"= {value.hex() or '-'}"
 
 
-def run(make, path):
+def run_cases(make, path):
     """How many cases were run, and the others and the wrong ones by what ended them."""
     ran, lacks, wrong = 0, collections.Counter(), collections.Counter()
     with open(path, encoding="ascii") as file:
@@ -210,7 +210,7 @@ def run(make, path):
                 if call.startswith(("count ", "left ")):
                     continue
                 try:
-                    got = outcome(driver, call)
+                    got = outcome_text(driver, call)
                 except Ended:
                     got = "!"
                 if got != ("!" if wanted.startswith("!") else wanted):
@@ -235,11 +235,11 @@ def run_go(hash_name, path):
     return counts[0]["cases"], *counts[1:]
 
 
-def listed(counts):
+def counts_text(counts):
     return ", ".join(f"{count} {name}" for name, count in counts.most_common()) or "none"
 
 
-def rows(folder, kinds):
+def table_rows(folder, kinds):
     """The rows of the table. On standard error: at what the other cases end."""
     for title, kind in kinds:
         if kind is Libb2 and not Libb2.library or kind is None and not shutil.which("go"):
@@ -247,9 +247,9 @@ def rows(folder, kinds):
             continue
         for name in kind.hashes if kind else ("blake2b", "blake2s", "blake2xb", "blake2xs"):
             path = os.path.join(folder, f"{name}.txt")
-            ran, lacks, wrong = run(lambda: kind(name), path) if kind else run_go(name, path)
-            print(f"{title}, {name}: not run: {listed(lacks)}", file=sys.stderr)
-            yield f"| {title} | {name} | {ran} of {ran + sum(lacks.values())} | {listed(wrong)} |"
+            ran, lacks, wrong = run_cases(lambda: kind(name), path) if kind else run_go(name, path)
+            print(f"{title}, {name}: not run: {counts_text(lacks)}", file=sys.stderr)
+            yield f"| {title} | {name} | {ran} of {ran + sum(lacks.values())} | {counts_text(wrong)} |"
 
 
 def main():
@@ -264,7 +264,7 @@ def main():
     with open(os.path.join(HERE, "others.txt"), encoding="utf-8") as file:
         table = file.read()
     status = 0
-    for row in rows(chosen.folder, kinds):
+    for row in table_rows(chosen.folder, kinds):
         if not chosen.check or row not in table:
             print(row)
             status = int(chosen.check)

@@ -10,7 +10,7 @@ import os
 import random
 import sys
 
-from model import HASHES, UNKNOWN, Model, family_of, limits
+from model import HASHES, UNKNOWN, Model, family_of, argument_limits
 
 sys.path.insert(0, os.path.join(os.path.dirname(os.path.abspath(__file__)), ".."))
 from common import FAMILIES, Parser  # noqa: E402
@@ -29,7 +29,7 @@ class Writer:
     """The lines of a file."""
 
     def __init__(self, name):
-        self.name, self.limits = name, limits(name)
+        self.name, self.limits = name, argument_limits(name)
         self.family = FAMILIES[family_of(name)]
         self.longest, self.salt = self.family.key, self.family.salt
         self.block = 512 if name[-1] == "p" else self.family.block
