@@ -9,7 +9,7 @@
 function add(block) { if (!(block in chosen)) { chosen[block]; waiting[++count] = block } }
 BEGIN { FS = "\t" }
 /^\tvj_(function|cold|export|shared|constants|data|relocated)\t/ {
-    block++
+    begins[++block] = NR
     if ($2 ~ /function|cold|export|shared/) place[$3] = block
     if ($2 == "vj_shared") group[block] = $3
     if ($2 == "vj_export") {
@@ -20,7 +20,10 @@ BEGIN { FS = "\t" }
 }
 /^\.L[A-Za-z0-9_.]+:/ { place[substr($1, 1, length($1) - 1)] = block }
 {
-    text[block] = text[block] $0 "\n"
+    line[NR] = $0
+    ends[block] = NR
+}
+/_/ {
     gsub(/[^A-Za-z0-9_.]+/, " ")
     total = split($0, words, " ")
     for (i = 1; i <= total; i++) if (words[i] ~ /[._].*_/) needs[block] = needs[block] " " words[i]
@@ -35,7 +38,8 @@ END {
             for (i = 1; i <= total; i++) if (words[i] in place && group[place[words[i]]] == "") add(place[words[i]])
         }
         file = folder "/" name ".s"
-        for (i = 1; i <= block; i++) if (i in chosen) printf "%s", text[i] > file
+        for (i = 1; i <= block; i++) if (i in chosen)
+            for (j = begins[i]; j <= ends[i]; j++) print line[j] > file
         close(file)
         print name
     }
