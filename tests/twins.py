@@ -39,36 +39,39 @@ def write(path, text):
         file.write(text)
 
 
-def plant_change(room, path, old, new, said):
-    """Replaces a text once, or adds it at the end if there is no old one. Then the check has to say this."""
-    before = read(f"{room}/{path}")
-    if before.count(old) < 1:
-        return f"{path} has no {old!r}"
-    write(f"{room}/{path}", before.replace(old, new, 1) if old else before + new)
+def plant_faults(room, faults):
+    """Replaces a text once for each fault, or adds it at the end if there is no old one. Then the check has to say all
+    of this."""
+    before = {path: read(f"{room}/{path}") for _, path, *_ in faults}
+    for _, path, old, new, _ in faults:
+        text = read(f"{room}/{path}")
+        write(f"{room}/{path}", text.replace(old, new, 1) if old in text and old else text + new)
     status, printed = run_tool(room, "--check")
-    write(f"{room}/{path}", before)
-    return "" if status == 1 and said in printed else f"status {status}: {printed}"
+    for name, path, old, _, said in faults:
+        tap.result(status == 1 and old in before[path] and said in printed, name, f"status {status}: {printed}")
+    for path, text in before.items():
+        write(f"{room}/{path}", text)
 
 
-# What is tried, in which file what becomes what, and what has to be printed.
+# What is tried together: of each fault in which file what becomes what, and what has to be printed.
 FAULTS = (
-    ("a line is added to a made file", MADE, "", "// more\n", f"{MADE} is not as it is made"),
-    ("a number of a made file is changed", MADE, "N ≤ 32", "N ≤ 31", f"{MADE} is not as it is made"),
-    ("the mark of a made file is gone", MADE, "// Made by", "// By", f"{MADE} is not as it is made"),
-    ("a made proof is empty", PROOF, read(f"{TOP}/{PROOF}"), "", f"{PROOF} is not as it is made"),
-    ("only the source of a made file is changed", SOURCE, "", "// more\n", f"{MADE} is not as it is made"),
-    ("the table has another number", TABLE, "128 ~> 64", "128 ~> 65", f"{MADE} is not as it is made"),
-    ("the table has a line that no file uses", TABLE, "in: *\n", "in: *\nno such word ~> word\n", "no such word"),
-    ("the table has a line for no file", TABLE, "", "\nin: blake2_none/*\nBLAKE2 ~> BLAKE\n", "no file has 'BLAKE2'"),
-    ("the table has a line twice", TABLE, "128 ~> 64\n", "128 ~> 64\n128 ~> 64\n", "no file has '128'"),
-    ("a file that is not there is by hand", TABLE, "by hand: ", "by hand: none/* ", "no file has 'none/*'"),
-    ("a made file is by hand", TABLE, "by hand: ", "by hand: blake2/*/hashers/* ", f"{MADE} is made from no file"),
-    ("a pattern of .gitattributes is gone", ATTRIBUTES, "crates/*/specs/Blake2s*.antt linguist-generated\n", "",
-     ".gitattributes says that crates/blake2_state/specs/Blake2s.antt is written by hand"),
-    ("a pattern of .gitattributes has too much", ATTRIBUTES, "crates/*_tests/** -linguist-generated\n", "",
-     "blake2s.rt is made"),
-    ("a pattern of .gitattributes fits no file", ATTRIBUTES, "crates/*_tests/**",
-     "crates/none/** linguist-generated\ncrates/*_tests/**", "crates/none/** changes nothing"),
+    (("a line is added to a made file", MADE, "", "// more\n", f"{MADE} is not as it is made"),
+     ("a made proof is empty", PROOF, read(f"{TOP}/{PROOF}"), "", f"{PROOF} is not as it is made"),
+     ("the table has a line that no file uses", TABLE, "in: *\n", "in: *\nno such word ~> word\n", "no such word"),
+     ("the table has a line for no file", TABLE, "", "\nin: blake2_none/*\nBLAKE2 ~> BLAKE\n", "no file has 'BLAKE2'"),
+     ("the table has a line twice", TABLE, "128 ~> 64\n", "128 ~> 64\n128 ~> 64\n", "no file has '128'"),
+     ("a file that is not there is by hand", TABLE, "by hand: ", "by hand: none/* ", "no file has 'none/*'"),
+     ("a pattern of .gitattributes is gone", ATTRIBUTES, "crates/*/specs/Blake2s*.antt linguist-generated\n", "",
+      ".gitattributes says that crates/blake2_state/specs/Blake2s.antt is written by hand")),
+    (("a number of a made file is changed", MADE, "N ≤ 32", "N ≤ 31", f"{MADE} is not as it is made"),
+     ("a pattern of .gitattributes has too much", ATTRIBUTES, "crates/*_tests/** -linguist-generated\n", "",
+      "blake2s.rt is made")),
+    (("the mark of a made file is gone", MADE, "// Made by", "// By", f"{MADE} is not as it is made"),
+     ("a pattern of .gitattributes fits no file", ATTRIBUTES, "crates/*_tests/**",
+      "crates/none/** linguist-generated\ncrates/*_tests/**", "crates/none/** changes nothing")),
+    (("only the source of a made file is changed", SOURCE, "", "// more\n", f"{MADE} is not as it is made"),),
+    (("the table has another number", TABLE, "128 ~> 64", "128 ~> 65", f"{MADE} is not as it is made"),),
+    (("a made file is by hand", TABLE, "by hand: ", "by hand: blake2/*/hashers/* ", f"{MADE} is made from no file"),),
 )
 
 
@@ -94,9 +97,8 @@ def main():
         copy_sources(room)
         fine = run_tool(room, "--check")
         tap.result(fine == (0, ""), "nothing is wrong in a copy", fine)
-        for name, *fault in FAULTS:
-            why = plant_change(room, *fault)
-            tap.result(not why, name, why)
+        for faults in FAULTS:
+            plant_faults(room, faults)
         check_missing(room)
         again = run_tool(room)
         tap.result(again == (0, "") and run_tool(room, "--check") == fine, "a second run makes nothing", again)

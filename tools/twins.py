@@ -6,6 +6,7 @@ the same names with a b for the s. tools/twins.txt says what else differs, and w
     tools/twins.py --check    compares them with what would be made, and .gitattributes with them
 """
 import difflib
+import functools
 import os
 import re
 import sys
@@ -21,27 +22,34 @@ class Table:
     """The table: which files are written by hand, and what becomes what in which files."""
 
     def __init__(self):
-        self.by_hand, self.lines, self.used, files = [], [], set(), []
+        self.by_hand, self.lines, self.used, files = (), [], set(), ()
         for line in re.split(r"(?<!\\)\n", re.sub(r"(?m)^#.*\n", "", read(TABLE))):
             word, _, rest = line.partition(": ")
             old, arrow, new = line.replace("\\\n", "\n").partition(" ~> ")
             if word == "by hand":
-                self.by_hand += rest.split()
+                self.by_hand += tuple(rest.split())
             elif word == "in":
-                files = rest.split()
+                files = tuple(rest.split())
             elif line:
                 self.lines.append((files, old, new if arrow else old))
 
+    @functools.cache
+    def rules(self, path):
+        """What is replaced in this file, and by what, and a pattern for it."""
+        fitting = {files: fits(path, files) for files, _, _ in self.lines}
+        here = {old: (new, i) for i, (files, old, new) in enumerate(self.lines) if fitting[files]}
+        return here, re.compile("|".join(map(whole, sorted(here, key=len, reverse=True))))
+
     def twin(self, path, text):
         """A text of this file, or its path itself, for the other family."""
-        here = {old: (new, i) for i, (files, old, new) in enumerate(self.lines) if fits(path, files)}
+        here, pattern = self.rules(path)
 
         def replace(match):
             new, line = here[match[0]]
             self.used.add(line)
             return new
 
-        return re.sub("|".join(map(whole, sorted(here, key=len, reverse=True))), replace, text)
+        return pattern.sub(replace, text)
 
     def made_files(self):
         """The files to make, with their texts."""
@@ -54,8 +62,7 @@ class Table:
     def unused(self):
         """What the table replaces and no file has, and its patterns of files that are there no longer."""
         yield from (old for i, (_, old, _) in enumerate(self.lines) if i not in self.used)
-        paths = list(sources())
-        yield from (it for it in self.by_hand if not any(fits(path, [it]) for path in paths))
+        yield from (it for it in self.by_hand if not any(fits(path, [it]) for path in sources()))
 
 
 def fits(path, patterns):
@@ -63,19 +70,19 @@ def fits(path, patterns):
     return any(fnmatchcase(path, "crates/" + pattern) for pattern in patterns)
 
 
+@functools.cache
 def whole(old):
     """A pattern for this text, in which a number at an end is no part of a word, another number or an exponent."""
     return ((r"(?<![\w^])(?<!\d\.)" if old[0].isdigit() else "") + re.escape(old)
             + (r"(?!\w)" if old[-1].isdigit() else ""))
 
 
+@functools.cache
 def sources():
     """The files of code, definitions and proofs."""
-    for crate in sorted(os.listdir(f"{TOP}/crates")):
-        for part in "src", "specs", "proofs":
-            for folder, _, names in os.walk(f"{TOP}/crates/{crate}/{part}"):
-                yield from (os.path.relpath(f"{folder}/{name}", TOP) for name in names
-                            if name.endswith((".rt", ".antt")))
+    return [f"{folder}/{name}"[len(TOP) + 1:] for crate in sorted(os.listdir(f"{TOP}/crates"))
+            for part in ("src", "specs", "proofs") for folder, _, names in os.walk(f"{TOP}/crates/{crate}/{part}")
+            for name in names if name.endswith((".rt", ".antt"))]
 
 
 def attributes():
