@@ -6,14 +6,14 @@ libsodium, or of the pages that are named, and compares what it prints.
 
 An example is a fenced block in c, cpp, rust, python, cmake or sh; js/tests/readme.test.mjs runs those in JavaScript,
 and python/tests/test_names.py those in Python's guide. A block in C, C++ or Rust is a whole program, in C `hello.c`. A
-block in cmake is a whole CMakeLists.txt, whose program `hello` is run. The blocks of a page run in order, twice, in
-one folder, which starts with links to b2, b2sum, c and dist of the repository, and for the guides with `data.bin`, a
-file of 100,000 bytes, which is the reader's; what a block leaves there is the next one's. Those of the README, the
-tutorial and the review run at the top of the repository: of the README those in sh, with no tools but READMES_TOOLS
-on the PATH; of the others also those in Python, from the folder on, and with the PATH, that the block before has
-left. The repository is a fresh clone by a user of core.autocrlf, in which no page leaves a file that git does not
-ignore. If a block in `text` follows an example, it is what the example prints, and so is what a comment in it
-`prints`; a line that ends with `...` is the beginning of a line. In cmake, and in sh of the guides, PATH is the
+block in cmake is a whole CMakeLists.txt, whose program `hello` is run. The blocks of a page run in order, with
+VULFSJOR_TEST_HUGE twice, in one folder, which starts with links to b2, b2sum, c and dist of the repository, and for the
+guides with `data.bin`, a file of 100,000 bytes, which is the reader's; what a block leaves there is the next one's.
+Those of the README, the tutorial and the review run at the top of the repository: of the README those in sh, with no
+tools but READMES_TOOLS on the PATH; of the others also those in Python, from the folder on, and with the PATH, that the
+block before has left. The repository is a fresh clone by a user of core.autocrlf, in which no page leaves a file that
+git does not ignore. If a block in `text` follows an example, it is what the example prints, and so is what a comment in
+it `prints`; a line that ends with `...` is the beginning of a line. In cmake, and in sh of the guides, PATH is the
 repository and FOLDER the installed library.
 
 The installed library is a copy of that in the folder VULFSJOR_INSTALLED, if that is set, as by ./test. The module for
@@ -250,12 +250,12 @@ def main():
 
 
 def run_page(page, name, work, repository, library, module):
-    """Runs the examples of a page, and then again."""
+    """Runs the examples of a page, and in the full test again."""
     kinds = {"README.md": RunnerAtTop, "docs/TUTORIAL.md": RunnerOfShell, "docs/REVIEW.md": RunnerOfShell}
     kind = kinds.get(name, Runner)
     folder = pathlib.Path(tempfile.mkdtemp(dir=work))
     runner = kind(folder, repository, library, work / "module", name in WITH_DATA)
-    for again in ("", ", again"):
+    for again in ("", ", again") if os.environ.get("VULFSJOR_TEST_HUGE") else ("",):
         if kind is RunnerOfShell:
             runner.open_shell()
         for line, language, text, wanted in examples(page):
