@@ -1,8 +1,8 @@
 #!/usr/bin/env bash
 # Tests dist/c/vulfsjor.c, the library for processors without assembly: by the compiler here, and by
-# compilers for other processors, whose programs run on an emulator. Without VULFSJOR_TEST_HUGE all tests run on one of
-# 32 bits and one with the other order of bytes, and some on the others; and compilers optimize less, which takes half
-# as long.
+# compilers for other processors, whose programs run on an emulator. Without VULFSJOR_TEST_HUGE these are one of 32 bits
+# and one with the other order of bytes, with a hash of each kind and length of words; and compilers optimize less, which
+# takes half as long.
 source "$(dirname "$(readlink -f "$0")")/common.sh"
 source_file=$dist/c/vulfsjor.c
 words=(-std=c99 "${warnings[@]}" "-I$here/include")
@@ -89,22 +89,17 @@ files_there() {
 
 # The tests of the library for a processor.
 test_there() {
-    local level=-O2 turns=100 more=yes hash type these=("${hashes[@]}")
+    local level=-O2 turns=100 hash type these=("${hashes[@]}") families="b s"
     processor=$1
     if [ ${#emulator[@]} -gt 0 ] && [ -z "${VULFSJOR_TEST_HUGE-}" ]; then
-        level=-O1 turns=20
-        [[ $processor =~ ^(s390x|i386)$ ]] || { more= && these=(blake2b blake2s tree); }
+        level=-O1 turns=20 these=(blake2b blake2sp blake2xb tree) families=b
     fi
     check "the file in C, for $processor, without a warning" library_there $level || return
     for hash in "${these[@]}"; do
         check "conformance.c, $hash, for $processor" hash_there conformance $hash
-        [ -z "$more" ] || check "made_states.c, $hash, for $processor" hash_there made_states $hash
+        check "made_states.c, $hash, for $processor" hash_there made_states $hash
     done
-    if [ -z "$more" ]; then
-        skip "other tests for $processor, which is like others" "VULFSJOR_TEST_HUGE is not set"
-        return
-    fi
-    for family in b s; do
+    for family in $families; do
         check "edge_cases.c, blake2$family, for $processor" edge_cases_there
         check "libb2_header.c, blake2$family, for $processor" libb2_there
     done
@@ -113,8 +108,10 @@ test_there() {
     check "files, for $processor" files_there
     check_huge "what install.sh makes with -O0 wipes, for $processor" wiped_by_install
     has cmake || missing="no cmake"
-    check "what CMake makes with -O0 wipes, for $processor" wiped_by_cmake ""
-    for type in Debug MinSizeRel; do check_huge "and for $type" wiped_by_cmake $type; done
+    # installing.sh compares the flags of each type.
+    for type in "" Debug MinSizeRel; do
+        check_huge "what CMake makes with -O0 wipes, for $processor and type '$type'" wiped_by_cmake "$type"
+    done
     missing=
 }
 
@@ -134,7 +131,7 @@ compiles_for_msvc() {
             'void *memmove(void *, const void *, size_t);' 'void *memset(void *, int, size_t);' \
             'int memcmp(const void *, const void *, size_t);' 'size_t strlen(const char *);' \
             >"$work/msvc/string.h" || return 1
-    for target in x86_64 i686 aarch64; do
+    for target in $(some x86_64 i686 aarch64); do
         clang --target=$target-pc-windows-msvc -ffreestanding -fms-extensions "${words[@]}" \
             "-I$work/msvc" -c "$source_file" -o "$work/msvc/$target.obj" || return 1
     done
@@ -144,7 +141,7 @@ compiles_for_msvc() {
 # memcheck is slow.
 secrets_here() {
     awk 'NR % (/^p/ ? 15 : 100) == 1 && length($0) < 8900' "$cases/$family" >"$work/secret_cases" &&
-        cc -std=c99 -O2 "${warnings[@]}" $(family_words "$family") "-I$here/include" \
+        cc -std=c99 $quick "${warnings[@]}" $(family_words "$family") "-I$here/include" \
             "$tests/secrets.c" "$work/here.o" -o "$work/secrets" &&
         valgrind -q --error-limit=no "$work/secrets" "$work/secret_cases"
 }
@@ -167,7 +164,9 @@ test_portable() {
     needs python3
     for name in riscv64 s390x i386 armhf ppc64el; do
         compiler=("${compilers[$name]}" -static) emulator=("${emulators[$name]}")
-        if has_compiler "${compiler[0]}" && has "${emulator[0]}"; then
+        if [ -z "${VULFSJOR_TEST_HUGE-}" ] && ! [[ $name =~ ^(s390x|i386)$ ]]; then
+            skip "the library for $name, which is like others" "VULFSJOR_TEST_HUGE is not set"
+        elif has_compiler "${compiler[0]}" && has "${emulator[0]}"; then
             test_there "$name"
         else
             skip "the library for $name" "no ${compiler[0]} with a C library, or no ${emulator[0]}"
