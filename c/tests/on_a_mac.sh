@@ -51,7 +51,7 @@ uname -srm
 [ "$(uname -s)" != Darwin ] || sw_vers
 $cc --version
 try "the library is assembled" $cc -c dist/vulfsjor.S -o "$work/library.o"
-try "the conformance cases are written" python3 tests/conformance/write.py "$work"
+try "the conformance cases are written" python3 tests/conformance/write.py "$work" blake2b blake2s
 for family in b s; do
     define=
     [ $family = b ] || define=-DTEST_S
