@@ -9,6 +9,7 @@ Here are the calls only. What each has to return is added by model.py, from hash
 import os
 import random
 import sys
+from concurrent.futures import ProcessPoolExecutor
 
 from model import HASHES, UNKNOWN, Model, family_of, argument_limits
 
@@ -387,8 +388,10 @@ def main():
     parser.add_argument("names", nargs="*", default=HASHES, help="the hashes, all of them by default")
     chosen = parser.parse_args()
     status = 0
-    for name in chosen.names:
-        path, text = os.path.join(chosen.folder, f"{name}.txt"), text_of(name)
+    with ProcessPoolExecutor() as pool:
+        texts = list(pool.map(text_of, chosen.names))
+    for name, text in zip(chosen.names, texts):
+        path = os.path.join(chosen.folder, f"{name}.txt")
         if chosen.check:
             with open(path) as file:
                 if file.read() != text:
