@@ -11,7 +11,7 @@ _b2sum() {
             [[ ${COMP_WORDS[*]} == *blake2s* ]] || words+=" 384 512"
             ;;
         --tree) words="65536" ;;
-        --personal | --salt | --threads) return ;;
+        --personal | --personal-text | --salt | --threads) return ;;
         *)
             if [[ $word != -* ]]; then
                 compopt -o filenames
@@ -19,8 +19,8 @@ _b2sum() {
                 return
             fi
             words="--algorithm --binary --check --help --ignore-missing --key-file --length --no-names
-                --personal --progress --quiet --raw --salt --status --strict --tag --text --threads --tree
-                --version --warn --zero"
+                --personal --personal-text --progress --quiet --raw --salt --status --strict --tag --text
+                --threads --tree --version --warn --zero"
             ;;
     esac
     mapfile -t COMPREPLY < <(compgen -W "$words" -- "$word")

@@ -25,6 +25,7 @@ HUGE = bool(os.environ.get("VULFSJOR_TEST_HUGE"))
 WRONG = {
     "--salt=": "invalid salt: ''\nthe value has no digits",
     "--personal=": "invalid personalization: ''\nthe value has no digits",
+    "--personal-text=": "invalid personalization: ''\nthe value has no bytes",
     "--salt 0": "invalid salt: '0'\nthe value is not hexadecimal digits, two for each byte",
     "--personal zz": "invalid personalization: 'zz'\nthe value is not hexadecimal digits, two for each byte",
     "--salt " + "00" * 17: "the salt is too long: at most 16 bytes, 8 for BLAKE2s and BLAKE2sp",
@@ -32,6 +33,12 @@ WRONG = {
     "-a blake2s --salt " + "00" * 9: "the salt is too long: at most 16 bytes, 8 for BLAKE2s and BLAKE2sp",
     "-a blake2s --personal " + "00" * 9: "the personalization is too long: "
                                          "at most 16 bytes, 8 for BLAKE2s and BLAKE2sp",
+    "--personal-text " + "x" * 17: "the personalization is too long: at most 16 bytes, 8 for BLAKE2s and BLAKE2sp",
+    "--personal-text " + "\u00e9" * 9: "the personalization is too long: at most 16 bytes, 8 for BLAKE2s and BLAKE2sp",
+    "-a blake2sp --personal-text " + "x" * 9: "the personalization is too long: "
+                                              "at most 16 bytes, 8 for BLAKE2s and BLAKE2sp",
+    "--personal 00 --personal-text x": "the --personal and --personal-text options are mutually exclusive",
+    "-c --personal-text x --personal=00": "the --personal and --personal-text options are mutually exclusive",
     "-a blake2s -l 264": "invalid length: '264'\nmaximum digest length for 'BLAKE2s' is 256 bits",
     "-a blake2sp -l 264": "invalid length: '264'\nmaximum digest length for 'BLAKE2sp' is 256 bits",
     "-a blake2bp -l 520": "invalid length: '520'\nmaximum digest length for 'BLAKE2bp' is 512 bits",
@@ -131,6 +138,27 @@ def test_parameters(runs):
     for name in ("blake2x", "blake2", "blake2bpp", "BLAKE2bp", ""):
         runs.wants(["-a", name, "b"], "", f"invalid algorithm: '{name}'", 1, Try=1)
     runs.ends("keys, salts, personalizations, and what is refused of them")
+
+
+def test_personal_text(runs):
+    """A personalization of the bytes of a text, which counts as those bytes in digits do."""
+    for family, most in (("b", 16), ("s", 8), ("bp", 16), ("sp", 8), ("tree", 16)):
+        own = ["--tree", "4"] if family == "tree" else ["-a", "blake2" + family]
+        for text in ("x", "a b\n", "-c", "a=b", "=", "0" * most, "\u00e9" * (most // 2), "\udcff" * most):
+            person = os.fsencode(text)
+            bits = 512 if family in ("b", "bp", "tree") else 256
+            said = (root_line("b", b"abc", 4, person=person) if family == "tree"
+                    else line("b", b"abc", bits, family, tag=True, person=person))
+            for words in (["--personal-text", text], ["--personal-text=" + text], ["--personal=" + person.hex()],
+                          ["--personal-text", "other", "--personal-text", text]):
+                runs.wants([*own, "--tag", *words, "b"], said)
+                runs.wants([*own, "-c", *words], "b: OK\n", data=os.fsencode(said))
+            runs.wants([*own, "-c", "--personal-text", "other"], "b: FAILED\n",
+                       "WARNING: 1 computed checksum did NOT match", 1, os.fsencode(said))
+    runs.wants(["-c", "--personal-text", "x"], "b: OK\n", unmet("no --personal"), 1,
+               (line("b", b"abc", person=b"x") + line("a", b"", tag=True)).encode())
+    runs.wants(["-c"], "", unmet("--personal"), 1, line("b", b"abc", tag=True, person=b"x").encode())
+    runs.ends("personalizations by text")
 
 
 def test_parallel(runs):
@@ -443,6 +471,8 @@ def test_differences(runs):
     said = runs.run([deep + "\udcff\udcff\udcff"])
     runs.holds("a long name", said[2] == 1 and os.fsencode(os.strerror(errno.ENAMETOOLONG)) in said[1], said)
     for option, possible in (("--s", "'--status' '--strict' '--salt'"),
+                             ("--p", "'--personal' '--personal-text' '--progress'"),
+                             ("--persona", "'--personal' '--personal-text'"),
                              ("--t", "'--tag' '--text' '--tree' '--threads'")):
         runs.wants([option], "", f"option '{option}' is ambiguous; possibilities: {possible}", 1, Try=1)
     runs.ends("the differences from coreutils")
@@ -450,5 +480,6 @@ def test_differences(runs):
 
 COMPUTING = (test_lengths, test_parameters, test_parallel, test_demanded_lengths, test_shapes, test_trees)
 CALLING_ALL = (test_shapes, test_parallel, test_trees)
-TESTS = (*COMPUTING, test_needs, test_macs, test_tags, test_names, test_coreutils, test_differences, test_key_input)
+TESTS = (*COMPUTING, test_personal_text, test_needs, test_macs, test_tags, test_names,
+         test_coreutils, test_differences, test_key_input)
 run_tests(TESTS, COMPUTING if HUGE else CALLING_ALL)

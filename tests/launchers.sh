@@ -264,6 +264,7 @@ offers_values() {
 --length:128 160 224 256 384 512
 --tree:65536
 --personal:
+--personal-text:
 --salt:
 --key-file:file
 --check:file

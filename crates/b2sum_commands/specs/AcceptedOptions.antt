@@ -50,11 +50,16 @@ is_each Nothing = false
 abbrev pub has_length : Choice → Bool
 has_length c = nat_le c.bits (8 * max_bytes c.algorithm)
 
+-- Whether there are bytes.
+abbrev pub has_bytes : List ℕ → Bool
+has_bytes bytes = not (length bytes == 0)
+
 -- The algorithm has a salt and a persona of these lengths.
 abbrev pub has_labels : Choice → Bool
 has_labels c =
     nat_le (4 * length c.salt) (max_bytes c.algorithm)
-    && nat_le (4 * length c.persona) (max_bytes c.algorithm)
+    && (nat_le (4 * length c.persona) (max_bytes c.algorithm)
+    && nat_le (4 * length c.persona_text) (max_bytes c.algorithm))
 
 -- The options go with those of a tree: BLAKE2b without a key, and no `--text` unless it checks.
 -- Without a tree there are no threads, unless it checks.
@@ -73,12 +78,17 @@ goes_with_check c =
 abbrev pub goes_with_sums : Choice → Bool
 goes_with_sums c = not c.ignores_missing && (is_each c.report && not c.is_strict)
 
+-- There are not two personas.
+abbrev pub has_one_persona : Choice → Bool
+has_one_persona c = not (has_bytes c.persona && has_bytes c.persona_text)
+
 -- The options go together.
 abbrev pub goes_together : Choice → Bool
 goes_together c =
     not (c.is_tagged && is_text c.is_binary)
     && (not (c.is_tagged && (c.has_no_names || c.is_raw))
-    && (goes_with_tree c && (if c.checks then goes_with_check c else goes_with_sums c)))
+    && (has_one_persona c
+    && (goes_with_tree c && (if c.checks then goes_with_check c else goes_with_sums c))))
 
 -- The file of the key, if there is one, is standard input.
 abbrev pub is_input : Option (List ℕ) → Bool
@@ -101,17 +111,17 @@ abbrev pub with_leaf : Algorithm → Option ℕ → Algorithm
 with_leaf a None = a
 with_leaf a (Some leaf) = Tree leaf
 
--- Whether there are bytes.
-abbrev pub has_bytes : List ℕ → Bool
-has_bytes bytes = not (length bytes == 0)
-
 -- What the digests need besides a file.
 abbrev pub chosen_needs : Choice → Needs
 chosen_needs c = record {
   key = is_some c.key_file;
   salt = has_bytes c.salt;
-  personal = has_bytes c.persona;
+  personal = has_bytes c.persona || has_bytes c.persona_text;
 }
+
+-- The persona: the text, if there is one.
+abbrev pub chosen_persona : Choice → List ℕ
+chosen_persona c = if has_bytes c.persona_text then c.persona_text else c.persona
 
 -- What is printed of a digest.
 abbrev pub chosen_shape : Choice → Shape
@@ -135,7 +145,7 @@ pub record AreOptions (c : Choice) (o : Options) : Type 0 where
   pub input_is_key : o.input_is_key ≡ is_input c.key_file
   pub needs : o.needs ≡ chosen_needs c
   pub salt : o.salt.items ≡ c.salt
-  pub persona : o.persona.items ≡ c.persona
+  pub persona : o.persona.items ≡ chosen_persona c
   pub checks : o.checks ≡ c.checks
   pub shape : o.shape ≡ chosen_shape c
   pub style : o.style ≡ chosen_style c

@@ -14,7 +14,7 @@ use Rattle.b2sum_lines.specs.declared.entry.Algorithm.TheVariants.{Blake2sp}
 use Rattle.b2sum_commands.specs.declared.option_names.Flag.{Flag}
 use Rattle.b2sum_commands.specs.declared.option_names.Flag.TheVariants.{Algorithm, Length, KeyFile}
 use Rattle.b2sum_commands.specs.declared.option_names.Flag.TheVariants.{Personal, Salt, Tree}
-use Rattle.b2sum_commands.specs.declared.option_names.Flag.TheVariants.{Progress}
+use Rattle.b2sum_commands.specs.declared.option_names.Flag.TheVariants.{PersonalText, Progress}
 use Rattle.b2sum_commands.specs.declared.option_names.Flag.TheVariants.{Threads, NoNames, Raw}
 use Rattle.b2sum_commands.specs.declared.option_names.Flag.TheVariants.{Check, IgnoreMissing, Quiet}
 use Rattle.b2sum_commands.specs.declared.option_names.Flag.TheVariants.{Status, Warn, Strict, Tag}
@@ -34,7 +34,8 @@ pub data End : Type 0 where
   Refused : End
 
 -- What the options choose. `names_algorithm` is that there is `--algorithm`. A length of 0 bits is
--- the algorithm's longest. `is_binary` is that of the last of `--binary`, `--text` and `--tag`.
+-- the algorithm's longest. A persona is given by digits or as a text; one that is not given has no
+-- bytes. `is_binary` is that of the last of `--binary`, `--text` and `--tag`.
 pub record Choice : Type 0 where
   pub algorithm : entry.Algorithm
   pub names_algorithm : Bool
@@ -43,6 +44,7 @@ pub record Choice : Type 0 where
   pub key_file : Option (List ℕ)
   pub salt : List ℕ
   pub persona : List ℕ
+  pub persona_text : List ℕ
   pub checks : Bool
   pub is_binary : Option Bool
   pub is_tagged : Bool
@@ -65,6 +67,7 @@ no_choice = record {
   key_file = None;
   salt = [];
   persona = [];
+  persona_text = [];
   checks = false;
   is_binary = None;
   is_tagged = false;
@@ -141,6 +144,11 @@ abbrev pub bytes_in : List ℕ → Option (List ℕ)
 bytes_in [] = None
 bytes_in (digit ∷ digits) = result_ok (decode_of (digit ∷ digits))
 
+-- The bytes of a text: at least one.
+abbrev pub text_in : List ℕ → Option (List ℕ)
+text_in [] = None
+text_in (b ∷ bytes) = Some (b ∷ bytes)
+
 -- ---- options
 
 -- The choice with one more option, which has no value.
@@ -164,6 +172,7 @@ set_flag Algorithm c = Ok c
 set_flag Length c = Ok c
 set_flag KeyFile c = Ok c
 set_flag Personal c = Ok c
+set_flag PersonalText c = Ok c
 set_flag Salt c = Ok c
 set_flag Tree c = Ok c
 set_flag Threads c = Ok c
@@ -180,6 +189,7 @@ set_value Algorithm v c =
 set_value Length v c = with_value (bits_in v) (λ n. record c { bits = n })
 set_value KeyFile v c = Ok (record c { key_file = Some v })
 set_value Personal v c = with_value (bytes_in v) (λ bytes. record c { persona = bytes })
+set_value PersonalText v c = with_value (text_in v) (λ bytes. record c { persona_text = bytes })
 set_value Salt v c = with_value (bytes_in v) (λ bytes. record c { salt = bytes })
 set_value Tree v c = with_value (leaf_in v) (λ n. record c { leaf = Some n })
 set_value Threads v c = with_value (threads_in v) (λ n. record c { threads = Some n })
@@ -203,8 +213,8 @@ set_value Version v c = Ok c
 abbrev pub all_flags : List Flag
 all_flags =
     Length ∷ Check ∷ IgnoreMissing ∷ Quiet ∷ Status ∷ Warn ∷ Strict ∷ Tag ∷ Zero ∷ Binary ∷ Text
-    ∷ Algorithm ∷ KeyFile ∷ Personal ∷ Salt ∷ Tree ∷ Threads ∷ Progress ∷ NoNames ∷ Raw
-    ∷ Help ∷ Version ∷ []
+    ∷ Algorithm ∷ KeyFile ∷ Personal ∷ PersonalText ∷ Salt ∷ Tree ∷ Threads ∷ Progress ∷ NoNames
+    ∷ Raw ∷ Help ∷ Version ∷ []
 
 -- The first of two options that is there.
 abbrev pub or_else : Option Flag → Option Flag → Option Flag

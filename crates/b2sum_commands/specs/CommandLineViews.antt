@@ -22,6 +22,7 @@ choice_of r = record {
   key_file = option_map (λ v. v.items) r.key_file;
   salt = r.salt.items;
   persona = r.persona.items;
+  persona_text = r.persona_text.items;
   checks = r.checks;
   is_binary = r.is_binary;
   is_tagged = r.is_tagged;

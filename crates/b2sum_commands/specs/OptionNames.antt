@@ -4,7 +4,7 @@ use Rattle.std.specs.Prelude.{Option, Some, None}
 use Rattle.b2sum_commands.specs.declared.option_names.Flag.{Flag}
 use Rattle.b2sum_commands.specs.declared.option_names.Flag.TheVariants.{Algorithm, Length, KeyFile}
 use Rattle.b2sum_commands.specs.declared.option_names.Flag.TheVariants.{Personal, Salt, Tree}
-use Rattle.b2sum_commands.specs.declared.option_names.Flag.TheVariants.{Progress}
+use Rattle.b2sum_commands.specs.declared.option_names.Flag.TheVariants.{PersonalText, Progress}
 use Rattle.b2sum_commands.specs.declared.option_names.Flag.TheVariants.{Threads, NoNames, Raw}
 use Rattle.b2sum_commands.specs.declared.option_names.Flag.TheVariants.{Check, IgnoreMissing, Quiet}
 use Rattle.b2sum_commands.specs.declared.option_names.Flag.TheVariants.{Status, Warn, Strict, Tag}
@@ -17,6 +17,7 @@ long_name Algorithm = codes "algorithm"
 long_name Length = codes "length"
 long_name KeyFile = codes "key-file"
 long_name Personal = codes "personal"
+long_name PersonalText = codes "personal-text"
 long_name Salt = codes "salt"
 long_name Tree = codes "tree"
 long_name Threads = codes "threads"
@@ -42,6 +43,7 @@ has_value Algorithm = true
 has_value Length = true
 has_value KeyFile = true
 has_value Personal = true
+has_value PersonalText = true
 has_value Salt = true
 has_value Tree = true
 has_value Threads = true

@@ -1,7 +1,8 @@
 //! Which options go together, and what they choose.
 
-ghost use Rattle.std.specs.Prelude.{◌≡◌, ◌≢◌, ◌*◌, ◌≤◌, ◌/◌, length, map, true, false, [], None};
-ghost use Rattle.std.specs.Prelude.{Some, IfSome, IfOk, IfErr, OnOk, is_none};
+ghost use Rattle.std.specs.Prelude.{◌≡◌, ◌≢◌, ◌*◌, ◌≤◌, ◌/◌, length, map, true, false, not, []};
+ghost use Rattle.std.specs.Prelude.{None, Some, IfSome, IfOk, IfErr, OnOk, is_none};
+ghost use Rattle.std.specs.Prelude.{if◌then◌else◌};
 ghost use Rattle.std.specs.List.{list_any};
 ghost use Rattle.b2sum_lines.specs.ManifestLines.{max_bytes, is_tree};
 ghost use Rattle.b2sum_lines.specs.declared.entry.Algorithm.TheVariants.{Tree};
@@ -13,7 +14,7 @@ ghost use Rattle.b2sum_commands.specs.AcceptedOptions.{goes_with_check, goes_wit
 ghost use Rattle.b2sum_commands.specs.AcceptedOptions.{goes_with_files};
 ghost use Rattle.b2sum_commands.specs.AcceptedOptions.{chosen_needs, chosen_style, chosen_shape};
 ghost use Rattle.b2sum_commands.specs.AcceptedOptions.{has_bytes, has_trees, with_leaf, AreOptions};
-ghost use Rattle.b2sum_commands.specs.AcceptedOptions.{is_input};
+ghost use Rattle.b2sum_commands.specs.AcceptedOptions.{has_one_persona, is_input};
 ghost use Rattle.b2sum_commands.specs.PrintedSums.{is_dash};
 ghost use Rattle.b2sum_commands.specs.CommandLineViews.{choice_of, IsUnfit};
 
@@ -53,7 +54,7 @@ pub(crate) fn finish(alloc: Global, reader: Reader, files: Vec<Vec<u8>>) -> Resu
         threads: reader.threads.unwrap_or(0),
         shows_progress: reader.shows_progress,
         salt: reader.salt,
-        persona: reader.persona,
+        persona: chosen_persona(reader.persona, reader.persona_text),
     };
     Ok(Arguments {
         options,
@@ -81,6 +82,13 @@ fn check_choice(alloc: Global, reader: &Reader, files: &[Vec<u8>]) -> Result<(),
         return Err(Stop::Usage(joined(alloc, text, b"", b"")?));
     }
     Ok(())
+}
+
+// Returns the persona of digits and that of a text, of which one has no bytes.
+fn chosen_persona(digits: Vec<u8>, text: Vec<u8>) -> Vec<u8>
+    ensures { result.items ≡ (if has_bytes text.items then text.items else digits.items) }
+{
+    if text.is_empty() { digits } else { text }
 }
 
 // Returns the algorithm, with the leaves of a tree.
@@ -143,7 +151,7 @@ fn needs_of(reader: &Reader) -> Needs
     Needs {
         key: reader.key_file.is_some(),
         salt: !reader.salt.is_empty(),
-        personal: !reader.persona.is_empty(),
+        personal: !reader.persona.is_empty() || !reader.persona_text.is_empty(),
     }
 }
 
@@ -201,12 +209,14 @@ fn check_labels(alloc: Global, reader: &Reader) -> Result<(), Stop>
         (4 * length reader.now.salt.items ≤ max_bytes reader.now.algorithm) }
     ensures persona { OnOk result
         (4 * length reader.now.persona.items ≤ max_bytes reader.now.algorithm) }
+    ensures text { OnOk result
+        (4 * length reader.now.persona_text.items ≤ max_bytes reader.now.algorithm) }
     ensures stop { IfErr result (IsUnfit (has_labels (choice_of reader.now))) }
 {
     let most = reader.algorithm.max_bytes() / 4;
     let reason: &[u8] = if reader.salt.len() > most {
         b"the salt is too long: at most 16 bytes, 8 for BLAKE2s and BLAKE2sp"
-    } else if reader.persona.len() > most {
+    } else if reader.persona.len() > most || reader.persona_text.len() > most {
         b"the personalization is too long: at most 16 bytes, 8 for BLAKE2s and BLAKE2sp"
     } else {
         return Ok(());
@@ -238,6 +248,9 @@ fn conflict(reader: &Reader) -> Option<&'static [u8]>
     if reader.is_tagged && (reader.has_no_names || reader.is_raw) {
         return Some(b"--tag does not support --no-names and --raw");
     }
+    if has_two_personas(reader) {
+        return Some(b"the --personal and --personal-text options are mutually exclusive");
+    }
     if reader.leaf.is_some() {
         if !has_trees(reader.algorithm) {
             return Some(b"the --tree option supports blake2b only");
@@ -256,6 +269,13 @@ fn conflict(reader: &Reader) -> Option<&'static [u8]>
     } else {
         conflict_of_sums(reader)
     }
+}
+
+// Returns whether there is a persona of digits and one of a text.
+fn has_two_personas(reader: &Reader) -> bool
+    ensures { result ≡ not (has_one_persona (choice_of reader.now)) }
+{
+    !reader.persona.is_empty() && !reader.persona_text.is_empty()
 }
 
 fn conflict_of_check(reader: &Reader) -> Option<&'static [u8]>

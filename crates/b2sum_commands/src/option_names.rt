@@ -13,6 +13,7 @@ pub(crate) enum Flag {
     Length,
     KeyFile,
     Personal,
+    PersonalText,
     Salt,
     Tree,
     Threads,
@@ -43,6 +44,7 @@ impl Flag {
             Flag::Length => b"length",
             Flag::KeyFile => b"key-file",
             Flag::Personal => b"personal",
+            Flag::PersonalText => b"personal-text",
             Flag::Salt => b"salt",
             Flag::Tree => b"tree",
             Flag::Threads => b"threads",
@@ -74,6 +76,7 @@ impl Flag {
                 | Flag::Length
                 | Flag::KeyFile
                 | Flag::Personal
+                | Flag::PersonalText
                 | Flag::Salt
                 | Flag::Tree
                 | Flag::Threads
@@ -98,7 +101,7 @@ impl Flag {
 }
 
 /// The long options, in the order in which messages list them.
-pub(crate) static FLAGS: [Flag; 22] = [
+pub(crate) static FLAGS: [Flag; 23] = [
     Flag::Length,
     Flag::Check,
     Flag::IgnoreMissing,
@@ -113,6 +116,7 @@ pub(crate) static FLAGS: [Flag; 22] = [
     Flag::Algorithm,
     Flag::KeyFile,
     Flag::Personal,
+    Flag::PersonalText,
     Flag::Salt,
     Flag::Tree,
     Flag::Threads,

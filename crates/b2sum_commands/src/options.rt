@@ -14,7 +14,7 @@ ghost use Rattle.b2sum_commands.specs.declared.options.Next.TheVariants.{Any};
 use crate::choices::finish;
 use crate::option_names::{FLAGS, Flag, beginning_flags, exact_flag, first_beginning};
 use crate::quoting::quoted_value;
-use crate::values::{algorithm_of, bits_of, bytes_of, leaf_of, threads_of};
+use crate::values::{algorithm_of, bits_of, bytes_of, leaf_of, text_of, threads_of};
 use b2sum_lines::{Algorithm, Needs, Style};
 use std::alloc::{AllocError, Global};
 use text_lines::split_once;
@@ -139,6 +139,7 @@ pub(crate) struct Reader {
     pub(crate) key_file: Option<Vec<u8>>,
     pub(crate) salt: Vec<u8>,
     pub(crate) persona: Vec<u8>,
+    pub(crate) persona_text: Vec<u8>,
     pub(crate) checks: bool,
     pub(crate) is_binary: Option<bool>,
     pub(crate) is_tagged: bool,
@@ -165,6 +166,7 @@ impl Reader {
             key_file: None,
             salt: Vec::new(alloc),
             persona: Vec::new(alloc),
+            persona_text: Vec::new(alloc),
             checks: false,
             is_binary: None,
             is_tagged: false,
@@ -437,6 +439,9 @@ fn take_flag(reader: &mut Reader, flag: Flag) -> Result<(), Stop>
     Ok(())
 }
 
+// What the message of a wrong personalization begins with.
+const PERSONAL: &[u8] = b"invalid personalization: ";
+
 // Takes an option and its value.
 fn take_value(alloc: Global, reader: &mut Reader, flag: Flag, value: &[u8]) -> Result<(), Stop>
     ensures taken { OnOk result
@@ -449,7 +454,8 @@ fn take_value(alloc: Global, reader: &mut Reader, flag: Flag, value: &[u8]) -> R
             reader.names_algorithm = true;
         }
         Flag::KeyFile => reader.key_file = Some(copied(alloc, value)?),
-        Flag::Personal => reader.persona = bytes_of(alloc, b"invalid personalization: ", value)?,
+        Flag::Personal => reader.persona = bytes_of(alloc, PERSONAL, value)?,
+        Flag::PersonalText => reader.persona_text = text_of(alloc, PERSONAL, value)?,
         Flag::Salt => reader.salt = bytes_of(alloc, b"invalid salt: ", value)?,
         Flag::Tree => reader.leaf = Some(leaf_of(alloc, value)?),
         Flag::Threads => reader.threads = Some(threads_of(alloc, value)?),

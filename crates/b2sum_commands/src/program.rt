@@ -43,6 +43,8 @@ Print or check BLAKE2 digests. With no FILE, or if FILE is -, read standard inpu
                         at most 64, or 32 for blake2s and blake2sp
       --salt HEX        use this salt: at most 16 bytes, or 8 for blake2s and blake2sp
       --personal HEX    use this personalization: at most 16 bytes, or 8 for blake2s and blake2sp
+      --personal-text TEXT
+                        use the bytes of TEXT as the personalization
       --tree LEAF       print roots of trees of blake2b with leaves of LEAF bytes
   -c, --check           read digests from the FILEs and check them
       --ignore-missing  do not fail for missing files

@@ -4,7 +4,7 @@ ghost use Rattle.std.specs.Prelude.{◌≡◌, IfErr, IfOk, Some};
 ghost use Rattle.std.specs.Result.{result_ok};
 ghost use Rattle.b2sum_commands.specs.CommandLine.{number_in, without_blanks, without_plus};
 ghost use Rattle.b2sum_commands.specs.CommandLine.{leaf_in, bits_in, bytes_in, algorithm_in};
-ghost use Rattle.b2sum_commands.specs.CommandLine.{threads_in};
+ghost use Rattle.b2sum_commands.specs.CommandLine.{text_in, threads_in};
 ghost use Rattle.b2sum_commands.specs.CommandLineViews.{IsRefusal, IsWrong};
 
 use crate::options::{Stop, joined};
@@ -67,6 +67,17 @@ pub(crate) fn bytes_of(alloc: Global, line: &[u8], value: &[u8]) -> Result<Vec<u
             Err(wrong_value(alloc, line, value, reason))
         }
     }
+}
+
+// Returns the bytes of a text: at least one.
+pub(crate) fn text_of(alloc: Global, line: &[u8], value: &[u8]) -> Result<Vec<u8>, Stop>
+    ensures bytes { IfOk result (λ bytes. text_in value.now ≡ Some bytes.items) }
+    ensures stop { IfErr result (IsWrong (text_in value.now)) }
+{
+    if value.is_empty() {
+        return Err(wrong_value(alloc, line, value, b"the value has no bytes"));
+    }
+    Ok(Vec::from_slice(alloc, value)?)
 }
 
 // Returns the number of bytes of a leaf.
