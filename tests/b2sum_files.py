@@ -17,7 +17,8 @@ import random
 import shutil
 import subprocess
 
-from b2sum_support import FILES, check_line, escaped, line, lines, needs_of_tag, root, root_line, run_tests
+from b2sum_support import (FILES, both_digests, check_line, digest, escaped, line, lines, needs_of_tag, root, root_line,
+                           run_tests)
 from oracle import parallel_by_hashlib
 
 HUGE = bool(os.environ.get("VULFSJOR_TEST_HUGE"))
@@ -39,6 +40,9 @@ WRONG = {
                                               "at most 16 bytes, 8 for BLAKE2s and BLAKE2sp",
     "--personal 00 --personal-text x": "the --personal and --personal-text options are mutually exclusive",
     "-c --personal-text x --personal=00": "the --personal and --personal-text options are mutually exclusive",
+    "--show-digests": "the --show-digests option is meaningful only when verifying checksums",
+    "-c --show-digests --key-file b": "--show-digests does not support --key-file: "
+                                      "it would print a valid MAC of a changed file",
     "-a blake2s -l 264": "invalid length: '264'\nmaximum digest length for 'BLAKE2s' is 256 bits",
     "-a blake2sp -l 264": "invalid length: '264'\nmaximum digest length for 'BLAKE2sp' is 256 bits",
     "-a blake2bp -l 520": "invalid length: '520'\nmaximum digest length for 'BLAKE2bp' is 512 bits",
@@ -417,6 +421,131 @@ def test_trees(runs):
     runs.ends("roots of trees")
 
 
+def test_show_digests(runs):
+    """A check that shows both digests of each file that differs, and else prints what it prints without that."""
+    found = {name: digest("b", data, 64) for name, data in FILES.items()}
+    listed = digest("b", b"other", 64)
+    text = "".join(line(name, b"other") for name in FILES) + line("none", b"") + "x\n" + line("b", b"abc")
+    text = text.replace(listed.hex(), listed.hex().upper(), 2)
+    failed = "".join(check_line(name, "FAILED") + both_digests(listed, found[name]) for name in FILES)
+    err = ("none: " + os.strerror(errno.ENOENT) + "\nWARNING: 1 line is improperly formatted\n"
+           "WARNING: 1 listed file could not be read\nWARNING: 4 computed checksums did NOT match")
+    for words, out, said in ((["--show-digests"], failed + "none: FAILED open or read\nb: OK\n", err),
+                             (["--sh", "--quiet"], failed + "none: FAILED open or read\n", err),
+                             (["--show-digests", "--status"], "", err.splitlines()[0])):
+        runs.wants(["-c", *words], out, said, 1, os.fsencode(text))
+    runs.write("sums", f"{listed.hex()}  -\n".encode())
+    runs.wants(["-c", "--show-digests", "sums"], "-: FAILED\n" + both_digests(listed, digest("b", b"abc", 64)),
+               "WARNING: 1 computed checksum did NOT match", 1, data=b"abc")
+    runs.wants(["-c", "--show-digests"], "".join(map(check_line, FILES)), data=os.fsencode(lines()))
+    runs.ends("both digests of files that differ")
+
+
+# ---- Random runs.
+
+def random_hash(rng):
+    """The options of a hash, its family, and the salt and the personalization, if it has them."""
+    family = rng.choice(["b", "s", "bp", "sp", "tree"])
+    words, most = ["--tree", "4"] if family == "tree" else ["-a", "blake2" + family], 8 if family[0] == "s" else 16
+    given = {}
+    if rng.random() < 0.3:
+        given["salt"] = rng.randbytes(rng.randint(1, most))
+        words += ["--salt", given["salt"].hex()]
+    if rng.random() < 0.6:
+        given["person"] = person = bytes(rng.randint(1, 255) for _ in range(rng.randint(1, most)))
+        words += rng.choice([["--personal", person.hex()], ["--personal-text", os.fsdecode(person)],
+                             ["--personal-text=" + os.fsdecode(person)]])
+    return words, family, given
+
+
+def tag_of(family):
+    return "BLAKE2b-tree-4" if family == "tree" else "BLAKE2" + family
+
+
+def random_entry(rng, name, data, family, bits, given):
+    """The line of a file of these bytes, and its digest."""
+    if family == "tree":
+        return root_line(name, data, 4, bits, **given), root(data, 4, bits // 8, **given)
+    return (line(name, data, bits, family, rng.choice(" *"), rng.random() < 0.5, **given),
+            digest(family, data, bits // 8, **given))
+
+
+def random_report(rng):
+    """The options of what a check prints, and the last of those that exclude one another."""
+    options = [it for it in ("--show-digests", "--strict", "--ignore-missing", "--quiet", "--status", "-w")
+               if rng.random() < (0.6 if it == "--show-digests" else 0.2)]
+    rng.shuffle(options)
+    return options, ([""] + [it for it in options if it in ("--quiet", "--status", "-w")])[-1]
+
+
+def warnings(counts, options, report):
+    """The messages at the end of a manifest with lines of these kinds."""
+    if not any(counts[kind] for kind in counts if kind != "malformed"):
+        return NO_LINE
+    texts = {"malformed": ("line is improperly formatted", "lines are improperly formatted"),
+             "unread": ("listed file could not be read", "listed files could not be read"),
+             "different": ("computed checksum did NOT match", "computed checksums did NOT match")}
+    said = [f"WARNING: {counts[kind]} {text[counts[kind] > 1]}" for kind, text in texts.items() if counts[kind]]
+    if "--ignore-missing" in options and not counts["equal"]:
+        said.append("'standard input': no file was verified")
+    return "" if report == "--status" else "\n".join(said)
+
+
+def random_check(rng, runs):
+    """A check of random entries, some of which differ, are not there or are malformed."""
+    words, family, given = random_hash(rng)
+    options, report = random_report(rng)
+    counts = dict.fromkeys(("malformed", "unread", "skipped", "different", "equal"), 0)
+    text = out = err = ""
+    for number in range(1, rng.randint(2, 7)):
+        kind = rng.choice(["equal", "equal", "different", "different", "unread", "malformed"])
+        name = "none" if kind == "unread" else rng.choice(["a", "b"] if family == "tree" else list(FILES))
+        data, bits = FILES.get(name, b""), 8 * rng.randint(1, 32 if family[0] == "s" else 64)
+        entry, found = listed_entry, listed = random_entry(rng, name, data, family, bits, given)
+        if kind == "different":
+            listed_entry, listed = random_entry(rng, name, data + b"x", family, bits, given)
+            kind = "different" if listed != found else "equal"
+        elif kind == "malformed":
+            listed_entry = "x" + entry
+            if report == "-w":
+                err += f"'standard input': {number}: improperly formatted {tag_of(family)} checksum line\n"
+        elif kind == "unread" and "--ignore-missing" in options:
+            kind = "skipped"
+        elif kind == "unread":
+            err += f"none: {os.strerror(errno.ENOENT)}\n"
+        counts[kind] += 1
+        text += listed_entry.replace(listed.hex(), listed.hex().upper()) if rng.random() < 0.2 else listed_entry
+        outcome = {"equal": "OK", "different": "FAILED", "unread": "FAILED open or read"}.get(kind)
+        if outcome and report != "--status" and (outcome, report) != ("OK", "--quiet"):
+            out += check_line(name, outcome)
+            out += both_digests(listed, found) if kind == "different" and "--show-digests" in options else ""
+    holds = counts["equal"] and not counts["different"] + counts["unread"]
+    holds = holds and not ("--strict" in options and counts["malformed"])
+    runs.wants([*words, "-c", *options], out, err + warnings(counts, options, report), int(not holds),
+               os.fsencode(text))
+
+
+def random_sum(rng, runs):
+    """Lines of random files by a random hash."""
+    words, family, given = random_hash(rng)
+    bits, names = 8 * rng.randint(1, 32 if family[0] == "s" else 64), rng.choices(["a", "b"], k=rng.randint(1, 3))
+    marks = rng.choice([["-b"], ["--tag"], []])
+    said = [root_line(name, FILES[name], 4, bits, **given) if family == "tree" else
+            line(name, FILES[name], bits, family, "*" if marks == ["-b"] else " ", marks == ["--tag"], **given)
+            for name in names]
+    runs.wants([*words, "-l", str(bits), *marks, *names], "".join(said))
+
+
+def test_random(runs):
+    """Random digests and checks: docs/SPECIFICATION.md, 11, and the manual."""
+    for seed in range(2000 if HUGE else 200):
+        rng = random.Random(seed)
+        (random_sum if rng.random() < 0.3 else random_check)(rng, runs)
+    runs.ends("random digests and checks")
+
+
+# ---- What other programs do.
+
 def test_coreutils(runs):
     """What coreutils' own tests of b2sum and of related programs check."""
     names = ("a", " b", "*c", "44", " ")
@@ -470,7 +599,7 @@ def test_differences(runs):
     runs.write(deep + "\udcff\udcff\udcff", b"")
     said = runs.run([deep + "\udcff\udcff\udcff"])
     runs.holds("a long name", said[2] == 1 and os.fsencode(os.strerror(errno.ENAMETOOLONG)) in said[1], said)
-    for option, possible in (("--s", "'--status' '--strict' '--salt'"),
+    for option, possible in (("--s", "'--status' '--strict' '--salt' '--show-digests'"),
                              ("--p", "'--personal' '--personal-text' '--progress'"),
                              ("--persona", "'--personal' '--personal-text'"),
                              ("--t", "'--tag' '--text' '--tree' '--threads'")):
@@ -480,6 +609,6 @@ def test_differences(runs):
 
 COMPUTING = (test_lengths, test_parameters, test_parallel, test_demanded_lengths, test_shapes, test_trees)
 CALLING_ALL = (test_shapes, test_parallel, test_trees)
-TESTS = (*COMPUTING, test_personal_text, test_needs, test_macs, test_tags, test_names,
+TESTS = (*COMPUTING, test_personal_text, test_show_digests, test_random, test_needs, test_macs, test_tags, test_names,
          test_coreutils, test_differences, test_key_input)
 run_tests(TESTS, COMPUTING if HUGE else CALLING_ALL)

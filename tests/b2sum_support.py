@@ -115,9 +115,14 @@ def line(name, data, bits=512, family="b", mark=" ", tag=False, **parameters):
     return f"{start}{digits} {mark}{escaped(name)}\n"
 
 
-def check_line(name):
-    """The line of a file that has its digest."""
-    return ("\\" if "\n" in name else "") + (escaped(name) if "\n" in name else name) + ": OK\n"
+def check_line(name, outcome="OK"):
+    """The line of a file in a check."""
+    return ("\\" if "\n" in name else "") + (escaped(name) if "\n" in name else name) + f": {outcome}\n"
+
+
+def both_digests(listed, found):
+    """The lines of --show-digests after that of a file whose digest is another than its entry's."""
+    return f"  expected: {listed.hex()}\n  found:    {found.hex()}\n"
 
 
 def lines(**more):

@@ -51,7 +51,8 @@ OPTIONS = [b"-b", b"-c", b"-t", b"-w", b"-z", b"-l8", b"-l512", b"-l520", b"-l7"
            b"--zero", b"--", b"--nothing", b"-x"]
 LONG = [b"binary", b"check", b"ignore-missing", b"length=16", b"quiet", b"status", b"strict", b"tag", b"text", b"warn",
         b"zero"]
-# The abbreviations that our options --algorithm, --key-file, --personal, --progress, --salt and --tree change.
+# The abbreviations that our options --algorithm, --key-file, --personal, --progress, --salt, --show-digests and --tree
+# change.
 OURS = (b"a", b"k", b"p", b"s", b"t")
 
 

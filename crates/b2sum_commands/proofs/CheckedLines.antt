@@ -94,25 +94,31 @@ reads_moved false held left after now text is read = (refl, read.1, read.2)
 
 -- A verdict on another file does not depend on what is left of standard input.
 pub verdict_moved : (w : World) (o : Options) (left after now : Option (List ℕ)) (i : Result Line Verdict)
-    (v : Verdict) → IsOther (Some i) → IsVerdict w o left i v after → IsVerdict w o now i v now
-verdict_moved w o left after now (Err verdict) v other is = (is.0, refl)
-verdict_moved w o left after now (Ok e) Equal other is =
+    (v : Verdict) (found : List ℕ) → IsOther (Some i) → IsVerdict w o left i v found after
+    → IsVerdict w o now i v found now
+verdict_moved w o left after now (Err verdict) v found other is = (is.0, refl)
+verdict_moved w o left after now (Ok e) Equal found other is =
     (is.0, reads_moved (is_dash e.name) (w.files.holds e.name) left after now is.0 other is.1, is.2)
-verdict_moved w o left after now (Ok e) Different other is =
-    (is.0, reads_moved (is_dash e.name) (w.files.holds e.name) left after now is.0 other is.1, is.2)
-verdict_moved w o left after now (Ok e) Unread other is =
+verdict_moved w o left after now (Ok e) Different found other is = (
+  is.0,
+  reads_moved (is_dash e.name) (w.files.holds e.name) left after now is.0 other is.1,
+  is.2,
+  is.3,
+)
+verdict_moved w o left after now (Ok e) Unread found other is =
     (subst (λ (b : Bool). LeavesInput b now now) (sym other) refl, is.1)
-verdict_moved w o left after now (Ok e) Skipped other is = (is.0, is.1, refl, is.3, is.4)
-verdict_moved w o left after now (Ok e) Malformed other is = absurd is
-verdict_moved w o left after now (Ok e) Unmet other is = absurd is
-verdict_moved w o left after now (Ok e) Comment other is = absurd is
+verdict_moved w o left after now (Ok e) Skipped found other is = (is.0, is.1, refl, is.3, is.4)
+verdict_moved w o left after now (Ok e) Malformed found other is = absurd is
+verdict_moved w o left after now (Ok e) Unmet found other is = absurd is
+verdict_moved w o left after now (Ok e) Comment found other is = absurd is
 
 item_moved : (w : World) (o : Options) (left : Option (List ℕ)) (i : Option (Result Line Verdict))
     (old new : Streams) (v : Verdict) → IsOther i → IsItem w o i old new v
     → IsItem w o i (read_to true left old) (read_to true left new) v
 item_moved w o left None old new v other is = (is.0, ap (read_to true left) is.1)
 item_moved w o left (Some i) old new v other is =
-    (is.0, verdict_moved w o old.left new.left left i v other is.1, is.2, is.3, is.4)
+    let moved = verdict_moved w o old.left new.left left i v is.1.0 other is.1.1 in
+    (is.0, (is.1.0, moved, is.1.2), is.2, is.3)
 
 -- The check of a line does not depend on how far its manifest is read.
 line_moved : (w : World) (o : Options) (input : Bool) (line : List ℕ) (left : Option (List ℕ))
@@ -128,23 +134,25 @@ reads_left true held left after text is read = absurd (grind (arith, is))
 reads_left false held left after text is read = read.0
 
 verdict_left : (w : World) (o : Options) (left after : Option (List ℕ)) (i : Result Line Verdict)
-    (v : Verdict) → IsOther (Some i) → IsVerdict w o left i v after → after ≡ left
-verdict_left w o left after (Err verdict) v other is = is.1
-verdict_left w o left after (Ok e) Equal other is =
+    (v : Verdict) (found : List ℕ) → IsOther (Some i) → IsVerdict w o left i v found after
+    → after ≡ left
+verdict_left w o left after (Err verdict) v found other is = is.1
+verdict_left w o left after (Ok e) Equal found other is =
     reads_left (is_dash e.name) (w.files.holds e.name) left after is.0 other is.1
-verdict_left w o left after (Ok e) Different other is =
+verdict_left w o left after (Ok e) Different found other is =
     reads_left (is_dash e.name) (w.files.holds e.name) left after is.0 other is.1
-verdict_left w o left after (Ok e) Unread other is =
+verdict_left w o left after (Ok e) Unread found other is =
     subst (λ (b : Bool). LeavesInput b left after) other is.0
-verdict_left w o left after (Ok e) Skipped other is = is.2
-verdict_left w o left after (Ok e) Malformed other is = absurd is
-verdict_left w o left after (Ok e) Unmet other is = absurd is
-verdict_left w o left after (Ok e) Comment other is = absurd is
+verdict_left w o left after (Ok e) Skipped found other is = is.2
+verdict_left w o left after (Ok e) Malformed found other is = absurd is
+verdict_left w o left after (Ok e) Unmet found other is = absurd is
+verdict_left w o left after (Ok e) Comment found other is = absurd is
 
 item_left : (w : World) (o : Options) (i : Option (Result Line Verdict)) (old new : Streams)
     (v : Verdict) → IsOther i → IsItem w o i old new v → new.left ≡ old.left
 item_left w o None old new v other is = ap (λ (s : Streams). s.left) is.1
-item_left w o (Some i) old new v other is = verdict_left w o old.left new.left i v other is.1
+item_left w o (Some i) old new v other is =
+    verdict_left w o old.left new.left i v is.1.0 other is.1.1
 
 -- The check of a line leaves its manifest as far as it is read.
 pub line_left : {F : Type 0} (left : F → Option (List ℕ)) (file : Option F) (w : World)

@@ -17,8 +17,8 @@ use Rattle.b2sum_commands.specs.World.{Streams}
 use Rattle.b2sum_commands.specs.World.{World, IsQuiet, StopsIn}
 use Rattle.b2sum_commands.specs.PrintedSums.{is_dash, LeavesInput, ReadsAs, IsSum, printed}
 use Rattle.b2sum_commands.specs.PrintedSums.{entry_of}
-use Rattle.b2sum_commands.specs.Manifests.{item, IsVerdict, verdict_line, BeginsVerdict, BeginsItem}
-use Rattle.b2sum_commands.specs.Manifests.{BeginsLine}
+use Rattle.b2sum_commands.specs.Manifests.{item, IsVerdict, verdict_lines, BeginsVerdict}
+use Rattle.b2sum_commands.specs.Manifests.{BeginsItem, BeginsLine}
 use Rattle.b2sum_commands.specs.LineReads.{IsOneLine, IsCutOff, IsAfter}
 use Rattle.b2sum_commands.specs.ManifestChecks.{read_to, AreRead, EndsAt, AreWholeLines, AreStopped}
 use Rattle.b2sum_commands.specs.ManifestChecks.{manifest_bytes}
@@ -54,10 +54,10 @@ sum_stops w o name old new text read (inr part) = inr (text, read, part)
 
 -- A part of the line of a verdict is printed, or nothing.
 pub verdict_stops : (w : World) (o : Options) (i : Result Line Verdict) (old new : Streams) (v : Verdict)
-    → IsVerdict w o old.left i v new.left
-    → StopsIn old.held new.held (verdict_line o.report i v) → BeginsVerdict w o i old new
-verdict_stops w o i old new v right (inl same) = inl same
-verdict_stops w o i old new v right (inr part) = inr (v, right, part)
+    (found : List ℕ) → IsVerdict w o old.left i v found new.left
+    → StopsIn old.held new.held (verdict_lines o i v found) → BeginsVerdict w o i old new
+verdict_stops w o i old new v found right (inl same) = inl same
+verdict_stops w o i old new v found right (inr part) = inr (v, (found, right, part))
 
 -- Nothing is printed for a line.
 pub unprinted : (w : World) (o : Options) (i : Option (Result Line Verdict)) (old new : Streams)
@@ -80,8 +80,11 @@ item_moved_to w o None old new other is = is
 item_moved_to w o (Some i) old new other (inl same) = inl same
 item_moved_to w o (Some i) old new other (inr part) = inr (
   part.0,
-  verdict_moved w o old.left new.left new.left i part.0 other part.1,
-  part.2,
+  (
+    part.1.0,
+    verdict_moved w o old.left new.left new.left i part.0 part.1.0 other part.1.1,
+    part.1.2,
+  ),
 )
 
 -- Standard input may be read to where it is left, before the check of a line of it.

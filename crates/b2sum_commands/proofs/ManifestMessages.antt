@@ -4,7 +4,8 @@ use Rattle.std.proofs.Common.{sym, subst}
 use Rattle.std.proofs.KnownBytes.{Appends-nil}
 use Rattle.b2sum_commands.specs.declared.check.Counts.{Counts}
 use Rattle.b2sum_commands.specs.declared.options.Options.{Options}
-use Rattle.b2sum_commands.specs.Reports.{has_no_entry, is_nothing, message, message_if, report_text}
+use Rattle.b2sum_commands.specs.Manifests.{is_nothing}
+use Rattle.b2sum_commands.specs.Reports.{has_no_entry, message, message_if, report_text}
 use Rattle.b2sum_commands.specs.Reports.{warnings}
 use Rattle.b2sum_commands.specs.World.{IsWritten}
 use Rattle.b2sum_commands.proofs.MessagesInTurn.{both_written}

@@ -216,15 +216,15 @@ all_kept w c o (name ∷ names) old new (Some e ∷ found) are same kept done = 
 )
 
 verdict_kept : (w : World) (c : Options) (left after : Option (List ℕ)) (e : Line) (v : Verdict)
-    → Kept w c e → IsVerdict w c left (Ok e) v after → is_kept v ≡ true
-verdict_kept w c left after e Equal kept is = refl
-verdict_kept w c left after e Different kept is =
-    absurd (is.2 (kept.same left after is.0 is.1))
-verdict_kept w c left after e Unread kept is = refl
-verdict_kept w c left after e Skipped kept is = refl
-verdict_kept w c left after e Malformed kept is = absurd is
-verdict_kept w c left after e Unmet kept is = absurd is
-verdict_kept w c left after e Comment kept is = absurd is
+    (found : List ℕ) → Kept w c e → IsVerdict w c left (Ok e) v found after → is_kept v ≡ true
+verdict_kept w c left after e Equal found kept is = refl
+verdict_kept w c left after e Different found kept is =
+    absurd (is.3 (is.2 ∙ kept.same left after is.0 is.1))
+verdict_kept w c left after e Unread found kept is = refl
+verdict_kept w c left after e Skipped found kept is = refl
+verdict_kept w c left after e Malformed found kept is = absurd is
+verdict_kept w c left after e Unmet found kept is = absurd is
+verdict_kept w c left after e Comment found kept is = absurd is
 
 -- The lines of entries whose files are the same have verdicts that say so.
 verdicts_kept : (w : World) (c : Options) (input : Bool) (es : List Line) (lines : List (List ℕ))
@@ -262,7 +262,7 @@ verdicts_kept w c input (e ∷ es) lines before after vs all kept two are done =
         λ one. two_after before.spacing e.style two all.0.marked (sym is.0 ∙ one) in
         let rest = again vs done.0 spaced done.2 in
         let one : is_kept v ≡ true =
-        verdict_kept w c before.left done.0.left e v kept.0 is.1 in
+        verdict_kept w c before.left done.0.left e v is.1.0 kept.0 is.1.1 in
         (rw one rest.0, ap suc rest.1)
 
 -- ---- what is printed

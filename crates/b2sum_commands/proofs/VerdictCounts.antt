@@ -4,10 +4,9 @@ use Rattle.std.proofs.Common.{List, [], ◌∷◌, ◌++◌, refl, ap, ◌∙◌
 use Rattle.std.proofs.lemmas.Bool.{ne_eqb, lt-ltb}
 use Rattle.std.proofs.lemmas.List.Sums.{sum_by-append, sum_by-cons}
 use Rattle.std.specs.List.{list_all, list_any, count_by}
-use Rattle.b2sum_commands.specs.Manifests.{is_equal, is_fine, is_formed, holds_by}
+use Rattle.b2sum_commands.specs.Manifests.{is_different, is_equal, is_fine, is_formed, holds_by}
 use Rattle.b2sum_commands.specs.Reports.{AreCounted, Adds, capped, holds_counted, more_if}
-use Rattle.b2sum_commands.specs.Reports.{is_different, is_unread}
-use Rattle.b2sum_commands.specs.Reports.{is_skipped, is_malformed, is_unmet}
+use Rattle.b2sum_commands.specs.Reports.{is_unread, is_skipped, is_malformed, is_unmet}
 use Rattle.b2sum_commands.specs.declared.check.Counts.{Counts}
 use Rattle.b2sum_commands.specs.declared.check.Verdict.{Verdict}
 use Rattle.b2sum_commands.specs.declared.check.Verdict.TheVariants.{Equal, Different, Unread}

@@ -9,7 +9,7 @@ use Rattle.b2sum_commands.specs.World.{Streams}
 use Rattle.b2sum_commands.specs.World.{World, IsTold}
 use Rattle.b2sum_commands.specs.ManifestChecks.{IsBeginning}
 use Rattle.b2sum_commands.specs.Manifests.{IsVerdict, is_silent}
-use Rattle.b2sum_commands.specs.Manifests.{item, spacing_after, verdict_line, IsItem, IsLine}
+use Rattle.b2sum_commands.specs.Manifests.{item, spacing_after, HasVerdict, IsItem, IsLine}
 use Rattle.b2sum_commands.specs.Manifests.{listed_function}
 use Rattle.b2sum_commands.specs.PrintedSums.{is_dash, ReadsAs, LeavesInput, CannotSum}
 use Rattle.b2sum_commands.specs.declared.check.Verdict.{Verdict}
@@ -46,11 +46,11 @@ pub entry_verdict : (w : World) (o : Options) (left after : Option (List ℕ)) (
     → (v ≡ Skipped → IsAbsent w o e.name)
     → (v ≡ Unread → CannotSum w o (listed_function e) e.name)
     → v ≢ Malformed → v ≢ Unmet → v ≢ Comment
-    → IsVerdict w o left (Ok e) v after
+    → IsVerdict w o left (Ok e) v found after
 entry_verdict w o left after e Equal found leaves whole same other absent unread formed met entry =
     let read = whole (inl refl) in (read.0, read.1, sym read.2 ∙ same refl)
 entry_verdict w o left after e Different found leaves whole same other absent unread formed met entry =
-    let read = whole (inr refl) in (read.0, read.1, λ is. other refl (read.2 ∙ is))
+    let read = whole (inr refl) in (read.0, read.1, read.2, other refl)
 entry_verdict w o left after e Unread found leaves whole same other absent unread formed met entry =
     (leaves, unread refl)
 entry_verdict w o left after e Skipped found leaves whole same other absent unread formed met entry =
@@ -80,20 +80,18 @@ pub entry_line : {E : Type 0} (w : World) (o : Options) (input : Bool) (line : L
     (old mid new : Streams) (e : Line) (r : Result Verdict E)
     → item o input old.spacing line ≡ Some (Ok e)
     → mid ≡ record old { spacing = spacing_after old.spacing e.style }
-    → IfOk r (λ v. IsVerdict w o mid.left (Ok e) v new.left)
-    → IfOk r (λ v. Appends mid.held new.held (verdict_line o.report (Ok e) v))
+    → IfOk r (HasVerdict Appends w o (Ok e) mid new)
     → IfOk r (λ v. v ≡ Unread → IsTold mid new)
     → IfOk r (λ v. v ≢ Unread → new.told ≡ mid.told) → new.spacing ≡ mid.spacing
     → IfOk r (IsLine w o input line old new)
-entry_line w o input line old mid new e (Ok v) is at verdict printed told silent spaced =
+entry_line w o input line old mid new e (Ok v) is at verdict told silent spaced =
     subst (λ i. IsItem w o i old new v) (sym is) (
       spaced ∙ ap (λ s. s.spacing) at,
-      subst (λ (s : Streams). IsVerdict w o s.left (Ok e) v new.left) at verdict,
-      subst (λ (s : Streams). Appends s.held new.held (verdict_line o.report (Ok e) v)) at printed,
+      subst (λ (s : Streams). HasVerdict Appends w o (Ok e) s new v) at verdict,
       subst (λ (s : Streams). v ≡ Unread → IsTold s new) at told,
       λ quiet. silent (speaks v quiet) ∙ ap (λ (s : Streams). s.told) at,
     )
-entry_line w o input line old mid new e (Err error) is at verdict printed told silent spaced = tt
+entry_line w o input line old mid new e (Err error) is at verdict told silent spaced = tt
 
 -- Nothing is a beginning of each text.
 pub nothing_begins : (input : Bool) (held left : Option (List ℕ)) → IsBeginning input held left []

@@ -68,15 +68,18 @@ goes_with_tree c =
     if is_none c.leaf then is_none c.threads || c.checks
     else has_trees c.algorithm && (is_none c.key_file && (c.checks || not (is_text c.is_binary)))
 
--- The options go with a check: none is only for digests that are printed.
+-- The options go with a check: none is only for digests that are printed. Under a key the digest of
+-- a file that was changed is a MAC, and is not shown.
 abbrev pub goes_with_check : Choice → Bool
 goes_with_check c =
     not c.ends_zero
-    && (not c.is_tagged && (is_none c.is_binary && not (c.has_no_names || c.is_raw)))
+    && (not c.is_tagged && (is_none c.is_binary && (not (c.has_no_names || c.is_raw)
+    && (not c.shows_digests || is_none c.key_file))))
 
 -- The options go with digests that are printed: none is only for a check.
 abbrev pub goes_with_sums : Choice → Bool
-goes_with_sums c = not c.ignores_missing && (is_each c.report && not c.is_strict)
+goes_with_sums c =
+    not c.ignores_missing && (is_each c.report && (not c.is_strict && not c.shows_digests))
 
 -- There are not two personas.
 abbrev pub has_one_persona : Choice → Bool
@@ -152,6 +155,7 @@ pub record AreOptions (c : Choice) (o : Options) : Type 0 where
   pub ends_zero : o.ends_zero ≡ c.ends_zero
   pub ignores_missing : o.ignores_missing ≡ c.ignores_missing
   pub report : o.report ≡ c.report
+  pub shows_digests : o.shows_digests ≡ c.shows_digests
   pub is_strict : o.is_strict ≡ (c.is_strict || is_some c.key_file)
   pub threads : o.threads ≡ unwrap_or c.threads 0
   pub shows_progress : o.shows_progress ≡ c.shows_progress

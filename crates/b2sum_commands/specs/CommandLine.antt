@@ -15,6 +15,7 @@ use Rattle.b2sum_commands.specs.declared.option_names.Flag.{Flag}
 use Rattle.b2sum_commands.specs.declared.option_names.Flag.TheVariants.{Algorithm, Length, KeyFile}
 use Rattle.b2sum_commands.specs.declared.option_names.Flag.TheVariants.{Personal, Salt, Tree}
 use Rattle.b2sum_commands.specs.declared.option_names.Flag.TheVariants.{PersonalText, Progress}
+use Rattle.b2sum_commands.specs.declared.option_names.Flag.TheVariants.{ShowDigests}
 use Rattle.b2sum_commands.specs.declared.option_names.Flag.TheVariants.{Threads, NoNames, Raw}
 use Rattle.b2sum_commands.specs.declared.option_names.Flag.TheVariants.{Check, IgnoreMissing, Quiet}
 use Rattle.b2sum_commands.specs.declared.option_names.Flag.TheVariants.{Status, Warn, Strict, Tag}
@@ -56,6 +57,7 @@ pub record Choice : Type 0 where
   pub shows_progress : Bool
   pub has_no_names : Bool
   pub is_raw : Bool
+  pub shows_digests : Bool
 
 -- The choice of no options.
 abbrev pub no_choice : Choice
@@ -79,6 +81,7 @@ no_choice = record {
   shows_progress = false;
   has_no_names = false;
   is_raw = false;
+  shows_digests = false;
 }
 
 -- ---- values
@@ -166,6 +169,7 @@ set_flag Text c = Ok (record c { is_binary = Some false })
 set_flag Progress c = Ok (record c { shows_progress = true })
 set_flag NoNames c = Ok (record c { has_no_names = true })
 set_flag Raw c = Ok (record c { is_raw = true })
+set_flag ShowDigests c = Ok (record c { shows_digests = true })
 set_flag Help c = Err Helped
 set_flag Version c = Err Versioned
 set_flag Algorithm c = Ok c
@@ -196,6 +200,7 @@ set_value Threads v c = with_value (threads_in v) (λ n. record c { threads = So
 set_value Progress v c = Ok c
 set_value NoNames v c = Ok c
 set_value Raw v c = Ok c
+set_value ShowDigests v c = Ok c
 set_value Check v c = Ok c
 set_value IgnoreMissing v c = Ok c
 set_value Quiet v c = Ok c
@@ -214,7 +219,7 @@ abbrev pub all_flags : List Flag
 all_flags =
     Length ∷ Check ∷ IgnoreMissing ∷ Quiet ∷ Status ∷ Warn ∷ Strict ∷ Tag ∷ Zero ∷ Binary ∷ Text
     ∷ Algorithm ∷ KeyFile ∷ Personal ∷ PersonalText ∷ Salt ∷ Tree ∷ Threads ∷ Progress ∷ NoNames
-    ∷ Raw ∷ Help ∷ Version ∷ []
+    ∷ Raw ∷ ShowDigests ∷ Help ∷ Version ∷ []
 
 -- The first of two options that is there.
 abbrev pub or_else : Option Flag → Option Flag → Option Flag

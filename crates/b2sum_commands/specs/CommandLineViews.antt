@@ -34,6 +34,7 @@ choice_of r = record {
   shows_progress = r.shows_progress;
   has_no_names = r.has_no_names;
   is_raw = r.is_raw;
+  shows_digests = r.shows_digests;
 }
 
 -- What the next word is.

@@ -3,6 +3,7 @@ use Rattle.std.specs.Prelude.{◌≡◌, ◌≢◌, ℕ, ◌+◌, ◌-◌, ◌==
 use Rattle.std.specs.Prelude.{if◌then◌else◌, List, [], ◌∷◌, ◌++◌, length, take, get_or, codes}
 use Rattle.std.specs.Prelude.{Option, Some, None, Result, Ok, Err, ◌⊎◌}
 use Rattle.std.specs.Io.KnownBytes.{Appends}
+use Rattle.hex.specs.Hex.{encode_lower}
 use Rattle.std.specs.List.{list_any, list_all}
 use Rattle.std.specs.Option.{option_map}
 use Rattle.blake2_streams.specs.Streams.{TakesPart}
@@ -128,25 +129,25 @@ first_spacing o = if o.needs.key then Two else Open
 -- ---- verdicts
 
 -- The verdict on an entry, or on a line that cannot be checked, is right: the digest of the text
--- that the source returned is that of the entry, or it is not, or there is a cause. Only a file
--- that is not there is skipped, and only if the options say so.
-abbrev pub IsVerdict : World → Options → Option (List ℕ) → Result Line Verdict → Verdict
+-- that the source returned is that of the entry, or it is `found`, which is another, or there is a
+-- cause. Only a file that is not there is skipped, and only if the options say so.
+abbrev pub IsVerdict : World → Options → Option (List ℕ) → Result Line Verdict → Verdict → List ℕ
     → Option (List ℕ) → Type 0
-IsVerdict w o left (Err verdict) v after = (v ≡ verdict) × (after ≡ left)
-IsVerdict w o left (Ok e) Equal after =
+IsVerdict w o left (Err verdict) v found after = (v ≡ verdict) × (after ≡ left)
+IsVerdict w o left (Ok e) Equal found after =
     (text : List ℕ) × ReadsAs (is_dash e.name) (w.files.holds e.name) left after text
     × (w.hashing.digest o (listed_function e) text ≡ e.digest)
-IsVerdict w o left (Ok e) Different after =
+IsVerdict w o left (Ok e) Different found after =
     (text : List ℕ) × ReadsAs (is_dash e.name) (w.files.holds e.name) left after text
-    × (w.hashing.digest o (listed_function e) text ≢ e.digest)
-IsVerdict w o left (Ok e) Unread after =
+    × (found ≡ w.hashing.digest o (listed_function e) text) × (found ≢ e.digest)
+IsVerdict w o left (Ok e) Unread found after =
     LeavesInput (is_dash e.name) left after × CannotSum w o (listed_function e) e.name
-IsVerdict w o left (Ok e) Skipped after =
+IsVerdict w o left (Ok e) Skipped found after =
     (o.ignores_missing ≡ true) × (is_dash e.name ≡ false) × (after ≡ left)
     × (w.files.refuses e.name ≡ true) × (w.files.lacks e.name ≡ true)
-IsVerdict w o left (Ok e) Malformed after = ⊥
-IsVerdict w o left (Ok e) Unmet after = ⊥
-IsVerdict w o left (Ok e) Comment after = ⊥
+IsVerdict w o left (Ok e) Malformed found after = ⊥
+IsVerdict w o left (Ok e) Unmet found after = ⊥
+IsVerdict w o left (Ok e) Comment found after = ⊥
 
 -- ---- when a manifest holds
 
@@ -159,6 +160,16 @@ is_equal Skipped = false
 is_equal Malformed = false
 is_equal Unmet = false
 is_equal Comment = false
+
+-- The file has another digest.
+abbrev pub is_different : Verdict → Bool
+is_different Equal = false
+is_different Different = true
+is_different Unread = false
+is_different Skipped = false
+is_different Malformed = false
+is_different Unmet = false
+is_different Comment = false
 
 -- The verdict does not fail a check that is not strict.
 abbrev pub is_fine : Verdict → Bool
@@ -205,6 +216,28 @@ outcome r Malformed = []
 outcome r Unmet = []
 outcome r Comment = []
 
+-- The digests of a file that has another one than its entry, a line each.
+abbrev pub digest_lines : List ℕ → List ℕ → List ℕ
+digest_lines listed found =
+    codes "  expected: " ++ encode_lower listed ++ (10 ∷ [])
+    ++ codes "  found:    " ++ encode_lower found ++ (10 ∷ [])
+
+-- Nothing is printed of files.
+abbrev pub is_nothing : Report → Bool
+is_nothing Each = false
+is_nothing Warnings = false
+is_nothing Failures = false
+is_nothing Nothing = true
+
+-- The digests are printed after a verdict: the file has another one, and its line is printed.
+abbrev pub are_shown : Options → Verdict → Bool
+are_shown o v = o.shows_digests && (is_different v && not (is_nothing o.report))
+
+-- What is printed after the name of an entry of this digest, whose file has the digest `found`.
+abbrev pub full_outcome : Options → Verdict → List ℕ → List ℕ → List ℕ
+full_outcome o v listed found =
+    outcome o.report v ++ (if are_shown o v then digest_lines listed found else [])
+
 -- A name as it is printed, escaped if it has a newline.
 abbrev pub shown_name : List ℕ → List ℕ
 shown_name name = if list_any (λ b. b == 10) name then 92 ∷ escaped name else name
@@ -214,10 +247,11 @@ abbrev pub with_name : List ℕ → List ℕ → List ℕ
 with_name name [] = []
 with_name name (b ∷ text) = shown_name name ++ (b ∷ text)
 
--- The line of an entry with this verdict. A line that cannot be checked has none.
-abbrev pub verdict_line : Report → Result Line Verdict → Verdict → List ℕ
-verdict_line r (Err verdict) v = []
-verdict_line r (Ok e) v = with_name e.name (outcome r v)
+-- The lines of an entry with this verdict, whose file has the digest `found`. A line that cannot be
+-- checked has none.
+abbrev pub verdict_lines : Options → Result Line Verdict → Verdict → List ℕ → List ℕ
+verdict_lines o (Err verdict) v found = []
+verdict_lines o (Ok e) v found = with_name e.name (full_outcome o v e.digest found)
 
 -- The verdict has no message.
 abbrev pub is_silent : Verdict → Bool
@@ -229,26 +263,31 @@ is_silent Malformed = false
 is_silent Unmet = false
 is_silent Comment = true
 
+-- A sink accepted this much of the lines of a verdict that is right.
+abbrev pub HasVerdict : (Option (List ℕ) → Option (List ℕ) → List ℕ → Type 0) → World → Options
+    → Result Line Verdict → Streams → Streams → Verdict → Type 0
+HasVerdict accepts w o i old new v =
+    (found : List ℕ) × IsVerdict w o old.left i v found new.left
+    × accepts old.held new.held (verdict_lines o i v found)
+
 -- A line is checked: its entry has a verdict, or the line has one that cannot be checked, and the
--- line of that is printed. A file that cannot be read has a message, and one that was read has
+-- lines of that are printed. A file that cannot be read has a message, and one that was read has
 -- none.
 abbrev pub IsItem : World → Options → Option (Result Line Verdict) → Streams → Streams → Verdict
     → Type 0
 IsItem w o None old new v = (v ≡ Comment) × (new ≡ old)
 IsItem w o (Some i) old new v =
-    (new.spacing ≡ next_spacing old.spacing i) × IsVerdict w o old.left i v new.left
-    × Appends old.held new.held (verdict_line o.report i v) × (v ≡ Unread → IsTold old new)
-    × (is_silent v ≡ true → new.told ≡ old.told)
+    (new.spacing ≡ next_spacing old.spacing i) × HasVerdict Appends w o i old new v
+    × (v ≡ Unread → IsTold old new) × (is_silent v ≡ true → new.told ≡ old.told)
 
 -- A line of a manifest is checked. `input` says that the manifest is standard input.
 abbrev pub IsLine : World → Options → Bool → List ℕ → Streams → Streams → Verdict → Type 0
 IsLine w o input line old new v = IsItem w o (item o input old.spacing line) old new v
 
--- Nothing is printed for an entry, or a part of the line of a verdict that is right.
+-- Nothing is printed for an entry, or a part of the lines of a verdict that is right.
 abbrev pub BeginsVerdict : World → Options → Result Line Verdict → Streams → Streams → Type 0
 BeginsVerdict w o i old new = (new.held ≡ old.held)
-    ⊎ ((v : Verdict) × IsVerdict w o old.left i v new.left
-    × TakesPart old.held new.held (verdict_line o.report i v))
+    ⊎ ((v : Verdict) × HasVerdict TakesPart w o i old new v)
 
 -- An error ended the check of a line.
 abbrev pub BeginsItem : World → Options → Option (Result Line Verdict) → Streams → Streams → Type 0

@@ -5,6 +5,7 @@ use Rattle.b2sum_commands.specs.declared.option_names.Flag.{Flag}
 use Rattle.b2sum_commands.specs.declared.option_names.Flag.TheVariants.{Algorithm, Length, KeyFile}
 use Rattle.b2sum_commands.specs.declared.option_names.Flag.TheVariants.{Personal, Salt, Tree}
 use Rattle.b2sum_commands.specs.declared.option_names.Flag.TheVariants.{PersonalText, Progress}
+use Rattle.b2sum_commands.specs.declared.option_names.Flag.TheVariants.{ShowDigests}
 use Rattle.b2sum_commands.specs.declared.option_names.Flag.TheVariants.{Threads, NoNames, Raw}
 use Rattle.b2sum_commands.specs.declared.option_names.Flag.TheVariants.{Check, IgnoreMissing, Quiet}
 use Rattle.b2sum_commands.specs.declared.option_names.Flag.TheVariants.{Status, Warn, Strict, Tag}
@@ -24,6 +25,7 @@ long_name Threads = codes "threads"
 long_name Progress = codes "progress"
 long_name NoNames = codes "no-names"
 long_name Raw = codes "raw"
+long_name ShowDigests = codes "show-digests"
 long_name Check = codes "check"
 long_name IgnoreMissing = codes "ignore-missing"
 long_name Quiet = codes "quiet"
@@ -50,6 +52,7 @@ has_value Threads = true
 has_value Progress = false
 has_value NoNames = false
 has_value Raw = false
+has_value ShowDigests = false
 has_value Check = false
 has_value IgnoreMissing = false
 has_value Quiet = false

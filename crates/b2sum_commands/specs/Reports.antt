@@ -9,25 +9,12 @@ use Rattle.b2sum_commands.specs.declared.check.Verdict.TheVariants.{Equal, Diffe
 use Rattle.b2sum_commands.specs.declared.check.Verdict.TheVariants.{Skipped, Malformed, Unmet}
 use Rattle.b2sum_commands.specs.declared.check.Verdict.TheVariants.{Comment}
 use Rattle.b2sum_commands.specs.declared.options.Options.{Options}
-use Rattle.b2sum_commands.specs.declared.options.Report.{Report}
-use Rattle.b2sum_commands.specs.declared.options.Report.TheVariants.{Each, Warnings, Failures}
-use Rattle.b2sum_commands.specs.declared.options.Report.TheVariants.{Nothing}
-use Rattle.b2sum_commands.specs.Manifests.{is_equal}
+use Rattle.b2sum_commands.specs.Manifests.{is_different, is_equal, is_nothing}
 use Rattle.b2sum_commands.specs.Quoting.{quoted_name}
 use Rattle.b2sum_commands.specs.PrintedSums.{is_dash}
 use Rattle.b2sum_commands.specs.World.{World, Streams, IsWritten}
 
 -- ---- counts
-
--- The file has another digest.
-abbrev pub is_different : Verdict → Bool
-is_different Equal = false
-is_different Different = true
-is_different Unread = false
-is_different Skipped = false
-is_different Malformed = false
-is_different Unmet = false
-is_different Comment = false
 
 -- The file cannot be read.
 abbrev pub is_unread : Verdict → Bool
@@ -129,13 +116,6 @@ abbrev pub has_no_entry : Counts → Bool
 has_no_entry c =
     (c.equal == 0)
     && ((c.different == 0) && ((c.unread == 0) && ((c.skipped == 0) && (c.unmet == 0))))
-
--- The messages are not wanted.
-abbrev pub is_nothing : Report → Bool
-is_nothing Each = false
-is_nothing Warnings = false
-is_nothing Failures = false
-is_nothing Nothing = true
 
 -- The warnings of the counts.
 abbrev pub warnings : List ℕ → Counts → List ℕ

@@ -3,9 +3,10 @@
 ghost use Rattle.std.specs.Prelude.{◌≡◌, ◌≢◌, ◌⊎◌, ℕ, ◌<◌, ◌≤◌, ◌&&◌, ◌||◌, List, length};
 ghost use Rattle.std.specs.Prelude.{Option, Some, None, not, true, false, IfOk, IfSome, OnOk};
 ghost use Rattle.std.specs.Prelude.{[], ◌∷◌, ◌==◌, codes, Ok, is_none, if◌then◌else◌, IsErr};
-ghost use Rattle.std.specs.Prelude.{IsErrOf, OnErr, map};
+ghost use Rattle.std.specs.Prelude.{IsErrOf, OnErr, map, ◌++◌, take};
 ghost use Rattle.std.specs.Prelude.{IsOkUnless};
 ghost use Rattle.std.specs.Io.KnownBytes.{Appends, Consumes};
+ghost use Rattle.hex.specs.Hex.{encode_lower};
 ghost use Rattle.std.specs.Option.{option_map};
 ghost use Rattle.std.specs.Result.{result_ok};
 ghost use Rattle.b2sum_lines.specs.EntryViews.{entry_value};
@@ -18,8 +19,9 @@ ghost use Rattle.b2sum_commands.specs.Manifests.{IsLine};
 ghost use Rattle.b2sum_commands.specs.Manifests.{BeginsLine, BeginsVerdict};
 ghost use Rattle.b2sum_commands.specs.Quoting.{quoted_name};
 ghost use Rattle.b2sum_commands.specs.Reports.{AreCounted, Adds, has_no_entry, title_of, warnings};
-ghost use Rattle.b2sum_commands.specs.Reports.{holds_counted, is_nothing, message_if, report_text};
-ghost use Rattle.b2sum_commands.specs.Manifests.{outcome, with_name, verdict_line};
+ghost use Rattle.b2sum_commands.specs.Reports.{holds_counted, message_if, report_text};
+ghost use Rattle.b2sum_commands.specs.Manifests.{outcome, with_name, verdict_lines, is_nothing};
+ghost use Rattle.b2sum_commands.specs.Manifests.{are_shown, digest_lines, full_outcome, HasVerdict};
 ghost use Rattle.b2sum_commands.specs.ManifestChecks.{item_value, IfListed, IsChecked, GoesOn};
 ghost use Rattle.b2sum_commands.specs.ManifestChecks.{AreRead, EndsAt, AreStopped};
 ghost use Rattle.b2sum_commands.specs.declared.line_reader.LineEnd.TheVariants.{Failure};
@@ -459,7 +461,7 @@ fn spacing_after(spacing: Spacing, style: Style) -> Spacing
     }
 }
 
-// Compares the file of an entry, and prints its line.
+// Compares the file of an entry, and prints its lines.
 fn check_entry<H: Hashes, D: Disk, K: Output, E: Sink>(
     host: &Host<H, D>,
     options: &Options,
@@ -467,12 +469,10 @@ fn check_entry<H: Hashes, D: Disk, K: Output, E: Sink>(
     entry: &Entry,
 ) -> Result<Verdict, Fault>
     requires { length entry.now.digest.items ≤ 64 }
-    ensures verdict { IfOk result (λ v. IsVerdict
+    ensures verdict { IfOk result (HasVerdict Appends
         (world_of host.now.program.name.items D.File.named D.File.failed
-        (D.files host.now.disk) H.hashing) options.now session.old.left
-        (Ok (entry_value entry.now)) v session.new.left) }
-    ensures line { IfOk result (λ v. Appends session.old.held session.new.held
-        (verdict_line options.now.report (Ok (entry_value entry.now)) v)) }
+        (D.files host.now.disk) H.hashing) options.now
+        (Ok (entry_value entry.now)) session.old session.new) }
     ensures told { IfOk result (λ v. v ≡ Unread → IsTold session.old session.new) }
     ensures silent { IfOk result (λ v. v ≢ Unread → session.new.told ≡ session.old.told) }
     ensures begun { IsErr result → BeginsVerdict
@@ -482,40 +482,43 @@ fn check_entry<H: Hashes, D: Disk, K: Output, E: Sink>(
     ensures spacing { session.new.spacing ≡ session.old.spacing }
     ensures write { IsErrOf result Fault.WriteFailed → session.new.output_failed ≡ true }
 {
-    let verdict = judge_entry(host, options, session, entry)?;
-    let outcome = outcome_of(options.report, verdict);
-    let name = entry.name.as_slice();
-    print_outcome(host.program.alloc, &mut session.output, name, outcome)?;
+    let mut digest = [0u8; 64];
+    let verdict = judge_entry(host, options, session, entry, &mut digest)?;
+    let all = &digest[..];
+    let found = &all[..entry.digest.len()];
+    let alloc = host.program.alloc;
+    print_verdict(alloc, options, &mut session.output, entry, verdict, found)?;
     Ok(verdict)
 }
 
-// Compares the file of an entry. Returns the verdict, and prints nothing but the message of a file
-// that cannot be read.
+// Compares the file of an entry. Returns the verdict, with the file's digest at the front of `out`
+// if it was read, and prints nothing but the message of a file that cannot be read.
 fn judge_entry<H: Hashes, D: Disk, K: Output, E: Sink>(
     host: &Host<H, D>,
     options: &Options,
     session: &mut Session<D::File, K, E>,
     entry: &Entry,
+    out: &mut [u8; 64],
 ) -> Result<Verdict, Fault>
     requires { length entry.now.digest.items ≤ 64 }
     ensures verdict { IfOk result (λ v. IsVerdict
         (world_of host.now.program.name.items D.File.named D.File.failed
         (D.files host.now.disk) H.hashing) options.now session.old.left
-        (Ok (entry_value entry.now)) v session.new.left) }
+        (Ok (entry_value entry.now)) v (take (length entry.now.digest.items) out.new)
+        session.new.left) }
     ensures told { IfOk result (λ v. v ≡ Unread → IsTold session.old session.new) }
     ensures silent { IfOk result (λ v. v ≢ Unread → session.new.told ≡ session.old.told) }
     ensures quiet { IsQuiet session.old session.new }
     ensures memory { IsOkUnless result Fault.NoMemory }
 {
-    let mut digest = [0u8; 64];
     let size = entry.digest.len();
     let name = entry.name.as_slice();
     let function = Function {
         algorithm: entry.algorithm,
         bytes: size,
     };
-    let read = digest_file(host, options, session, name, function, &mut digest)?;
-    let all = &digest[..];
+    let read = digest_file(host, options, session, name, function, out)?;
+    let all = &out[..];
     Ok(verdict_of(read, &all[..size], entry.digest.as_slice()))
 }
 
@@ -539,8 +542,71 @@ fn verdict_of(read: Read, digest: &[u8], listed: &[u8]) -> Verdict
     }
 }
 
-// Returns what is printed after the name of an entry with this verdict: nothing if its line is not
-// printed.
+// Prints the lines of an entry with this verdict, whose file has the digest `found`.
+fn print_verdict<K: Sink>(
+    alloc: Global,
+    options: &Options,
+    output: &mut K,
+    entry: &Entry,
+    verdict: Verdict,
+    found: &[u8],
+) -> Result<(), Fault>
+    ensures whole { OnOk result (Appends (K.held output.old) (K.held output.new)
+        (verdict_lines options.now (Ok (entry_value entry.now)) verdict found.now)) }
+    ensures part { OnErr result (StopsIn (K.held output.old) (K.held output.new)
+        (verdict_lines options.now (Ok (entry_value entry.now)) verdict found.now)) }
+    ensures write { IsErrOf result Fault.WriteFailed → K.failed output.new ≡ true }
+{
+    let outcome = full_outcome(alloc, options, verdict, entry.digest.as_slice(), found)?;
+    print_outcome(alloc, output, entry.name.as_slice(), outcome.as_slice())
+}
+
+// Returns what is printed after the name of an entry with this digest and verdict, whose file has
+// the digest `found`: nothing if no line is printed.
+fn full_outcome(
+    alloc: Global,
+    options: &Options,
+    verdict: Verdict,
+    listed: &[u8],
+    found: &[u8],
+) -> Result<Vec<u8>, Fault>
+    ensures text { IfOk result (λ text. text.items
+        ≡ full_outcome options.now verdict listed.now found.now) }
+    ensures memory { IsOkUnless result Fault.NoMemory }
+{
+    let mut text = Vec::new(alloc);
+    text.extend_from_slice(outcome_of(options.report, verdict))?;
+    if are_shown(options, verdict) {
+        push_digest(alloc, &mut text, b"  expected: ", listed)?;
+        push_digest(alloc, &mut text, b"  found:    ", found)?;
+    }
+    Ok(text)
+}
+
+// Returns whether the digests of an entry with this verdict are printed.
+fn are_shown(options: &Options, verdict: Verdict) -> bool
+    ensures { result ≡ are_shown options.now verdict }
+{
+    options.shows_digests && matches!(verdict, Verdict::Different) && !is_nothing(options.report)
+}
+
+// Appends the line of a digest, with this before it.
+fn push_digest(
+    alloc: Global,
+    text: &mut Vec<u8>,
+    title: &[u8],
+    digest: &[u8],
+) -> Result<(), AllocError>
+    ensures { OnOk result
+        (text.new.items ≡ text.old.items ++ title.now ++ encode_lower digest.now ++ (10 ∷ [])) }
+{
+    text.extend_from_slice(title)?;
+    text.extend_from_slice(hex::encode(alloc, digest)?.as_bytes())?;
+    text.push(b'\n').map_err(|_| AllocError)
+}
+
+// Returns what is printed after the name of an entry with this verdict in its line: nothing if that
+// is not printed.
 fn outcome_of(report: Report, verdict: Verdict) -> &'static [u8]
     ensures { result.now ≡ outcome report verdict }
 {

@@ -50,6 +50,7 @@ pub(crate) fn finish(alloc: Global, reader: Reader, files: Vec<Vec<u8>>) -> Resu
         ends_zero: reader.ends_zero,
         ignores_missing: reader.ignores_missing,
         report: reader.report,
+        shows_digests: reader.shows_digests,
         is_strict: reader.is_strict || reader.key_file.is_some(),
         threads: reader.threads.unwrap_or(0),
         shows_progress: reader.shows_progress,
@@ -278,6 +279,10 @@ fn has_two_personas(reader: &Reader) -> bool
     !reader.persona.is_empty() && !reader.persona_text.is_empty()
 }
 
+// Why the digests of a check with a key are not shown.
+const SHOWN_MAC: &[u8] =
+    b"--show-digests does not support --key-file: it would print a valid MAC of a changed file";
+
 fn conflict_of_check(reader: &Reader) -> Option<&'static [u8]>
     ensures is { is_none result ≡ goes_with_check (choice_of reader.now) }
     ensures check { result ≡ None → (reader.now.ends_zero ≡ false)
@@ -294,6 +299,9 @@ fn conflict_of_check(reader: &Reader) -> Option<&'static [u8]>
     }
     if reader.has_no_names || reader.is_raw {
         return Some(b"the --no-names and --raw options are meaningless when verifying checksums");
+    }
+    if reader.shows_digests && reader.key_file.is_some() {
+        return Some(SHOWN_MAC);
     }
     None
 }
@@ -346,6 +354,9 @@ fn conflict_of_sums(reader: &Reader) -> Option<&'static [u8]>
     }
     if reader.is_strict {
         return Some(b"the --strict option is meaningful only when verifying checksums");
+    }
+    if reader.shows_digests {
+        return Some(b"the --show-digests option is meaningful only when verifying checksums");
     }
     None
 }

@@ -20,6 +20,7 @@ pub(crate) enum Flag {
     Progress,
     NoNames,
     Raw,
+    ShowDigests,
     Check,
     IgnoreMissing,
     Quiet,
@@ -51,6 +52,7 @@ impl Flag {
             Flag::Progress => b"progress",
             Flag::NoNames => b"no-names",
             Flag::Raw => b"raw",
+            Flag::ShowDigests => b"show-digests",
             Flag::Check => b"check",
             Flag::IgnoreMissing => b"ignore-missing",
             Flag::Quiet => b"quiet",
@@ -101,7 +103,7 @@ impl Flag {
 }
 
 /// The long options, in the order in which messages list them.
-pub(crate) static FLAGS: [Flag; 23] = [
+pub(crate) static FLAGS: [Flag; 24] = [
     Flag::Length,
     Flag::Check,
     Flag::IgnoreMissing,
@@ -123,6 +125,7 @@ pub(crate) static FLAGS: [Flag; 23] = [
     Flag::Progress,
     Flag::NoNames,
     Flag::Raw,
+    Flag::ShowDigests,
     Flag::Help,
     Flag::Version,
 ];

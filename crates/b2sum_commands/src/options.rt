@@ -76,6 +76,8 @@ pub struct Options {
     pub ignores_missing: bool,
     /// What a check prints.
     pub report: Report,
+    /// A check prints both digests of a file that has another one than its entry.
+    pub shows_digests: bool,
     /// A check fails for lines that are not properly formatted. It always does under a key.
     pub is_strict: bool,
     /// The number of threads that read a large file for a tree, 0 for one on each processor.
@@ -151,6 +153,7 @@ pub(crate) struct Reader {
     pub(crate) shows_progress: bool,
     pub(crate) has_no_names: bool,
     pub(crate) is_raw: bool,
+    pub(crate) shows_digests: bool,
 }
 
 impl Reader {
@@ -178,6 +181,7 @@ impl Reader {
             shows_progress: false,
             has_no_names: false,
             is_raw: false,
+            shows_digests: false,
         }
     }
 }
@@ -425,6 +429,7 @@ fn take_flag(reader: &mut Reader, flag: Flag) -> Result<(), Stop>
         Flag::Progress => reader.shows_progress = true,
         Flag::NoNames => reader.has_no_names = true,
         Flag::Raw => reader.is_raw = true,
+        Flag::ShowDigests => reader.shows_digests = true,
         Flag::Tag => {
             reader.is_tagged = true;
             reader.is_binary = Some(true);

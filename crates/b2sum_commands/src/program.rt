@@ -51,6 +51,7 @@ Print or check BLAKE2 digests. With no FILE, or if FILE is -, read standard inpu
       --quiet           do not print OK
       --status          print nothing, the status shows success
       --strict          fail for improperly formatted lines
+      --show-digests    print the expected and the found digest of each file that differs
   -w, --warn            warn about improperly formatted lines
       --threads N       hash trees by at most N threads; 0, the default: all processors
       --progress        show the progress of long reads on a terminal

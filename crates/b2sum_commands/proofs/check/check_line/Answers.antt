@@ -31,7 +31,7 @@ returns-in-Listed-clause-checked g c =
     (ap (λ (s : Streams). record s { spacing = spaced }) c.session.view_is
     ∙ ap (λ s. record old { spacing = s }) (c.spacing_after-session-inside.ensures
     ∙ ap (λ s. spacing_after s entry.style) spacing))
-    c.check_entry.ensures.verdict c.check_entry.ensures.line c.check_entry.ensures.told
+    c.check_entry.ensures.verdict c.check_entry.ensures.told
     c.check_entry.ensures.silent
     c.check_entry.ensures.spacing
 
