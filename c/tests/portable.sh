@@ -1,8 +1,8 @@
 #!/usr/bin/env bash
 # Tests dist/c/vulfsjor.c, the library for processors without assembly: by the compiler here, and by
 # compilers for other processors, whose programs run on an emulator. Without VULFSJOR_TEST_HUGE these are one of 32 bits
-# and one with the other order of bytes, with a hash of each kind and length of words; and compilers optimize less, which
-# takes half as long.
+# and one with the other order of bytes, with a hash of each kind and length of words; and compilers optimize less,
+# which takes half as long.
 source "$(dirname "$(readlink -f "$0")")/common.sh"
 source_file=$dist/c/vulfsjor.c
 words=(-std=c99 "${warnings[@]}" "-I$here/include")
