@@ -210,7 +210,7 @@ write_words "$beside/pkgconfig/libb2.pc" libb2 0.98.1 ", a drop-in replacement f
     '${libb2dir}' "$libb2"
 
 # Puts a value in the place of a name, in the variable `text`: NAME VALUE
-put() { while [[ $text == *"@$1@"* ]]; do text=${text%%"@$1@"*}$2${text#*"@$1@"}; done; }
+replace_name() { while [[ $text == *"@$1@"* ]]; do text=${text%%"@$1@"*}$2${text#*"@$1@"}; done; }
 
 # Writes a file of the package for CMake. The headers and the libraries are below a folder that is
 # above the package, which may be moved there, and all together.
@@ -218,10 +218,10 @@ above=$package
 while [[ $include/ != "${above%/}"/* || $libdir/ != "${above%/}"/* ]]; do above=${above%/*}; done
 for name in vulfsjor-config.cmake vulfsjor-config-version.cmake; do
     text=$(<"$here/$name.in")
-    put VERSION "$version"
-    put POINTER "$pointer"
-    put LIBDIR "$(relative "${above:-/}" "$libdir")"
-    put INCLUDEDIR "$(relative "${above:-/}" "$include")"
+    replace_name VERSION "$version"
+    replace_name POINTER "$pointer"
+    replace_name LIBDIR "$(relative "${above:-/}" "$libdir")"
+    replace_name INCLUDEDIR "$(relative "${above:-/}" "$include")"
     write "$root$package/$name" <<<"$text"
 done
 echo "install.sh: installed under $root$folder" >&2

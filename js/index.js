@@ -29,13 +29,13 @@ export {
 
 // The functions that are called for short messages count their arguments, so that no array of those
 // beyond the last is made.
-function one(kind, caller, message, options, count) {
+function hashOne(kind, caller, message, options, count) {
   refuseMore(count - 2, caller, 2);
   const bytes = bytesOf(message, caller, "message");
   return hash(kind, bytes, settingsOf(kind, options, caller));
 }
 
-function several(kind, caller, messages, options, rest) {
+function hashSeveral(kind, caller, messages, options, rest) {
   refuseMore(rest.length, caller, 2);
   const isIterable = typeof messages?.[Symbol.iterator] === "function";
   if (!isIterable || typeof messages === "string" || isBytes(messages)) {
@@ -52,23 +52,23 @@ function several(kind, caller, messages, options, rest) {
 }
 
 export function blake2b(message, options) {
-  return one(BLAKE2B, "blake2b", message, options, arguments.length);
+  return hashOne(BLAKE2B, "blake2b", message, options, arguments.length);
 }
 
 export function blake2s(message, options) {
-  return one(BLAKE2S, "blake2s", message, options, arguments.length);
+  return hashOne(BLAKE2S, "blake2s", message, options, arguments.length);
 }
 
 export function blake2bp(message, options) {
-  return one(BLAKE2BP, "blake2bp", message, options, arguments.length);
+  return hashOne(BLAKE2BP, "blake2bp", message, options, arguments.length);
 }
 
 export function blake2sp(message, options) {
-  return one(BLAKE2SP, "blake2sp", message, options, arguments.length);
+  return hashOne(BLAKE2SP, "blake2sp", message, options, arguments.length);
 }
 
 export function treeRoot(message, options) {
-  return one(TREE, "treeRoot", message, options, arguments.length);
+  return hashOne(TREE, "treeRoot", message, options, arguments.length);
 }
 
 // Where messages of a tree have to end (the library's limit).
@@ -115,11 +115,11 @@ export function treeRootOfLeaves(digests, options, ...rest) {
 }
 
 export function blake2bMany(messages, options, ...rest) {
-  return several(WHOLE_BLAKE2B, "blake2bMany", messages, options, rest);
+  return hashSeveral(WHOLE_BLAKE2B, "blake2bMany", messages, options, rest);
 }
 
 export function blake2sMany(messages, options, ...rest) {
-  return several(WHOLE_BLAKE2S, "blake2sMany", messages, options, rest);
+  return hashSeveral(WHOLE_BLAKE2S, "blake2sMany", messages, options, rest);
 }
 
 export function blake2bStream(source, options, ...rest) {

@@ -37,26 +37,26 @@ count() {
 }
 
 # Checks that a run, whose status and output are given, ended with this status and printed this line,
-# or nothing where LINE is empty. usage: ended NAME STATUS WANTED LINE
-ended() {
+# or nothing where LINE is empty. usage: check_end NAME STATUS WANTED LINE
+check_end() {
     printf '%b' "${4:+$4\n}" >"$work/wanted"
     count "$1" "$2" "$3"
 }
 
 # Checks a run over an input, which may hold escapes as printf takes them; over none; and over one
-# that is closed or a directory. usage: over INPUT STATUS LINE WORDS.., and the others without INPUT
-over() {
+# that is closed or a directory. usage: run_over_input INPUT STATUS LINE WORDS.., and the others without INPUT
+run_over_input() {
     printf '%b' "$1" | "$program" "${@:4}" >"$work/output" 2>"$work/errors"
-    ended "b2 ${*:4} (over ${1:0:40})" "${PIPESTATUS[1]}" "$2" "$3"
+    check_end "b2 ${*:4} (over ${1:0:40})" "${PIPESTATUS[1]}" "$2" "$3"
 }
-says() { over "" "$@"; }
-closed() {
+run_over_nothing() { run_over_input "" "$@"; }
+run_with_closed_input() {
     "$program" "${@:3}" <&- >"$work/output" 2>"$work/errors"
-    ended "b2 ${*:3}, its input closed" $? "$1" "$2"
+    check_end "b2 ${*:3}, its input closed" $? "$1" "$2"
 }
 directory() {
     "$program" "${@:3}" <"$work" >"$work/output" 2>"$work/errors"
-    ended "b2 ${*:3}, its input a directory" $? "$1" "$2"
+    check_end "b2 ${*:3}, its input a directory" $? "$1" "$2"
 }
 
 abc=ba80a53f981c4d0d6a2797b69f12f6e94c212f14685ac4b74b12bb6fdbffa2d1
@@ -75,28 +75,28 @@ words="w 0000000001010040$(printf ' 0000000000000000%.0s' {1..7})"
 
 # Each command, with status 0.
 test_commands() {
-    over abc 0 "$abc" sum b512
-    over abc 0 "$abc_s256" sum s256
-    over abc 0 "$keyed" sum b128 key=0102 salt=73616c74 persona=706572736f6e61
-    over abc 0 "$keyed" sum b128 persona=706572736F6E61 key=0102 salt=73616c74
-    over 'u 0 6162\nc 0\nu 0 63\nf 0\nu 1 63\nd 1\n' 0 "$abc\n$abc" script b512
-    over 'u 0 616263\nf 0' 0 "$keyed" script b128 key=0102 salt=73616c74 persona=706572736f6e61
-    says 0 "" script s256
-    over a 0 "$words\ne 1 1 61$zeros" steps b512
-    says 0 "$start 1 1 61$zeros\n$start 1 1 62$zeros" witness b0 61 62
-    says 0 none witness b512 616263 -
-    over abcde 0 "$root" tree b512 4
-    over abcde 0 "$root_of_parts" tree b256 4 persona=70 salt=0102
-    says 0 5abb265af975bd803708b70db42bd302 tree b128 4
-    over abc 0 "$output" xof xs 33 persona-text=apple salt=01
-    over 'master key' 0 7f71fabc20c90d95ae1ed05991e53c05396b98ff3a928cbc7bb3ae6b953f228c derive 32 context
-    says 0 "b2 (Vulfsjor) $(sed -n 's/^## \([0-9.]*\).*/\1/p;' "$top/CHANGELOG.md" | head -n 1)" --version
+    run_over_input abc 0 "$abc" sum b512
+    run_over_input abc 0 "$abc_s256" sum s256
+    run_over_input abc 0 "$keyed" sum b128 key=0102 salt=73616c74 persona=706572736f6e61
+    run_over_input abc 0 "$keyed" sum b128 persona=706572736F6E61 key=0102 salt=73616c74
+    run_over_input 'u 0 6162\nc 0\nu 0 63\nf 0\nu 1 63\nd 1\n' 0 "$abc\n$abc" script b512
+    run_over_input 'u 0 616263\nf 0' 0 "$keyed" script b128 key=0102 salt=73616c74 persona=706572736f6e61
+    run_over_nothing 0 "" script s256
+    run_over_input a 0 "$words\ne 1 1 61$zeros" steps b512
+    run_over_nothing 0 "$start 1 1 61$zeros\n$start 1 1 62$zeros" witness b0 61 62
+    run_over_nothing 0 none witness b512 616263 -
+    run_over_input abcde 0 "$root" tree b512 4
+    run_over_input abcde 0 "$root_of_parts" tree b256 4 persona=70 salt=0102
+    run_over_nothing 0 5abb265af975bd803708b70db42bd302 tree b128 4
+    run_over_input abc 0 "$output" xof xs 33 persona-text=apple salt=01
+    run_over_input 'master key' 0 7f71fabc20c90d95ae1ed05991e53c05396b98ff3a928cbc7bb3ae6b953f228c derive 32 context
+    run_over_nothing 0 "b2 (Vulfsjor) $(sed -n 's/^## \([0-9.]*\).*/\1/p;' "$top/CHANGELOG.md" | head -n 1)" --version
 }
 
 # The help names every command, and each KIND of docs/B2.md.
 test_help() {
     "$program" --help >"$work/help" 2>"$work/errors" </dev/null
-    : >"$work/output" && ended "b2 --help" $? 0 ""
+    : >"$work/output" && check_end "b2 --help" $? 0 ""
     check "$build--help names every command" diff \
         <(sed -n 's/^  \([a-z-]*\) .*/\1/p' "$work/help") \
         <(printf '%s\n' sum script steps witness tree xof derive --help --version)
@@ -115,30 +115,30 @@ test_notes() {
 # Wrong arguments, of which the first is reported: none, empty ones, and more than are taken. The rest
 # is proved, and tests/compare_b2_model.py compares it.
 test_arguments() {
-    says 2 "b2: wrong words"
-    says 2 "b2: wrong words" ""
-    says 2 "b2: wrong words" "" sum b512
-    says 2 "b2: wrong words" -h
-    says 2 "b2: wrong words" --help sum
-    says 2 "b2: wrong words" sum b512 ""
-    says 2 "b2: wrong words" sum b512 key=01 salt=02 persona=03 1 2 3 4 5
-    says 2 "b2: wrong hex" sum b512 key=01 salt=02 persona=0 1 2 3 4 5
-    says 2 "b2: wrong length" steps b512 "key=${long_key}42"
-    says 2 "b2: wrong words" tree b512 4k
-    says 2 "b2: wrong words" witness b512 61 61 61 61 61 61 61 61
-    over 'f 0\nf 0\nf 00' 2 "b2: line 3: wrong line" script s256 key=01
-    over 'f 0\nu 0 61\n' 2 "b2: line 2: no such slot" script b512
+    run_over_nothing 2 "b2: wrong words"
+    run_over_nothing 2 "b2: wrong words" ""
+    run_over_nothing 2 "b2: wrong words" "" sum b512
+    run_over_nothing 2 "b2: wrong words" -h
+    run_over_nothing 2 "b2: wrong words" --help sum
+    run_over_nothing 2 "b2: wrong words" sum b512 ""
+    run_over_nothing 2 "b2: wrong words" sum b512 key=01 salt=02 persona=03 1 2 3 4 5
+    run_over_nothing 2 "b2: wrong hex" sum b512 key=01 salt=02 persona=0 1 2 3 4 5
+    run_over_nothing 2 "b2: wrong length" steps b512 "key=${long_key}42"
+    run_over_nothing 2 "b2: wrong words" tree b512 4k
+    run_over_nothing 2 "b2: wrong words" witness b512 61 61 61 61 61 61 61 61
+    run_over_input 'f 0\nf 0\nf 00' 2 "b2: line 3: wrong line" script s256 key=01
+    run_over_input 'f 0\nu 0 61\n' 2 "b2: line 2: no such slot" script b512
 }
 
 # An input that can't be read, which `witness` and wrong words do not read.
 test_inputs() {
     for command in sum script steps; do
-        closed 1 "b2: read failed" "$command" b512
+        run_with_closed_input 1 "b2: read failed" "$command" b512
         directory 1 "b2: read failed" "$command" s256 key=01
     done
-    closed 1 "b2: read failed" tree b512 4
-    closed 0 none witness b512 61 62
-    closed 2 "b2: wrong words" sum b512 foo
+    run_with_closed_input 1 "b2: read failed" tree b512 4
+    run_with_closed_input 0 none witness b512 61 62
+    run_with_closed_input 2 "b2: wrong words" sum b512 foo
 }
 
 # An output that takes nothing: a full one, and a closed one. Nothing more is printed.
@@ -148,22 +148,22 @@ test_outputs() {
         "sum" "add"; do
         # shellcheck disable=SC2086
         printf 'f 0\n' | "$program" $given >/dev/full 2>"$work/errors"
-        ended "b2 $given, its output full" "$?" 1 ""
+        check_end "b2 $given, its output full" "$?" 1 ""
         # shellcheck disable=SC2086
         printf 'f 0\n' | "$program" $given >&- 2>"$work/errors"
-        ended "b2 $given, its output closed" "$?" 1 ""
+        check_end "b2 $given, its output closed" "$?" 1 ""
     done
 }
 
 # Arguments that are no text can't be read.
 test_bytes() {
-    says 1 "b2: no memory" $'\xff'
-    says 1 "b2: no memory" sum b512 $'key=\xc3('
-    says 1 "b2: no memory" sum b512 key=01 salt=02 persona=03 5 6 7 8 $'\xed\xa0\x80'
+    run_over_nothing 1 "b2: no memory" $'\xff'
+    run_over_nothing 1 "b2: no memory" sum b512 $'key=\xc3('
+    run_over_nothing 1 "b2: no memory" sum b512 key=01 salt=02 persona=03 5 6 7 8 $'\xed\xa0\x80'
     "$program" $'\x80' >/dev/full 2>"$work/errors" </dev/null
     status=$?
     : >"$work/output"
-    ended "b2 of no text, its output full" "$status" 1 ""
+    check_end "b2 of no text, its output full" "$status" 1 ""
 }
 
 # ---- Memory, by limits of address space.
@@ -335,7 +335,7 @@ hashes_leaves() {
     if [ "$share" -lt "$least" ] || [ "$share" -gt "$most" ]; then
         fail "$name: $share"
     else
-        ended "$name" "$status" 0 "$(root_of_input "$leaf")"
+        check_end "$name" "$status" 0 "$(root_of_input "$leaf")"
     fi
 }
 

@@ -186,7 +186,7 @@ check "nor a name that would be a label in Mach-O" is_label
 
 # What hashes for the programs, in LLVM's text of the library and of a program, and in theirs.
 hashing() {
-    of_script "write_hashing $1" >hashing.sed &&
+    of_script "write_sharing_edit $1" >hashing.sed &&
         printf '%s\n' 'define internal i64 @"blake2_tree::nodes::Nodes::hash_next"(ptr noundef %0, i8 %1) #0 {' \
             '  ret i64 1' '}' 'define internal void @"a::hash_next"() #0 {' '  ret void' '}' | sed -f hashing.sed
 }

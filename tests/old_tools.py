@@ -40,7 +40,7 @@ FORMS = (
     ("sha256sum without shasum", r"(?<![\w-])sha256sum(?!.* shasum)(?!\)\")", "sha256sum file"),
 )
 # Functions that only Rattle's users call, on Linux.
-OF_RATTLE = "write_hashing|build|make|write_manifest|compare_all"
+OF_RATTLE = "write_sharing_edit|build|make|write_manifest|compare_all"
 EMPTY = "bash 4: an empty array under set -u"
 
 

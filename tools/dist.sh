@@ -47,7 +47,7 @@ ours_of() { [ "$1" != b2sum ] || printf "%s=b2sum_%s\n" open open read read clos
 # Writes an edit of LLVM's text of a crate, by which its programs hash by the functions of the library
 # that shared_functions.txt names: the library exports them, so LLVM keeps their arguments as they are, and a
 # program has only calls of them, so LLVM draws no conclusion from their bodies.
-write_hashing() {
+write_sharing_edit() {
     local names
     names=$(paste -sd '|' "$top/tools/shared_functions.txt" | sed 's/|/\\|/g')
     if [ "$1" = blake2_ffi ]; then
@@ -152,7 +152,7 @@ build() {
     [ "$crate" != b2sum ] || cp "$top/tools/b2sum.sed" "$room/toolchain-b2sum.sed"
     echo "dist.sh: building $file" >&2
     rm -rf "$room"/toolchain{,.sed,.py,-hashing.sed}
-    [[ $file != *.s ]] || write_hashing "$crate" >"$room/toolchain-hashing.sed"
+    [[ $file != *.s ]] || write_sharing_edit "$crate" >"$room/toolchain-hashing.sed"
     $make "$room/toolchain" "$edit" "${more[@]}"
     mkdir -p "$(dirname "$to")"
     build_crate "$top/crates/$crate" "$crate" "$(libraries_of "$crate")" "$room" "${kind[@]}" \

@@ -134,7 +134,7 @@ compiler_knows() {
 }
 
 # The library joined by another compiler, and what it makes of choose.c.
-joined_by() {
+check_compiler() {
     CC=$1 "$here/make_libraries.sh" "$work/by_$1" "${texts[@]}" &&
         "$1" -std=gnu99 "${warnings[@]}" -O1 -DPROCESSOR -I"$work" -I"$include" -I"$tests" \
             -o "$work/made_up_by" "$tests/choose.c" &&
@@ -179,7 +179,7 @@ example_runs_on() {
 
 # Emulated processors: what is sold, and one with each of the features that a level asks for taken
 # away. qemu emulates none with AVX-512.
-emulated() {
+emulated_processors() {
     local names level=$1
     case $level in
         0) names="qemu64 core2duo Penryn Opteron_G3"
@@ -208,7 +208,7 @@ test_emulated() {
     block_of c/README.md c >"$work/hello.c"
     cc -static -I"$include" "$work/hello.c" "$archive" -o "$work/hello_static"
     for level in 0 2 3; do
-        for name in $(some $(emulated $level)); do
+        for name in $(some $(emulated_processors $level)); do
             if qemu-x86_64 -cpu help | grep -qw "${name%%,*}"; then
                 check "the choice on $name" chooses_level $level qemu-x86_64 -cpu "$name"
             else
@@ -279,7 +279,7 @@ first_calls() {
     done
 }
 
-instructions() {
+instruction_count() {
     valgrind --tool=callgrind --callgrind-out-file=/dev/null "$@" 2>&1 |
         sed -n 's/.*Collected : \([0-9]*\)$/\1/p'
 }
@@ -297,8 +297,8 @@ compile_repeat_call() {
 # A task of repeat_call.c takes as many instructions a call for dispatch as c/README.md says.
 costs_little() {
     local task=$1 chosen direct
-    chosen=$(instructions "$work/repeat_call_chosen" "$task" 1000) &&
-        direct=$(instructions "$work/repeat_call_direct" "$task" 1000) || return 1
+    chosen=$(instruction_count "$work/repeat_call_chosen" "$task" 1000) &&
+        direct=$(instruction_count "$work/repeat_call_direct" "$task" 1000) || return 1
     echo "$chosen instructions chosen, $direct directly"
     [[ $(<"$here/README.md") =~ Dispatch\ costs\ ([0-9]+)\ to\ ([0-9]+)\ instructions ]] &&
         [ $(((chosen - direct) / 1000 + 1)) -ge "${BASH_REMATCH[1]}" ] &&
@@ -342,7 +342,7 @@ test_choosing() {
     check "made-up processors, optimized" made_up_processors 2
     check "made-up processors, by the functions for Windows and macOS" thunks_choose
     needs clang
-    check "the library joined by clang" joined_by clang
+    check "the library joined by clang" check_compiler clang
     needs
     check "choose.c" compile_choose choose -O2 $(compiler_knows) &&
         check "the choice on this processor" chooses_level "$level" env

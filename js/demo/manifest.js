@@ -20,14 +20,14 @@ const WORD = /(?<!\w)([\da-fA-F]{128}|[\da-fA-F]{64})(?!\w)/;
 
 // Kinds are those that may have this digest. A digest with no tag is none of a tree, unless it
 // stands alone.
-function untagged(digits, name) {
+function entryWithoutTag(digits, name) {
   const bits = 4 * digits.length;
   const kinds = ["BLAKE2b", "BLAKE2s"].filter((family) => bits <= LONGEST[family])
     .map((family) => ({ family, bits, leafLength: undefined }));
   return { name, kinds, isAny: name === undefined, digest: digits.toLowerCase() };
 }
 
-function tagged([, tag, leaf, length, name, digits]) {
+function entryWithTag([, tag, leaf, length, name, digits]) {
   const family = leaf === undefined ? tag : "tree";
   const leafLength = leaf === undefined ? undefined : Number(leaf);
   const bits = 4 * digits.length;
@@ -44,8 +44,8 @@ function entryOf(line) {
   const isEscaped = line.startsWith("\\");
   const text = (isEscaped ? line.slice(1) : line).trimEnd();
   const [tag, plain, word] = [TAGGED, UNTAGGED, WORD].map((form) => form.exec(text));
-  const entry = tag ? tagged(tag)
-    : plain ? untagged(plain[1], plain[2]) : word ? untagged(word[1]) : undefined;
+  const entry = tag ? entryWithTag(tag)
+    : plain ? entryWithoutTag(plain[1], plain[2]) : word ? entryWithoutTag(word[1]) : undefined;
   if (entry === undefined || entry.digest.length % 2 !== 0) return undefined;
   if (isEscaped) {
     entry.name = entry.name?.replace(/\\(.)/g, (_, c) => ({ n: "\n", r: "\r" })[c] ?? c);
@@ -57,7 +57,7 @@ function entryOf(line) {
 /** The entries of a text, and the number of its lines that are none. */
 function entriesOf(text) {
   const all = text.replace(/\s/g, ""); // a digest may be broken into lines
-  if (/^([\da-fA-F]{64}|[\da-fA-F]{128})$/.test(all)) return { entries: [untagged(all)], wrong: 0 };
+  if (/^([\da-fA-F]{64}|[\da-fA-F]{128})$/.test(all)) return { entries: [entryWithoutTag(all)], wrong: 0 };
   const lines = text.split(/\r?\n|\0/).map((line) => line.trimStart())
     .filter((line) => line !== "" && !line.startsWith("#"));
   const entries = lines.map(entryOf).filter((entry) => entry !== undefined);

@@ -19,18 +19,18 @@ let nextTask = 0;
 
 // ---- Workers
 
-function fail(cause) {
+function showFault(cause) {
   $("broken").hidden = false;
   $("broken").textContent = `The page cannot hash here: ${cause}.`;
   $("self").textContent = "failed.";
 }
 
-function tell(worker, { data }) {
+function handleAnswer(worker, { data }) {
   if ("ready" in data) {
-    if (!data.ready) return fail(data.fault ?? "its self-test failed");
+    if (!data.ready) return showFault(data.fault ?? "its self-test failed");
     worker.isFree = true;
     $("self").textContent = "passed.";
-    return start();
+    return startTasks();
   }
   const task = running.get(data.id);
   if ("bytes" in data) return task.progress(data.bytes);
@@ -38,20 +38,20 @@ function tell(worker, { data }) {
   worker.isFree = true;
   if ("digest" in data) task.done(data.digest);
   else task.failed(data.fault);
-  start();
+  startTasks();
 }
 
-function begin() {
+function startWorkers() {
   const count = Math.min(4, navigator.hardwareConcurrency || 2);
   for (let i = 0; i < count; i++) {
     const worker = { isFree: false, thread: new Worker(source) };
-    worker.thread.onmessage = (event) => tell(worker, event);
-    worker.thread.onerror = (event) => fail(event.message ?? "no worker");
+    worker.thread.onmessage = (event) => handleAnswer(worker, event);
+    worker.thread.onerror = (event) => showFault(event.message ?? "no worker");
     workers.push(worker);
   }
 }
 
-function start() {
+function startTasks() {
   for (const worker of workers) {
     if (!worker.isFree || waiting.length === 0) continue;
     const task = waiting.shift();
@@ -63,7 +63,7 @@ function start() {
   }
 }
 
-function stop(task) {
+function stopTask(task) {
   const place = waiting.indexOf(task);
   if (place >= 0) {
     waiting.splice(place, 1);
@@ -75,7 +75,7 @@ function stop(task) {
 
 const sizeOf = (bytes) => `${number.format(bytes)} byte${bytes === 1 ? "" : "s"}`;
 
-async function copy(text, button) {
+async function copyText(text, button) {
   try {
     await navigator.clipboard.writeText(text);
   } catch {
@@ -98,7 +98,7 @@ function rowOf(file, kind) {
   const value = element("code", { textContent: "…" });
   const button = element("button", { type: "button", textContent: "Copy", hidden: true });
   button.setAttribute("aria-label", `Copy the ${nameOf(kind)} of ${file.name}`);
-  button.onclick = () => copy(value.textContent, button);
+  button.onclick = () => copyText(value.textContent, button);
   const name = element("dt", { textContent: nameOf(kind) });
   if (kind.family === "tree") {
     name.append(element("small", { textContent: `leaves of ${leafOf(kind.leafLength)}` }));
@@ -125,7 +125,7 @@ function cardOf(file, count) {
 }
 
 // Adds a task for a worker, and its row. It calls progress with its bytes, and close when it ends.
-function request(item, kind, progress, close) {
+function addTask(item, kind, progress, close) {
   const { file, list, digests, tasks } = item;
   const { row, value, button } = rowOf(file, kind);
   list.append(row);
@@ -155,7 +155,7 @@ function request(item, kind, progress, close) {
   waiting.push(task);
 }
 
-function show(file, kinds) {
+function showFile(file, kinds) {
   const begun = performance.now();
   const { card, bar, state, button, list } = cardOf(file, kinds.length);
   let open = kinds.length;
@@ -168,7 +168,7 @@ function show(file, kinds) {
   };
   const close = (fault) => {
     if (fault !== undefined) faults++;
-    compare();
+    compareDigests();
     if (--open > 0) return;
     const seconds = (performance.now() - begun) / 1000;
     if (document.activeElement === button) card.focus(); // so that the keyboard stays here
@@ -182,15 +182,15 @@ function show(file, kinds) {
   };
   const item = { file, list, digests: [], tasks: [], isStopped: false };
   items.push(item);
-  kinds.forEach((kind, i) => request(item, kind, (bytes) => progress(i, bytes), close));
+  kinds.forEach((kind, i) => addTask(item, kind, (bytes) => progress(i, bytes), close));
   button.onclick = () => {
     item.isStopped = true;
-    item.tasks.forEach(stop);
+    item.tasks.forEach(stopTask);
   };
-  compare();
+  compareDigests();
 }
 
-function take(files) {
+function addFiles(files) {
   const boxes = [...document.querySelectorAll("input[name=kind]:checked")];
   $("choose").hidden = boxes.length > 0;
   if (boxes.length === 0) return document.querySelector("input[name=kind]").focus();
@@ -200,9 +200,9 @@ function take(files) {
     return bits === undefined ? { family: "tree", bits: LONGEST.tree, leafLength }
       : { family, bits: Number(bits), leafLength: undefined };
   });
-  for (const file of files) show(file, kinds);
-  complete();
-  start();
+  for (const file of files) showFile(file, kinds);
+  requestMissing();
+  startTasks();
 }
 
 // ---- The expected digests
@@ -214,21 +214,21 @@ const isIn = (entry, { digests }) =>
   digests.some(({ kind, digest }) => digest === entry.digest && isOf(entry, kind));
 
 // Computes the digests that are expected of a file and that nobody has chosen.
-function complete() {
-  const { byName } = index();
+function requestMissing() {
+  const { byName } = indexDigests();
   for (const entry of expected.entries) {
     for (const item of byName(entry)) {
       if (item.isStopped || isIn(entry, item)) continue;
       for (const kind of entry.kinds) {
         if (item.digests.some((other) => isSameKind(other.kind, kind))) continue;
-        request(item, kind, () => {}, compare);
+        addTask(item, kind, () => {}, compareDigests);
       }
     }
   }
 }
 
 // The files that an entry names, which are all if it names none, and the digests that are equal.
-function index() {
+function indexDigests() {
   const [names, digests] = [new Map(), new Map()];
   const add = (map, key, value) =>
     (map.has(key) ? map.get(key).push(value) : map.set(key, [value]));
@@ -245,7 +245,7 @@ function index() {
 
 // What is known of an entry: the digests that are equal, and a state. A file has not failed if it is
 // one that the manifest has under this name in another folder.
-function judge(entry, { byName, byDigest }) {
+function judgeEntry(entry, { byName, byDigest }) {
   const equal = byDigest(entry);
   const named = byName(entry);
   const namesakes = () => expected.entries.filter((other) =>
@@ -264,7 +264,7 @@ function judge(entry, { byName, byDigest }) {
   return { entry, state, equal };
 }
 
-const say = (text, name) => Object.assign($("verdict"), { textContent: text, className: name });
+const showVerdict = (text, name) => Object.assign($("verdict"), { textContent: text, className: name });
 const plural = (count, word) => `${number.format(count)} ${word}${count === 1 ? "" : "s"}`;
 
 // The verdict on one digest, of whatever file.
@@ -272,11 +272,11 @@ function sayOne({ state, equal }) {
   const count = items.flatMap(({ digests }) => digests).filter(({ digest }) => digest).length;
   if (equal.length > 0) {
     const which = equal.map(({ kind, item }) => `${nameOf(kind)} of ${item.file.name}`);
-    say(`Equal to the ${which.join(" and to the ")}.`, "good");
+    showVerdict(`Equal to the ${which.join(" and to the ")}.`, "good");
   } else if (waiting.length + running.size > 0) {
-    say("Not equal to any digest so far; some are still being computed.", "quiet");
-  } else if (items.length === 0) say("No file has been hashed yet.", "quiet");
-  else say(`Not equal to any of the ${plural(count, "digest")} below.`, "bad");
+    showVerdict("Not equal to any digest so far; some are still being computed.", "quiet");
+  } else if (items.length === 0) showVerdict("No file has been hashed yet.", "quiet");
+  else showVerdict(`Not equal to any of the ${plural(count, "digest")} below.`, "bad");
 }
 
 const SHOWN = 200; // lines of a manifest
@@ -293,7 +293,7 @@ function sayAll(judged) {
     .map(([state, , list]) => `${number.format(list.length)} ${state}`);
   if (expected.wrong > 0) counts.push(`${plural(expected.wrong, "line")} not understood`);
   const worst = ranked.find(([, , list]) => list.length > 0)[1];
-  say(`${plural(judged.length, "digest")}: ${counts.join(", ")}.`,
+  showVerdict(`${plural(judged.length, "digest")}: ${counts.join(", ")}.`,
     worst === "good" && expected.wrong > 0 ? "quiet" : worst);
   const lines = ranked.flatMap(([state, name, list]) => list.map(({ entry }) => element("li", {},
     element("span", { textContent: entry.name ?? entry.digest }),
@@ -305,32 +305,32 @@ function sayAll(judged) {
   }
 }
 
-function compare() {
+function compareDigests() {
   const text = $("wanted").value.trim();
-  const indexed = index();
-  const judged = expected.entries.map((entry) => judge(entry, indexed));
+  const indexed = indexDigests();
+  const judged = expected.entries.map((entry) => judgeEntry(entry, indexed));
   const rows = new Set(judged.flatMap(({ equal }) => equal.map(({ row }) => row)));
   for (const { row } of items.flatMap(({ digests }) => digests)) {
     row.classList.toggle("equal", rows.has(row));
   }
   $("lines").replaceChildren();
-  if (text === "") say("Paste a digest, or lines of b2sum, to compare.", "quiet");
+  if (text === "") showVerdict("Paste a digest, or lines of b2sum, to compare.", "quiet");
   else if (judged.length === 0) {
-    say(
+    showVerdict(
       `This is not a digest of 128 to 512 bits in hexadecimal (${text.length} characters).`, "bad");
   } else if (judged.length === 1 && expected.wrong === 0) sayOne(judged[0]);
   else sayAll(judged);
 }
 
 let pause;
-function expect() {
+function readExpected() {
   expected = entriesOf($("wanted").value.trim());
-  compare();
+  compareDigests();
   clearTimeout(pause); // until a pause in typing
   pause = setTimeout(() => {
-    complete();
-    compare();
-    start();
+    requestMissing();
+    compareDigests();
+    startTasks();
   }, 300);
 }
 
@@ -347,13 +347,13 @@ addEventListener("dragleave", (event) => event.relatedTarget || drop.classList.r
 addEventListener("drop", (event) => {
   event.preventDefault();
   drop.classList.remove("over");
-  take(event.dataTransfer.files);
+  addFiles(event.dataTransfer.files);
 });
 $("files").onchange = ({ target }) => {
-  take([...target.files]);
+  addFiles([...target.files]);
   target.value = "";
 };
-$("wanted").oninput = expect;
+$("wanted").oninput = readExpected;
 document.querySelector(".badge").onclick = () => ($("proved").open = true);
 if (location.hash === "#proved") $("proved").open = true;
-begin();
+startWorkers();

@@ -25,7 +25,7 @@ function testSelf() {
 
 const stops = new Map();
 
-async function run({ id, file, kind: { family, bits, leafLength } }) {
+async function hashFile({ id, file, kind: { family, bits, leafLength } }) {
   const control = new AbortController();
   stops.set(id, control);
   try {
@@ -43,7 +43,7 @@ async function run({ id, file, kind: { family, bits, leafLength } }) {
 }
 
 onmessage = ({ data }) => {
-  if (data.stop === undefined) run(data);
+  if (data.stop === undefined) hashFile(data);
   else stops.get(data.stop)?.abort();
 };
 

@@ -86,7 +86,7 @@ function refuseIf(isRead, caller) {
 }
 
 // Refuses such a source at the call, and from then on for another call.
-function claim(source, caller) {
+function claimSource(source, caller) {
   const isRead = source.locked === true || readersOf(source) > 0 || wasRead(source);
   refuseIf(isRead || passed.has(source), caller);
   passed.add(source);
@@ -94,7 +94,7 @@ function claim(source, caller) {
 
 // The reader of a stream of the web.
 function openStream(source, caller) {
-  claim(source, caller);
+  claimSource(source, caller);
   const reader = source.getReader();
   return {
     next: () => reader.read(),
@@ -109,7 +109,7 @@ function openStream(source, caller) {
 function openIterable(source, caller) {
   const isStream = typeof source.on === "function";
   const iterator = (source[Symbol.asyncIterator] ?? source[Symbol.iterator]).call(source);
-  if (isStream || iterator === source) claim(source, caller); // the second is a generator, say
+  if (isStream || iterator === source) claimSource(source, caller); // the second is a generator, say
   return {
     next() {
       refuseIf(isStream && readersOf(source) > 1, caller);
@@ -132,7 +132,7 @@ function openBlob(blob, caller) {
 // A reader of a source: next returns its chunks as an iterator does, total is its length if that is
 // known, and close releases it, before its end if it is not done. prepare, if it is there, is
 // called first. part, if it is there, returns what a worker reads.
-function open(source, caller) {
+function openReader(source, caller) {
   if (typeof source?.getReader === "function") return openStream(source, caller);
   if (typeof source?.fd === "number" && typeof source.stat === "function") {
     return openFile(source, caller);
@@ -194,7 +194,7 @@ export async function hashStream(kind, Hasher, caller, source, options, rest, wo
   checkSignal(signal, caller);
   const given = integerOf(threads, caller, "threads", 0, MOST_THREADS, 1);
   const count = workers === undefined ? 1 : given || processorCount();
-  const reader = open(source, caller);
+  const reader = openReader(source, caller);
   const control = new AbortController(); // aborts with the signal, or if a worker fails
   const follow = () => control.abort(signal.reason);
   signal?.addEventListener("abort", follow);

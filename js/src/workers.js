@@ -28,7 +28,7 @@ function startFromText() {
 const startFromFile = () =>
   new Worker(new URL("./vulfsjor_worker.js", import.meta.url), { type: "module" });
 
-function listen(worker, onMessage, onFault) {
+function listenTo(worker, onMessage, onFault) {
   if (typeof worker.on === "function") {
     worker.on("message", onMessage).on("messageerror", onFault).on("error", onFault)
       .on("exit", (code) => onFault(new Error(`it exited with code ${code}`)));
@@ -84,7 +84,7 @@ export class RangeWorker {
       return this.#start(others, fault);
     }
     const isCurrent = () => this.#worker === worker;
-    listen(worker, (data) => {
+    listenTo(worker, (data) => {
       if (!isCurrent()) return;
       if (this.#isReady) this.#listeners.onDigests(data);
       else this.#ready();

@@ -61,15 +61,15 @@ const THREADS = `const message = Uint8Array.from({ length: 9_000_001 }, (_, i) =
     [fresh, own, whole, part, locked, canceled, again, used.body].map((stream) =>
       vulfsjor.blake2bStream(stream, { digestLength: 4 }).then(vulfsjor.hex, String)));`;
 const PAGE = `<!DOCTYPE html><title>tests</title><script type="module">
-const send = (answer) => fetch("/done", { method: "POST", body: JSON.stringify(answer) });
+const sendAnswer = (answer) => fetch("/done", { method: "POST", body: JSON.stringify(answer) });
 try {
   ${CHECK}
   ${THREADS}
   const worker = new Worker("/worker.js", { type: "module" });
-  worker.onmessage = ({ data }) => send({ page: answer, worker: data, threads, piped, streams });
-  worker.onerror = (event) => send({ fault: "worker: " + event.message });
+  worker.onmessage = ({ data }) => sendAnswer({ page: answer, worker: data, threads, piped, streams });
+  worker.onerror = (event) => sendAnswer({ fault: "worker: " + event.message });
 } catch (fault) {
-  send({ fault: String(fault) });
+  sendAnswer({ fault: String(fault) });
 }
 </script>`;
 
@@ -133,11 +133,11 @@ const BROWSERS = {
   ],
   "firefox-esr": (folder, url) => ["--headless", "--no-remote", "--profile", folder, url],
 };
-const has = (command) => spawnSync(command, ["--version"]).error === undefined;
+const hasCommand = (command) => spawnSync(command, ["--version"]).error === undefined;
 
 for (const [command, wordsOf] of Object.entries(BROWSERS)) {
   test(`${CASES.length} cases of hashlib and a tree by workers in ${command}`, async (t) => {
-    if (!has(command)) return t.skip(`no ${command}`);
+    if (!hasCommand(command)) return t.skip(`no ${command}`);
     const { fault, page, worker, threads, piped, streams } = await answerOf(command, wordsOf, CASES);
     assert.equal(fault, undefined);
     const [root, byThreads, cause, byOne, failed, ...more] = threads;
@@ -158,7 +158,7 @@ for (const [command, wordsOf] of Object.entries(BROWSERS)) {
 
 test(`${CASES.length} cases of hashlib in jsc, the engine of Safari`, (t) => {
   // jsc does not know --version, and then ends with another status
-  if (!has("jsc")) return t.skip("no jsc");
+  if (!hasCommand("jsc")) return t.skip("no jsc");
   const folder = mkdtempSync(join(tmpdir(), "vulfsjor-jsc-"));
   try {
     // the shell has no atob, and no encoder of texts

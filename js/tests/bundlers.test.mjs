@@ -12,7 +12,7 @@ import { promisify } from "node:util";
 import { startChromium } from "./chromium.mjs";
 
 const top = fileURLToPath(new URL("..", import.meta.url));
-const has = (command) => spawnSync(command, ["--version"]).status === 0;
+const hasCommand = (command) => spawnSync(command, ["--version"]).status === 0;
 const WORKER = "node_modules/vulfsjor/src/vulfsjor_worker.js";
 // A message of two ranges, and its root by hashlib.
 const MESSAGE = "new Uint8Array(5_000_000).map((_, i) => i ^ (i >> 8))";
@@ -29,17 +29,17 @@ const PROGRAM = `import { hex, treeRootStream } from "vulfsjor";
     ? document.body.append(JSON.stringify(answer)) : console.log(JSON.stringify(answer));`;
 
 let folder;
-const path = (name) => join(folder, name);
+const pathOf = (name) => join(folder, name);
 
 before(() => {
   folder = mkdtempSync(join(tmpdir(), "vulfsjor-bundlers-"));
   for (const file of ["package.json", "index.js", "src"]) {
-    cpSync(join(top, file), path(`node_modules/vulfsjor/${file}`), { recursive: true });
+    cpSync(join(top, file), pathOf(`node_modules/vulfsjor/${file}`), { recursive: true });
   }
-  writeFileSync(path("app.mjs"), PROGRAM);
+  writeFileSync(pathOf("app.mjs"), PROGRAM);
   // for bundlers that resolve no names without a plugin
   writeFileSync(
-    path("path.mjs"), PROGRAM.replace('"vulfsjor"', '"./node_modules/vulfsjor/index.js"'));
+    pathOf("path.mjs"), PROGRAM.replace('"vulfsjor"', '"./node_modules/vulfsjor/index.js"'));
 });
 after(() => rmSync(folder, { recursive: true }));
 
@@ -61,11 +61,11 @@ const BUNDLERS = {
 
 for (const [command, write] of Object.entries(BUNDLERS)) {
   test(`bundles of ${command} start their workers in node`, async (t) => {
-    if (!has(command)) return t.skip(`no ${command}`);
+    if (!hasCommand(command)) return t.skip(`no ${command}`);
     await Promise.all(["esm", "iife", "cjs"].map(async (format) => {
       const file = `${command}-${format}/app.${format === "esm" ? "mjs" : "cjs"}`;
       await write(format, file);
-      const { stdout } = await run(process.execPath, [path(file)]);
+      const { stdout } = await run(process.execPath, [pathOf(file)]);
       assert.deepEqual(JSON.parse(stdout), [WANTED], `${command} ${format}`);
     }));
   });
@@ -88,24 +88,24 @@ const SMALL = [
   ["rollup", (from, to) =>
     ["--plugin", "node-resolve", from, "--silent", "--format", "es", "--file", to], MOST_LONG],
   ["webpack", (from, to) => ["--mode", "production", "--entry", `./${from}`, "--output-path",
-    dirname(path(to)), "--output-filename", basename(to), "--stats", "errors-warnings"], MOST],
+    dirname(pathOf(to)), "--output-filename", basename(to), "--stats", "errors-warnings"], MOST],
 ];
 
 for (const [command, wordsOf, most] of SMALL) {
   test(`a bundle by ${command} has only the hash that its program imports`, async (t) => {
-    if (!has(command)) return t.skip(`no ${command}`);
+    if (!hasCommand(command)) return t.skip(`no ${command}`);
     for (const [name, wanted] of Object.entries(DIGESTS)) {
       const [from, to] = [`${name}.mjs`, `${command}-${name}/app.mjs`];
-      writeFileSync(path(from), oneHash(name));
+      writeFileSync(pathOf(from), oneHash(name));
       try {
         await bundle(command, ...wordsOf(from, to));
       } catch (fault) {
         if (!/Cannot find package|Cannot load plugin/.test(fault.stderr)) throw fault;
         return t.skip(`${command} has no plugin that finds packages`);
       }
-      const { stdout } = await run(process.execPath, [path(to)]);
+      const { stdout } = await run(process.execPath, [pathOf(to)]);
       assert.equal(stdout, `${wanted}\n`);
-      const { length } = readFileSync(path(to));
+      const { length } = readFileSync(pathOf(to));
       t.diagnostic(`${name}: ${length} bytes`);
       assert.ok(length <= most, `${length} bytes of ${name} by ${command}`);
     }
@@ -113,12 +113,12 @@ for (const [command, wordsOf, most] of SMALL) {
 }
 
 test("other programs get what they import, too", async (t) => {
-  if (!has("esbuild")) return t.skip("no esbuild");
+  if (!hasCommand("esbuild")) return t.skip("no esbuild");
   const sizeOf = async (names) => {
-    writeFileSync(path("names.mjs"), `import { ${names} } from "vulfsjor"; console.log(${names});`);
+    writeFileSync(pathOf("names.mjs"), `import { ${names} } from "vulfsjor"; console.log(${names});`);
     await bundle("esbuild", "names.mjs", "--bundle", "--minify", "--format=esm",
       "--log-level=warning", "--outfile=names/app.mjs");
-    return readFileSync(path("names/app.mjs")).length;
+    return readFileSync(pathOf("names/app.mjs")).length;
   };
   for (const [names, most] of [
     ["blake2b", MOST], ["blake2s", MOST], ["hex, utf8, fromHex", 5_000],
@@ -132,13 +132,13 @@ test("other programs get what they import, too", async (t) => {
 });
 
 test("plain rollup, by a path, leaves out the modules too", async (t) => {
-  if (!has("rollup")) return t.skip("no rollup");
-  writeFileSync(path("plain.mjs"),
+  if (!hasCommand("rollup")) return t.skip("no rollup");
+  writeFileSync(pathOf("plain.mjs"),
     oneHash("blake2b").replace('"vulfsjor"', '"./node_modules/vulfsjor/index.js"'));
   await bundle("rollup", "plain.mjs", "--silent", "--format", "es", "--file", "plain-rollup/app.mjs");
-  const { stdout } = await run(process.execPath, [path("plain-rollup/app.mjs")]);
+  const { stdout } = await run(process.execPath, [pathOf("plain-rollup/app.mjs")]);
   assert.equal(stdout, `${DIGESTS.blake2b}\n`);
-  assert.ok(readFileSync(path("plain-rollup/app.mjs")).length <= MOST_LONG);
+  assert.ok(readFileSync(pathOf("plain-rollup/app.mjs")).length <= MOST_LONG);
 });
 
 const TYPES = { "": "text/html", ".js": "text/javascript", ".mjs": "text/javascript" };
@@ -149,12 +149,12 @@ const PAGES = {
 
 // Serves folders of bundles: /NAME/PAGE/POLICY/ is the page over the folder NAME, under the policy
 // with this source of workers, or with no policy.
-async function serve(t) {
+async function serveFolders(t) {
   const server = createServer(({ url }, response) => {
     const [, name, page, policy, ...places] = decodeURIComponent(url).split("/");
     const file = places.join("/");
     try {
-      const body = file === "" ? PAGES[page] : readFileSync(path(`${name}/${file}`));
+      const body = file === "" ? PAGES[page] : readFileSync(pathOf(`${name}/${file}`));
       response.setHeader("content-type", TYPES[extname(file)]);
       if (policy !== "none given") {
         response.setHeader("content-security-policy",
@@ -174,13 +174,13 @@ async function serve(t) {
 }
 
 // Opens pages, and asserts that each has the root, and the cause for which no worker was started.
-async function look(t, pages) {
+async function assertPages(t, pages) {
   const chromium = await startChromium().catch((fault) => {
     if (fault.code !== "ENOENT") throw fault;
   });
   if (chromium === undefined) return t.skip("no chromium");
   t.after(() => chromium.close());
-  const address = await serve(t);
+  const address = await serveFolders(t);
   for (const [name, page, policy, cause] of pages) {
     const { until } = await chromium.open(`${address}/${name}/${page}/${policy}/`);
     const [root, ...causes] = JSON.parse(await until("document.body.textContent.trim()", 60));
@@ -194,7 +194,7 @@ async function look(t, pages) {
 const NO_WORKER = /^Error: it could not be started$/;
 
 test("workers start in Chromium with esbuild and without, or one thread hashes", async (t) => {
-  if (!has("esbuild")) return t.skip("no esbuild");
+  if (!hasCommand("esbuild")) return t.skip("no esbuild");
   const build = BUNDLERS.esbuild;
   await Promise.all([
     build("esm", "alone/app.mjs"), build("iife", "alone/app.js"), build("esm", "beside/app.mjs"),
@@ -202,9 +202,9 @@ test("workers start in Chromium with esbuild and without, or one thread hashes",
     bundle("esbuild", WORKER, "--bundle", "--log-level=warning", "--format=esm",
       "--outfile=beside/vulfsjor_worker.js"),
   ]);
-  cpSync(path("path.mjs"), path("plain/app.mjs"));
-  cpSync(path("node_modules"), path("plain/node_modules"), { recursive: true });
-  await look(t, [
+  cpSync(pathOf("path.mjs"), pathOf("plain/app.mjs"));
+  cpSync(pathOf("node_modules"), pathOf("plain/node_modules"), { recursive: true });
+  await assertPages(t, [
     ["plain", "module", "none given"], ["plain", "module", "'self'"],
     ["alone", "module", "none given"], ["alone", "script", "none given"],
     ["alone", "module", "blob:"], ["alone", "script", "blob:"],
@@ -217,10 +217,10 @@ test("workers start in Chromium with esbuild and without, or one thread hashes",
 
 // The module makes a bundle larger than webpack recommends.
 test("webpack finds the file of the worker", async (t) => {
-  if (!has("webpack")) return t.skip("no webpack");
+  if (!hasCommand("webpack")) return t.skip("no webpack");
   await bundle("webpack", "--mode", "production", "--entry", "./app.mjs", "--output-path",
     "webpack", "--output-filename", "app.js", "--stats", "errors-warnings", "--no-performance");
-  await look(t, [
+  await assertPages(t, [
     ["webpack", "script", "none given"], ["webpack", "script", "blob:"],
     ["webpack", "script", "'self'"], ["webpack", "script", "'none'", NO_WORKER],
   ]);

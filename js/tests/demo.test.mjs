@@ -49,7 +49,7 @@ after(async () => {
   rmSync(folder, { recursive: true, force: true });
 });
 
-async function opened(options) {
+async function openPage(options) {
   const page = await chromium.open(PAGE, options);
   await page.until("document.getElementById('self').textContent === 'passed.'");
   const textOf = (id) => page.evaluate(`document.getElementById("${id}").textContent`);
@@ -93,7 +93,7 @@ async function wantedOf(name, leafLength) {
 
 test("files are hashed and shown", async (t) => {
   if (missing) return t.skip(missing);
-  const page = await opened();
+  const page = await openPage();
   await page.hash(Object.keys(FILES));
   const cards = await page.evaluate(CARDS);
   assert.deepEqual(cards.map(({ name }) => name), Object.keys(FILES).reverse());
@@ -119,7 +119,7 @@ test("files are hashed and shown", async (t) => {
 
 test("an expected digest is compared with all digests", async (t) => {
   if (missing) return t.skip(missing);
-  const page = await opened();
+  const page = await openPage();
   const { compare } = page;
   assert.equal(await compare("0".repeat(64)), "No file has been hashed yet. 0");
   await page.hash(["one byte", "empty.txt"]);
@@ -174,7 +174,7 @@ const LINES =
 
 test("a manifest has a verdict for each file, with digests of all lengths", async (t) => {
   if (missing) return t.skip(missing);
-  const page = await opened();
+  const page = await openPage();
   assert.equal(await page.compare(MANIFEST), "8 digests: 8 no such file below. 0");
   await page.evaluate(PAUSE);
   await page.hash(["one byte", "empty.txt"]);
@@ -213,7 +213,7 @@ test("a manifest has a verdict for each file, with digests of all lengths", asyn
 
 test("what is in a manifest and is not here, or is no line of one, is said", LONG, async (t) => {
   if (missing) return t.skip(missing);
-  const page = await opened();
+  const page = await openPage();
   await page.hash(["one byte", "empty.txt"]);
   const b256 = "dedab4ca710107c66d0f9bad9aef7f52f9958e724198fb9981b77e3fb6ae4e56"; // of one byte
   const nothing = "836cc68931c2e4e3e838602eca1902591d216837bafddfe6f0c8cb07"; // of none
@@ -265,7 +265,7 @@ test("what is in a manifest and is not here, or is no line of one, is said", LON
 
 test("a digest is copied, also if the page may not write to the clipboard", LONG, async (t) => {
   if (missing) return t.skip(missing);
-  const page = await opened();
+  const page = await openPage();
   await page.hash(["one byte"]);
   const [{ digests }] = await page.evaluate(CARDS);
   await page.evaluate(`{
@@ -287,7 +287,7 @@ test("a digest is copied, also if the page may not write to the clipboard", LONG
 
 test("what is chosen is computed, of files that are dropped too, and no more", LONG, async (t) => {
   if (missing) return t.skip(missing);
-  const page = await opened();
+  const page = await openPage();
   await page.evaluate(`{
     for (const box of document.querySelectorAll("[name=kind]")) box.checked = false;
     document.getElementById("leaf").value = "4096";
@@ -313,7 +313,7 @@ test("what is chosen is computed, of files that are dropped too, and no more", L
 
 test("files are stopped while hashed or waiting, and a changed one is reported", async (t) => {
   if (missing) return t.skip(missing);
-  const page = await opened();
+  const page = await openPage();
   const large = makeEmpty("large.img");
   truncateSync(large, 3_000_000_000);
   await page.setFiles("#files", [large]);
@@ -380,7 +380,7 @@ test("a page that cannot hash says why, and hashes nothing", LONG, async (t) => 
 
 test("the page is readable, has a name for each control, and connects to nothing", async (t) => {
   if (missing) return t.skip(missing);
-  const page = await opened({ width: 320 });
+  const page = await openPage({ width: 320 });
   await page.hash(["one byte"]);
   assert.equal(await page.evaluate("document.documentElement.scrollWidth <= innerWidth"), true);
   await page.evaluate("document.querySelector('.badge').click()");

@@ -53,7 +53,7 @@ const WANTED = {
   root: "4ad5f8337f5b5822d2d176944d068bf17335acb8797a1f97f0cdf89af9f11e60", // over the first SIZE bytes, as digests
 };
 
-function sparse() {
+function sparseMessage() {
   const bytes = new Uint8Array(SIZE);
   for (const [byte, at, count] of ENDS.slice(0, 2)) bytes.fill(byte, at, at + count);
   return bytes;
@@ -75,7 +75,7 @@ function blobOf(descriptor) {
 const skip = process.env.VULFSJOR_TEST_HUGE ? false : "VULFSJOR_TEST_HUGE is not set";
 
 test("messages of 2^32 bytes and more", { skip }, async (t) => {
-  const message = sparse();
+  const message = sparseMessage();
   const tail = new Uint8Array(1000).fill(3);
   const treeOf = (leafLength) => ({ leafLength, ...options });
   const folder = mkdtempSync(join(tmpdir(), "vulfsjor-"));
@@ -131,7 +131,7 @@ test("messages of 2^32 bytes and more", { skip }, async (t) => {
     });
   }
   await t.test("equal", () => {
-    const other = sparse();
+    const other = sparseMessage();
     assert.equal(equal(message, other), true);
     other[SIZE - 1] ^= 1;
     assert.equal(equal(message, other), false);

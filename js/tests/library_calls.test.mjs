@@ -53,47 +53,47 @@ const message = new Uint8Array(2 * WINDOW);
 const part = (length) => message.subarray(0, length);
 
 // Asserts the calls of some work.
-function makes(work, ...wanted) {
+function assertCalls(work, ...wanted) {
   calls.length = 0;
   work();
   assert.deepEqual(calls, wanted);
 }
 
 test("a message is one call, or updates by pieces", () => {
-  makes(() => blake2b(part(PIECE)), `blake2b ${PIECE}`);
-  makes(() => blake2s(part(3), { key: part(1) }), "blake2s 3");
-  makes(() => blake2s(part(PIECE + 1)),
+  assertCalls(() => blake2b(part(PIECE)), `blake2b ${PIECE}`);
+  assertCalls(() => blake2s(part(3), { key: part(1) }), "blake2s 3");
+  assertCalls(() => blake2s(part(PIECE + 1)),
     "blake2s_init_salt_personal", `blake2s_update ${PIECE}`, "blake2s_update 1", "blake2s_final");
-  makes(() => blake2b(part(3), { salt: part(1) }),
+  assertCalls(() => blake2b(part(3), { salt: part(1) }),
     "blake2b_init_salt_personal", "blake2b_update 3", "blake2b_final");
-  makes(() => blake2b(part(3), { personalization: part(1), tree: { lastNode: true } }),
+  assertCalls(() => blake2b(part(3), { personalization: part(1), tree: { lastNode: true } }),
     "blake2b_init_tree", "blake2b_set_last_node", "blake2b_update 3", "blake2b_final");
-  makes(() => blake2bp(part(PIECE), { key: part(64) }), `blake2bp ${PIECE}`);
-  makes(() => blake2bp(part(PIECE + 1)),
+  assertCalls(() => blake2bp(part(PIECE), { key: part(64) }), `blake2bp ${PIECE}`);
+  assertCalls(() => blake2bp(part(PIECE + 1)),
     "blake2bp_init_salt_personal", `blake2bp_update ${PIECE}`, "blake2bp_update 1",
     "blake2bp_final");
-  makes(() => blake2sp(part(3), { salt: part(1) }),
+  assertCalls(() => blake2sp(part(3), { salt: part(1) }),
     "blake2sp_init_salt_personal", "blake2sp_update 3", "blake2sp_final");
 });
 
 test("a tree takes the whole window at a time", () => {
-  makes(() => treeRoot(part(WINDOW), { leafLength: 5 }),
+  assertCalls(() => treeRoot(part(WINDOW), { leafLength: 5 }),
     "tree_init", `tree_update ${WINDOW}`, "tree_final");
-  makes(() => treeRoot(part(WINDOW + 1), { leafLength: 5 }),
+  assertCalls(() => treeRoot(part(WINDOW + 1), { leafLength: 5 }),
     "tree_init", `tree_update ${WINDOW}`, "tree_update 1", "tree_final");
 });
 
 test("several messages are passed in whole groups that fill window and records", () => {
   const several = (count, length) => Array.from({ length: count }, () => part(length));
-  makes(() => blake2bMany(several(200, 10)),
+  assertCalls(() => blake2bMany(several(200, 10)),
     ...[64, 64, 64, 8].map((count) => `blake2b_many ${count}`));
-  makes(() => blake2sMany(several(65, 0)), "blake2s_many 64", "blake2s_many 1");
+  assertCalls(() => blake2sMany(several(65, 0)), "blake2s_many 64", "blake2s_many 1");
   // five of these fit into the window: a whole group of four, or less than a group of eight
-  makes(() => blake2bMany(several(7, 100_000)), "blake2b_many 4", "blake2b_many 3");
-  makes(() => blake2sMany(several(9, 100_000)), "blake2s_many 5", "blake2s_many 4");
-  makes(() => blake2bMany([part(WINDOW), part(WINDOW - 1), part(1)]),
+  assertCalls(() => blake2bMany(several(7, 100_000)), "blake2b_many 4", "blake2b_many 3");
+  assertCalls(() => blake2sMany(several(9, 100_000)), "blake2s_many 5", "blake2s_many 4");
+  assertCalls(() => blake2bMany([part(WINDOW), part(WINDOW - 1), part(1)]),
     "blake2b_many 1", "blake2b_many 2");
-  makes(() => blake2bMany([part(WINDOW + 1), part(1)]),
+  assertCalls(() => blake2bMany([part(WINDOW + 1), part(1)]),
     "blake2b_init_salt_personal", ...Array(7).fill(`blake2b_update ${PIECE}`),
     `blake2b_update ${WINDOW + 1 - 7 * PIECE}`, "blake2b_final", "blake2b_many 1");
 });
@@ -102,29 +102,29 @@ test("leaves are passed as many as fit into the window with their digests", () =
   const leaves = (length, leafLength) =>
     treeLeaves(part(length), { leafLength, first: 0, ends: true });
   const most = Math.floor(WINDOW / (100 + 64) / 4) * 4 * 100; // whole groups
-  makes(() => leaves(2 * most + 1, 100),
+  assertCalls(() => leaves(2 * most + 1, 100),
     `tree_leaves ${most}`, `tree_leaves ${most}`, "tree_leaves 1");
-  makes(() => leaves(WINDOW - 64, WINDOW - 64), `tree_leaves ${WINDOW - 64}`);
+  assertCalls(() => leaves(WINDOW - 64, WINDOW - 64), `tree_leaves ${WINDOW - 64}`);
   const long = ["tree_init_leaf", ...Array(7).fill(`blake2b_update ${PIECE}`),
     `blake2b_update ${WINDOW - 63 - 7 * PIECE}`, "blake2b_final"];
-  makes(() => leaves(2 * (WINDOW - 63), WINDOW - 63), ...long, ...long);
+  assertCalls(() => leaves(2 * (WINDOW - 63), WINDOW - 63), ...long, ...long);
   const root = (length) => treeRootOfLeaves(part(length), { leafLength: 5 });
-  makes(() => root(WINDOW), `tree_root_of_leaves ${WINDOW}`);
-  makes(() => root(WINDOW + 64), "tree_init_root",
+  assertCalls(() => root(WINDOW), `tree_root_of_leaves ${WINDOW}`);
+  assertCalls(() => root(WINDOW + 64), "tree_init_root",
     ...Array(7).fill(`blake2b_update ${PIECE}`), `blake2b_update ${WINDOW + 64 - 7 * PIECE}`,
     "blake2b_final");
 });
 
 test("equal compares halves of the window", () => {
   const both = (length) => equal(part(length), message.slice(0, length));
-  makes(() => both(0));
-  makes(() => both(WINDOW / 2), `memcmp ${WINDOW / 2}`);
-  makes(() => both(WINDOW / 2 + 1), `memcmp ${WINDOW / 2}`, "memcmp 1");
-  makes(() => equal(part(1), part(2)));
+  assertCalls(() => both(0));
+  assertCalls(() => both(WINDOW / 2), `memcmp ${WINDOW / 2}`);
+  assertCalls(() => both(WINDOW / 2 + 1), `memcmp ${WINDOW / 2}`, "memcmp 1");
+  assertCalls(() => equal(part(1), part(2)));
   // all of it, wherever the first difference is
   const changed = message.slice(0, WINDOW + 1);
   changed[0] ^= 1;
-  makes(() => equal(part(WINDOW + 1), changed),
+  assertCalls(() => equal(part(WINDOW + 1), changed),
     `memcmp ${WINDOW / 2}`, `memcmp ${WINDOW / 2}`, "memcmp 1");
 });
 
@@ -163,19 +163,19 @@ test("every message of many has a digest", () => {
 
 test("short updates wait, and make no call", () => {
   const hash = new Blake2b();
-  makes(() => hash.update(part(WAITING - 1)).update(part(0)).update(part(1)));
-  makes(() => hash.copy().update(part(1)), `blake2b_update ${WAITING + 1}`);
-  makes(() => hash.copy().digest(), `blake2b_update ${WAITING}`, "blake2b_final");
-  makes(() => hash.update(part(PIECE)), `blake2b_update ${PIECE}`, `blake2b_update ${WAITING}`);
-  makes(() => hash.update(part(3)));
-  makes(() => hash.digest(), "blake2b_update 3", "blake2b_final");
-  makes(() => new Blake2s().update(part(9)).reset().update(part(3)).digest(),
+  assertCalls(() => hash.update(part(WAITING - 1)).update(part(0)).update(part(1)));
+  assertCalls(() => hash.copy().update(part(1)), `blake2b_update ${WAITING + 1}`);
+  assertCalls(() => hash.copy().digest(), `blake2b_update ${WAITING}`, "blake2b_final");
+  assertCalls(() => hash.update(part(PIECE)), `blake2b_update ${PIECE}`, `blake2b_update ${WAITING}`);
+  assertCalls(() => hash.update(part(3)));
+  assertCalls(() => hash.digest(), "blake2b_update 3", "blake2b_final");
+  assertCalls(() => new Blake2s().update(part(9)).reset().update(part(3)).digest(),
     "blake2s_init_salt_personal", "blake2s_reset", "blake2s_update 3", "blake2s_final");
   // the states of hashes without options are copies
-  makes(() => new Blake2s().digest(), "blake2s_final");
-  makes(() => new Blake2s({ key: part(1) }).update(part(5)).digest(),
+  assertCalls(() => new Blake2s().digest(), "blake2s_final");
+  assertCalls(() => new Blake2s({ key: part(1) }).update(part(5)).digest(),
     "blake2s_init_salt_personal", "blake2s_update 5", "blake2s_final");
-  makes(() => new Blake2xb().update(part(3)).update(part(4)),
+  assertCalls(() => new Blake2xb().update(part(3)).update(part(4)),
     "blake2xb_init_salt_personal", "blake2xb_update 3", "blake2xb_update 4");
 });
 
@@ -187,18 +187,18 @@ test("what waits is never refused, and what may be refused does not wait", () =>
   }
   const make = () => new Hasher({ ...BLAKE2B, certainBelow: 2000 }, "Blake2b", undefined, 0);
   const run = make().update(part(10)).update(part(1000)).update(part(500)); // 1,510 are absorbed
-  makes(() => run.update(part(490)));
-  makes(() => run.update(part(600)), "blake2b_update 1090");
-  makes(() => run.update(part(1)), "blake2b_update 1"); // now each is a call
-  makes(() => run.update(part(0)), "blake2b_update 0");
+  assertCalls(() => run.update(part(490)));
+  assertCalls(() => run.update(part(600)), "blake2b_update 1090");
+  assertCalls(() => run.update(part(1)), "blake2b_update 1"); // now each is a call
+  assertCalls(() => run.update(part(0)), "blake2b_update 0");
   refused = "blake2b_update";
   assert.throws(() => run.update(part(1)),
     { name: "RangeError", message: "Blake2b.update: the message is too long" });
   assert.throws(() => run.copy().update(part(1)), { name: "RangeError" });
   refused = undefined;
-  makes(() => run.copy().digest(), "blake2b_final");
+  assertCalls(() => run.copy().digest(), "blake2b_final");
   assert.equal(run.copy().hex(), new Blake2b().update(part(2601)).hex());
-  makes(() => run.reset().update(part(1)), "blake2b_reset");
+  assertCalls(() => run.reset().update(part(1)), "blake2b_reset");
 });
 
 test("what the library refuses is an error, and the memory is given up", () => {

@@ -10,7 +10,7 @@ import test from "node:test";
 import { fileURLToPath } from "node:url";
 
 const top = fileURLToPath(new URL("..", import.meta.url));
-const has = (command) => spawnSync(command, ["--version"]).status === 0;
+const hasCommand = (command) => spawnSync(command, ["--version"]).status === 0;
 
 function inFolder(work) {
   const folder = mkdtempSync(join(tmpdir(), "vulfsjor-"));
@@ -22,7 +22,7 @@ function inFolder(work) {
 }
 
 test("npm packs what programs need, and nothing else", (t) => {
-  if (!has("npm")) return t.skip("no npm");
+  if (!hasCommand("npm")) return t.skip("no npm");
   const [{ files, size }] = JSON.parse(
     execFileSync("npm", ["pack", "--json", "--dry-run", top], { encoding: "utf8", stdio: "pipe" }));
   assert.ok(size <= 160_000, `${size} bytes`);
@@ -37,7 +37,7 @@ test("npm packs what programs need, and nothing else", (t) => {
 });
 
 test("npm installs it by the command of the pages, and it needs this folder no longer", (t) => {
-  if (!has("npm")) return t.skip("no npm");
+  if (!hasCommand("npm")) return t.skip("no npm");
   const command = "npm install --install-links PATH/js";
   const commands = ["README.md", "js/README.md"].map((page) =>
     readFileSync(join(top, "..", page), "utf8").match(/npm install [^`\n]*/g));
@@ -72,7 +72,7 @@ test("npm installs it by the command of the pages, and it needs this folder no l
 });
 
 test("the types say what the functions accept", (t) => {
-  if (!has("tsc")) return t.skip("no tsc");
+  if (!hasCommand("tsc")) return t.skip("no tsc");
   inFolder((folder) => {
     mkdirSync(join(folder, "node_modules/vulfsjor"), { recursive: true });
     for (const file of ["package.json", "index.d.ts", "index.js"]) {

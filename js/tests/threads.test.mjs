@@ -13,7 +13,7 @@ import { blake2b, blake2bStream, hex, treeLeaves, treeRootOfLeaves, treeRootStre
 import { processorCount } from "../src/platform.js";
 import {
   MESSAGE, RANGE, SALT, byThreads, counted, ended, inPieces, openMessage, rootOf, withWorkers,
-} from "./workers.mjs";
+} from "./worker_support.mjs";
 
 test("the root by threads is that of one", async () => {
   for (const [length, leafLength] of [

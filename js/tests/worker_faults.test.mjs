@@ -7,7 +7,7 @@ import { treeLeaves, treeRoot, treeRootStream } from "../index.js";
 import { processorCount } from "../src/platform.js";
 import {
   MESSAGE, RANGE, byThreads, counted, ended, inPieces, openMessage, rootOf, withWorkers,
-} from "./workers.mjs";
+} from "./worker_support.mjs";
 
 // Runs the work as a browser would, whose Worker is this class, on a number of processors.
 async function inBrowser(Worker, hardwareConcurrency, work) {
@@ -207,7 +207,7 @@ test("threads is an integer from 0 to 256, onFallback a function, and only of tr
 });
 
 // A source without end, which notes the reason when it is canceled.
-function endless() {
+function endlessSource() {
   const source = { isLetGo: false };
   source.stream = new ReadableStream({
     pull: (controller) => controller.enqueue(new Uint8Array(1_000_000)),
@@ -219,7 +219,7 @@ function endless() {
 test("an abort, or progress that throws, ends it and stops the workers", async () => {
   const fault = new Error("enough");
   for (const act of ["abort", "throw"]) {
-    const [control, source, begun] = [new AbortController(), endless(), []];
+    const [control, source, begun] = [new AbortController(), endlessSource(), []];
     let count = 0;
     const onProgress = () => {
       if (++count < 3) return;
@@ -237,7 +237,7 @@ test("an abort, or progress that throws, ends it and stops the workers", async (
   }
   const begun = [];
   const call = () =>
-    byThreads(endless().stream, { leafLength: 1, signal: AbortSignal.abort(fault) });
+    byThreads(endlessSource().stream, { leafLength: 1, signal: AbortSignal.abort(fault) });
   await assert.rejects(withWorkers(counted(begun), call), fault);
   assert.equal(begun.length, 0);
 });
@@ -253,7 +253,7 @@ test("a worker that fails is an error, and nothing hangs", async () => {
     "it exited with code 0": started("process.exit(0)"),
   };
   for (const [cause, program] of Object.entries(programs)) {
-    for (const source of [endless().stream, new Blob([MESSAGE]), new Blob([])]) {
+    for (const source of [endlessSource().stream, new Blob([MESSAGE]), new Blob([])]) {
       const begun = [];
       const Class = counted(begun, () => [program, { eval: true }]);
       await assert.rejects(withWorkers(Class, () => byThreads(source, { leafLength: 65536 })), {

@@ -21,7 +21,7 @@ fn bytes_around_drop<T>(value: T) -> [Vec<u8>; 2] {
     [before, look(&slot)]
 }
 
-fn holds(bytes: &[u8], text: &[u8]) -> bool {
+fn contains_bytes(bytes: &[u8], text: &[u8]) -> bool {
     bytes.windows(text.len()).any(|window| window == text)
 }
 
@@ -44,7 +44,7 @@ fn dead_stack() -> Vec<u8> {
 
 // Calls below 2 KiB of the stack, so that the frame of `dead_stack` overwrites nothing of the call.
 #[inline(never)]
-fn deeper(call: &dyn Fn()) {
+fn call_deeper(call: &dyn Fn()) {
     let mut room = [0; 2048];
     // Safety: both are a byte of the array.
     unsafe { room.as_mut_ptr().write_volatile(7u8) };
@@ -55,15 +55,15 @@ fn deeper(call: &dyn Fn()) {
 // How many of the 8 bytes' pieces of the key are on the stack after the call, in a new thread.
 fn pieces_left(key: &[u8], call: &(dyn Fn() + Sync)) -> usize {
     let left = || {
-        deeper(call);
+        call_deeper(call);
         let stack = dead_stack();
-        key.chunks(8).filter(|piece| holds(&stack, piece)).count()
+        key.chunks(8).filter(|piece| contains_bytes(&stack, piece)).count()
     };
     std::thread::scope(|scope| scope.spawn(left).join().unwrap())
 }
 
 // The digest of a file that is written in pieces of this length.
-fn written<W: Write>(mut to: W, message: &[u8], piece: usize) -> W {
+fn write_in_pieces<W: Write>(mut to: W, message: &[u8], piece: usize) -> W {
     for piece in message.chunks(piece) {
         assert_eq!(to.write(piece).unwrap(), piece.len());
     }
@@ -79,7 +79,7 @@ macro_rules! family {
             use super::*;
 
             // What an error says, if there is one.
-            fn text_if(is_refused: bool, argument: &str, value: usize, bounds: &str) -> Option<String> {
+            fn message_if_refused(is_refused: bool, argument: &str, value: usize, bounds: &str) -> Option<String> {
                 is_refused.then(|| format!("{argument} is {value}, and must be {bounds}"))
             }
 
@@ -108,17 +108,17 @@ macro_rules! family {
                     assert_eq!(of_one(new().output_size(1)), None);
                     for other in [count + 1, count.saturating_sub(1), count + 256] {
                         let refused =
-                            text_if(other != count, "digests.len()", other, &count.to_string());
+                            message_if_refused(other != count, "digests.len()", other, &count.to_string());
                         assert_eq!(error_of_many::<1>(new(), messages, other), refused);
                     }
                     let bounds = format!("1 to {}", $max);
-                    let refused = |size| text_if(true, "output_size", size, &bounds);
+                    let refused = |size| message_if_refused(true, "output_size", size, &bounds);
                     assert_eq!(error_of_many::<0>(new(), messages, count), refused(0));
                     let found = error_of_many::<{ $max + 1 }>(new(), messages, count);
                     assert_eq!(found, refused($max + 1));
-                    let refused = text_if(true, "output_size", 2, "1");
+                    let refused = message_if_refused(true, "output_size", 2, "1");
                     assert_eq!(of_one(new().output_size(2)), refused);
-                    let refused = text_if(true, "last_node", 1, "0");
+                    let refused = message_if_refused(true, "last_node", 1, "0");
                     assert_eq!(of_one(new().last_node(true)), refused);
                     let tree = Tree::SEQUENTIAL;
                     for (tree, name, value, wanted) in [
@@ -129,15 +129,15 @@ macro_rules! family {
                         (Tree { node_depth: 6, ..tree }, "tree.node_depth", 6, "0"),
                         (Tree { inner_length: 7, ..tree }, "tree.inner_length", 7, "0"),
                     ] {
-                        assert_eq!(of_one(new().tree(tree)), text_if(true, name, value, wanted));
+                        assert_eq!(of_one(new().tree(tree)), message_if_refused(true, name, value, wanted));
                     }
                     for key in [&long[..0], &long[..$max + 1]] {
                         let bounds = format!("1 to {}", $max);
-                        let refused = text_if(true, "key.len()", key.len(), &bounds);
+                        let refused = message_if_refused(true, "key.len()", key.len(), &bounds);
                         assert_eq!(of_one(new().key(key)), refused);
                     }
                     let (text, bounds) = (&long[..$small + 1], format!("0 to {}", $small));
-                    let refused = |name| text_if(true, name, $small + 1, &bounds);
+                    let refused = |name| message_if_refused(true, name, $small + 1, &bounds);
                     assert_eq!(of_one(new().salt(text)), refused("salt.len()"));
                     assert_eq!(of_one(new().persona(text)), refused("persona.len()"));
                 }
@@ -172,10 +172,10 @@ macro_rules! family {
                 let message: Vec<u8> = (0..100_000u32).map(|i| (i % 251) as u8).collect();
                 let key = [9; $max];
                 for piece in [1, 4095, 4096, 4097, 8192, 65_537, 100_000] {
-                    let hasher = written($hasher::new(), &message, piece);
+                    let hasher = write_in_pieces($hasher::new(), &message, piece);
                     assert_eq!(hasher.count(), 100_000);
                     assert_eq!(hasher.finalize(), $hasher::digest(&message));
-                    let mac = written($mac::new(&key).unwrap(), &message, piece);
+                    let mac = write_in_pieces($mac::new(&key).unwrap(), &message, piece);
                     assert_eq!(mac.count(), 100_000);
                     assert_eq!(mac.finalize(), $mac::tag(&key, &message).unwrap());
                 }
@@ -193,14 +193,14 @@ macro_rules! family {
                     mac
                 };
                 let [before, after] = bytes_around_drop(mac());
-                assert!(holds(&before, &key) && before.len() >= 200);
+                assert!(contains_bytes(&before, &key) && before.len() >= 200);
                 assert!(after.iter().all(|byte| *byte == 0));
                 let hasher = || Params::new().key(&key).$make().unwrap();
                 let [before, after] = bytes_around_drop(hasher());
-                assert!(holds(&before, &key) && after.iter().all(|byte| *byte == 0));
-                let hasher_of_text = written($hasher::new(), b"a secret message", 5);
+                assert!(contains_bytes(&before, &key) && after.iter().all(|byte| *byte == 0));
+                let hasher_of_text = write_in_pieces($hasher::new(), b"a secret message", 5);
                 let [before, after] = bytes_around_drop(hasher_of_text);
-                assert!(holds(&before, b"a secret message") && after.iter().all(|byte| *byte == 0));
+                assert!(contains_bytes(&before, b"a secret message") && after.iter().all(|byte| *byte == 0));
                 let [_, after] = bytes_around_drop(hasher().clone());
                 assert!(after.iter().all(|byte| *byte == 0));
             }
@@ -249,12 +249,12 @@ macro_rules! family {
                 let max = $max.to_string();
                 assert_eq!(
                     Some(error),
-                    text_if(true, "the array's length", $max - 1, &max)
+                    message_if_refused(true, "the array's length", $max - 1, &max)
                 );
                 let error = <[u8; $max + 1]>::try_from(digest).unwrap_err().to_string();
                 assert_eq!(
                     Some(error),
-                    text_if(true, "the array's length", $max + 1, &max)
+                    message_if_refused(true, "the array's length", $max + 1, &max)
                 );
                 assert!(bytes[..] == digest && &bytes[..] == digest && array == digest);
                 assert!(&array == digest && digest == &array && bytes == digest && digest == bytes);
@@ -389,15 +389,15 @@ fn trees_are_written_wiped_and_shown() {
     let new = || params.hasher().unwrap();
     let wanted = params.root(&message).unwrap();
     for piece in [1, 999, 4097, 65_537, 100_000] {
-        let hasher = written(new(), &message, piece);
+        let hasher = write_in_pieces(new(), &message, piece);
         assert_eq!(hasher.count(), 100_000);
         assert_eq!(hasher.finalize(), wanted);
         assert_eq!(hasher.clone().finalize(), wanted);
     }
-    let half = written(new(), &message[..50_000], 999).clone();
-    assert_eq!(written(half, &message[50_000..], 4097).finalize(), wanted);
-    let [before, after] = bytes_around_drop(written(new(), &message, 999));
-    assert!(holds(&before, b"salt of the tree") && before.len() >= 900);
+    let half = write_in_pieces(new(), &message[..50_000], 999).clone();
+    assert_eq!(write_in_pieces(half, &message[50_000..], 4097).finalize(), wanted);
+    let [before, after] = bytes_around_drop(write_in_pieces(new(), &message, 999));
+    assert!(contains_bytes(&before, b"salt of the tree") && before.len() >= 900);
     assert!(after.iter().all(|byte| *byte == 0));
     assert_eq!(format!("{:?}", new()), "TreeHasher { .. }");
 }
@@ -413,7 +413,7 @@ fn nothing_is_left_of_a_key_of_an_output() {
         bytes_around_drop(b),
         bytes_around_drop(s),
     ] {
-        assert!(holds(&before, &key) && before.len() >= 200);
+        assert!(contains_bytes(&before, &key) && before.len() >= 200);
         assert!(after.iter().all(|byte| *byte == 0));
     }
 }

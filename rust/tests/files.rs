@@ -34,7 +34,7 @@ const ROOTS: [(u32, usize, &str); 9] = [
         86de0cdb0fcfa5c84af6605fb4dec6bbf327930c6456cb93918ccb6a38c69392"),
 ];
 
-fn message(length: usize) -> Vec<u8> {
+fn message_of(length: usize) -> Vec<u8> {
     let mut bytes = vec![0; length];
     for (i, part) in bytes.chunks_mut(MIB).enumerate() {
         part.fill((7 * i + 1) as u8);
@@ -64,14 +64,14 @@ impl Drop for Temporary {
     }
 }
 
-fn params(leaf_length: u32) -> TreeParams<'static> {
+fn tree_params(leaf_length: u32) -> TreeParams<'static> {
     TreeParams::new(leaf_length).persona(b"files")
 }
 
 #[test]
 fn roots_of_files_and_of_memory() {
     for (i, (leaf_length, length, wanted)) in ROOTS.into_iter().enumerate() {
-        let (bytes, params) = (message(length), params(leaf_length));
+        let (bytes, params) = (message_of(length), tree_params(leaf_length));
         let file = Temporary::with(&format!("roots-{i}"), &bytes);
         let few: &[usize] = if length > 50 * MIB { &[3] } else { &[0, 1, 3] };
         for &threads in few {
@@ -95,9 +95,9 @@ fn roots_of_files_and_of_memory() {
 #[test]
 fn all_parameters_are_those_of_the_root() {
     for (leaf_length, length) in [(1000, 800_000), (17 << 20, 34 << 20)] {
-        let bytes = message(length);
+        let bytes = message_of(length);
         let file = Temporary::with(&format!("parameters-{leaf_length}"), &bytes);
-        let params = params(leaf_length).salt(b"salt").output_size(20);
+        let params = tree_params(leaf_length).salt(b"salt").output_size(20);
         for threads in [1, 2] {
             let root = params.root_file(&file.0, threads).unwrap();
             assert_eq!(root, params.root(&bytes).unwrap());
@@ -109,11 +109,11 @@ fn all_parameters_are_those_of_the_root() {
 #[test]
 fn progress_is_reported() {
     for (i, (leaf_length, length, wanted)) in ROOTS.into_iter().enumerate().take(5) {
-        let file = Temporary::with(&format!("progress-{i}"), &message(length));
+        let file = Temporary::with(&format!("progress-{i}"), &message_of(length));
         for threads in [1, 2, 4] {
             let mut seen = Vec::new();
             let caller = std::thread::current().id();
-            let root = params(leaf_length).root_file_with_progress(&file.0, threads, |bytes| {
+            let root = tree_params(leaf_length).root_file_with_progress(&file.0, threads, |bytes| {
                 assert_eq!(std::thread::current().id(), caller);
                 seen.push(bytes);
                 Ok(())
@@ -144,7 +144,7 @@ fn progress_stops_the_call() {
     for threads in [1, 3] {
         for last in [0, 1, 2] {
             let mut calls = 0;
-            let root = params(1 << 16).root_file_with_progress(&file.0, threads, |_| {
+            let root = tree_params(1 << 16).root_file_with_progress(&file.0, threads, |_| {
                 calls += 1;
                 if calls > last {
                     Err(io::Error::new(ErrorKind::Other, "enough"))
@@ -159,7 +159,7 @@ fn progress_stops_the_call() {
             );
             assert_eq!(calls, last + 1);
         }
-        let call = || params(1 << 16).root_file_with_progress(&file.0, threads, |_| panic!("why"));
+        let call = || tree_params(1 << 16).root_file_with_progress(&file.0, threads, |_| panic!("why"));
         let fault = std::panic::catch_unwind(call).unwrap_err();
         assert_eq!(fault.downcast_ref(), Some(&"why"));
     }
@@ -169,17 +169,17 @@ fn progress_stops_the_call() {
 // so that its end is not read before that.
 #[test]
 fn files_that_change_meanwhile() {
-    let bytes = message(40 * MIB);
+    let bytes = message_of(40 * MIB);
     for leaf_length in [1 << 20, 17 << 20] {
         let file = Temporary::with(&format!("changes-{leaf_length}"), &bytes);
         let opened = File::options().write(true).open(&file.0).unwrap();
         let change = |length: u64| {
             let set = |_| opened.set_len(length);
-            params(leaf_length).root_file_with_progress(&file.0, 2, set)
+            tree_params(leaf_length).root_file_with_progress(&file.0, 2, set)
         };
         assert_eq!(
             change(80 << 20).unwrap(),
-            params(leaf_length).root(&bytes).unwrap()
+            tree_params(leaf_length).root(&bytes).unwrap()
         );
         for shorter in [(1 << 30) - 1, 0] {
             opened.set_len(1 << 30).unwrap();
@@ -194,7 +194,7 @@ fn files_that_change_meanwhile() {
 #[cfg(unix)]
 #[test]
 fn other_files() {
-    let params = params(1 << 16);
+    let params = tree_params(1 << 16);
     for threads in [0, 1, 4] {
         let root = |path: &str| params.root_file(path, threads);
         assert_eq!(root("/dev/null").unwrap().to_hex(), ROOTS[0].2);
@@ -212,7 +212,7 @@ fn other_files() {
             .unwrap()
             .success());
         std::thread::scope(|scope| {
-            scope.spawn(|| fs::write(&pipe.0, message(3 * MIB + 5)).unwrap());
+            scope.spawn(|| fs::write(&pipe.0, message_of(3 * MIB + 5)).unwrap());
             assert_eq!(
                 params.root_file(&pipe.0, threads).unwrap().to_hex(),
                 ROOTS[3].2
@@ -228,14 +228,14 @@ fn files_of_impossible_lengths() {
     let opened = File::create(&file.0).unwrap();
     opened.set_len(1 << 58).unwrap();
     let stop = |_| Err(ErrorKind::Interrupted.into()); // a file that is not refused takes years
-    let root = params(u32::MAX).root_file_with_progress(&file.0, 2, stop);
+    let root = tree_params(u32::MAX).root_file_with_progress(&file.0, 2, stop);
     let error = root.unwrap_err();
     assert_eq!(error.kind(), ErrorKind::InvalidInput);
     let said = "the file's length is 288230376151711744, and must be 0 to 288230376151711743";
     assert_eq!(error.to_string(), said);
     opened.set_len((1 << 58) - 1).unwrap();
     // One byte less is hashed, in leaves whose digests would have 64 times as many bytes.
-    let root = params(1).root_file_with_progress(&file.0, 2, stop);
+    let root = tree_params(1).root_file_with_progress(&file.0, 2, stop);
     assert_eq!(root.unwrap_err().kind(), ErrorKind::Interrupted);
 }
 
@@ -270,7 +270,7 @@ macro_rules! readers {
         #[test]
         fn $test() {
             for length in [0, 1, MIB - 1, MIB, MIB + 1, 2 * MIB, 3 * MIB + 5] {
-                let bytes = message(length);
+                let bytes = message_of(length);
                 let wanted = $new.update(&bytes).finalize();
                 for lengths in [&[1 << 30][..], &[4096], &[MIB - 1, 1, 3]] {
                     let read = |error| {
@@ -297,12 +297,12 @@ readers!(readers_of_blake2b, Blake2b::new());
 readers!(readers_of_blake2s, Blake2s::new());
 readers!(readers_of_blake2b_mac, Blake2bMac::new(b"key").unwrap());
 readers!(readers_of_blake2s_mac, Blake2sMac::new(b"key").unwrap());
-readers!(readers_of_trees, params(1 << 16).hasher().unwrap());
+readers!(readers_of_trees, tree_params(1 << 16).hasher().unwrap());
 
 // What a tree absorbs at a time is a whole buffer, whatever a read returns.
 #[test]
 fn a_reader_fills_the_buffer() {
-    let bytes = message(2 * MIB);
+    let bytes = message_of(2 * MIB);
     let lengths = RefCell::new(Vec::new());
     struct Count<'a>(&'a RefCell<Vec<usize>>, &'a [u8]);
     impl Read for Count<'_> {

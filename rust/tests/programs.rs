@@ -14,14 +14,14 @@ const TOP: &str = env!("CARGO_MANIFEST_DIR");
 const VERSION: &str = env!("CARGO_PKG_VERSION");
 
 // These builds, or without VULFSJOR_TEST_HUGE only the first of them: others take seconds.
-fn some<T>(builds: &[T]) -> &[T] {
+fn some_builds<T>(builds: &[T]) -> &[T] {
     let all = env::var_os("VULFSJOR_TEST_HUGE").is_some();
     &builds[..if all { builds.len() } else { 1 }]
 }
 
 // The profile of a program that is built in one only.
 fn profile() -> &'static str {
-    some(&["dev", "release"]).last().unwrap()
+    some_builds(&["dev", "release"]).last().unwrap()
 }
 
 // A new folder for the test of this name.
@@ -50,7 +50,7 @@ fn cargo(words: &[&str], folder: &Path) -> Command {
 }
 
 // What a command prints, which has to succeed.
-fn printed(command: &mut Command) -> String {
+fn output_of(command: &mut Command) -> String {
     let Output {
         status,
         stdout,
@@ -67,7 +67,7 @@ fn printed(command: &mut Command) -> String {
 fn run(program: &str, words: &[&dyn AsRef<std::ffi::OsStr>]) -> String {
     let mut command = Command::new(program);
     command.args(words.iter().map(|word| word.as_ref()));
-    printed(&mut command)
+    output_of(&mut command)
 }
 
 struct Program {
@@ -105,7 +105,7 @@ impl Program {
     // Builds it in a profile, for the processor that RUSTFLAGS names if they do.
     fn build_for(&self, profile: &str, flags: &str) -> PathBuf {
         let mut cargo = cargo(&["build", "--profile", profile], &self.folder);
-        printed(cargo.env("RUSTFLAGS", flags));
+        output_of(cargo.env("RUSTFLAGS", flags));
         let built = target()
             .join(profile.replace("dev", "debug"))
             .join(&self.name);
@@ -120,7 +120,7 @@ impl Program {
 
     fn prints(&self, profile: &str, wanted: &str) -> PathBuf {
         let built = self.build(profile);
-        assert_eq!(printed(&mut Command::new(&built)), wanted);
+        assert_eq!(output_of(&mut Command::new(&built)), wanted);
         built
     }
 }
@@ -139,7 +139,7 @@ fn code() -> String {
 // The functions of a build in a program, of the crate of this version with the code of this number.
 // Each has the name of its text, which ends in the number, and the one by which the crate of that
 // version calls it. All names are local: those of the texts are labels, and the others are hidden.
-fn held(program: &Path, version: &str, code: &str, build: &str) -> Vec<String> {
+fn functions_held(program: &Path, version: &str, code: &str, build: &str) -> Vec<String> {
     let names = run("nm", &[&program]);
     let end = format!("_{code}_{build}");
     let start = format!("vulfsjor_{version}_vulfsjor_ffi_");
@@ -170,11 +170,11 @@ const BUILDS: &[&str] = &["arm"];
 #[test]
 fn a_program_holds_what_it_calls() {
     let program = Program::new("holds", PRINT_ABC, &[TOP.as_ref()]);
-    for profile in some(&["dev", "release"]) {
+    for profile in some_builds(&["dev", "release"]) {
         let built = program.prints(profile, ABC);
         for build in BUILDS {
             assert_eq!(
-                held(&built, VERSION, &code(), build),
+                functions_held(&built, VERSION, &code(), build),
                 ["blake2b"],
                 "{profile}"
             );
@@ -203,7 +203,7 @@ fn a_library_without_std() {
             loop {}
         }"#;
     fs::write(folder.join("src/lib.rs"), lines).unwrap();
-    printed(&mut cargo(&["build"], &folder));
+    output_of(&mut cargo(&["build"], &folder));
 }
 
 // If the compiler may assume AVX2 or AVX-512, the other builds are left out. Earlier versions of
@@ -211,7 +211,7 @@ fn a_library_without_std() {
 #[test]
 #[cfg(target_arch = "x86_64")]
 fn one_build_if_the_target_has_its_features() {
-    for (cpu, last) in some(&[("v3", "\"movbe\""), ("v4", "\"avx512vl\"")]) {
+    for (cpu, last) in some_builds(&[("v3", "\"movbe\""), ("v4", "\"avx512vl\"")]) {
         let flag = format!("-Ctarget-cpu=x86-64-{cpu}");
         if !run("rustc", &[&"--print", &"cfg", &flag]).contains(*last) {
             continue;
@@ -220,7 +220,7 @@ fn one_build_if_the_target_has_its_features() {
         let built = program.build_for("release", &flag);
         for build in BUILDS {
             let wanted: &[&str] = if build == cpu { &["blake2b"] } else { &[] };
-            assert_eq!(held(&built, VERSION, &code(), build), wanted, "{flag}");
+            assert_eq!(functions_held(&built, VERSION, &code(), build), wanted, "{flag}");
         }
     }
 }
@@ -286,14 +286,14 @@ fn the_package() {
     let folder = folder("package");
     // Without a build of cargo's: one of what is in the package follows.
     let mut package = cargo(&["package", "--allow-dirty", "--no-verify"], TOP.as_ref());
-    printed(package.env("CARGO_HOME", folder.join("home")));
+    output_of(package.env("CARGO_HOME", folder.join("home")));
     let file = target().join(format!("package/vulfsjor-{VERSION}.crate"));
     run("tar", &[&"-C", &folder, &"-xzf", &file]);
     let root = folder.join(format!("vulfsjor-{VERSION}"));
     let files = |root: &Path, parts: &[&str]| {
         let mut find = Command::new("find");
         let mut files: Vec<String> =
-            printed(find.args(parts).args(["-type", "f"]).current_dir(root))
+            output_of(find.args(parts).args(["-type", "f"]).current_dir(root))
                 .lines()
                 .map(String::from)
                 .collect();
@@ -355,11 +355,11 @@ fn two_versions() {
     let same = ["a", "b"].map(|name| format!("{name}::Blake2b::digest(b\"abc\").as_bytes()"));
     let lines = format!("{PRINT_ABC} assert_eq!({});", same.join(", "));
     let program = Program::new("two_versions", &lines, &[TOP.as_ref(), &other]);
-    for profile in some(&["dev", "release", "thin", "fat"]) {
+    for profile in some_builds(&["dev", "release", "thin", "fat"]) {
         let built = program.prints(profile, ABC);
         for build in BUILDS {
             for (version, code) in [(VERSION, &code[..]), ("99.8.7", "789")] {
-                assert_eq!(held(&built, version, code, build), ["blake2b"], "{profile}");
+                assert_eq!(functions_held(&built, version, code, build), ["blake2b"], "{profile}");
             }
         }
     }
@@ -374,16 +374,16 @@ fn next_to_the_library_for_c() {
     );
     let program = Program::new("next_to_c", &lines, &[TOP.as_ref()]);
     let installed = program.folder.join("installed");
-    printed(Command::new(Path::new(TOP).join("c/install.sh")).arg(&installed));
+    output_of(Command::new(Path::new(TOP).join("c/install.sh")).arg(&installed));
     let script = format!(
         "fn main() {{ println!(\"cargo:rustc-link-search=native={}/lib\");
         println!(\"cargo:rustc-link-lib=static=vulfsjor\"); }}",
         installed.display()
     );
     fs::write(program.folder.join("build.rs"), script).unwrap();
-    for profile in some(&["dev", "release"]) {
+    for profile in some_builds(&["dev", "release"]) {
         let built = program.build(profile);
-        assert_eq!(printed(&mut Command::new(built)), ABC);
+        assert_eq!(output_of(&mut Command::new(built)), ABC);
     }
 }
 
@@ -409,7 +409,7 @@ fn through_a_shared_library_of_rust() {
     let of_rust = run("rustc", &[&"--print", &"target-libdir"]);
     let folders = format!("{}:{}", target().join("release").display(), of_rust.trim());
     assert_eq!(
-        printed(Command::new(built).env("LD_LIBRARY_PATH", folders)),
+        output_of(Command::new(built).env("LD_LIBRARY_PATH", folders)),
         ABC
     );
 }
@@ -426,7 +426,7 @@ fn the_example_of_the_page() {
     fs::write(folder.join("Cargo.toml"), package("page") + &block("toml")).unwrap();
     fs::write(folder.join("src/main.rs"), block("rust")).unwrap();
     let wanted = "558430427ccebac579d7b9451be5c621c68783edbaed413ab8f3e9ed84daf503\n";
-    assert_eq!(printed(&mut cargo(&["run", "-q"], &folder)), wanted);
+    assert_eq!(output_of(&mut cargo(&["run", "-q"], &folder)), wanted);
 }
 
 // The lines of b2sum, and an error for a file that is absent.
@@ -436,7 +436,7 @@ fn the_example_sum() {
     let long: Vec<u8> = (0..100_000u64).map(|i| ((i * i) >> 7) as u8).collect();
     fs::write(folder.join("long"), long).unwrap();
     fs::write(folder.join("empty"), "").unwrap();
-    printed(&mut cargo(&["build", "--example", "sum"], TOP.as_ref()));
+    output_of(&mut cargo(&["build", "--example", "sum"], TOP.as_ref()));
     let example = target().join("debug/examples/sum");
     let words = ["long", "absent", "empty"];
     let sum = Command::new(example)
@@ -460,7 +460,7 @@ fn the_example_sum() {
 #[test]
 #[ignore = "needs valgrind"]
 fn a_comparison_takes_equal_time() {
-    printed(&mut cargo(
+    output_of(&mut cargo(
         &["build", "--release", "--example", "equal_time"],
         TOP.as_ref(),
     ));

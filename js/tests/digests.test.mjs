@@ -64,7 +64,7 @@ test("the names that the package has", () => {
   ]);
 });
 
-const native = (name, message) => createHash(name).update(message).digest("hex");
+const nodeDigest = (name, message) => createHash(name).update(message).digest("hex");
 
 test("all lengths from 0 to 600, and around the pieces, compared with node:crypto", () => {
   const piece = 65536;
@@ -76,8 +76,8 @@ test("all lengths from 0 to 600, and around the pieces, compared with node:crypt
   const bytes = randomBytes(2 * window + 300);
   for (const length of lengths) {
     const message = bytes.subarray(0, length);
-    assert.equal(hexOf(blake2b(message)), native("blake2b512", message), String(length));
-    assert.equal(hexOf(blake2s(message)), native("blake2s256", message), String(length));
+    assert.equal(hexOf(blake2b(message)), nodeDigest("blake2b512", message), String(length));
+    assert.equal(hexOf(blake2s(message)), nodeDigest("blake2s256", message), String(length));
   }
   assertClean();
 });
@@ -90,8 +90,8 @@ test("messages in random pieces, compared with node:crypto", () => {
       const piece = message.subarray(at, (at += 1 + randomInt(1 + message.length)));
       for (const run of runs) run.update(piece);
     }
-    assert.equal(runs[0].hex(), native("blake2b512", message));
-    assert.equal(runs[1].hex(), native("blake2s256", message));
+    assert.equal(runs[0].hex(), nodeDigest("blake2b512", message));
+    assert.equal(runs[1].hex(), nodeDigest("blake2s256", message));
   }
 });
 
@@ -99,7 +99,7 @@ const MIB = HUGE ? 256 : 16;
 
 test(`a message of ${MIB} MiB, in one call and in pieces`, () => {
   const message = Buffer.alloc(MIB * 2 ** 20, "all work and no play ");
-  const wanted = native("blake2b512", message);
+  const wanted = nodeDigest("blake2b512", message);
   assert.equal(hexOf(blake2b(message)), wanted);
   assertClean();
   const run = new Blake2b();
