@@ -31,7 +31,7 @@ static const int repetitions[TASKS] = {4096, 1024, 2, 512, 512, 512, 512};
 static double best[2][TASKS][LIBRARIES];
 static uint8_t data[1 << 16], out[64];
 
-static double now(void) {
+static double clock_now(void) {
     struct timespec t;
     clock_gettime(CLOCK_MONOTONIC, &t);
     return t.tv_sec * 1e9 + t.tv_nsec;
@@ -40,12 +40,12 @@ static double now(void) {
 /* Times the call, whose answer is of no use here, and keeps the best. */
 #define TIME(family, task, library, call)                                       \
     do {                                                                        \
-        double begun = now();                                                   \
+        double begun = clock_now();                                                   \
         for (int i = 0; i < repetitions[task]; i++) {                           \
             int answer = call;                                                  \
             __asm__ volatile("" ::"r"(answer) : "memory");                      \
         }                                                                       \
-        double each = (now() - begun) / repetitions[task];                      \
+        double each = (clock_now() - begun) / repetitions[task];                      \
         double *kept = &best[family][task][library];                            \
         if (*kept == 0 || each < *kept) *kept = each;                           \
     } while (0)
@@ -97,7 +97,7 @@ static void turn_of_evp(int family, EVP_MD_CTX *context, const EVP_MD *algorithm
 }
 #endif
 
-static void print(int family, const char *name) {
+static void print_table(int family, const char *name) {
     printf("| %s, ns | ours | libb2 | OpenSSL's EVP |\n| --- | --- | --- | --- |\n", name);
     for (int task = 0; task < TASKS; task++) {
         printf("| %s | %.1f |", titles[task], best[family][task][OURS]);
@@ -128,7 +128,7 @@ int main(int argc, char **argv) {
         for (int family = 0; family < 2; family++) turn_of_evp(family, context, algorithms[family]);
 #endif
     }
-    print(0, "BLAKE2b-512");
-    print(1, "BLAKE2s-256");
+    print_table(0, "BLAKE2b-512");
+    print_table(1, "BLAKE2s-256");
     return 0;
 }

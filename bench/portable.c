@@ -42,7 +42,7 @@ static void sodium_b(const uint8_t *message, size_t length, uint8_t *digest) {
 }
 #endif
 
-static double seconds(void) {
+static double processor_seconds(void) {
     struct timespec now;
     clock_gettime(CLOCK_PROCESS_CPUTIME_ID, &now);
     return (double)now.tv_sec + 1e-9 * (double)now.tv_nsec;
@@ -51,17 +51,17 @@ static double seconds(void) {
 static uint8_t message[1 << 20];
 
 /* The seconds for the hashes of this many bytes in messages of a length. */
-static double measured(hash *f, size_t length, size_t total) {
+static double measure(hash *f, size_t length, size_t total) {
     uint8_t digest[64];
-    double begin = seconds();
+    double begin = processor_seconds();
     for (size_t done = 0; done < total; done += length) {
         f(message, length, digest);
         message[done / length % 64] ^= digest[0];
     }
-    return seconds() - begin;
+    return processor_seconds() - begin;
 }
 
-static void compare(const char *family, size_t length, size_t total, hash *functions[3]) {
+static void compare_functions(const char *family, size_t length, size_t total, hash *functions[3]) {
     static const char *const names[3] = {"ours", "plain", "sodium"};
     uint8_t digests[3][64] = {{0}};
     double best[3] = {1e9, 1e9, 1e9};
@@ -73,7 +73,7 @@ static void compare(const char *family, size_t length, size_t total, hash *funct
     }
     for (int turn = 0; turn < 7; turn++)
         for (int k = 0; k < 3; k++) {
-            double time = functions[k] ? measured(functions[k], length, total) : 1e9;
+            double time = functions[k] ? measure(functions[k], length, total) : 1e9;
             if (time < best[k]) best[k] = time;
         }
     for (int k = 0; k < 3; k++) {
@@ -91,9 +91,9 @@ int main(int count, char **words) {
 #ifdef SODIUM
     wide[2] = sodium_b;
 #endif
-    compare("b", 1 << 20, total, wide);
-    compare("s", 1 << 20, total, narrow);
-    compare("b", 64, total / 8, wide);
-    compare("s", 64, total / 8, narrow);
+    compare_functions("b", 1 << 20, total, wide);
+    compare_functions("s", 1 << 20, total, narrow);
+    compare_functions("b", 64, total / 8, wide);
+    compare_functions("s", 64, total / 8, narrow);
     return 0;
 }

@@ -30,7 +30,7 @@ void each_blake2s256(const uint8_t *messages, size_t length, uint8_t *out)
         vulfsjor_ffi_blake2s(out + 32 * j, 32, messages + j * (length / 8), length / 8, &none, 0);
 }
 
-static void cut(vulfsjor_message *given, size_t count, const uint8_t *messages, size_t length)
+static void cut_messages(vulfsjor_message *given, size_t count, const uint8_t *messages, size_t length)
 {
     for (size_t j = 0; j < count; j++)
         given[j] = (vulfsjor_message){messages + j * (length / count), length / count};
@@ -39,7 +39,7 @@ static void cut(vulfsjor_message *given, size_t count, const uint8_t *messages, 
 static void several_blake2b(size_t count, const uint8_t *messages, size_t length, uint8_t *out)
 {
     vulfsjor_message given[MOST];
-    cut(given, count, messages, length);
+    cut_messages(given, count, messages, length);
     if (vulfsjor_ffi_blake2b_many(out, count * 64, 64, given, count, &none, 0, &none, 0, &none, 0))
         abort();
 }
@@ -57,7 +57,7 @@ void several_blake2b512_8(const uint8_t *messages, size_t length, uint8_t *out)
 void several_blake2s256(const uint8_t *messages, size_t length, uint8_t *out)
 {
     vulfsjor_message given[MOST];
-    cut(given, 8, messages, length);
+    cut_messages(given, 8, messages, length);
     if (vulfsjor_ffi_blake2s_many(out, 8 * 32, 32, given, 8, &none, 0, &none, 0, &none, 0))
         abort();
 }

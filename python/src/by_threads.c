@@ -26,7 +26,7 @@ typedef struct listener {
 } listener;
 
 /* Handles signals, and then calls the callback. Not 0 if either has raised an exception, which ends the job. */
-static int tell(void *context, uint64_t count) {
+static int report_to_python(void *context, uint64_t count) {
     listener *to = context;
     PyObject *done = NULL;
     int failed;
@@ -46,7 +46,7 @@ static int tell(void *context, uint64_t count) {
 static job job_of(const vulfsjor_tree_state *tree, listener *to) {
     return (job){.salt = tree->salt, .personal = tree->personal, .saltlen = (size_t)tree->salt_length,
                  .personallen = (size_t)tree->personal_length, .leaf_length = vulfsjor_tree_leaf_length(tree),
-                 .gate = GATE, .progress = tell, .context = to};
+                 .gate = GATE, .progress = report_to_python, .context = to};
 }
 
 /* The next two begin and end what runs without the GIL. */
@@ -61,7 +61,7 @@ static void take_up(listener *to, int before) {
 }
 
 /* 0, or -1 with the exception of the callback or of this error. */
-static int raised(int error) {
+static int raise_error(int error) {
     if (PyErr_Occurred()) return -1;
     if (error == ENOMEM) PyErr_NoMemory();
     else if (error) PyErr_SetString(PyExc_OverflowError, "2^58 bytes or more");
@@ -73,7 +73,7 @@ static int raised_of_file(int error, int file, uint64_t length, PyObject *path) 
     const char *shorter = "the file became shorter while it was read";
     unsigned char last;
     PyObject *exception;
-    if (PyErr_Occurred() || !error || error == ENOMEM || error == EFBIG) return raised(error);
+    if (PyErr_Occurred() || !error || error == ENOMEM || error == EFBIG) return raise_error(error);
     if (error == EIO && !read_from(file, &last, 1, length - 1)) {
         exception = PyObject_CallFunction(PyExc_OSError, "isO", error, shorter, path);
         if (exception) PyErr_SetObject(PyExc_OSError, exception);
@@ -92,7 +92,7 @@ int root_by_threads(const vulfsjor_tree_state *tree, uint8_t *out, const Py_buff
     j.bytes = vulfsjor_text(view->buf);
     error = root_of_bytes(&j, out, vulfsjor_tree_digest_size(tree), (size_t)view->len, threads);
     take_up(&to, before);
-    return raised(error);
+    return raise_error(error);
 }
 
 int root_of_regular_file(const vulfsjor_tree_state *tree, uint8_t *out, int file, uint64_t length, unsigned threads,
@@ -117,5 +117,5 @@ int update_tree_by_threads(vulfsjor_tree_state *tree, const Py_buffer *view, uns
     j.bytes = vulfsjor_text(view->buf);
     error = absorb_input(&j, tree, (size_t)view->len, threads);
     take_up(&to, before);
-    return raised(error);
+    return raise_error(error);
 }

@@ -199,7 +199,7 @@ void leave_lock(PyThread_type_lock lock) {
 }
 
 /* Absorbs the bytes. 0, or -1 with an exception. */
-static int take(hash *self, PyObject *data) {
+static int absorb(hash *self, PyObject *data) {
     Py_buffer view;
     int status, is_long;
     if (view_of(data, &view)) return -1;
@@ -223,7 +223,7 @@ static int take(hash *self, PyObject *data) {
 
 /* A zeroed object. The types have no subclasses, so this and PyObject_Free are their allocator,
  * called without a search for the slot. */
-static hash *empty(PyTypeObject *type, const family *f, int size, int is_keyed) {
+static hash *new_object(PyTypeObject *type, const family *f, int size, int is_keyed) {
     hash *self = (hash *)PyType_GenericAlloc(type, 0);
     if (!self) return NULL;
     self->f = f;
@@ -272,17 +272,17 @@ static int check_given(given *g, const family *f) {
     return 0;
 }
 
-static int begin(hash *self, const given *g) {
+static int initialize(hash *self, const given *g) {
     if (self->f->init(&self->run, (size_t)g->size, &g->key, &g->salt, &g->person, &g->tree) ||
         (g->last && self->f->set_last_node(&self->run))) {
         PyErr_SetString(PyExc_SystemError, "the library refuses what was checked");
         return -1;
     }
-    return g->data ? take(self, g->data) : 0;
+    return g->data ? absorb(self, g->data) : 0;
 }
 
 /* Reads the arguments. 0 if one has the wrong type or name, with an exception. */
-static int parse(PyObject *args, PyObject *words, const family *f, given *g) {
+static int parse_arguments(PyObject *args, PyObject *words, const family *f, given *g) {
     static char *names[] = {"",          "digest_size", "key",        "salt",       "person",
                             "fanout",    "depth",       "leaf_size",  "node_offset", "node_depth",
                             "inner_size", "last_node",  "usedforsecurity", NULL};
@@ -301,11 +301,11 @@ static PyObject *make(PyTypeObject *type, PyObject *args, PyObject *words, const
     hash *self = NULL;
     if (!words && PyTuple_Size(args) <= 1) { /* nothing but data, which needs no search for words */
         g.data = PyTuple_Size(args) ? PyTuple_GetItem(args, 0) : NULL;
-    } else if (!parse(args, words, f, &g)) {
+    } else if (!parse_arguments(args, words, f, &g)) {
         return NULL;
     }
-    if (!check_given(&g, f)) self = empty(type, f, g.size, g.key.len > 0);
-    if (self && begin(self, &g)) Py_CLEAR(self);
+    if (!check_given(&g, f)) self = new_object(type, f, g.size, g.key.len > 0);
+    if (self && initialize(self, &g)) Py_CLEAR(self);
     release_given(&g);
     return (PyObject *)self;
 }
@@ -319,8 +319,8 @@ static PyObject *make_mac(PyTypeObject *type, PyObject *args, PyObject *words, c
     if (!PyArg_ParseTupleAndKeywords(args, words, arguments, names, &g.key, &g.data, to_size,
                                      &g.size, &g.salt, &g.person))
         return NULL;
-    if (!check_key(&g.key, f->key) && !check_given(&g, f)) self = empty(type, f, g.size, 1);
-    if (self && begin(self, &g)) Py_CLEAR(self);
+    if (!check_key(&g.key, f->key) && !check_given(&g, f)) self = new_object(type, f, g.size, 1);
+    if (self && initialize(self, &g)) Py_CLEAR(self);
     release_given(&g);
     return (PyObject *)self;
 }
@@ -335,7 +335,7 @@ static void end_of_life(PyObject *object) {
 }
 
 static PyObject *update(PyObject *self, PyObject *data) {
-    if (take((hash *)self, data)) return NULL;
+    if (absorb((hash *)self, data)) return NULL;
     Py_RETURN_NONE;
 }
 
@@ -348,7 +348,7 @@ static void copy_state(hash *self, state *copied) {
 
 static PyObject *copy(PyObject *object, PyObject *none) {
     hash *self = (hash *)object;
-    hash *made = empty(Py_TYPE(object), self->f, self->size, self->is_keyed);
+    hash *made = new_object(Py_TYPE(object), self->f, self->size, self->is_keyed);
     (void)none;
     if (made) copy_state(self, &made->run);
     return (PyObject *)made;
@@ -459,7 +459,7 @@ static void let_go(messages *m) {
 
 /* Takes hold of the objects of a tuple. 0, or -1 with an exception. let_go follows in either
  * case. */
-static int hold(messages *m, PyObject *tuple) {
+static int hold_tuple(messages *m, PyObject *tuple) {
     Py_ssize_t count = PyTuple_Size(tuple);
     m->count = 0;
     m->views = PyMem_Calloc((size_t)count, sizeof *m->views);
@@ -532,7 +532,7 @@ static PyObject *tuple_of(PyObject *data) {
 static PyObject *digests_of_tuple(PyObject *tuple, const given *g, const family *f) {
     PyObject *list = NULL;
     messages held;
-    if (!hold(&held, tuple)) list = digests_of(&held, g, f);
+    if (!hold_tuple(&held, tuple)) list = digests_of(&held, g, f);
     let_go(&held);
     return list;
 }
@@ -628,12 +628,12 @@ MAC(blake2sp, 32, 8, EXTENSION("BLAKE2sp"))
 
 /* The class of these classes, so that no program changes them. (The limited API can't set the flag
  * of immutable types on one that has constants.) */
-static int refuse(PyObject *type, PyObject *name, PyObject *value) {
+static int refuse_attribute(PyObject *type, PyObject *name, PyObject *value) {
     (void)type, (void)value;
     PyErr_Format(PyExc_TypeError, "cannot set %R attribute of immutable type", name);
     return -1;
 }
-static PyType_Slot slots_of_types[] = {{Py_tp_setattro, refuse}, {0, NULL}};
+static PyType_Slot slots_of_types[] = {{Py_tp_setattro, refuse_attribute}, {0, NULL}};
 static PyType_Spec spec_of_types = {"vulfsjor._type", 0, 0, Py_TPFLAGS_DEFAULT, slots_of_types};
 
 /* The next two: 0, or -1 with an exception. */
@@ -712,7 +712,7 @@ static int ask_processor(PyObject *module) {
     return -1;
 }
 
-static int fill(PyObject *module) {
+static int fill_module(PyObject *module) {
     static const struct {
         PyType_Spec *spec, *mac;
         const family *f;
@@ -756,7 +756,7 @@ static void free_classes(void *module) { clear_classes(module); }
  * interpreters with a GIL each, from 3.12 on. They have their numbers here, since the limited API
  * of 3.11 has no names for them, and an earlier Python refuses them. */
 static PyModuleDef_Slot module_slots[] = {
-    {4, (void *)1}, {3, (void *)2}, {Py_mod_exec, ask_processor}, {Py_mod_exec, fill}, {0, NULL}};
+    {4, (void *)1}, {3, (void *)2}, {Py_mod_exec, ask_processor}, {Py_mod_exec, fill_module}, {0, NULL}};
 static PyModuleDef module = {
     PyModuleDef_HEAD_INIT, "vulfsjor._library", "The functions of the package vulfsjor, in C.",
     sizeof(classes), functions, NULL, visit_classes, clear_classes, free_classes};

@@ -61,7 +61,7 @@ static void release_given(given *g) {
 }
 
 /* Initializes a state with what was checked. 0, or -1 with an exception. */
-static int init(vulfsjor_tree_state *tree, const given *g) {
+static int initialize(vulfsjor_tree_state *tree, const given *g) {
     if (!vulfsjor_tree_init(tree, (size_t)g->size, TEXT(&g->salt), TEXT(&g->person), g->leaf_length))
         return 0;
     PyErr_SetString(PyExc_SystemError, "the library refuses what was checked");
@@ -84,7 +84,7 @@ static int root_by_one(const given *g, uint8_t *out, const Py_buffer *view) {
 /* The same by several threads. */
 static int root_by_several(const given *g, uint8_t *out, const Py_buffer *view) {
     vulfsjor_tree_state tree;
-    if (init(&tree, g)) return -1;
+    if (initialize(&tree, g)) return -1;
     return root_by_threads(&tree, out, view, g->threads);
 }
 
@@ -241,7 +241,7 @@ typedef struct tree {
 } tree;
 
 /* An object with a lock and a zeroed state. */
-static tree *empty(PyTypeObject *type, uint32_t leaf_size, int digest_size) {
+static tree *new_tree(PyTypeObject *type, uint32_t leaf_size, int digest_size) {
     allocfunc allocate = (allocfunc)PyType_GetSlot(type, Py_tp_alloc);
     tree *self = (tree *)allocate(type, 0);
     if (!self) return NULL;
@@ -261,8 +261,8 @@ static PyObject *make(PyTypeObject *type, PyObject *args, PyObject *words) {
     if (!PyArg_ParseTupleAndKeywords(args, words, "O|$O&y*y*:TreeHasher", names, &g.leaf, to_size,
                                      &g.size, &g.salt, &g.person))
         return NULL;
-    if (!check_given(&g)) self = empty(type, g.leaf_length, g.size);
-    if (self && init(&self->run, &g)) Py_CLEAR(self);
+    if (!check_given(&g)) self = new_tree(type, g.leaf_length, g.size);
+    if (self && initialize(&self->run, &g)) Py_CLEAR(self);
     release_given(&g);
     return (PyObject *)self;
 }
@@ -441,7 +441,7 @@ static PyObject *leaves_ahead(PyObject *object, PyObject *args, PyObject *words)
 }
 
 static PyObject *copy(PyObject *object, PyObject *none) {
-    tree *self = (tree *)object, *made = empty(Py_TYPE(object), self->leaf_size, self->digest_size);
+    tree *self = (tree *)object, *made = new_tree(Py_TYPE(object), self->leaf_size, self->digest_size);
     (void)none;
     if (made) copy_state(self, &made->run);
     return (PyObject *)made;

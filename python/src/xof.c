@@ -50,7 +50,7 @@ typedef struct output {
     state run;
 } output;
 
-static output *empty(PyTypeObject *type, const kind *k) {
+static output *new_output(PyTypeObject *type, const kind *k) {
     output *self = (output *)PyType_GenericAlloc(type, 0);
     if (!self) return NULL;
     self->k = k;
@@ -62,7 +62,7 @@ static output *empty(PyTypeObject *type, const kind *k) {
 }
 
 /* Absorbs the bytes. 0, or -1 with an exception. */
-static int take(output *self, PyObject *data) {
+static int absorb(output *self, PyObject *data) {
     Py_buffer view;
     int status;
     if (view_of(data, &view)) return -1;
@@ -99,12 +99,12 @@ static PyObject *make(PyTypeObject *type, PyObject *args, PyObject *words, const
     if (!length_of(given, k->unknown, k->unknown - 1, &length) &&
         !check_text(&salt, k->salt, "salt") && !check_text(&person, k->salt, "person") &&
         !check_text(&key, k->key, "key"))
-        self = empty(type, k);
+        self = new_output(type, k);
     if (self && k->init(&self->run, length, &key, &salt, &person)) {
         PyErr_SetString(PyExc_SystemError, "the library refuses what was checked");
         Py_CLEAR(self);
     }
-    if (self && data && take(self, data)) Py_CLEAR(self);
+    if (self && data && absorb(self, data)) Py_CLEAR(self);
     release(&key);
     release(&salt);
     release(&person);
@@ -121,7 +121,7 @@ static void end_of_life(PyObject *object) {
 }
 
 static PyObject *update(PyObject *self, PyObject *data) {
-    if (take((output *)self, data)) return NULL;
+    if (absorb((output *)self, data)) return NULL;
     Py_RETURN_NONE;
 }
 
@@ -133,14 +133,14 @@ static void copy_state(output *self, state *copied) {
 }
 
 static PyObject *copy(PyObject *object, PyObject *none) {
-    output *self = (output *)object, *made = empty(Py_TYPE(object), self->k);
+    output *self = (output *)object, *made = new_output(Py_TYPE(object), self->k);
     (void)none;
     if (made) copy_state(self, &made->run);
     return (PyObject *)made;
 }
 
 /* The next bytes of this output, or NULL with an exception. The GIL is released meanwhile. */
-static PyObject *squeezed(const kind *k, state *run, size_t length) {
+static PyObject *squeeze(const kind *k, state *run, size_t length) {
     PyObject *out = PyBytes_FromStringAndSize(NULL, (Py_ssize_t)length);
     char *bytes;
     int status;
@@ -164,7 +164,7 @@ static PyObject *digest(PyObject *object, PyObject *given) {
     copy_state(self, &copied);
     left = k->left(&copied);
     if (left > PY_SSIZE_T_MAX) left = PY_SSIZE_T_MAX;
-    if (!range_of(given, 0, left, "length", &length)) out = squeezed(k, &copied, (size_t)length);
+    if (!range_of(given, 0, left, "length", &length)) out = squeeze(k, &copied, (size_t)length);
     k->wipe(&copied);
     return out;
 }
@@ -220,7 +220,7 @@ TYPE(blake2xb, "4294967294", "64", "16")
 TYPE(blake2xs, "65534", "32", "8")
 
 /* A key of this length. The GIL is released meanwhile. */
-static PyObject *derived(size_t length, const Py_buffer *key, const Py_buffer *context) {
+static PyObject *derive(size_t length, const Py_buffer *key, const Py_buffer *context) {
     PyObject *out = PyBytes_FromStringAndSize(NULL, (Py_ssize_t)length);
     char *bytes;
     int status;
@@ -243,7 +243,7 @@ static PyObject *derive_key(PyObject *module, PyObject *args, PyObject *words) {
     if (!PyArg_ParseTupleAndKeywords(args, words, "y*y*O:derive_key", names, &key, &context, &given))
         return NULL;
     if (!check_key(&key, blake2xb.key) && !range_of(given, 1, blake2xb.unknown - 1, "length", &length))
-        out = derived((size_t)length, &key, &context);
+        out = derive((size_t)length, &key, &context);
     release(&key);
     release(&context);
     return out;
