@@ -1,6 +1,7 @@
 #!/usr/bin/env python3
 """The cases in which whole_calls.py shows the exported functions of BLAKE2b and BLAKE2s: together
-all inputs of each. In a case, some lengths are numbers, and others variables between two bounds.
+all inputs of each. Those of BLAKE2X are in xof_cases.py. In a case, some lengths are numbers, and
+others variables between two bounds.
 
     tests/machine/call_cases.py FILE FAMILY EXPORT    one function, such as
                                 dist/x86_64/vulfsjor-v3.s blake2b _final
@@ -15,8 +16,8 @@ from typing import Any, Callable, Iterator
 import program as programs
 import call_specification as S
 import constant_time
-import examples
 import facts
+import path_values
 import rfc7693 as R
 import terms as T
 from constant_time import STACK
@@ -28,7 +29,7 @@ from terms import CannotShow, IsWrong
 from whole_calls import Calls, Terms
 
 MOST = (1 << 64) - 1
-KINDS = {"blake2b": R.BLAKE2B, "blake2s": R.BLAKE2S}
+KINDS = {"blake2b": R.BLAKE2B, "blake2s": R.BLAKE2S, "blake2xb": R.BLAKE2B, "blake2xs": R.BLAKE2S}
 REFUSED = (1 << 32) - 1                # -1, as a word of 32 bits
 FREE = (0, MOST)
 
@@ -38,14 +39,14 @@ class Setup:
 
     arguments: list
 
-    def __init__(self, calls: Calls, kind: R.Kind, alignment: tuple) -> None:
-        self.calls, self.kind, self.alignment = calls, kind, alignment
+    def __init__(self, calls: Calls, kind: R.Kind, alignment: tuple, wiped: S.State) -> None:
+        self.calls, self.kind, self.alignment, self.wiped = calls, kind, alignment, wiped
         self.sp, self.arguments, self.known = T.var(64, "sp", T.PUBLIC), [], Facts()
         self.regions: dict = {image(): Cells(0, 1 << 32, calls.program.constant, False, (4096, 0))}
         self.state_at: Any = None
         self.out: Any = None
         self.cells: list = []
-        self.reads_key: tuple = ()     # the condition of must_scrub, if the call absorbs bytes
+        self.reads_key: tuple = ()     # the conditions of must_scrub, if the call absorbs bytes
 
     def number(self, name: str, low: int = 0, high: int = MOST) -> T.Term:
         """A variable between two numbers, or a number."""
@@ -82,15 +83,15 @@ class Setup:
 
     def pass_state(self, **fields: tuple) -> S.State:
         """A pointer to a state with these numbers; other fields have any values."""
-        kind = self.kind
-        limits: dict = dict.fromkeys(S.State.FIELDS[2:7], FREE)
-        limits.update(fields)
-        secret = lambda name, n: [(T.var(8, "%s.%d" % (name, k), T.SECRET), 0) for k in range(n)]
-        words = lambda name: [b for k in range(8) for b in T.split(
-            T.var(kind.w, "%s.%d" % (name, k), T.SECRET))]
-        numbers = [self.number(name, *limits[name]) for name in S.State.FIELDS[2:7]]
-        self.state = S.State(words("chain"), words("first"), *numbers,
-                             secret("pending", kind.block), secret("start", kind.block))
+        values = {}
+        for name in self.wiped.FIELDS:
+            old, w = getattr(self.wiped, name), self.kind.w if name in ("chain", "first") else 8
+            given = fields.get(name, FREE)
+            values[name] = given if isinstance(given, T.Term) else self.number(
+                name, *given) if isinstance(old, int) else [
+                b for k in range(8 * len(old) // w) for b in T.split(
+                    T.var(w, "%s.%d" % (name, k), T.SECRET))]
+        self.state = self.wiped.but(**values)
         self.cells = self.bytes_of(self.state)
         self.state_at = self.address("state")
         self.regions[self.state_at] = Cells(0, len(self.cells), lambda k: self.cells[k])
@@ -101,7 +102,7 @@ class Setup:
     def bytes_of(state: S.State) -> list:
         """The bytes of a state in memory."""
         found = []
-        for name in S.State.FIELDS:
+        for name in state.FIELDS:
             value = getattr(state, name)
             found += value if isinstance(value, list) else T.split(
                 T.const(64, value) if isinstance(value, int) else value)
@@ -168,6 +169,8 @@ class Setup:
 
     def need(self, what: str, m: Any, found: list, wanted: list) -> None:
         """Refuses other bytes than are wanted."""
+        if len(found) != len(wanted):
+            raise CannotShow("%s has %d bytes, not %d" % (what, len(found), len(wanted)))
         memo: dict = {}
         settle = lambda b: b if isinstance(b, int) else T.split(T.substitute(
             b[0], m.path_facts.values(), memo))[b[1]]
@@ -175,7 +178,7 @@ class Setup:
             if x == y or settle(x) == settle(y) or self.is_same(m, x, y):
                 continue
             text = "byte %d of %s is %s, not %s" % (k, what, shown(x), shown(y))
-            inputs = examples.difference(m.path_facts, self.calls.results, x, y)
+            inputs = path_values.difference(m.path_facts, self.calls.results, x, y)
             raise IsWrong("%s: for %s" % (text, inputs)) if inputs else CannotShow(text)
 
     @staticmethod
@@ -192,6 +195,8 @@ def shown(b: Any) -> Any:
 def some(family: str) -> Any:
     """Numbers of pending bytes and sizes of tags that a short test takes: those at the ends."""
     kind = KINDS[family]
+    if "x" in family:                  # whose root hash is updated as that of the other family
+        return (0, 1), ()
     return (0, 1, kind.block - 1, kind.block), (1, 8, kind.w - 1, kind.w)
 
 
@@ -205,7 +210,7 @@ class Cases:
         these are given."""
         self.calls, self.kind = Calls(program), KINDS[family]
         self.calls.measure(self.kind)
-        self.prefix = "vulfsjor_ffi_" + family
+        self.prefix, self.wiped = "vulfsjor_ffi_" + family, S.zeros(self.kind)
         self.pending = range(self.kind.block + 1) if pending is None else pending
         self.sizes = range(1, self.kind.w + 1) if sizes is None else sizes
 
@@ -226,7 +231,7 @@ class Cases:
             self.calls.forget()
             self.calls.exported = name
             at = waiting.pop()
-            setup = Setup(self.calls, self.kind, at)
+            setup = Setup(self.calls, self.kind, at, self.wiped)
             try:
                 expected = case(setup)
                 if expected is not None:
@@ -298,7 +303,7 @@ class Cases:
                 for node in ((0, 0), (1, MOST)):
                     def case(setup: Setup) -> Callable:
                         s = self.add_ready(setup, pending_length=(pending, pending), last_node=node)
-                        setup.reads_key = s.counter, s.start_length
+                        setup.reads_key = (s.counter, s.start_length),
                         s = s.but(pending_length=pending)
                         n, absorb = amount(setup)
                         data = self.message(setup, n)
@@ -329,7 +334,7 @@ class Cases:
             def case(setup: Setup) -> Callable:
                 """ready"""
                 s = self.add_ready(setup, last_node=node)
-                setup.reads_key = s.counter, s.start_length
+                setup.reads_key = (s.counter, s.start_length),
                 room = setup.number("room")
                 out = self.out(setup, room)
                 hold(setup, S.is_length(s.output_size, room))
@@ -357,7 +362,7 @@ class Cases:
             for node in ((0, 0), (1, MOST)):
                 def case(setup: Setup) -> Callable:
                     s = self.add_ready(setup, output_size=(size, size), last_node=node)
-                    setup.reads_key = s.counter, s.start_length
+                    setup.reads_key = (s.counter, s.start_length),
                     s = s.but(output_size=size)
                     tag = setup.pass_buffer("tag", T.const(64, size))
 
@@ -377,12 +382,12 @@ class Cases:
                 def other(setup: Setup) -> Callable:
                     """a tag of another length"""
                     s = self.add_ready(setup, last_node=node)
-                    setup.reads_key = s.counter, s.start_length
+                    setup.reads_key = (s.counter, s.start_length),
                     n = setup.number("n")
                     setup.pass_buffer("tag", n)
                     low, high = ((1, MOST), (-MOST, -1))[side]
                     setup.bound((n, (-1, s.output_size)), low, high)
-                    return lambda a: (REFUSED, S.zeros(kind), [])
+                    return lambda a: (REFUSED, self.wiped, [])
                 yield other
         yield from self.unready(lambda setup: setup.pass_buffer("tag", setup.number("n")))
 
@@ -396,7 +401,7 @@ class Cases:
             def accepted(setup: Setup) -> Callable:
                 setup.pass_state()
                 given, conditions = read(setup, (1, kind.w) if has_key else (0, 0))
-                setup.reads_key = given[2],
+                setup.reads_key = (0, given[2]),
                 hold(setup, conditions)
                 return lambda a: (0, S.init_tree(a, kind, *given), [])
             accepted.__doc__ = "accepted, key %s" % has_key
@@ -412,7 +417,7 @@ class Cases:
                     conditions = read(setup)
                     if k >= len(conditions) or not fail(setup, conditions[k], side):
                         return None
-                    return lambda a: (REFUSED, S.zeros(kind), [])
+                    return lambda a: (REFUSED, self.wiped, [])
                 case.__doc__ = "refused: condition %d, side %d" % (k, side)
                 yield case
 
@@ -437,7 +442,7 @@ class Cases:
         def accepted(setup: Setup) -> Callable:
             setup.pass_state()
             given, conditions = read(setup, (1, kind.w))
-            setup.reads_key = given[2],
+            setup.reads_key = (0, given[2]),
             hold(setup, conditions)
             return lambda a: (0, S.init_tree(a, kind, *given), [])
         yield accepted
@@ -483,7 +488,7 @@ class Cases:
             def other(setup: Setup) -> Callable:
                 """another length"""
                 read(setup, setup.number("length", low_, high))
-                return lambda a: (REFUSED, S.zeros(kind), [])
+                return lambda a: (REFUSED, self.wiped, [])
             yield other
 
     def one_shot(self) -> Iterator:
@@ -504,7 +509,7 @@ class Cases:
                     n, absorb = amount(setup)
                     size, out, data, key, keyed, conditions = arguments(
                         setup, n, (1, kind.w) if has_key else (0, 0))
-                    setup.reads_key = keyed,
+                    setup.reads_key = (0, keyed),
                     hold(setup, conditions + S.is_counted(pending, n))
                     return lambda a: (0, None, S.one_shot(
                         a, kind, size, key, keyed, lambda s: absorb(a, s, data), out))
@@ -545,7 +550,7 @@ class Cases:
     def wipe(self) -> Iterator:
         def case(setup: Setup) -> Callable:
             setup.pass_state()
-            return lambda a: (None, S.zeros(self.kind), [])
+            return lambda a: (None, self.wiped, [])
         yield case
 
     def digest_size(self) -> Iterator:
@@ -566,7 +571,7 @@ class Cases:
 
     def state_size(self) -> Iterator:
         def case(setup: Setup) -> Callable:
-            return lambda a: (T.const(64, len(Setup.bytes_of(S.zeros(self.kind)))), None, [])
+            return lambda a: (T.const(64, len(Setup.bytes_of(self.wiped))), None, [])
         yield case
 
 
@@ -600,8 +605,9 @@ def main(arguments: list) -> Any:
     if not facts.z3:
         print("call_cases.py: Python's module z3 is absent (Debian's python3-z3)", file=sys.stderr)
         return 2
+    import families                    # which imports this file
     path, family, export = arguments
-    cases = Cases(programs.read(path), family)
+    cases = families.cases(programs.read(path), family)
     for case in getattr(cases, export.lstrip("_") or "one_shot")():
         try:
             paths = cases.show_case(cases.prefix + export, case)

@@ -32,17 +32,17 @@ class State:
     last_node: Any
     pending: Any
     start_block: Any
-    FIELDS = ("chain", "first", "counter", "pending_length", "start_length", "output_size",
-              "last_node", "pending", "start_block")
+    FIELDS: tuple = ("chain", "first", "counter", "pending_length", "start_length", "output_size",
+                     "last_node", "pending", "start_block")
 
     def __init__(self, *values: Any, **changes: Any) -> None:
         for name, value in zip(self.FIELDS, values):
             setattr(self, name, value)
         self.__dict__.update(changes)
 
-    def but(self, **changes: Any) -> State:
+    def but(self, **changes: Any) -> Any:
         """The state with other values of some fields."""
-        return State(**{**self.__dict__, **changes})
+        return type(self)(**{**self.__dict__, **changes})
 
 
 def zeros(kind: Kind) -> State:
@@ -63,7 +63,7 @@ def is_ready(kind: Kind, s: State) -> list:
             ((s.start_length,), 0, kind.block), ((s.counter, s.pending_length), 0, MOST_COUNTED)]
 
 
-def admits(kind: Kind, output_size: Term, key_size: Any, salt_size: Any, persona_size: Any) -> list:
+def admits(kind: Kind, output_size: Any, key_size: Any, salt_size: Any, persona_size: Any) -> list:
     """The lengths that RFC 7693, 2.1, and the BLAKE2 document, 2.8, allow."""
     return [((output_size,), 1, kind.w), ((key_size,), 0, kind.w),
             ((salt_size,), 0, kind.w // 4), ((persona_size,), 0, kind.w // 4)]
@@ -119,7 +119,7 @@ def from_block(a: Any, kind: Kind, block: list, output_size: Term) -> State:
     return zeros(kind).but(chain=first, first=first, output_size=output_size)
 
 
-def init_tree(a: Any, kind: Kind, output_size: Term, key: Buffer, key_size: Any,
+def init_tree(a: Any, kind: Kind, output_size: Any, key: Buffer, key_size: Any,
               salt: Buffer | Callable, salt_size: Term | int, persona: Buffer | Callable,
               persona_size: Term | int, tree: list | tuple = SEQUENTIAL) -> State:
     """Under a key, a block of it is pending (2.9, 3.3)."""
@@ -141,12 +141,12 @@ def init_param(a: Any, kind: Kind, block: list) -> State:
 
 # What is left on the stack.
 
-def must_scrub(a: Any, *condition: Term) -> bool:
-    """A call that has read a key, or compressed the block of one, overwrites its part of the stack:
-    an init and the call in one if (key_size,) is not 0, and update, final and verify if the first
-    of (counter, start_length) is less, because the key's block is then the next or a later one that
-    is compressed. Calls that are refused have read none."""
-    return a.may_be_less(0, *condition) if len(condition) == 1 else a.may_be_less(*condition)
+def must_scrub(a: Any, *conditions: tuple) -> bool:
+    """A call that has read a key, or compressed the block of one, overwrites its part of the stack: if
+    the first number of each of these pairs is less. They are (0, key_size) for an init and the call
+    in one, and (counter, start_length) for update, final and verify, because the key's block is then
+    the next or a later one that is compressed. Calls that are refused have read none."""
+    return all(a.may_be_less(*pair) for pair in conditions)
 
 
 # Messages.

@@ -1,17 +1,18 @@
 #!/usr/bin/env python3
 """Shows, for the code in dist/ and the modules in js/src/wasm*.js, that each function that compresses
-computes F of RFC 7693 (section 3.2) for all inputs, in constant time; that calls of BLAKE2b and
-BLAKE2s write what the RFC says; and that no branch and no address of a whole call depends on a
-secret. Prints TAP; the status is 1 if something failed. docs/MACHINE.md says what is shown and how
-to read the output.
+computes F of RFC 7693 (section 3.2) for all inputs, in constant time; that calls of BLAKE2b, BLAKE2s
+and BLAKE2X write what the RFC and the BLAKE2X document say; and that no branch and no address of a
+whole call depends on a secret. Prints TAP; the status is 1 if something failed. docs/MACHINE.md says
+what is shown and how to read the output.
 
     tests/machine/check.py            the proofs: of one message in all files; of several messages,
                                       and some cases of whole calls, each function in one file; some
                                       rules of terms, and instructions on the processor
     tests/machine/check.py --long     also several messages and all cases of whole calls in all
-                                      files, all rules and more runs of each instruction, whole
-                                      functions against hashlib, the types of the tool, and the
-                                      changes that must be refused; the same as VULFSJOR_TEST_HUGE=1
+                                      files, except those of BLAKE2X, all of which are shown in one;
+                                      all rules and more runs of each instruction, whole functions
+                                      against hashlib, the types of the tool, and the changes that
+                                      must be refused; the same as VULFSJOR_TEST_HUGE=1
     tests/machine/check.py --forms    writes forms.txt, after a change of the files or the models
     tests/machine/check.py FILE..     only the proofs of these files, by their paths from the root,
                                       with all cases
@@ -67,7 +68,12 @@ SHORT = ("dist/x86_64/vulfsjor-v3.s", "dist/aarch64/vulfsjor.s", "js/src/wasm.js
 SHORT_MANY = {entry: SHORT[k % 3] for k, entry in enumerate(
     entry for entry in functions.LIBRARY if entry[2] > 1)}
 SHORT_FOLLOWED = {part: SHORT[k % 2] for k, part in enumerate(FOLLOWED)}
-SHORT_WRITTEN = {"blake2b": SHORT[1], "blake2s": SHORT[0], "": SHORT[0]}
+SHORT_WRITTEN = {"blake2b": SHORT[1], "blake2s": SHORT[0], "blake2xb": SHORT[0], "blake2xs": SHORT[1],
+                 "": SHORT[0]}
+# The file in which --long shows all cases of BLAKE2X. In the others it shows some, and follows secrets.
+ALL_OF_X = SHORT[0]
+# The exports whose cases take long, which are parts of their own.
+LONG_EXPORTS = ("_verify", "_squeeze", "_derive_key", "")
 SHORT_WIDTHS = (8,)
 LONG_CALLS = ("vulfsjor_ffi_tree_root", "vulfsjor_ffi_tree_update_leaves")
 LONG_CHANGES = (mutations.secret_forgotten, mutations.carry_forgotten)
@@ -244,18 +250,24 @@ def whole(path: str) -> Any:
     return [(verdict, title, why)]
 
 
+def is_whole(path: str, entry: tuple) -> bool:
+    """Whether it is shown what a function's calls write, in all cases that are shown of any: constant
+    time is part of that."""
+    is_some = "x" in entry[2] and path != ALL_OF_X and HUGE in os.environ
+    return bool(facts.z3) and not is_some and entry[0] in families.names(programs.read(path))
+
+
 def follow(path: str, family: str, left_out: tuple = ()) -> Any:
-    """That whole calls of a family's functions, except some, do not depend on secrets."""
+    """That whole calls of a family's functions do not depend on secrets, except some, and those that are
+    shown whole."""
     title = "%s: no branch and no address of a call depends on a secret: %s" % (path, family)
     if missing(path):
         return [("skip", title, "no " + missing(path))]
     program, count = programs.read(path), 0
     reached: set = set()
-    for entry in constant_time.exports(program):
-        if entry[2] not in FOLLOWED[family]:
-            continue
-        if entry[0] in left_out:
-            continue
+    entries = [e for e in constant_time.exports(program) if e[2] in FOLLOWED[family]
+               and e[0] not in left_out and not is_whole(path, e)]
+    for entry in entries:
         try:
             found = constant_time.follow(program, entry)
         except T.Refused as e:
@@ -264,7 +276,7 @@ def follow(path: str, family: str, left_out: tuple = ()) -> Any:
             continue
         count, reached = count + 1, reached | found.reached
     return [("ok", title, "%d functions, which reach %d instructions besides those that compress"
-             % (count, len(reached)))]
+             % (count, len(reached)))] if entries else []
 
 
 def write_and_return(path: str, family: str, exports: Any, *numbers: Any) -> Any:
@@ -284,18 +296,20 @@ def write_and_return(path: str, family: str, exports: Any, *numbers: Any) -> Any
     return [("ok", title, "%d cases, %d paths" % (cases, paths))]
 
 
-def parts_of_calls(path: str, is_short: bool) -> Iterator:
+def parts_of_calls(path: str, is_short: bool, has_all: bool) -> Iterator:
     """The arguments of write_and_return for a file: all cases in parts, or some."""
     for family in families.TITLES:
         exports = [] if missing(path) else families.exports(programs.read(path), family)
-        if is_short or not family:
+        is_some = "x" in family and path != ALL_OF_X and not has_all
+        if is_short or is_some or not family:
             if not is_short or path == SHORT_WRITTEN[family]:
                 yield (path, family, exports) + families.some(family)
             continue
         pending = list(range(call_cases.KINDS[family].block + 1))
         for numbers in (pending[k::4] for k in range(4)):
             yield path, family, ["_update"], numbers, None
-        for part in (["_verify"], [e for e in exports if e not in ("_update", "_verify")]):
+        for part in [[e] for e in exports if e in LONG_EXPORTS] + [
+                [e for e in exports if e not in LONG_EXPORTS + ("_update",)]]:
             yield path, family, part, None, None
 
 
@@ -392,7 +406,8 @@ def jobs(arguments: list) -> Any:
     some = [path for path in libraries if path in SHORT or not is_short]
     found += [(search, (path,)) for path in chosen] + [(look, (path,)) for path in libraries]
     found += [(scrub, (path,)) for path in some]
-    found += [(write_and_return, part) for path in some for part in parts_of_calls(path, is_short)]
+    found += [(write_and_return, part) for path in some
+              for part in parts_of_calls(path, is_short, bool(arguments))]
     followed = [path for path in libraries if path not in constant_time.NOT_FOLLOWED]
     found[:0] = [(follow, (path, part, LONG_CALLS if is_short else ()))
                  for part in reversed(FOLLOWED) for path in followed

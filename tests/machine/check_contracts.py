@@ -11,18 +11,19 @@ import subprocess
 import tempfile
 from typing import Any
 
+import call_cases
 import call_specification as S
 import constant_time
 import families
 import macros
-import rfc7693 as R
 import terms as T
+import xof_specification as X
 from check_specification import Numbers, absorb, holds, reader
 from program import ROOT, TOOLS
 
 PATH = "dist/x86_64/vulfsjor-v2.s"     # which each of these processors runs
 MOST = (1 << 64) - 1
-NEVER_REFUSED = ("_wipe", "_count", "_digest_size", "_state_size")
+NEVER_REFUSED = ("_wipe", "_count", "_left", "_digest_size", "_state_size")
 SPARE = 8                              # bytes around each buffer, which no call may change
 
 
@@ -59,7 +60,7 @@ class Call:
 
     def __init__(self, rng: random.Random, family: str, end: str) -> None:
         self.rng, self.family, self.end = rng, family, end
-        self.kind = R.BLAKE2B if family == "blake2b" else R.BLAKE2S
+        self.kind = call_cases.KINDS[family]
         self.a: Any = Numbers()
         self.numbers: list = []
         self.buffers: list = []
@@ -95,7 +96,8 @@ class Call:
                 self.state_memory = Memory(as_bytes(self.state), rng)
                 found.append(self.state_memory.pointer())
             elif what == constant_time.NUMBER:
-                self.numbers.append(self.near(*(0, 2) if self.end == "_set_last_node" else (1, kind.w)))
+                bounds = (1, X.unknown(kind)) if "x" in self.family else (1, kind.w)
+                self.numbers.append(self.near(*(0, 2) if self.end == "_set_last_node" else bounds))
                 found.append(ctypes.c_uint64(self.numbers[-1]))
             elif what == constant_time.PLACE:
                 limits = dict(zip(("depth", "node_offset", "inner_length"), S.admits_tree(kind, 0, 0, 0)))
@@ -219,6 +221,93 @@ class Call:
         return 0, None, bytes(out[:size])
 
 
+class XofCall(Call):
+    """The same of BLAKE2X."""
+
+    def make_state(self) -> Any:
+        rng, kind = self.rng, self.kind
+        root = super().make_state().but(output_size=self.near(kind.w, kind.w))
+        xof_length = rng.choice((X.unknown(kind), self.near(1, X.unknown(kind)), self.near(1, 3 * kind.w)))
+        length = X.output_length(kind, xof_length, xof_length != X.unknown(kind))
+        position = rng.choice((0, self.near(0, length), max(0, length - rng.randrange(5 * kind.w))))
+        return X.zeros(kind).but(
+            **root.__dict__, root=list(rng.randbytes(kind.w)), texts=list(rng.randbytes(kind.w // 2)),
+            xof_length=xof_length, position=position, reading=rng.choice((0, 1, self.near(0, MOST))))
+
+    def is_known(self) -> bool:
+        return self.state.xof_length != X.unknown(self.kind)
+
+    def left(self) -> int:
+        s = self.state
+        return X.output_length(self.kind, s.xof_length, self.is_known()) - s.position
+
+    def is_ready(self) -> bool:
+        return holds(X.is_ready(self.kind, self.state, self.is_known()))
+
+    def zeros(self) -> Any:
+        return X.zeros(self.kind)
+
+    def lengths(self, what: str) -> tuple:
+        if what == constant_time.OUT:
+            return (0, min(max(self.left(), 0), 12 * self.kind.w)) if self.state else (1, 12 * self.kind.w)
+        return super().lengths(what)
+
+    def make_buffer(self, what: str, low: int, high: int) -> list:
+        found = super().make_buffer(what, low, high)
+        if what == constant_time.OUT and not self.state:
+            # An output that is refused is not looked at.
+            found[1] = ctypes.c_size_t(self.rng.choice((found[1].value, found[1].value, X.unknown(self.kind))))
+            self.size = found[1].value
+        return found
+
+    def read(self, state: Any, n: int, is_known: bool) -> bytes:
+        """The next bytes of the output."""
+        w, blocks = self.kind.w, X.stream(self.a, self.kind, state, is_known)
+        first, start = divmod(state.position, w)
+        data = [b for i in range(first, (state.position + n - 1) // w + 1) for b in blocks(i)]
+        return bytes(data[start:start + n])
+
+    def of_update(self) -> tuple:
+        s, data = self.state, self.buffers[0][0]
+        if not self.is_ready() or not holds(
+                X.is_absorbing(s) + S.is_counted(s.counter, s.pending_length, len(data))):
+            return self.refused()
+        return 0, X.over(s, absorb(self.a, self.kind, s, data)), None
+
+    def of_squeeze(self) -> tuple:
+        s, n = self.state, self.out.size
+        if not self.is_ready() or n > self.left():
+            return self.refused()
+        is_on = s.reading != 0
+        out = self.read(X.begin(self.a, self.kind, s, is_on), n, self.is_known())
+        return 0, X.squeeze(self.a, self.kind, s, n, is_on), out
+
+    def of_left(self) -> tuple:
+        return self.left() if self.is_ready() else 0, self.state, None
+
+    def of_reset(self) -> tuple:
+        return (0, X.reset(self.kind, self.state), None) if self.is_ready() else self.refused()
+
+    def of_init(self) -> tuple:
+        texts, size = [data for data, _ in self.buffers], self.numbers[0]
+        conditions = [((size,), 1, X.unknown(self.kind))] + X.admits(self.kind, *map(len, texts))
+        if not holds(conditions):
+            return self.refused(self.zeros())
+        return 0, X.init(self.a, self.kind, size, *[x for t in texts for x in (reader(t), len(t))]), None
+
+    def of_one_shot(self, derives: bool = False) -> tuple:
+        a, kind, size = self.a, self.kind, self.size
+        data, key = (data for data, _ in (self.buffers[::-1] if derives else self.buffers))
+        if not holds(X.is_length(kind, size, True) + X.admits(kind, len(key), 0, 0)):
+            return self.refused()
+        state = X.one_shot(a, kind, size, reader(key), len(key), lambda s: absorb(a, kind, s, data))
+        return 0, None, self.read(state, size, True)
+
+    def of_derive_key(self) -> tuple:
+        has_key = holds([((len(self.buffers[0][0]),), 1, MOST)])
+        return self.of_one_shot(True) if has_key else self.refused()
+
+
 def as_bytes(state: Any) -> bytes:
     """A state in memory."""
     values = [getattr(state, name) for name in state.FIELDS]
@@ -227,9 +316,9 @@ def as_bytes(state: Any) -> bytes:
 
 def one(rng: random.Random, lib: Any, family: str, end: str) -> tuple:
     """What differs in one call, or None, and whether the call is refused."""
-    call = Call(rng, family, end)
+    call = (XofCall if "x" in family else Call)(rng, family, end)
     f = getattr(lib, "vulfsjor_ffi_%s%s_1_v2" % (family, end))
-    f.restype = ctypes.c_uint64 if end in ("_count", "_digest_size", "_state_size") else ctypes.c_int
+    f.restype = ctypes.c_uint64 if end in NEVER_REFUSED else ctypes.c_int
     arguments = call.arguments()
     result, state, out = call.expected()
     found = f(*arguments)

@@ -39,7 +39,9 @@ class Run:
         return T.value(t, self.numbers, {})
 
     def add(self, t: T.Term, n: int) -> None:
-        """A word that was computed, and its number."""
+        """A word that was computed, and its number. An or may be a variable with bounds."""
+        if t.op == "var" and t.args not in self.numbers:
+            self.numbers[t.args] = n
         if self.value(t) != n % (1 << 64):
             raise Wrong("%r is %#x instead of %#x" % (t, self.value(t), n))
         self.words.append(t)

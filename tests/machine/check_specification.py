@@ -33,6 +33,12 @@ class Numbers:
     def difference(self, a: Any, b: Any) -> Any:
         return max(a - b, 0)
 
+    def minus(self, a: Any, b: Any) -> Any:
+        return a - b
+
+    def least(self, most: int, n: int) -> int:
+        return min(most, n)
+
     def xor(self, data: list, other: Any) -> Any:
         return [x ^ y for x, y in zip(data, other)]
 
@@ -46,6 +52,7 @@ class Numbers:
         return int(list(x) == list(y))
 
     def compress(self, kind: Any, chain: Any, block: Any, count: int, last: Any, node: Any) -> Any:
+        T.reset()                      # what is left are numbers
         words = lambda data: [T.const(kind.w, int.from_bytes(bytes(
             data[k:k + kind.bytes]), "little")) for k in range(0, len(data), kind.bytes)]
         ones = (1 << kind.w) - 1

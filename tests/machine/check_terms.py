@@ -103,7 +103,7 @@ def pairs(w: int) -> list:
     return [(a, b) for k, a in enumerate(found) for b in (found if HUGE else found[k:])]
 
 
-def counts(w: int, form: T.Term) -> list | range:
+def shift_counts(w: int, form: T.Term) -> list | range:
     """The numbers of bits by which a term is shifted."""
     few = not HUGE and form.op not in ("const", "var", "xor", "ror")
     return sorted({1, 8 % w or 7, w // 2, w - 1}) if few else range(1, w)
@@ -123,7 +123,7 @@ def shifts(w: int) -> Iterator:
              lambda f, k: z3.RotateRight(f, k))):
         yield name, [(lambda a=a, k=k, g=made: g(w, a, k),
                       lambda f, a=a, k=k, g=means: g(f(a), k))
-                     for a in shapes(w) for k in counts(w, a)]
+                     for a in shapes(w) for k in shift_counts(w, a)]
 
 
 def places(w: int) -> Iterator:

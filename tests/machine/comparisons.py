@@ -36,7 +36,7 @@ class Differences:
 
     def iterate(self, m: Any) -> tuple:
         """The machine after an iteration, and the word that is 0 after the last one."""
-        ends = self.calls.run(self.name, m, self.head, self.last)
+        ends = self.calls.run(self.name, m, self.head, {self.last})
         code = self.calls.code(self.name)[0]
         compared = ends[0].condition(code[self.last]) if len(ends) == 1 else None
         if compared is None or compared[0] != "!=":

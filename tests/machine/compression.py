@@ -479,10 +479,10 @@ def show(program: Program, name: str, kind: R.Kind, lanes: int) -> tuple:
     return runner, time.time() - started
 
 
-def frame(program: Program, name: str, kind: R.Kind) -> int:
-    """How many bytes of the stack below its return address a function that compresses one block uses,
-    by its proof. All terms are forgotten."""
+def frame(program: Program, name: str, kind: R.Kind, lanes: int) -> int:
+    """How many bytes of the stack below its return address a function that compresses uses, by its
+    proof. All terms are forgotten."""
     content = program.content(name) or (program, name)
     if content not in FRAMES:
-        FRAMES[content] = -show(program, name, kind, 1)[0].deepest
+        FRAMES[content] = -show(program, name, kind, lanes)[0].deepest
     return FRAMES[content]

@@ -87,9 +87,7 @@ LONGEST = {"blake2bp": 896, "blake2sp": 960}
 FAMILIES = ("blake2b", "blake2s", "blake2bp", "blake2sp")
 FINALIZING, ANSWERING = (tuple(name % family for family in FAMILIES)
                          for name in (functions.FINALIZE, functions.IS_DIGEST_OF))
-# Of these whole_calls.py does not show what they write. The last three are of BLAKE2Xb and
-# BLAKE2Xs.
-NOT_COMPUTED = ("_many", "_derive_key", "_left", "_squeeze")
+NOT_COMPUTED = ("_many",)              # of these whole_calls.py does not show what they write
 OF_C = programs.OF_C
 NOT_FOLLOWED = ("dist/x86_64/vulfsjor-v4.s",)   # masks of AVX-512 are not followed
 # What is not shown, as pairs of a file and a function: those whose pointers have bounds that are

@@ -141,6 +141,10 @@ class Facts:
             return [low <= total, total <= high]
         return Facts(claim, tuple(u for _, u in parts if u is not None), self)
 
+    def no_more_than_sum(self, r: T.Term, a: T.Term, b: T.Term) -> Facts:
+        """With the fact that a word is no more than the sum of two others, which has no width."""
+        return Facts(lambda of, _: [of(r) <= of(a) + of(b)], (r, a, b), self)
+
     def apart(self, a: T.Term, n: T.Term, b: T.Term, m: T.Term) -> Facts:
         """With the fact that n bytes from a on and m bytes from b on are apart."""
         x, y = (T.add(64, (1, p), (-1, q)) for p, q in ((a, b), (b, a)))
@@ -148,7 +152,7 @@ class Facts:
                                     either(of(n) == 0, of(m) == 0, of(y) >= of(n))]
         return Facts(claim, (x, y, n, m), self)
 
-    def path(self) -> Iterator:
+    def newest_first(self) -> Iterator:
         """The facts, the last one first."""
         f: Facts | None = self
         while f:
@@ -161,7 +165,7 @@ class Facts:
         if Facts.solver is None:
             Facts.solver = z3.Solver()
             Facts.solver.set("rlimit", EFFORT)
-        solver, asserted, wanted = self.solver, self.asserted, list(self.path())[::-1]
+        solver, asserted, wanted = self.solver, self.asserted, list(self.newest_first())[::-1]
         common = 0
         while common < min(len(asserted), len(wanted)) and asserted[common] is wanted[common]:
             common += 1
@@ -200,7 +204,7 @@ class Facts:
         if question not in self.answers:
             other = OPPOSITE[relation]
             known = variables(a) | variables(b) <= self.variables
-            self.answers[question] = any(f.answers.get(question) for f in self.path()) or not (
+            self.answers[question] = any(f.answers.get(question) for f in self.newest_first()) or not (
                 known and any(compared(other, m(a), m(b), a.w) for m in self.models)
                 or self.ask([compared(other, number(a), number(b), a.w)], (a, b)) is not False)
         return self.answers[question]
@@ -222,7 +226,7 @@ class Facts:
     def holds_for(self, names: dict) -> Iterator:
         """Whether each fact holds for these numbers of the variables."""
         of = lambda t: T.value(t, names, {})
-        for f in self.path():
+        for f in self.newest_first():
             yield not f.claim or all(f.claim(of, lambda *conditions: any(conditions)))
 
     def small(self, limit: int | None) -> Any:
@@ -243,7 +247,7 @@ class Facts:
     def values(self) -> dict:
         """The variables of which the value is known."""
         if self.fixed is None:
-            self.fixed = dict(next((f.fixed for f in self.path() if f.fixed), {}))
+            self.fixed = dict(next((f.fixed for f in self.newest_first() if f.fixed), {}))
             rest = self.variables - set(self.fixed)
             model: Any = self.models[0] if self.models else self.ask()
             found = {t: model(t) for t in rest} if model else {}

@@ -8,8 +8,10 @@ import call_cases
 import constant_time
 import memory_cases
 import program as programs
+import xof_cases
 
-TITLES = {"blake2b": "BLAKE2b", "blake2s": "BLAKE2s", "": "memcmp and wipe"}
+TITLES = {"blake2b": "BLAKE2b", "blake2s": "BLAKE2s", "blake2xb": "BLAKE2Xb", "blake2xs": "BLAKE2Xs",
+          "": "memcmp and wipe"}
 PREFIX = "vulfsjor_ffi_"
 ALONE = ("memcmp", "wipe")             # exports of no family
 
@@ -29,7 +31,7 @@ def cases(program: programs.Program, family: str, *numbers: Any) -> Any:
     """The cases of a family: all, or those with some numbers."""
     if not family:
         return memory_cases.Cases(program)
-    return call_cases.Cases(program, family, *numbers)
+    return (xof_cases if "x" in family else call_cases).Cases(program, family, *numbers)
 
 
 def some(family: str) -> tuple:

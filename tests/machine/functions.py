@@ -29,6 +29,8 @@ SETTLE = "blake2_digest..wiping..settle.."
 FINALIZE = "blake2_ffi..%s..finalize"
 IS_DIGEST_OF = "blake2_ffi..%s..is_digest_of"
 MEMCMP = "vulfsjor_ffi_memcmp"
+# What reads the output of BLAKE2X, by a loop.
+SQUEEZES = tuple("blake2_xof..%s..State..squeeze" % family for family in ("blake2xb", "blake2xs"))
 
 # What the programs call of the library's text, besides what C programs call.
 SHARED = (ONE_B[0], ONE_S[0], "blake2_tree..nodes..Nodes..hash_next",

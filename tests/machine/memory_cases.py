@@ -5,6 +5,7 @@ from __future__ import annotations
 from typing import Any, Callable, Iterator
 
 import call_cases as C
+import call_specification as S
 import comparisons
 import program as programs
 import rfc7693 as R
@@ -21,6 +22,7 @@ class Cases(C.Cases):
 
     def __init__(self, program: programs.Program) -> None:
         self.calls, self.kind, self.prefix = Calls(program), R.BLAKE2B, "vulfsjor_ffi_"
+        self.wiped = S.zeros(self.kind)
 
     def memcmp(self) -> Iterator:
         def same(setup: C.Setup) -> Callable:

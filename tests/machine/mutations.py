@@ -151,7 +151,7 @@ def show_scrub(program: Any, _: Any, count: Any) -> None:
 
 def compute_call(program: programs.Program, name: str, exported: str) -> None:
     """Shows what a call of an exported function of a family writes, in some cases."""
-    family = programs.found(r"vulfsjor_ffi_(blake2[bs]|)", exported)[1]
+    family = programs.found(r"vulfsjor_ffi_(blake2x?[bs]|)", exported)[1]
     families.cases(program, family, *families.some(family)).show(exported[len(families.PREFIX + family):])
 
 
@@ -227,7 +227,7 @@ def carry_forgotten() -> Any:
     """inc and dec that set the carry, which they keep."""
     count = lambda self, to, step: self.binary_word(
         "other", lambda a, b: T.add(a.w, (1, a), (step, b)), to, constant_time.taint_x86.ONE)
-    verdict, why = _with(constant_time.taint_x86.Model, "count", count,
+    verdict, why = _with(constant_time.taint_x86.Model, "add_and_keep_carry", count,
                          lambda: check_taint.run(SHORT["v3"], 2)[:2])
     return _seen("a carry that inc sets fails", verdict == "not ok" and why)
 
@@ -281,6 +281,13 @@ def wrong_refusal() -> Any:
     admits = lambda kind, size, *rest: [((size,), 1, kind.w + 1)] + right(kind, size, *rest)[1:]
     verdict, why = _with(check_contracts.S, "admits", admits, lambda: check_contracts.check(30))
     return _seen("a specification that accepts too long an output fails", verdict == "not ok" and why)
+
+
+def wrong_output() -> Any:
+    """A specification of BLAKE2X whose last block has the length of the others."""
+    verdict, why = _with(check_specification.Numbers, "least", lambda self, most, n: most,
+                         lambda: check_contracts.check(30))
+    return _seen("a specification without the length of the last block fails", verdict == "not ok" and why)
 
 
 def wrong_choice() -> Any:
@@ -339,4 +346,4 @@ def _seen(title: str, why: Any) -> list:
 
 OF_THE_TOOL = (wrong_model, wrong_rule, function_left_out, secret_forgotten, call_left_out,
                name_changed, carry_forgotten, path_forgotten, step_forgotten, wrong_specification,
-               wrong_refusal, wrong_choice, form_not_run, form_left_out)
+               wrong_refusal, wrong_output, wrong_choice, form_not_run, form_left_out)

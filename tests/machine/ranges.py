@@ -10,7 +10,7 @@ OPPOSITE = {"==": "!=", "!=": "==", "<": ">=", ">=": "<", ">": "<=", "<=": ">",
 VISITS = 2                             # of a place, after which ranges are widened
 
 
-def merged(a: tuple, b: tuple) -> tuple:
+def merged_ranges(a: tuple, b: tuple) -> tuple:
     """The least range with a step (low, high, step) that has both."""
     low, high = min(a[0], b[0]), max(a[1], b[1])
     return low, high, gcd(gcd(a[2], b[2]), abs(a[0] - b[0]))

@@ -17,6 +17,7 @@ from taint_arm import TaintArm
 from taint_x86 import TaintX86
 from terms import CannotShow, IsWrong
 
+WRITTEN = 256                          # bytes of an output that are often written together
 OR_OF_XOR, OR_OF_ALL = 0xf6, 0xfe      # of three operands, by vpternlog
 _COUNT = itertools.count()             # for names of variables that are used once
 
@@ -85,13 +86,14 @@ class Buffer:
 
 
 class Piece(NamedTuple):
-    """What was written to a buffer at an offset, a term: the first bytes of some, or one byte over and
-    over, up to a length."""
+    """What was written to a buffer at an offset, a term: some bytes, from a place among them on, or one
+    byte over and over, up to a length. None are what the iterations of a loop have written before."""
 
     base: T.Term
     offset: T.Term
     data: Any
     length: T.Term
+    start: Any = 0
 
 
 class Cells:
@@ -131,6 +133,7 @@ class Exact(Taint):
         self.deepest, self.secrets, self.is_scrubbed = 0, set(), False
         self.is_kept: Callable = is_secret_byte        # which bytes are secret there
         self.caller_vectors = [list(r) for r in self.vector]
+        self.inside: dict = {}         # places of outputs that are known to be inside: offsets and sizes
         self.pieces = ()               # what was written to buffers at offsets that are terms, in order
 
     def enter(self, i: Any) -> T.Term:
@@ -161,6 +164,11 @@ class Exact(Taint):
         other = super().copy()
         other.secrets = set(self.secrets)
         return other
+
+    def may_be_left(self, j: int, k: int, b: T.Byte) -> bool:
+        """Whether a byte of a vector register is zero, as at the entry, or left by the C library."""
+        return b in (0, self.caller_vectors[j][k]) or isinstance(b, tuple) and str(
+            b[0].args).startswith("after~")
 
     def need_vectors(self) -> None:
         """Refuses what a call may not leave in vector registers, besides those of its caller."""
@@ -240,7 +248,17 @@ class Exact(Taint):
         """Refuses n bytes from an offset on that may not be in a region."""
         start, size = extent(T.const(64, 0), region)
         at = T.add(64, (1, at), (-1, start))
-        self.need(text, ("<=", n, size), ("<=", at, T.add(64, (1, size), (-1, n))))
+        inside = lambda n: (("<=", n, size), ("<=", at, T.add(64, (1, size), (-1, n))))
+        if n.op == "const" and region.writable and isinstance(region, Buffer):
+            for first, count in self.inside.get(region, ()):
+                if 0 <= (base_of(T.add(64, (1, at), (-1, first))) or 0) <= count - n.args and (
+                        base_of(T.add(64, (1, at), (-1, first))) is not None):
+                    return
+            most = T.const(64, max(n.args, WRITTEN))
+            if all(self.is_always(*comparison) for comparison in inside(most)):
+                self.inside = {**self.inside, region: self.inside.get(region, ()) + ((at, most.args),)}
+                return
+        self.need(text, *inside(n))
 
     # Flags.
 
@@ -330,8 +348,20 @@ class Exact(Taint):
         for t, u in ((a, b), (b, a)):
             if t.op == "const" and self.is_clear(u, t.args):
                 return T.add(a.w, (1, t), (1, u))
-        return T.word([any_of(x, y) if is_secret_byte(x) and is_secret_byte(y) and x != y else
-                       self.or_byte(x, y) for x, y in zip(self.normal(a), self.normal(b))])
+        try:
+            return T.word([any_of(x, y) if is_secret_byte(x) and is_secret_byte(y) and x != y else
+                           self.or_byte(x, y) for x, y in zip(self.normal(a), self.normal(b))])
+        except CannotShow:
+            if (a.taint | b.taint) & ~T.PUBLIC:
+                raise
+            return self.no_less(a, b)
+
+    def no_less(self, a: T.Term, b: T.Term) -> T.Term:
+        """An or of which only the bounds are known: it is no less than either, and no more than the sum."""
+        r = self.new(a.w)
+        facts = self.path_facts.plus(">=", r, a).plus(">=", r, b)
+        self.path_facts = facts.no_more_than_sum(r, a, b)
+        return r
 
     @staticmethod
     def or_byte(x: T.Byte, y: T.Byte) -> T.Byte:
@@ -434,11 +464,12 @@ class Exact(Taint):
             return
         self.put(base, offsets(offset, len(data)), self.cleaned(data, False))
 
-    def add_piece(self, base: T.Term, offset: T.Term, region: Any, data: Any, length: T.Term) -> None:
-        """Writes the first bytes of some, or one byte over and over, at an offset that is a term."""
+    def add_piece(self, base: T.Term, offset: T.Term, region: Any, data: Any, length: T.Term,
+                  start: Any = 0) -> None:
+        """Writes bytes of some, or one byte over and over, at an offset that is a term."""
         if not isinstance(region, Buffer):
             raise CannotShow("it writes at an offset that is not a number: %r" % offset)
-        self.pieces += Piece(base, offset, data, length),
+        self.pieces += Piece(base, offset, data, length, start),
 
     def check_writable(self, region: Any, address: T.Term) -> None:
         if not region.writable:
@@ -456,14 +487,33 @@ class Exact(Taint):
                 ">=", apart, T.const(64, length)), ("<=", apart, T.const(64, -size)))
 
     def copy_memory(self, to: T.Term, source: T.Term, length: T.Term) -> None:
-        if length.op == "const":
-            if length.args:
-                self.store(to, self.load(source, length.args))
+        if length is T.const(64, 0):
             return
         base, offset, region = self.region_of(source)
+        if isinstance(region, Cells) and region.writable and base_of(offset) is None:
+            self.copy_from(base, offset, region, to, source, length)
+            return
+        if length.op == "const":
+            self.store(to, self.load(source, length.args))
+            return
         self.check_inside(region, offset, length, source)
         data = [self.byte_at(base, at, region) for at in offsets(offset, self.most(length))]
         self.write_some(to, data, length)
+
+    def copy_from(self, base: T.Term, offset: T.Term, region: Cells, to: T.Term, source: T.Term,
+                  length: T.Term) -> None:
+        """Copies to a buffer from a place that is not a number."""
+        self.check_inside(region, offset, length, source)
+        from_low = T.add(64, (1, offset), (-1, T.const(64, region.low)))
+        low = region.low + self.path_facts.range(from_low)[0]
+        high = region.low + self.path_facts.range(T.add(64, (1, from_low), (1, length)))[1]
+        if high - low > 256 or base is self.stack and low < self.lowest():
+            raise CannotShow("a copy of %r bytes from %r" % (length, offset))
+        target, at, output = self.region_of(to)
+        self.check_inside(output, at, length, to)
+        self.check_writable(output, to)
+        self.add_piece(target, at, output, [self.byte_at(base, k, region) for k in range(low, high)],
+                       length, T.add(64, (1, offset), (-1, T.const(64, low))))
 
     def fill_memory(self, to: T.Term, byte: T.Byte, length: T.Term) -> None:
         if length.op == "const":
@@ -503,7 +553,8 @@ class Exact(Taint):
         self.check_inside(region, offset, length, to)
         self.check_writable(region, to)
         if base_of(offset) is None:
-            raise CannotShow("a copy of %r bytes to %r" % (length, to))
+            self.add_piece(base, offset, region, data, length)
+            return
         places = offsets(offset, len(data))
         self.put(base, places, [below(self, j, length, data[j], self.byte_at(base, at, region))
                                 for j, at in enumerate(places)])
@@ -557,7 +608,7 @@ def members_of(b: T.Byte) -> frozenset:
 class ExactX86(Exact, TaintX86):
     """x86-64."""
 
-    BITWISE = {"pxor": "xor", "xorps": "xor", "por": "or", "orps": "or"}
+    BITWISE = {"pxor": "xor", "xorps": "xor", "xorpd": "xor", "por": "or", "orps": "or"}
 
     @staticmethod
     def uppers() -> Iterator:
@@ -568,9 +619,7 @@ class ExactX86(Exact, TaintX86):
     def is_upper(self, j: int, data: list) -> bool:
         """Whether the last bytes of a register are zero, as at the entry, or what a function of the C
         library has left."""
-        entry = self.caller_vectors[j][-len(data):]
-        return all(b in (0, old) or isinstance(b, tuple) and str(b[0].args).startswith("after~")
-                   for b, old in zip(data, entry))
+        return all(self.may_be_left(j, k - len(data), b) for k, b in enumerate(data))
 
     def need_vectors(self) -> None:
         for j, start in self.uppers():
@@ -607,6 +656,8 @@ class ExactX86(Exact, TaintX86):
             x, y = ([self.norm(b) for b in d] for d in data)
             f = self.exclusive if self.BITWISE[name] == "xor" else self.either
             result = joined(T.split(f(T.word(p), T.word(q))) for p, q in zip(chunks(x, 8), chunks(y, 8)))
+        elif name in ("pand", "andps") and len(data) == 2:
+            result = [self.and_byte(x, y) for x, y in zip(*data)]
         elif name.startswith(("psrl", "psll")) and count is not None and count % 8 == 0:
             n = {"w": 2, "d": 4, "q": 8}[name[-1]]
             k = min(count // 8, n)
@@ -619,6 +670,13 @@ class ExactX86(Exact, TaintX86):
             taint = T.SECRET if any(is_secret(b) for d in data for b in d) else T.PUBLIC
             result = fresh("new", taint, ops[0].size)
         self.write(ops[0], result, vex)
+
+    def and_byte(self, x: T.Byte, y: T.Byte) -> T.Byte:
+        """An and of bytes of which one is 0 or 255, and otherwise anything."""
+        for p, q in ((x, y), (y, x)):
+            if p in (0, 255):
+                return q if p else 0
+        return self.mixed([x, y])
 
     def vector_step(self, i: Any) -> None:
         name = i.name[i.name.startswith("v"):]

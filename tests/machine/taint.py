@@ -12,7 +12,7 @@ from typing import Any, Callable, Iterator
 
 import terms as T
 from machine import Machine, need_public
-from ranges import OPPOSITE, TOP, VISITS, Ranges, merged
+from ranges import OPPOSITE, TOP, VISITS, Ranges, merged_ranges
 from terms import CannotShow, IsWrong
 
 TABLE_STEP = 64                        # bytes from which an index is into a table, not an array
@@ -69,7 +69,7 @@ def joined_byte(a: T.Byte, b: T.Byte) -> T.Byte:
     return secret() if is_secret(a) or is_secret(b) else unknown()
 
 
-def parts_of(t: T.Term) -> list:
+def low_parts(t: T.Term) -> list:
     """A term and its lowest bytes as shorter terms, of which each is 0 if a bit is."""
     data = T.split(t)
     return [T.word(data[:n]) for n in (8, 4, 1) if n <= len(data)]
@@ -246,7 +246,7 @@ class Taint(Ranges, Machine):
         """Learns the range of a word that is another in each of two machines. After some visits,
         only one that does not grow."""
         old, new = (m.range_of(t) for m, t in zip((one, other), words[1:]))
-        low, high, step = merged(old, new)
+        low, high, step = merged_ranges(old, new)
         if visits <= VISITS or (low, high) == old[:2]:
             a, b, _ = self.range_of(words[0])
             if high - low < min(b - a, 1 << words[0].w - 1):
@@ -517,7 +517,7 @@ class Taint(Ranges, Machine):
         """What holds on both paths. A range that is missing is not known."""
         for name in ("ranges", "residues"):
             mine, yours = getattr(self, name), getattr(other, name)
-            setattr(self, name, {t: merged(r, yours[t]) for t, r in mine.items() if t in yours})
+            setattr(self, name, {t: merged_ranges(r, yours[t]) for t, r in mine.items() if t in yours})
         for t, (low, high, _) in list(self.ranges.items()):
             if t.op == "var" and high - low > 2 * TOP:
                 self.renew(t, (-TOP, TOP, 1))
@@ -537,7 +537,7 @@ class Taint(Ranges, Machine):
         base = self.common(t, u)
         old_range, new_range = (m.offset(v, base) for m, v in ((old, t), (other, u)))
         x = self.renew(T.var(t.w, "%s%s" % (self.where, name), T.PUBLIC), self.widened(
-            old_range, merged(old_range, new_range), t.w, visits))
+            old_range, merged_ranges(old_range, new_range), t.w, visits))
         if base.op == "const" and self.range_of(x)[:2] == (0, 1):
             self.remember(x, old, other, t, u)
         return T.split(T.add(t.w, (1, base), (1, x)))
@@ -549,12 +549,12 @@ class Taint(Ranges, Machine):
             others = n.range_of(u if m is old else t)
             for value in (0, 1):
                 if others[:2] == (1 - value, 1 - value):
-                    known = next((m.facts[k][value] for k in parts_of(word) if k in m.facts), ())
+                    known = next((m.facts[k][value] for k in low_parts(word) if k in m.facts), ())
                     on[value] = m.more_than(n) + known
         on = [tuple(f for f in known if not any(
             v.args.startswith(self.where) for t in f[1:3] for v in variables(t))) for known in on]
         if any(on):
-            self.facts = {**self.facts, **{k: tuple(on) for k in parts_of(x)}}
+            self.facts = {**self.facts, **{k: tuple(on) for k in low_parts(x)}}
 
     def more_than(self, other: Any) -> tuple:
         """What the ranges of variables say here and not on another path: comparisons."""

@@ -376,7 +376,7 @@ class TaintArm(Taint, arm.Arm):
         elif name in ("uqsub", "cmhi"):
             self.write(to, self.combined(name, *data)[:to.size])
         elif name in ("bit", "bif", "bsl"):
-            self.write(to, [self.mixed(list(p)) for p in zip(self.read(to, 16), *data)])
+            self.write(to, [self.inserted(name, *p) for p in zip(self.read(to, 16), *data)])
         elif name == "ext":
             at = ops[3].value
             self.write(to, (data[0] + data[1])[at:at + to.size])
@@ -385,6 +385,14 @@ class TaintArm(Taint, arm.Arm):
         else:
             return False
         return True
+
+    def inserted(self, name: str, old: T.Byte, x: T.Byte, y: T.Byte) -> T.Byte:
+        """A byte of which bits are chosen by a mask: exactly if the mask has all or none."""
+        mask = old if name == "bsl" else y
+        if mask not in (0, 255):
+            return self.mixed([old, x, y])
+        is_x = (mask == 255) != (name == "bif")
+        return x if is_x else y if name == "bsl" else old
 
     def load_lanes(self, name: str, ops: list) -> bool:
         """Loads of one lane, of all lanes, and of four vectors whose lanes alternate."""

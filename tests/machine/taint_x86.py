@@ -148,12 +148,12 @@ class TaintX86(Taint, x86.X86):
                          False)
 
     def do_inc(self, i: x86.Instruction, to: x86.Operand) -> None:
-        self.count(to, 1)
+        self.add_and_keep_carry(to, 1)
 
     def do_dec(self, i: x86.Instruction, to: x86.Operand) -> None:
-        self.count(to, -1)
+        self.add_and_keep_carry(to, -1)
 
-    def count(self, to: x86.Operand, step: int) -> None:
+    def add_and_keep_carry(self, to: x86.Operand, step: int) -> None:
         """inc and dec keep the carry, which may be that of a secret."""
         old = self.flags
         self.binary_word("other", lambda a, b: T.add(a.w, (1, a), (step, b)), to, ONE)

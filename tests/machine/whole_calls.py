@@ -1,16 +1,17 @@
-"""Shows that whole calls of BLAKE2b and BLAKE2s write and return what call_specification.py says, for
+"""Shows that whole calls write and return what call_specification.py and xof_specification.py say, for
 all inputs, and nothing else. F is a function of which nothing is known here, because compression.py
 shows what it computes. docs/MACHINE.md says what is shown."""
 
 from __future__ import annotations
 
-from typing import Any, TYPE_CHECKING
+from typing import Any, Callable, TYPE_CHECKING
 
 import comparisons
 import compression
 import constant_time
 import functions
 import program as programs
+import reads
 import terms as T
 from constant_time import OF_C, STACK
 from machine import bitwise, chunks, image, need_public
@@ -36,7 +37,7 @@ class Terms:
 
     def number(self, n: T.Term | int, size: int) -> list:
         data = self.machine.bytes_of(self.word(n))
-        if any(data[size:]):
+        if any(data[size:]) and self.machine.size_of(self.word(n)) > size:
             raise CannotShow("%r may have more than %d bytes" % (n, size))
         return data[:size]
 
@@ -61,6 +62,17 @@ class Terms:
         if is_less is None:
             raise CannotShow("whether %r < %r is not known" % (a, b))
         return 0 if is_less else T.add(64, (1, a), (-1, b))
+
+    def minus(self, a: Any, b: Any) -> Any:
+        return a - b if isinstance(a, int) and isinstance(b, int) else T.add(
+            64, (1, self.word(a)), (-1, self.word(b)))
+
+    def least(self, most: int, n: Any) -> Any:
+        """The number, but at most another."""
+        is_less = self.machine.path_facts.decide("<", self.word(n), T.const(64, most))
+        if is_less is None:
+            raise CannotShow("whether %r < %d is not known" % (n, most))
+        return n if is_less else most
 
     def may_be_less(self, a: T.Byte | T.Term, b: T.Term) -> bool:
         """Whether a < b, unless it is known that it is not."""
@@ -111,7 +123,7 @@ class Loop:
         the compression in it."""
         calls = self.calls
         calls.compressed = []
-        ends = calls.run(self.name, machine, self.head, self.last)
+        ends = calls.run(self.name, machine, self.head, {self.last})
         if len(ends) != 1 or len(calls.compressed) != 1:
             raise CannotShow("an iteration has %d paths and %d compressions" % (
                 len(ends), len(calls.compressed)))
@@ -220,6 +232,11 @@ class Calls:
     results: dict
     compressed: list
     at: Any
+    # Of BLAKE2X: where a state has the position, the bytes of a block of the output, and what refuses an
+    # output of which not so many bytes are as they should be.
+    place_of_position: int
+    block_of_output: int
+    need_output: Callable
 
     def __init__(self, program: programs.Program, exported: str = "") -> None:
         self.program, self.codes, self.at, self.count = program, {}, None, 0
@@ -230,11 +247,13 @@ class Calls:
         self.frames: dict = {}
         self.forget()
 
-    def measure(self, kind: Kind) -> None:
-        """Finds how much of the stack the functions use that compress one block, before a call."""
+    def measure(self, kind: Kind, are_many: bool = False) -> None:
+        """Finds how much of the stack the functions use that compress one block, or one of each of
+        several messages, before a call."""
         for name, (other, lanes) in self.listed.items():
-            if other is kind and lanes == 1:
-                self.frames[name] = compression.frame(self.program, name, kind)
+            is_each = are_many and compression.call_of(name) is compression.EachCall
+            if other is kind and (lanes == 1 or is_each):
+                self.frames[name] = compression.frame(self.program, name, kind, lanes)
 
     def forget(self) -> None:
         self.results, self.compressed, self.count = {}, [], 0
@@ -247,8 +266,8 @@ class Calls:
                 for b in T.split(T.var(kind.w, "%s%d.%d" % (what, n, j), T.SECRET))]
 
     def code(self, name: str) -> tuple:
-        """The instructions of a function by address, the first, and its loops that compress or compare:
-        the address of the head and of the jump back."""
+        """The instructions of a function by address, the first, and its loops that compress, compare or
+        read: the address of the head, with that of the jump back, or those of the loop that reads."""
         if name not in self.codes:
             found = self.program.code(name, INSTRUCTIONS[self.program.kind], "W")
             code, loops = {i.address: i for i in found}, {}
@@ -257,6 +276,9 @@ class Calls:
                     body = [j for j in found if i.target <= j.address <= i.address]
                     if name == functions.MEMCMP or self.compresses(body):
                         loops[i.target] = i.address
+                    if name in functions.SQUEEZES:         # which is entered in its middle
+                        cycle = reads.cycle(code, i.target, MODELS[self.program.kind])
+                        loops.update(dict.fromkeys(cycle, cycle))
             self.codes[name] = code, found[0].address, loops
         return self.codes[name]
 
@@ -268,15 +290,18 @@ class Calls:
             not any(model.is_return(None, i) or i.target is not None for i in body[:-1]
                     if i is not found[0]))
 
-    def run(self, name: str, machine: Any, start: Any = None, stop: Any = None) -> list:
-        """The machines at all returns of a function, or at an address."""
+    def run(self, name: str, machine: Any, start: Any = None, loop: Any = ()) -> list:
+        """The machines at all returns of a function. Or those after an iteration of a loop, from its
+        head on: at the head again or behind the loop, or at the one address of it that is given."""
         code, first, loops = self.code(name)
         entry = machine.at_entry() if start is None else None
         waiting, ends = [(machine, first if start is None else start)], []
-        inside = start
+        is_new = start is not None
         while waiting:
             m, pc = waiting.pop()
-            if pc == stop:
+            is_end = pc in loop if len(loop) == 1 else loop and pc not in loop or pc == start
+            if is_end and not is_new:
+                m.pc = pc
                 ends.append(m)
                 continue
             if len(waiting) > PATHS or self.count > LIMIT:
@@ -285,12 +310,10 @@ class Calls:
             if pc not in code:
                 raise IsWrong("%s goes on behind its end" % name)
             i = self.at = code[pc]
-            if pc in loops and pc != inside:
-                loop: Any = comparisons.Differences if name == functions.MEMCMP else Loop
-                m = loop(self, name, pc, loops[pc], m).show()
-                waiting.append((m, code[loops[pc]].next))
+            if pc in loops and not (is_new or pc in loop):
+                waiting += self.after_loop(name, pc, m)
                 continue
-            inside = None
+            is_new = False
             try:
                 self.follow(name, m, i, entry, waiting, ends)
             except Undecided as e:
@@ -300,6 +323,14 @@ class Calls:
                         other.settle()
                         waiting.append((other, pc))
         return ends
+
+    def after_loop(self, name: str, head: int, m: Any) -> list:
+        """The machines behind a loop, each with the address."""
+        code, _, loops = self.code(name)
+        if name in functions.SQUEEZES:
+            return reads.Reads(self, name, head, loops[head], m).show()
+        rule: Any = comparisons.Differences if name == functions.MEMCMP else Loop
+        return [(rule(self, name, head, loops[head], m).show(), code[loops[head]].next)]
 
     def follow(self, name: str, m: Any, i: Any, entry: tuple, waiting: list, ends: list) -> None:
         """Executes an instruction."""
@@ -365,12 +396,14 @@ class Calls:
 
     def run_inner(self, name: str, m: Any) -> list:
         """The machines after a call of a function whose code is executed."""
+        if name in functions.SQUEEZES:
+            self.position = T.add(64, (1, m.argument(0)), (1, T.const(64, self.place_of_position)))
         if name in self.scrubs and m.deepest < m.lowest() - self.scrubs[name]:
             raise IsWrong("scrub_stack overwrites %d bytes, and the call has used more"
                           % self.scrubs[name])
         ends = self.run(name, m)
         if name in self.answering:
-            return [other for end in ends for other in self.answers(end)]
+            return [other for end in ends for other in self.public_answers(end)]
         for end in ends if name in self.scrubs else ():
             if end.secrets:
                 raise IsWrong("scrub_stack leaves bytes of the stack in which a secret may be, the first "
@@ -391,7 +424,7 @@ class Calls:
             found.append((n, pc))
         return found
 
-    def answers(self, m: Any) -> list:
+    def public_answers(self, m: Any) -> list:
         """The answer of a comparison is public: 1 or 0. A call compares once."""
         if m.compared_bytes or not self.exported.endswith("_verify"):
             raise IsWrong("a comparison whose answer is not that of the call")
@@ -407,10 +440,11 @@ class Calls:
         return found
 
     def compress(self, m: Any, kind: Kind, lanes: int) -> None:
-        """A call of F: of one message."""
-        if lanes != 1:
-            raise CannotShow("a compression of several messages")
+        """A call of F: of one message, or of one block of each of several."""
         name = self.program.target(self.at, OF_C)
+        if lanes != 1:
+            self.compress_each(m, name, kind, lanes)
+            return
         h, block, counter, last, node = (m.argument(k) for k in range(5))
         need_public(counter, "the counter")
         flags = [T.split(t)[0] for t in (last, node)]
@@ -424,4 +458,27 @@ class Calls:
                                 "flags": flags, "region": region, "offset": offset,
                                 "result": result})
         m.store(h, result)
+        m.compressed(self.frames[name])
+
+    def compress_each(self, m: Any, name: str, kind: Kind, lanes: int) -> None:
+        """The chaining words are in rows of all messages, and what else differs in tables."""
+        if name not in self.frames:
+            raise CannotShow("a compression of several messages")
+        rows, *tables = (m.argument(k) for k in range(4))
+        size, total = kind.bytes, 8 * kind.bytes * lanes
+        words = chunks(m.load(rows, total), size)
+        result = list(words)
+        pointers, counters, flags = (chunks(m.load(t, n * lanes), n) for t, n in zip(tables, (8, 8, 2)))
+        for t, n in zip(tables + [T.word(p) for p in pointers], (8 * lanes, 8 * lanes, 2 * lanes) + (
+                kind.block,) * lanes):
+            m.check_disjoint("a compression", rows, total, t, n)
+        for j in range(lanes):
+            counter = T.word(counters[j])
+            need_public(counter, "the counter")
+            if any(b not in (0, 1) for b in flags[j]):
+                raise CannotShow("a flag is not known: %r" % (flags[j],))
+            chain = [b for k in range(8) for b in words[k * lanes + j]]
+            block = m.load(T.word(pointers[j]), kind.block)
+            result[j::lanes] = chunks(Terms(self, m).compress(kind, chain, block, counter, *flags[j]), size)
+        m.store(rows, [b for word in result for b in word])
         m.compressed(self.frames[name])

@@ -1,0 +1,235 @@
+"""The cases in which whole_calls.py shows the exported functions of BLAKE2Xb and BLAKE2Xs: together all
+inputs of each. The length of an output is known in advance in some, and not in others."""
+
+from __future__ import annotations
+
+from typing import Any, Callable, Iterator
+
+import call_cases as C
+import call_specification as S
+import program as programs
+import reads
+import terms as T
+import xof_specification as X
+from call_cases import FREE, MOST, REFUSED, Setup, fail, hold
+from symbolic import Buffer
+from terms import CannotShow
+from whole_calls import Calls, Terms
+
+NOT_ON, ON = (0, 0), (1, MOST)
+
+
+class Cases(C.Cases):
+    """The cases of the functions of one of both."""
+
+    def __init__(self, program: programs.Program, family: str, pending: Any = None,
+                 sizes: Any = None) -> None:
+        """With only some cases of reads, one of each kind, if sizes are given."""
+        self.is_short = sizes is not None
+        self.calls, self.kind = Calls(program), C.KINDS[family]
+        self.prefix, self.wiped = "vulfsjor_ffi_" + family, X.zeros(self.kind)
+        self.pending = range(self.kind.block + 1) if pending is None else pending
+        self.calls.block_of_output = self.kind.w
+        self.calls.measure(self.kind, True)
+        names = self.wiped.FIELDS
+        before = [getattr(self.wiped, name) for name in names[:names.index("position")]]
+        self.calls.place_of_position = sum(len(v) if isinstance(v, list) else 8 for v in before)
+
+    # States.
+
+    def length(self, is_known: bool) -> tuple:
+        (_, low, high), = X.is_length(self.kind, 0, is_known)
+        return low, high
+
+    def add_ready(self, setup: Setup, is_known: Any = True, **fields: Any) -> Any:
+        """A state that is ready; with any length, if nothing was read and it does not matter."""
+        kind, length = self.kind, {} if is_known is None else {"xof_length": self.length(is_known)}
+        given: dict = {**self.ready(), "output_size": (kind.w, kind.w), **length, **fields}
+        s: Any = setup.pass_state(**given)
+        hold(setup, X.is_ready(kind, s, True)[:-2] if is_known is None else X.is_ready(kind, s, is_known))
+        return s
+
+    def unready(self, rest: Callable, result: T.Term | int = REFUSED) -> Iterator:
+        kind = self.kind
+
+        def why(s: Any) -> list:
+            """What holds, and a condition that fails: one of all states, or that of the position."""
+            length = (s.xof_length,), 1, X.unknown(kind)
+            found: list = [([], c) for c in X.is_ready(kind, s, True)[:-2] + [length]]
+            return found + [(X.is_length(kind, s.xof_length, is_known), X.is_ready(kind, s, is_known)[-1])
+                            for is_known in (True, False)]
+        for k in range(len(why(self.wiped))):
+            for side in (0, 1):
+                def case(setup: Setup) -> Callable | None:
+                    s = setup.pass_state()
+                    rest(setup)
+                    given, failing = why(s)[k]
+                    hold(setup, given)
+                    return (lambda a: (result, s, [])) if fail(setup, failing, side) else None
+                case.__doc__ = "not ready: condition %d, side %d" % (k, side)
+                yield case
+
+    def each(self, make: Callable, *choices: tuple) -> Iterator:
+        """The cases of a function, with a length that is known or not, and each of some choices."""
+        for pair in [(is_known, choice) for is_known in (True, False) for choice in choices or ((),)]:
+            def case(setup: Setup) -> Callable:
+                return make(setup, pair[0], *pair[1])
+            case.__doc__ = "ready, known length %s, %s" % pair
+            yield case
+
+    def count(self) -> Iterator:
+        def case(setup: Setup, is_known: bool, low: int, high: int) -> Callable:
+            s = self.add_ready(setup, is_known)
+            setup.bound((s.counter, s.pending_length, (-1, s.start_length)), low, high)
+            return lambda a: (a.word(S.count(a, s)), s, [])
+        yield from self.each(case, (0, MOST), (-MOST, -1))
+        yield from self.unready(lambda setup: None, T.const(64, 0))
+
+    def left(self) -> Iterator:
+        def case(setup: Setup, is_known: bool) -> Callable:
+            s = self.add_ready(setup, is_known)
+            length = X.output_length(self.kind, s.xof_length, is_known)
+            return lambda a: (a.minus(length, s.position), s, [])
+        yield from self.each(case)
+        yield from self.unready(lambda setup: None, T.const(64, 0))
+
+    def reset(self) -> Iterator:
+        def case(setup: Setup, is_known: bool) -> Callable:
+            s = self.add_ready(setup, is_known)
+            setup.reads_key = (0, s.start_length),
+            return lambda a: (0, X.reset(self.kind, s), [])
+        yield from self.each(case)
+        yield from self.unready(lambda setup: None)
+
+    # Messages.
+
+    def update(self) -> Iterator:
+        # The length does not matter, because nothing was read.
+        start = {"position": NOT_ON, "reading": NOT_ON, "xof_length": (1, X.unknown(self.kind))}
+        for pending in self.pending:
+            for amount in self.amounts(pending):
+                def case(setup: Setup) -> Callable:
+                    s = self.add_ready(setup, None, pending_length=(pending, pending), **start)
+                    setup.reads_key = (s.counter, T.const(64, 1)), (0, s.start_length)
+                    s = s.but(pending_length=pending)
+                    n, absorb = amount(setup)
+                    data = self.message(setup, n)
+                    hold(setup, S.is_counted(s.counter, pending, n))
+                    return lambda a: (0, X.over(s, absorb(a, s, data)), [])
+                case.__doc__ = "%d pending" % pending
+                yield case
+        for name in ("position", "reading"):
+            def reading(setup: Setup, is_known: bool) -> Callable:
+                s = self.add_ready(setup, is_known, **{name: ON})
+                self.message(setup, setup.number("n"))
+                return lambda a: (REFUSED, s, [])
+            yield from self.each(reading)
+
+        def much(setup: Setup) -> Callable:
+            """the count reaches 2^64"""
+            s = self.add_ready(setup, None, **start)
+            n = setup.number("n")
+            self.message(setup, n)
+            fail(setup, S.is_counted(s.counter, s.pending_length, n)[0], 1)
+            return lambda a: (REFUSED, s, [])
+        yield much
+        yield from self.unready(lambda setup: self.message(setup, setup.number("n")))
+
+    # Outputs.
+
+    def reads(self, setup: Setup, n: T.Term, is_known: bool, read: Callable, position: Any) -> Callable:
+        """What refuses an output of other bytes than those of a state: read(a) is the state."""
+        def refuse(m: Any, length: T.Term) -> None:
+            a = Terms(self.calls, m)
+            reads.need_output(m, lambda *rest: setup.need(rest[0], m, *rest[1:]), X.stream(
+                a, self.kind, read(a), is_known), self.kind.w, position, length)
+        self.calls.need_output = refuse
+        return lambda m: refuse(m, n)
+
+    def squeeze(self) -> Iterator:
+        kind = self.kind
+
+        def case(setup: Setup, is_known: bool, reading: tuple, node: tuple) -> Callable:
+            place = T.var(8, "place in a block", T.PUBLIC)
+            setup.bound((place,), 0, kind.w - 1)
+            position = T.add(64, (kind.w, setup.number("block", 0, MOST // kind.w)), (
+                1, reads.of_byte(place)))
+            s = self.add_ready(setup, is_known, reading=reading, last_node=node, position=position)
+            setup.reads_key = (0, s.start_length),
+            n = setup.number("n")
+            self.out(setup, n)
+            hold(setup, X.has_left(X.output_length(kind, s.xof_length, is_known), s.position, n))
+            is_on = reading == ON
+            out = self.reads(setup, n, is_known, lambda a: X.begin(a, kind, s, is_on), s.position)
+            return lambda a: (0, X.squeeze(a, kind, s, n, is_on), out)
+        cases = list(self.each(case, (NOT_ON, NOT_ON), (NOT_ON, ON), (ON, FREE)))
+        yield from cases[1::4] if self.is_short else cases
+
+        def more(setup: Setup, is_known: bool) -> Callable:
+            s = self.add_ready(setup, is_known)
+            n = setup.number("n")
+            self.out(setup, n)
+            length = X.output_length(kind, s.xof_length, is_known)
+            setup.bound(X.has_left(length, s.position, n)[0][0], -2 * MOST, -1)
+            return lambda a: (REFUSED, s, [])
+        yield from self.each(more)
+        yield from self.unready(lambda setup: self.out(setup, setup.number("n")))
+
+    # Inits and the call in one.
+
+    def init_salt_personal(self) -> Iterator:
+        kind = self.kind
+
+        def read(setup: Setup, key: tuple) -> tuple:
+            given, conditions = self.lengths(setup, key)
+            return given, [((given[0],), 1, X.unknown(kind))] + conditions[1:]
+        for has_key in (False, True):
+            def accepted(setup: Setup) -> Callable:
+                setup.pass_state()
+                given, conditions = read(setup, (1, kind.w) if has_key else (0, 0))
+                setup.reads_key = (0, given[2]),
+                hold(setup, conditions)
+                return lambda a: (0, X.init(a, kind, *given), [])
+            accepted.__doc__ = "accepted, key %s" % has_key
+            yield accepted
+        yield from self.refused(lambda setup: (setup.pass_state(), read(setup, FREE)[1])[1])
+
+    def one_shot(self, derives: bool = False) -> Iterator:
+        kind, block = self.kind, self.kind.block
+
+        def arguments(setup: Setup, n: T.Term, key: tuple) -> tuple:
+            size = setup.number("size")
+            out, keyed = self.out(setup, size), setup.number("key_size", *key)
+            texts: list = [("message", n), ("key", keyed)]
+            found: dict = {name: setup.pass_buffer(name, length)
+                           for name, length in (reversed(texts) if derives else texts)}
+            return size, found["message"], found["key"], keyed
+        conditions = lambda size, keyed: X.is_length(kind, size, True) + X.admits(kind, keyed, 0, 0)[:1] + (
+            [((keyed,), 1, MOST)] if derives else [])
+        for has_key in (True,) if derives else (False, True):
+            amounts = self.amounts(block if has_key else 0)
+            for amount in amounts[int(has_key):][:1] if self.is_short else amounts:
+                def accepted(setup: Setup) -> Callable:
+                    n, absorb = amount(setup)
+                    size, data, key, keyed = arguments(setup, n, (1, kind.w) if has_key else NOT_ON)
+                    setup.reads_key = (0, keyed),
+                    hold(setup, conditions(size, keyed) + S.is_counted(block * has_key, n))
+                    state = lambda a: X.one_shot(a, kind, size, key, keyed, lambda s: absorb(a, s, data))
+                    out = self.reads(setup, size, True, state, T.const(64, 0))
+                    return lambda a: (0, None, out)
+                accepted.__doc__ = "accepted, key %s" % has_key
+                yield accepted
+        for k in range(4 if derives else 3):
+            for side in (0, 1):
+                def refused(setup: Setup) -> Callable | None:
+                    n = setup.number("n")
+                    size, _, _, keyed = arguments(setup, n, FREE)
+                    all_of = S.is_counted(block, n) + conditions(size, keyed)
+                    if k == 0:
+                        setup.bound((keyed,), 1, MOST)
+                    return (lambda a: (REFUSED, None, [])) if fail(setup, all_of[k], side) else None
+                refused.__doc__ = "refused: condition %d, side %d" % (k, side)
+                yield refused
+
+    def derive_key(self) -> Iterator:
+        yield from self.one_shot(True)

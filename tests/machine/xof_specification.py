@@ -1,0 +1,123 @@
+"""What the exported functions of BLAKE2Xb and BLAKE2Xs write and return, from the contracts in
+crates/blake2_ffi, from the BLAKE2X document and from its reference code. It is read as
+call_specification.py is, which has the hash that both use: the root hash of the message."""
+
+from __future__ import annotations
+
+from typing import Any, Callable, TYPE_CHECKING
+
+import call_specification as S
+
+if TYPE_CHECKING:
+    from rfc7693 import Kind
+    from symbolic import Buffer
+    from terms import Term
+
+
+class State(S.State):
+    """The state of a root hash, and a reader of the output: the root hash once bytes were read, salt
+    and persona, the length of the output, the bytes that were read, and whether any were."""
+
+    root: Any
+    texts: Any
+    xof_length: Any
+    position: Any
+    reading: Any
+    FIELDS = S.State.FIELDS + ("root", "texts", "xof_length", "position", "reading")
+
+
+def zeros(kind: Kind) -> State:
+    return State(**S.zeros(kind).__dict__, root=[0] * kind.w, texts=[0] * (kind.w // 2), xof_length=0,
+                 position=0, reading=0)
+
+
+def unknown(kind: Kind) -> int:
+    """The length of an output whose length is not known in advance: all bits of its field."""
+    return (1 << kind.w // 2) - 1
+
+
+def output_length(kind: Kind, xof_length: Any, is_known: bool) -> Any:
+    """The bytes that may be read. If the length is not known, there are 2^32 blocks."""
+    return xof_length if is_known else kind.w << 32
+
+
+# When a call is accepted, for a length that is known in advance, and for one that is not.
+
+def is_length(kind: Kind, xof_length: Any, is_known: bool) -> list:
+    return [((xof_length,), 1, unknown(kind) - 1) if is_known else
+            ((xof_length,), unknown(kind), unknown(kind))]
+
+
+def is_ready(kind: Kind, s: State, is_known: bool) -> list:
+    length = output_length(kind, s.xof_length, is_known)
+    return S.is_ready(kind, s) + [((s.output_size,), kind.w, kind.w)] + is_length(
+        kind, s.xof_length, is_known) + has_left(length, s.position, 0)
+
+
+def has_left(length: Any, position: Term, n: Any) -> list:
+    """n more bytes are not more than the output has."""
+    return [((length, (-1, position), (-1, n)), 0, S.MOST_COUNTED)]
+
+
+def is_absorbing(s: State) -> list:
+    """Nothing was read since the start."""
+    return [((s.reading,), 0, 0), ((s.position,), 0, 0)]
+
+
+def admits(kind: Kind, key_size: Any, salt_size: Any, persona_size: Any) -> list:
+    """The other lengths of an init."""
+    return S.admits(kind, kind.w, key_size, salt_size, persona_size)[1:]
+
+
+# The calls.
+
+def init(a: Any, kind: Kind, xof_length: Any, key: Any, key_size: Any, salt: Any, salt_size: Any,
+         persona: Any, persona_size: Any) -> State:
+    """The root hash has the longest digest, and the length of the output in its node offset."""
+    tree = (1, 1, 0, a.times(1 << 32, xof_length), 0, 0)
+    root = S.init_tree(a, kind, kind.w, key, key_size, salt, salt_size, persona, persona_size, tree)
+    n = kind.w // 4
+    return over(zeros(kind), root).but(
+        xof_length=xof_length, texts=S.padded(a, salt, salt_size, n) + S.padded(a, persona, persona_size, n))
+
+
+def over(s: State, root: S.State) -> State:
+    """The state with another root hash."""
+    return s.but(**{name: getattr(root, name) for name in S.State.FIELDS})
+
+
+def reset(kind: Kind, s: State) -> State:
+    """No byte of a root hash that was read is left."""
+    return over(s, S.reset(s)).but(root=[0] * kind.w, position=0, reading=0)
+
+
+def begin(a: Any, kind: Kind, s: State, is_reading: bool) -> State:
+    """The first read ends the message: the root hash is its digest."""
+    return s if is_reading else s.but(root=S.digest(a, kind, s), reading=1)
+
+
+def squeeze(a: Any, kind: Kind, s: State, n: Any, is_reading: bool) -> State:
+    """The state after a read of n bytes. The output has those of stream() from the position on."""
+    return begin(a, kind, s, is_reading).but(position=a.plus(s.position, n))
+
+
+def stream(a: Any, kind: Kind, s: State, is_known: bool) -> Callable:
+    """The blocks of the output, by their numbers. Each is the hash of the root hash, without a key, and
+    with parameters of its own; the last one may be shorter, so its length has less than a block."""
+    n = kind.w // 4
+
+    def block(i: Any) -> list:
+        size = a.least(kind.w, a.minus(output_length(kind, s.xof_length, is_known), a.times(kind.w, i)))
+        tree = (0, 0, kind.w, a.plus(i, a.times(1 << 32, s.xof_length)), 0, kind.w)
+        first = S.from_block(a, kind, S.parameter_block(
+            a, kind, size, 0, tree, s.texts[:n], s.texts[n:]), size)
+        return S.digest(a, kind, first.but(
+            pending=s.root + [0] * (kind.block - kind.w), pending_length=kind.w))
+    return block
+
+
+def one_shot(a: Any, kind: Kind, size: Any, key: Buffer | Callable, key_size: Any,
+             absorb: Callable) -> State:
+    """The state of which all bytes are read, where `absorb` is one of both updates."""
+    s = init(a, kind, size, key, key_size, S.nothing, 0, S.nothing, 0)
+    return begin(a, kind, over(s, absorb(s)), False)
