@@ -22,9 +22,9 @@ import rfc7693 as R
 import terms as T
 from constant_time import STACK
 from facts import Facts
-from symbolic import MODELS, Buffer, Cells, fresh
-from taint import Aligned, reset
-from machine import image
+from machine import Aligned, image
+from symbolic import Buffer, Cells, Exact, fresh
+from taint import reset
 from terms import CannotShow, IsWrong
 from whole_calls import Calls, Terms
 
@@ -54,7 +54,7 @@ class Setup:
             return T.const(64, low)
         t = T.var(64, name, T.PUBLIC)
         if (low, high) != FREE:
-            self.bound((t,), low, high)
+            self.known = self.known.between([(1, t)], low, high)
         return t
 
     def pass_number(self, name: str, low: int = 0, high: int = MOST) -> T.Term:
@@ -117,15 +117,14 @@ class Setup:
     def run(self, name: str, expected: Callable) -> int:
         """Executes the call, and compares each of its ends."""
         program = self.calls.program
-        model: Any = MODELS[program.kind]
+        cpu = self.calls.cpu
         back = T.var(64, "return address", T.PUBLIC)
         above = [back] if program.kind == "x86_64" else []
-        above = [b for t in above + self.arguments[len(model.ARGUMENTS):] for b in T.split(t)]
+        above = [b for t in above + self.arguments[len(cpu.ARGUMENTS):] for b in T.split(t)]
         self.regions[self.sp] = Cells(-STACK, len(above), lambda k: above[k] if k >= 0 else fresh(
             "stack", T.JUNK)[0], True, self.alignment)
-        m = model(self.regions, {})
-        m.begin(self.alignment, self.known, self.kind.block)
-        m.start(self.sp, back, self.arguments)
+        m = Exact(self.regions, cpu, self.alignment, self.known)
+        cpu(m).start(self.sp, back, self.arguments)
         ends = self.calls.run(name, m)
         if not ends:
             raise CannotShow("no path of the call is possible")
@@ -134,7 +133,7 @@ class Setup:
             self.compare(end, expected(a))
             if not self.reads_key or S.must_scrub(a, *self.reads_key):
                 self.need_clean_stack(end)
-            end.need_vectors()
+            cpu(end).need_vectors()
         return len(ends)
 
     def need_clean_stack(self, m: Any) -> None:
@@ -152,7 +151,7 @@ class Setup:
         if result is not None:
             size = 8 if isinstance(result, T.Term) else 4
             wanted = T.split(T.const(32, result) if isinstance(result, int) else result)
-            self.need("the result", m, m.answer()[:size], wanted)
+            self.need("the result", m, self.calls.cpu(m).answer()[:size], wanted)
         if self.state_at is not None:
             found = [m.memory.get((self.state_at, k), b) for k, b in enumerate(self.cells)]
             self.need("the state", m, found, self.bytes_of(state))

@@ -24,6 +24,7 @@ instructions of WebAssembly. What is missing is skipped.
 
 from __future__ import annotations
 
+import gc
 import multiprocessing
 import os
 import platform
@@ -459,11 +460,14 @@ def read_all(paths: Any) -> None:
 def run(job: Any) -> Any:
     """The results of a job. What no one has foreseen is a failure too."""
     f, arguments = job
+    gc.disable()                       # terms have no cycles, and looking for some takes long
     try:
         return f(*arguments)
     except Exception as e:
         title = "%s of %s" % (f.__name__, " ".join(map(str, arguments)))
         return [("not ok", title, "cannot show: %s: %s" % (type(e).__name__, e))]
+    finally:
+        gc.collect()
 
 
 def report(results: Any) -> Any:

@@ -6,11 +6,12 @@ from __future__ import annotations
 
 import random
 
-import symbolic
 import terms as T
+import x86
 from check_ranges import TRUE, Wrong
 from facts import Facts
 from ranges import OPPOSITE
+from symbolic import Exact
 from taint import reset
 
 STEPS = 5
@@ -24,8 +25,7 @@ class Run:
     def __init__(self, rng: random.Random, has_large: bool) -> None:
         reset()
         self.rng, self.factors, self.has_large = rng, SMALL + LARGE * has_large, has_large
-        self.machine = symbolic.MODELS["x86_64"]({}, {})
-        self.machine.begin((16, 0), None, 128)
+        self.machine = Exact({}, x86.X86, (16, 0))
         self.machine.stack = T.var(64, "sp", T.PUBLIC)
         self.numbers = {name: self.number() for name in "xyz"}
         self.words = [T.var(64, name, T.PUBLIC) for name in "xyz"]

@@ -42,7 +42,7 @@ def concrete(call: Any, numbers: list) -> None:
 
     for region in call.regions.values():
         region.initial = lambda k, initial=region.initial: byte(initial(k))
-    for name in call.machine.FILES:
+    for name in call.cpu.FILES:
         for register in getattr(call.machine, name):
             register[:] = [byte(b) for b in register]
 
@@ -59,7 +59,7 @@ def digests(program: Program, entry: Any, rng: Any) -> Any:
     assumed.update({"node%d" % j: node for j, node in enumerate(nodes)})
     call = compression.call_of(entry[0])(program, name, kind, lanes, assumed)
     concrete(call, numbers_of(call, texts, size))
-    compression.Runner(program.code(name)).run(call.machine)
+    compression.Runner(program.code(name), call.cpu).run(call.machine)
     found = [b"".join(bytes(T.split(call.result(call.machine, j, k))) for k in range(8))
              for j in range(lanes)]
     hash_of = getattr(hashlib, kind.name)

@@ -16,7 +16,7 @@ import forms
 import functions
 import terms as T
 import x86
-from machine import Region
+from machine import Region, Words
 from program import read, TOOLS
 
 if TYPE_CHECKING:
@@ -153,7 +153,7 @@ def model(program: Any, text: Any, base: Any, data: Any) -> Any:
     initial = data[MEMORY:]
     span = (-BUFFER, BUFFER)
     regions = {buf: Region(*span, lambda k: initial[k + BUFFER], span, (64, 0))}
-    m = program.model.Model(regions, {})
+    m = Words(regions, program.model.Model, {})
     general = struct.unpack_from("<32Q", data)
     for j in range(len(m.general)):
         m.general[j] = T.split(T.const(64, general[j]))
@@ -164,7 +164,8 @@ def model(program: Any, text: Any, base: Any, data: Any) -> Any:
     if program.kind == "x86_64":
         words = struct.unpack_from("<8Q", data, MASKS)
         m.masks = [[word >> k & 1 for k in range(64)] for word in words]
-    m.zero = T.const(8, data[ZERO])
+    zero = T.const(8, data[ZERO])
+    m.flags = "sub", zero, T.const(8, 0), zero
     jump = re.search(r"; (\S+) ?(.*?),? ?1f; mov (\w)(\d+)", text)
     if jump:
         text = "%s %s" % (jump[1], (jump[2] + ", " if jump[2] else "") + "10 <there>")
@@ -172,7 +173,7 @@ def model(program: Any, text: Any, base: Any, data: Any) -> Any:
         text = text.replace(" ", "\t", 1)
     i = program.model.Instruction(0, text)
     i.next = 4
-    found = m.step(i)
+    found = program.model.Model(m).follow(i)
     if jump:
         m.general[int(jump[4])] = T.split(T.const(64, int(found == 16)))
     return m, buf
@@ -196,8 +197,8 @@ def difference(program: Program, m: Any, buf: T.Term, before: bytes, after: byte
         for j, bits in enumerate(m.masks):
             if bits != [masks[j] >> k & 1 for k in range(64)]:
                 return "mask register %d differs" % j
-    if m.zero is not None:
-        zero = T.substitute(m.zero, numbers, {})
+    if m.flags is not None:
+        zero = T.substitute(m.flags[3], numbers, {})
         if (zero.op == "const" and zero.args == 0) != bool(after[ZERO]):
             return "the zero flag is %d" % after[ZERO]
     memory = list(before[MEMORY:])

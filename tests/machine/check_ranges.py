@@ -7,12 +7,11 @@ from __future__ import annotations
 import random
 from typing import Any
 
-import constant_time
 import terms as T
+import x86
 from ranges import OPPOSITE
-from taint import reset
+from taint import Taint, reset
 
-OF_FLAGS = {"==": "e", "!=": "ne", "<": "b", ">=": "ae", ">": "a", "<=": "be"}
 TRUE = {"==": lambda a, b: a == b, "!=": lambda a, b: a != b, "<": lambda a, b: a < b,
         ">=": lambda a, b: a >= b, ">": lambda a, b: a > b, "<=": lambda a, b: a <= b}
 STEPS, NAMES = 14, "xyz"
@@ -27,8 +26,7 @@ class Run:
 
     def __init__(self, rng: random.Random) -> None:
         reset()
-        self.rng, self.machine = rng, constant_time.taint_x86.Model({}, {})
-        self.machine.begin((16, 0), {}, 128, rng.choice((0, 896)))
+        self.rng, self.machine = rng, Taint({}, x86.X86, (16, 0), {}, 128, rng.choice((0, 896)))
         self.numbers: dict = {}
         self.words = [T.var(64, name, T.PUBLIC) for name in NAMES]
         for name in NAMES:
@@ -83,9 +81,8 @@ class Run:
                     a, relation if holds else OPPOSITE[relation], b))
             m.bounds |= {t for t in (a, b) if t.op in ("var", "add")}
             return
-        m.flags = "sub", a, b, T.add(64, (1, a), (-1, b))
         c, d = (rng.choice(self.words) for _ in range(2))
-        data = T.word(m.chosen(OF_FLAGS[relation], T.split(c), T.split(d)))
+        data = T.word(m.chosen((relation, a, b), T.split(c), T.split(d)))
         self.words.append(self.named(data, self.value(c if holds else d)))
 
     def meet(self) -> None:

@@ -34,7 +34,7 @@ def reached(program: Program) -> list:
         if name in found or name in listed or name in constant_time.OF_C:
             continue
         found.add(name)
-        code = program.code(name, constant_time.MODELS[program.kind].Instruction)
+        code = program.code(name)
         inside = {i.address for i in code}
         waiting += [program.target(i, constant_time.OF_C) for i in code
                     if i.target is not None and i.target not in inside]
@@ -52,9 +52,8 @@ def machine(program: Program, text: str, base: int, data: bytes) -> tuple:
     """The machine of symbolic.py after the instructions of a text."""
     count, size = check.vectors_of(program.path)
     buf, memory = T.var(64, "buffer", T.PUBLIC), check.MEMORY + check.BUFFER
-    m = symbolic.MODELS[program.kind]({buf: symbolic.Cells(
-        *taint.SPAN, lambda k: data[memory + k], True, (64, 0))}, {})
-    m.begin((16, 0), None, 128)
+    m = symbolic.Exact({buf: symbolic.Cells(
+        *taint.SPAN, lambda k: data[memory + k], True, (64, 0))}, program.model.Model, (16, 0))
     m.stack = T.var(64, "sp", T.PUBLIC)
     for j in range(len(m.general)):
         m.general[j] = list(data[8 * j:8 * j + 8])

@@ -10,12 +10,14 @@ import re
 import struct
 from typing import Any, Iterator, TYPE_CHECKING
 
+import arm
 import check_instructions as check
 import constant_time
 import functions
 import terms as T
+import x86
 from program import read
-from taint import Memory, is_secret, reset, secret
+from taint import Memory, Taint, is_secret, reset, secret
 
 if TYPE_CHECKING:
     from program import Program
@@ -29,12 +31,12 @@ FLAGS = {
     "x86_64": (("cmp rbx,rcx", "add edx,esi", "test r8,r9", "neg rdi", "sub r10,r11", "and dl,al",
                 "xor ecx,ecx"),
                ("", "inc edx", "dec r9", "inc BYTE PTR [r15]", "not ecx", "lea r8,[r9+0x1]"),
-               ["set%s r14b" % c for c in constant_time.taint_x86.CONDITIONS] + [
+               ["set%s r14b" % c for c in x86.CONDITIONS] + [
                    "cmov%s r14,r13" % c for c in ("b", "e")] + ["adc r14,r13", "sbb r14d,0x1"]),
     "aarch64": (("cmp x1, x2", "adds x3, x4, x5", "tst w6, #0xff", "subs w1, w2, w3", "cmn x1, #1",
                  "ands x3, x4, x5"),
                 ("", "add x9, x9, #1", "mov x10, x11", "ccmp x3, x4, #0, ne"),
-                ["cset x14, %s" % c for c in constant_time.taint_arm.CONDITIONS] + [
+                ["cset x14, %s" % c for c in arm.CONDITIONS] + [
                     "csel x14, x13, x12, lo", "csinc x14, x13, x12, eq"]),
 }
 SETS_FLAGS = {
@@ -68,7 +70,7 @@ def reached(program: Program) -> list:
         if name in found or name.startswith((functions.SCRUB_STACK, functions.SETTLE)):
             continue
         found[name] = True
-        code = program.code(name, constant_time.MODELS[program.kind].Instruction)
+        code = program.code(name)
         waiting += [starts[i.target] for i in code if i.target in starts]
     return [name for name in found if found[name]]
 
@@ -78,9 +80,8 @@ def chosen(program: Program, count: int, rng: Any, names: list | None = None) ->
     follow."""
     found: dict = {}
     kind = program.kind
-    model = constant_time.MODELS[kind]
     for name in names or reached(program):
-        for i in program.code(name, model.Instruction):
+        for i in program.code(name):
             form = check.form(kind, i)
             if form is not None:
                 found.setdefault(form, set()).add(check.rewritten(kind, i))
@@ -104,11 +105,10 @@ def hidden(rng: Any, size: int) -> set:
 
 def machine(program: Program, text: str, base: int, data: bytes, places: set) -> tuple:
     """The abstract machine after an instruction, in which bytes at these places are secret."""
-    model = constant_time.MODELS[program.kind]
     byte = lambda k: secret() if k in places else data[k]
     buf = T.var(64, "buffer", T.PUBLIC)
-    m = model.Model({buf: Memory(*SPAN, lambda k: byte(check.MEMORY + check.BUFFER + k))}, {})
-    m.begin((16, 0), {}, 128)
+    memory = Memory(*SPAN, lambda k: byte(check.MEMORY + check.BUFFER + k))
+    m = Taint({buf: memory}, program.model.Model, (16, 0), {}, 128)
     m.stack = T.var(64, "sp", T.PUBLIC)
     for j in range(len(m.general)):
         m.general[j] = [byte(8 * j + k) for k in range(8)]
@@ -126,7 +126,7 @@ def execute(m: Any, program: Program, text: str) -> None:
     """Executes the instructions of a text in a model."""
     for part in text.split("; "):
         part = part.replace(" ", "\t", 1) if program.kind == "aarch64" else part
-        m.step(constant_time.MODELS[program.kind].Instruction(0, part))
+        program.model.Model(m).step(program.model.Instruction(0, part))
 
 
 def wrong(program: Program, m: Any, buf: T.Term, one: bytes, two: bytes) -> Any:
@@ -137,7 +137,7 @@ def wrong(program: Program, m: Any, buf: T.Term, one: bytes, two: bytes) -> Any:
               if (program.kind, j) != ("x86_64", 4)]
     places += [(check.VECTORS + size * j + k, b) for j, r in enumerate(m.vector[:count])
                for k, b in enumerate(r[:size])]
-    places += [(check.MEMORY + check.BUFFER + k, m.byte(buf, k, m.regions[buf]))
+    places += [(check.MEMORY + check.BUFFER + k, m.memory.get((buf, k), m.regions[buf].initial(k)))
                for k in range(-64, 256)]
     for at, b in places:
         if is_secret(b):

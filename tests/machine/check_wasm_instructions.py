@@ -12,7 +12,7 @@ from typing import Any
 import functions
 import terms as T
 import wasm
-from machine import Region
+from machine import Region, Words
 from program import read, wasm_format
 
 SKIPPED = ("block", "loop", "end", "br", "br_if", "return", "unreachable", "local.get",
@@ -107,16 +107,17 @@ def model(text: str, data: Any) -> Any:
     """The memory after the instruction in the model."""
     operands, result = signature(text)
     memory = Region(0, 512, lambda k: data[k], (0, 512))
-    m = wasm.Wasm({None: memory}, {})
-    m.stack = T.var(32, "sp", T.PUBLIC)
+    m = Words({None: memory}, wasm.Wasm, {})
+    m.stack, m.globals = T.var(32, "sp", T.PUBLIC), [[0] * 4]
+    cpu = wasm.Wasm(m)
     for k, kind in enumerate(operands):
-        m.push(list(data[16 * k:16 * k + wasm.SIZES[kind]]))
-    m.step(wasm.Instruction(0, text))
+        cpu.push(list(data[16 * k:16 * k + wasm.SIZES[kind]]))
+    cpu.follow(wasm.Instruction(0, text))
     after = list(data)
     for (_, k), b in m.memory.items():
         after[k] = b
     if result is not None:
-        found = m.pop()
+        found = cpu.pop()
         after[RESULT:RESULT + len(found)] = found
     return bytes(after)
 

@@ -38,7 +38,7 @@ class Differences:
         """The machine after an iteration, and the word that is 0 after the last one."""
         ends = self.calls.run(self.name, m, self.head, {self.last})
         code = self.calls.code(self.name)[0]
-        compared = ends[0].condition(code[self.last]) if len(ends) == 1 else None
+        compared = self.calls.cpu(ends[0]).condition(code[self.last]) if len(ends) == 1 else None
         if compared is None or compared[0] != "!=":
             raise CannotShow("a loop of a comparison goes on by another condition")
         return ends[0], T.add(64, (1, compared[1]), (-1, compared[2]))

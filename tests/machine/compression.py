@@ -8,7 +8,7 @@ from typing import Any, Callable, TYPE_CHECKING
 
 import rfc7693 as R
 import terms as T
-from machine import Fork, Region, image
+from machine import Fork, Region, Words, image
 from terms import CannotShow, IsWrong
 
 if TYPE_CHECKING:
@@ -61,11 +61,13 @@ class Call:
         }
         if program.kind != "wasm":
             self.regions[image()] = Region(0, 1 << 32, program.constant, None, (4096, 0))
-        self.machine = program.machine(name, self.regions, assumed)
+        self.cpu: Any = program.model.Model            # of values, what executes instructions over them
+        self.machine = Words(self.regions, self.cpu, assumed)
         arguments = self.arguments()
         self.at_block(0)
-        self.machine.start(self.sp, self.back, [self.h] + arguments)
-        self.saved = self.machine.saved()
+        signature = [program.signatures[name]] if program.kind == "wasm" else []
+        self.cpu(self.machine).start(self.sp, self.back, [self.h] + arguments, *signature)
+        self.entry = self.cpu(self.machine).at_entry()
 
     def pointer(self, t: T.Term) -> T.Term:
         """An address as the program's memory has it: in a memory of 32 bits, its low half."""
@@ -165,7 +167,8 @@ class Call:
             for j in range(self.lanes):
                 check_same("chaining word %d of message %d" % (k, j), self.result(machine, j, k),
                            wanted[j][k])
-        machine.check_return(self.sp, self.back, self.saved)
+        self.cpu(machine).check_return(self.entry)
+        self.cpu(machine).need_vectors()
 
 
 class EachCall(Call):
@@ -240,8 +243,8 @@ def check_same(what: str, found: T.Term, wanted: T.Term) -> Any:
 class Runner:
     """Executes a function, and remembers which of its instructions were reached."""
 
-    def __init__(self, code: list) -> None:
-        self.code = {i.address: i for i in code}
+    def __init__(self, code: list, cpu: Any) -> None:
+        self.code, self.cpu = {i.address: i for i in code}, cpu
         self.first = code[0].address
         self.count, self.paths, self.branches, self.addresses = 0, 0, 0, 0
         self.deepest = 0               # the lowest place of the stack that was used
@@ -255,7 +258,9 @@ class Runner:
             if pc not in self.code:
                 raise CannotShow("a jump leaves the function")
             self.at = self.code[pc]
-            pc = machine.execute(self.at)
+            before = machine.lowest()
+            pc = self.cpu(machine).follow(self.at)
+            machine.shrink_from(before)
             self.visited.add(self.at.address)
             self.count += 1
             if pc is not None:
@@ -464,7 +469,7 @@ def show(program: Program, name: str, kind: R.Kind, lanes: int) -> tuple:
     """Proves the claim for a function, or raises Refused. Returns the runner, and the seconds."""
     T.reset()
     started = time.time()
-    runner = Runner(program.code(name, user="F"))
+    runner = Runner(program.code(name, "F"), program.model.Model)
     try:
         if lanes == 1 or call_of(name) is EachCall:
             show_one(program, name, kind, lanes, runner)

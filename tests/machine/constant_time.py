@@ -9,17 +9,14 @@ from typing import Any, Callable, Iterator, TYPE_CHECKING
 
 import functions
 import program as programs
-import taint_arm
-import taint_x86
 import terms as T
-from machine import image, need_public
-from taint import Aligned, Memory, is_secret, reset, secret, unknown
+from machine import Aligned, image, need_public
+from taint import Memory, Taint, is_secret, reset, secret, unknown
 from terms import CannotShow, IsWrong
 
 if TYPE_CHECKING:
     from rfc7693 import Kind
 
-MODELS = {"x86_64": taint_x86, "aarch64": taint_arm}
 STACK = 65536
 ROUNDS = 20                            # of a loop, which are unrolled
 
@@ -107,15 +104,15 @@ class Call:
         self.structs: list = []
         for kind in kinds:
             self.add(kind, LAYOUTS.get(family if kind == STATE else kind))
-        model = MODELS[program.kind].Model
+        cpu = self.cpu = program.model.Model
         back = T.var(64, "return address", T.PUBLIC)
         above = [back] if program.kind == "x86_64" else []
-        above = [b for t in above + self.words[len(model.ARGUMENTS):] for b in T.split(t)]
+        above = [b for t in above + self.words[len(cpu.ARGUMENTS):] for b in T.split(t)]
         self.regions[self.sp] = Memory(-STACK, len(above),
                                        lambda k: secret() if k < 0 else above[k])
-        self.machine = model(self.regions, {})
-        self.machine.begin(alignment, self.ranges, BLOCKS.get(family, 128), LONGEST.get(family, 0))
-        self.machine.start(self.sp, back, self.words)
+        self.machine = Taint(self.regions, cpu, alignment, self.ranges, BLOCKS.get(family, 128),
+                             LONGEST.get(family, 0))
+        cpu(self.machine).start(self.sp, back, self.words)
 
     def add(self, kind: str, layout: list | None) -> None:
         """Adds an argument, with its memory and its length if it has them."""
@@ -163,6 +160,7 @@ class Analysis:
 
     def __init__(self, program: programs.Program, exported: str = "") -> None:
         self.program, self.codes = program, {}
+        self.cpu: Any = program.model.Model            # of values, what executes instructions over them
         self.exported, self.scrubs = exported, functions.scrubs(program)
         self.listed = {functions.in_file(program.path, entry[0]): entry
                        for entry in functions.FILES[program.path]}
@@ -171,7 +169,7 @@ class Analysis:
     def code(self, name: str) -> tuple:
         """The instructions of a function by address, and where its blocks begin."""
         if name not in self.codes:
-            found = self.program.code(name, MODELS[self.program.kind].Instruction, "T")
+            found = self.program.code(name, "T")
             starts = {i.target for i in found if i.target is not None}
             self.codes[name] = {i.address: i for i in found}, starts, found[0].address
         return self.codes[name]
@@ -184,7 +182,7 @@ class Analysis:
         waiting: list = []
         ends: list = []
         machine.rounds, machine.undecided, machine.bounds = (), frozenset(), frozenset()
-        entry = machine.at_entry()
+        entry = self.cpu(machine).at_entry()
         loops: dict = {}                     # the head of a loop -> its last address
         for i in code.values():
             if i.target is not None and i.target <= i.address:
@@ -208,8 +206,9 @@ class Analysis:
                 heapq.heappush(waiting, key)
 
         def check(m: Any, first: int = 0) -> None:
+            now = self.cpu(m).at_entry()
             for k, what in enumerate(("return address", "stack pointer", "registers")):
-                if k >= first and m.at_entry()[k] != entry[k]:
+                if k >= first and now[k] != entry[k]:
                     raise IsWrong("the caller's %s: not as at the entry of %s" % (what, name))
 
         def finish(m: Any, first: int = 0) -> None:
@@ -241,30 +240,30 @@ class Analysis:
     def follow(self, name: str, m: Any, i: Any, path: str, arrive: Callable, check: Callable,
                finish: Callable) -> int | None:
         """Executes an instruction. Returns the address of the next, if it is the only one."""
-        code = self.codes[name][0]
-        if m.is_call(i):
-            link = m.enter(i)
+        code, cpu = self.codes[name][0], self.cpu(m)
+        if i.is_call:
+            link = cpu.enter()
             self.call(m, i, path)
-            m.leave(link)
+            self.cpu(m).leave(link)
             m.forget_below()
             return i.next
-        if m.is_return(i):
+        if i.is_return:
             finish(m)
             return None
-        if m.is_trap(i):               # the program stops here
+        if i.is_trap:                  # the program stops here
             return None
         if i.target is None:
             top = m.stack_pointer()
-            m.step(i)
+            cpu.step(i)
             if m.stack_pointer() is not top:
                 m.forget_below()
             return i.next
-        if not m.is_jump(i) and m.flags == ("secret",) and name.endswith(ANSWERS) and all(
-                m.only_returns(code, pc) for pc in (i.target, i.next)):
+        if not i.is_jump and m.flags == ("secret",) and name.endswith(ANSWERS) and all(
+                cpu.only_returns(code, pc) for pc in (i.target, i.next)):
             m.flags = ("other",) + (m.new(64, "answer"),) * 3
-        ways = [(m, True)] if m.is_jump(i) else list(m.outcomes(i))
+        ways = [(m, True)] if i.is_jump else list(m.outcomes(cpu.condition(i)))
         for n, jumps in ways:
-            if not m.is_jump(i) and not m.by_numbers:
+            if not i.is_jump and not m.by_numbers:
                 n.undecided = m.undecided | {i.address}
             pc = i.target if jumps else i.next
             if pc in code:
@@ -278,7 +277,7 @@ class Analysis:
     def call(self, m: Any, i: Any, path: str) -> None:
         """A call of another function, whose return address is in its place."""
         name = self.target(i)
-        arguments = [m.argument(k) for k in range(5)]
+        arguments = [self.cpu(m).argument(k) for k in range(5)]
         if name in OF_C:
             to, source, length = arguments[:3]
             if name == "memset":
@@ -290,7 +289,7 @@ class Analysis:
         elif name not in self.scrubs:
             self.enter(m, name, i, path)
             return
-        m.clobber()
+        self.cpu(m).clobber()
 
     def target(self, i: Any) -> str:
         """The function that a call goes to, by its name without version."""
@@ -307,9 +306,10 @@ class Analysis:
         if name in ANSWERING:
             if not self.exported.endswith(ANSWERS):
                 raise IsWrong("a comparison whose answer is not that of the call")
-            if not m.is_bit(m.answer()[0]):
+            answer = self.cpu(m).answer()
+            if not m.is_bit(answer[0]):
                 raise CannotShow("the answer of %s may have more values than 0 and 1" % name)
-            m.answer()[0] = (m.new(8, "answer", (0, 1, 1)), 0)
+            answer[0] = (m.new(8, "answer", (0, 1, 1)), 0)
         elif name in FINALIZING:
             need_zeros(m, next(b for b in m.regions if b.args == "state0"))
 
@@ -411,7 +411,7 @@ def check(call: Call, after: Any, name: str) -> None:
                 raise IsWrong("the field at %d of %s depends on a secret" % (at, word.args))
             at += size
     if not name.endswith(ANSWERS + ("_wipe",)):
-        need_public(T.word(after.answer()[:4]), "the result")
+        need_public(T.word(call.cpu(after).answer()[:4]), "the result")
 
 
 def need_zeros(m: Any, state: T.Term) -> None:

@@ -28,6 +28,10 @@ RELATIONS: dict = {"==": operator.eq, "!=": operator.ne, "<": operator.lt, "<=":
 
 def number(t: T.Term) -> Any:
     """A term as an integer of Z3."""
+    return T.remembered(_number, t)
+
+
+def _number(t: T.Term) -> Any:
     return z3.IntVal(t.args) if t.op == "const" else z3.Int("%s %d" % (t.op, t.serial))
 
 

@@ -2,11 +2,16 @@
 
 from __future__ import annotations
 
+import copy
 import itertools
 from typing import Any, Callable, Iterable
 
 import terms as T
 from terms import CannotShow, IsWrong
+
+
+# Operations on words, by the names of those on vectors.
+WORDWISE: dict = {"xor": T.xor, "or": T.either, "and": T.both}
 
 
 class Fork(Exception):
@@ -34,41 +39,43 @@ class Region:
         self.writable = writable or (0, 0)
 
 
-class Machine:
-    """The registers and the memory. A subclass has one method for each kind of instruction."""
+class Values:
+    """The registers and the memory of a machine, and what is known of their values. A subclass says what
+    that is. x86.py, arm.py and wasm.py execute instructions over them."""
 
-    FILES: tuple = ("general", "vector")       # the attributes that hold registers, as bytes
-    RED_ZONE = 0                       # bytes below the stack pointer that a function may use
-    FREE: tuple = ("nop",)             # instructions that need not be reached
-    LOSSES = itertools.count()         # a number for each time that the stack shrinks
+    general: list
+    vector: list
+    globals: list
+    locals: list
+    operands: list
 
-    def __init__(self, regions: dict, assumed: dict) -> None:
-        self.regions = regions        # base -> Region
-        self.assumed = assumed        # condition -> bool
-        self.memory: dict = {}        # (base, offset) -> byte
-        self.stack: Any = None        # the base of the stack
-        self.zero: Any = None         # the word that is zero if and only if the zero flag is set
+    def __init__(self, regions: dict, processor: Any) -> None:
+        self.regions, self.processor = regions, processor
+        self.memory: dict = {}         # (base, offset) -> byte
+        self.stack: Any = None         # the base of the stack
+        self.flags: Any = None         # what they are from: a kind of operation, two words, and the result
         self.counts = {"branches": 0, "addresses": 0}
-
-    def stack_pointer(self) -> T.Term:
-        raise NotImplementedError
-
-    def step(self, i: Any) -> Any:
-        """Executes an instruction."""
-        raise NotImplementedError
+        for name, (count, size) in processor.FILES.items():
+            setattr(self, name, [junk("%s%d" % (name, j), size) for j in range(count)])
+        self.masks: list = [[None] * 64 for _ in range(8)]
+        self.at_start = {name: [list(r) for r in getattr(self, name)] for name in processor.FILES}
 
     def copy(self) -> Any:
-        """A machine with the same registers and memory. The flags are unknown."""
-        other = type(self)(self.regions, self.assumed)
-        other.stack, other.memory = self.stack, dict(self.memory)
-        for name in self.FILES:
-            getattr(other, name)[:] = [list(r) for r in getattr(self, name)]
+        """Values that may change without these."""
+        other = copy.copy(self)
+        other.memory, other.masks = dict(self.memory), list(self.masks)
+        for name in self.processor.FILES:
+            setattr(other, name, [list(r) for r in getattr(self, name)])
         return other
+
+    def stack_pointer(self) -> T.Term:
+        name, at = self.processor.STACK_POINTER
+        return T.word(getattr(self, name)[at])
 
     def cells(self) -> dict:
         """The bytes of all registers and of written memory, by (kind, register or base, offset)."""
         found = {}
-        for name in self.FILES:
+        for name in self.processor.FILES:
             for at, data in enumerate(getattr(self, name)):
                 found.update({(name, at, k): b for k, b in enumerate(data)})
         found.update({("memory", base, k): b for (base, k), b in self.memory.items()})
@@ -88,23 +95,95 @@ class Machine:
         if items != {self.stack: 1}:
             raise CannotShow("the stack pointer is not known")
         w = self.stack.w
-        return (constant + (1 << w - 1)) % (1 << w) - (1 << w - 1) - self.RED_ZONE
+        return (constant + (1 << w - 1)) % (1 << w) - (1 << w - 1) - self.processor.RED_ZONE
 
-    def execute(self, i: Any) -> int:
-        """Executes an instruction, as step(). If the stack shrinks, bytes below it are lost: a
-        signal may overwrite them. Only bytes of the stack may be below its pointer."""
-        before = self.lowest()
-        following = self.step(i)
+    @staticmethod
+    def shifted_left(a: T.Term, k: int) -> T.Term:
+        return T.add(a.w, (1 << k, a))
+
+    def norm(self, b: T.Byte) -> T.Byte:
+        """A byte, by what is known of it."""
+        return b
+
+    def bitfield(self, a: T.Term, low: int, size: int) -> Any:
+        """Some low bits of a word, shifted to the left."""
+        data = self.masked(a, T.const(a.w, (1 << size) - 1))
+        return T.add(a.w, (1 << low, data))
+
+    def masked(self, a: T.Term, b: T.Term) -> Any:
+        raise NotImplementedError
+
+
+class Words(Values):
+    """Terms, in which each byte is exact. Of a branch, the condition must be assumed."""
+
+    LOSSES = itertools.count()         # a number for each time that the stack shrinks
+
+    def __init__(self, regions: dict, processor: Any, assumed: dict) -> None:
+        super().__init__(regions, processor)
+        self.assumed = assumed         # condition -> bool
+        self.labels: list = []         # of the blocks of WebAssembly that are open
+
+    def copy(self) -> Any:
+        """The same. The flags are unknown."""
+        other = super().copy()
+        other.flags, other.masks = None, [[None] * 64 for _ in range(8)]
+        other.labels = list(self.labels)
+        return other
+
+    def shrink_from(self, before: int) -> None:
+        """If the stack has shrunk since its lowest place was this, bytes below it are lost: a signal may
+        overwrite them. Only bytes of the stack may be below its pointer."""
         now = self.lowest()
         if now == before:
-            return following
+            return
         region = self.regions[self.stack]
-        if not region.low <= now + self.RED_ZONE <= region.high:
+        if not region.low <= now + self.processor.RED_ZONE <= region.high:
             raise IsWrong("the stack pointer leaves the stack")
         loss = next(self.LOSSES)
         for k in range(before, now):
             self.memory[self.stack, k] = (T.var(8, "lost%d.%d" % (loss, k), T.JUNK), 0)
-        return following
+
+    # Operations.
+
+    def computed(self, kind: str, f: Callable, x: list, y: list) -> list:
+        """The bytes of a result of two words, and the flags from it."""
+        a, b = T.word(x), T.word(y)
+        r = f(a, b)
+        if r is None:
+            raise CannotShow("the result of %r and %r is not modelled" % (a, b))
+        self.flags = kind, a, b, r
+        return T.split(r)
+
+    def vector_of(self, f: Callable, *data: list) -> list:
+        """The bytes of an operation on vectors."""
+        return f(*data)
+
+    def combined(self, name: str, x: list, y: list) -> list:
+        """The bytes of a bitwise operation on vectors."""
+        return bitwise(WORDWISE[name], x, y)
+
+    def cleaned(self, data: list, is_word: bool) -> list:
+        """Bytes as they are kept."""
+        return data
+
+    def masked(self, a: T.Term, b: T.Term) -> Any:
+        return T.both(a.w, a, b)
+
+    def either(self, a: T.Term, b: T.Term) -> Any:
+        return T.either(a.w, a, b)
+
+    def exclusive(self, a: T.Term, b: T.Term) -> T.Term:
+        return T.xor(a.w, a, b)
+
+    @staticmethod
+    def shifted_left(a: T.Term, k: int) -> T.Term:
+        return T.shl(a.w, a, k)
+
+    def shifted_right(self, a: T.Term, k: int) -> T.Term:
+        return T.shr(a.w, a, k)
+
+    # Memory.
 
     def place(self, address: T.Term, size: int, aligned: bool) -> tuple:
         """The base, the offset and the region of an access."""
@@ -142,10 +221,10 @@ class Machine:
         for k, b in enumerate(data):
             self.memory[(base, offset + k)] = b
 
+    # Conditions.
+
     def is_zero(self, t: Any) -> Any:
         """Whether a word is zero, for a branch."""
-        if t is None:
-            raise CannotShow("a branch depends on flags that are not modelled")
         if t.op in ("zero", "nonzero"):
             return self.is_zero(t.args[0]) == (t.op == "nonzero")
         self.counts["branches"] += 1
@@ -161,10 +240,8 @@ class Machine:
             raise Fork(t)
         return self.assumed[t]
 
-    def choose(self, t: Any, if_zero: T.Term, if_not: T.Term) -> T.Term:
+    def choose(self, t: T.Term, if_zero: T.Term, if_not: T.Term) -> T.Term:
         """One of two words by whether t is zero, without a branch."""
-        if t is None:
-            raise CannotShow("a choice depends on flags that are not modelled")
         if t.op not in ("const", "ite"):
             raise CannotShow("a choice depends on %r" % t)
         found = T.leaves(lambda c, a, b: a if c == 0 else b, if_zero.w, t, if_zero, if_not)
@@ -173,6 +250,163 @@ class Machine:
         if found is None:
             raise CannotShow("there is no rule for a choice between %r and %r" % (if_zero, if_not))
         return found
+
+    @staticmethod
+    def zero_of(compared: Any) -> tuple:
+        """The word that is zero if two are the same, and whether it is asked for that."""
+        if compared is None or compared[0] not in ("==", "!="):
+            raise CannotShow("a condition that is not modelled: %s" % (compared,))
+        relation, a, b = compared
+        return T.add(a.w, (1, a), (-1, b)), relation == "=="
+
+    def holds(self, compared: Any) -> bool:
+        """Whether a comparison holds, for a branch."""
+        t, is_equal = self.zero_of(compared)
+        return self.is_zero(t) == is_equal
+
+    def chosen(self, compared: Any, a: list, b: list) -> list:
+        """The bytes a if a comparison holds, and otherwise b, without a branch."""
+        t, is_equal = self.zero_of(compared)
+        words = (T.word(a), T.word(b)) if is_equal else (T.word(b), T.word(a))
+        return T.split(self.choose(t, *words))
+
+    def bit(self, compared: Any) -> T.Byte:
+        """A byte that is 1 if a comparison holds, and otherwise 0."""
+        return self.chosen(compared, [1], [0])[0]
+
+    def is_left(self, j: int, start: int) -> bool:
+        """Whether a vector register is zero or as at the entry, from a byte on."""
+        data = self.vector[j][start:]
+        return data in ([0] * len(data), self.at_start["vector"][j][start:])
+
+
+class Aligned(CannotShow):
+    """The stack is aligned to more bytes than is known of it at the entry."""
+
+    def __init__(self, need: Any) -> None:
+        super().__init__("the stack is aligned to %d bytes" % need)
+        self.need = need
+
+
+class Followed(Values):
+    """What the values of whole calls have in common. `alignment` is that of the stack: a power of two,
+    and the stack pointer modulo that."""
+
+    def __init__(self, regions: dict, processor: Any, alignment: tuple) -> None:
+        super().__init__(regions, processor)
+        self.alignment = alignment
+
+    def test(self, a: list, b: list) -> None:
+        """Sets flags by an and of two vectors, of which nothing is known but if it is zero."""
+        r = self.new(64) if any(a + b) else T.const(64, 0)
+        is_secret = any(not isinstance(x, int) and x[0].taint & ~T.PUBLIC for x in a + b)
+        self.flags = ("secret",) if is_secret else ("other",) + (r,) * 3
+
+    def new(self, w: int, what: str = "", limits: Any = None) -> T.Term:
+        """A new public variable."""
+        raise NotImplementedError
+
+    def is_clear(self, address: T.Term, n: int) -> bool:
+        """Whether an address on the stack has none of the lowest bits that are on in a number."""
+        constant, items = T.linear(address)
+        if items != {self.stack: 1} or n > 256:
+            return False
+        need = 1 << n.bit_length()
+        if need > self.alignment[0]:
+            raise Aligned(need)
+        return (constant + self.alignment[1]) % need & n == 0
+
+    def aligned_stack(self, address: T.Term, low: int) -> Any:
+        """An address on the stack, rounded down to a multiple of a power of two."""
+        constant, items = T.linear(address)
+        if items != {self.stack: 1}:
+            raise CannotShow("the stack pointer is not known")
+        if low & low - 1:
+            raise CannotShow("an and of the stack pointer with %#x" % ((1 << 64) - low))
+        if low > self.alignment[0]:
+            raise Aligned(low)
+        return T.add(64, (1, address), (-1, T.const(64, (constant + self.alignment[1]) % low)))
+
+    def forget_below(self) -> None:
+        """Forgets the stack below its pointer, where a signal and the next call may write."""
+        low = self.lowest()
+        for key in [k for k in self.memory if k[0] is self.stack and k[1] < low]:
+            del self.memory[key]
+
+
+class Processor:
+    """Executes instructions over values. A subclass knows the instructions of one."""
+
+    FILES: dict = {}                   # its registers: how many, and the bytes of each
+    STACK_POINTER: tuple = ()
+    RED_ZONE = 0                       # bytes below the stack pointer that a function may use
+    FREE: tuple = ("nop",)             # instructions that need not be reached
+    ARGUMENTS: tuple = ()              # the registers of arguments
+    RELATIONS: dict = {}               # what a condition compares after a subtraction
+    SIGNED: dict = {}                  # the same of numbers with a sign
+
+    def __init__(self, values: Any) -> None:
+        self.values = values
+
+    def step(self, i: Any) -> Any:
+        """Executes an instruction other than a jump, a call or a return."""
+        raise NotImplementedError
+
+    def condition(self, i: Any) -> Any:
+        """What a conditional jump compares."""
+        raise NotImplementedError
+
+    def follow(self, i: Any) -> Any:
+        """Executes an instruction other than a call. Returns the address of the next one, or None after a
+        return."""
+        if i.is_return:
+            return None
+        if i.is_jump:
+            return i.target
+        if i.target is None:
+            self.step(i)
+            return i.next
+        return i.target if self.values.holds(self.condition(i)) else i.next
+
+    def need_public_flags(self) -> None:
+        if self.values.flags == ("secret",):
+            raise IsWrong("a branch depends on secret data")
+
+    def compared(self, condition: str) -> tuple | None:
+        """What a condition compares, as (relation, word, word), or None. Of secrets, only how."""
+        m, relation = self.values, self.RELATIONS.get(condition)
+        if m.flags is None:
+            raise CannotShow("the flags are not known")
+        if m.flags == ("secret",):
+            return relation, None, None
+        kind, a, b, r = m.flags
+        if kind == "sub" and condition in {**self.RELATIONS, **self.SIGNED}:
+            on_stack = all(T.linear(t)[1] == {m.stack: 1} for t in (a, b))
+            if on_stack:               # its addresses are all on one side of 0, and of a half
+                a, b = (T.const(a.w, T.linear(t)[0]) for t in (a, b))
+            if on_stack or not relation:                    # with all numbers moved by a half of them
+                half = T.const(a.w, 1 << a.w - 1)
+                a, b = (T.add(t.w, (1, t), (1, half)) for t in (a, b))
+            return relation or self.SIGNED[condition], a, b
+        if relation in ("==", "!=") or kind == "logic" and relation:
+            return relation, r, T.const(r.w, 0)
+        return None
+
+    def check_stack(self) -> None:
+        """Refuses a call at which the stack is not aligned as the calling convention says."""
+        if (self.values.lowest() + self.values.alignment[1]) % 16:
+            raise IsWrong("the stack pointer is not a multiple of 16 at a call")
+
+    def check_return(self, entry: tuple) -> None:
+        """Refuses a return with another address, stack pointer or register of the caller than at the
+        entry."""
+        for what, found, wanted in zip(("return address", "stack pointer", "registers"), self.at_entry(), entry):
+            if found != wanted:
+                raise IsWrong("the caller's %s: not as at the entry" % what)
+
+    def at_entry(self) -> tuple:
+        """What a return must find: its address, the stack pointer, and the caller's registers."""
+        raise NotImplementedError
 
 
 def need_public(t: T.Term, what: str) -> None:

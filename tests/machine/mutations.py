@@ -187,10 +187,9 @@ def _with(owner: Any, name: str, value: Callable | dict, f: Callable) -> Any:
 def wrong_model() -> list:
     """A model of an instruction in which the second rotation of ARM's eor is missing."""
     arm = programs.arm
-    right = arm.Arm.arithmetic
-    f = lambda self, name, ops, shape: right(
-        self, name, [o for o in ops if o.kind != "shift"], shape.replace(" shift", ""))
-    why = _with(arm.Arm, "arithmetic", f, lambda: _on_arm(functions.ONE_B))
+    right = arm.Arm.words
+    f = lambda self, name, ops: right(self, name, [o for o in ops if o.kind != "shift"] if name == "eor" else ops)
+    why = _with(arm.Arm, "words", f, lambda: _on_arm(functions.ONE_B))
     return _seen("a model of eor without its rotation fails", why)
 
 
@@ -207,6 +206,7 @@ def wrong_rule() -> Any:
 
     def high_half() -> Any:
         T._results.clear()
+        T._words.clear()
         t = T.word(T.split(total)[4:])
         return next((str(seed) for seed in range(1, 9) if T.value(t, T.Numbers(seed), {}) !=
                      T.value(total, T.Numbers(seed), {}) >> 32), None)
@@ -217,26 +217,25 @@ def wrong_rule() -> Any:
 
 def secret_forgotten() -> Any:
     """Operations whose result does not depend on their operands, for whole calls."""
-    follower = constant_time.taint_arm.Model
-    verdict, why = _with(follower, "mixed", lambda self, data: constant_time.unknown(),
+    verdict, why = _with(constant_time.Taint, "mixed", lambda self, data: constant_time.unknown(),
                          lambda: check_taint.run(SHORT["arm"], 2)[:2])
     return _seen("an operation that forgets secrets fails", verdict == "not ok" and why)
 
 
 def carry_forgotten() -> Any:
     """inc and dec that set the carry, which they keep."""
-    count = lambda self, to, step: self.binary_word(
-        "other", lambda a, b: T.add(a.w, (1, a), (step, b)), to, constant_time.taint_x86.ONE)
-    verdict, why = _with(constant_time.taint_x86.Model, "add_and_keep_carry", count,
+    count = lambda self, to, step: self.arithmetic(
+        "other", lambda a, b: T.add(a.w, (1, a), (step, b)), to, programs.x86.ONE)
+    verdict, why = _with(programs.x86.X86, "add_and_keep_carry", count,
                          lambda: check_taint.run(SHORT["v3"], 2)[:2])
     return _seen("a carry that inc sets fails", verdict == "not ok" and why)
 
 
 def path_forgotten() -> Any:
     """Paths that meet, where the ranges of sums are those of one of them."""
-    right = constant_time.taint_x86.Model.relate
+    right = constant_time.Taint.relate
     one = lambda self, m, _, visits, *words: right(self, m, m, visits, *words[:2], words[1])
-    verdict, why = _with(constant_time.taint_x86.Model, "relate", one,
+    verdict, why = _with(constant_time.Taint, "relate", one,
                          lambda: check_ranges.check(200))
     return _seen("a sum whose range is that of one path fails", verdict == "not ok" and why)
 

@@ -199,9 +199,9 @@ class Program:
             raise IsWrong("it goes to %s, not to the start of a function" % shown)
         return name
 
-    def code(self, name: str, instruction: type | None = None, user: str | None = None) -> list:
-        """The instructions of a function, by the model's class for them or another. `user` is the
-        model of forms.txt that executes them: each must have a form of the table."""
+    def code(self, name: str, user: str | None = None) -> list:
+        """The instructions of a function. `user` is that of forms.txt, for whom they are executed: each
+        must have a form of the table."""
         if name not in self.functions:
             raise CannotShow("%s has no function %s: the compiler may have inlined it, or it has "
                              "another name now: see tests/machine/functions.py" % (self.path, name))
@@ -212,7 +212,7 @@ class Program:
         for line in self.functions[name]:
             m = LINE.match(line)
             if m and start <= int(m[1], 16) < end:
-                found.append((instruction or self.model.Instruction)(int(m[1], 16), m[3].strip()))
+                found.append(self.model.Instruction(int(m[1], 16), m[3].strip()))
                 found[-1].next = found[-1].address + len(m[2].replace(" ", "")) // 2
                 if user:
                     forms.check(self.kind, user, m[3])
@@ -309,13 +309,6 @@ class Program:
         if not start <= address < start + len(data) or data[address - start] is None:
             raise CannotShow("no constant is known at %#x" % address)
         return data[address - start]
-
-    def machine(self, name: str, regions: dict, assumed: dict) -> Any:
-        """A machine for a call of a function."""
-        machine = self.model.Model(regions, assumed)
-        if self.kind == "wasm":
-            machine.signature = self.signatures[name]
-        return machine
 
 
 def found(pattern: str, text: str) -> Any:

@@ -14,16 +14,15 @@ MOST = (1 << 64) - 1
 WORD = 8
 
 
-def cycle(code: dict, head: int, model: Any) -> frozenset:
+def cycle(code: dict, head: int) -> frozenset:
     """The addresses of a function's code that are reached from the head of a loop, and from which it is
     reached again."""
     after: dict = {}
     before: dict = {}
     for i in code.values():
-        ends = model.is_return(None, i) or model.is_trap(None, i)
-        is_inner = i.target is None or model.is_call(None, i)
-        ways = [] if ends else [i.next] * (is_inner or not model.is_jump(None, i)) + [i.target] * (
-            not is_inner)
+        is_inner = i.target is None or i.is_call
+        ways = [] if i.is_return or i.is_trap else [i.next] * (is_inner or not i.is_jump) + (
+            [i.target] * (not is_inner))
         for pc in ways:
             after.setdefault(i.address, []).append(pc)
             before.setdefault(pc, []).append(i.address)

@@ -10,7 +10,7 @@ import program as programs
 import terms as T
 from constant_time import OF_C, STACK
 from machine import image
-from symbolic import MODELS, Cells, fresh
+from symbolic import Cells, Exact, fresh
 from taint import reset
 from terms import IsWrong
 from whole_calls import Calls
@@ -37,8 +37,8 @@ class Scrub(Calls):
             return
         if not any(m.secrets.isdisjoint(range(end - self.wanted, end)) for end in range(-GAP, 1)):
             raise IsWrong("there are no %d bytes of zeros next to the caller's frame" % self.wanted)
-        m.need_vectors()
-        old = m.caller_vectors
+        self.cpu(m).need_vectors()
+        old = m.at_start["vector"]
         if self.program.path.endswith("-v4.s") and any(
                 b not in (0, old[j][k]) for j in UPPER for k, b in enumerate(m.vector[j])):
             raise IsWrong("a vector register from 16 on is neither zero nor as before")
@@ -48,15 +48,13 @@ def show(program: programs.Program, name: str, count: int) -> None:
     """Proves the claim for a function, or raises Refused."""
     reset()
     calls = Scrub(program, name, count)
-    model: Any = MODELS[program.kind]
     sp, back = (T.var(64, t, T.PUBLIC) for t in ("sp", "return address"))
     above = T.split(back) if program.kind == "x86_64" else []
     stack = Cells(-STACK, len(above), lambda k: above[k] if k >= 0 else fresh(
         "stack", T.SECRET)[0], True, (16, len(above)))
     constants = Cells(0, 1 << 32, program.constant, False, (4096, 0))
-    m = model({image(): constants, sp: stack}, {})
-    m.begin((16, len(above)), None, 0)
-    m.start(sp, back, [])
+    m = Exact({image(): constants, sp: stack}, calls.cpu, (16, len(above)))
+    calls.cpu(m).start(sp, back, [])
     m.secrets, m.is_kept = set(range(-STACK, 0)), lambda b: b != 0
     try:
         calls.run(name, m)

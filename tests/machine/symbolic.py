@@ -1,5 +1,4 @@
-"""Executes a whole call over variables: the abstract machines of taint.py, in which no byte is
-forgotten. What a function of the C library copies, if its length is not a number, is a choice
+"""The values of whole calls that are executed over variables: no byte is forgotten. What a function of the C library copies, if its length is not a number, is a choice
 byte by byte. A branch that is not decided is taken both ways."""
 
 from __future__ import annotations
@@ -8,17 +7,13 @@ import itertools
 from typing import Any, Callable, Iterator, NamedTuple
 
 import terms as T
-import x86
-from machine import bitwise, chunks, image, joined, need_public
+from machine import Aligned, Followed, bitwise, chunks, joined, need_public
 from facts import Facts
 from ranges import OPPOSITE, signed
-from taint import Aligned, Taint, is_secret, secret, unknown
-from taint_arm import TaintArm
-from taint_x86 import TaintX86
+from taint import is_secret
 from terms import CannotShow, IsWrong
 
 WRITTEN = 256                          # bytes of an output that are often written together
-OR_OF_XOR, OR_OF_ALL = 0xf6, 0xfe      # of three operands, by vpternlog
 _COUNT = itertools.count()             # for names of variables that are used once
 
 
@@ -112,34 +107,22 @@ def extent(base: T.Term, region: Any) -> tuple:
     return T.add(64, (1, base), (1, T.const(64, low))), size
 
 
-class Exact(Taint):
-    """What the models for both processors have in common."""
+class Exact(Followed):
+    """Terms over the variables of a call. Facts decide how public ones compare."""
 
-    general: list
-    vector: list
-    path_facts: Any
-    apart: frozenset
-    secret_of: Any
-    secrets: set
-    compared_bytes: Any
-    pieces: tuple
-
-    def begin(self, alignment: tuple, known: Any, block: int, longest: int = 0) -> None:
-        super().begin(alignment, {}, block, longest)
-        self.path_facts, self.apart = known or Facts(), frozenset()
-        self.secret_of, self.where, self.compared_bytes = None, "exact", None
+    def __init__(self, regions: dict, processor: Any, alignment: tuple, known: Facts | None = None) -> None:
+        super().__init__(regions, processor, alignment)
+        self.path_facts = known or Facts()
+        self.apart: frozenset = frozenset()
+        self.secret_of: Any = None     # the flags from a secret word, and the word
+        self.compared_bytes: Any = None
         # The lowest place of the stack that was used, the places where a secret may be, also below
         # the stack pointer, and whether scrub_stack has overwritten all below the frame of the call.
-        self.deepest, self.secrets, self.is_scrubbed = 0, set(), False
+        self.deepest, self.is_scrubbed = 0, False
+        self.secrets: set = set()
         self.is_kept: Callable = is_secret_byte        # which bytes are secret there
-        self.caller_vectors = [list(r) for r in self.vector]
         self.inside: dict = {}         # places of outputs that are known to be inside: offsets and sizes
-        self.pieces = ()               # what was written to buffers at offsets that are terms, in order
-
-    def enter(self, i: Any) -> T.Term:
-        link = super().enter(i)
-        self.go_down(self.lowest())
-        return link
+        self.pieces: tuple = ()        # what was written to buffers at offsets that are terms, in order
 
     def go_down(self, low: int) -> None:
         """Uses the stack down to a place."""
@@ -150,7 +133,6 @@ class Exact(Taint):
         low = self.lowest()
         self.go_down(low - frame)
         self.secrets.update(range(low - frame, low))
-        self.clobber(True)
 
     def put(self, base: T.Term, places: Any, data: list) -> None:
         """Writes bytes at places that are numbers."""
@@ -167,28 +149,28 @@ class Exact(Taint):
 
     def may_be_left(self, j: int, k: int, b: T.Byte) -> bool:
         """Whether a byte of a vector register is zero, as at the entry, or left by the C library."""
-        return b in (0, self.caller_vectors[j][k]) or isinstance(b, tuple) and str(
+        return b in (0, self.at_start["vector"][j][k]) or isinstance(b, tuple) and str(
             b[0].args).startswith("after~")
 
-    def need_vectors(self) -> None:
-        """Refuses what a call may not leave in vector registers, besides those of its caller."""
+    def is_left(self, j: int, start: int) -> bool:
+        """Whether each is, from one on."""
+        data = self.vector[j][start:]
+        return data == self.at_start["vector"][j][start:] or all(self.may_be_left(j, start + k, b) for k, b in enumerate(data))
 
-    def clobber(self, is_compression: bool = False) -> None:
-        """What a function may leave in registers: `after` is what one of the C library leaves."""
-        super().clobber()
-        for name in self.FILES:
-            for at, data in enumerate(getattr(self, name)):
-                if secret() in data:
-                    new = fresh("new" if is_compression else "after", T.SECRET, len(data))
-                    getattr(self, name)[at] = [
-                        y if x is secret() else x for x, y in zip(data, new)]
+    def lost(self, n: int, is_compression: bool = False) -> list:
+        """What a function leaves in a register: `after` is what one of the C library leaves."""
+        return fresh("new" if is_compression else "after", T.SECRET, n) if n else []
+
+    def anything(self, n: int) -> list:
+        """Public bytes of which nothing is known."""
+        return fresh("new", T.PUBLIC, n)
 
     def new(self, w: int, what: str = "", limits: Any = None) -> T.Term:
         return T.var(w, "new~%d" % next(_COUNT), T.PUBLIC)
 
     def cleaned(self, data: list, is_word: bool) -> list:
-        return [b if isinstance(b, int) or b not in (secret(), unknown()) else
-                fresh("new", T.SECRET if is_secret(b) else T.PUBLIC)[0] for b in data]
+        """Bytes as they are kept."""
+        return data
 
     # Numbers.
 
@@ -206,14 +188,13 @@ class Exact(Taint):
     def settle(self) -> None:
         """The same of all bytes that a path has made, after it has learnt something."""
         byte = self.settler()
-        for name in self.FILES:
+        for name in self.processor.FILES:
             setattr(self, name, [[byte(b) for b in r] for r in getattr(self, name)])
         self.memory = {at: byte(b) for at, b in self.memory.items()}
 
-    def is_as_at(self, entry: tuple, first: int) -> bool:
+    def is_as_at(self, entry: tuple, found: tuple, first: int) -> bool:
         """Whether the return address, the stack pointer and the registers of the caller are those
         of the entry, from the first of these on."""
-        found = self.at_entry()
         byte = self.settler()
         saved = [[byte(b) for b in r] for r in entry[2]]
         return (first > 0 or found[0] is self.settled(entry[0])) and found[1] is entry[1] and (
@@ -263,9 +244,8 @@ class Exact(Taint):
     # Flags.
 
     def computed(self, kind: str, f: Callable, x: list, y: list) -> list:
+        """The bytes of a result of two words, and the flags from it."""
         a, b = T.word(x), T.word(y)
-        if kind == "product":
-            need_public(T.word(x + y), "the time of a product")
         r = f(a, b)
         is_public = not (a.taint | b.taint) & ~T.PUBLIC
         if not isinstance(r, T.Term):
@@ -277,42 +257,45 @@ class Exact(Taint):
             self.secret_of = self.flags, r
         return T.split(r)
 
-    def truth(self, condition: str) -> Any:
+    def truth(self, compared: Any) -> Any:
+        """Whether a comparison holds, or "secret"."""
         if self.flags == ("secret",):
             return "secret"
-        compared = self.compared(condition)
+        return self.decided(compared)
+
+    def decided(self, compared: Any) -> bool:
         if compared is None:
-            raise CannotShow("a condition that is not modelled: %s" % condition)
+            raise CannotShow("a condition that is not modelled")
         answer = self.decide(*compared)
         if answer is None:
             raise Undecided(compared)
         return answer
 
-    def bit(self, condition: str) -> Any:
-        truth = self.truth(condition)
+    def bit(self, compared: Any) -> T.Byte:
+        """A byte that is 1 if a comparison holds, and otherwise 0."""
+        truth = self.truth(compared)
         if truth != "secret":
             return int(truth)
-        if condition not in ("e", "eq") or not self.secret_of or self.secret_of[0] is not self.flags:
+        if compared[0] != "==" or not self.secret_of or self.secret_of[0] is not self.flags:
             return fresh("new", T.SECRET)[0]
         return is_zero(self.secret_of[1])
 
-    def chosen(self, condition: str, a: list, b: list) -> list:
-        truth = self.truth(condition)
+    def chosen(self, compared: Any, a: list, b: list) -> list:
+        """The bytes a if a comparison holds, and otherwise b, without a branch."""
+        truth = self.truth(compared)
         if truth == "secret":
             return fresh("new", T.SECRET, len(a))
         return a if truth else b
 
-    def outcomes(self, i: Any) -> Iterator:
-        compared = self.condition(i)
-        if compared is None:
-            raise CannotShow("a condition that is not modelled: %s" % i.name)
-        need_public(compared[1], "a branch")
-        need_public(compared[2], "a branch")
-        answer = self.decide(*compared)
-        if answer is None:
-            raise Undecided(compared)
-        self.by_numbers = False
-        yield self, answer
+    def holds(self, compared: Any) -> bool:
+        """Whether a comparison holds, for a branch."""
+        for t in compared[1:] if compared else ():
+            need_public(t, "a branch")
+        return self.decided(compared)
+
+    def compare_again(self, a: list, b: list) -> None:
+        """The flags would be of one comparison or of another."""
+        raise CannotShow("a comparison that depends on another is not modelled in whole calls")
 
     # Words.
 
@@ -365,6 +348,8 @@ class Exact(Taint):
 
     @staticmethod
     def or_byte(x: T.Byte, y: T.Byte) -> T.Byte:
+        if 0 in (x, y) or x == y:
+            return y if x == 0 else x
         return T.split(T.either(8, T.word([x]), T.word([y])))[0]
 
     def divided(self, t: T.Term, m: int) -> Any:
@@ -405,10 +390,29 @@ class Exact(Taint):
         return T.shr(a.w, a, k)
 
     def combined(self, name: str, x: list, y: list) -> list:
-        if name not in ("eor", "orr"):
-            return [self.mixed(x + y) for _ in x]
-        f = self.exclusive if name == "eor" else self.either
+        """The bytes of a bitwise operation on vectors."""
+        if name == "and":
+            return [self.and_byte(*pair) for pair in zip(x, y)]
+        f = self.exclusive if name == "xor" else self.either
+        x, y = ([self.norm(b) for b in data] for data in (x, y))
         return joined(T.split(f(T.word(p), T.word(q))) for p, q in zip(chunks(x, 8), chunks(y, 8)))
+
+    def and_byte(self, x: T.Byte, y: T.Byte) -> T.Byte:
+        """An and of numbers, or of bytes of which one is 0 or 255, and otherwise anything."""
+        if isinstance(x, int) and isinstance(y, int):
+            return x & y
+        for p, q in ((x, y), (y, x)):
+            if p in (0, 255):
+                return q if p else 0
+        return self.mixed([x, y])
+
+    def vector_of(self, f: Callable, *data: list) -> list:
+        """The bytes of an operation on vectors. If there is no rule, nothing is known of them."""
+        try:
+            return f(*data)
+        except CannotShow:
+            taint = T.SECRET if any(map(is_secret, joined(data))) else T.PUBLIC
+            return fresh("new", taint, len(data[0]))
 
     def mixed(self, data: list) -> Any:
         return fresh("new", T.SECRET if any(map(is_secret, data)) else T.PUBLIC)[0]
@@ -603,119 +607,3 @@ def members_of(b: T.Byte) -> frozenset:
             b[0].args[0] == "any"):
         return b[0].args[1]
     return frozenset([b])
-
-
-class ExactX86(Exact, TaintX86):
-    """x86-64."""
-
-    BITWISE = {"pxor": "xor", "xorps": "xor", "xorpd": "xor", "por": "or", "orps": "or"}
-
-    @staticmethod
-    def uppers() -> Iterator:
-        """The number of each vector register, and the first of its bytes that a call may only zero."""
-        for j in range(x86.VECTORS):
-            yield j, 0 if j in x86.UPPER else 16
-
-    def is_upper(self, j: int, data: list) -> bool:
-        """Whether the last bytes of a register are zero, as at the entry, or what a function of the C
-        library has left."""
-        return all(self.may_be_left(j, k - len(data), b) for k, b in enumerate(data))
-
-    def need_vectors(self) -> None:
-        for j, start in self.uppers():
-            if not self.is_upper(j, self.vector[j][start:]):
-                raise IsWrong("the vector register %d from byte %d on is neither zero nor as before"
-                              % (j, start))
-
-    def clobber(self, is_compression: bool = False) -> None:
-        """A compression leaves zero or what there was where compression.py shows that."""
-        old = self.vector
-        super().clobber(is_compression)
-        for j, start in self.uppers() if is_compression else ():
-            what = "after" if self.is_upper(j, old[j][start:]) else "new"
-            data = fresh(what, T.SECRET, x86.WIDTH - start)
-            self.vector[j][start:] = [x if x == 0 else y for x, y in zip(old[j][start:], data)]
-
-    def compared(self, condition: str) -> tuple | None:
-        if self.flags and self.flags[0] == "add" and condition in ("b", "ae"):
-            return ("carry" if condition == "b" else "no carry",) + self.flags[1:3]
-        return super().compared(condition)
-
-    def with_carry(self, to: x86.Operand, source: x86.Operand, sign: int) -> None:
-        carry = self.truth("b")
-        if carry not in (True, False):
-            raise CannotShow("a carry that depends on a secret")
-        self.binary_word("other", lambda a, b: T.add(
-            a.w, (1, a), (sign, b), (sign, T.const(a.w, int(carry)))), to, source)
-
-    def mix(self, name: str, ops: list, vex: bool) -> None:
-        sources = [o for o in (ops[1:] if vex else ops) if o.kind != "number"]
-        data = [self.read(o, ops[0].size, not vex) for o in sources]
-        count = ops[-1].value if ops[-1].kind == "number" else None
-        if name in self.BITWISE and len(data) == 2:
-            x, y = ([self.norm(b) for b in d] for d in data)
-            f = self.exclusive if self.BITWISE[name] == "xor" else self.either
-            result = joined(T.split(f(T.word(p), T.word(q))) for p, q in zip(chunks(x, 8), chunks(y, 8)))
-        elif name in ("pand", "andps") and len(data) == 2:
-            result = [self.and_byte(x, y) for x, y in zip(*data)]
-        elif name.startswith(("psrl", "psll")) and count is not None and count % 8 == 0:
-            n = {"w": 2, "d": 4, "q": 8}[name[-1]]
-            k = min(count // 8, n)
-            move = (lambda p: p[k:] + [0] * k) if name[2] == "r" else (
-                lambda p: [0] * k + p[:n - k])
-            result = joined(move(list(p)) for p in chunks(data[0], n))
-        elif "xor" in name and len(set(map(tuple, data))) == 1:
-            result = [0] * ops[0].size
-        else:
-            taint = T.SECRET if any(is_secret(b) for d in data for b in d) else T.PUBLIC
-            result = fresh("new", taint, ops[0].size)
-        self.write(ops[0], result, vex)
-
-    def and_byte(self, x: T.Byte, y: T.Byte) -> T.Byte:
-        """An and of bytes of which one is 0 or 255, and otherwise anything."""
-        for p, q in ((x, y), (y, x)):
-            if p in (0, 255):
-                return q if p else 0
-        return self.mixed([x, y])
-
-    def vector_step(self, i: Any) -> None:
-        name = i.name[i.name.startswith("v"):]
-        if any(o.mask is not None or o.kind == "mask" for o in i.operands):
-            raise x86.unknown(i)
-        if name in x86.TERNARY and i.operands[-1].value in (OR_OF_XOR, OR_OF_ALL):
-            a, b, c = (self.read(o, i.operands[0].size) for o in i.operands[:3])
-            b = self.combined("eor" if i.operands[-1].value == OR_OF_XOR else "orr", b, c)
-            self.write(i.operands[0], self.combined("orr", a, b), True)
-        elif name in (*x86.PERMUTATIONS, *x86.ROTATIONS, *x86.TERNARY):
-            x86.X86.vector_step(self, i)
-        else:
-            super().vector_step(i)
-
-
-class ExactArm(Exact, TaintArm):
-    """AArch64."""
-
-    def condition(self, i: Any) -> tuple:
-        if i.name not in ("tbz", "tbnz"):
-            return super().condition(i)
-        o, k = i.operands[:2]
-        byte = T.word([self.norm(self.read(o)[k.value // 8])])
-        bit = self.masked(byte, T.const(8, 1 << k.value % 8))
-        return "==" if i.name == "tbz" else "!=", bit, T.const(8, 0)
-
-    def compare(self, name: str, ops: list) -> bool:
-        if name == "ccmp":             # its flags are of one comparison or of another
-            raise CannotShow("a comparison that depends on another is not modelled in whole calls")
-        return super().compare(name, ops)
-
-    def bitfield(self, a: T.Term, low: int, size: int) -> Any:
-        data = self.masked(a, T.const(a.w, (1 << size) - 1))
-        return T.add(a.w, (1 << low, data))
-
-    def compared(self, condition: str) -> tuple | None:
-        if self.flags and self.flags[0] == "add" and condition in ("cs", "cc"):
-            return ("carry" if condition == "cs" else "no carry",) + self.flags[1:3]
-        return super().compared(condition)
-
-
-MODELS = {"x86_64": ExactX86, "aarch64": ExactArm}

@@ -11,7 +11,7 @@ import copy
 from typing import Any, Callable, Iterator
 
 import terms as T
-from machine import Machine, need_public
+from machine import WORDWISE, Aligned, Followed, bitwise, joined, need_public
 from ranges import OPPOSITE, TOP, VISITS, Ranges, merged_ranges
 from terms import CannotShow, IsWrong
 
@@ -90,62 +90,38 @@ def _variables(t: T.Term) -> frozenset:
                                if isinstance(u, (tuple, T.Term))])
 
 
-class Aligned(CannotShow):
-    """The stack is aligned to more bytes than is known of it at the entry."""
-
-    def __init__(self, need: Any) -> None:
-        super().__init__("the stack is aligned to %d bytes" % need)
-        self.need = need
-
-
-class Taint(Ranges, Machine):
-    """What the abstract machines have in common. It comes before a model among the bases."""
+class Taint(Ranges, Followed):
+    """Values of which each byte is public or secret."""
 
     KNOWN = ("memory", "ranges", "residues")
-    ARGUMENTS: tuple = ()              # the registers of arguments
-    RELATIONS: dict = {}               # what a condition compares, see compared()
-    SIGNED: dict = {}                  # the same of numbers with a sign
-    flags: Any
     facts: dict
     bounds: frozenset
 
-    def enter(self, i: Any) -> Any:
-        """What a call does before its function starts. Returns the return address."""
-        raise NotImplementedError
-
-    def condition(self, i: Any) -> Any:
-        """What a conditional jump compares."""
-        raise NotImplementedError
-
-    def at_entry(self) -> Any:
-        """What a return must find: its address, the stack pointer, and the caller's registers."""
-        raise NotImplementedError
-
-    def clobber(self) -> Any:
-        """What a function may leave in the registers that do not belong to its caller."""
-        raise NotImplementedError
-
-    def begin(self, alignment: tuple, ranges: dict, block: int, longest: int = 0) -> None:
-        """Adds what the models do not have. `alignment` is that of the stack: a power of two, and
-        the stack pointer modulo that. An index that has no bound, or a greater one than the longest
-        array, stays within a block."""
-        self.alignment, self.block, self.longest = alignment, block, longest or block
+    def __init__(self, regions: dict, processor: Any, alignment: tuple, ranges: dict, block: int,
+                 longest: int = 0) -> None:
+        """An index that has no bound, or a greater one than the longest array, stays within a block."""
+        super().__init__(regions, processor, alignment)
+        self.block, self.longest = block, longest or block
         # Byte -> what holds if it is 0, and what if it is not: comparisons, as for learn().
         self.facts = {}
         # The range (low, high, step) of each variable that has a smaller one than its width. Sums
         # of variables without a constant have ranges too; in `residues`, modulo the width.
         self.ranges, self.residues = dict(ranges), {}
-        self.flags = None              # the comparison that the flags are from
         self.bounds = frozenset()      # words that a branch of the function has compared
         self.where = ""                # the path of calls and the instruction, for new variables
 
     def copy(self) -> Any:
-        other = copy.copy(self)
-        for name in self.KNOWN:
-            setattr(other, name, dict(getattr(self, name)))
-        for name in self.FILES:
-            setattr(other, name, [list(r) for r in getattr(self, name)])
+        other = super().copy()
+        other.ranges, other.residues = dict(self.ranges), dict(self.residues)
         return other
+
+    def lost(self, n: int, is_compression: bool = False) -> list:
+        """What a function leaves in a register."""
+        return [secret()] * n
+
+    def anything(self, n: int) -> list:
+        """Public bytes of which nothing is known."""
+        return [unknown()] * n
 
     def cleaned(self, data: list, is_word: bool) -> list:
         """Bytes as they are kept: what depends on a secret is only secret. A word of which a byte
@@ -168,8 +144,6 @@ class Taint(Ranges, Machine):
         """The bytes of a result of two words, and the flags from it. f returns a term, the range
         of one, or None."""
         a, b = T.word(x), T.word(y)
-        if kind == "product":
-            need_public(T.word(x + y), "the time of a product")
         if (a.taint | b.taint) & ~T.PUBLIC:
             self.flags = ("secret",)
             return [secret()] * len(x)
@@ -179,23 +153,14 @@ class Taint(Ranges, Machine):
         self.flags = kind, a, b, r
         return T.split(r)
 
-    def compared(self, condition: str) -> tuple | None:
-        """What a condition compares, as (relation, word, word), or None."""
-        if self.flags is None:
-            raise CannotShow("the flags are not known")
-        kind, a, b, r = self.flags
-        relation = self.RELATIONS.get(condition)
-        if kind == "sub" and condition in {**self.RELATIONS, **self.SIGNED}:
-            on_stack = all(T.linear(t)[1] == {self.stack: 1} for t in (a, b))
-            if on_stack:               # its addresses are all on one side of 0, and of a half
-                a, b = (T.const(a.w, T.linear(t)[0]) for t in (a, b))
-            if on_stack or not relation:                    # with all numbers moved by a half of them
-                half = T.const(a.w, 1 << a.w - 1)
-                a, b = (T.add(t.w, (1, t), (1, half)) for t in (a, b))
-            return relation or self.SIGNED[condition], a, b
-        if relation in ("==", "!=") or kind == "logic" and relation:
-            return relation, r, T.const(r.w, 0)
-        return None
+    def compare_again(self, a: list, b: list) -> None:
+        """A comparison that is made only if the one before it holds."""
+        old = self.flags
+        self.computed("other", lambda x, y: None, a, b)
+        if old == ("secret",):
+            self.flags = old
+        elif self.flags != ("secret",):
+            self.flags = None if old is None else ("ccmp",) + self.flags[1:]
 
     def learn(self, relation: str, a: T.Term, b: T.Term, holds: bool) -> bool:
         """Learns that a comparison holds or does not, and what made a byte that is now known to be
@@ -214,27 +179,26 @@ class Taint(Ranges, Machine):
         relation, a, b = compared
         return m if m.learn(relation, a, b, holds) else None
 
-    def truth(self, condition: Any) -> Any:
-        """Whether a condition holds, if that is known, or "secret"."""
+    def truth(self, compared: Any) -> Any:
+        """Whether a comparison holds, if that is known, or "secret"."""
         if self.flags == ("secret",):
             return "secret"
-        compared: Any = self.compared(condition)
-        for holds in (True, False) if compared else ():
+        for holds in (True, False) if compared and "carry" not in compared[0] else ():
             if self.supposing(compared, holds) is None:
                 return not holds
         return None
 
-    def chosen(self, condition: str, a: list, b: list) -> list:
-        """The bytes a if a condition holds, and otherwise b, without a branch."""
-        truth = self.truth(condition)
+    def chosen(self, compared: Any, a: list, b: list) -> list:
+        """The bytes a if a comparison holds, and otherwise b, without a branch."""
+        truth = self.truth(compared)
         if truth in (True, False):
             return a if truth else b
         if truth == "secret":
             return [secret()] * len(a)
         if a == b:
             return a
-        compared = self.compared(condition)
-        one, other = (self.supposing(compared, on) if compared else self for on in (True, False))
+        is_followed = compared and "carry" not in compared[0]
+        one, other = (self.supposing(compared, on) if is_followed else self for on in (True, False))
         data = self.joined(one, other, a, b, "?", 0)
         if not any(map(is_secret, a + b + data)):
             words = T.word(data), T.word(a), T.word(b)
@@ -252,22 +216,22 @@ class Taint(Ranges, Machine):
             if high - low < min(b - a, 1 << words[0].w - 1):
                 self.limit(words[0], low, high, step & -step or 1)
 
-    def bit(self, condition: str) -> Any:
-        """A byte that is 1 if a condition holds, and otherwise 0."""
-        truth = self.truth(condition)
+    def bit(self, compared: Any) -> T.Byte:
+        """A byte that is 1 if a comparison holds, and otherwise 0."""
+        truth = self.truth(compared)
         if truth in (True, False):
             return int(truth)
         if truth == "secret":
             return secret_bit()
         x = self.new(8, "", (0, 1, 1))
-        compared = self.compared(condition)
-        if compared:
+        if compared and "carry" not in compared[0]:
             self.facts = {**self.facts, x: tuple(((*compared, on),) for on in (False, True))}
         return x, 0
 
-    def outcomes(self, i: Any) -> Iterator:
+    def outcomes(self, compared: Any) -> Iterator:
         """The states after a conditional jump, each with whether it jumps."""
-        compared = self.condition(i)
+        if compared is not None and "carry" in compared[0]:
+            compared = None
         if compared is not None:
             self.bounds |= {t for t in compared[1:] if t.w == 64 and t.op in ("var", "add")}
         self.by_numbers = compared is not None and compared[1].op == compared[2].op == "const"
@@ -287,16 +251,6 @@ class Taint(Ranges, Machine):
         if a in self.facts and b in self.facts:
             self.facts = {**self.facts, r: (self.facts[a][0] + self.facts[b][0], ())}
         return r
-
-    def is_clear(self, address: T.Term, n: int) -> bool:
-        """Whether an address on the stack has none of the lowest bits that are on in a number."""
-        constant, items = T.linear(address)
-        if items != {self.stack: 1} or n > 256:
-            return False
-        need = 1 << n.bit_length()
-        if need > self.alignment[0]:
-            raise Aligned(need)
-        return (constant + self.alignment[1]) % need & n == 0
 
     def masked(self, a: T.Term, b: T.Term) -> Any:
         """An and. One that clears the lowest bits only subtracts them. If it is not 0, neither of
@@ -329,9 +283,21 @@ class Taint(Ranges, Machine):
         """The range of a word that is shifted to the right."""
         return tuple(n >> k for n in self.unsigned(a)) + (1,)
 
+    def bitfield(self, a: T.Term, low: int, size: int) -> None:
+        """Of such bits nothing is known."""
+
     def combined(self, name: str, x: list, y: list) -> list:
-        """The bytes of an operation on vectors."""
-        return [self.mixed(x + y)] * len(x)
+        """The bytes of a bitwise operation on vectors."""
+        return self.vector_of(lambda a, b: bitwise(WORDWISE[name], a, b), x, y)
+
+    def vector_of(self, f: Callable, *data: list) -> list:
+        """The bytes of an operation on vectors: those of numbers, or of which each may depend on all."""
+        if all(isinstance(b, int) for part in data for b in part):
+            try:
+                return f(*data)
+            except CannotShow:
+                pass
+        return [self.mixed(joined(data))] * len(data[0])
 
     def mixed(self, data: list) -> T.Byte:
         """A byte that may depend on all of these."""
@@ -436,28 +402,6 @@ class Taint(Ranges, Machine):
         high = self.range_of(T.add(64, (1, address), (1, length), (-1, base)))[1]
         return high if high <= low + self.longest else low + self.block
 
-    def aligned_stack(self, address: T.Term, low: int) -> Any:
-        """An address on the stack, rounded down to a multiple of a power of two."""
-        constant, items = T.linear(address)
-        if items != {self.stack: 1}:
-            raise CannotShow("the stack pointer is not known")
-        if low & low - 1:
-            raise CannotShow("an and of the stack pointer with %#x" % ((1 << 64) - low))
-        if low > self.alignment[0]:
-            raise Aligned(low)
-        return T.add(64, (1, address), (-1, T.const(64, (constant + self.alignment[1]) % low)))
-
-    def check_stack(self) -> None:
-        """Refuses a call at which the stack is not aligned as the calling convention says."""
-        if (self.lowest() + self.alignment[1]) % 16:
-            raise IsWrong("the stack pointer is not a multiple of 16 at a call")
-
-    def forget_below(self) -> None:
-        """Forgets the stack below its pointer, where a signal and the next call may write."""
-        low = self.lowest()
-        for key in [k for k in self.memory if k[0] is self.stack and k[1] < low]:
-            del self.memory[key]
-
     # Paths that meet.
 
     def join(self, other: Any, place: str, visits: int, is_loop: bool = False) -> bool:
@@ -469,7 +413,7 @@ class Taint(Ranges, Machine):
         self.facts = {t: f for t, f in self.facts.items() if other.facts.get(t) == f}
         self.bounds |= other.bounds
         words = []
-        for name in self.FILES:
+        for name in self.processor.FILES:
             for at, (a, b) in enumerate(zip(getattr(old, name), getattr(other, name))):
                 if a != b:
                     data = self.joined(old, other, a, b, "%s%d" % (name, at), visits)
@@ -486,7 +430,7 @@ class Taint(Ranges, Machine):
         if self.flags != other.flags:
             self.flags = None
         return any(getattr(self, name) != getattr(old, name)
-                   for name in self.FILES + self.KNOWN + ("facts", "flags"))
+                   for name in tuple(self.processor.FILES) + self.KNOWN + ("facts", "flags"))
 
     def relate_all(self, old: Any, other: Any, visits: int, words: list) -> None:
         """Learns how words that differ on two paths, given as they are after these and on each,

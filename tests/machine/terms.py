@@ -65,6 +65,7 @@ Byte = Union[int, Tuple[Term, int]]
 
 _table: dict = {}
 _results: dict = {}                          # what remembered() has returned
+_words: dict = {}                            # what word() has returned
 
 
 def _too_wide(args: Any) -> bool:
@@ -87,8 +88,8 @@ def _term(op: str, w: int, args: Any, taint: int) -> Term:
 
 def reset() -> None:
     """Forgets all terms. Older terms must not be used with later ones."""
-    _table.clear()
-    _results.clear()
+    for kept in (_table, _results, _words):
+        kept.clear()
 
 
 def remembered(f: Callable, *arguments: Any) -> Any:
@@ -363,6 +364,13 @@ def split(t: Any) -> list:
 def word(bs: Any) -> Term:
     """The term of a list of bytes."""
     bs = tuple(bs)
+    found = _words.get(bs)
+    if found is None:
+        found = _words[bs] = _word(bs)
+    return found
+
+
+def _word(bs: tuple) -> Term:
     n = len(bs)
     first = bs[0]
     if isinstance(first, tuple):

@@ -6,7 +6,7 @@ from __future__ import annotations
 from typing import Any, Callable
 
 import terms as T
-from machine import Machine, bitwise, chunks, joined, junk, lanewise, number
+from machine import Processor, bitwise, chunks, joined, lanewise, number
 from terms import CannotShow, IsWrong
 
 SIZES = {"i32": 4, "i64": 8, "v128": 16}
@@ -48,60 +48,43 @@ def parse(lines: Any) -> Any:
     return found
 
 
-class Wasm(Machine):
+class Wasm(Processor):
     """Locals, globals, and the stack of operands, each value as its bytes."""
 
-    FILES = ("locals", "globals", "operands")
-    signature: Any                     # of the function, see wasm_format.Function
+    FILES = {"locals": (0, 0), "globals": (0, 0), "operands": (0, 0)}
+    STACK_POINTER = "globals", 0
     RED_ZONE = 128
     FREE = ("nop", "unreachable", "end")
 
-    def __init__(self, regions: dict, assumed: dict) -> None:
-        super().__init__(regions, assumed)
-        self.locals: list = []
-        self.globals: list = []
-        self.operands: list = []
-        self.labels: list = []
-
-    def copy(self) -> Any:
-        other = super().copy()
-        other.labels = list(self.labels)
-        return other
-
-    def stack_pointer(self) -> T.Term:
-        return T.word(self.globals[0])
-
-    def start(self, sp: T.Term, back: T.Term, arguments: list) -> None:
-        """The state at the entry of a function, whose types are in `signature`."""
-        self.stack = sp
-        self.globals = [T.split(sp)]
-        sizes = [SIZES[t] for t in self.signature.locals]
-        self.locals = [T.split(t)[:n] for t, n in zip(arguments, sizes)]
-        if len(arguments) != len(self.signature.parameters):
+    def start(self, sp: T.Term, back: T.Term, arguments: list, signature: Any) -> None:
+        """The state at the entry of a function, whose types are in a wasm_format.Function."""
+        m = self.values
+        m.stack = sp
+        m.globals = [T.split(sp)]
+        sizes = [SIZES[t] for t in signature.locals]
+        m.locals = [T.split(t)[:n] for t, n in zip(arguments, sizes)]
+        if len(arguments) != len(signature.parameters):
             raise CannotShow("the function has other parameters than its kind has")
-        self.locals += [[0] * n for n in sizes[len(arguments):]]
+        m.locals += [[0] * n for n in sizes[len(arguments):]]
 
-    def saved(self) -> list:
-        return [list(self.globals[0])]
+    def at_entry(self) -> tuple:
+        return None, self.values.stack_pointer(), [list(self.values.operands), list(self.values.labels)]
 
-    def check_return(self, sp: T.Term, back: T.Term, saved: list) -> None:
-        if self.saved() != saved:
-            raise IsWrong("the stack pointer is not restored")
-        if self.operands or self.labels:
-            raise CannotShow("values are left on the stack")
+    def need_vectors(self) -> None:
+        """There are none."""
 
     def pop(self) -> list:
-        if not self.operands:
+        if not self.values.operands:
             raise CannotShow("the stack of operands is empty")
-        return self.operands.pop()
+        return self.values.operands.pop()
 
     def pop_word(self) -> T.Term:
         return T.word(self.pop())
 
     def push(self, data: list | tuple) -> None:
-        self.operands.append(list(data))
+        self.values.operands.append(list(data))
 
-    def step(self, i: Instruction) -> Any:
+    def follow(self, i: Instruction) -> Any:
         """Executes an instruction. Returns the address of the next one, or None after a return."""
         kind, _, what = i.name.partition(".")
         method = getattr(self, "do_" + i.name.replace(".", "_"), None)
@@ -121,24 +104,24 @@ class Wasm(Machine):
 
     def control(self, i: Instruction) -> int | None:
         if i.name in ("block", "loop") and not i.numbers:
-            self.labels.append(len(self.operands))
-        elif i.name == "return" or i.name == "end" and not self.labels:
-            self.labels = []
+            self.values.labels.append(len(self.values.operands))
+        elif i.name == "return" or i.name == "end" and not self.values.labels:
+            self.values.labels = []
             return None
         elif i.name == "end":
-            self.labels.pop()
+            self.values.labels.pop()
         elif i.name == "select":
             condition, b, a = self.pop_word(), self.pop_word(), self.pop_word()
-            self.push(T.split(self.choose(condition, b, a)))
+            self.push(T.split(self.values.choose(condition, b, a)))
         elif i.target is not None:
             # A branch about which nothing is assumed yet leaves the machine as it is.
-            taken = i.name == "br" or not self.is_zero(T.word((self.operands or [[0]])[-1]))
+            taken = i.name == "br" or not self.values.is_zero(T.word((self.values.operands or [[0]])[-1]))
             if i.name == "br_if":
                 self.pop()
             if taken:
                 if i.numbers[0]:
-                    del self.labels[-i.numbers[0]:]
-                del self.operands[self.labels[-1]:]
+                    del self.values.labels[-i.numbers[0]:]
+                del self.values.operands[self.values.labels[-1]:]
                 return i.target
         else:
             raise CannotShow("%s is not modelled: add it to tests/machine/wasm.py" % i.text)
@@ -151,20 +134,20 @@ class Wasm(Machine):
         self.pop()
 
     def do_local_get(self, k: int) -> None:
-        self.push(self.locals[k])
+        self.push(self.values.locals[k])
 
     def do_local_set(self, k: int) -> None:
         data = self.pop()
-        if len(data) != len(self.locals[k]):
+        if len(data) != len(self.values.locals[k]):
             raise CannotShow("a value has not the size of its local")
-        self.locals[k] = data
+        self.values.locals[k] = data
 
     def do_local_tee(self, k: int) -> None:
         self.do_local_set(k)
         self.do_local_get(k)
 
     def do_global_get(self, k: int) -> None:
-        self.push(self.globals[k])
+        self.push(self.values.globals[k])
 
     def do_i32_const(self, n: int) -> None:
         self.push(T.split(T.const(32, n)))
@@ -234,7 +217,7 @@ class Wasm(Machine):
     def has_no_room(self, a: T.Term, b: T.Term) -> T.Term:
         """The check of the stack pointer at the entry, which traps without enough room."""
         offset, items = T.linear(a)
-        if items != {self.stack: 1} or b.op != "const" or not 0 <= b.args - offset <= ROOM:
+        if items != {self.values.stack: 1} or b.op != "const" or not 0 <= b.args - offset <= ROOM:
             raise CannotShow("there is no rule for %r < %r" % (a, b))
         return T.const(32, 0)
 
@@ -267,22 +250,22 @@ class Wasm(Machine):
         size = SIZES[kind] if kind in SIZES else 0
         if what == "store":
             data = self.pop()
-            self.store(self.effective(numbers[0]), data)
+            self.values.store(self.effective(numbers[0]), data)
         elif what == "load":
-            self.push(self.load(self.effective(numbers[0]), size))
+            self.push(self.values.load(self.effective(numbers[0]), size))
         elif what in ("load8_u", "load16_u", "load32_u"):
             n = int(what[4:-2]) // 8
-            self.push(self.load(self.effective(numbers[0]), n) + [0] * (size - n))
+            self.push(self.values.load(self.effective(numbers[0]), n) + [0] * (size - n))
         elif what in ("load32_splat", "load64_splat"):
             n = int(what[4:6]) // 8
-            self.push(self.load(self.effective(numbers[0]), n) * (16 // n))
+            self.push(self.values.load(self.effective(numbers[0]), n) * (16 // n))
         elif what in ("load32_zero", "load64_zero"):
             n = int(what[4:6]) // 8
-            self.push(self.load(self.effective(numbers[0]), n) + [0] * (16 - n))
+            self.push(self.values.load(self.effective(numbers[0]), n) + [0] * (16 - n))
         elif what in ("load32_lane", "load64_lane"):
             n = int(what[4:6]) // 8
             parts = chunks(self.pop(), n)
-            parts[numbers[1]] = self.load(self.effective(numbers[0]), n)
+            parts[numbers[1]] = self.values.load(self.effective(numbers[0]), n)
             self.push(joined(parts))
         else:
             return False
@@ -291,7 +274,7 @@ class Wasm(Machine):
     def effective(self, offset: int) -> T.Term:
         """The address below the values of an access, whose sum with the offset must not wrap."""
         address = self.pop_word()
-        self.place(address, 0, False)
+        self.values.place(address, 0, False)
         if offset >= ROOM:
             raise CannotShow("the offset %d is too high" % offset)
         return T.add(address.w, (1, address), (1, T.const(address.w, offset)))

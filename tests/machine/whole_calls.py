@@ -14,16 +14,15 @@ import program as programs
 import reads
 import terms as T
 from constant_time import OF_C, STACK
-from machine import bitwise, chunks, image, need_public
-from symbolic import MODELS, Buffer, Cells, Undecided, any_of, base_of, below, fresh, is_zero
-from taint import Aligned, reset
+from machine import bitwise, chunks, need_public
+from symbolic import Buffer, Cells, Undecided, any_of, base_of, below, fresh, is_zero
+from taint import reset
 from terms import CannotShow, IsWrong
 
 if TYPE_CHECKING:
     from rfc7693 import Kind
 
 PATHS, LIMIT = 200, 200000             # of a call: paths at a time, and instructions
-INSTRUCTIONS = {kind: module.Instruction for kind, module in constant_time.MODELS.items()}
 
 
 class Terms:
@@ -127,7 +126,7 @@ class Loop:
         if len(ends) != 1 or len(calls.compressed) != 1:
             raise CannotShow("an iteration has %d paths and %d compressions" % (
                 len(ends), len(calls.compressed)))
-        compared = ends[0].condition(calls.code(self.name)[0][self.last])
+        compared = calls.cpu(ends[0]).condition(calls.code(self.name)[0][self.last])
         if compared is None or compared[0] != "!=" or compared[1].w != 64:
             raise CannotShow("the loop goes on by another condition than two words of 64 bits")
         _, a, b = compared
@@ -240,6 +239,7 @@ class Calls:
 
     def __init__(self, program: programs.Program, exported: str = "") -> None:
         self.program, self.codes, self.at, self.count = program, {}, None, 0
+        self.cpu: Any = program.model.Model            # of values, what executes instructions over them
         self.exported, self.scrubs = exported, functions.scrubs(program)
         self.listed = {functions.in_file(program.path, name): (kind, lanes)
                        for name, kind, lanes in functions.FILES[program.path]}
@@ -269,7 +269,7 @@ class Calls:
         """The instructions of a function by address, the first, and its loops that compress, compare or
         read: the address of the head, with that of the jump back, or those of the loop that reads."""
         if name not in self.codes:
-            found = self.program.code(name, INSTRUCTIONS[self.program.kind], "W")
+            found = self.program.code(name, "W")
             code, loops = {i.address: i for i in found}, {}
             for i in found:
                 if i.target in code and i.target <= i.address:
@@ -277,24 +277,22 @@ class Calls:
                     if name == functions.MEMCMP or self.compresses(body):
                         loops[i.target] = i.address
                     if name in functions.SQUEEZES:         # which is entered in its middle
-                        cycle = reads.cycle(code, i.target, MODELS[self.program.kind])
+                        cycle = reads.cycle(code, i.target)
                         loops.update(dict.fromkeys(cycle, cycle))
             self.codes[name] = code, found[0].address, loops
         return self.codes[name]
 
     def compresses(self, body: list) -> bool:
         """Whether instructions in a row are a loop with one compression, and without other jumps."""
-        model: Any = MODELS[self.program.kind]
-        found = [i for i in body if model.is_call(None, i)]
+        found = [i for i in body if i.is_call]
         return len(found) == 1 and self.program.target(found[0], OF_C) in self.listed and (
-            not any(model.is_return(None, i) or i.target is not None for i in body[:-1]
-                    if i is not found[0]))
+            not any(i.is_return or i.target is not None for i in body[:-1] if i is not found[0]))
 
     def run(self, name: str, machine: Any, start: Any = None, loop: Any = ()) -> list:
         """The machines at all returns of a function. Or those after an iteration of a loop, from its
         head on: at the head again or behind the loop, or at the one address of it that is given."""
         code, first, loops = self.code(name)
-        entry = machine.at_entry() if start is None else None
+        entry = self.cpu(machine).at_entry() if start is None else None
         waiting, ends = [(machine, first if start is None else start)], []
         is_new = start is not None
         while waiting:
@@ -334,49 +332,49 @@ class Calls:
 
     def follow(self, name: str, m: Any, i: Any, entry: tuple, waiting: list, ends: list) -> None:
         """Executes an instruction."""
-        code = self.codes[name][0]
-        if m.is_call(i):
-            link = m.enter(i)
+        code, cpu = self.codes[name][0], self.cpu(m)
+        if i.is_call:
+            link = cpu.enter()
+            m.go_down(m.lowest())
             for n in self.call(m, i):
-                n.leave(link)
+                self.cpu(n).leave(link)
                 n.forget_below()
                 waiting.append((n, i.next))
-        elif m.is_return(i):
+        elif i.is_return:
             self.check(m, entry, name)
             m.forget_below()
             ends.append(m)
-        elif m.is_trap(i):
+        elif i.is_trap:
             raise IsWrong("a trap is reached")
         elif i.target is None:
             top = m.stack_pointer()
-            m.step(i)
+            cpu.step(i)
             if m.stack_pointer() is not top:
                 m.deepest = min(m.deepest, m.lowest())
                 m.forget_below()
             waiting.append((m, i.next))
-        elif name == functions.MEMCMP and not m.is_jump(i) and m.flags == ("secret",):
+        elif name == functions.MEMCMP and not i.is_jump and m.flags == ("secret",):
             waiting += self.compared(m, i, code)
         else:
-            (n, jumps), = [(m, True)] if m.is_jump(i) else m.outcomes(i)
-            pc = i.target if jumps else i.next
+            pc = cpu.follow(i)
             if pc in code:
-                waiting.append((n, pc))
+                waiting.append((m, pc))
             else:                      # a call in place of a return
-                self.check(n, entry, name)
-                for end in self.call(n, i):
+                self.check(m, entry, name)
+                for end in self.call(m, i):
                     self.check(end, entry, name, 1)
                     ends.append(end)
 
     def check(self, m: Any, entry: tuple, name: str, first: int = 0) -> None:
         """What a return must find. The return address is the first of it."""
-        if entry is None or not m.is_as_at(entry, first):
+        if entry is None or not m.is_as_at(entry, self.cpu(m).at_entry(), first):
             raise IsWrong("the return address, the stack pointer or a register of the caller is "
                           "not as at the entry of " + name)
 
     def call(self, m: Any, i: Any) -> list:
         """The machines after a call of another function."""
         name = self.program.target(i, OF_C)
-        to, source, length = (m.argument(k) for k in range(3))
+        to, source, length = (self.cpu(m).argument(k) for k in range(3))
         if name in self.listed:
             self.compress(m, *self.listed[name])
             return [m]
@@ -389,15 +387,15 @@ class Calls:
             m.copy_memory(to, source, length)
         else:
             return self.run_inner(name, m)
-        m.clobber()
+        self.cpu(m).clobber()
         if name in OF_C:
-            m.answer()[:] = T.split(to)
+            self.cpu(m).answer()[:] = T.split(to)
         return [m]
 
     def run_inner(self, name: str, m: Any) -> list:
         """The machines after a call of a function whose code is executed."""
         if name in functions.SQUEEZES:
-            self.position = T.add(64, (1, m.argument(0)), (1, T.const(64, self.place_of_position)))
+            self.position = T.add(64, (1, self.cpu(m).argument(0)), (1, T.const(64, self.place_of_position)))
         if name in self.scrubs and m.deepest < m.lowest() - self.scrubs[name]:
             raise IsWrong("scrub_stack overwrites %d bytes, and the call has used more"
                           % self.scrubs[name])
@@ -415,7 +413,7 @@ class Calls:
         """Both ways of the branch by which a comparison returns: where all it has collected is zero, and
         where not."""
         if i.name not in ("je", "b.eq") or m.compared_bytes or not all(
-                m.only_returns(code, pc) for pc in (i.target, i.next)):
+                self.cpu.only_returns(code, pc) for pc in (i.target, i.next)):
             raise IsWrong("a branch depends on secret data")
         found = []
         for value, pc in ((1, i.target), (0, i.next)):
@@ -428,13 +426,13 @@ class Calls:
         """The answer of a comparison is public: 1 or 0. A call compares once."""
         if m.compared_bytes or not self.exported.endswith("_verify"):
             raise IsWrong("a comparison whose answer is not that of the call")
-        byte = m.answer()[0]
+        byte = self.cpu(m).answer()[0]
         if byte in (0, 1):
             return [m]
         found = []
         for value in (1, 0):
             n = m.copy()
-            n.answer()[0] = value
+            self.cpu(n).answer()[0] = value
             n.compared_bytes = byte, value
             found.append(n)
         return found
@@ -445,7 +443,7 @@ class Calls:
         if lanes != 1:
             self.compress_each(m, name, kind, lanes)
             return
-        h, block, counter, last, node = (m.argument(k) for k in range(5))
+        h, block, counter, last, node = (self.cpu(m).argument(k) for k in range(5))
         need_public(counter, "the counter")
         flags = [T.split(t)[0] for t in (last, node)]
         if any(b not in (0, 1) for b in flags):
@@ -459,12 +457,13 @@ class Calls:
                                 "result": result})
         m.store(h, result)
         m.compressed(self.frames[name])
+        self.cpu(m).clobber(True)
 
     def compress_each(self, m: Any, name: str, kind: Kind, lanes: int) -> None:
         """The chaining words are in rows of all messages, and what else differs in tables."""
         if name not in self.frames:
             raise CannotShow("a compression of several messages")
-        rows, *tables = (m.argument(k) for k in range(4))
+        rows, *tables = (self.cpu(m).argument(k) for k in range(4))
         size, total = kind.bytes, 8 * kind.bytes * lanes
         words = chunks(m.load(rows, total), size)
         result = list(words)
@@ -482,3 +481,4 @@ class Calls:
             result[j::lanes] = chunks(Terms(self, m).compress(kind, chain, block, counter, *flags[j]), size)
         m.store(rows, [b for word in result for b in word])
         m.compressed(self.frames[name])
+        self.cpu(m).clobber(True)

@@ -6,7 +6,7 @@ import re
 from typing import Any, Callable
 
 import terms as T
-from machine import Machine, bitwise, chunks, image, joined, junk, lanewise, number
+from machine import Processor, bitwise, chunks, image, invert, joined, lanewise, need_public, number
 from terms import CannotShow, IsWrong
 
 GENERAL = {}
@@ -112,6 +112,11 @@ class Instruction:
         target = int(comment[0], 16) if comment else None
         if rest:
             self.operands = [operand(o.strip(), target) for o in rest.split(",")]
+
+    is_jump = property(lambda self: self.name == "jmp")
+    is_call = property(lambda self: self.name == "call")
+    is_trap = property(lambda self: self.name == "ud2")
+    is_return = property(lambda self: self.name == "ret" and not self.operands)
 
 
 def unknown(i: Any) -> Any:
@@ -275,6 +280,10 @@ def chosen(bit: int, on: Any, off: Any) -> Any:
     return T.split(found)
 
 
+def no_rule(*data: Any) -> Any:
+    raise CannotShow("there is no rule for this operation on vectors")
+
+
 UNARY = {
     "pshufd": by_halves(lambda a, imm: shuffle_four(a, imm, 4)),
     "pshuflw": by_halves(lambda a, imm: shuffle_four(a[:8], imm, 2) + a[8:]),
@@ -287,9 +296,8 @@ BINARY = {
     "paddq": lambda a, b: lanewise(lambda x, y: T.add(64, (1, x), (1, y)), 8, a, b),
     "paddd": lambda a, b: lanewise(lambda x, y: T.add(32, (1, x), (1, y)), 4, a, b),
     "psubq": lambda a, b: lanewise(lambda x, y: T.add(64, (1, x), (-1, y)), 8, a, b),
-    "pxor": lambda a, b: bitwise(T.xor, a, b),
-    "por": lambda a, b: bitwise(T.either, a, b),
-    "pand": lambda a, b: bitwise(T.both, a, b),
+    "pandn": lambda a, b: bitwise(T.both, invert(a), b),
+    "pcmpgtq": no_rule,
     "pshufb": by_halves(shuffle_bytes),
     "palignr": by_halves(lambda a, b, imm: (b + a + [0] * 32)[imm:imm + 16]),
     "punpcklqdq": pick(8, 0, 2),
@@ -316,14 +324,18 @@ for _type in "if":
     for _shape in ("32x4", "64x2"):
         BINARY["shuf%s%s" % (_type, _shape)] = shuffle_quarters
 for _new, _old in {
-        "pxord": "pxor", "pxorq": "pxor", "pord": "por", "porq": "por", "pandd": "pand",
-        "pandq": "pand", "xorps": "pxor", "xorpd": "pxor", "unpcklpd": "punpcklqdq",
-        "movlhps": "punpcklqdq",
+        "unpcklpd": "punpcklqdq", "movlhps": "punpcklqdq",
         "unpckhpd": "punpckhqdq", "unpcklps": "punpckldq", "unpckhps": "punpckhdq"}.items():
     BINARY[_new] = BINARY[_old]
 
+BITWISE = {"pxor": "xor", "pxord": "xor", "pxorq": "xor", "xorps": "xor", "xorpd": "xor", "por": "or",
+           "pord": "or", "porq": "or", "orps": "or", "orpd": "or", "pand": "and", "pandd": "and",
+           "pandq": "and", "andps": "and", "andpd": "and"}
+# Of these the result is not only moved bytes; of the others that have indices, if these are not numbers.
+COMPUTES = ("paddq", "paddd", "psubq", "pandn", "pcmpgtq", "pshufb")
+INDEXED = ("permd", "permps")
 SHIFTS = {
-    "psrlq": (T.shr, 8), "psllq": (T.shl, 8), "psrld": (T.shr, 4), "pslld": (T.shl, 4),
+    "psrlq": (T.shr, 8), "psllq": (T.shl, 8), "psrld": (T.shr, 4), "pslld": (T.shl, 4), "psrlw": (T.shr, 2),
 }
 ROTATIONS = {"prolq": (8, -1), "prold": (4, -1), "prorq": (8, 1), "prord": (4, 1)}
 # By words of two vectors: the bytes of a word, and whether the indices are overwritten.
@@ -331,58 +343,116 @@ PERMUTATIONS = {"permi2q": (8, True), "permi2pd": (8, True), "permi2d": (4, True
                 "permi2ps": (4, True), "permt2q": (8, False), "permt2pd": (8, False),
                 "permt2d": (4, False), "permt2ps": (4, False)}
 TERNARY = ("pternlogd", "pternlogq")
+OR_OF_XOR, OR_OF_ALL = 0xf6, 0xfe      # of three operands
 EXTRACTS = {"extract%s%s" % (t, s): n for t in "if" for s, n in (
     ("128", 16), ("32x4", 16), ("64x2", 16), ("32x8", 32), ("64x4", 32))}
 MASK_BYTES = {"b": 1, "w": 2, "d": 4, "q": 8}
 MASK = re.compile(r"k(mov|or|and|shiftl|shiftr)([bwdq])")
 # The bytes of the words that a mask chooses.
 MASKED = {"movdqu8": 1, "movdqu32": 4, "movdqu64": 8, "pbroadcastd": 4, "pbroadcastq": 8}
-INSERTS = {"pinsrw": 2, "pinsrd": 4, "pinsrq": 8}
+INSERTS = {"pinsrb": 1, "pinsrw": 2, "pinsrd": 4, "pinsrq": 8}
+WORD_EXTRACTS = {"pextrb": 1, "pextrw": 2, "pextrd": 4, "pextrq": 8, "extractps": 4}
+LOW_MOVES = {"movss": 4, "movsd": 8, "movlps": 8}
 # Whether an operand in memory must be aligned.
 MOVES = {"movdqa": True, "movaps": True, "movapd": True, "movdqu": False, "movups": False,
          "movupd": False, "movdqa32": True, "movdqa64": True, "movdqu8": False, "movdqu16": False,
          "movdqu32": False, "movdqu64": False}
-BROADCASTS = {"pbroadcastq": 8, "broadcastsd": 8, "pbroadcastd": 4, "broadcastss": 4,
+BROADCASTS = {"pbroadcastb": 1, "pbroadcastw": 2, "pbroadcastq": 8, "broadcastsd": 8, "pbroadcastd": 4, "broadcastss": 4,
               "broadcasti128": 16, "broadcastf128": 16, "broadcasti32x4": 16,
               "broadcastf32x4": 16, "broadcasti64x2": 16, "broadcastf64x2": 16,
               "broadcasti64x4": 32, "broadcastf64x4": 32}
 BLENDS = {"blendvps": 4, "blendvpd": 8, "pblendvb": 1}
 # From how many bytes to how many, and how.
-EXTENSIONS = {"pmovsxdq": (4, 8, sign_extended), "pmovzxwd": (2, 4, lambda c: c + [0, 0])}
+EXTENSIONS = {"pmovsxdq": (4, 8, sign_extended)}
+for _name, _size in (("pmovzxbw", 1), ("pmovzxwd", 2), ("pmovzxdq", 4)):
+    EXTENSIONS[_name] = _size, 2 * _size, lambda c: c + [0] * len(c)
+CONDITIONS = "e ne b ae a be s ns l le g ge o no".split()
+OF_CARRY, OF_OVERFLOW = ("b", "ae", "a", "be"), ("o", "no")
+ONE = Operand("number", value=1)
 
 
-class X86(Machine):
-    def __init__(self, regions: Any, assumed: Any) -> None:
-        super().__init__(regions, assumed)
-        self.general = [junk("r%d" % i, 8) for i in range(16)]
-        self.vector = [junk("v%d" % i, WIDTH) for i in range(VECTORS)]
-        self.masks = [[None] * 64 for _ in range(8)]        # not kept by copy()
+class X86(Processor):
+    FILES = {"general": (16, 8), "vector": (VECTORS, WIDTH)}
+    STACK_POINTER = "general", RSP
+    ARGUMENTS: tuple = ARGUMENTS
+    # What a condition compares after `cmp`. Others are not followed: both ways may be taken.
+    RELATIONS = {"e": "==", "ne": "!=", "b": "<", "ae": ">=", "a": ">", "be": "<="}
+    SIGNED = {"l": "<", "ge": ">=", "g": ">", "le": "<="}
 
-    def stack_pointer(self) -> T.Term:
-        return T.word(self.general[RSP])
+    # The calling convention.
 
     def start(self, sp: T.Term, back: T.Term, arguments: list) -> None:
-        """The state at the entry of a function, by the ABI."""
-        self.stack = sp
-        self.general[RSP] = T.split(sp)
+        """The state at the entry of a function."""
+        self.values.stack = sp
+        self.values.general[RSP] = T.split(sp)
         for register, t in zip(ARGUMENTS, arguments):
-            self.general[register] = T.split(t)
+            self.values.general[register] = T.split(t)
 
-    def saved(self) -> list:
-        return [list(self.general[r]) for r in SAVED]
+    def at_entry(self) -> tuple:
+        m = self.values
+        sp = m.stack_pointer()
+        return T.word(m.load(sp, 8)), sp, [list(m.general[r]) for r in SAVED]
 
-    def check_return(self, sp: T.Term, back: T.Term, saved: list) -> None:
-        if self.returned_to is not back:
-            raise IsWrong("it returns to %r" % self.returned_to)
-        if T.word(self.general[RSP]) is not T.add(64, (1, sp), (1, T.const(64, 8))):
-            raise IsWrong("the stack pointer is not restored")
-        if self.saved() != saved:
-            raise IsWrong("a register that belongs to the caller is not restored")
-        for j, data in enumerate(self.vector):
+    def argument(self, k: int) -> T.Term:
+        return T.word(self.values.general[ARGUMENTS[k]])
+
+    def answer(self) -> list:
+        return self.values.general[RAX]
+
+    def enter(self) -> T.Term:
+        """A call pushes the return address, to which it must return."""
+        self.check_stack()
+        link = self.values.new(64, "link")
+        self.values.general[RSP] = T.split(self.moved(-8))
+        self.values.store(self.values.stack_pointer(), T.split(link))
+        return link
+
+    def leave(self, link: T.Term) -> None:
+        """A return takes it from the stack."""
+        if self.values.load(self.values.stack_pointer(), 8) != T.split(link):
+            raise IsWrong("a call overwrites its return address")
+        self.values.general[RSP] = T.split(self.moved(8))
+
+    def moved(self, n: int) -> T.Term:
+        return T.add(64, (1, self.values.stack_pointer()), (1, T.const(64, n)))
+
+    def clobber(self, is_compression: bool = False) -> None:
+        """What a function may leave in registers that do not belong to its caller. One that compresses
+        leaves zero or what there was where compression.py shows that."""
+        m = self.values
+        for r in range(16):
+            if r not in SAVED + (RSP,):
+                m.general[r] = m.lost(8, is_compression)
+        for j, old in enumerate(m.vector):
             start = 0 if j in UPPER else 16
-            if data[start:] not in ([0] * (WIDTH - start), junk("v%d" % j, WIDTH)[start:]):
+            is_left = not is_compression or m.is_left(j, start)
+            upper = m.lost(WIDTH - start, not is_left)
+            kept = [x if is_compression and x == 0 else y for x, y in zip(old[start:], upper)]
+            m.vector[j] = m.lost(start, is_compression) + kept
+        m.flags = None
+
+    def need_vectors(self) -> None:
+        """Refuses what a call may not leave in vector registers, besides those of its caller."""
+        for j in range(VECTORS):
+            start = 0 if j in UPPER else 16
+            if not self.values.is_left(j, start):
                 raise IsWrong("the vector register %d from byte %d on is neither zero nor as before"
                               % (j, start))
+
+    @staticmethod
+    def only_returns(code: dict, pc: int) -> bool:
+        """Whether only the result is set from here to a return."""
+        for _ in range(4):
+            i = code[pc]
+            if i.name == "ret":
+                return True
+            if i.name != "vzeroupper" and i.text.split("#")[0].split() not in (
+                    ["xor", "eax,eax"], ["mov", "eax,0xffffffff"]):
+                return False
+            pc = i.next
+        return False
+
+    # Operands.
 
     def address(self, o: Operand) -> T.Term:
         parts = []
@@ -390,58 +460,73 @@ class X86(Machine):
             if register is None:
                 value = T.const(64, offset)
             else:
-                value = image() if register == IMAGE else T.word(self.general[register])
+                value = image() if register == IMAGE else T.word(self.values.general[register])
             parts.append((factor, value))
         return T.add(64, *parts)
 
     def read(self, o: Operand, size: int | None = None, aligned: bool = False) -> list:
         if o.kind == "general":
-            return self.general[o.index][:o.size]
+            return self.values.general[o.index][:o.size]
         if o.kind == "vector":
-            return self.vector[o.index][:o.size]
+            return self.values.vector[o.index][:o.size]
         if o.kind == "memory" and o.is_broadcast:
-            return self.load(self.address(o), o.size) * (size // o.size)
+            return self.values.load(self.address(o), o.size) * (size // o.size)
         if o.kind == "memory":
-            return self.load(self.address(o), o.size or size, aligned)
+            return self.values.load(self.address(o), o.size or size, aligned)
         if size is None:
             raise CannotShow("a constant has no size")
         return list((o.value & (1 << 8 * size) - 1).to_bytes(size, "little"))
 
     def write(self, o: Operand, data: Any, vex: bool = False, aligned: bool = False) -> None:
+        data = self.values.cleaned(list(data), o.kind == "general")
         if o.kind == "general":
             if len(data) != o.size:
                 raise CannotShow("the result has not the size of its register")
-            kept = [0] * 4 if o.size == 4 else self.general[o.index][o.size:]
-            self.general[o.index] = list(data) + kept
+            kept = [0] * 4 if o.size == 4 else self.values.general[o.index][o.size:]
+            self.values.general[o.index] = data + kept
         elif o.kind == "vector":
-            kept = self.vector[o.index][len(data):]
-            self.vector[o.index] = list(data) + ([0] * len(kept) if vex else kept)
+            kept = self.values.vector[o.index][len(data):]
+            self.values.vector[o.index] = data + ([0] * len(kept) if vex else kept)
         elif o.kind == "memory":
-            self.store(self.address(o), data, aligned)
+            self.values.store(self.address(o), data, aligned)
         else:
             raise CannotShow("the result is a constant")
 
-    def step(self, i: Any) -> Any:
-        """Executes an instruction. Returns the address of the next one, or None after a return."""
+    # Conditions.
+
+    def compared(self, condition: str) -> tuple | None:
+        flags = self.values.flags
+        kind = flags[0] if flags else None
+        if kind == "no carry" and condition in OF_CARRY:
+            raise IsWrong("a carry that inc or dec keeps depends on secret or unknown data")
+        if kind == "product" and condition not in OF_OVERFLOW:
+            raise CannotShow("a product does not define this flag")
+        if kind == "add" and condition in ("b", "ae"):
+            return ("carry" if condition == "b" else "no carry",) + flags[1:3]
+        return super().compared(condition)
+
+    def condition(self, i: Instruction) -> tuple | None:
+        if i.name[1:] not in CONDITIONS:
+            raise unknown(i)
+        self.need_public_flags()
+        return self.compared(i.name[1:])
+
+    def step(self, i: Instruction) -> None:
         name, ops = i.name, i.operands
         method = getattr(self, "do_" + name, None)
         if method:
-            return method(i, *ops) or i.next
-        if name == "ret" and not ops:
-            self.returned_to = T.word(self.load(self.stack_pointer(), 8))
-            self.general[RSP] = T.split(T.add(64, (1, self.stack_pointer()), (1, T.const(64, 8))))
-            return None
-        if name == "jmp":
-            return i.target
-        if name in ("je", "jne"):
-            return i.target if self.is_zero(self.zero) == (name == "je") else i.next
-        if MASK.fullmatch(name):
+            method(i, *ops)
+        elif name.startswith("set") and name[3:] in CONDITIONS:
+            self.write(ops[0], [self.values.bit(self.compared(name[3:]))])
+        elif name.startswith("cmov") and name[4:] in CONDITIONS:
+            self.write(ops[0], self.values.chosen(
+                self.compared(name[4:]), self.read(ops[1], ops[0].size), self.read(ops[0])))
+        elif MASK.fullmatch(name):
             self.mask_step(i)
         elif ops and ops[0].mask is not None:
             self.masked_move(i)
         else:
             self.vector_step(i)
-        return i.next
 
     # Words.
 
@@ -464,75 +549,138 @@ class X86(Machine):
         self.write(to, T.split(self.address(source))[:to.size])
 
     def do_push(self, i: Instruction, source: Operand) -> None:
-        top = T.add(64, (1, T.word(self.general[RSP])), (-1, T.const(64, 8)))
         data = self.read(source)
         if len(data) != 8:
             raise unknown(i)
-        self.general[RSP] = T.split(top)
-        self.store(top, data)
+        self.values.general[RSP] = T.split(self.moved(-8))
+        self.values.store(self.values.stack_pointer(), data)
 
     def do_pop(self, i: Instruction, to: Operand) -> None:
-        top = T.word(self.general[RSP])
-        data = self.load(top, 8)
-        self.general[RSP] = T.split(T.add(64, (1, top), (1, T.const(64, 8))))
+        data = self.values.load(self.values.stack_pointer(), 8)
+        self.values.general[RSP] = T.split(self.moved(8))
         self.write(to, data)
 
-    def arithmetic(self, f: Callable, to: Operand, source: Operand, keep: bool = True) -> None:
-        a = self.read(to)
-        b = self.read(source, len(a))
-        result = f(8 * len(a), T.word(a), T.word(b))
-        self.zero = result
+    def do_xchg(self, i: Instruction, a: Operand, b: Operand) -> None:
+        x, y = self.read(a), self.read(b)
+        self.write(a, y)
+        self.write(b, x)
+
+    def arithmetic(self, kind: str, f: Callable, to: Operand, source: Operand, keep: bool = True) -> None:
+        """Sets a word and the flags, or only the flags."""
+        data = self.read(to)
+        result = self.values.computed(kind, f, data, self.read(source, len(data)))
         if keep:
-            self.write(to, T.split(result))
+            self.write(to, result)
 
     def do_add(self, i: Instruction, to: Operand, source: Operand) -> None:
-        self.arithmetic(lambda w, a, b: T.add(w, (1, a), (1, b)), to, source)
+        self.arithmetic("add", lambda a, b: T.add(a.w, (1, a), (1, b)), to, source)
 
-    def do_sub(self, i: Instruction, to: Operand, source: Operand) -> None:
-        self.arithmetic(lambda w, a, b: T.add(w, (1, a), (-1, b)), to, source)
-
-    def do_dec(self, i: Instruction, to: Operand) -> None:
-        self.arithmetic(lambda w, a, b: T.add(w, (1, a), (-1, b)), to, Operand("number", value=1))
-
-    def do_xor(self, i: Instruction, to: Operand, source: Operand) -> None:
-        self.arithmetic(T.xor, to, source)
+    def do_sub(self, i: Instruction, to: Operand, source: Operand, keep: bool = True) -> None:
+        self.arithmetic("sub", lambda a, b: T.add(a.w, (1, a), (-1, b)), to, source, keep)
 
     def do_cmp(self, i: Instruction, to: Operand, source: Operand) -> None:
-        self.arithmetic(lambda w, a, b: T.add(w, (1, a), (-1, b)), to, source, keep=False)
+        self.do_sub(i, to, source, False)
+
+    def do_xor(self, i: Instruction, to: Operand, source: Operand) -> None:
+        if same(to, source):
+            self.write(to, [0] * to.size)
+            self.values.flags = ("logic",) + (T.const(8 * to.size, 0),) * 3
+        else:
+            self.arithmetic("logic", self.values.exclusive, to, source)
+
+    def do_or(self, i: Instruction, to: Operand, source: Operand) -> None:
+        self.arithmetic("logic", self.values.either, to, source)
+
+    def do_and(self, i: Instruction, to: Operand, source: Operand) -> None:
+        self.arithmetic("logic", self.values.masked, to, source)
 
     def do_test(self, i: Instruction, to: Operand, source: Operand) -> None:
-        self.arithmetic(T.both, to, source, keep=False)
+        self.arithmetic("logic", (lambda a, b: a) if same(to, source) else self.values.masked, to, source,
+                        False)
 
-    def shift_word(self, f: Any, i: Instruction, to: Operand, source: Any) -> None:
-        count = source.value if source else 1
-        data = self.read(to)
-        if not 0 < count < 8 * len(data):
+    def do_inc(self, i: Instruction, to: Operand) -> None:
+        self.add_and_keep_carry(to, 1)
+
+    def do_dec(self, i: Instruction, to: Operand) -> None:
+        self.add_and_keep_carry(to, -1)
+
+    def add_and_keep_carry(self, to: Operand, step: int) -> None:
+        """inc and dec keep the carry, which may be that of a secret."""
+        old = self.values.flags
+        self.arithmetic("other", lambda a, b: T.add(a.w, (1, a), (step, b)), to, ONE)
+        now = self.values.flags
+        if (old is None or old[0] in ("secret", "no carry")) and now != ("secret",):
+            self.values.flags = ("no carry",) + now[1:]
+
+    def do_neg(self, i: Instruction, to: Operand) -> None:
+        self.arithmetic("other", lambda a, b: T.add(a.w, (-1, a)), to, ONE)
+
+    def do_not(self, i: Instruction, to: Operand) -> None:
+        flags = self.values.flags
+        self.arithmetic("other", lambda a, b: T.add(a.w, (-1, a), (-1, b)), to, ONE)
+        self.values.flags = flags
+
+    def shift_count(self, i: Instruction, to: Operand, source: Operand) -> int:
+        """The number of bits of a shift. A shift by 0 keeps the flags, and is not known."""
+        if source.kind != "number" or not 0 < source.value < 8 * to.size:
             raise unknown(i)
-        result = f(8 * len(data), T.word(data), count)
-        self.zero = result
-        self.write(to, T.split(result))
+        return source.value
 
-    def do_shr(self, i: Instruction, to: Operand, source: Any = None) -> None:
-        self.shift_word(T.shr, i, to, source)
+    def do_shl(self, i: Instruction, to: Operand, source: Operand = ONE) -> None:
+        k = self.shift_count(i, to, source)
+        self.arithmetic("other", lambda a, b: self.values.shifted_left(a, k), to, source)
 
-    def do_shl(self, i: Instruction, to: Operand, source: Any = None) -> None:
-        self.shift_word(T.shl, i, to, source)
+    def do_shr(self, i: Instruction, to: Operand, source: Operand = ONE) -> None:
+        k = self.shift_count(i, to, source)
+        self.arithmetic("other", lambda a, b: self.values.shifted_right(a, k), to, source)
 
-    def cmov(self, i: Any, to: Any, source: Any, swap: Any) -> None:
-        old, new = T.word(self.read(to)), T.word(self.read(source))
-        if swap:
-            old, new = new, old
-        # `old` if not zero, `new` if zero
-        self.write(to, T.split(self.choose(self.zero, new, old)))
+    def do_imul(self, i: Instruction, to: Operand, source: Operand, factor: Any = None) -> None:
+        if factor:
+            self.write(to, self.read(source))
+        need_public(T.word(self.read(to) + self.read(factor or source, to.size)), "the time of a product")
+        self.arithmetic("product", lambda a, b: T.add(a.w, (b.args, a)) if b.op == "const" else None,
+                        to, factor or source)
 
-    def do_cmove(self, i: Instruction, to: Operand, source: Operand) -> None:
-        self.cmov(i, to, source, False)
+    def with_carry(self, to: Operand, source: Operand, sign: int) -> None:
+        flags = self.values.flags
+        if flags is None or flags[0] in ("secret", "no carry"):
+            raise CannotShow("a carry depends on flags that are not public")
+        carry = T.word([self.values.bit(self.compared("b"))] + [0] * (to.size - 1))
+        self.arithmetic("other", lambda a, b: T.add(a.w, (1, a), (sign, b), (sign, carry)), to, source)
 
-    def do_cmovne(self, i: Instruction, to: Operand, source: Operand) -> None:
-        self.cmov(i, to, source, True)
+    def do_adc(self, i: Instruction, to: Operand, source: Operand) -> None:
+        self.with_carry(to, source, 1)
+
+    def do_sbb(self, i: Instruction, to: Operand, source: Operand) -> None:
+        self.with_carry(to, source, -1)
+
+    def do_mulx(self, i: Instruction, high: Operand, low: Operand, source: Operand) -> None:
+        need_public(T.word(self.values.general[RDX][:high.size] + self.read(source, high.size)),
+                    "the time of a product")
+        for to in (low, high):
+            self.write(to, self.values.anything(to.size))
+
+    def do_mul(self, i: Instruction, source: Operand) -> None:
+        self.of_public((RAX,), source)
+
+    def do_div(self, i: Instruction, source: Operand) -> None:
+        self.of_public((RAX, RDX), source)
+
+    def of_public(self, registers: tuple, source: Operand) -> None:
+        """A product or a division, whose time may depend on the operands: these must be public. One
+        of bytes has all of its result in ax, and is not modelled."""
+        if source.size == 1:
+            raise CannotShow("a product or a division of bytes")
+        pair = [Operand("general", r, source.size) for r in (RAX, RDX)]
+        for o in [o for o in pair if o.index in registers] + [source]:
+            need_public(T.word(self.read(o)), "the time of a product or a division")
+        for o in pair:
+            self.write(o, self.values.anything(o.size))
+        self.values.flags = None
 
     def do_vzeroupper(self, i: Instruction) -> None:
-        self.vector[:16] = [r[:16] + [0] * (WIDTH - 16) for r in self.vector[:16]]
+        vector = self.values.vector
+        vector[:16] = [r[:16] + [0] * (WIDTH - 16) for r in vector[:16]]
 
     # Masks.
 
@@ -547,15 +695,15 @@ class X86(Machine):
             result = [bit_of(b, k) for b in data for k in range(8)]
         elif action in ("or", "and") and kinds == ["mask"] * 3:
             f = either_bit if action == "or" else both_bits
-            a, b = (self.masks[o.index][:8 * size] for o in ops[1:])
+            a, b = (self.values.masks[o.index][:8 * size] for o in ops[1:])
             result = [f(x, y) for x, y in zip(a, b)]
         elif action.startswith("shift") and kinds == ["mask", "mask", "number"]:
-            bits, count = self.masks[ops[1].index][:8 * size], min(ops[2].value, 8 * size)
+            bits, count = self.values.masks[ops[1].index][:8 * size], min(ops[2].value, 8 * size)
             zeros = [0] * count
             result = zeros + bits[:8 * size - count] if action[-1] == "l" else bits[count:] + zeros
         else:
             raise unknown(i)
-        self.masks[ops[0].index] = result + [0] * (64 - len(result))
+        self.values.masks[ops[0].index] = result + [0] * (64 - len(result))
 
     def masked_move(self, i: Any) -> None:
         """A move or a broadcast of which a mask chooses the words. A word that it leaves out is
@@ -564,29 +712,32 @@ class X86(Machine):
         n = MASKED.get(name)
         if n is None or rest or source.kind != "memory":
             raise unknown(i)
-        bits = self.masks[to.mask][:to.size // n]
-        old = chunks([0] * to.size if to.zeroes else self.vector[to.index][:to.size], n)
+        bits = self.values.masks[to.mask][:to.size // n]
+        old = chunks([0] * to.size if to.zeroes else self.values.vector[to.index][:to.size], n)
         address, parts = self.address(source), []
         for k, bit in enumerate(bits):
             at = T.add(64, (1, address), (1, T.const(64, 0 if name in BROADCASTS else n * k)))
-            parts.append(old[k] if bit == 0 else chosen(bit, self.load(at, n), old[k]))
+            parts.append(old[k] if bit == 0 else chosen(bit, self.values.load(at, n), old[k]))
         self.write(to, joined(parts), True)
 
     # Vectors. Each method returns whether it knows this form of its instruction.
 
-    def vector_step(self, i: Instruction) -> Any:
+    def vector_step(self, i: Instruction) -> None:
         vex = i.name.startswith("v")
         name, ops, imm = i.name[vex:], i.operands, []
         if ops and ops[-1].kind == "number":
             ops, imm = ops[:-1], [ops[-1].value]
         for table, method in (
-                (MOVES, self.move), (("movq", "movd"), self.move_word),
+                (MOVES, self.move), (("movq", "movd"), self.move_word), (LOW_MOVES, self.move_low),
                 (BROADCASTS, self.broadcast), (UNARY, self.unary), (SHIFTS, self.shift),
-                (BINARY, self.binary), (INSERTS, self.insert), (BLENDS, self.blend),
-                (EXTENSIONS, self.extend), (ROTATIONS, self.rotate), (TERNARY, self.ternary),
-                (PERMUTATIONS, self.permute), (EXTRACTS, self.extract),
-                (("pextrb",), self.extract_byte), (("pmovqd",), self.truncate)):
-            if name in table and len(ops) > 1 - (table is SHIFTS) and method(name, ops, imm, vex):
+                (("psrldq",), self.shift_bytes), (BITWISE, self.bitwise), (BINARY, self.binary),
+                (INSERTS, self.insert), (BLENDS, self.blend), (EXTENSIONS, self.extend),
+                (ROTATIONS, self.rotate), (TERNARY, self.ternary), (PERMUTATIONS, self.permute),
+                (EXTRACTS, self.extract), (WORD_EXTRACTS, self.extract_word),
+                (("pmovqd",), self.truncate), (("ptest",), self.test_bits)):
+            if name in table and len(ops) > 1 - (method in (self.shift, self.shift_bytes)) and (
+                    not any(o.mask is not None or o.kind == "mask" for o in ops)
+                    and method(name, ops, imm, vex)):
                 return
         raise unknown(i)
 
@@ -603,6 +754,19 @@ class X86(Machine):
         n = 8 if name == "movq" else 4
         data = self.read(ops[1], n)[:n]
         self.write(ops[0], data + [0] * (16 - n) if ops[0].kind == "vector" else data, vex)
+        return True
+
+    def move_low(self, name: str, ops: list, imm: list, vex: bool) -> bool:
+        """A move of the lowest bytes of a vector."""
+        n, is_store = LOW_MOVES[name], ops[0].kind == "memory"
+        if imm or name == "movlps" and not is_store:
+            return False
+        if is_store:
+            self.write(ops[0], self.read(ops[1])[:n])
+        elif ops[-1].kind == "memory":
+            self.write(ops[0], self.read(ops[1], n)[:n] + [0] * (16 - n), vex)
+        else:
+            self.write(ops[0], self.read(ops[-1])[:n] + self.read(ops[-2])[n:16], vex)
         return True
 
     def broadcast(self, name: str, ops: list, imm: list, vex: bool) -> bool:
@@ -622,18 +786,42 @@ class X86(Machine):
         f, n = SHIFTS[name]
         if len(ops) != 1 + vex or len(imm) != 1 or not 0 < imm[0] < 8 * n:
             return False
-        self.write(ops[0], lanewise(lambda t: f(8 * n, t, imm[0]), n, self.read(ops[-1])), vex)
+        self.write(ops[0], self.values.vector_of(
+            lambda a: lanewise(lambda t: f(8 * n, t, imm[0]), n, a), self.read(ops[-1])), vex)
+        return True
+
+    def shift_bytes(self, name: str, ops: list, imm: list, vex: bool) -> bool:
+        if len(ops) != 1 + vex or len(imm) != 1:
+            return False
+        parts = chunks(self.read(ops[vex]), 16)
+        self.write(ops[0], joined((p + [0] * 16)[min(imm[0], 16):][:16] for p in parts), vex)
+        return True
+
+    def sources(self, name: str, ops: list, vex: bool) -> tuple:
+        """Both operands of an operation on vectors. Those of 16 bytes in memory must be aligned in the
+        old encodings."""
+        n = ops[1].size if ops[1].kind == "memory" and not vex else None
+        if ops[-1].is_broadcast:
+            n = ops[0].size
+        aligned = not vex and not (name == "insertps" and ops[-1].kind == "memory")
+        return self.read(ops[vex]), self.read(ops[-1], n, aligned)
+
+    def bitwise(self, name: str, ops: list, imm: list, vex: bool) -> bool:
+        if len(ops) != 2 + vex or imm:
+            return False
+        if BITWISE[name] == "xor" and same(ops[vex], ops[-1]):
+            self.write(ops[0], [0] * ops[0].size, vex)
+        else:
+            self.write(ops[0], self.values.combined(BITWISE[name], *self.sources(name, ops, vex)), vex)
         return True
 
     def binary(self, name: str, ops: list, imm: list, vex: bool) -> bool:
         if len(ops) != 2 + vex or name == "movlhps" and ops[-1].kind != "vector":
             return False
-        n = ops[1].size if ops[1].kind == "memory" and not vex else None
-        if ops[-1].is_broadcast:
-            n = ops[0].size
-        # Operands of 16 bytes in memory must be aligned in the old encodings.
-        aligned = not vex and not (name == "insertps" and ops[-1].kind == "memory")
-        result = BINARY[name](self.read(ops[vex]), self.read(ops[-1], n, aligned), *imm)
+        a, b = self.sources(name, ops, vex)
+        f = lambda x, y: BINARY[name](x, y, *imm)
+        computes = name in COMPUTES or name in INDEXED and not all(isinstance(x, int) for x in a)
+        result = self.values.vector_of(f, a, b) if computes else f(a, b)
         if len(result) != ops[0].size:
             return False
         self.write(ops[0], result, vex)
@@ -643,14 +831,19 @@ class X86(Machine):
         n, sign = ROTATIONS[name]
         if len(ops) != 2 or len(imm) != 1 or not vex:
             return False
-        data = self.read(ops[1], ops[0].size)
-        self.write(ops[0], lanewise(lambda t: T.ror(8 * n, t, sign * imm[0]), n, data), vex)
+        self.write(ops[0], self.values.vector_of(lambda a: lanewise(
+            lambda t: T.ror(8 * n, t, sign * imm[0]), n, a), self.read(ops[1], ops[0].size)), vex)
         return True
 
-    def ternary(self, name: Any, ops: Any, imm: Any, vex: Any) -> Any:
+    def ternary(self, name: str, ops: list, imm: list, vex: bool) -> bool:
         if len(ops) != 3 or len(imm) != 1 or not vex:
             return False
-        self.write(ops[0], ternary(*[self.read(o, ops[0].size) for o in ops], *imm), vex)
+        a, b, c = (self.read(o, ops[0].size) for o in ops)
+        if imm[0] in (OR_OF_XOR, OR_OF_ALL):
+            b = self.values.combined("xor" if imm[0] == OR_OF_XOR else "or", b, c)
+            self.write(ops[0], self.values.combined("or", a, b), vex)
+        else:
+            self.write(ops[0], self.values.vector_of(lambda *data: ternary(*data, *imm), a, b, c), vex)
         return True
 
     def permute(self, name: str, ops: list, imm: list, vex: bool) -> bool:
@@ -662,7 +855,7 @@ class X86(Machine):
         self.write(ops[0], permute_words(n)(indices, data), vex)
         return True
 
-    def extract(self, name: str, ops: list, imm: Any, vex: bool) -> Any:
+    def extract(self, name: str, ops: list, imm: list, vex: bool) -> bool:
         n = EXTRACTS[name]
         if len(ops) != 2 or len(imm) != 1 or not vex:
             return False
@@ -670,10 +863,12 @@ class X86(Machine):
         self.write(ops[0], parts[imm[0] & len(parts) - 1], vex)
         return True
 
-    def extract_byte(self, name: str, ops: list, imm: Any, vex: bool) -> Any:
-        if len(ops) != 2 or len(imm) != 1 or ops[0].kind != "general":
+    def extract_word(self, name: str, ops: list, imm: list, vex: bool) -> bool:
+        n = WORD_EXTRACTS[name]
+        if len(ops) != 2 or len(imm) != 1:
             return False
-        self.write(ops[0], [self.read(ops[1])[imm[0] & 15]] + [0] * (ops[0].size - 1))
+        data = chunks(self.read(ops[1]), n)[imm[0] % (16 // n)]
+        self.write(ops[0], data + [0] * ((ops[0].size if ops[0].kind == "general" else n) - n))
         return True
 
     def truncate(self, name: str, ops: list, imm: list, vex: bool) -> bool:
@@ -695,18 +890,32 @@ class X86(Machine):
     def blend(self, name: str, ops: list, imm: list, vex: bool) -> bool:
         if imm or not (len(ops) == 2 and not vex or len(ops) == 3 + vex):
             return False
-        mask = self.read(ops[-1]) if len(ops) == 3 + vex else self.vector[0][:16]
+        mask = self.read(ops[-1]) if len(ops) == 3 + vex else self.values.vector[0][:16]
         a, b = self.read(ops[vex]), self.read(ops[1 + vex], aligned=not vex)
-        self.write(ops[0], blend_by_sign(BLENDS[name])(a, b, mask), vex)
+        self.write(ops[0], self.values.vector_of(blend_by_sign(BLENDS[name]), a, b, mask), vex)
         return True
 
-    def extend(self, name: str, ops: list, imm: Any, vex: bool) -> Any:
+    def extend(self, name: str, ops: list, imm: list, vex: bool) -> bool:
         size, n, f = EXTENSIONS[name]
         if len(ops) != 2 or imm:
             return False
-        data = chunks(self.read(ops[1], ops[0].size * size // n)[:ops[0].size * size // n], size)
-        self.write(ops[0], joined(f(part) for part in data), vex)
+        count = ops[0].size * size // n
+        data = (self.read(ops[1], count)[:count] + [0] * ops[0].size)[:ops[0].size]
+        whole = lambda a: joined(f(part) for part in chunks(a[:count], size))
+        self.write(ops[0], self.values.vector_of(whole, data) if name == "pmovsxdq" else whole(data), vex)
         return True
+
+    def test_bits(self, name: str, ops: list, imm: list, vex: bool) -> bool:
+        """The flags of an and of two vectors. The carry is not as after an and of words."""
+        if len(ops) != 2 or imm:
+            return False
+        self.values.test(self.read(ops[0]), self.read(ops[1], 16, not vex))
+        return True
+
+
+def same(a: Operand, b: Operand) -> bool:
+    """Whether two operands are the same register."""
+    return a.kind == b.kind != "memory" and a.kind != "number" and a.index == b.index
 
 
 Model = X86
