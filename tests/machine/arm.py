@@ -126,7 +126,7 @@ class Instruction:
 
 def unknown(i: Instruction) -> CannotShow:
     return CannotShow("the instruction %s is not modelled: add it to tests/machine/arm.py, and run "
-                      "tests/machine/check.py --long" % " ".join(i.text.split()))
+                      "tests/machine/check.py --forms" % " ".join(i.text.split()))
 
 
 class Arm(Processor):

@@ -40,8 +40,6 @@ import check_digests
 import check_instructions
 import check_ranges
 import check_specification
-import check_symbolic
-import check_taint
 import check_wasm_instructions
 import compression
 import constant_time
@@ -76,6 +74,9 @@ ALL_OF_X = SHORT[0]
 # The exports whose cases take long, which are parts of their own.
 LONG_EXPORTS = ("_verify", "_squeeze", "_derive_key", "")
 SHORT_WIDTHS = (8,)
+# The users of forms.txt, and how often each instruction runs: without --long, and with it.
+USERS = {"F": "that compress", "T": "in which secrets are followed", "W": "that calls execute over variables"}
+ROUNDS = {"F": (4, 20), "T": (2, 10), "W": (4, 12)}
 LONG_CALLS = ("vulfsjor_ffi_tree_root", "vulfsjor_ffi_tree_update_leaves")
 LONG_CHANGES = (mutations.secret_forgotten, mutations.carry_forgotten)
 
@@ -90,6 +91,18 @@ def missing(path: str) -> Any:
 def without_solver() -> str | None:
     """What is missing to decide how the numbers of whole calls compare, or None."""
     return None if facts.z3 else "python3-z3"
+
+
+def result(title: str, gone: str | None, show: Callable) -> list:
+    """The result of a check: skipped if something is gone; show() returns what it says, refuses the code,
+    or returns a verdict and why."""
+    if gone:
+        return [("skip", title, "no " + gone)]
+    try:
+        found = show()
+    except (T.Refused, programs.NotAssembled) as e:
+        return [("not ok", title, "%s: %s" % (T.kind_of(e), e))]
+    return [(found[0], title, found[1]) if isinstance(found, tuple) else ("ok", title, found)]
 
 
 def prove(paths: Any, entry: Any) -> Any:
@@ -108,47 +121,34 @@ def prove_one(path: str, entry: Any, shown: Any) -> Any:
     name, kind, lanes = entry
     count = "%d messages" % lanes if lanes > 1 else "one message"
     count += FORMS.get(compression.call_of(name), "")
-    title = "%s: F of %s, %s" % (path, FAMILIES[kind.name], count)
-    if missing(path):
-        return [("skip", title, "no " + missing(path))]
-    try:
-        program, name = programs.read(path), functions.in_file(path, name)
-        content = program.content(name)
+
+    def show() -> str:
+        program, here = programs.read(path), functions.in_file(path, name)
+        content = program.content(here)
         if content in shown:
-            return [("ok", title, "the instructions and constants of %s" % shown[content])]
-        runner, seconds = compression.show(program, name, kind, lanes)
-    except T.IsWrong as e:
-        return [("not ok", title, "is wrong: %s" % e)]
-    except (T.CannotShow, programs.NotAssembled) as e:
-        return [("not ok", title, "cannot show: %s" % e)]
-    if content:
-        shown[content] = path
-    return [("ok", title, "%d instructions, %d executed on %d paths, %d branches and %d addresses "
-             "without a secret, %.1f s" % (len(runner.code), runner.count, runner.paths,
-                                           runner.branches, runner.addresses, seconds))]
+            return "the instructions and constants of %s" % shown[content]
+        runner, seconds = compression.show(program, here, kind, lanes)
+        if content:
+            shown[content] = path
+        return ("%d instructions, %d executed on %d paths, %d branches and %d addresses without a secret, "
+                "%.1f s" % (len(runner.code), runner.count, runner.paths, runner.branches, runner.addresses,
+                            seconds))
+    return result("%s: F of %s, %s" % (path, FAMILIES[kind.name], count), missing(path), show)
 
 
 def search(path: str) -> Any:
     """Whether a file has a copy of the rounds outside of its list of functions."""
-    title = "%s: no other function has a copy of the rounds" % path
-    if missing(path):
-        return [("skip", title, "no " + missing(path))]
-    found = functions.unlisted(programs.read(path))
-    why = "%s: rotates words as G does: add it to FILES in tests/machine/functions.py"
-    return [("not ok", title, why % ", ".join(found)) if found else ("ok", title, "")]
+    def show() -> tuple:
+        found = ", ".join(functions.unlisted(programs.read(path)))
+        why = found and "%s: rotates words as G does: add it to FILES in tests/machine/functions.py" % found
+        return "not ok" if found else "ok", why
+    return result("%s: no other function has a copy of the rounds" % path, missing(path), show)
 
 
 def look(path: str) -> Any:
     """What is looked at in all of a file, besides the code of its functions."""
-    title = "%s: nothing that runs or is read is writable, and each exported function is known"
-    title %= path
-    if missing(path):
-        return [("skip", title, "no " + missing(path))]
-    try:
-        mutations.look(programs.read(path))
-    except T.Refused as e:
-        return [("not ok", title, "%s: %s" % (T.kind_of(e), e))]
-    return [("ok", title, "")]
+    title = "%s: nothing that runs or is read is writable, and each exported function is known" % path
+    return result(title, missing(path), lambda: mutations.look(programs.read(path)))
 
 
 def has_library(compiler: str) -> bool:
@@ -170,53 +170,28 @@ def not_runnable(path: str) -> Any:
     return needed.upper() if kind == "x86_64" and not has_flag(needed) else None
 
 
-def instructions(path: str) -> Any:
-    """The models of the instructions of a file, against the processor."""
-    title = "%s: the models of instructions agree with the processor" % path
-    missed = not_runnable(path)
-    if missed:
-        return [("skip", title, "no " + missed)]
-    is_wasm = functions.architecture(path) == "wasm"
-    check = check_wasm_instructions.check if is_wasm else check_instructions.check
-    verdict, why = check(path, 20 if HUGE in os.environ else 4)[:2]
-    return [(verdict, title, why)]
-
-
-def symbolic_model(path: str) -> Any:
-    """The model of the calls that are executed over variables, against the processor."""
-    title = "%s: the model of whole calls agrees with the processor" % path
-    missed = not_runnable(path)
-    if missed:
-        return [("skip", title, "no " + missed)]
-    verdict, why, _ = check_symbolic.run(path, 12 if HUGE in os.environ else 4)
-    return [(verdict, title, why)]
-
-
-def public_bytes(path: str) -> Any:
-    """What the abstract machine of whole calls says of each instruction, against the processor."""
-    title = "%s: what whole calls take for public is so on the processor" % path
-    missed = not_runnable(path)
-    if missed:
-        return [("skip", title, "no " + missed)]
-    verdict, why, _ = check_taint.run(path, 10 if HUGE in os.environ else 2)
-    return [(verdict, title, why)]
+def instructions(path: str, user: str) -> Any:
+    """The model of the instructions of a file that are executed for a user of forms.txt."""
+    rounds, is_wasm = ROUNDS[user][HUGE in os.environ], functions.architecture(path) == "wasm"
+    return result("%s: the model of instructions %s agrees with the processor" % (path, USERS[user]),
+                  not_runnable(path), lambda: check_wasm_instructions.check(path, rounds) if is_wasm else
+                  check_instructions.check(path, user, rounds)[:2])
 
 
 def write_forms() -> int:
     """Writes the forms of instructions that the tests of all files run. Returns the status."""
     os.environ[forms.WRITES] = "1"
     found: set = set()
-    for path in functions.FILES:
-        if functions.architecture(path) != "wasm":
-            tests: list = [check_instructions.check, check_symbolic.run]
-            tests += [check_taint.run] * (path not in constant_time.NOT_FOLLOWED)
-            for test in tests:
-                missed = not_runnable(path)
-                verdict, why, run = ("not ok", "no " + missed, None) if missed else test(path, 4)
-                if verdict != "ok":
-                    print("check.py: %s: %s" % (path, why), file=sys.stderr)
-                    return 1
-                found |= run
+    for path in [p for p in functions.FILES if functions.architecture(p) != "wasm"]:
+        for user in [u for u in USERS if u != "T" or path not in constant_time.NOT_FOLLOWED]:
+            def show() -> tuple:
+                verdict, why, run = check_instructions.check(path, user, 4)
+                found.update(run)
+                return verdict, why
+            (verdict, _, why), = result(path, not_runnable(path), show)
+            if verdict != "ok":
+                print("check.py: %s: %s" % (path, why), file=sys.stderr)
+                return 1
     forms.write(found)
     return 0
 
@@ -224,16 +199,17 @@ def write_forms() -> int:
 def table_of_forms(kind: str) -> Any:
     """That each form of the table is one of a shipped file, whose tests run it."""
     paths = [p for p in functions.FILES if functions.architecture(p) == kind]
-    title = "each form of an instruction for %s is run" % kind
-    gone = next(filter(None, map(missing, paths)), None)
-    if gone:
-        return [("skip", title, "no " + gone)]
-    used: set = set()
-    for program in map(programs.read, paths):
-        for user, names in check_symbolic.executed(program):
-            used |= {(kind, user, forms.form(kind, text)) for name in names for text in program.texts(name)}
-    extra = sorted(f for f in forms.known() if f[0] == kind and f not in used)
-    return [("not ok" if extra else "ok", title, " ".join(extra[0]) if extra else "")]
+
+    def show() -> tuple:
+        used: set = set()
+        for program in map(programs.read, paths):
+            for user in USERS:
+                names = check_instructions.executed(program, user)
+                used |= {(kind, user, forms.form(kind, text)) for name in names for text in program.texts(name)}
+        extra = sorted(f for f in forms.known() if f[0] == kind and f not in used)
+        return "not ok" if extra else "ok", " ".join(extra[0]) if extra else ""
+    return result("each form of an instruction for %s is run" % kind,
+                  next(filter(None, map(missing, paths)), None), show)
 
 
 def has_flag(name: str) -> bool:
@@ -244,11 +220,8 @@ def has_flag(name: str) -> bool:
 
 def whole(path: str) -> Any:
     """Whole functions of a file in the model, against hashlib."""
-    title = "%s: whole functions in the model agree with hashlib" % path
-    if missing(path):
-        return [("skip", title, "no " + missing(path))]
-    verdict, why = check_digests.check(path, 5)
-    return [(verdict, title, why)]
+    return result("%s: whole functions in the model agree with hashlib" % path, missing(path),
+                  lambda: check_digests.check(path, 5))
 
 
 def is_whole(path: str, entry: tuple) -> bool:
@@ -261,40 +234,27 @@ def is_whole(path: str, entry: tuple) -> bool:
 def follow(path: str, family: str, left_out: tuple = ()) -> Any:
     """That whole calls of a family's functions do not depend on secrets, except some, and those that are
     shown whole."""
+    entries = [] if missing(path) else [
+        e for e in constant_time.exports(programs.read(path)) if e[2] in FOLLOWED[family]
+        and e[0] not in left_out and not is_whole(path, e)]
+
+    def show() -> str:
+        found = [constant_time.follow(programs.read(path), entry) for entry in entries]
+        reached = [f.reached for f in found if f is not None]
+        return "%d functions, which reach %d instructions besides those that compress" % (
+            len(reached), len(set().union(*reached)))
     title = "%s: no branch and no address of a call depends on a secret: %s" % (path, family)
-    if missing(path):
-        return [("skip", title, "no " + missing(path))]
-    program, count = programs.read(path), 0
-    reached: set = set()
-    entries = [e for e in constant_time.exports(program) if e[2] in FOLLOWED[family]
-               and e[0] not in left_out and not is_whole(path, e)]
-    for entry in entries:
-        try:
-            found = constant_time.follow(program, entry)
-        except T.Refused as e:
-            return [("not ok", title, "%s: %s" % (T.kind_of(e), e))]
-        if found is None:
-            continue
-        count, reached = count + 1, reached | found.reached
-    return [("ok", title, "%d functions, which reach %d instructions besides those that compress"
-             % (count, len(reached)))] if entries else []
+    return result(title, missing(path), show) if entries or missing(path) else []
 
 
 def write_and_return(path: str, family: str, exports: Any, *numbers: Any) -> Any:
     """That whole calls of some functions of a family write and return what they must."""
-    title = "%s: what calls of %s write and return: %s" % (
-        path, families.TITLES[family], " ".join(e.lstrip("_") or "in one" for e in exports))
-    gone = missing(path) or without_solver()
-    if gone:
-        return [("skip", title, "no " + gone)]
-    cases = paths = 0
-    try:
-        for export in exports:
-            found = families.cases(programs.read(path), family, *numbers).show(export)
-            cases, paths = cases + found[0], paths + found[1]
-    except T.Refused as e:
-        return [("not ok", title, "%s: %s" % (T.kind_of(e), e))]
-    return [("ok", title, "%d cases, %d paths" % (cases, paths))]
+    def show() -> str:
+        found = [families.cases(programs.read(path), family, *numbers).show(export) for export in exports]
+        return "%d cases, %d paths" % tuple(map(sum, zip(*found)))
+    return result("%s: what calls of %s write and return: %s" % (
+        path, families.TITLES[family], " ".join(e.lstrip("_") or "in one" for e in exports)),
+        missing(path) or without_solver(), show)
 
 
 def parts_of_calls(path: str, is_short: bool, has_all: bool) -> Iterator:
@@ -316,63 +276,52 @@ def parts_of_calls(path: str, is_short: bool, has_all: bool) -> Iterator:
 
 def specification() -> Any:
     """The specification of whole calls, over numbers."""
-    count = 400 if HUGE in os.environ else 10
-    verdict, why = check_specification.check(count)
-    return [(verdict, "the specification of whole calls agrees with hashlib", why)]
+    return result("the specification of whole calls agrees with hashlib", None,
+                  lambda: check_specification.check(400 if HUGE in os.environ else 10))
 
 
 def contracts() -> Any:
     """The specification of whole calls, and the library."""
-    title = "the specification of whole calls agrees with the library"
-    gone = missing(check_contracts.PATH) or not_runnable(check_contracts.PATH)
-    if gone or platform.machine() != "x86_64":
-        return [("skip", title, "no %s" % (gone or "x86-64"))]
-    verdict, why = check_contracts.check(300 if HUGE in os.environ else 12)
-    return [(verdict, title, why)]
+    gone = missing(check_contracts.PATH) or not_runnable(check_contracts.PATH) or (
+        None if platform.machine() == "x86_64" else "x86-64")
+    return result("the specification of whole calls agrees with the library", gone,
+                  lambda: check_contracts.check(300 if HUGE in os.environ else 12))
 
 
 def numbers_in_ranges() -> Any:
     """The ranges of the machines that follow secrets, over numbers."""
-    verdict, why = check_ranges.check(2000 if HUGE in os.environ else 100)
-    return [(verdict, "the ranges of words that are followed have their numbers", why)]
+    return result("the ranges of words that are followed have their numbers", None,
+                  lambda: check_ranges.check(2000 if HUGE in os.environ else 100))
 
 
 def numbers_decided(seed: int) -> Any:
     """What the machines of whole calls decide, over numbers."""
-    title = "comparisons of whole calls are decided right"
-    if without_solver():
-        return [("skip", title, "no " + str(without_solver()))]
-    verdict, why = check_decisions.check(seed, 25000 if HUGE in os.environ else 500)
-    return [(verdict, title, why)]
+    return result("comparisons of whole calls are decided right", without_solver(),
+                  lambda: check_decisions.check(seed, 25000 if HUGE in os.environ else 500))
 
 
 def scrub(path: str) -> Any:
     """That each scrub_stack of a file overwrites its bytes."""
-    title = "%s: scrub_stack overwrites its bytes" % path
-    if missing(path):
-        return [("skip", title, "no " + missing(path))]
-    program = programs.read(path)
-    found = functions.scrubs(program)
-    try:
+    def show() -> str:
+        found = functions.scrubs(programs.read(path))
+        if not found:
+            raise T.CannotShow("there is no such function: see functions.py")
         for name, count in found.items():
-            scrub_stack.show(program, name, count)
-    except T.Refused as e:
-        return [("not ok", title, "%s: %s: %s" % (T.kind_of(e), name, e))]
-    if not found:
-        return [("not ok", title, "cannot show: there is no such function: see functions.py")]
-    return [("ok", title, "of %s bytes" % ", ".join(map(str, sorted(found.values()))))]
+            scrub_stack.show(programs.read(path), name, count)
+        return "of %s bytes" % ", ".join(map(str, sorted(found.values())))
+    return result("%s: scrub_stack overwrites its bytes" % path, missing(path), show)
 
 
 def types() -> Any:
     """The type hints of the tool, and what mypy infers from them."""
-    title = "the types of tests/machine"
-    if not shutil.which("mypy"):
-        return [("skip", title, "no mypy")]
     files = sorted(os.path.join(HERE, name) for name in os.listdir(HERE) if name.endswith(".py"))
-    run = subprocess.run(["mypy", "--disallow-untyped-defs", "--check-untyped-defs",
-                          "--ignore-missing-imports", "--cache-dir=" + os.devnull] + files,
-                         stdout=subprocess.PIPE, text=True)
-    return [("not ok" if run.returncode else "ok", title, run.stdout.strip().split("\n")[-1])]
+
+    def show() -> tuple:
+        run = subprocess.run(["mypy", "--disallow-untyped-defs", "--check-untyped-defs",
+                              "--ignore-missing-imports", "--cache-dir=" + os.devnull] + files,
+                             stdout=subprocess.PIPE, text=True)
+        return "not ok" if run.returncode else "ok", run.stdout.strip().split("\n")[-1]
+    return result("the types of tests/machine", None if shutil.which("mypy") else "mypy", show)
 
 
 def rules(width: int) -> Any:
@@ -419,11 +368,9 @@ def jobs(arguments: list) -> Any:
         found[:0] = [(numbers_decided, (seed,)) for seed in range(1 if is_short else 4)]
         found[:0] = [(rules, (width,)) for width in (64, 32, 16, 8)
                      if width in SHORT_WIDTHS or not is_short]
-        found += [(instructions, (path,)) for path in functions.FILES
-                  if path in SHORT or not is_short]
-        found += [(public_bytes, (path,)) for path in followed if path == SHORT[1] or not is_short]
-        found += [(symbolic_model, (path,)) for path in libraries
-                  if path == SHORT[0] or not is_short]
+        found += [(instructions, (path, user)) for user, paths, few in (
+            ("F", functions.FILES, SHORT), ("T", followed, SHORT[1:2]), ("W", libraries, SHORT[:1]))
+                  for path in paths if path in few or not is_short]
         found += [(planted, (change,)) for change in mutations.OF_THE_TOOL
                   if not is_short or change not in LONG_CHANGES]
     if not arguments and HUGE in os.environ:

@@ -106,7 +106,8 @@ def check(kind: str, user: str, text: str) -> None:
     """Refuses an instruction of a form that a model has not been tried with."""
     found = form(kind, text)
     if not CONTROL[kind].fullmatch(found) and (kind, user, found) not in known():
-        raise CannotShow("the form of %s was not run on the processor: %s" % (" ".join(text.split()), found))
+        raise CannotShow("the form of %s was not run on the processor: %s: run tests/machine/check.py --forms"
+                         % (" ".join(text.split()), found))
 
 
 def compare(kind: str, user: str, used: set, run: set) -> str | None:

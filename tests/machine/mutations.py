@@ -11,8 +11,7 @@ import call_cases
 import check_contracts
 import check_ranges
 import check_specification
-import check_symbolic
-import check_taint
+import check_instructions
 import compression
 import constant_time
 import families
@@ -162,13 +161,18 @@ def look(program: programs.Program, _: Any = None) -> None:
         program.code(name)
 
 
-def _on_arm(entry: tuple) -> Any:
-    """The verdict on a function of the library for ARM, which takes the least time."""
+def _refusal(f: Callable) -> str | None:
+    """What f() refuses, as text, or None."""
     try:
-        compression.show(programs.Program(SHORT["arm"]), *entry)
+        f()
     except T.Refused as e:
         return "%s: %s" % (type(e).__name__, e)
     return None
+
+
+def _on_arm(entry: tuple) -> str | None:
+    """The verdict on a function of the library for ARM, which takes the least time."""
+    return _refusal(lambda: compression.show(programs.Program(SHORT["arm"]), *entry))
 
 
 def _with(owner: Any, name: str, value: Callable | dict, f: Callable) -> Any:
@@ -218,7 +222,7 @@ def wrong_rule() -> Any:
 def secret_forgotten() -> Any:
     """Operations whose result does not depend on their operands, for whole calls."""
     verdict, why = _with(constant_time.Taint, "mixed", lambda self, data: constant_time.unknown(),
-                         lambda: check_taint.run(SHORT["arm"], 2)[:2])
+                         lambda: check_instructions.check(SHORT["arm"], "T", 2)[:2])
     return _seen("an operation that forgets secrets fails", verdict == "not ok" and why)
 
 
@@ -227,7 +231,7 @@ def carry_forgotten() -> Any:
     count = lambda self, to, step: self.arithmetic(
         "other", lambda a, b: T.add(a.w, (1, a), (step, b)), to, programs.x86.ONE)
     verdict, why = _with(programs.x86.X86, "add_and_keep_carry", count,
-                         lambda: check_taint.run(SHORT["v3"], 2)[:2])
+                         lambda: check_instructions.check(SHORT["v3"], "T", 2)[:2])
     return _seen("a carry that inc sets fails", verdict == "not ok" and why)
 
 
@@ -249,11 +253,12 @@ def step_forgotten() -> Any:
 
 def form_not_run() -> Any:
     """A test of the models that leaves out the instructions of a form."""
-    right = check_taint.chosen
-    def less(program: Any, count: int, rng: Any, names: Any = None) -> tuple:
-        used, tests = right(program, count, rng, names)
+    right = check_instructions.chosen
+    def less(*arguments: Any) -> tuple:
+        used, tests = right(*arguments)
         return used, [t for t in tests if not t[0].startswith("ubfiz")]
-    verdict, why = _with(check_taint, "chosen", less, lambda: check_symbolic.run(SHORT["arm"], 1)[:2])
+    verdict, why = _with(check_instructions, "chosen", less,
+                         lambda: check_instructions.check(SHORT["arm"], "W", 1)[:2])
     return _seen("a form that is not run is noticed", verdict == "not ok" and why)
 
 
@@ -294,11 +299,7 @@ def wrong_choice() -> Any:
     f = lambda machine, j, n, a, b: symbolic.choice(j, n, b, a)
     program = programs.read(SHORT["arm"])
 
-    def show() -> Any:
-        try:
-            return call_cases.Cases(program, "blake2s").show("_final") and None
-        except T.Refused as e:
-            return str(e)
+    show = lambda: _refusal(lambda: call_cases.Cases(program, "blake2s").show("_final"))
     return _seen("a copy that chooses the wrong bytes fails", _with(symbolic, "below", f, show))
 
 
@@ -306,11 +307,7 @@ def call_left_out() -> list:
     """A table of exported functions that has one less."""
     less = {k: v for k, v in constant_time.EXPORTS.items() if k != "_update"}
 
-    def names() -> Any:
-        try:
-            return list(constant_time.exports(programs.Program(SHORT["arm"]))) and None
-        except T.CannotShow as e:
-            return str(e)
+    names = lambda: _refusal(lambda: list(constant_time.exports(programs.Program(SHORT["arm"]))))
     return _seen("an exported function left out of its table is found",
                  _with(constant_time, "EXPORTS", less, names))
 
@@ -321,11 +318,7 @@ def name_changed() -> list:
     final = next(e for e in constant_time.exports(program) if e[0] == "vulfsjor_ffi_blake2s_final")
     other = {**constant_time.CALLED, "_final": "blake2_ffi..%s..zeroed"}
 
-    def show() -> Any:
-        try:
-            return constant_time.show(program, *final) and None
-        except T.CannotShow as e:
-            return str(e)
+    show = lambda: _refusal(lambda: constant_time.show(program, *final))
     return _seen("a claim about a function that is not called is noticed",
                  _with(constant_time, "CALLED", other, show))
 

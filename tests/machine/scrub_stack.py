@@ -59,6 +59,6 @@ def show(program: programs.Program, name: str, count: int) -> None:
     try:
         calls.run(name, m)
     except T.Refused as e:
-        raise type(e)("at %s: %s" % (calls.at and " ".join(calls.at.text.split()) or "the entry", e))
+        raise type(e)("%s: at %s: %s" % (name, calls.at and " ".join(calls.at.text.split()) or "the entry", e))
     if not calls.is_settled:
         raise IsWrong("settle is not called")

@@ -121,7 +121,7 @@ class Instruction:
 
 def unknown(i: Any) -> Any:
     return CannotShow("the instruction %s is not modelled: add it to tests/machine/x86.py, and run "
-                      "tests/machine/check.py --long" % i.text)
+                      "tests/machine/check.py --forms" % i.text)
 
 
 # Operations on vectors. Each takes sources of L bytes and perhaps a number, and returns L bytes.
