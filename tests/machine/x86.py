@@ -720,82 +720,60 @@ class X86(Processor):
             parts.append(old[k] if bit == 0 else chosen(bit, self.values.load(at, n), old[k]))
         self.write(to, joined(parts), True)
 
-    # Vectors. Each method returns whether it knows this form of its instruction.
+    # Vectors.
 
     def vector_step(self, i: Instruction) -> None:
         vex = i.name.startswith("v")
         name, ops, imm = i.name[vex:], i.operands, []
         if ops and ops[-1].kind == "number":
             ops, imm = ops[:-1], [ops[-1].value]
-        for table, method in (
-                (MOVES, self.move), (("movq", "movd"), self.move_word), (LOW_MOVES, self.move_low),
-                (BROADCASTS, self.broadcast), (UNARY, self.unary), (SHIFTS, self.shift),
-                (("psrldq",), self.shift_bytes), (BITWISE, self.bitwise), (BINARY, self.binary),
-                (INSERTS, self.insert), (BLENDS, self.blend), (EXTENSIONS, self.extend),
-                (ROTATIONS, self.rotate), (TERNARY, self.ternary), (PERMUTATIONS, self.permute),
-                (EXTRACTS, self.extract), (WORD_EXTRACTS, self.extract_word),
-                (("pmovqd",), self.truncate), (("ptest",), self.test_bits)):
-            if name in table and len(ops) > 1 - (method in (self.shift, self.shift_bytes)) and (
-                    not any(o.mask is not None or o.kind == "mask" for o in ops)
-                    and method(name, ops, imm, vex)):
-                return
-        raise unknown(i)
+        found = next((row for row in VECTOR_FORMS if name in row[0]), None)
+        if not found or any(o.mask is not None or o.kind == "mask" for o in ops) or (
+                len(ops) not in found[2 + vex] or len(imm) not in found[4]):
+            raise unknown(i)
+        method: Callable = getattr(self, found[1])
+        data = method(name, ops, *imm, vex=vex)
+        if data is not None:
+            self.write(ops[0], data, vex, name in MOVES and MOVES[name])
 
-    def move(self, name: str, ops: list, imm: list, vex: bool) -> bool:
-        if len(ops) != 2 or imm:
-            return False
-        data = self.read(ops[1], aligned=MOVES[name])
-        self.write(ops[0], data, vex, aligned=MOVES[name])
-        return True
+    # Each of the following returns what is written to the first operand, or None if it has done that.
 
-    def move_word(self, name: str, ops: list, imm: list, vex: bool) -> bool:
-        if len(ops) != 2 or imm:
-            return False
+    def move(self, name: str, ops: list, vex: bool) -> list:
+        return self.read(ops[1], aligned=MOVES[name])
+
+    def move_word(self, name: str, ops: list, vex: bool) -> list:
         n = 8 if name == "movq" else 4
-        data = self.read(ops[1], n)[:n]
-        self.write(ops[0], data + [0] * (16 - n) if ops[0].kind == "vector" else data, vex)
-        return True
+        return self.read(ops[1], n)[:n] + [0] * ((16 - n) * (ops[0].kind == "vector"))
 
-    def move_low(self, name: str, ops: list, imm: list, vex: bool) -> bool:
+    def move_low(self, name: str, ops: list, vex: bool) -> list:
         """A move of the lowest bytes of a vector."""
-        n, is_store = LOW_MOVES[name], ops[0].kind == "memory"
-        if imm or name == "movlps" and not is_store:
-            return False
-        if is_store:
-            self.write(ops[0], self.read(ops[1])[:n])
-        elif ops[-1].kind == "memory":
-            self.write(ops[0], self.read(ops[1], n)[:n] + [0] * (16 - n), vex)
-        else:
-            self.write(ops[0], self.read(ops[-1])[:n] + self.read(ops[-2])[n:16], vex)
-        return True
+        n = LOW_MOVES[name]
+        if ops[0].kind == "memory":
+            return self.read(ops[1])[:n]
+        if name == "movlps":
+            raise CannotShow("a load by movlps is not modelled")
+        if ops[-1].kind == "memory":
+            return self.read(ops[1], n)[:n] + [0] * (16 - n)
+        return self.read(ops[-1])[:n] + self.read(ops[-2])[n:16]
 
-    def broadcast(self, name: str, ops: list, imm: list, vex: bool) -> bool:
-        if len(ops) != 2 or imm or not vex:
-            return False
+    def broadcast(self, name: str, ops: list, vex: bool) -> list:
         n = BROADCASTS[name]
-        self.write(ops[0], self.read(ops[1], n)[:n] * (ops[0].size // n), vex)
-        return True
+        return self.read(ops[1], n)[:n] * (ops[0].size // n)
 
-    def unary(self, name: str, ops: list, imm: list, vex: bool) -> bool:
-        if len(ops) != 2 or len(imm) != 1 or ops[1].is_broadcast:
-            return False
-        self.write(ops[0], UNARY[name](self.read(ops[1], aligned=not vex), *imm), vex)
-        return True
+    def unary(self, name: str, ops: list, imm: int, vex: bool) -> list:
+        if ops[1].is_broadcast:
+            raise CannotShow("a broadcast is not modelled in %s" % name)
+        return UNARY[name](self.read(ops[1], aligned=not vex), imm)
 
-    def shift(self, name: str, ops: list, imm: list, vex: bool) -> bool:
+    def shift(self, name: str, ops: list, imm: int, vex: bool) -> list:
         f, n = SHIFTS[name]
-        if len(ops) != 1 + vex or len(imm) != 1 or not 0 < imm[0] < 8 * n:
-            return False
-        self.write(ops[0], self.values.vector_of(
-            lambda a: lanewise(lambda t: f(8 * n, t, imm[0]), n, a), self.read(ops[-1])), vex)
-        return True
+        if not 0 < imm < 8 * n:
+            raise CannotShow("a shift by %d is not modelled" % imm)
+        return self.values.vector_of(lambda a: lanewise(lambda t: f(8 * n, t, imm), n, a), self.read(ops[-1]))
 
-    def shift_bytes(self, name: str, ops: list, imm: list, vex: bool) -> bool:
-        if len(ops) != 1 + vex or len(imm) != 1:
-            return False
+    def shift_bytes(self, name: str, ops: list, imm: int, vex: bool) -> list:
         parts = chunks(self.read(ops[vex]), 16)
-        self.write(ops[0], joined((p + [0] * 16)[min(imm[0], 16):][:16] for p in parts), vex)
-        return True
+        return joined((p + [0] * 16)[min(imm, 16):][:16] for p in parts)
 
     def sources(self, name: str, ops: list, vex: bool) -> tuple:
         """Both operands of an operation on vectors. Those of 16 bytes in memory must be aligned in the
@@ -806,111 +784,90 @@ class X86(Processor):
         aligned = not vex and not (name == "insertps" and ops[-1].kind == "memory")
         return self.read(ops[vex]), self.read(ops[-1], n, aligned)
 
-    def bitwise(self, name: str, ops: list, imm: list, vex: bool) -> bool:
-        if len(ops) != 2 + vex or imm:
-            return False
+    def bitwise(self, name: str, ops: list, vex: bool) -> list:
         if BITWISE[name] == "xor" and same(ops[vex], ops[-1]):
-            self.write(ops[0], [0] * ops[0].size, vex)
-        else:
-            self.write(ops[0], self.values.combined(BITWISE[name], *self.sources(name, ops, vex)), vex)
-        return True
+            return [0] * ops[0].size
+        return self.values.combined(BITWISE[name], *self.sources(name, ops, vex))
 
-    def binary(self, name: str, ops: list, imm: list, vex: bool) -> bool:
-        if len(ops) != 2 + vex or name == "movlhps" and ops[-1].kind != "vector":
-            return False
+    def binary(self, name: str, ops: list, *imm: int, vex: bool) -> list:
         a, b = self.sources(name, ops, vex)
         f = lambda x, y: BINARY[name](x, y, *imm)
         computes = name in COMPUTES or name in INDEXED and not all(isinstance(x, int) for x in a)
         result = self.values.vector_of(f, a, b) if computes else f(a, b)
-        if len(result) != ops[0].size:
-            return False
-        self.write(ops[0], result, vex)
-        return True
+        if len(result) != ops[0].size or name == "movlhps" and ops[-1].kind != "vector":
+            raise CannotShow("the operands of %s are not modelled" % name)
+        return result
 
-    def rotate(self, name: str, ops: list, imm: list, vex: bool) -> bool:
+    def rotate(self, name: str, ops: list, imm: int, vex: bool) -> list:
         n, sign = ROTATIONS[name]
-        if len(ops) != 2 or len(imm) != 1 or not vex:
-            return False
-        self.write(ops[0], self.values.vector_of(lambda a: lanewise(
-            lambda t: T.ror(8 * n, t, sign * imm[0]), n, a), self.read(ops[1], ops[0].size)), vex)
-        return True
+        return self.values.vector_of(lambda a: lanewise(lambda t: T.ror(8 * n, t, sign * imm), n, a),
+                                     self.read(ops[1], ops[0].size))
 
-    def ternary(self, name: str, ops: list, imm: list, vex: bool) -> bool:
-        if len(ops) != 3 or len(imm) != 1 or not vex:
-            return False
+    def ternary(self, name: str, ops: list, imm: int, vex: bool) -> list:
         a, b, c = (self.read(o, ops[0].size) for o in ops)
-        if imm[0] in (OR_OF_XOR, OR_OF_ALL):
-            b = self.values.combined("xor" if imm[0] == OR_OF_XOR else "or", b, c)
-            self.write(ops[0], self.values.combined("or", a, b), vex)
-        else:
-            self.write(ops[0], self.values.vector_of(lambda *data: ternary(*data, *imm), a, b, c), vex)
-        return True
+        if imm in (OR_OF_XOR, OR_OF_ALL):
+            return self.values.combined("or", a, self.values.combined(
+                "xor" if imm == OR_OF_XOR else "or", b, c))
+        return self.values.vector_of(lambda x, y, z: ternary(x, y, z, imm), a, b, c)
 
-    def permute(self, name: str, ops: list, imm: list, vex: bool) -> bool:
+    def permute(self, name: str, ops: list, vex: bool) -> list:
         n, has_indices = PERMUTATIONS[name]
-        if len(ops) != 3 or imm or not vex:
-            return False
         first, second, third = [self.read(o, ops[0].size) for o in ops]
         indices, data = (first, second + third) if has_indices else (second, first + third)
-        self.write(ops[0], permute_words(n)(indices, data), vex)
-        return True
+        return permute_words(n)(indices, data)
 
-    def extract(self, name: str, ops: list, imm: list, vex: bool) -> bool:
-        n = EXTRACTS[name]
-        if len(ops) != 2 or len(imm) != 1 or not vex:
-            return False
-        parts = chunks(self.read(ops[1]), n)
-        self.write(ops[0], parts[imm[0] & len(parts) - 1], vex)
-        return True
+    def extract(self, name: str, ops: list, imm: int, vex: bool) -> list:
+        parts = chunks(self.read(ops[1]), EXTRACTS[name])
+        return parts[imm & len(parts) - 1]
 
-    def extract_word(self, name: str, ops: list, imm: list, vex: bool) -> bool:
+    def extract_word(self, name: str, ops: list, imm: int, vex: bool) -> list:
         n = WORD_EXTRACTS[name]
-        if len(ops) != 2 or len(imm) != 1:
-            return False
-        data = chunks(self.read(ops[1]), n)[imm[0] % (16 // n)]
-        self.write(ops[0], data + [0] * ((ops[0].size if ops[0].kind == "general" else n) - n))
-        return True
+        data = chunks(self.read(ops[1]), n)[imm % (16 // n)]
+        return data + [0] * ((ops[0].size if ops[0].kind == "general" else n) - n)
 
-    def truncate(self, name: str, ops: list, imm: list, vex: bool) -> bool:
-        if len(ops) != 2 or imm or not vex or ops[0].kind != "vector":
-            return False
+    def truncate(self, name: str, ops: list, vex: bool) -> list:
+        if ops[0].kind != "vector":
+            raise CannotShow("a store by %s is not modelled" % name)
         data = joined(part[:4] for part in chunks(self.read(ops[1]), 8))
-        self.write(ops[0], (data + [0] * 8)[:max(len(data), 16)], True)
-        return True
+        return (data + [0] * 8)[:max(len(data), 16)]
 
-    def insert(self, name: str, ops: list, imm: list, vex: bool) -> bool:
-        if len(ops) != 2 + vex or len(imm) != 1:
-            return False
+    def insert(self, name: str, ops: list, imm: int, vex: bool) -> list:
         n = INSERTS[name]
         parts = chunks(list(self.read(ops[vex])), n)
-        parts[imm[0] % len(parts)] = self.read(ops[-1], n)[:n]
-        self.write(ops[0], joined(parts), vex)
-        return True
+        parts[imm % len(parts)] = self.read(ops[-1], n)[:n]
+        return joined(parts)
 
-    def blend(self, name: str, ops: list, imm: list, vex: bool) -> bool:
-        if imm or not (len(ops) == 2 and not vex or len(ops) == 3 + vex):
-            return False
+    def blend(self, name: str, ops: list, vex: bool) -> list:
         mask = self.read(ops[-1]) if len(ops) == 3 + vex else self.values.vector[0][:16]
         a, b = self.read(ops[vex]), self.read(ops[1 + vex], aligned=not vex)
-        self.write(ops[0], self.values.vector_of(blend_by_sign(BLENDS[name]), a, b, mask), vex)
-        return True
+        return self.values.vector_of(blend_by_sign(BLENDS[name]), a, b, mask)
 
-    def extend(self, name: str, ops: list, imm: list, vex: bool) -> bool:
+    def extend(self, name: str, ops: list, vex: bool) -> list:
         size, n, f = EXTENSIONS[name]
-        if len(ops) != 2 or imm:
-            return False
         count = ops[0].size * size // n
         data = (self.read(ops[1], count)[:count] + [0] * ops[0].size)[:ops[0].size]
         whole = lambda a: joined(f(part) for part in chunks(a[:count], size))
-        self.write(ops[0], self.values.vector_of(whole, data) if name == "pmovsxdq" else whole(data), vex)
-        return True
+        return self.values.vector_of(whole, data) if name == "pmovsxdq" else whole(data)
 
-    def test_bits(self, name: str, ops: list, imm: list, vex: bool) -> bool:
+    def test_bits(self, name: str, ops: list, vex: bool) -> None:
         """The flags of an and of two vectors. The carry is not as after an and of words."""
-        if len(ops) != 2 or imm:
-            return False
         self.values.test(self.read(ops[0]), self.read(ops[1], 16, not vex))
-        return True
+
+
+# The instructions on vectors by the methods that execute them: how many operands each has, besides a
+# number, in the old encodings and in the new ones, whose names begin with v; and how many numbers.
+NO, ONE_NUMBER, SOME = (0,), (1,), (0, 1)
+VECTOR_FORMS: tuple = (
+    (MOVES, "move", (2,), (2,), NO), (("movq", "movd"), "move_word", (2,), (2,), NO),
+    (LOW_MOVES, "move_low", (2,), (2, 3), NO), (BROADCASTS, "broadcast", (), (2,), NO),
+    (UNARY, "unary", (2,), (2,), ONE_NUMBER), (SHIFTS, "shift", (1,), (2,), ONE_NUMBER),
+    (("psrldq",), "shift_bytes", (1,), (2,), ONE_NUMBER), (BITWISE, "bitwise", (2,), (3,), NO),
+    (BINARY, "binary", (2,), (3,), SOME), (INSERTS, "insert", (2,), (3,), ONE_NUMBER),
+    (BLENDS, "blend", (2, 3), (4,), NO), (EXTENSIONS, "extend", (2,), (2,), NO),
+    (ROTATIONS, "rotate", (), (2,), ONE_NUMBER), (TERNARY, "ternary", (), (3,), ONE_NUMBER),
+    (PERMUTATIONS, "permute", (), (3,), NO), (EXTRACTS, "extract", (), (2,), ONE_NUMBER),
+    (WORD_EXTRACTS, "extract_word", (2,), (2,), ONE_NUMBER), (("pmovqd",), "truncate", (), (2,), NO),
+    (("ptest",), "test_bits", (2,), (2,), NO))
 
 
 def same(a: Operand, b: Operand) -> bool:
