@@ -113,6 +113,14 @@ class Values:
     def masked(self, a: T.Term, b: T.Term) -> Any:
         raise NotImplementedError
 
+    def anything(self, n: int) -> list:
+        """Public bytes of which nothing is known."""
+        raise CannotShow("a result of which nothing is known")
+
+    def test(self, a: list, b: list) -> None:
+        """Sets flags by an and of two vectors."""
+        raise CannotShow("the flags of an and of vectors are not modelled")
+
 
 class Words(Values):
     """Terms, in which each byte is exact. Of a branch, the condition must be assumed."""
@@ -125,8 +133,9 @@ class Words(Values):
         self.labels: list = []         # of the blocks of WebAssembly that are open
 
     def copy(self) -> Any:
-        """The same. The flags are unknown."""
+        """The same, to count from there. The flags are unknown."""
         other = super().copy()
+        other.counts = dict.fromkeys(self.counts, 0)
         other.flags, other.masks = None, [[None] * 64 for _ in range(8)]
         other.labels = list(self.labels)
         return other
