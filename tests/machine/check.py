@@ -61,14 +61,14 @@ FOLLOWED = {"BLAKE2b": ("blake2b",), "BLAKE2s": ("blake2s", "memcmp", "wipe"),
             "BLAKE2bp": ("blake2bp",), "BLAKE2sp": ("blake2sp",), "BLAKE2X": ("blake2xb", "blake2xs"),
             "trees": ("tree",)}
 # What there is without --long: one message in all files; each function of several messages in one of
-# these, by turns; each family of calls in one of the first two, and the tests of the models there;
-# rules of one width; and nothing that takes as long as all others.
+# these, by turns; each family of calls in one of the first two, but of BLAKE2Xs, which is written as
+# BLAKE2Xb, only secrets; the tests of the models there; rules of one width; and nothing that takes as
+# long as all others.
 SHORT = ("dist/x86_64/vulfsjor-v3.s", "dist/aarch64/vulfsjor.s", "js/src/wasm.js")
 SHORT_MANY = {entry: SHORT[k % 3] for k, entry in enumerate(
     entry for entry in functions.LIBRARY if entry[2] > 1)}
 SHORT_FOLLOWED = {part: SHORT[k % 2] for k, part in enumerate(FOLLOWED)}
-SHORT_WRITTEN = {"blake2b": SHORT[1], "blake2s": SHORT[0], "blake2xb": SHORT[0], "blake2xs": SHORT[1],
-                 "": SHORT[0]}
+SHORT_WRITTEN = {"blake2b": SHORT[1], "blake2s": SHORT[0], "blake2xb": SHORT[0], "": SHORT[0]}
 # The file in which --long shows all cases of BLAKE2X. In the others it shows some, and follows secrets.
 ALL_OF_X = SHORT[0]
 # The exports whose cases take long, which are parts of their own.
@@ -225,10 +225,12 @@ def whole(path: str) -> Any:
 
 
 def is_whole(path: str, entry: tuple) -> bool:
-    """Whether it is shown what a function's calls write, in all cases that are shown of any: constant
-    time is part of that."""
-    is_some = "x" in entry[2] and path != ALL_OF_X and HUGE in os.environ
-    return bool(facts.z3) and not is_some and entry[0] in families.names(programs.read(path))
+    """Whether it is shown what a function's calls write, in as many cases as of any: constant time is
+    part of that."""
+    name, _, family = entry
+    is_shown = path == ALL_OF_X or "x" not in family if HUGE in os.environ else (
+        family in SHORT_WRITTEN or family in families.ALONE)
+    return bool(facts.z3) and is_shown and name in families.names(programs.read(path))
 
 
 def follow(path: str, family: str, left_out: tuple = ()) -> Any:
@@ -263,7 +265,7 @@ def parts_of_calls(path: str, is_short: bool, has_all: bool) -> Iterator:
         exports = [] if missing(path) else families.exports(programs.read(path), family)
         is_some = "x" in family and path != ALL_OF_X and not has_all
         if is_short or is_some or not family:
-            if not is_short or path == SHORT_WRITTEN[family]:
+            if not is_short or path == SHORT_WRITTEN.get(family):
                 yield (path, family, exports) + families.some(family)
             continue
         pending = list(range(call_cases.KINDS[family].block + 1))
