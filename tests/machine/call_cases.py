@@ -299,17 +299,16 @@ class Cases:
         kind = self.kind
         for pending in self.pending:
             for amount in self.amounts(pending):
-                for node in ((0, 0), (1, MOST)):
-                    def case(setup: Setup) -> Callable:
-                        s = self.add_ready(setup, pending_length=(pending, pending), last_node=node)
-                        setup.reads_key = (s.counter, s.start_length),
-                        s = s.but(pending_length=pending)
-                        n, absorb = amount(setup)
-                        data = self.message(setup, n)
-                        hold(setup, S.is_counted(s.counter, pending, n))
-                        return lambda a: (0, absorb(a, s, data), [])
-                    case.__doc__ = "%d pending, last node %d" % (pending, node[0])
-                    yield case
+                def case(setup: Setup) -> Callable:
+                    s = self.add_ready(setup, pending_length=(pending, pending))
+                    setup.reads_key = (s.counter, s.start_length),
+                    s = s.but(pending_length=pending)
+                    n, absorb = amount(setup)
+                    data = self.message(setup, n)
+                    hold(setup, S.is_counted(s.counter, pending, n))
+                    return lambda a: (0, absorb(a, s, data), [])
+                case.__doc__ = "%d pending" % pending
+                yield case
 
         def refused(setup: Setup) -> Callable:
             """the count reaches 2^64"""
