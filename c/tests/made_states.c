@@ -44,7 +44,7 @@ static void check_refused_and_unchanged(state_t state) {
     do {                                                                        \
         state_t state = made;                                                   \
         change;                                                                 \
-        check_refused_and_unchanged(state);                                                           \
+        check_refused_and_unchanged(state);                                     \
     } while (0)
 
 #define PAST_32 ((uint64_t)1 << 32)

@@ -113,7 +113,7 @@ static void in_pieces(const state_t *made, unsigned cut) {
     BLAKE(wipe)(&state);
 }
 
-static void of_state(const state_t *made) {
+static void check_state(const state_t *made) {
     for (unsigned cut = 0; cut < 7; cut++) in_pieces(made, cut);
 }
 
@@ -126,12 +126,12 @@ static void output_case(size_t size) {
     require(!BLAKE(init_salt_personal)(&made, length, key_or_null(), key.length, salt.bytes,
                                        salt.length, persona.bytes, persona.length),
             "init_salt_personal is refused");
-    of_state(&made);
+    check_state(&made);
     if (salt.length + persona.length) return;
     require(key.length ? !BLAKE(init_key)(&made, length, key_or_null(), key.length)
                        : !BLAKE(init)(&made, length),
             "an init is refused");
-    of_state(&made);
+    check_state(&made);
     if (!size) return;
     one_call();
     require(!key.length || (!BLAKE(derive_key)(out, size, key_or_null(), key.length, message.bytes,
@@ -180,7 +180,7 @@ static void in_pieces(const state_t *made, unsigned cut) {
 }
 
 /* All that is done with a state that has absorbed nothing. */
-static void of_state(const state_t *made) {
+static void check_state(const state_t *made) {
     for (unsigned cut = 0; cut < 7; cut++) in_pieces(made, cut);
     for (int wrong = 0; wrong < 3; wrong++) {
         state_t state = *made;
@@ -228,7 +228,7 @@ static void hash_case(void) {
     require(!BLAKE(init_salt_personal)(&made, wanted.length, key_or_null(), key.length, salt.bytes,
                                        salt.length, persona.bytes, persona.length),
             "init_salt_personal is refused");
-    of_state(&made);
+    check_state(&made);
 #ifndef TEST_P
     check_many();
 #endif
@@ -238,7 +238,7 @@ static void hash_case(void) {
     if (key.length)
         require(!BLAKE(init_key)(&made, wanted.length, key_or_null(), key.length),
                 "init_key is refused");
-    of_state(&made);
+    check_state(&made);
 }
 #endif
 
@@ -265,7 +265,7 @@ static void node_case(const char *numbers) {
                               persona.bytes, persona.length, &tree),
             "init_tree is refused");
     require(!BLAKE(set_last_node)(&made, (int)last_node), "set_last_node is refused");
-    of_state(&made);
+    check_state(&made);
 }
 
 static void block_case(const char *digits, int last_node) {
@@ -279,7 +279,7 @@ static void block_case(const char *digits, int last_node) {
     mark_secret(&message);
     require(!BLAKE(init_param)(&made, &given), "init_param is refused");
     require(!BLAKE(set_last_node)(&made, last_node), "set_last_node is refused");
-    of_state(&made);
+    check_state(&made);
 }
 #endif
 
