@@ -5,7 +5,8 @@
  * Of every call it checks too: a refused call changes neither the state nor the output, a refused init and each end
  * leave zeros, nothing is written past an output, another length of an output is refused, a null state or output is
  * refused, _refused names the argument, the count grows by what was absorbed, all inits that have the arguments make
- * the same state, and a state without a key verifies nothing. A text is in an allocation of its length, and so is a state, for sanitizers.
+ * the same state, and a state without a key verifies nothing. A text is in an allocation of its
+ * length, and so is a state, for sanitizers.
  *
  *   cc -std=c99 -I FOLDER/include conformance.c ARCHIVE -o conformance     for BLAKE2b; the others as in family.h
  *   cc the same with -DTEST_T                                              for the tree of two levels */

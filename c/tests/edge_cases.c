@@ -291,7 +291,9 @@ static void verify_by_block(state_t state, size_t keylen) {
     other = state;
     CHECK(BLAKE(verify)(&state, wanted, MAX) == (keylen ? 0 : -1));
     if (keylen) CHECK(is_zero(&state, sizeof state));
-    else CHECK(SAME(state, other) && BLAKE(final)(&other, state.pending, MAX) == 0 && !memcmp(state.pending, wanted, MAX));
+    else
+        CHECK(SAME(state, other) && BLAKE(final)(&other, state.pending, MAX) == 0 &&
+              !memcmp(state.pending, wanted, MAX));
 }
 
 static void check_param_blocks(void) {
