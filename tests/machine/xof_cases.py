@@ -72,7 +72,7 @@ class Cases(C.Cases):
     def each(self, make: Callable, *choices: tuple) -> Iterator:
         """The cases of a function, with a length that is known or not, and each of some choices."""
         for pair in [(is_known, choice) for is_known in (True, False) for choice in choices or ((),)]:
-            def case(setup: Setup) -> Callable:
+            def case(setup: Setup, pair: tuple = pair) -> Callable:
                 return make(setup, pair[0], *pair[1])
             case.__doc__ = "ready, known length %s, %s" % pair
             yield case
