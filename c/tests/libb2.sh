@@ -8,7 +8,7 @@ beside=$prefix/lib/libvulfsjor-libb2.a
 names_of_libb2() {
     local family=$1
     shift
-    cc -std=c99 -g -O1 "${warnings[@]}" $(family_words "$family") -o "$work/libb2" \
+    cc -std=c99 -g $quick "${warnings[@]}" $(family_words "$family") -o "$work/libb2" \
         "$tests/libb2.c" "$@" &&
         "$work/libb2" "$cases/$family"
 }
@@ -17,7 +17,7 @@ names_of_libb2() {
 parallel_names_of_libb2() {
     local family=$1
     shift
-    cc -std=c99 -g -O1 "${warnings[@]}" $(family_words "$family") -o "$work/libb2_parallel" \
+    cc -std=c99 -g $quick "${warnings[@]}" $(family_words "$family") -o "$work/libb2_parallel" \
         "$tests/libb2_parallel.c" "$@" &&
         OMP_WAIT_POLICY=passive GOMP_SPINCOUNT=0 "$work/libb2_parallel" "$cases/$family"
 }
@@ -26,7 +26,7 @@ parallel_names_of_libb2() {
 # inner length, as in libb2.
 names_conform() {
     printf '%s\n' '#define VULFSJOR_LIBB2_FUNCTION' '#include <blake2.h>' >"$work/names.c" &&
-        cc -O1 -shared -fPIC -I"$libb2" "$work/names.c" "$archive" -o "$work/names.so" &&
+        cc $quick -shared -fPIC -I"$libb2" "$work/names.c" "$archive" -o "$work/names.so" &&
         "$top/tests/conformance/others.py" --libb2 "$work/names.so" "$conforming" >"$work/rows" &&
         diff "$work/rows" - <<'END'
 | libb2 | blake2b | 843 of 2545 | 10 refused-several, 2 refused-inner, 1 refused-depth |
@@ -141,7 +141,7 @@ int main(void) {
 }
 END
     for part in a b; do
-        cc -O1 -c "-DPART(x)=${part}_##x" "$work/part.c" -o "$work/part_$part.o" \
+        cc $quick -c "-DPART(x)=${part}_##x" "$work/part.c" -o "$work/part_$part.o" \
             $([ $part = b ] || echo "-I$libb2") || return 1
     done
     cc "$work/parts.c" "$work"/part_[ab].o "$beside" -o "$work/parts" &&
