@@ -319,6 +319,7 @@ test_cost() {
 }
 
 test_choosing() {
+    export CFLAGS=$quick # of the libraries that are made here
     needs nm readelf
     check "one list of functions" names_are_one
     check "the shared library's form" shared_library_is_right
