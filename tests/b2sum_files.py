@@ -159,9 +159,9 @@ def test_personal_text(runs):
                 runs.wants([*own, "-c", *words], "b: OK\n", data=os.fsencode(said))
             runs.wants([*own, "-c", "--personal-text", "other"], "b: FAILED\n",
                        "WARNING: 1 computed checksum did NOT match", 1, os.fsencode(said))
-    runs.wants(["-c", "--personal-text", "x"], "b: OK\n", unmet("no --personal"), 1,
+    runs.wants(["-c", "--personal-text", "x"], "b: OK\n", unmet_messages("no --personal"), 1,
                (line("b", b"abc", person=b"x") + line("a", b"", tag=True)).encode())
-    runs.wants(["-c"], "", unmet("--personal"), 1, line("b", b"abc", tag=True, person=b"x").encode())
+    runs.wants(["-c"], "", unmet_messages("--personal"), 1, line("b", b"abc", tag=True, person=b"x").encode())
     runs.ends("personalizations by text")
 
 
