@@ -6,7 +6,7 @@ import re
 from typing import Any, Callable
 
 import terms as T
-from machine import (Processor, bitwise, chunks, image, invert, joined, junk, lanewise, need_public, number)
+from machine import Processor, chunks, image, invert, joined, lanewise, need_public, number
 from terms import CannotShow, IsWrong
 
 SP, ZERO, LINK, PLATFORM = 31, 32, 30, 18
@@ -35,8 +35,8 @@ class Lanes:
 
 
 class Place:
-    """Memory at a base register plus an offset or another register, and when to add it: "at" the access
-    only, "before" or "after"."""
+    """Memory at a base register plus an offset or another register, and when to add it: "at" the
+    access only, "before" or "after"."""
 
     def __init__(self, base: Any, index: Any, offset: int, mode: str) -> None:
         self.kind, self.base, self.index, self.offset, self.mode = (
@@ -217,7 +217,8 @@ class Arm(Processor):
             if len(data) != o.size:
                 raise CannotShow("the result has not the size of its register")
             if o.index != ZERO:
-                self.values.general[o.index] = self.values.cleaned(list(data) + [0] * (8 - o.size), True)
+                self.values.general[o.index] = self.values.cleaned(
+                    list(data) + [0] * (8 - o.size), True)
             return
         data = self.values.cleaned(list(data), False)
         is_lane = o.kind == "lanes" and o.lane is not None
@@ -263,7 +264,8 @@ class Arm(Processor):
             if i.name.startswith("tb"):
                 at = i.operands[1].value
                 bit = T.const(8, 1 << at % 8)
-                data = self.quietly(self.values.masked, [self.values.norm(data[at // 8])], T.split(bit))
+                byte = self.values.norm(data[at // 8])
+                data = self.quietly(self.values.masked, [byte], T.split(bit))
             t = T.word(data)
             return "==" if i.name.endswith("bz") else "!=", t, T.const(t.w, 0)
         if i.name[2:] not in CONDITIONS or i.name[:2] != "b.":
@@ -280,7 +282,8 @@ class Arm(Processor):
         kind = name.rstrip("bh") if name.endswith(("rb", "rh")) else name
         if kind in LOADS + STORES:
             self.transfer(name, kind, ops)
-        elif not ops or not (self.words(name, ops) if ops[0].kind == "general" else self.vectors(name, ops)):
+        elif not ops or not (
+                self.words(name, ops) if ops[0].kind == "general" else self.vectors(name, ops)):
             raise unknown(i)
 
     def transfer(self, name: str, kind: str, ops: list) -> None:
@@ -294,7 +297,8 @@ class Arm(Processor):
         if kind in STORES:
             self.values.store(at, joined(data))
         else:
-            for r, part in zip(registers, chunks(self.values.load(at, size * len(registers)), size)):
+            parts = chunks(self.values.load(at, size * len(registers)), size)
+            for r, part in zip(registers, parts):
                 self.write(r, part + [0] * (r.size - size))
         self.move_base(ops[-1])
 
@@ -341,7 +345,8 @@ class Arm(Processor):
     def product(self, a: list, b: list, is_low: bool = True) -> list:
         """A product, whose time may depend on the operands."""
         need_public(T.word(a + b), "the time of a product")
-        return self.quietly(lambda x, y: T.add(x.w, (y.args, x)) if is_low and y.op == "const" else None, a, b)
+        return self.quietly(lambda x, y: T.add(x.w, (y.args, x)) if is_low and y.op == "const" else None,
+                            a, b)
 
     def compute(self, name: str, ops: list) -> bool:
         to, size, m = ops[0], ops[0].size, self.values
@@ -366,7 +371,8 @@ class Arm(Processor):
         elif name in ("mul", "umulh"):
             self.write(to, self.product(rest[0], rest[1], name == "mul"))
         elif name in ("madd", "msub"):
-            self.write(to, self.quietly(plus(1 if name == "madd" else -1), rest[2], self.product(rest[0], rest[1])))
+            self.write(to, self.quietly(plus(1 if name == "madd" else -1), rest[2],
+                                        self.product(rest[0], rest[1])))
         elif name not in table or name in ("lsl", "lsr", "ror") and not (
                 ops[2].kind == "number" and 0 < ops[2].value < w):
             return False
@@ -405,7 +411,8 @@ class Arm(Processor):
             return True
         a = self.read(ops[1], size)
         if name in ("cinc", "cinv"):
-            self.write(to, self.values.chosen(compared, more(a) if name == "cinc" else invert(a), a))
+            self.write(to, self.values.chosen(
+                compared, more(a) if name == "cinc" else invert(a), a))
         else:
             b = self.read(ops[2], size)
             self.write(to, self.values.chosen(compared, a, more(b) if name == "csinc" else b))
@@ -416,7 +423,8 @@ class Arm(Processor):
     def vectors(self, name: str, ops: list) -> bool:
         """Executes an instruction whose result is a vector, if it is one of these."""
         to, m = ops[0], self.values
-        data = [self.read(o, 8) for o in ops[1:] if o.kind in ("general", "vector", "lanes", "number")]
+        data = [self.read(o, 8) for o in ops[1:]
+                if o.kind in ("general", "vector", "lanes", "number")]
         n = getattr(to, "n", to.kind == "vector" and to.size)
         if name in ("ld1", "ld1r", "ld4"):
             return self.load_lanes(name, ops)
@@ -429,7 +437,8 @@ class Arm(Processor):
             self.write(to, [0] * to.size if is_zero else m.combined(BITWISE[name], *data))
         elif name in ("mov", "fmov", "dup"):
             is_lane = to.kind == "lanes" and to.lane is not None
-            self.write(to, data[0][:n] * (to.size // n) if name == "dup" else data[0][:n] if is_lane else data[0])
+            self.write(to, data[0][:n] * (to.size // n) if name == "dup" else
+                       data[0][:n] if is_lane else data[0])
         elif name == "movi":
             if len(ops) > 2 or ops[1].value and (n == 8 or not 0 <= ops[1].value < 256):
                 return False           # shifted, or all bits of each byte
@@ -464,7 +473,8 @@ class Arm(Processor):
         elif name == "uxtl":
             result = joined(p + [0] * len(p) for p in chunks(data[0], n // 2))
         elif name in ("rev64", "rev32") and n < int(name[3:]) // 8:
-            result = joined(joined(reversed(chunks(part, n))) for part in chunks(data[0], int(name[3:]) // 8))
+            result = joined(joined(reversed(chunks(part, n)))
+                            for part in chunks(data[0], int(name[3:]) // 8))
         else:
             return False
         self.write(ops[0], result)
@@ -501,7 +511,8 @@ class Arm(Processor):
             parts = chunks(self.values.load(self.place_of(ops[1]), 64), 8)
             self.move_base(ops[1])
             for k in range(4):
-                self.values.vector[int(m[1]) + k] = self.values.cleaned(parts[k] + parts[4 + k], False)
+                self.values.vector[int(m[1]) + k] = self.values.cleaned(
+                    parts[k] + parts[4 + k], False)
             return True
         data = self.values.load(self.place_of(ops[1]), to.n)
         self.move_base(ops[1])

@@ -69,13 +69,14 @@ SHORT_MANY = {entry: SHORT[k % 3] for k, entry in enumerate(
     entry for entry in functions.LIBRARY if entry[2] > 1)}
 SHORT_FOLLOWED = {part: SHORT[k % 2] for k, part in enumerate(FOLLOWED)}
 SHORT_WRITTEN = {"blake2b": SHORT[1], "blake2s": SHORT[0], "blake2xb": SHORT[0], "": SHORT[0]}
-# The file in which --long shows all cases of BLAKE2X. In the others it shows some, and follows secrets.
+# Where --long shows all cases of BLAKE2X. In other files it shows some, and follows secrets.
 ALL_OF_X = SHORT[0]
 # The exports whose cases take long, which are parts of their own.
 LONG_EXPORTS = ("_verify", "_squeeze", "_derive_key", "")
 SHORT_WIDTHS = (8,)
 # The users of forms.txt, and how often each instruction runs: without --long, and with it.
-USERS = {"F": "that compress", "T": "in which secrets are followed", "W": "that calls execute over variables"}
+USERS = {"F": "that compress", "T": "in which secrets are followed",
+         "W": "that calls execute over variables"}
 ROUNDS = {"F": (4, 20), "T": (2, 10), "W": (4, 12)}
 LONG_CALLS = ("vulfsjor_ffi_tree_root", "vulfsjor_ffi_tree_update_leaves")
 LONG_CHANGES = (mutations.secret_forgotten, mutations.carry_forgotten)
@@ -94,8 +95,8 @@ def without_solver() -> str | None:
 
 
 def result(title: str, gone: str | None, show: Callable) -> list:
-    """The result of a check: skipped if something is gone; show() returns what it says, refuses the code,
-    or returns a verdict and why."""
+    """The result of a check: skipped if something is gone; show() returns what it says, refuses the
+    code, or returns a verdict and why."""
     if gone:
         return [("skip", title, "no " + gone)]
     try:
@@ -130,9 +131,9 @@ def prove_one(path: str, entry: Any, shown: Any) -> Any:
         runner, seconds = compression.show(program, here, kind, lanes)
         if content:
             shown[content] = path
-        return ("%d instructions, %d executed on %d paths, %d branches and %d addresses without a secret, "
-                "%.1f s" % (len(runner.code), runner.count, runner.paths, runner.branches, runner.addresses,
-                            seconds))
+        numbers = (len(runner.code), runner.count, runner.paths, runner.branches, runner.addresses)
+        return ("%d instructions, %d executed on %d paths, %d branches and %d addresses without a "
+                "secret, %.1f s" % (*numbers, seconds))
     return result("%s: F of %s, %s" % (path, FAMILIES[kind.name], count), missing(path), show)
 
 
@@ -140,15 +141,15 @@ def search(path: str) -> Any:
     """Whether a file has a copy of the rounds outside of its list of functions."""
     def show() -> tuple:
         found = ", ".join(functions.unlisted(programs.read(path)))
-        why = found and "%s: rotates words as G does: add it to FILES in tests/machine/functions.py" % found
-        return "not ok" if found else "ok", why
+        why = "%s: rotates words as G does: add it to FILES in tests/machine/functions.py"
+        return ("not ok", why % found) if found else ("ok", "")
     return result("%s: no other function has a copy of the rounds" % path, missing(path), show)
 
 
 def look(path: str) -> Any:
     """What is looked at in all of a file, besides the code of its functions."""
-    title = "%s: nothing that runs or is read is writable, and each exported function is known" % path
-    return result(title, missing(path), lambda: mutations.look(programs.read(path)))
+    title = "%s: nothing that runs or is read is writable, and each exported function is known"
+    return result(title % path, missing(path), lambda: mutations.look(programs.read(path)))
 
 
 def has_library(compiler: str) -> bool:
@@ -205,7 +206,8 @@ def table_of_forms(kind: str) -> Any:
         for program in map(programs.read, paths):
             for user in USERS:
                 names = check_instructions.executed(program, user)
-                used |= {(kind, user, forms.form(kind, text)) for name in names for text in program.texts(name)}
+                used |= {(kind, user, forms.form(kind, text))
+                         for name in names for text in program.texts(name)}
         extra = sorted(f for f in forms.known() if f[0] == kind and f not in used)
         return "not ok" if extra else "ok", " ".join(extra[0]) if extra else ""
     return result("each form of an instruction for %s is run" % kind,
@@ -225,8 +227,8 @@ def whole(path: str) -> Any:
 
 
 def is_whole(path: str, entry: tuple) -> bool:
-    """Whether it is shown what a function's calls write, in as many cases as of any: constant time is
-    part of that."""
+    """Whether it is shown what a function's calls write, in as many cases as of any: constant time
+    is part of that."""
     name, _, family = entry
     is_shown = path == ALL_OF_X or "x" not in family if HUGE in os.environ else (
         family in SHORT_WRITTEN or family in families.ALONE)
@@ -234,8 +236,8 @@ def is_whole(path: str, entry: tuple) -> bool:
 
 
 def follow(path: str, family: str, left_out: tuple = ()) -> Any:
-    """That whole calls of a family's functions do not depend on secrets, except some, and those that are
-    shown whole."""
+    """That whole calls of a family's functions do not depend on secrets, except some, and those that
+    are shown whole."""
     entries = [] if missing(path) else [
         e for e in constant_time.exports(programs.read(path)) if e[2] in FOLLOWED[family]
         and e[0] not in left_out and not is_whole(path, e)]
@@ -252,7 +254,8 @@ def follow(path: str, family: str, left_out: tuple = ()) -> Any:
 def write_and_return(path: str, family: str, exports: Any, *numbers: Any) -> Any:
     """That whole calls of some functions of a family write and return what they must."""
     def show() -> str:
-        found = [families.cases(programs.read(path), family, *numbers).show(export) for export in exports]
+        found = [families.cases(programs.read(path), family, *numbers).show(export)
+                 for export in exports]
         return "%d cases, %d paths" % tuple(map(sum, zip(*found)))
     return result("%s: what calls of %s write and return: %s" % (
         path, families.TITLES[family], " ".join(e.lstrip("_") or "in one" for e in exports)),

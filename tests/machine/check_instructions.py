@@ -96,7 +96,8 @@ SIGNED = re.compile(r"(set|cmov)(n?s|n?o) |, (mi|pl|vs|vc)$")
 def form(kind: str, i: Any) -> Any:
     """The instruction without the numbers of its registers and without its addresses, and its form. None
     if it is part of whole functions only."""
-    text, found = i.text.partition("#" if kind == "x86_64" else "//")[0].strip(), forms.form(kind, i.text)
+    text = i.text.partition("#" if kind == "x86_64" else "//")[0].strip()
+    found = forms.form(kind, i.text)
     if forms.CONTROL[kind].fullmatch(found):
         return None
     if kind == "aarch64":
@@ -230,7 +231,8 @@ def executed(program: Program, user: str) -> list:
     if user == "W":
         return reached(program, families.names(program) + scrubs, listed)
     follows = program.path not in constant_time.NOT_FOLLOWED
-    return reached(program, [e[0] for e in constant_time.exports(program)], listed + scrubs) if follows else []
+    names = [e[0] for e in constant_time.exports(program)] if follows else []
+    return reached(program, names, listed + scrubs)
 
 
 def chosen(program: Program, user: str, count: int, rng: Any) -> tuple:
@@ -279,7 +281,8 @@ def run_model(program: Program, m: Any, text: str) -> None:
     if jump:
         text = "%s %s" % (jump[1], (jump[2] + ", " if jump[2] else "") + "10 <there>")
     for part in text.split("; "):
-        i = program.model.Instruction(0, part.replace(" ", "\t", 1) if program.kind == "aarch64" else part)
+        part = part.replace(" ", "\t", 1) if program.kind == "aarch64" else part
+        i = program.model.Instruction(0, part)
         i.next = 4
         pc = program.model.Model(m).follow(i)
     if jump:
@@ -287,8 +290,8 @@ def run_model(program: Program, m: Any, text: str) -> None:
 
 
 def places_of(program: Program, m: Any, buf: T.Term) -> Iterator:
-    """The bytes of the registers that a test compares, and of the memory that the model has written, each
-    with its place in a state."""
+    """The bytes of the registers that a test compares, and of the memory that the model has written,
+    each with its place in a state."""
     count, size = vectors_of(program.path)
     for j, r in enumerate(m.general[:31]):
         if (program.kind, j) != ("x86_64", x86.RSP):
@@ -299,11 +302,12 @@ def places_of(program: Program, m: Any, buf: T.Term) -> Iterator:
 
 
 def difference(program: Program, m: Any, buf: T.Term, before: list, after: list) -> str | None:
-    """What is called public and differs between the states after one or two runs, or is another number
-    than in the first, or None."""
+    """What is called public and differs between the states after one or two runs, or is another
+    number than in the first, or None."""
     one, written = after[0], set()
     numbers = {buf: T.const(64, struct.unpack_from("<32Q", one)[31])}
-    number_of = lambda b: b if isinstance(b, int) else T.split(T.substitute(T.word([b]), numbers, {}))[0]
+    number_of = lambda b: b if isinstance(b, int) else T.split(
+        T.substitute(T.word([b]), numbers, {}))[0]
     for at, b in places_of(program, m, buf):
         written.add(at)
         if is_secret(b):
@@ -367,7 +371,8 @@ def compared(path: str, user: str, used: set, tests: list, what: str) -> tuple:
     """The verdict of the tests of a model, over the forms that its functions have and the texts that it
     was run with; and the forms that were run."""
     kind = functions.architecture(path)
-    run = {f for text in tests for f in (forms.form(kind, part) for part in text.split("; ")) if f in used}
+    run = {f for text in tests
+           for f in (forms.form(kind, part) for part in text.split("; ")) if f in used}
     why = None if forms.WRITES in os.environ else forms.compare(kind, user, used, run)
     return "not ok" if why else "ok", why or "%d forms, %s" % (len(used), what), {
         (kind, user, f) for f in run}
@@ -413,10 +418,12 @@ def check(path: str, user: str, rounds: int) -> tuple:
     rng = random.Random(seed)
     used, tests = chosen(program, user, 1 if rounds < 5 else count, rng)
     extra = EXTRA[program.kind] if user == "F" else [
-        t for t in readers(program.kind, tests, rng) if user == "T" or not SIGNED.search(t[0].split("; ")[-1])]
+        t for t in readers(program.kind, tests, rng)
+        if user == "T" or not SIGNED.search(t[0].split("; ")[-1])]
     first, tests = len(tests), tests + extra
     inputs = list(inputs_of(program, user, tests, rounds, rng))
-    found = iter(execute(program.kind, tests, vectors_of(path), [(k, s) for k, states, _ in inputs for s in states]))
+    single = [(k, data) for k, states, _ in inputs for data in states]
+    found = iter(execute(program.kind, tests, vectors_of(path), single))
     run: set = set()
     known: set = set()
     zeros: dict = {}
@@ -444,5 +451,6 @@ def check(path: str, user: str, rounds: int) -> tuple:
         return "not ok", "the zero flag of %s was never seen both 0 and 1" % once[0], set()
     if len(known) < len(tests) * tenths // 10:
         return "not ok", "only %d of %d tests can be compared" % (len(known), len(tests)), set()
-    return compared(path, user, used, [tests[k][0] for k in run], "%d instructions, %d with a reader of "
-                    "flags or a jump, %d runs, %d compared" % (first, len(extra), len(inputs), len(known)))
+    what = "%d instructions, %d with a reader of flags or a jump, %d runs, %d compared"
+    return compared(path, user, used, [tests[k][0] for k in run],
+                    what % (first, len(extra), len(inputs), len(known)))

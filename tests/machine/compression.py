@@ -61,7 +61,7 @@ class Call:
         }
         if program.kind != "wasm":
             self.regions[image()] = Region(0, 1 << 32, program.constant, None, (4096, 0))
-        self.cpu: Any = program.model.Model            # of values, what executes instructions over them
+        self.cpu: Any = program.model.Model    # what executes instructions over values
         self.machine = Words(self.regions, self.cpu, assumed)
         arguments = self.arguments()
         self.at_block(0)

@@ -160,7 +160,7 @@ class Analysis:
 
     def __init__(self, program: programs.Program, exported: str = "") -> None:
         self.program, self.codes = program, {}
-        self.cpu: Any = program.model.Model            # of values, what executes instructions over them
+        self.cpu: Any = program.model.Model    # what executes instructions over values
         self.exported, self.scrubs = exported, functions.scrubs(program)
         self.listed = {functions.in_file(program.path, entry[0]): entry
                        for entry in functions.FILES[program.path]}

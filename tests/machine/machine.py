@@ -40,8 +40,8 @@ class Region:
 
 
 class Values:
-    """The registers and the memory of a machine, and what is known of their values. A subclass says what
-    that is. x86.py, arm.py and wasm.py execute instructions over them."""
+    """The registers and the memory of a machine, and what is known of their values. A subclass says
+    what that is. x86.py, arm.py and wasm.py execute instructions over them."""
 
     general: list
     vector: list
@@ -53,7 +53,7 @@ class Values:
         self.regions, self.processor = regions, processor
         self.memory: dict = {}         # (base, offset) -> byte
         self.stack: Any = None         # the base of the stack
-        self.flags: Any = None         # what they are from: a kind of operation, two words, and the result
+        self.flags: Any = None         # a kind of operation, two words, and the result
         self.counts = {"branches": 0, "addresses": 0}
         for name, (count, size) in processor.FILES.items():
             setattr(self, name, [junk("%s%d" % (name, j), size) for j in range(count)])
@@ -141,8 +141,8 @@ class Words(Values):
         return other
 
     def shrink_from(self, before: int) -> None:
-        """If the stack has shrunk since its lowest place was this, bytes below it are lost: a signal may
-        overwrite them. Only bytes of the stack may be below its pointer."""
+        """If the stack has shrunk since its lowest place was this, bytes below it are lost: a signal
+        may overwrite them. Only bytes of the stack may be below its pointer."""
         now = self.lowest()
         if now == before:
             return
@@ -298,8 +298,8 @@ class Aligned(CannotShow):
 
 
 class Followed(Values):
-    """What the values of whole calls have in common. `alignment` is that of the stack: a power of two,
-    and the stack pointer modulo that."""
+    """What the values of whole calls have in common. `alignment` is that of the stack: a power of
+    two, and the stack pointer modulo that."""
 
     def __init__(self, regions: dict, processor: Any, alignment: tuple) -> None:
         super().__init__(regions, processor)
@@ -366,8 +366,8 @@ class Processor:
         raise NotImplementedError
 
     def follow(self, i: Any) -> Any:
-        """Executes an instruction other than a call. Returns the address of the next one, or None after a
-        return."""
+        """Executes an instruction other than a call. Returns the address of the next one, or None after
+        a return."""
         if i.is_return:
             return None
         if i.is_jump:
@@ -393,7 +393,7 @@ class Processor:
             on_stack = all(T.linear(t)[1] == {m.stack: 1} for t in (a, b))
             if on_stack:               # its addresses are all on one side of 0, and of a half
                 a, b = (T.const(a.w, T.linear(t)[0]) for t in (a, b))
-            if on_stack or not relation:                    # with all numbers moved by a half of them
+            if on_stack or not relation:            # with all numbers moved by a half of them
                 half = T.const(a.w, 1 << a.w - 1)
                 a, b = (T.add(t.w, (1, t), (1, half)) for t in (a, b))
             return relation or self.SIGNED[condition], a, b
@@ -407,9 +407,10 @@ class Processor:
             raise IsWrong("the stack pointer is not a multiple of 16 at a call")
 
     def check_return(self, entry: tuple) -> None:
-        """Refuses a return with another address, stack pointer or register of the caller than at the
-        entry."""
-        for what, found, wanted in zip(("return address", "stack pointer", "registers"), self.at_entry(), entry):
+        """Refuses a return with another address, stack pointer or register of the caller than at
+        the entry."""
+        parts = "return address", "stack pointer", "registers"
+        for what, found, wanted in zip(parts, self.at_entry(), entry):
             if found != wanted:
                 raise IsWrong("the caller's %s: not as at the entry" % what)
 

@@ -68,7 +68,8 @@ class Wasm(Processor):
         m.locals += [[0] * n for n in sizes[len(arguments):]]
 
     def at_entry(self) -> tuple:
-        return None, self.values.stack_pointer(), [list(self.values.operands), list(self.values.labels)]
+        m = self.values
+        return None, m.stack_pointer(), [list(m.operands), list(m.labels)]
 
     def need_vectors(self) -> None:
         """There are none."""
@@ -115,7 +116,8 @@ class Wasm(Processor):
             self.push(T.split(self.values.choose(condition, b, a)))
         elif i.target is not None:
             # A branch about which nothing is assumed yet leaves the machine as it is.
-            taken = i.name == "br" or not self.values.is_zero(T.word((self.values.operands or [[0]])[-1]))
+            top = (self.values.operands or [[0]])[-1]
+            taken = i.name == "br" or not self.values.is_zero(T.word(top))
             if i.name == "br_if":
                 self.pop()
             if taken:

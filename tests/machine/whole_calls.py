@@ -239,7 +239,7 @@ class Calls:
 
     def __init__(self, program: programs.Program, exported: str = "") -> None:
         self.program, self.codes, self.at, self.count = program, {}, None, 0
-        self.cpu: Any = program.model.Model            # of values, what executes instructions over them
+        self.cpu: Any = program.model.Model    # what executes instructions over values
         self.exported, self.scrubs = exported, functions.scrubs(program)
         self.listed = {functions.in_file(program.path, name): (kind, lanes)
                        for name, kind, lanes in functions.FILES[program.path]}

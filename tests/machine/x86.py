@@ -331,11 +331,12 @@ for _new, _old in {
 BITWISE = {"pxor": "xor", "pxord": "xor", "pxorq": "xor", "xorps": "xor", "xorpd": "xor", "por": "or",
            "pord": "or", "porq": "or", "orps": "or", "orpd": "or", "pand": "and", "pandd": "and",
            "pandq": "and", "andps": "and", "andpd": "and"}
-# Of these the result is not only moved bytes; of the others that have indices, if these are not numbers.
+# Of these the result is not only moved bytes; of those with indices, if these are not numbers.
 COMPUTES = ("paddq", "paddd", "psubq", "pandn", "pcmpgtq", "pshufb")
 INDEXED = ("permd", "permps")
 SHIFTS = {
-    "psrlq": (T.shr, 8), "psllq": (T.shl, 8), "psrld": (T.shr, 4), "pslld": (T.shl, 4), "psrlw": (T.shr, 2),
+    "psrlq": (T.shr, 8), "psllq": (T.shl, 8), "psrld": (T.shr, 4), "pslld": (T.shl, 4),
+    "psrlw": (T.shr, 2),
 }
 ROTATIONS = {"prolq": (8, -1), "prold": (4, -1), "prorq": (8, 1), "prord": (4, 1)}
 # By words of two vectors: the bytes of a word, and whether the indices are overwritten.
@@ -357,7 +358,8 @@ LOW_MOVES = {"movss": 4, "movsd": 8, "movlps": 8}
 MOVES = {"movdqa": True, "movaps": True, "movapd": True, "movdqu": False, "movups": False,
          "movupd": False, "movdqa32": True, "movdqa64": True, "movdqu8": False, "movdqu16": False,
          "movdqu32": False, "movdqu64": False}
-BROADCASTS = {"pbroadcastb": 1, "pbroadcastw": 2, "pbroadcastq": 8, "broadcastsd": 8, "pbroadcastd": 4, "broadcastss": 4,
+BROADCASTS = {"pbroadcastb": 1, "pbroadcastw": 2, "pbroadcastq": 8, "broadcastsd": 8,
+              "pbroadcastd": 4, "broadcastss": 4,
               "broadcasti128": 16, "broadcastf128": 16, "broadcasti32x4": 16,
               "broadcastf32x4": 16, "broadcasti64x2": 16, "broadcastf64x2": 16,
               "broadcasti64x4": 32, "broadcastf64x4": 32}
@@ -417,8 +419,8 @@ class X86(Processor):
         return T.add(64, (1, self.values.stack_pointer()), (1, T.const(64, n)))
 
     def clobber(self, is_compression: bool = False) -> None:
-        """What a function may leave in registers that do not belong to its caller. One that compresses
-        leaves zero or what there was where compression.py shows that."""
+        """What a function may leave in registers that do not belong to its caller. One that
+        compresses leaves zero or what there was where compression.py shows that."""
         m = self.values
         for r in range(16):
             if r not in SAVED + (RSP,):
@@ -565,7 +567,8 @@ class X86(Processor):
         self.write(a, y)
         self.write(b, x)
 
-    def arithmetic(self, kind: str, f: Callable, to: Operand, source: Operand, keep: bool = True) -> None:
+    def arithmetic(self, kind: str, f: Callable, to: Operand, source: Operand,
+                   keep: bool = True) -> None:
         """Sets a word and the flags, or only the flags."""
         data = self.read(to)
         result = self.values.computed(kind, f, data, self.read(source, len(data)))
@@ -595,8 +598,8 @@ class X86(Processor):
         self.arithmetic("logic", self.values.masked, to, source)
 
     def do_test(self, i: Instruction, to: Operand, source: Operand) -> None:
-        self.arithmetic("logic", (lambda a, b: a) if same(to, source) else self.values.masked, to, source,
-                        False)
+        f = (lambda a, b: a) if same(to, source) else self.values.masked
+        self.arithmetic("logic", f, to, source, False)
 
     def do_inc(self, i: Instruction, to: Operand) -> None:
         self.add_and_keep_carry(to, 1)
@@ -637,16 +640,18 @@ class X86(Processor):
     def do_imul(self, i: Instruction, to: Operand, source: Operand, factor: Any = None) -> None:
         if factor:
             self.write(to, self.read(source))
-        need_public(T.word(self.read(to) + self.read(factor or source, to.size)), "the time of a product")
-        self.arithmetic("product", lambda a, b: T.add(a.w, (b.args, a)) if b.op == "const" else None,
-                        to, factor or source)
+        source = factor or source
+        need_public(T.word(self.read(to) + self.read(source, to.size)), "the time of a product")
+        times = lambda a, b: T.add(a.w, (b.args, a)) if b.op == "const" else None
+        self.arithmetic("product", times, to, source)
 
     def with_carry(self, to: Operand, source: Operand, sign: int) -> None:
         flags = self.values.flags
         if flags is None or flags[0] in ("secret", "no carry"):
             raise CannotShow("a carry depends on flags that are not public")
         carry = T.word([self.values.bit(self.compared("b"))] + [0] * (to.size - 1))
-        self.arithmetic("other", lambda a, b: T.add(a.w, (1, a), (sign, b), (sign, carry)), to, source)
+        total = lambda a, b: T.add(a.w, (1, a), (sign, b), (sign, carry))
+        self.arithmetic("other", total, to, source)
 
     def do_adc(self, i: Instruction, to: Operand, source: Operand) -> None:
         self.with_carry(to, source, 1)
@@ -736,7 +741,7 @@ class X86(Processor):
         if data is not None:
             self.write(ops[0], data, vex, name in MOVES and MOVES[name])
 
-    # Each of the following returns what is written to the first operand, or None if it has done that.
+    # Each of the following returns what is written to the first operand, or None for nothing.
 
     def move(self, name: str, ops: list, vex: bool) -> list:
         return self.read(ops[1], aligned=MOVES[name])
@@ -769,15 +774,16 @@ class X86(Processor):
         f, n = SHIFTS[name]
         if not 0 < imm < 8 * n:
             raise CannotShow("a shift by %d is not modelled" % imm)
-        return self.values.vector_of(lambda a: lanewise(lambda t: f(8 * n, t, imm), n, a), self.read(ops[-1]))
+        return self.values.vector_of(lambda a: lanewise(lambda t: f(8 * n, t, imm), n, a),
+                                     self.read(ops[-1]))
 
     def shift_bytes(self, name: str, ops: list, imm: int, vex: bool) -> list:
         parts = chunks(self.read(ops[vex]), 16)
         return joined((p + [0] * 16)[min(imm, 16):][:16] for p in parts)
 
     def sources(self, name: str, ops: list, vex: bool) -> tuple:
-        """Both operands of an operation on vectors. Those of 16 bytes in memory must be aligned in the
-        old encodings."""
+        """Both operands of an operation on vectors. Those of 16 bytes in memory must be aligned in
+        the old encodings."""
         n = ops[1].size if ops[1].kind == "memory" and not vex else None
         if ops[-1].is_broadcast:
             n = ops[0].size
@@ -800,8 +806,8 @@ class X86(Processor):
 
     def rotate(self, name: str, ops: list, imm: int, vex: bool) -> list:
         n, sign = ROTATIONS[name]
-        return self.values.vector_of(lambda a: lanewise(lambda t: T.ror(8 * n, t, sign * imm), n, a),
-                                     self.read(ops[1], ops[0].size))
+        rotated = lambda a: lanewise(lambda t: T.ror(8 * n, t, sign * imm), n, a)
+        return self.values.vector_of(rotated, self.read(ops[1], ops[0].size))
 
     def ternary(self, name: str, ops: list, imm: int, vex: bool) -> list:
         a, b, c = (self.read(o, ops[0].size) for o in ops)
@@ -854,8 +860,8 @@ class X86(Processor):
         self.values.test(self.read(ops[0]), self.read(ops[1], 16, not vex))
 
 
-# The instructions on vectors by the methods that execute them: how many operands each has, besides a
-# number, in the old encodings and in the new ones, whose names begin with v; and how many numbers.
+# The instructions on vectors by the methods that execute them: how many operands each has, besides
+# a number, in the old encodings and in the new ones, whose names begin with v; and how many numbers.
 NO, ONE_NUMBER, SOME = (0,), (1,), (0, 1)
 VECTOR_FORMS: tuple = (
     (MOVES, "move", (2,), (2,), NO), (("movq", "movd"), "move_word", (2,), (2,), NO),
@@ -866,7 +872,8 @@ VECTOR_FORMS: tuple = (
     (BLENDS, "blend", (2, 3), (4,), NO), (EXTENSIONS, "extend", (2,), (2,), NO),
     (ROTATIONS, "rotate", (), (2,), ONE_NUMBER), (TERNARY, "ternary", (), (3,), ONE_NUMBER),
     (PERMUTATIONS, "permute", (), (3,), NO), (EXTRACTS, "extract", (), (2,), ONE_NUMBER),
-    (WORD_EXTRACTS, "extract_word", (2,), (2,), ONE_NUMBER), (("pmovqd",), "truncate", (), (2,), NO),
+    (WORD_EXTRACTS, "extract_word", (2,), (2,), ONE_NUMBER),
+    (("pmovqd",), "truncate", (), (2,), NO),
     (("ptest",), "test_bits", (2,), (2,), NO))
 
 
