@@ -91,7 +91,7 @@ write_compiler() {
 # What is installed; the functions that the library shows; and a program that needs only those.
 installs() {
     local folder=$work/installed_$1 names=$work/names
-    CC=$work/$1 "$here/install.sh" --from "$dist" "$folder" &&
+    CC=$work/$1 CFLAGS=$quick "$here/install.sh" --from "$dist" "$folder" &&
         (cd "$folder" && find . -type f -o -type l) | sed 's|^\./||' | LC_ALL=C sort |
         diff - <(printf '%s\n' include/vulfsjor-libb2/blake2.h include/vulfsjor{.h,.hpp,_threads.h} \
             lib/cmake/vulfsjor/vulfsjor-config{,-version}.cmake \
