@@ -339,7 +339,7 @@ test("files are stopped while hashed or waiting, and a changed one is reported",
   await page.setFiles("#files", [join(folder, "one byte"), join(folder, "empty.txt"), gone]);
   writeFileSync(gone, Buffer.alloc(5_000_001));
   await page.evaluate("document.querySelectorAll('article .top button')[1].click()");
-  await page.evaluate("workers.forEach((worker) => (worker.isFree = true)); start()");
+  await page.evaluate("workers.forEach((worker) => (worker.isFree = true)); startTasks()");
   await page.until("document.querySelectorAll('[data-state]').length === 4");
   const all = (text) => Object.fromEntries(KINDS.map((kind) => [kind, text]));
   const cards = await page.evaluate(CARDS);
