@@ -2,13 +2,14 @@
 # Tests what c/install.sh puts where.
 source "$(dirname "$(readlink -f "$0")")/common.sh"
 
-install_into() { "$here/install.sh" "${cpu[@]}" --from "$dist" "$@"; }
+# With one build for x86-64, and with what is compiled of C optimized as in other tests.
+one=()
+! chooses || one=(--cpu x86-64-v2)
+install_into() { CFLAGS=$quick "$here/install.sh" "${cpu[@]}" "${one[@]}" --from "$dist" "$@"; }
 
-# The same with one build for x86-64, which is made once for all of these installations.
+# The same, made once for all of these installations.
 install_one() {
-    local one=()
-    ! chooses || one=(--cpu x86-64-v2)
-    [ -e "$work/built" ] || install_into "${one[@]}" --build "$work/built" || return
+    [ -e "$work/built" ] || install_into --build "$work/built" || return
     "$here/install.sh" --built "$work/built" "$@"
 }
 
@@ -40,7 +41,7 @@ program_by_words() {
         >"$work/program.c"
     words=$(PKG_CONFIG_PATH=$folder pkg-config --cflags --libs "$name")
     [ "$name" != libb2 ] || words+=" -DLIBB2"
-    eval "cc -O2 '$work/program.c' $words -o '$work/program'" &&
+    eval "cc $quick '$work/program.c' $words -o '$work/program'" &&
         LD_LIBRARY_PATH=$libraries "$work/program"
 }
 
@@ -105,7 +106,7 @@ package() {
 one_build() {
     local folder=$work/one
     mkdir "$folder.made" && ar rc "$folder.made/libvulfsjor.a" "$empty" && touch "$folder.made/libvulfsjor.so.0.0.9" &&
-        "$here/install.sh" --cpu x86-64-v2 --from "$dist" --build "$folder.made" &&
+        CFLAGS=$quick "$here/install.sh" --cpu x86-64-v2 --from "$dist" --build "$folder.made" &&
         "$here/install.sh" --built "$folder.made" "$folder" && ! ar t "$folder/lib/libvulfsjor.a" | grep empty &&
         grep -qx 'Description: .*, proved, for x86-64-v2' "$folder/lib/pkgconfig/vulfsjor.pc" &&
         files_below "$folder" | diff <(wanted_files lib/) - &&
@@ -196,7 +197,7 @@ if("$3" STREQUAL vulfsjor::threads AND NOT Threads::Threads IN_LIST needed)
   message(FATAL_ERROR "$3 links \${needed}") # which glibc before 2.34 needs
 endif()
 END
-    cmake -S "$folder" -B "$build" -DCMAKE_BUILD_TYPE=Release &&
+    cmake -S "$folder" -B "$build" -DCMAKE_BUILD_TYPE="$([ $quick = -O0 ] || echo Release)" &&
         cmake --build "$build" && "$build/program" && "$build/threads" && cp "$build/program" "$work/made_program" ||
         return 1
     readelf -d "$build/program" "$build/threads" "$build/libshared.so" |
@@ -269,7 +270,9 @@ $find" vulfsjor::vulfsjor vulfsjor::threads && needs_shared && rm -r "$folder/in
 # The same in portable C, in the way of Windows and macOS: the library without the programs.
 portable_by_cmake() {
     local folder=$work/portable
-    cmake -S "$here" -B "$folder.build" -DVULFSJOR_PORTABLE=ON -DCMAKE_INSTALL_LIBDIR=lib &&
+    printf '#!/bin/sh\nexec cc "$@" %s\n' $quick >"$work/quick" && chmod +x "$work/quick" &&
+        cmake -S "$here" -B "$folder.build" -DVULFSJOR_PORTABLE=ON -DCMAKE_INSTALL_LIBDIR=lib \
+            -DCMAKE_C_COMPILER="$work/quick" &&
         cmake --build "$folder.build" && cmake --install "$folder.build" --prefix "$folder" &&
         files_below "$folder" | diff <(printf '%s\n' include/vulfsjor{.h,.hpp,_threads.h} \
             lib/cmake/vulfsjor/vulfsjor-config{-version,}.cmake lib/libvulfsjor{-threads,}.a) - &&
@@ -381,7 +384,7 @@ files_of_all() {
 # `make install` and `make uninstall`, below DESTDIR.
 made_by_make() {
     local root="$work/made here" place="$work/made here/opt/a b"
-    (umask 077 && make_here install prefix="/opt/a b" DESTDIR="$root" CC="cc -O1") &&
+    (umask 077 && make_here install prefix="/opt/a b" DESTDIR="$root" CC="cc -O1" CFLAGS=$quick) &&
         files_below "$place" | diff <(files_of_all) - &&
         [ "$(cd "$place" && find . -type f -perm 755 | sort | paste -sd ' ')" = \
             "./bin/b2 ./bin/b2sum ./lib/libvulfsjor.so.$(version)" ] &&
@@ -406,17 +409,17 @@ variables_of_make() {
             chmod +x "$folder/$tool" || return 1
     done
     make_here built="$folder/made" all CC="$folder/cc" AR="env $folder/ar" CPPFLAGS=-DASKED=1 \
-        CFLAGS="-g -flto" LDFLAGS="-Wl,-z,separate-code -L/asked$more" 2>"$folder/said" || return 1
+        CFLAGS="-O0 -g -flto" LDFLAGS="-Wl,-z,separate-code -L/asked$more" 2>"$folder/said" || return 1
     # Debug information names no temporary file, so that another build is the same.
     ! grep -rlaF -e "$folder" -e /text.s --exclude words "$folder/made" || return 1
     # Only objects of the system have no marks.
     ! grep "missing IBT" "$folder/said" | grep -v "ld: /usr/" || return 1
     while read -r line; do
         case " $line" in
-            " -dumpmachine" | " -print-"* | " -DASKED=1 -g -flto -E -P -") ;;
-            *" -E "*"/macros.h "* | *" -c "*.s\ *) [[ " $line" == *" -DASKED=1 -g -flto "* ]] || return 1 ;;
-            *" -c "*) [[ $line == *" -DASKED=1 -g -flto "*" -fno-lto "* ]] || return 1 ;;
-            *) [[ " $line" == *" -DASKED=1 -g -flto -Wl,-z,separate-code -L/asked$more "*"-fno-lto "* ]] ||
+            " -dumpmachine" | " -print-"* | " -DASKED=1 -O0 -g -flto -E -P -") ;;
+            *" -E "*"/macros.h "* | *" -c "*.s\ *) [[ " $line" == *" -DASKED=1 -O0 -g -flto "* ]] || return 1 ;;
+            *" -c "*) [[ $line == *" -DASKED=1 -O0 -g -flto "*" -fno-lto "* ]] || return 1 ;;
+            *) [[ " $line" == *" -DASKED=1 -O0 -g -flto -Wl,-z,separate-code -L/asked$more "*"-fno-lto "* ]] ||
                 { echo "$line" && return 1; } ;;
         esac
     done <"$folder/cc.calls"
@@ -426,7 +429,7 @@ variables_of_make() {
         make_here built="$folder/made" -s install DESTDIR="$root" prefix=/p bindir=/b \
             libdir=/l includedir=/i mandir=/m datarootdir=/d && [ "$(wc -l <"$folder/ar.calls")" -eq 3 ] &&
         make_here built="$folder/made" -q all CC="$folder/cc" AR="env $folder/ar" CPPFLAGS=-DASKED=1 \
-            CFLAGS="-g -flto" LDFLAGS="-Wl,-z,separate-code -L/asked$more" &&
+            CFLAGS="-O0 -g -flto" LDFLAGS="-Wl,-z,separate-code -L/asked$more" &&
         ! make_here built="$folder/made" -q install CC=cc && ! CFLAGS="it's" make_here built="$folder/made" -q all &&
         files_below "$root" | diff <(files_of_all |
             sed 's|^bin/|b/|;s|^include/|i/|;s|^lib/|l/|;s|^share/man/|m/|;s|^share/|d/|' | LC_ALL=C sort) - &&
@@ -521,13 +524,17 @@ END
         [ "$(make_here -n)" = "$(make_here -n all)" ]
 }
 
+# What CMake need not find out of the compiler if it only configures.
+known=(-D{CMAKE_{C,ASM}_COMPILER_WORKS,CMAKE_HAVE_LIBC_PTHREAD,VULFSJOR_HAS_fcf_protection_full}=ON
+    -DVULFSJOR_HAS_mbranch_protection_bti=OFF)
+
 # Has CMake configure the library for a system and a processor, and prints the name of its text.
 # Nothing is compiled.
 choose_by_cmake() {
     local build
     build=$(mktemp -d "$work/chosen.XXXX") &&
         cmake -S "$here" -B "$build" -DCMAKE_SYSTEM_NAME="$1" -DCMAKE_SYSTEM_PROCESSOR="$2" \
-            -DCMAKE_TRY_COMPILE_TARGET_TYPE=STATIC_LIBRARY "${@:3}" >"$work/configured" 2>&1 ||
+            -DCMAKE_TRY_COMPILE_TARGET_TYPE=STATIC_LIBRARY "${known[@]}" "${@:3}" >"$work/configured" 2>&1 ||
         { cat "$work/configured" && return 1; }
     # It has a rule for the assembly of C too.
     grep -hoE 'dist/[a-z0-9_-]*/?vulfsjor[v0-9-]*\.[sSc]' "$build/CMakeFiles/vulfsjor.dir/build.make" |
@@ -591,8 +598,8 @@ END
 # Without a word the library comes from dist/, where that was made from these sources. Else nothing is installed.
 comes_from() {
     local tree=$work/tree
-    make_stand_in "$tree" && "$tree/c/install.sh" "$tree/made" && words_work "$tree/made/lib" &&
-        [ "$(cat "$tree/calls")" = current ] && touch "$tree/refuse" || return 1
+    make_stand_in "$tree" && CFLAGS=$quick "$tree/c/install.sh" "${one[@]}" "$tree/made" &&
+        words_work "$tree/made/lib" && [ "$(cat "$tree/calls")" = current ] && touch "$tree/refuse" || return 1
     refuses 1 stale "$tree/c/install.sh" "$tree/not_made" &&
         [ ! -e "$tree/not_made" ]
 }
@@ -616,7 +623,7 @@ shift
 echo "\$*" >>"$work/compiled"
 case " \$* " in *" -E "*) exec cc "\$@" ;; esac
 for file; do
-    case \$file in *.s) ;; *) continue ;; esac
+    case \${file##*/} in *_*) continue ;; *.s) ;; *) continue ;; esac
     for text in "$dist"/*/vulfsjor*.s; do
         tail -c "\$(wc -c <"\$text")" "\$file" | cmp -s - "\$text" && echo "\$text " >>"$work/compiled"
     done
@@ -694,8 +701,8 @@ odd_compilers() {
             --from "$dist" "$work/no" &&
         [ ! -e "$work/no" ] || return 1
     for flags in "" -fsanitize=address; do
-        rm -f "$work/compiled" && CFLAGS=$flags CC="$work/for $(cc -dumpmachine)" "$here/install.sh" --from "$dist" \
-            "$work/odd" &&
+        rm -f "$work/compiled" && CFLAGS=$flags CC="$work/for $(cc -dumpmachine)" "$here/install.sh" "${one[@]}" \
+            --from "$dist" "$work/odd" &&
             [ "$(grep -c -e -Wl,-z,defs "$work/compiled")" -eq "$([ -z "$flags" ] && echo 1 || echo 0)" ] || return 1
     done
 }
@@ -728,7 +735,8 @@ optimized() {
         rm "$work/noting" || return 1
     ! has cmake || while IFS=: read -r type wanted; do
         build=$work/type$type
-        cmake -S "$here" -B "$build" -DVULFSJOR_PORTABLE=ON -DCMAKE_BUILD_TYPE="$type" -DCMAKE_C_FLAGS=-O0 &&
+        cmake -S "$here" -B "$build" "${known[@]}" -DVULFSJOR_PORTABLE=ON -DCMAKE_BUILD_TYPE="$type" \
+            -DCMAKE_C_FLAGS=-O0 &&
             grep -o -e '-O.' "$build/CMakeFiles/vulfsjor.dir/flags.make" | tail -1 | diff - <(echo "$wanted") ||
             return 1
     done <<'END'
