@@ -47,7 +47,7 @@ protected_by_bti() {
 programs_are_marked() {
     local name
     for name in b2 b2sum; do
-        CC=$arm LDFLAGS=-Wl,-z,force-bti "$top/$name" --build "$work/bti_$name" 2>"$work/said" || return 1
+        CC=$arm CFLAGS=$quick LDFLAGS=-Wl,-z,force-bti "$top/$name" --build "$work/bti_$name" 2>"$work/said" || return 1
         ! grep -i "bti" "$work/said" | grep "warning" | grep -vE ': /usr/' || return 1
     done
 }
@@ -80,7 +80,7 @@ test_aarch64() {
     cp "$all"/[bs]p "$all"/x[bs] "$cases/"
     prefix=$work/prefix include=$work/prefix/include libb2=$work/prefix/include/vulfsjor-libb2
     archive=$prefix/lib/libvulfsjor.a shared=$prefix/lib/libvulfsjor.so
-    check "install.sh with CC=$arm" env "CC=$arm" "$here/install.sh" --from "$dist" "$prefix" ||
+    check "install.sh with CC=$arm" env "CC=$arm" "CFLAGS=$quick" "$here/install.sh" --from "$dist" "$prefix" ||
         return
     for hash in "${hashes[@]}"; do
         check "conformance.c, $hash, for aarch64" run_hash conformance $hash -O1 "$archive"
