@@ -82,7 +82,7 @@ compare_lines() {
 # thunks.h pass to the assembly on Windows and macOS. With both conventions of calls in one file the
 # compiler of MinGW fails above -O0.
 passes() {
-    cc -std=c99 -O1 "${warnings[@]}" $(family_words "$1") -I"$include" -I"$libb2" "${@:2}" \
+    cc -std=c99 $quick "${warnings[@]}" $(family_words "$1") -I"$include" -I"$libb2" "${@:2}" \
         "$tests/passed_arguments.c" -o "$work/passed_arguments" &&
         "$work/passed_arguments" >"$work/passed_$1"
 }
@@ -188,13 +188,13 @@ python_example() {
 test_family() {
     local level
     family=$1
-    check "edge_cases.c, blake2$family" compare_lines edge_cases -O2 -I"$include"
+    check "edge_cases.c, blake2$family" compare_lines edge_cases $quick -I"$include"
     for level in $(some 2 0); do
         check "libb2_header.c, blake2$family, -O$level" compare_lines libb2_header -O$level \
             -I"$libb2"
     done
     needs_sanitizers
-    check_once "edge_cases.c, blake2$family, with sanitizers" compare_lines edge_cases -O1 -I"$include" \
+    check_once "edge_cases.c, blake2$family, with sanitizers" compare_lines edge_cases $quick -I"$include" \
         "${sanitizers[@]}"
     needs
 }
@@ -267,7 +267,7 @@ test_languages() {
     check "memory that is shorter than its length" python3 "$tests/short_memory.py" gcc "$include"
     needs c++ python3
     # Each standard with exceptions and without, and each compiler with all of these.
-    check "hasher.cpp in C++17" hasher_of_cpp c++ c++17 -O1
+    check "hasher.cpp in C++17" hasher_of_cpp c++ c++17 $quick
     check "conformance.cpp" conformance_of_cpp
     check_huge "hasher.cpp in C++20, compiled" compile_hasher c++ c++20 -fsyntax-only
     needs g++ python3
