@@ -31,6 +31,7 @@ import tempfile
 import tap
 
 TOP = pathlib.Path(__file__).resolve().parent.parent
+HUGE = os.environ.get("VULFSJOR_TEST_HUGE")
 TOOLS = {"c": "cc", "cpp": "c++", "rust": "cargo", "python": "python3", "cmake": "cmake", "sh": "bash"}
 PAGES = ("README.md", "docs/TUTORIAL.md", "docs/REVIEW.md", "c/README.md", "c/PORTING.md",
          "rust/README.md")
@@ -71,7 +72,7 @@ class Runner:
         self.repository = repository
         self.library = library
         self.environment = dict(os.environ, LC_ALL="C.UTF-8", CARGO_NET_OFFLINE="true", PYTHONPATH=str(module),
-                                CARGO_TARGET_DIR=str(folder.parent / "target"))
+                                CARGO_TARGET_DIR=str(folder.parent / "target"), **{} if HUGE else {"CFLAGS": "-O0"})
         if with_data:
             (folder / "data.bin").write_bytes(bytes(i % 251 for i in range(100_000)))
         for name in ("b2", "b2sum", "c", "dist"):
@@ -255,7 +256,7 @@ def run_page(page, name, work, repository, library, module):
     kind = kinds.get(name, Runner)
     folder = pathlib.Path(tempfile.mkdtemp(dir=work))
     runner = kind(folder, repository, library, work / "module", name in WITH_DATA)
-    for again in ("", ", again") if os.environ.get("VULFSJOR_TEST_HUGE") else ("",):
+    for again in ("", ", again") if HUGE else ("",):
         if kind is RunnerOfShell:
             runner.open_shell()
         for line, language, text, wanted in examples(page):
