@@ -38,7 +38,7 @@ installs() {
 
 # `make install`, under a mask that keeps files from others, which is not that of what is installed.
 make_installs() {
-    (umask 077 && alone make -s install "prefix=$work/a prefix") &&
+    (umask 077 && alone CFLAGS="$quick" make -s install "prefix=$work/a prefix") &&
         [ "$(cd "$work/a prefix/share/man/man3" && cat vulfsjor_blake2b_init.3)" = ".so man3/vulfsjor_blake2b.3" ] &&
         diff <(cd "$work/a prefix" && find . ! -type d | sed 's|^./||;/man3/d' | LC_ALL=C sort) <({
             printf 'bin/%s\n' b2 b2sum
@@ -98,12 +98,13 @@ has_all_parts() {
         rm -rf "$work/parts" && printf '#!%s\ncase "$*" in *%s*) ;; *) exec "%s/awk" "$@" ;; esac\n' "$BASH" "$lost" \
             "$work" >"$tools/awk" && chmod +x "$tools/awk" || return 1
         if [ $lost = none ]; then
-            alone c/make_libraries.sh "$work/parts" "$text" && nm -g --defined-only "$work/parts/libvulfsjor.a" |
+            alone CFLAGS="$quick" c/make_libraries.sh "$work/parts" "$text" &&
+                nm -g --defined-only "$work/parts/libvulfsjor.a" |
                 sed -n 's/.* T \(vulfsjor_ffi_[a-z0-9_]*[a-z]\)$/\1/p' | LC_ALL=C sort |
                 diff - <(sed -n 's/^CALL("\(.*\)")$/\1/p' "$here/choose.c" | LC_ALL=C sort) || return 1
         else
-            ! alone c/make_libraries.sh "$work/parts" "$text" 2>"$work/errors" && [ ! -e "$work/parts" ] &&
-                grep "parts are not there" "$work/errors" || return 1
+            ! alone CFLAGS="$quick" c/make_libraries.sh "$work/parts" "$text" 2>"$work/errors" &&
+                [ ! -e "$work/parts" ] && grep "parts are not there" "$work/errors" || return 1
         fi
     done
     mv "$work/awk" "$tools/awk"
@@ -113,6 +114,7 @@ has_all_parts() {
 musl() {
     local folder=$work/musl words
     echo abc >"$work/abc"
+    export CFLAGS=$quick
     CC=musl-gcc "$here/install.sh" --from "$dist" "$folder" &&
         block_of c/README.md c >"$work/hello.c" || return 1
     for words in "" -static; do
