@@ -4,7 +4,7 @@
 #   rust/run_tests.sh
 #
 # VULFSJOR_TEST_HUGE=1 adds the tests that hash more than 4 GiB, those of the optimized crate and of
-# the build for x86-64-v3, clippy, the pages of cargo doc and the examples in them, and builds that take long.
+# the builds for x86-64-v2 and v3, clippy, the pages of cargo doc and the examples in them, and builds that take long.
 # Nothing comes from the network: rust-digest and the example for rayon use Debian's packages
 # librust-digest-dev, librust-hmac-dev, librust-hkdf-dev, librust-pbkdf2-dev, librust-rayon-dev,
 # librust-serde-dev, librust-serde-json-dev and librust-bincode-dev.
@@ -15,6 +15,8 @@ export CARGO_TARGET_DIR=$work/target CARGO_NET_OFFLINE=true
 # What only later builds or a debugger would use.
 export CARGO_INCREMENTAL=0 CARGO_PROFILE_DEV_DEBUG=0
 short=(--lib --test bindings --test conformance)
+all=(--tests)
+[ -n "${VULFSJOR_TEST_HUGE-}" ] || all=("${short[@]}" --test={files,manifest,programs,trees}) # huge.rs would run none
 # On processors that are emulated, and of builds that this one would not choose, a part of the conformance cases.
 some_cases=$([ -n "${VULFSJOR_TEST_HUGE-}" ] || echo VULFSJOR_SHARE=6)
 
@@ -100,7 +102,7 @@ for hash in (blake2b(b"hello world"), blake2s(b"hello world"), ten, blake2s(blak
 for tool in cargo cc python3; do
     has $tool || { skip "the crates for Rust" "no $tool"; finish; }
 done
-check "the crate vulfsjor" cargo_here test --tests || finish
+check "the crate vulfsjor" cargo_here test "${all[@]}" || finish
 check_huge "the examples in the documentation of vulfsjor" cargo_here test --doc
 check_huge "the crate vulfsjor in a shared library of Rust" cargo_here test --test programs -- --ignored shared_library
 check_huge "the crate vulfsjor, optimized" cargo_here test --release "${short[@]}"
@@ -111,7 +113,7 @@ CARGO_PROFILE_DEV_OPT_LEVEL=$([ -n "${VULFSJOR_TEST_HUGE-}" ] && echo 1 || echo 
     check "the crate vulfsjor in portable Rust" cargo_build portable
 check_huge "all tests of the crate vulfsjor without std" cargo_here test --no-default-features
 if [ "$(uname -m)" = x86_64 ]; then
-    check "the crate vulfsjor over the build for x86-64-v2" cargo_build v2
+    check_huge "the crate vulfsjor over the build for x86-64-v2" cargo_build v2
     if [ "$("$top/tests/processor.sh")" = x86-64-v4 ]; then
         check_huge "the crate vulfsjor over the build for x86-64-v3" cargo_build v3
     else
