@@ -2,15 +2,10 @@ mod AcceptedInputs
 mod PrintedDigits
 mod FilledBuffers
 mod PrintedDigests
-mod LeafLines
 mod LineLemmas
 mod OutputLaws
 mod PrintedInTurn
-mod PrintedLeaves
 mod PrintedRoot
-mod RangeBytes
-mod ReadBackLeaves
-mod RootLines
 mod ScriptLemmas
 mod Statuses
 mod TasksWithoutInput

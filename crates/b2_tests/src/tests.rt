@@ -9,7 +9,6 @@ mod failing_outputs;
 mod help;
 mod input_lengths;
 mod large;
-mod leaves;
 mod memory;
 mod outputs;
 mod refusals;
