@@ -1,5 +1,5 @@
-"""The values of whole calls that are executed over variables: no byte is forgotten. What a function of the C library copies, if its length is not a number, is a choice
-byte by byte. A branch that is not decided is taken both ways."""
+"""The values of whole calls that are executed over variables: no byte is forgotten. What a function of the C library
+copies, if its length is not a number, is a choice byte by byte. A branch that is not decided is taken both ways."""
 
 from __future__ import annotations
 
@@ -155,7 +155,8 @@ class Exact(Followed):
     def is_left(self, j: int, start: int) -> bool:
         """Whether each is, from one on."""
         data = self.vector[j][start:]
-        return data == self.at_start["vector"][j][start:] or all(self.may_be_left(j, start + k, b) for k, b in enumerate(data))
+        return data == self.at_start["vector"][j][start:] or all(
+            self.may_be_left(j, start + k, b) for k, b in enumerate(data))
 
     def lost(self, n: int, is_compression: bool = False) -> list:
         """What a function leaves in a register: `after` is what one of the C library leaves."""
