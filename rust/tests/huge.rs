@@ -10,13 +10,7 @@ use std::os::unix::fs::FileExt;
 use vulfsjor::*;
 
 const LENGTH: usize = (1 << 32) + 1000;
-const MARKS: [(usize, u8); 5] = [
-    (0, 1),
-    (1 << 31, 2),
-    ((1 << 32) - 1, 3),
-    (1 << 32, 4),
-    (LENGTH - 1, 5),
-];
+const MARKS: [(usize, u8); 5] = [(0, 1), (1 << 31, 2), ((1 << 32) - 1, 3), (1 << 32, 4), (LENGTH - 1, 5)];
 
 // What hashlib computes of the message: the roots with the persona `files`, and 64 bytes.
 const BLAKE2B: &str = "5129d8fb71987970f5af5ac48b4df817a8f7d599523ba3951ebeb7471dab9c0c\
@@ -41,14 +35,7 @@ const ROOT_OF_MORE: &str = "d791033fc05293273107205607be5920509f9d598bb91164f8ee
                             79f41ee27558c85411ff75ef48fd9953df442912328edb7850d3d7c3716ba944";
 
 extern "C" {
-    fn mmap(
-        at: *mut c_void,
-        length: usize,
-        access: i32,
-        flags: i32,
-        fd: i32,
-        from: i64,
-    ) -> *mut c_void;
+    fn mmap(at: *mut c_void, length: usize, access: i32, flags: i32, fd: i32, from: i64) -> *mut c_void;
     fn munmap(at: *mut c_void, length: usize) -> i32;
 }
 
@@ -106,10 +93,9 @@ fn params(leaf_length: u32) -> TreeParams<'static> {
 #[test]
 fn lengths_that_would_be_right_without_their_high_bits() {
     let long = Mapping::zeros((1 << 32) + 64);
-    let text = &long[..(1 << 32) + 8];
+    let (value, text) = ((1 << 32) + 8, &long[..(1 << 32) + 8]);
     let of = |error: InvalidArgument| (error.argument(), error.value());
     let new = Params::new;
-    let value = (1 << 32) + 8;
     for (params, name) in [
         (new().key(text), "key.len()"),
         (new().salt(text), "salt.len()"),
@@ -119,36 +105,24 @@ fn lengths_that_would_be_right_without_their_high_bits() {
         assert_eq!(params.blake2b().map_err(of).err(), Some((name, value)));
         assert_eq!(params.blake2s().map_err(of).err(), Some((name, value)));
         if name != "output_size" {
-            let many = Blake2b::digest_many(&params, &[b"x"], &mut [[0; 32]]);
-            assert_eq!(many.map_err(of), Err((name, value)));
-            let many = Blake2s::digest_many(&params, &[b"x"], &mut [[0; 32]]);
-            assert_eq!(many.map_err(of), Err((name, value)));
+            assert_eq!(Blake2b::digest_many(&params, &[b"x"], &mut [[0; 32]]).map_err(of), Err((name, value)));
+            assert_eq!(Blake2s::digest_many(&params, &[b"x"], &mut [[0; 32]]).map_err(of), Err((name, value)));
         }
     }
-    assert_eq!(
-        Blake2bMac::new(text).map_err(of).err(),
-        Some(("key.len()", value))
-    );
-    assert_eq!(
-        Blake2sMac::tag(text, b"x").map_err(of),
-        Err(("key.len()", value))
-    );
+    assert_eq!(Blake2bMac::new(text).map_err(of).err(), Some(("key.len()", value)));
+    assert_eq!(Blake2sMac::tag(text, b"x").map_err(of), Err(("key.len()", value)));
     let tree = TreeParams::new(1);
     for (params, name) in [
         (tree.salt(text), "salt.len()"),
         (tree.persona(text), "persona.len()"),
         (tree.output_size((1 << 32) + 8), "output_size"),
     ] {
-        assert_eq!(params.root(b"x").map_err(of), Err((name, value)));
         assert_eq!(params.hasher().map_err(of).err(), Some((name, value)));
-        assert_eq!(
-            params.root_of_leaves(&[0; 64]).map_err(of),
-            Err((name, value))
-        );
-        assert_eq!(params.root_threads(b"x", 2).map_err(of), Err((name, value)));
+        for root in [params.root(b"x"), params.root_of_leaves(&[0; 64]), params.root_threads(b"x", 2)] {
+            assert_eq!(root.map_err(of), Err((name, value)));
+        }
         if name != "output_size" {
-            let leaves = params.leaves(b"x", 0, true, &mut [0; 64]);
-            assert_eq!(leaves.map_err(of), Err((name, value)));
+            assert_eq!(params.leaves(b"x", 0, true, &mut [0; 64]).map_err(of), Err((name, value)));
         }
     }
 }
@@ -156,35 +130,23 @@ fn lengths_that_would_be_right_without_their_high_bits() {
 #[test]
 fn rooms_that_would_be_right_without_their_high_bits() {
     let mut room = Mapping::zeros((1 << 32) + 64);
+    let (one, two) = (TreeParams::new(1), TreeParams::new(2));
+    let mut hasher = one.hasher().unwrap();
     let said = "digests.len() is 4294967360, and must be 64";
-    let error = TreeParams::new(1)
-        .leaves(b"x", 0, true, &mut room)
-        .unwrap_err();
-    assert_eq!(error.to_string(), said);
-    let mut hasher = TreeParams::new(1).hasher().unwrap();
-    let error = hasher.leaves_ahead(0, b"x", &mut room).unwrap_err();
-    assert_eq!(error.to_string(), said);
-    let leaves = &room[..(1 << 32) + 1];
-    let error = TreeParams::new(2)
-        .leaves(leaves, 0, false, &mut [0; 64])
-        .unwrap_err();
-    assert_eq!(
-        error.to_string(),
-        "bytes.len() is 4294967297, and must be a positive multiple of 2"
-    );
-    let error = hasher
-        .update_leaves(&room[..(1 << 32) + 1], b"x")
-        .unwrap_err();
-    assert_eq!(
-        error.to_string(),
-        "digests.len() is 4294967297, and must be a multiple of 64"
-    );
-    let error = TreeParams::new(1)
-        .root_of_leaves(&room[..(1 << 32) + 63])
-        .unwrap_err();
-    let said = "digests.len() is 4294967359, and must be a positive multiple of 64";
-    assert_eq!(error.to_string(), said);
-    assert_eq!(params(1).leaf_count(1 << 40), 1 << 40);
+    assert_eq!(one.leaves(b"x", 0, true, &mut room).unwrap_err().to_string(), said);
+    assert_eq!(hasher.leaves_ahead(0, b"x", &mut room).unwrap_err().to_string(), said);
+    let (leaves, digests) = (&room[..(1 << 32) + 1], &room[..(1 << 32) + 63]);
+    for (refused, said) in [
+        (two.leaves(leaves, 0, false, &mut [0; 64]), "bytes.len() is 4294967297, and must be a positive multiple of 2"),
+        (hasher.update_leaves(leaves, b"x").map(drop), "digests.len() is 4294967297, and must be a multiple of 64"),
+        (
+            one.root_of_leaves(digests).map(drop),
+            "digests.len() is 4294967359, and must be a positive multiple of 64",
+        ),
+    ] {
+        assert_eq!(refused.unwrap_err().to_string(), said);
+    }
+    assert_eq!(one.leaf_count(1 << 40), 1 << 40);
     assert_eq!(params(u32::MAX).leaf_count((1 << 40) + 1), 257);
 }
 
@@ -204,16 +166,6 @@ fn bytes_that_would_be_equal_without_their_high_bits() {
     long[..32].copy_from_slice(mac.finalize().as_bytes());
     assert!(mac.verify(&long[..32]).is_ok());
     assert_eq!(mac.verify(&long[..(1 << 32) + 32]), Err(MacError));
-}
-
-#[test]
-#[ignore = "4 GiB by all threads"]
-fn roots_by_threads() {
-    let message = Mapping::marked(LENGTH);
-    assert_eq!(
-        params(4 << 20).root_threads(&*message, 0).unwrap().to_hex(),
-        ROOT_4M
-    );
 }
 
 // A sparse file with the message.
@@ -238,6 +190,60 @@ impl Drop for Sparse {
     }
 }
 
+// The digits of a digest.
+fn hex(digest: &[u8]) -> String {
+    digest.iter().map(|byte| format!("{byte:02x}")).collect()
+}
+
+// The root by a hasher that has absorbed the message.
+fn by_hasher(leaf_length: u32, absorb: for<'a> fn(&'a mut TreeHasher, &[u8]) -> &'a mut TreeHasher) -> String {
+    let mut hasher = params(leaf_length).hasher().unwrap();
+    absorb(&mut hasher, &Mapping::marked(LENGTH));
+    assert_eq!(hasher.count(), LENGTH as u64);
+    hex(hasher.finalize().as_bytes())
+}
+
+// Tests that take long: what each computes, and what it has to be.
+macro_rules! long_tests {
+    ($($test:ident: $got:expr, $wanted:expr;)*) => {
+        $(
+            #[test]
+            #[ignore = "more than 4 GiB"]
+            fn $test() {
+                assert_eq!($got, $wanted);
+            }
+        )*
+    };
+}
+
+long_tests! {
+    roots_by_threads: hex(params(4 << 20).root_threads(&*Mapping::marked(LENGTH), 0).unwrap().as_bytes()), ROOT_4M;
+    root_of_a_file_in_long_leaves: hex(params(64 << 20).root_file(&Sparse::new("long").0, 0).unwrap().as_bytes()),
+        ROOT_64M;
+    root_of_a_file_by_one_thread: hex(params(1 << 16).root_file(&Sparse::new("one").0, 1).unwrap().as_bytes()),
+        ROOT_64K;
+    root_in_one_call: hex(params(64 << 20).root(&*Mapping::marked(LENGTH)).unwrap().as_bytes()), ROOT_64M;
+    root_in_pieces: by_hasher(4 << 20, |hasher, message| hasher.update(message)), ROOT_4M;
+    root_written: by_hasher(4 << 20, |hasher, message| {
+        hasher.write_all(message).unwrap();
+        hasher
+    }), ROOT_4M;
+    pieces_by_threads: by_hasher(4 << 20, |hasher, message| hasher.update_threads(message, 4)), ROOT_4M;
+    long_leaves_by_threads: by_hasher(64 << 20, |hasher, message| hasher.update_threads(message, 4)), ROOT_64M;
+    // An input of more than 2^32 bytes after the digest of a leaf.
+    root_after_a_digest: by_hasher(1 << 10, |hasher, message| {
+        let mut first = [0; 64];
+        hasher.leaves_ahead(0, &message[..1 << 10], &mut first).unwrap();
+        hasher.update_leaves(&first, &message[1 << 10..]).unwrap()
+    }), ROOT_1K;
+    // Whole leaves of more than 2^32 bytes, and the last bytes of the message.
+    root_after_many_digests: by_hasher(1 << 10, |hasher, message| {
+        let mut next = vec![0; 64 << 22];
+        hasher.leaves_ahead(0, &message[..1 << 32], &mut next).unwrap();
+        hasher.update_leaves(&next, &message[1 << 32..]).unwrap()
+    }), ROOT_1K;
+}
+
 #[test]
 #[ignore = "4 GiB by all threads"]
 fn root_of_a_file() {
@@ -246,222 +252,66 @@ fn root_of_a_file() {
         last = bytes;
         Ok(())
     });
-    assert_eq!(
-        (root.unwrap().to_hex().as_str(), last),
-        (ROOT_64K, LENGTH as u64)
-    );
-}
-
-#[test]
-#[ignore = "4 GiB by long leaves"]
-fn root_of_a_file_in_long_leaves() {
-    let file = Sparse::new("long");
-    assert_eq!(
-        params(64 << 20).root_file(&file.0, 0).unwrap().to_hex(),
-        ROOT_64M
-    );
-}
-
-#[test]
-#[ignore = "4 GiB by one thread"]
-fn root_of_a_file_by_one_thread() {
-    let file = Sparse::new("one");
-    assert_eq!(
-        params(1 << 16).root_file(&file.0, 1).unwrap().to_hex(),
-        ROOT_64K
-    );
-}
-
-#[test]
-#[ignore = "4 GiB by one thread"]
-fn root_in_one_call() {
-    assert_eq!(
-        params(64 << 20)
-            .root(&*Mapping::marked(LENGTH))
-            .unwrap()
-            .to_hex(),
-        ROOT_64M
-    );
+    assert_eq!((&*root.unwrap().to_hex(), last), (ROOT_64K, LENGTH as u64));
 }
 
 #[test]
 #[ignore = "4 GiB by one thread"]
 fn root_of_ranges() {
-    let message = Mapping::marked(LENGTH);
     let mut digests = vec![0; 64 * 65];
-    params(64 << 20)
-        .leaves(&message, 0, true, &mut digests)
-        .unwrap();
-    assert_eq!(
-        params(64 << 20).root_of_leaves(&digests).unwrap().to_hex(),
-        ROOT_64M
-    );
-}
-
-#[test]
-#[ignore = "8 GiB by one thread"]
-fn trees_in_pieces() {
-    let message = Mapping::marked(LENGTH);
-    let mut hasher = params(4 << 20).hasher().unwrap();
-    assert_eq!(hasher.update(&*message).count(), LENGTH as u64);
-    assert_eq!(hasher.finalize().to_hex(), ROOT_4M);
-    let mut hasher = params(4 << 20).hasher().unwrap();
-    hasher.write_all(&message).unwrap();
-    assert_eq!(
-        (hasher.count(), hasher.finalize().to_hex().as_str()),
-        (LENGTH as u64, ROOT_4M)
-    );
-}
-
-#[test]
-#[ignore = "8 GiB by four threads"]
-fn trees_in_pieces_by_threads() {
-    let message = Mapping::marked(LENGTH);
-    for (leaf_length, wanted) in [(4 << 20, ROOT_4M), (64 << 20, ROOT_64M)] {
-        let mut hasher = params(leaf_length).hasher().unwrap();
-        hasher.update_threads(&*message, 4);
-        assert_eq!(
-            (hasher.count(), &*hasher.finalize().to_hex()),
-            (LENGTH as u64, wanted)
-        );
-    }
-}
-
-#[test]
-#[ignore = "8 GiB by one thread"]
-fn leaves_by_their_digests() {
-    let message = Mapping::marked(LENGTH);
-    // Whole leaves of more than 2^32 bytes, and the last bytes of the message.
-    let leaf = 1 << 10;
-    let mut next = vec![0; 64 << 22];
-    params(leaf)
-        .hasher()
-        .unwrap()
-        .leaves_ahead(0, &message[..1 << 32], &mut next)
-        .unwrap();
-    let mut hasher = params(leaf).hasher().unwrap();
-    hasher.update_leaves(&next, &message[1 << 32..]).unwrap();
-    assert_eq!(hasher.count(), LENGTH as u64);
-    assert_eq!(hasher.finalize().to_hex(), ROOT_1K);
-    // An input of more than 2^32 bytes after the digest of a leaf.
-    let mut hasher = params(leaf).hasher().unwrap();
-    hasher
-        .update_leaves(&next[..64], &message[1 << 10..])
-        .unwrap();
-    assert_eq!(hasher.finalize().to_hex(), ROOT_1K);
+    params(64 << 20).leaves(&Mapping::marked(LENGTH), 0, true, &mut digests).unwrap();
+    assert_eq!(*params(64 << 20).root_of_leaves(&digests).unwrap().to_hex(), *ROOT_64M);
 }
 
 #[test]
 #[ignore = "8 GiB by one thread"]
 fn more_than_2_to_the_26_digests() {
     let digests = Mapping::marked((1 << 32) + 64);
-    assert_eq!(
-        params(1).root_of_leaves(&digests).unwrap().to_hex(),
-        ROOT_OF_DIGESTS
-    );
+    assert_eq!(*params(1).root_of_leaves(&digests).unwrap().to_hex(), *ROOT_OF_DIGESTS);
     let mut hasher = params(1).hasher().unwrap();
-    assert_eq!(
-        hasher.update_leaves(&digests, b"x").unwrap().count(),
-        (1 << 26) + 2
-    );
-    assert_eq!(hasher.finalize().to_hex(), ROOT_OF_MORE);
+    assert_eq!(hasher.update_leaves(&digests, b"x").unwrap().count(), (1 << 26) + 2);
+    assert_eq!(*hasher.finalize().to_hex(), *ROOT_OF_MORE);
+}
+
+// A hasher or a MAC that has absorbed the message: its count, and its digest.
+macro_rules! absorbed {
+    ($new:expr, $hasher:ident, $absorb:expr) => {{
+        let mut $hasher = $new;
+        $absorb;
+        assert_eq!($hasher.count(), LENGTH as u64);
+        hex($hasher.finalize().as_bytes())
+    }};
 }
 
 macro_rules! family {
-    (
-        $test:ident, $hasher:ident, $mac:ident, $hash:ident, $max:literal, $digest:ident,
-        $tag:ident
-    ) => {
+    ($test:ident, $hasher:ident, $mac:ident, $hash:ident, $max:literal, $digest:ident, $tag:ident) => {
         mod $test {
             use super::*;
 
-            #[test]
-            #[ignore = "4 GiB by one thread"]
-            fn in_one_call() {
-                assert_eq!($hasher::digest(&*Mapping::marked(LENGTH)).to_hex(), $digest);
-            }
-
-            #[test]
-            #[ignore = "4 GiB by one thread"]
-            fn of_parameters() {
-                let digest = Params::new().$hash(&*Mapping::marked(LENGTH));
-                assert_eq!(digest.unwrap().to_hex(), $digest);
-            }
-
-            #[test]
-            #[ignore = "4 GiB by one thread"]
-            fn written() {
-                let mut hasher = $hasher::new();
-                assert_eq!(hasher.write(&Mapping::marked(LENGTH)).unwrap(), LENGTH);
-                assert_eq!(
-                    (hasher.count(), &*hasher.finalize().to_hex()),
-                    (LENGTH as u64, $digest)
-                );
-            }
-
-            #[test]
-            #[ignore = "4 GiB by one thread"]
-            fn of_a_reader() {
-                let file = Sparse::new(stringify!($hasher));
-                let mut hasher = $hasher::new();
-                hasher.update_reader(File::open(&file.0).unwrap()).unwrap();
-                assert_eq!(
-                    (hasher.count(), &*hasher.finalize().to_hex()),
-                    (LENGTH as u64, $digest)
-                );
-            }
-
-            #[test]
-            #[ignore = "4 GiB by one thread"]
-            fn of_several_messages() {
-                let (message, mut digests) = (Mapping::marked(LENGTH), [[0; $max]; 2]);
-                let messages = [b"x", &*message];
-                $hasher::digest_many(&Params::new(), &messages, &mut digests).unwrap();
-                assert!($hasher::digest(b"x") == digests[0]);
-                let hex: String = digests[1]
-                    .iter()
-                    .map(|byte| format!("{byte:02x}"))
-                    .collect();
-                assert_eq!(hex, $digest);
-            }
-
-            #[test]
-            #[ignore = "4 GiB by one thread"]
-            fn under_a_key_in_one_call() {
-                let tag = $mac::tag(b"key", &*Mapping::marked(LENGTH));
-                assert_eq!(tag.unwrap().to_hex(), $tag);
-            }
-
-            #[test]
-            #[ignore = "4 GiB by one thread"]
-            fn under_a_key() {
-                let mut mac = $mac::new(b"key").unwrap();
-                mac.update(&*Mapping::marked(LENGTH));
-                assert_eq!(
-                    (mac.count(), &*mac.finalize().to_hex()),
-                    (LENGTH as u64, $tag)
-                );
-                assert!(mac.verify(mac.finalize().as_bytes()).is_ok());
+            long_tests! {
+                in_one_call: hex($hasher::digest(&*Mapping::marked(LENGTH)).as_bytes()), $digest;
+                of_parameters: hex(Params::new().$hash(&*Mapping::marked(LENGTH)).unwrap().as_bytes()), $digest;
+                written: absorbed!($hasher::new(), hasher,
+                    assert_eq!(hasher.write(&Mapping::marked(LENGTH)).unwrap(), LENGTH)), $digest;
+                of_a_reader: absorbed!($hasher::new(), hasher, {
+                    let file = Sparse::new(stringify!($hasher));
+                    hasher.update_reader(File::open(&file.0).unwrap()).unwrap();
+                }), $digest;
+                under_a_key_in_one_call: hex($mac::tag(b"key", &*Mapping::marked(LENGTH)).unwrap().as_bytes()), $tag;
+                under_a_key: absorbed!($mac::new(b"key").unwrap(), mac, {
+                    mac.update(&*Mapping::marked(LENGTH));
+                    assert!(mac.verify(mac.finalize().as_bytes()).is_ok());
+                }), $tag;
+                of_several_messages: {
+                    let (message, mut digests) = (Mapping::marked(LENGTH), [[0; $max]; 2]);
+                    $hasher::digest_many(&Params::new(), &[b"x", &*message], &mut digests).unwrap();
+                    assert!($hasher::digest(b"x") == digests[0]);
+                    hex(&digests[1])
+                }, $digest;
             }
         }
     };
 }
 
-family!(
-    blake2b,
-    Blake2b,
-    Blake2bMac,
-    blake2b_hash,
-    64,
-    BLAKE2B,
-    BLAKE2B_KEY
-);
-family!(
-    blake2s,
-    Blake2s,
-    Blake2sMac,
-    blake2s_hash,
-    32,
-    BLAKE2S,
-    BLAKE2S_KEY
-);
+family!(blake2b, Blake2b, Blake2bMac, blake2b_hash, 64, BLAKE2B, BLAKE2B_KEY);
+family!(blake2s, Blake2s, Blake2sMac, blake2s_hash, 32, BLAKE2S, BLAKE2S_KEY);
