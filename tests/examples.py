@@ -118,7 +118,7 @@ class Runner:
         (crate / "src").mkdir(parents=True, exist_ok=True)
         (crate / "src/main.rs").write_text(text)
         (crate / "Cargo.toml").write_text('[package]\nname = "example"\nversion = "0.0.0"\nedition = "2021"\n'
-                                          f'[dependencies]\nvulfsjor = {{ path = "{TOP}" }}\n[workspace]\n')
+                                          f"[workspace]\n{self.with_folders(self.dependencies)}")
         self.call("cargo", "build", "--quiet", at=crate)
         return self.call(f"{self.environment['CARGO_TARGET_DIR']}/debug/example")
 

