@@ -15,7 +15,6 @@ hashlib's default. The kinds:
     hash      a digest. The first 512 of a family have the messages of the official test vectors
     many      BLAKE2b-256 of the joined digests of messages of these lengths
     root      the root of a tree of two levels, as hashlib's nodes make it
-    leaves    BLAKE2b-256 of the joined results of `ranges` below
     parallel  a digest of BLAKE2bp or BLAKE2sp
     output    `size` bytes of BLAKE2Xb or BLAKE2Xs, of an output of that length, or of an unknown one
     hmac, hkdf, pbkdf2    over the longest digest (RFC 2104, 5869 and 8018), of `size` bytes
@@ -30,7 +29,7 @@ import sys
 
 from b2_model import Input, Place, bytes_of, parameter_words
 from common import FAMILIES, Parser
-from oracle import SCALAR, parallel_by_hashlib, parallel_digest, range_digests, root_of_leaves, tree_root, xof_output
+from oracle import SCALAR, parallel_by_hashlib, parallel_digest, tree_root, xof_output
 
 FILE = os.path.join(os.path.dirname(os.path.abspath(__file__)), "vectors.json")
 NUMBERS = ("fanout", "depth", "leaf_size", "node_offset", "node_depth", "inner_size", "last_node")
@@ -69,21 +68,6 @@ def hash_of(data):
 
 # ---- what hashlib says
 
-def ranges(case):
-    """The ranges of a tree's leaves of a case: from leaf `first` on, or from the last place with room, 1 to 10
-    leaves that others follow, that end the message, and that end it with a shorter one. For each the first leaf, the
-    bytes, whether they end the message, the joined digests of the leaves and the root over these, of other sizes."""
-    leaf, texts, size = case["leaf_size"], arguments(case), case["digest_size"]
-    del texts["leaf_size"], texts["digest_size"]
-    for count in range(1, 11) if "length" not in case else (1,):
-        first = min(case["first"], (2**58 - 1) // leaf - count)
-        for ends, cut in ((False, 0), (True, leaf * count // 11), (True, 0)) if "length" not in case else ((True, 0),):
-            data = filler(case["seed"], case.get("length", count * leaf - cut))
-            digests = range_digests(data, leaf, first, ends, **texts)
-            size = 1 + size % 64
-            yield first, data, ends, digests, root_of_leaves(digests, leaf, size, **texts)
-
-
 def hkdf(function, longest, salt, secret, info, length):
     """A key by HKDF, in the two steps of RFC 5869, 2.2 and 2.3."""
     extracted = hmac.new(salt or bytes(longest), secret, function).digest()
@@ -111,8 +95,6 @@ def answer(case):
         return hash_of(b"".join(family.function(each, **given).digest() for each in messages(case)))
     if case["kind"] == "root":
         return tree_root(message(case), **given)
-    if case["kind"] == "leaves":
-        return hash_of(b"".join(digests + root for *_, digests, root in ranges(case)))
     if case["kind"] == "parallel":
         if given_by_hashlib(given):
             return parallel_by_hashlib(case["hash"][-1], message(case), **given)
@@ -244,11 +226,6 @@ def groups_of_trees():
             (1 << 10, 3 << 20), (1 << 12, (5 << 20) + 1), (1 << 14, (2 << 20) - 1), (1 << 16, 9 << 18),
             (1 << 18, 9 << 18), (1 << 20, (6 << 20) + 7), (3 << 20, 4 << 20), (1000, 1 << 20), (1 << 16, 1 << 18),
             (1 << 16, 5), (1 << 16, 0), (2**32 - 1, 1 << 20))))
-    leaves = (1, 2, 64, 127, 128, 129, 1000)
-    yield group("leaves", "b", f"leaf_size first {texts} seed", (
-        (leaf, first, *some(), leaf % 256) for leaf in leaves for first in (0, 1, 3, 2**31, 2**32 + 5, 2**58)))
-    yield group("leaves", "b", f"leaf_size first length {texts}", (
-        (*row, *some()) for row in [(leaf, 0, 0) for leaf in leaves] + [(2**32 - 1, 7, 300)]))
 
 
 def written(groups):
@@ -293,17 +270,8 @@ def lines(case):
         yield "p", size, key, salt, person, message(case), wanted
     elif case["kind"] == "output":
         yield "x", case["size"] if case["is_known"] else 0, key, salt, person, message(case), wanted
-    elif case["kind"] == "many":
-        yield "m", size, key, salt, person, ",".join(each.hex() or "-" for each in messages(case)), wanted
     elif case["kind"] == "root" and case["seed"]:
         yield "r", size, salt, person, given["leaf_size"], message(case), wanted
-    elif case["kind"] == "root":
-        yield "y", given["leaf_size"], case["length"], salt, person, size, wanted
-    elif case["kind"] == "leaves":
-        if answer(case) != wanted:
-            sys.exit(f"tests/vectors.json: hashlib has another digest of {case}")
-        for first, data, ends, digests, root in ranges(case):
-            yield "l", given["leaf_size"], first, int(ends), salt, person, data, digests, len(root), root
     elif case["kind"] == "hmac":
         yield "hmac", key, message(case), wanted
     elif case["kind"] == "hkdf":
