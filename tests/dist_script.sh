@@ -62,8 +62,6 @@ changed() {
 }
 
 check "dist/ with its MANIFEST is current" dist current
-check "another crate is named" eval 'echo "fn b() {}" >>crates/b2/src/lib.rt &&
-    ends 1 "dist.sh: dist/ was not made from these sources: run make dist" current' && sed -i '$d' crates/b2/src/lib.rt
 check "what cannot be compared is no difference" eval 'mv tools/scalar.sed "$work/kept" &&
     ends 2 "dist.sh: dist/ could not be compared with these sources" current' && mv "$work/kept" tools/scalar.sed
 # Without sha256sum, as on macOS.
@@ -79,42 +77,52 @@ needs shasum
 check "shasum will do for sha256sum" with_shasum
 needs
 cp "$work/macros.h" dist/macros.h
-for file in $files; do check "a change of $file is found" changed 1 "dist/$file" '$a\ '; done
+# A table of changes: whether they are found (1) or not (0), the file, and what sed does.
+changes() {
+    local found file edit
+    while read -r found file edit; do
+        changed "$found" "$file" "$edit" || { echo "$file: $edit" && return 1; }
+    done
+}
+check "a change of a file of dist/ is found" changes < <(printf '1 dist/%s $a\ \n' $files)
+check "a change of a source is found, and no other" changes < <(
+    printf '1 crates/%s/src/lib.rt $a fn more() {} // more\n' b2 b2sum b2_commands blake2_ffi blake2_state
+    printf '1 %s $a # more\n' tools/{plain_names,clear_registers,object_formats,wasm_{format,values,body,to_c}}.py \
+        tools/{wasm_to_c.c,*.csv,*.sed,shared_functions.txt}
+    cat <<'END'
+0 crates/b2/src/lib.rt 1i\ \ // more
+0 crates/beside/src/lib.rt $a fn more() {}
+1 c/include/vulfsjor.h s/int/long/
+0 c/include/vulfsjor.h s/ of one / of a /;s/here/there/
+1 c/choose.c s/"7"/"8"/
+0 c/include/vulfsjor.h s/"1\.2\.3"/"1.2.4"/
+1 dist/MANIFEST /  aarch64\/b2\.s$/d
+1 dist/MANIFEST s|^.\(.*  aarch64/b2\.s\)$|\1|
+END
+)
 mv dist/wasm/vulfsjor.wasm "$work/old"
 check "a file that is absent is found" ends 1 "there is no dist/wasm/vulfsjor.wasm" current
 mv "$work/old" dist/wasm/vulfsjor.wasm
-check "a file without a hash is found" changed 1 dist/MANIFEST '/  aarch64\/b2\.s$/d'
-check "a hash that is too short is found" changed 1 dist/MANIFEST 's|^.\(.*  aarch64/b2\.s\)$|\1|'
-for crate in b2 b2sum b2_commands blake2_ffi blake2_state; do
-    check "a change of crates/$crate is found" changed 1 "crates/$crate/src/lib.rt" '$a fn more() {} // more'
-    check "not that of a line that is a comment" changed 0 "crates/$crate/src/lib.rt" '1i\ \ // more'
-done
-check "nor that of another crate" changed 0 crates/beside/src/lib.rt '$a fn more() {}'
 echo "fn more() {}" >crates/b2/more.rt
-check "nor a file next to src/" dist current
+check "a file next to src/ is not" dist current
 mv crates/blake2_ffi/src/{lib,more}.rt
-check "another name of a file is found" eval "! dist current"
+check "another name of a file is found" ends 1 "dist/ was not made from these sources: run make dist" current
 mv crates/blake2_ffi/src/{more,lib}.rt
-for file in tools/{plain_names,clear_registers,object_formats,wasm_format,wasm_to_c}.py \
-    tools/{wasm_to_c.c,*.csv,*.sed,shared_functions.txt}; do
-    check "a change of $file is found" changed 1 "$file" '$a # more'
-done
-check "a change of the header is found" changed 1 c/include/vulfsjor.h 's/int/long/'
-check "not that of a comment in it" changed 0 c/include/vulfsjor.h 's/ of one / of a /;s/here/there/'
-check "another number of the code is found" changed 1 c/choose.c 's/"7"/"8"/'
-check "not another version" changed 0 c/include/vulfsjor.h 's/"1\.2\.3"/"1.2.4"/'
 
 check "without a toolchain only hashes are compared" ends 0 \
     "only hashes were compared: dist/ was made with another toolchain, kit 1" check
 check "but these are" changed 1 dist/macros.h '$a\ ' check
 # Files that were made are compared byte for byte.
 cp -R dist "$work/made"
-check "the same files are those of a folder" of_script "are_those_of '$work/made'"
-for file in $made; do
-    check "another $file is not" eval 'echo >>"$work/made/$file" &&
-        ! of_script "are_those_of \"$work/made\"" >"$work/shown" 2>&1 && grep -F "$file" "$work/shown"'
-    cp "dist/$file" "$work/made/$file"
-done
+compares_files() {
+    local file
+    of_script "are_those_of '$work/made'" || return 1
+    for file in $made; do
+        echo >>"$work/made/$file" && ! of_script "are_those_of '$work/made'" >"$work/shown" 2>&1 &&
+            grep -F "$file" "$work/shown" && cp "dist/$file" "$work/made/$file" || return 1
+    done
+}
+check "files that were made are compared byte for byte" compares_files
 check "MANIFEST names every file of dist/ but itself and a page" diff <(cd "$top" && git ls-files dist | sort) \
     <(printf '%s\n' MANIFEST README.md $files | sed 's|^|dist/|' | sort)
 check "make needs rt" ends 1 "the toolchain's command rt is not on the PATH" make

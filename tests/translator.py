@@ -1,7 +1,7 @@
 #!/usr/bin/env python3
 """Tests tools/wasm_to_c.py and tools/wasm_to_rust.py: random functions of all their instructions do in C, on several
 processors, and in Rust what node does with the module; and what they do not know, they refuse. With VULFSJOR_TEST_HUGE
-more functions, and each change of a translator in translator/mutations.txt is seen by one of these tests.
+there are more functions, compilers and processors.
 
     tests/translator.py [SEED COUNT]
 
@@ -14,7 +14,6 @@ import shutil
 import subprocess
 import sys
 import tempfile
-import types
 
 import tap
 from common import TOP
@@ -25,19 +24,17 @@ import functions  # noqa: E402
 import wasm_to_c  # noqa: E402
 import wasm_to_rust  # noqa: E402
 from wasm_format import CannotRead  # noqa: E402
+from wasm_values import Refused  # noqa: E402
 
-# The compilers, with words, and what runs their programs.
-NATIVE = {"cc -O2": (["cc", "-O2"], []),
-          "clang -O1 with sanitizers":
-              (["clang", "-O1", "-fsanitize=address,undefined", "-fno-sanitize-recover=all"], []),
-          "cc -O1, an unknown order of bytes": (["cc", "-O1", "-U__BYTE_ORDER__"], [])}
-CROSS = {"riscv64": ("riscv64-linux-gnu-gcc", "qemu-riscv64"), "s390x": ("s390x-linux-gnu-gcc", "qemu-s390x"),
-         "i386": ("i686-linux-gnu-gcc", "qemu-i386"), "armhf": ("arm-linux-gnueabihf-gcc", "qemu-arm"),
-         "ppc64el": ("powerpc64le-linux-gnu-gcc", "qemu-ppc64le")}
-# Those that see changes of the translator, the quickest first.
-SEEING = [(["cc", "-O0"], []), (["cc", "-O0", "-U__BYTE_ORDER__"], []),
-          (["s390x-linux-gnu-gcc", "-O0", "-static"], ["qemu-s390x"]),
-          NATIVE["clang -O1 with sanitizers"]]
+HUGE = bool(os.environ.get("VULFSJOR_TEST_HUGE"))
+# The compilers, with words, and what runs their programs: those of the short form, and the others.
+TARGETS = {"cc -O2": (["cc", "-O2"], []), "cc -O1, an unknown order of bytes": (["cc", "-O1", "-U__BYTE_ORDER__"], []),
+           "s390x": (["s390x-linux-gnu-gcc", "-O1", "-static"], ["qemu-s390x"])}
+MORE_TARGETS = {processor: ([f"{compiler}-gcc", "-O2", "-static"], [emulator]) for processor, compiler, emulator in (
+    ("riscv64", "riscv64-linux-gnu", "qemu-riscv64"), ("i386", "i686-linux-gnu", "qemu-i386"),
+    ("armhf", "arm-linux-gnueabihf", "qemu-arm"), ("ppc64el", "powerpc64le-linux-gnu", "qemu-ppc64le"))}
+MORE_TARGETS["clang -O1 with sanitizers"] = (
+    ["clang", "-O1", "-fsanitize=address,undefined", "-fno-sanitize-recover=all"], [])
 # Sums that are too long for their type would panic in Rust with these words.
 RUSTC = [*os.environ.get("RUSTC", "rustc").split(), "-C", "opt-level=1", "-C", "debug-assertions=on", "-A", "warnings"]
 INPUTS = [(0, 0), (1, 2**64 - 1), (0x0123456789abcdef, 0xfedcba9876543210), (1 << 63, 1 << 31),
@@ -144,18 +141,18 @@ class Case:
                               timeout=20 if words[-1] == "./run" else 600)
         return done.stdout if not done.returncode else f"{words[0]}: {done.returncode} {done.stderr[-3000:]}"
 
-    def translate(self, translator=wasm_to_c):
+    def translate(self):
         """Writes the functions in C."""
-        self.write("v.c", str(translator.Program(self.data, self.header)).encode())
+        self.write("v.c", str(wasm_to_c.Program(self.data, self.header)).encode())
 
     def run(self, compiler, emulator):
         """What the functions in C return."""
         said = self.output([*compiler, "-std=c99", "-w", "-I.", "main.c", "v.c", "-o", "run"])
         return said or self.output([*emulator, "./run"])
 
-    def run_in_rust(self, translator=wasm_to_rust):
+    def run_in_rust(self):
         """What the functions in Rust return."""
-        self.write("v.rs", str(translator.Program(self.data, self.header)).encode())
+        self.write("v.rs", str(wasm_to_rust.Program(self.data, self.header)).encode())
         said = self.output([*RUSTC, "--edition=2021", "main.rs", "-o", "run"])
         return said or self.output([*os.environ.get("RUSTC_RUNNER", "").split(), "./run"])
 
@@ -180,10 +177,7 @@ def what_is_missing(tool, *emulator):
 
 def test_targets(case, name):
     """The functions on each processor whose compiler is there."""
-    targets = dict(NATIVE)
-    targets.update({processor: ([compiler, "-O2", "-static"], [emulator])
-                    for processor, (compiler, emulator) in CROSS.items()})
-    for target, (compiler, emulator) in targets.items():
+    for target, (compiler, emulator) in {**TARGETS, **(MORE_TARGETS if HUGE else {})}.items():
         missing = what_is_missing(compiler[0], *emulator)
         if missing:
             tap.result(True, f"{name}, {target}", skipped=missing)
@@ -292,98 +286,20 @@ ACCEPTED = {
 }
 
 
-def why_refused(translator, data):
+def why_refused(data):
     """Why a module is refused, or nothing."""
     try:
-        str(translator.Program(data, header_of([["i64"]])))
-    except (translator.Refused, CannotRead) as why:
+        str(wasm_to_c.Program(data, header_of([["i64"]])))
+    except (Refused, CannotRead) as why:
         return str(why) or "refused"
     return ""
 
 
-def wrong_refusals(translator):
-    """The names of modules that are not refused, or refused although they are known."""
-    return ([name for name, data in REFUSED.items() if not why_refused(translator, data)] +
-            [f"{name}: {why_refused(translator, data)}" for name, data in ACCEPTED.items()
-             if why_refused(translator, data)])
-
-
-# ---- changes of the translator
-
-FILES = {"py": "wasm_to_c.py", "c": "wasm_to_c.c", "rust": "wasm_to_rust.py", "rs": "wasm_to_rust.rs"}
-
-
-def mutations():
-    """The changes of translator/mutations.txt: file, old text, new text."""
-    with open(os.path.join(FOLDER, "mutations.txt"), encoding="utf-8") as file:
-        lines = [line.rstrip("\n") for line in file if line.strip() and not line.startswith("#")]
-    for line in lines:
-        name, old, new = re.fullmatch("(py|c|rust|rs): (.*?) => ?(.*)", line).groups()
-        yield FILES[name], old.replace("\\n", "\n"), new.replace("\\n", "\n")
-
-
-def changed_translator(name, old, new, folder):
-    """The translator with a change of the tool or of its part in C or Rust, which is in this folder."""
-    tool = name.partition(".")[0] + ".py"
-    texts = {}
-    for each in (tool, name):
-        with open(os.path.join(TOP, "tools", each), encoding="utf-8") as file:
-            texts[each] = file.read()
-    if texts[name].count(old) != 1:
-        raise ValueError(f"{name} has {old!r} {texts[name].count(old)} times")
-    texts[name] = texts[name].replace(old, new)
-    made = types.ModuleType("changed")
-    made.__file__ = os.path.join(TOP, "tools", tool)
-    exec(compile(texts[tool], "changed", "exec"), made.__dict__)  # pylint: disable=exec-used
-    if name != tool:
-        made.Program.parts_file = os.path.join(folder, name)
-        with open(made.Program.parts_file, "w", encoding="utf-8") as file:
-            file.write(texts[name])
-    return made
-
-
-def test_notices(cases, translator):
-    """Whether a test sees that this translator is another."""
-    try:
-        if translator.Program.language.__name__ == "C" and wrong_refusals(translator):
-            return True
-    except Exception:  # pylint: disable=broad-except
-        return True
-    for case in cases:
-        try:
-            if translator.Program.language.__name__ == "Rust":
-                if case.difference(case.run_in_rust(translator)):
-                    return True
-                continue
-            case.translate(translator)
-        except Exception:  # pylint: disable=broad-except
-            return True
-        try:
-            if any(case.difference(case.run(*target)) for target in SEEING):
-                return True
-        except subprocess.TimeoutExpired:
-            return True
-    return False
-
-
-def test_mutations(cases):
-    """Each change of a translator is seen, and none where there is none."""
-    same = [each for each in (wasm_to_c, wasm_to_rust) if test_notices(cases, each)]
-    tap.result(not same, "no change of the translators is seen where there is none")
-    for name, old, new in mutations():
-        try:
-            seen = test_notices(cases, changed_translator(name, old, new, cases[0].folder))
-            why = "no test fails"
-        except ValueError as error:
-            seen, why = False, str(error)
-        tap.result(seen, f"a change of {name} is seen: {old!r} -> {new!r}", why)
-
-
 def main():
     """Runs the tests."""
-    huge = bool(os.environ.get("VULFSJOR_TEST_HUGE"))
-    seed, count = map(int, sys.argv[1:3]) if len(sys.argv) == 3 else (1, 300 if huge else 40)
-    wrong = wrong_refusals(wasm_to_c)
+    seed, count = map(int, sys.argv[1:3]) if len(sys.argv) == 3 else (1, 300 if HUGE else 40)
+    wrong = [name for name, data in REFUSED.items() if not why_refused(data)]
+    wrong += [f"{name}: {why_refused(data)}" for name, data in ACCEPTED.items() if why_refused(data)]
     tap.result(not wrong, f"{len(REFUSED)} modules are refused, and {len(ACCEPTED)} like them are not",
                "\n".join(wrong))
     if not shutil.which("node") or not shutil.which("cc"):
@@ -396,13 +312,6 @@ def main():
         tap.result(len(case.wanted.splitlines()) == len(INPUTS) * count, "node calls each of them", case.wanted)
         case.translate()
         test_targets(case, f"{len(INPUTS) * count} calls of random functions next to node")
-    missing = [what_is_missing(compiler[0], *emulator) for compiler, emulator in SEEING] + [what_is_missing(RUSTC[0])]
-    if not huge or any(missing):
-        tap.result(True, "changes of the translator are seen",
-                   skipped=next(filter(None, missing)) if huge else "VULFSJOR_TEST_HUGE is not set")
-        tap.finish()
-    with tempfile.TemporaryDirectory() as a, tempfile.TemporaryDirectory() as b:
-        test_mutations([Case(a, 1, 40), Case(b, 2, 40)])
     tap.finish()
 
 

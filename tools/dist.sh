@@ -70,7 +70,7 @@ sources() {
             cat tools/plain_names.py tools/aarch64_attributes.csv tools/parallel_attributes.csv \
                 tools/x86_64_v2.sed tools/x86_64_v4.sed tools/b2sum.sed tools/clear_registers.py \
                 tools/object_formats.py tools/shared_functions.txt tools/scalar.sed \
-                tools/wasm_format.py tools/wasm_to_c.{py,c} tools/wasm_to_rust.{py,rs} &&
+                tools/wasm_{format,values,body}.py tools/wasm_to_c.{py,c} tools/wasm_to_rust.{py,rs} &&
             sed '/^ \*/d;/^\/\*/d;s/\/\*.*\*\///;/^#define VULFSJOR_VERSION/d' c/include/vulfsjor.h
     } | sha256 | cut -d ' ' -f 1
 }

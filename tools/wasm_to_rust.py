@@ -11,7 +11,8 @@ import sys
 import textwrap
 
 import wasm_to_c
-from wasm_to_c import BITS, Branch, Mark, literal
+from wasm_body import Body
+from wasm_values import BITS, Branch, Mark, literal, refuse_unless
 
 METHODS = {"+": "plus", "-": "minus", "*": "times"}
 # The types of the header in the crate.
@@ -26,7 +27,7 @@ class Rust:
     @staticmethod
     def type(type_):
         """The type for one of WebAssembly."""
-        wasm_to_c.refuse_unless(type_ in BITS, f"the type {type_}")
+        refuse_unless(type_ in BITS, f"the type {type_}")
         return f"u{BITS[type_]}"
 
     @staticmethod
@@ -110,11 +111,11 @@ class Program(wasm_to_c.Program):
 
     def function(self, k):
         function = self.functions[k]
-        wasm_to_c.refuse_unless(len(function.results) <= 1, "several results")
+        refuse_unless(len(function.results) <= 1, "several results")
         words = ", ".join(f"mut v{k}: {Rust.type(type_)}" for k, type_ in enumerate(function.parameters))
         result = "".join(f" -> {Rust.type(type_)}" for type_ in function.results)
         return (f"// {self.names[k]}\n#[inline(never)]\n{head(self.c_name(k), words, result)}\n"
-                f"{wasm_to_c.Body(self, function)}\n}}")
+                f"{Body(self, function)}\n}}")
 
     def wiping(self, k):
         return self.parts.fill("scrub", NAME=self.c_name(k), WORDS=(self.scrubbed(k) + wasm_to_c.MARGIN) // 8)
