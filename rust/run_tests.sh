@@ -16,7 +16,7 @@ export CARGO_TARGET_DIR=$work/target CARGO_NET_OFFLINE=true
 export CARGO_INCREMENTAL=0 CARGO_PROFILE_DEV_DEBUG=0
 short=(--lib --test bindings --test conformance)
 all=(--tests)
-[ -n "${VULFSJOR_TEST_HUGE-}" ] || all=("${short[@]}" --test={files,manifest,programs,trees}) # huge.rs would run none
+[ -n "${VULFSJOR_TEST_HUGE-}" ] || all=("${short[@]}" --test={files,manifest,programs,trees})
 # On processors that are emulated, and of builds that this one would not choose, a part of the conformance cases.
 some_cases=$([ -n "${VULFSJOR_TEST_HUGE-}" ] || echo VULFSJOR_SHARE=6)
 
@@ -107,7 +107,7 @@ check_huge "the examples in the documentation of vulfsjor" cargo_here test --doc
 check_huge "the crate vulfsjor in a shared library of Rust" cargo_here test --test programs -- --ignored shared_library
 check_huge "the crate vulfsjor, optimized" cargo_here test --release "${short[@]}"
 check "wrong uses do not compile" refused_lines rust/tests/wrong_uses
-check "the crate vulfsjor without std" cargo_here test --no-default-features --lib --test bindings
+check "the crate vulfsjor without std" cargo_here test --no-default-features --lib # the other files need std
 # Optimizing takes longer than the few tests without VULFSJOR_TEST_HUGE save by it.
 CARGO_PROFILE_DEV_OPT_LEVEL=$([ -n "${VULFSJOR_TEST_HUGE-}" ] && echo 1 || echo 0) \
     check "the crate vulfsjor in portable Rust" cargo_build portable
@@ -124,7 +124,8 @@ if [ "$(uname -m)" = x86_64 ]; then
         cargo_here test --lib --test programs -- --ignored other_processors
 fi
 needs_cross aarch64-unknown-linux-gnu aarch64-linux-gnu-gcc qemu-aarch64
-check "the crate vulfsjor on 64-bit ARM" cargo_cross "${short[@]}"
+check "the crate vulfsjor on 64-bit ARM" cargo_cross $([ -n "${VULFSJOR_TEST_HUGE-}" ] && echo --lib --test bindings) \
+    --test conformance
 needs_cross s390x-unknown-linux-gnu s390x-linux-gnu-gcc qemu-s390x
 check "the crate vulfsjor in portable Rust on s390x" cargo_cross --test conformance
 needs valgrind

@@ -2,8 +2,8 @@
 """Runs the program b2sum over files: digests, keys, trees, manifests and what is refused. What it has to print is known
 from hashlib.
 
-Only the first program has all tests, and the others those of what they compute: they are the same program, with older
-builds of the library. Without VULFSJOR_TEST_HUGE they have those that call each function of the library for them.
+Only the first program has all tests. With VULFSJOR_TEST_HUGE the others have those of what they compute: they are the
+same program, with older builds of the library.
 tests/b2sum_system.py has files, outputs and calls of the system that fail, and tests/compare_coreutils.py compares the
 program with that of coreutils.
 
@@ -608,7 +608,6 @@ def test_differences(runs):
 
 
 COMPUTING = (test_lengths, test_parameters, test_parallel, test_demanded_lengths, test_shapes, test_trees)
-CALLING_ALL = (test_shapes, test_parallel, test_trees)
 TESTS = (*COMPUTING, test_personal_text, test_show_digests, test_random, test_needs, test_macs, test_tags, test_names,
          test_coreutils, test_differences, test_key_input)
-run_tests(TESTS, COMPUTING if HUGE else CALLING_ALL)
+run_tests(TESTS, COMPUTING if HUGE else ())

@@ -1,5 +1,6 @@
 #!/usr/bin/env python3
-"""Plants faults in a copy of the sources, each of which `tools/twins.py --check` has to report by name."""
+"""Plants faults in a copy of the sources, each of which `tools/twins.py --check` has to report by name, and which
+`tools/twins.py` mends if they are in made files."""
 import os
 import shutil
 import subprocess
@@ -9,24 +10,11 @@ import tempfile
 import tap
 
 TOP = os.path.dirname(os.path.dirname(os.path.abspath(__file__)))
-MADE = "crates/blake2/src/hashers/blake2s.rt"
-SOURCE = MADE.replace("2s", "2b")
+HASHER, MAC, CORE, CONTEXT, OUTPUT = (f"crates/{it}" for it in (
+    "blake2/src/hashers/blake2s.rt", "blake2/src/macs/blake2s.rt", "blake2/src/cores/blake2s.rt",
+    "blake2/src/contexts/blake2s.rt", "blake2_xof/src/reader/blake2xs.rt"))
 PROOF = "crates/blake2_parallel/proofs/blake2sp/State/reset/Answers.antt"
 TABLE, ATTRIBUTES = "tools/twins.txt", ".gitattributes"
-
-
-def copy_sources(room):
-    """Copies what the tool reads."""
-    shutil.copytree(f"{TOP}/crates", f"{room}/crates", ignore=shutil.ignore_patterns("out", "must-fail", "data"))
-    os.mkdir(f"{room}/tools")
-    for path in "tools/twins.py", "tools/read_sources.py", TABLE, ATTRIBUTES:
-        shutil.copy(f"{TOP}/{path}", f"{room}/{path}")
-
-
-def run_tool(room, *words):
-    """The status of the tool over the copy, and what it prints."""
-    done = subprocess.run([sys.executable, f"{room}/tools/twins.py", *words], capture_output=True, text=True)
-    return done.returncode, done.stdout + done.stderr
 
 
 def read(path):
@@ -39,9 +27,39 @@ def write(path, text):
         file.write(text)
 
 
+def run_tool(room, *words):
+    """The status of the tool over the copy, and what it prints."""
+    done = subprocess.run([sys.executable, f"{room}/tools/twins.py", *words], capture_output=True, text=True)
+    return done.returncode, done.stdout + done.stderr
+
+
+# What is tried together: of each fault in which file what becomes what, or is added at the end, and what has to be
+# printed.
+FAULTS = (
+    (("a line is added to a made file", HASHER, "", "// more\n", f"{HASHER} is not as it is made"),
+     ("a number of a made file is changed", MAC, "N ≤ 32", "N ≤ 31", f"{MAC} is not as it is made"),
+     ("the mark of a made file is gone", CORE, "// Made by", "// By", f"{CORE} is not as it is made"),
+     ("only the source of a made file is changed", CONTEXT.replace("2s", "2b"), "", "// more\n",
+      f"{CONTEXT} is not as it is made"),
+     ("a made proof is empty", PROOF, read(f"{TOP}/{PROOF}"), "", f"{PROOF} is not as it is made"),
+     ("the table has a line that no file uses", TABLE, "in: *\n", "in: *\nno such word ~> word\n", "no such word"),
+     ("the table has a line for no file", TABLE, "", "\nin: blake2_none/*\nBLAKE2 ~> BLAKE\n", "no file has 'BLAKE2'"),
+     ("the table has a line twice", TABLE, "128 ~> 64\n", "128 ~> 64\n128 ~> 64\n", "no file has '128'"),
+     ("a file that is not there is by hand", TABLE, "by hand: ", "by hand: none/* ", "no file has 'none/*'"),
+     ("a pattern of .gitattributes is gone", ATTRIBUTES, "crates/*/specs/Blake2s*.antt linguist-generated\n", "",
+      ".gitattributes says that crates/blake2_state/specs/Blake2s.antt is written by hand"),
+     ("a pattern of .gitattributes has too much", ATTRIBUTES, "crates/*_tests/** -linguist-generated\n", "",
+      "blake2s.rt is made"),
+     ("a pattern of .gitattributes fits no file", ATTRIBUTES, "", "crates/none/** linguist-generated\n",
+      "crates/none/** changes nothing")),
+    (("the table has another number", TABLE, "128 ~> 64", "128 ~> 65", f"{HASHER} is not as it is made"),
+     ("a made file is by hand", TABLE, "by hand: ", "by hand: blake2_xof/*/reader/* ",
+      f"{OUTPUT} is made from no file")),
+)
+
+
 def plant_faults(room, faults):
-    """Replaces a text once for each fault, or adds it at the end if there is no old one. Then the check has to say all
-    of this."""
+    """Makes a group of faults, and looks for each in what the check says."""
     before = {path: read(f"{room}/{path}") for _, path, *_ in faults}
     for _, path, old, new, _ in faults:
         text = read(f"{room}/{path}")
@@ -53,55 +71,25 @@ def plant_faults(room, faults):
         write(f"{room}/{path}", text)
 
 
-# What is tried together: of each fault in which file what becomes what, and what has to be printed.
-FAULTS = (
-    (("a line is added to a made file", MADE, "", "// more\n", f"{MADE} is not as it is made"),
-     ("a made proof is empty", PROOF, read(f"{TOP}/{PROOF}"), "", f"{PROOF} is not as it is made"),
-     ("the table has a line that no file uses", TABLE, "in: *\n", "in: *\nno such word ~> word\n", "no such word"),
-     ("the table has a line for no file", TABLE, "", "\nin: blake2_none/*\nBLAKE2 ~> BLAKE\n", "no file has 'BLAKE2'"),
-     ("the table has a line twice", TABLE, "128 ~> 64\n", "128 ~> 64\n128 ~> 64\n", "no file has '128'"),
-     ("a file that is not there is by hand", TABLE, "by hand: ", "by hand: none/* ", "no file has 'none/*'"),
-     ("a pattern of .gitattributes is gone", ATTRIBUTES, "crates/*/specs/Blake2s*.antt linguist-generated\n", "",
-      ".gitattributes says that crates/blake2_state/specs/Blake2s.antt is written by hand")),
-    (("a number of a made file is changed", MADE, "N ≤ 32", "N ≤ 31", f"{MADE} is not as it is made"),
-     ("a pattern of .gitattributes has too much", ATTRIBUTES, "crates/*_tests/** -linguist-generated\n", "",
-      "blake2s.rt is made")),
-    (("the mark of a made file is gone", MADE, "// Made by", "// By", f"{MADE} is not as it is made"),
-     ("a pattern of .gitattributes fits no file", ATTRIBUTES, "crates/*_tests/**",
-      "crates/none/** linguist-generated\ncrates/*_tests/**", "crates/none/** changes nothing")),
-    (("only the source of a made file is changed", SOURCE, "", "// more\n", f"{MADE} is not as it is made"),),
-    (("the table has another number", TABLE, "128 ~> 64", "128 ~> 65", f"{MADE} is not as it is made"),),
-    (("a made file is by hand", TABLE, "by hand: ", "by hand: blake2/*/hashers/* ", f"{MADE} is made from no file"),),
-)
-
-
-def check_missing(room):
-    """A made file that is missing is reported, and made again; one whose source is gone is reported, and removed."""
-    wanted, source = read(f"{room}/{MADE}"), read(f"{room}/{SOURCE}")
-    os.remove(f"{room}/{MADE}")
-    status, printed = run_tool(room, "--check")
-    tap.result(status == 1 and f"{MADE} is not as it is made" in printed, "a made file is missing", printed)
-    made = run_tool(room)
-    tap.result(made == (0, f"{MADE}\n") and read(f"{room}/{MADE}") == wanted, "it is made again", made)
-    os.remove(f"{room}/{SOURCE}")
-    status, printed = run_tool(room, "--check")
-    tap.result(status == 1 and f"{MADE} is made from no file" in printed, "the source of a made file is gone", printed)
-    made = run_tool(room)
-    tap.result(made[1] == f"{MADE}\n" and not os.path.exists(f"{room}/{MADE}"), "the made file is removed", made)
-    write(f"{room}/{SOURCE}", source)
-    run_tool(room)
-
-
 def main():
     with tempfile.TemporaryDirectory() as room:
-        copy_sources(room)
+        shutil.copytree(f"{TOP}/crates", f"{room}/crates", ignore=shutil.ignore_patterns("out", "must-fail", "data"))
+        os.mkdir(f"{room}/tools")
+        for path in "tools/twins.py", "tools/read_sources.py", TABLE, ATTRIBUTES:
+            shutil.copy(f"{TOP}/{path}", f"{room}/{path}")
         fine = run_tool(room, "--check")
         tap.result(fine == (0, ""), "nothing is wrong in a copy", fine)
         for faults in FAULTS:
             plant_faults(room, faults)
-        check_missing(room)
-        again = run_tool(room)
-        tap.result(again == (0, "") and run_tool(room, "--check") == fine, "a second run makes nothing", again)
+        wanted = read(f"{room}/{HASHER}")
+        os.remove(f"{room}/{HASHER}")
+        os.remove(f"{room}/{OUTPUT.replace('2xs', '2xb')}")
+        status, printed = run_tool(room, "--check")
+        tap.result(status == 1 and f"{HASHER} is not as it is made" in printed, "a made file is missing", printed)
+        tap.result(f"{OUTPUT} is made from no file" in printed, "the source of a made file is gone", printed)
+        made = run_tool(room)
+        tap.result(f"{HASHER}\n{OUTPUT}\n" in made[1] and read(f"{room}/{HASHER}") == wanted and
+                   not os.path.exists(f"{room}/{OUTPUT}"), "one is made again, and the other is removed", made)
         wrong = run_tool(room, "--chekc")
         tap.result(wrong == (1, "usage: tools/twins.py [--check]\n"), "a wrong option is refused", wrong)
     tap.finish()
