@@ -35,18 +35,6 @@ def kind_of(path):
     return next((kind for kind, expression in KINDS if re.fullmatch(expression, path)), "other")
 
 
-def arguments_of(head):
-    """How many arguments a function of Rattle has, whose text begins with this list: commas at its own depth."""
-    depth, count, last = 0, 0, ""
-    for character in head:
-        depth += (character in "([{<") - (character in ")]}>" and last != "-")
-        if depth == 0:
-            return count + (last not in ",(")
-        count += character == "," and depth == 1
-        last = character if character.strip() else last
-    return 0
-
-
 def main():
     """Prints the counts."""
     top = sys.argv[1] if len(sys.argv) > 1 else os.path.dirname(os.path.dirname(os.path.abspath(__file__)))
@@ -66,15 +54,6 @@ def main():
     print(f"{around} lines around {product} of product: {around / product:.2f}; "
           f"with tests/machine {(around + lines['tests/machine']) / product:.2f}")
     print(sum(len(text.split()) for text in texts["pages"].values()), "words in pages")
-    code = "\n".join(texts["product: Rattle"].values())
-    lists = [arguments_of(code[it.end() - 1:])
-             for it in re.finditer(r"^ *(?:pub(?:\(\w+\))? )?(?:const )?fn \w+(?:<.*?>)?\(",
-                                                                    code, re.MULTILINE)]
-    print(f"{len(lists)} functions in Rattle, {sum(count > 7 for count in lists)} with more than 7 arguments")
-    names = collections.Counter(os.path.basename(path) for files in texts.values() for path in files
-                                if not re.search(r"/(proofs|must-fail)/", path))
-    print(f"{sum(names.values())} files except proofs and edits, "
-          f"{sum(count for count in names.values() if count > 1)} of which share a name with another")
 
 
 main()
