@@ -8,7 +8,7 @@ mod common;
 use common::{bytes, done, hex, run, yes_or_no, Driver, Given, Hash};
 use digest::consts::{U1, U16, U20, U28, U32, U48, U63, U64};
 use digest::{
-    Digest, ExtendableOutput, ExtendableOutputReset, FixedOutput, FixedOutputReset, Mac, Output, Reset, Update,
+    Digest, ExtendableOutput, ExtendableOutputReset, FixedOutput, FixedOutputReset, KeyInit, Mac, Output, Reset, Update,
     VariableOutput, VariableOutputReset, XofReader,
 };
 use std::io::{Read, Write};
@@ -23,6 +23,7 @@ fn absorb(to: &mut (impl Update + Write), message: &[u8]) -> Outcome {
     let (one, other) = message.split_at(message.len() / 3);
     to.update(one);
     to.write_all(other).unwrap();
+    to.flush().unwrap();
     done()
 }
 
@@ -170,7 +171,11 @@ macro_rules! family {
                 };
             }
             $(if size == <$size>::USIZE && given.has("key") {
-                boxed!(Tagged, $mac::<$size>::new_with_salt_and_personal(&key, &salt, &persona));
+                let made = $mac::<$size>::new_with_salt_and_personal(&key, &salt, &persona);
+                if given.has_only(&["size", "key"]) {
+                    assert_eq!(<$mac<$size> as KeyInit>::new_from_slice(&key).is_ok(), made.is_ok());
+                }
+                boxed!(Tagged, made);
             }
             if size == <$size>::USIZE && given.has_only(&["size", "salt", "person"]) {
                 boxed!(Fixed, $hasher::<$size>::new_with_salt_and_personal(&salt, &persona));

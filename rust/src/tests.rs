@@ -574,11 +574,14 @@ mod choice {
         has_level("3", "Haswell");
         has_level("2", "Nehalem");
         has_level("1", "core2duo");
-        for feature in ["sse3", "ssse3", "cx16", "sse4.1", "sse4.2", "popcnt", "lahf-lm"] {
-            has_level("1", &format!("Haswell,-{feature}"));
-        }
-        for feature in ["fma", "movbe", "xsave", "avx", "f16c", "avx2", "bmi2", "abm", "bmi1"] {
-            has_level("2", &format!("Haswell,-{feature}"));
+        // The test before this one clears each bit.
+        let of_v2 = ["popcnt", "sse3", "ssse3", "cx16", "sse4.1", "sse4.2", "lahf-lm"];
+        let of_v3 = ["bmi1", "fma", "movbe", "xsave", "avx", "f16c", "avx2", "bmi2", "abm"];
+        let is_full = std::env::var_os("VULFSJOR_TEST_HUGE").is_some();
+        for (level, features) in [("1", &of_v2[..]), ("2", &of_v3)] {
+            for feature in &features[..if is_full { features.len() } else { 1 }] {
+                has_level(level, &format!("Haswell,-{feature}"));
+            }
         }
     }
 

@@ -78,10 +78,7 @@ fn roots_of_files_and_of_memory() {
         let few: &[usize] = if length > 50 * MIB { &[3] } else { &[0, 1, 3] };
         for &threads in few {
             assert_eq!(params.root_file(&file.0, threads).unwrap().to_hex(), wanted);
-            assert_eq!(
-                params.root_threads(&bytes, threads).unwrap().to_hex(),
-                wanted
-            );
+            assert_eq!(params.root_threads(&bytes, threads).unwrap().to_hex(), wanted);
             let mut hasher = params.hasher().unwrap();
             hasher.update_threads(&bytes[..length / 3], threads);
             hasher.update_threads(&bytes[length / 3..], threads);
@@ -125,9 +122,7 @@ fn progress_is_reported() {
             assert!(seen.windows(2).all(|pair| pair[0] <= pair[1]));
             assert!(length == 0 || seen[0] > 0);
             if threads == 1 {
-                assert!(seen
-                    .iter()
-                    .all(|bytes| *bytes % (1 << 20) == 0 || *bytes == length as u64));
+                assert!(seen.iter().all(|bytes| *bytes % (1 << 20) == 0 || *bytes == length as u64));
                 assert!(seen.len() > length / MIB);
             }
         }
@@ -137,12 +132,7 @@ fn progress_is_reported() {
 #[test]
 fn progress_stops_the_call() {
     let file = Temporary::with("stops", b"");
-    File::options()
-        .write(true)
-        .open(&file.0)
-        .unwrap()
-        .set_len(1 << 32)
-        .unwrap();
+    File::options().write(true).open(&file.0).unwrap().set_len(1 << 32).unwrap();
     for threads in [1, 3] {
         for last in [0, 1, 2] {
             let mut calls = 0;
@@ -155,10 +145,7 @@ fn progress_stops_the_call() {
                 }
             });
             let error = root.unwrap_err();
-            assert_eq!(
-                (error.kind(), error.to_string()),
-                (ErrorKind::Other, "enough".into())
-            );
+            assert_eq!((error.kind(), error.to_string()), (ErrorKind::Other, "enough".into()));
             assert_eq!(calls, last + 1);
         }
         let call = || tree_params(1 << 16).root_file_with_progress(&file.0, threads, |_| panic!("why"));
@@ -179,16 +166,10 @@ fn files_that_change_meanwhile() {
             let set = |_| opened.set_len(length);
             tree_params(leaf_length).root_file_with_progress(&file.0, 2, set)
         };
-        assert_eq!(
-            change(80 << 20).unwrap(),
-            tree_params(leaf_length).root(&bytes).unwrap()
-        );
+        assert_eq!(change(80 << 20).unwrap(), tree_params(leaf_length).root(&bytes).unwrap());
         for shorter in [(1 << 30) - 1, 0] {
             opened.set_len(1 << 30).unwrap();
-            assert_eq!(
-                change(shorter).unwrap_err().kind(),
-                ErrorKind::UnexpectedEof
-            );
+            assert_eq!(change(shorter).unwrap_err().kind(), ErrorKind::UnexpectedEof);
         }
     }
 }
@@ -201,24 +182,14 @@ fn other_files() {
         let root = |path: &str| params.root_file(path, threads);
         assert_eq!(root("/dev/null").unwrap().to_hex(), ROOTS[0].2);
         let version = fs::read("/proc/version").unwrap();
-        assert_eq!(
-            root("/proc/version").unwrap(),
-            params.root(version).unwrap()
-        );
+        assert_eq!(root("/proc/version").unwrap(), params.root(version).unwrap());
         assert_eq!(root("/absent").unwrap_err().kind(), ErrorKind::NotFound);
         assert!(root("/proc").unwrap_err().to_string().contains("directory"));
         let pipe = Temporary::new(&format!("pipe-{threads}"));
-        assert!(Command::new("mkfifo")
-            .arg(&pipe.0)
-            .status()
-            .unwrap()
-            .success());
+        assert!(Command::new("mkfifo").arg(&pipe.0).status().unwrap().success());
         std::thread::scope(|scope| {
             scope.spawn(|| fs::write(&pipe.0, message_of(3 * MIB + 5)).unwrap());
-            assert_eq!(
-                params.root_file(&pipe.0, threads).unwrap().to_hex(),
-                ROOTS[3].2
-            );
+            assert_eq!(params.root_file(&pipe.0, threads).unwrap().to_hex(), ROOTS[3].2);
         });
     }
 }
@@ -243,11 +214,7 @@ fn files_of_impossible_lengths() {
 
 // Bytes that come in pieces of these lengths, over and over, with an interrupted read before each,
 // and an error at the end if there is one.
-struct Slow<'a>(
-    &'a [u8],
-    std::iter::Cycle<std::vec::IntoIter<usize>>,
-    Option<ErrorKind>,
-);
+struct Slow<'a>(&'a [u8], std::iter::Cycle<std::vec::IntoIter<usize>>, Option<ErrorKind>);
 
 impl<'a> Slow<'a> {
     fn new(bytes: &'a [u8], lengths: &[usize], error: Option<ErrorKind>) -> Self {
@@ -314,9 +281,7 @@ fn a_reader_fills_the_buffer() {
             self.1.read(&mut buffer[..room])
         }
     }
-    Blake2b::new()
-        .update_reader(Count(&lengths, &bytes))
-        .unwrap();
+    Blake2b::new().update_reader(Count(&lengths, &bytes)).unwrap();
     let (whole, half) = (MIB, MIB / 2);
     assert_eq!(*lengths.borrow(), [whole, half, whole, half, whole]);
 }
