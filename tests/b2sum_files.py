@@ -145,20 +145,14 @@ def test_parameters(runs):
 
 
 def test_personal_text(runs):
-    """A personalization of the bytes of a text, which counts as those bytes in digits do."""
-    for family, most in (("b", 16), ("s", 8), ("bp", 16), ("sp", 8), ("tree", 16)):
-        own = ["--tree", "4"] if family == "tree" else ["-a", "blake2" + family]
-        for text in ("x", "a b\n", "-c", "a=b", "=", "0" * most, "\u00e9" * (most // 2), "\udcff" * most):
-            person = os.fsencode(text)
-            bits = 512 if family in ("b", "bp", "tree") else 256
-            said = (root_line("b", b"abc", 4, person=person) if family == "tree"
-                    else line("b", b"abc", bits, family, tag=True, person=person))
-            for words in (["--personal-text", text], ["--personal-text=" + text], ["--personal=" + person.hex()],
-                          ["--personal-text", "other", "--personal-text", text]):
-                runs.wants([*own, "--tag", *words, "b"], said)
-                runs.wants([*own, "-c", *words], "b: OK\n", data=os.fsencode(said))
-            runs.wants([*own, "-c", "--personal-text", "other"], "b: FAILED\n",
-                       "WARNING: 1 computed checksum did NOT match", 1, os.fsencode(said))
+    """A personalization of the bytes of a text, which counts as those bytes in digits do: the last one counts. The
+    random runs have other texts."""
+    for text in ("-c", "a=b", "=", "0" * 16, "\u00e9" * 8, "\udcff" * 16):
+        said = line("b", b"abc", tag=True, person=os.fsencode(text))
+        for words in (["--personal-text", text], ["--personal-text=" + text],
+                      ["--personal-text", "other", "--personal-text", text]):
+            runs.wants(["--tag", *words, "b"], said)
+            runs.wants(["-c", *words], "b: OK\n", data=os.fsencode(said))
     runs.wants(["-c", "--personal-text", "x"], "b: OK\n", unmet_messages("no --personal"), 1,
                (line("b", b"abc", person=b"x") + line("a", b"", tag=True)).encode())
     runs.wants(["-c"], "", unmet_messages("--personal"), 1, line("b", b"abc", tag=True, person=b"x").encode())
@@ -421,26 +415,6 @@ def test_trees(runs):
     runs.ends("roots of trees")
 
 
-def test_show_digests(runs):
-    """A check that shows both digests of each file that differs, and else prints what it prints without that."""
-    found = {name: digest("b", data, 64) for name, data in FILES.items()}
-    listed = digest("b", b"other", 64)
-    text = "".join(line(name, b"other") for name in FILES) + line("none", b"") + "x\n" + line("b", b"abc")
-    text = text.replace(listed.hex(), listed.hex().upper(), 2)
-    failed = "".join(check_line(name, "FAILED") + both_digests(listed, found[name]) for name in FILES)
-    err = ("none: " + os.strerror(errno.ENOENT) + "\nWARNING: 1 line is improperly formatted\n"
-           "WARNING: 1 listed file could not be read\nWARNING: 4 computed checksums did NOT match")
-    for words, out, said in ((["--show-digests"], failed + "none: FAILED open or read\nb: OK\n", err),
-                             (["--sh", "--quiet"], failed + "none: FAILED open or read\n", err),
-                             (["--show-digests", "--status"], "", err.splitlines()[0])):
-        runs.wants(["-c", *words], out, said, 1, os.fsencode(text))
-    runs.write("sums", f"{listed.hex()}  -\n".encode())
-    runs.wants(["-c", "--show-digests", "sums"], "-: FAILED\n" + both_digests(listed, digest("b", b"abc", 64)),
-               "WARNING: 1 computed checksum did NOT match", 1, data=b"abc")
-    runs.wants(["-c", "--show-digests"], "".join(map(check_line, FILES)), data=os.fsencode(lines()))
-    runs.ends("both digests of files that differ")
-
-
 # ---- Random runs.
 
 def random_hash(rng):
@@ -546,28 +520,6 @@ def test_random(runs):
 
 # ---- What other programs do.
 
-def test_coreutils(runs):
-    """What coreutils' own tests of b2sum and of related programs check."""
-    names = ("a", " b", "*c", "44", " ")
-    for name in names:
-        runs.write(name, name.encode() + b"\n")
-    tagged, plain = ("".join(line(name, name.encode() + b"\n", bits, tag=tag) for name in names for bits in (512, 128))
-                     for tag in (True, False))
-    oks = "".join(f"{name}: OK\n" * 2 for name in names)
-    for text in (tagged, plain, tagged.replace(" (", "(").replace(") =", ")=")):
-        runs.wants(["--strict", "-c"], oks, data=text.encode())
-    runs.write("check.vals", (line("/dev/null", b"") + line("/dev/null", b"", 128)).encode())
-    runs.wants(["-l", "128", "check.vals"], "796485dd32fe9b754ea5fd6c721271d9  check.vals\n")
-    for text in ("0A0BA0", "BLAKE2", "BLAKE2b", "BLAKE2-", "BLAKE2(", "BLAKE2 (", "BLAKE2b (", "BLAKE2b-8 ("):
-        runs.wants(["-c"], "", "'standard input': no properly formatted checksum lines found", 1, text.encode())
-    for more, status in ((line("a", b"a\n"), 0), ("", 1)):
-        err = "" if more else "'standard input': no file was verified"
-        text = (more + line("none", b"")).encode()
-        runs.wants(["-c", "--ignore-missing"], more and "a: OK\n", err, status, text)
-        runs.wants(["-c", "--ignore-missing", "--status"], "", "", status, text)
-    runs.ends("what coreutils' own tests check")
-
-
 def test_differences(runs):
     """What docs/B2SUM.md lists as different from coreutils, as far as it can be seen in a run."""
     digits = hashlib.blake2b(b"abc", digest_size=32).hexdigest()
@@ -589,6 +541,9 @@ def test_differences(runs):
     for words in (["--help"], ["--version"]):
         got = runs.run(words)
         runs.holds(words, b"b2sum" in got[0] and got[1:] == (b"", 0), got)
+    shown = both_digests(hashlib.blake2b(b"x").digest(), hashlib.blake2b(b"abc").digest())
+    runs.wants(["-c", "--sh"], "b: FAILED\n" + shown,
+               "WARNING: 1 computed checksum did NOT match", 1, line("b", b"x").encode())
     for name in ("caf\u00e9", "it's\1", "\1it's", "'\n", "\1'\2", "''\udcff'"):
         said = runs.run([name], env={"LC_ALL": "C.UTF-8"})[1]
         quoted = said.removeprefix(b"b2sum: ").removesuffix(b": No such file or directory\n")
@@ -608,6 +563,6 @@ def test_differences(runs):
 
 
 COMPUTING = (test_lengths, test_parameters, test_parallel, test_demanded_lengths, test_shapes, test_trees)
-TESTS = (*COMPUTING, test_personal_text, test_show_digests, test_random, test_needs, test_macs, test_tags, test_names,
-         test_coreutils, test_differences, test_key_input)
+TESTS = (*COMPUTING, test_personal_text, test_random, test_needs, test_macs, test_tags, test_names, test_differences,
+         test_key_input)
 run_tests(TESTS, COMPUTING if HUGE else ())

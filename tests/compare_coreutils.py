@@ -1,7 +1,8 @@
 #!/usr/bin/env python3
 """Compares the program b2sum with coreutils' program of that name on command lines:
 
-- each option and each pair of options, with files, with a manifest, and with nothing;
+- each option and each pair of options, with files, with a manifest, and with nothing, of which every second one without
+  VULFSJOR_TEST_HUGE;
 - each abbreviation of each long option;
 - some of them with standard input closed;
 - manifests with lines of many forms, and each length that `-l` may have;
@@ -379,7 +380,7 @@ def main():
     with programs(given.program) as built:
         for number, program in enumerate(built):
             if number == 0:
-                test_options(program, pool)
+                test_options(program, pool, 1 if HUGE else 2)
                 test_closed(program, pool)
                 test_forms(program, pool)
             runs = given.runs if number == 0 else given.runs // 10

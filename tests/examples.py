@@ -5,20 +5,18 @@ libsodium, or of the pages that are named, and compares what it prints.
     tests/examples.py [PAGE..]
 
 An example is a fenced block in c, cpp, rust, python, cmake or sh; js/tests/readme.test.mjs runs those in JavaScript,
-and python/tests/test_names.py those in Python's guide. A block in C, C++ or Rust is a whole program, in C `hello.c`. A
-block in cmake is a whole CMakeLists.txt, whose program `hello` is run. The blocks of a page run in order, with
-VULFSJOR_TEST_HUGE twice, in one folder, which starts with links to b2, b2sum, c and dist of the repository, and for the
-guides with `data.bin`, a file of 100,000 bytes, which is the reader's; what a block leaves there is the next one's.
-Those of the README, the tutorial and the review run at the top of the repository: of the README those in sh, with no
-tools but READMES_TOOLS on the PATH; of the others also those in Python, from the folder on, and with the PATH, that the
-block before has left. The repository is a fresh clone by a user of core.autocrlf, in which no page leaves a file that
-git does not ignore. If a block in `text` follows an example, it is what the example prints, and so is what a comment in
-it `prints`; a line that ends with `...` is the beginning of a line. In cmake, and in sh of the guides, PATH is the
-repository and FOLDER the installed library.
+and python/tests/test_names.py those in Python's guide. A block in C, C++ or Rust is a whole program, in C `hello.c`, in
+Rust with the dependencies of the page's block in toml. A block in cmake is a whole CMakeLists.txt, whose program `hello`
+is run. The blocks of a page run in order, with VULFSJOR_TEST_HUGE twice, in one folder, which starts with links to b2,
+b2sum, c and dist of the repository, and for the guides with `data.bin`, a file of 100,000 bytes.
+Those of the README, the tutorial and the review run at the top of a fresh clone by a user of core.autocrlf, in which no
+page leaves a file that git does not ignore: of the README those in sh, with no tools but READMES_TOOLS on the PATH; of
+the others also those in Python, from the folder on, and with the PATH, that the block before has left. If a block in
+`text` follows an example, it is what the example prints, and so is what a comment in it `prints`; a line that ends with
+`...` is the beginning of a line. PATH is the repository and FOLDER the installed library.
 
 The installed library is a copy of that in the folder VULFSJOR_INSTALLED, if that is set, as by ./test. The module for
-Python is built here, and the script ends with an error if that fails. An example whose tool is absent is skipped: for
-Python that is also cc or Python's headers, and for the README and the tutorial git.
+Python is built here, and the script ends with an error if that fails. An example whose tool is absent is skipped.
 """
 import os
 import pathlib
@@ -65,7 +63,7 @@ def examples(page):
 class Runner:
     """Runs examples in a folder, against the installed library and the module for Python that are in other folders."""
 
-    needs = {}
+    needs, dependencies = {}, ""
 
     def __init__(self, folder, repository, library, module, with_data=False):
         self.folder = folder
@@ -204,6 +202,10 @@ def is_as_printed(printed, wanted):
         for line, each in zip(lines, wanted_lines))
 
 
+def succeeds(*words):
+    return not subprocess.run(words, check=False, capture_output=True).returncode
+
+
 def what_is_missing(runner, language, text, module):
     """What an example needs and is not here, or '': its tool, those that a block of the shell or of CMake calls, and
     for Python the built module."""
@@ -212,17 +214,16 @@ def what_is_missing(runner, language, text, module):
     needed = [TOOLS[language], *runner.needs.get(language, ()),
               *(tool for words, tool in called.items() if words in text)]
     missing = [tool for tool in needed if not shutil.which(tool)]
-    if "<sodium.h>" in text and subprocess.run(["cc", "-E", "-include", "sodium.h", "-xc", os.devnull], check=False,
-                                               capture_output=True).returncode:
+    if "<sodium.h>" in text and not succeeds("cc", "-E", "-include", "sodium.h", "-xc", os.devnull):
         missing.append("libsodium-dev")
-    if "tests/machine/" in text and not any(
-            shutil.which(python) and not subprocess.run([python, "-c", "import z3"], check=False,
-                                                        capture_output=True).returncode
-            for python in ("python3", "/usr/bin/python3")):
+    if "tests/machine/" in text and not any(shutil.which(python) and succeeds(python, "-c", "import z3")
+                                            for python in ("python3", "/usr/bin/python3")):
         missing.append("python3-z3")
     if "dist/x86_64/" in text and os.uname().machine != "x86_64":
         missing.append("x86-64")
-    return missing[0] if missing else "" if language != "python" or module else "python with headers"
+    if language == "python" and not module:
+        missing.append("python with headers")
+    return missing[0] if missing else ""
 
 
 def built_module(folder):
@@ -256,6 +257,7 @@ def run_page(page, name, work, repository, library, module):
     kind = kinds.get(name, Runner)
     folder = pathlib.Path(tempfile.mkdtemp(dir=work))
     runner = kind(folder, repository, library, work / "module", name in WITH_DATA)
+    runner.dependencies = "".join(re.findall(r"(?ms)^```toml\n(.*?)^```$", page.read_text(encoding="utf-8")))
     for again in ("", ", again") if HUGE else ("",):
         if kind is RunnerOfShell:
             runner.open_shell()

@@ -6,13 +6,11 @@ source "$(dirname "$(readlink -f "$0")")/tap.sh"
 check "dist/ was made from these sources" "$top/tools/dist.sh" current
 needs python3
 check "the files of BLAKE2s are what tools/twins.py makes of those of BLAKE2b" "$top/tools/twins.py" --check
-check "tests/vectors.json has the digests of hashlib" "$top/tests/vectors.py" --check
 # With the faster compression that the model of the conformance cases has.
-model_is_hashlib() {
-    PYTHONPATH=$top/tests/conformance:$top/tests python3 -c 'import model, oracle, random
-oracle.check(random.Random(7693))'
-}
-check "the model of the conformance cases has the digests of hashlib" model_is_hashlib
+with_model() { PYTHONPATH=$top/tests/conformance:$top/tests python3 -c "import model, oracle, random, sys, vectors
+$1" "${@:2}"; }
+check "the model of the conformance cases has the digests of hashlib" with_model 'oracle.check(random.Random(7693))'
+check "tests/vectors.json has the digests of hashlib and of the model" with_model 'sys.exit(vectors.main())' --check
 others_are_as_the_page_says() {
     mkdir "$work/conforming" && "$top/tests/conformance/write.py" "$work/conforming" &&
         "$top/tests/conformance/others.py" --check "$work/conforming"

@@ -9,7 +9,6 @@ Needs node and a C compiler. Other processors need their compiler and emulator, 
 several words, of a Rust that compiles for another processor, and RUSTC_RUNNER its emulator.
 """
 import os
-import re
 import shutil
 import subprocess
 import sys
