@@ -193,9 +193,12 @@ fn digests_are_compared_as_their_bytes() {
         assert!(digest != array[..length]);
         assert!(digest != Params::new().output_size(length.max(1)).blake2b_hash(b"abc").unwrap());
     }
-    let refused = |length: usize| Some(format!("the array's length is {length}, and must be 64"));
-    assert_eq!(<[u8; 63]>::try_from(digest).err().map(|error| error.to_string()), refused(63));
-    assert_eq!(<[u8; 65]>::try_from(digest).err().map(|error| error.to_string()), refused(65));
+    let said = |error: Option<InvalidArgument>| error.map(|error| error.to_string()).unwrap_or_default();
+    let short = Blake2s::digest(b"abc");
+    assert_eq!(said(<[u8; 63]>::try_from(digest).err()), "the array's length is 63, and must be 64");
+    assert_eq!(said(<[u8; 65]>::try_from(digest).err()), "the array's length is 65, and must be 64");
+    assert_eq!(said(<[u8; 31]>::try_from(short).err()), "the array's length is 31, and must be 32");
+    assert_eq!(said(<[u8; 33]>::try_from(short).err()), "the array's length is 33, and must be 32");
     assert_eq!(hash_of(digest), hash_of(digest.as_bytes()));
     assert_ne!(hash_of(digest), hash_of(other));
 }

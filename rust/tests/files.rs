@@ -75,7 +75,11 @@ fn roots_of_files_and_of_memory() {
     for (i, (leaf_length, length, wanted)) in ROOTS.into_iter().enumerate().take(count) {
         let (bytes, params) = (message_of(length), tree_params(leaf_length));
         let file = Temporary::with(&format!("roots-{i}"), &bytes);
-        let few: &[usize] = if length > 50 * MIB { &[3] } else { &[0, 1, 3] };
+        let few: &[usize] = match length / MIB {
+            0..=10 => &[0, 1, 3],
+            11..=50 => &[1, 3],
+            _ => &[3],
+        };
         for &threads in few {
             assert_eq!(params.root_file(&file.0, threads).unwrap().to_hex(), wanted);
             assert_eq!(params.root_threads(&bytes, threads).unwrap().to_hex(), wanted);
