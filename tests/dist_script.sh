@@ -84,7 +84,7 @@ changes() {
         changed "$found" "$file" "$edit" || { echo "$file: $edit" && return 1; }
     done
 }
-check "a change of a file of dist/ is found" changes < <(printf '1 dist/%s $a\ \n' $files)
+check "a change of a file of dist/ is found" changes < <(printf '1 dist/%s $a more\n' $files)
 check "a change of a source is found, and no other" changes < <(
     printf '1 crates/%s/src/lib.rt $a fn more() {} // more\n' b2 b2sum b2_commands blake2_ffi blake2_state
     printf '1 %s $a # more\n' tools/{plain_names,clear_registers,object_formats,wasm_{format,values,body,to_c}}.py \

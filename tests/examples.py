@@ -6,8 +6,8 @@ libsodium, or of the pages that are named, and compares what it prints.
 
 An example is a fenced block in c, cpp, rust, python, cmake or sh; js/tests/readme.test.mjs runs those in JavaScript,
 and python/tests/test_names.py those in Python's guide. A block in C, C++ or Rust is a whole program, in C `hello.c`, in
-Rust with the dependencies of the page's block in toml. A block in cmake is a whole CMakeLists.txt, whose program `hello`
-is run. The blocks of a page run in order, with VULFSJOR_TEST_HUGE twice, in one folder, which starts with links to b2,
+Rust with the dependencies of the page's block in toml. One in cmake is a whole CMakeLists.txt, whose program `hello` is
+run. The blocks of a page run in order, with VULFSJOR_TEST_HUGE twice, in one folder, which starts with links to b2,
 b2sum, c and dist of the repository, and for the guides with `data.bin`, a file of 100,000 bytes.
 Those of the README, the tutorial and the review run at the top of a fresh clone by a user of core.autocrlf, in which no
 page leaves a file that git does not ignore: of the README those in sh, with no tools but READMES_TOOLS on the PATH; of

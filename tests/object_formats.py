@@ -25,13 +25,9 @@ import macros  # pylint: disable=wrong-import-position
 HUGE = bool(os.environ.get("VULFSJOR_TEST_HUGE"))
 SYSTEMS = {"linux": "linux-gnu", "macos": "apple-macos11", "windows": "pc-windows-msvc"}
 TEXTS = {"x86_64": ["vulfsjor-v2", "vulfsjor-v3", "vulfsjor-v4", "b2", "b2sum"], "aarch64": ["vulfsjor", "b2", "b2sum"]}
-C_LIBRARY = {"memcpy", "memmove", "memset"}
-OF_PROGRAMS = {f"rattle_{it}" for it in ("alloc", "arg", "dealloc", "errno", "realloc", "set_errno")}
-OF_PROGRAMS |= {"__x86_get_cpuid_feature_leaf"}
-OF_B2 = {"linux": {"read", "write", "__write", "__sysv_signal"}, "windows": {"b2_read", "b2_write", "b2_signal"}}
-OF_B2SUM = {f"b2sum_{it}" for it in ("open", "read", "close", "signal", "strerror")}
-# The functions of b2sum that C has instead, and those of the library that hash for the programs.
-OF_C = re.compile(r"b2sum\.\.(disk\.\.(hide_memory|show_progress)|hashes\.\.absorb_tree\.\.[0-9a-f]{16})_\d+_(x86|a64)")
+# What the programs call on Windows instead of functions of the C library for Linux.
+ON_WINDOWS = {"read": "b2_read", "write": "b2_write", "__write": "b2_write", "__sysv_signal": "b2_signal"}
+# The functions of the library that hash for the programs.
 HASHING = re.compile(r"blake2_(compress\.\.compress\.\.blake2[bs]\.\.compress|tree\.\.nodes\.\.Nodes\.\.hash_next"
                      r"|parallel\.\.lanes\.\.blake2[bs]p\.\.Lanes\.\.(outputs|update))_\d+_(v[234]|arm)")
 # How many of them a program calls.
@@ -42,7 +38,6 @@ TOOLS = ("clang", "llvm-objdump", "llvm-nm")
 PADDING = ("nop", "data16", "cs\t", "cs nop", "xchgw\t%ax, %ax", "int3", "udf")
 COMMENT, TARGET = re.compile(r"\s*(##|# |//|;).*"), re.compile(r"(0x)?[0-9a-f]+ <.*>")
 RIP = re.compile(r"-?(0x)?[0-9a-f]*\(%rip\)")
-
 
 
 def run(*words, stdin=None):
@@ -116,12 +111,6 @@ def jump_right(path, count):
                                    for (name, code), body in found.items())
 
 
-def may_call(name, system):
-    """The functions elsewhere that a text may call."""
-    own = OF_B2.get(system, OF_B2["linux"]) | OF_PROGRAMS
-    return C_LIBRARY | (own | OF_B2SUM if name.startswith("b2sum") else own if name.startswith("b2") else set())
-
-
 def is_read_so(path, arch, room, elf):
     """Whether the text that tests/machine reads is assembled to the same bytes as this object."""
     read = os.path.join(room, "read.s")
@@ -132,25 +121,20 @@ def is_read_so(path, arch, room, elf):
         return ours.read() == theirs.read()
 
 
-def check_system(name, arch, system, made, elf):
-    """The statements about the object of a text for a system, by their words, each with what else was found."""
+def check_system(name, arch, system, made, elf, of_linux):
+    """The statements about the object of a text for a system, by their words, each with what else was found. `elf` has
+    the functions of that for Linux, and `of_linux` what it calls."""
     found = functions_of_object(made, arch)
     same = [it for it in elf if elf[it] == found.get(it)]
     yield (f"{len(same)} of {len(elf)} functions have the instructions of those for Linux",
            len(same) == len(elf) == len(found) > 40 and sum(map(len, elf.values())) > 8000,
            sorted(elf.keys() - set(same))[:5])
     called = {re.sub("^_", "", it) if system == "macos" else it for it in symbols_of_object(made, "-u")}
-    of_c = {it for it in called if name.startswith("b2sum") and OF_C.fullmatch(it)}
-    yield "it calls the functions that C has instead", len(of_c) == 3 * name.startswith("b2sum"), called
-    hashing = {it for it in called if name.startswith("b2") and HASHING.fullmatch(it)}
-    yield "it calls the functions of the library that hash, of each build", len(hashing) == (
-        HASHING_COUNT.get(name, 0) * (3 if arch == "x86_64" else 1)), hashing
+    wanted = {ON_WINDOWS.get(it, it) if system == "windows" else it for it in of_linux}
+    yield "it calls what the one for Linux calls, which tests/assembly.py knows", called == wanted, called ^ wanted
     if name.startswith("b2") and arch == "x86_64":
         yield ("it jumps to the library's build for the processor", jump_right(made, HASHING_COUNT[name]),
                functions_that_jump(made))
-    called -= of_c | hashing | ({"vulfsjor_ffi_level"} if hashing and arch == "x86_64" else set())
-    yield "it calls the C library and what the C of the programs has", (
-        C_LIBRARY <= called <= may_call(name, system)), called - may_call(name, system)
     link = f"{made}.linked"
     mac_linker = next(filter(None, map(shutil.which, ("ld64.lld", "ld64.lld-14"))), None)
     if system == "macos" and mac_linker:
@@ -165,7 +149,7 @@ def check_system(name, arch, system, made, elf):
 def check_text(path, arch, name, room):
     """Prints the results of a text, and returns its functions."""
     made = assemble_text(path, arch, "linux", os.path.join(room, "elf.o"))
-    elf = functions_of_object(made, arch)
+    elf, of_linux = functions_of_object(made, arch), symbols_of_object(made, "-u")
     tap.result(is_read_so(path, arch, room, made),
                f"{arch}/{name}.s: tests/machine reads what the assembler makes of it")
     if name.startswith("b2") and arch == "x86_64":
@@ -173,7 +157,7 @@ def check_text(path, arch, name, room):
                    f"{arch}/{name}.s: it jumps to the library's build for the processor")
     for system in ("macos", "windows") if HUGE or name in FOR_EACH_SYSTEM else ():
         made = assemble_text(path, arch, system, os.path.join(room, f"{arch}-{name}-{system}.o"))
-        for words, holds, why in check_system(name, arch, system, made, elf):
+        for words, holds, why in check_system(name, arch, system, made, elf, of_linux):
             tap.result(holds, f"{arch}/{name}.s on {system}: {words}", str(why))
     return elf
 

@@ -92,8 +92,8 @@ import vulfsjor; assert vulfsjor.__version__ == '$next'; vulfsjor.blake2b()") ||
 places_of_the_version() {
     local file
     cd "$work/other" && git diff --name-only | sort >"$work/changed" &&
-        diff "$work/changed" <(printf '%s\n' CHANGELOG.md Cargo.lock Cargo.toml README.md c/include/vulfsjor.h c/man/*.3 \
-            docs/b2.1 docs/b2sum.1 js/package.json packaging/debian/changelog packaging/vulfsjor.spec \
+        diff "$work/changed" <(printf '%s\n' CHANGELOG.md Cargo.lock Cargo.toml README.md c/include/vulfsjor.h \
+            c/man/*.3 docs/b2.1 docs/b2sum.1 js/package.json packaging/debian/changelog packaging/vulfsjor.spec \
             python/pyproject.toml rust-digest/Cargo.toml | sort) || return 1
     for file in $(grep -v CHANGELOG "$work/changed"); do
         sed -i "$(git diff -U0 "$file" | sed -n 's/^@@ .* +\([0-9]*\)[ ,].*/\1s,99,98,;\1s,63$,62,;/p')" "$file"

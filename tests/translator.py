@@ -27,13 +27,14 @@ from wasm_values import Refused  # noqa: E402
 
 HUGE = bool(os.environ.get("VULFSJOR_TEST_HUGE"))
 # The compilers, with words, and what runs their programs: those of the short form, and the others.
-TARGETS = {"cc -O2": (["cc", "-O2"], []), "cc -O1, an unknown order of bytes": (["cc", "-O1", "-U__BYTE_ORDER__"], []),
+TARGETS = {"clang -O1 with sanitizers":
+               (["clang", "-O1", "-fsanitize=address,undefined", "-fno-sanitize-recover=all"], []),
+           "cc -O1, an unknown order of bytes": (["cc", "-O1", "-U__BYTE_ORDER__"], []),
            "s390x": (["s390x-linux-gnu-gcc", "-O1", "-static"], ["qemu-s390x"])}
 MORE_TARGETS = {processor: ([f"{compiler}-gcc", "-O2", "-static"], [emulator]) for processor, compiler, emulator in (
     ("riscv64", "riscv64-linux-gnu", "qemu-riscv64"), ("i386", "i686-linux-gnu", "qemu-i386"),
     ("armhf", "arm-linux-gnueabihf", "qemu-arm"), ("ppc64el", "powerpc64le-linux-gnu", "qemu-ppc64le"))}
-MORE_TARGETS["clang -O1 with sanitizers"] = (
-    ["clang", "-O1", "-fsanitize=address,undefined", "-fno-sanitize-recover=all"], [])
+MORE_TARGETS["cc -O2"] = ["cc", "-O2"], []
 # Sums that are too long for their type would panic in Rust with these words.
 RUSTC = [*os.environ.get("RUSTC", "rustc").split(), "-C", "opt-level=1", "-C", "debug-assertions=on", "-A", "warnings"]
 INPUTS = [(0, 0), (1, 2**64 - 1), (0x0123456789abcdef, 0xfedcba9876543210), (1 << 63, 1 << 31),
