@@ -1,11 +1,12 @@
 #!/usr/bin/env python3
 """Reads the scripts that run on a Mac, whose bash is 3.2 and whose tools are those of BSD, for what these do not know.
 
-Prints the Test Anything Protocol: a test for each script, and one that each form is seen where it is planted.
+There is a test for each script, and one that each form is seen where it is planted.
 """
 import pathlib
 import re
-import sys
+
+import tap
 
 TOP = pathlib.Path(__file__).resolve().parent.parent
 SCRIPTS = ("b2", "b2sum", "Makefile", "c/install.sh", "c/make_libraries.sh", "tools/launcher.sh",
@@ -72,20 +73,14 @@ def findings(text):
 
 
 def main():
-    failed = 0
-    print("TAP version 13")
-    for count, script in enumerate(SCRIPTS, 1):
+    for script in SCRIPTS:
         found = list(findings((TOP / script).read_text(encoding="utf-8")))
-        failed += bool(found)
-        print(f"{'not ' if found else ''}ok {count} - {script} runs with bash 3.2 and the tools of BSD")
-        print("".join(f"#     {each}\n" for each in found), end="")
+        tap.result(not found, f"{script} runs with bash 3.2 and the tools of BSD", "\n".join(found))
     planted = [*((name, line) for name, _, line in FORMS), (EMPTY, 'list=()\necho "${list[@]}"'),
                (EMPTY, 'read -ra a\nb "${a[@]}"')]
     unseen = [name for name, line in planted if not any(name in it for it in findings(f"#!/bin/bash\n{line}\n"))]
-    failed += bool(unseen)
-    print(f"{'not ' if unseen else ''}ok {count + 1} - each form is seen{''.join(f' {it}' for it in unseen)}")
-    print(f"1..{count + 1}")
-    return 1 if failed else 0
+    tap.result(not unseen, "each form is seen", " ".join(unseen))
+    tap.finish()
 
 
-sys.exit(main())
+main()

@@ -2,12 +2,13 @@
 """Reads packaging/ without building a package: fields and lines that a package needs, the versions of symbols, and the
 lists of files.
 
-Prints the Test Anything Protocol. tests/release.sh builds the packages, if VULFSJOR_TEST_HUGE is set.
+tests/release.sh builds the packages, if VULFSJOR_TEST_HUGE is set.
 """
 import itertools
 import pathlib
 import re
-import sys
+
+import tap
 
 TOP = pathlib.Path(__file__).resolve().parent.parent
 PORTABLE = "amd64 arm64 armhf i386 ppc64el riscv64 s390x"
@@ -97,8 +98,7 @@ def wrong_fields():
         yield f"the packages are {list(found)}"
     for name, wanted in CONTROL.items():
         for field in ("Section", "Architecture", "Multi-Arch", "Build-Profiles", "Build-Depends", "Depends",
-                      "Pre-Depends",
-                      "Rules-Requires-Root"):
+                      "Pre-Depends", "Rules-Requires-Root"):
             if found.get(name, {}).get(field) != wanted.get(field):
                 yield f"{name}: {field} is {found.get(name, {}).get(field)}, and not {wanted.get(field)}"
 
@@ -183,10 +183,7 @@ def unlike_the_patterns():
 TESTS = (("the fields of debian/control", wrong_fields), ("the lines of packaging/", missing_lines),
          ("the versions of symbols", wrong_symbols), ("the soname", other_sonames),
          ("the lists of files", other_files), ("the files of each package", unlike_the_patterns))
-failed = 0
-print(f"TAP version 13\n1..{len(TESTS)}")
-for count, (title, find) in enumerate(TESTS, 1):
+for title, find in TESTS:
     said = list(find())
-    failed += bool(said)
-    print(f"{'not ' if said else ''}ok {count} - {title}", *said, sep="\n#     ")
-sys.exit(failed > 0)
+    tap.result(not said, title, "\n".join(said))
+tap.finish()
