@@ -24,7 +24,7 @@ ROWS = {
 
 
 def wrong_names():
-    """What is wrong in the table."""
+    """The names of the parameters in each language (tests/page_names.py)"""
     table = re.search(r"(?m)^\| parameter \|(.*)\|\n\|[-|]*\n((?:\|.*\n)+)", read(PAGE))
     if not table:
         raise Unreadable(f"{PAGE}: no table of names")

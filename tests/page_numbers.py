@@ -226,7 +226,7 @@ def wrong_comments():
 
 
 def wrong_numbers():
-    """What is wrong in the pages."""
+    """The numbers of the pages and of vulfsjor.h (tests/page_numbers.py), and speeds (tests/page_speeds.py)"""
     for page, form, *values in rows():
         for match in sentence_matches(page, form, read(page)):
             shown = [without_marks(group) for group in match.groups()]

@@ -30,7 +30,7 @@ def said_of(kind):
 
 
 def wrong_in_packages():
-    """What is wrong there."""
+    """The numbers that packages repeat: lengths of each hash, the longest message of a tree, threads"""
     for kind in ("blake2b", "blake2s", "blake2bp", "blake2sp"):
         for path, length, number in said_of(kind):
             wanted = Values("blake2_simd", "Family", length)[kind[:7]]

@@ -123,7 +123,7 @@ def ratios_by_row(header, rows):
 
 
 def wrong_ratios():
-    """The ratios of bench/results/ that are not those of the two numbers in their table."""
+    """The ratios of bench/results/: each is that of the two numbers in its table"""
     count = wanted = 0
     for header, rows in tables():
         for row, ratio, over, under in (*ratios_to(header, rows), *ratios_by_row(header, rows)):

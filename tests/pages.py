@@ -287,26 +287,6 @@ def check_crates():
                 yield f"crates.txt: {crate} needs {other}"
 
 
-def check_numbers():
-    """The numbers that packages repeat: lengths of each hash, the longest message of a tree, threads"""
-    return wrong_in_packages()
-
-
-def check_guides():
-    """The numbers of the pages and of vulfsjor.h (tests/page_numbers.py), and speeds (tests/page_speeds.py)"""
-    return wrong_numbers()
-
-
-def check_ratios():
-    """The ratios of bench/results/: each is that of the two numbers in its table"""
-    return wrong_ratios()
-
-
-def check_names():
-    """The names of the parameters in each language (tests/page_names.py)"""
-    return wrong_names()
-
-
 def without_code(page):
     """The text of a page without its fenced blocks."""
     return re.sub(r"^```.*?^```$", "", read(page), flags=re.MULTILINE | re.DOTALL)
@@ -362,14 +342,17 @@ def check_quotes():
             yield f"{page}: no quote"
 
 
+reference_pages = functools.cache(reference.pages)
+
+
 def check_comments():
     """The doc comments of public items and definitions"""
-    return [line for page in reference.pages() for line in page.wrong]
+    return [line for page in reference_pages() for line in page.wrong]
 
 
 def check_reference():
     """The links of the reference, and that it has each name"""
-    files = reference.texts(reference.pages())
+    files = reference.texts(reference_pages())
     places = {name: set(re.findall(r' id="([^"]*)"', text)) for name, text in files.items()}
     for name, text in files.items():
         for link in re.findall(r'<a href="([^"]*)"', text):
@@ -378,31 +361,27 @@ def check_reference():
                     os.path.exists(os.path.normpath(os.path.join(TOP, reference.FOLDER, path)))):
                 yield f"{name}: there is no {link}"
     found = files["index.html"].count("<li><a href=")
-    wanted = sum(len(page.names) + len(page.words) for page in reference.pages())
+    wanted = sum(len(page.names) + len(page.words) for page in reference_pages())
     if found != wanted or found < 1000:
         yield f"index.html has {found} names of {wanted}"
 
 
-def check_symbolic_links():
-    """No symbolic link, which the toolchain refuses"""
-    done = subprocess.run(["git", "-C", TOP, "ls-files", "--stage"], stdout=subprocess.PIPE, text=True)
-    return [line for line in done.stdout.splitlines() if line.startswith("120000 ")]
-
-
-def check_merges():
-    """No mark of a merge that was left open"""
-    done = subprocess.run(["git", "-C", TOP, "grep", "-nIE", "^(<{7}|>{7})( |$)"], stdout=subprocess.PIPE, text=True)
-    return done.stdout.splitlines()
+def check_git():
+    """No symbolic link, which the toolchain refuses, and no mark of a merge that was left open"""
+    def lines(*words):
+        return subprocess.run(["git", "-C", TOP, *words], stdout=subprocess.PIPE, text=True).stdout.splitlines()
+    return [*(line for line in lines("ls-files", "--stage") if line.startswith("120000 ")),
+            *lines("grep", "-nIE", "^(<{7}|>{7})( |$)")]
 
 
 def main():
     if sys.argv[1:]:
         sys.exit("usage: tests/pages.py")
     for check in (check_clauses, check_edits, check_must_fail, check_definitions, check_columns, check_specification,
-                  check_version, check_files, check_crates, check_links, check_quotes, check_ratios, check_guides,
-                  check_names, check_numbers, check_commands, check_comments, check_reference, check_systems,
-                  check_platforms, check_symbolic_links, check_merges):
-        absent = check in (check_symbolic_links, check_merges) and not os.path.exists(os.path.join(TOP, ".git"))
+                  check_version, check_files, check_crates, check_links, check_quotes, wrong_ratios, wrong_numbers,
+                  wrong_names, wrong_in_packages, check_commands, check_comments, check_reference, check_systems,
+                  check_platforms, check_git):
+        absent = check is check_git and not os.path.exists(os.path.join(TOP, ".git"))
         try:
             wrong = [] if absent else list(check())
         except Unreadable as error:
