@@ -319,8 +319,9 @@ fn next_to_the_library_for_c() {
         assert!(unsafe {{ vulfsjor_library_version() }} > 0);"
     );
     let program = Program::new("next_to_c", &lines, &[TOP.as_ref()]);
-    let installed = env::var_os("VULFSJOR_INSTALLED").map_or(program.folder.join("installed"), PathBuf::from);
-    if !installed.exists() {
+    let given = env::var_os("VULFSJOR_INSTALLED").filter(|folder| !folder.is_empty());
+    let installed = given.as_ref().map_or(program.folder.join("installed"), PathBuf::from);
+    if given.is_none() {
         output_of(Command::new(Path::new(TOP).join("c/install.sh")).arg(&installed));
     }
     let script = format!(
