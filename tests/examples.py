@@ -6,14 +6,14 @@ libsodium, or of the pages that are named, and compares what it prints.
 
 An example is a fenced block in c, cpp, rust, python, cmake or sh; js/tests/readme.test.mjs runs those in JavaScript,
 and python/tests/test_names.py those in Python's guide. A block in C, C++ or Rust is a whole program, in C `hello.c`, in
-Rust with the dependencies of the page's block in toml. One in cmake is a whole CMakeLists.txt, whose program `hello` is
-run. The blocks of a page run in order, with VULFSJOR_TEST_HUGE twice, in one folder, which starts with links to b2,
-b2sum, c and dist of the repository, and for the guides with `data.bin`, a file of 100,000 bytes.
-Those of the README, the tutorial and the review run at the top of a fresh clone by a user of core.autocrlf, in which no
-page leaves a file that git does not ignore: of the README those in sh, with no tools but READMES_TOOLS on the PATH; of
-the others also those in Python, from the folder on, and with the PATH, that the block before has left. If a block in
-`text` follows an example, it is what the example prints, and so is what a comment in it `prints`; a line that ends with
-`...` is the beginning of a line. PATH is the repository and FOLDER the installed library.
+Rust with the dependencies of the page's block in toml, if it has one. One in cmake is a CMakeLists.txt, whose program
+`hello` is run. The blocks of a page run in order, with VULFSJOR_TEST_HUGE twice, in one folder, which starts with links
+to b2, b2sum, c and dist of the repository, and for the guides with `data.bin`, a file of 100,000 bytes. Those of the
+README, the tutorial and the review run at the top of a fresh clone by a user of core.autocrlf, in which no page leaves
+a file that git does not ignore: of the README those in sh, with no tools but READMES_TOOLS on the PATH; of the others
+also those in Python, from the folder on, and with the PATH, that the block before has left. If a block in `text`
+follows an example, it is what the example prints, and so is what a comment in it `prints`; a line that ends with `...`
+is the beginning of a line. PATH is the repository and FOLDER the installed library.
 
 The installed library is a copy of that in the folder VULFSJOR_INSTALLED, if that is set, as by ./test. The module for
 Python is built here, and the script ends with an error if that fails. An example whose tool is absent is skipped.
@@ -63,7 +63,7 @@ def examples(page):
 class Runner:
     """Runs examples in a folder, against the installed library and the module for Python that are in other folders."""
 
-    needs, dependencies = {}, ""
+    needs, dependencies = {}, '[dependencies]\nvulfsjor = { path = "PATH" }\n'
 
     def __init__(self, folder, repository, library, module, with_data=False):
         self.folder = folder
@@ -257,7 +257,8 @@ def run_page(page, name, work, repository, library, module):
     kind = kinds.get(name, Runner)
     folder = pathlib.Path(tempfile.mkdtemp(dir=work))
     runner = kind(folder, repository, library, work / "module", name in WITH_DATA)
-    runner.dependencies = "".join(re.findall(r"(?ms)^```toml\n(.*?)^```$", page.read_text(encoding="utf-8")))
+    runner.dependencies = "".join(
+        re.findall(r"(?ms)^```toml\n(.*?)^```$", page.read_text(encoding="utf-8"))) or runner.dependencies
     for again in ("", ", again") if HUGE else ("",):
         if kind is RunnerOfShell:
             runner.open_shell()

@@ -9,7 +9,8 @@ fn dist_is_as_manifest_says() {
     let check = |program: &str| Command::new(program).args(["-c", "MANIFEST"]).current_dir(&dist).output();
     let checked = check("sha256sum").or_else(|_| check("shasum")).expect("sha256sum or shasum");
     let said = String::from_utf8_lossy(&checked.stdout).into_owned();
-    let wrong: Vec<_> = said.lines().filter(|line| !line.ends_with(": OK")).collect();
+    let wrong = said.lines().filter(|line| !line.ends_with(": OK"));
+    let wrong: Vec<_> = wrong.map(|line| format!("dist/{line}")).collect();
     assert!(checked.status.success() && wrong.is_empty(), "not as in dist/MANIFEST: {wrong:?}");
     for folder in ["x86_64", "aarch64", "rust"] {
         for entry in std::fs::read_dir(dist.join(folder)).unwrap() {
