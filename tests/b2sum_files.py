@@ -22,48 +22,41 @@ from b2sum_support import (FILES, both_digests, check_line, digest, escaped, lin
 from oracle import parallel_by_hashlib
 
 HUGE = bool(os.environ.get("VULFSJOR_TEST_HUGE"))
+LONG = "the {} is too long: at most 16 bytes, 8 for BLAKE2s and BLAKE2sp"
+NO_THREADS = "the value is not a number of threads, or 0 for all processors"
+NO_DIGITS = "the value is not hexadecimal digits, two for each byte"
 # Wrong arguments, and what is said of them.
 WRONG = {
     "--salt=": "invalid salt: ''\nthe value has no digits",
     "--personal=": "invalid personalization: ''\nthe value has no digits",
     "--personal-text=": "invalid personalization: ''\nthe value has no bytes",
-    "--salt 0": "invalid salt: '0'\nthe value is not hexadecimal digits, two for each byte",
-    "--personal zz": "invalid personalization: 'zz'\nthe value is not hexadecimal digits, two for each byte",
-    "--salt " + "00" * 17: "the salt is too long: at most 16 bytes, 8 for BLAKE2s and BLAKE2sp",
-    "--personal " + "00" * 17: "the personalization is too long: at most 16 bytes, 8 for BLAKE2s and BLAKE2sp",
-    "-a blake2s --salt " + "00" * 9: "the salt is too long: at most 16 bytes, 8 for BLAKE2s and BLAKE2sp",
-    "-a blake2s --personal " + "00" * 9: "the personalization is too long: "
-                                         "at most 16 bytes, 8 for BLAKE2s and BLAKE2sp",
-    "--personal-text " + "x" * 17: "the personalization is too long: at most 16 bytes, 8 for BLAKE2s and BLAKE2sp",
-    "--personal-text " + "\u00e9" * 9: "the personalization is too long: at most 16 bytes, 8 for BLAKE2s and BLAKE2sp",
-    "-a blake2sp --personal-text " + "x" * 9: "the personalization is too long: "
-                                              "at most 16 bytes, 8 for BLAKE2s and BLAKE2sp",
-    "--personal 00 --personal-text x": "the --personal and --personal-text options are mutually exclusive",
-    "-c --personal-text x --personal=00": "the --personal and --personal-text options are mutually exclusive",
+    "--salt 0": f"invalid salt: '0'\n{NO_DIGITS}",
+    "--personal zz": f"invalid personalization: 'zz'\n{NO_DIGITS}",
+    **{f"{words} {'00' * length}": LONG.format("salt") for words, length in (
+        ("--salt", 17), ("-a blake2s --salt", 9), ("-a blake2sp --salt", 9))},
+    **{f"{words} {value}": LONG.format("personalization") for words, value in (
+        ("--personal", "00" * 17), ("-a blake2s --personal", "00" * 9), ("--personal-text", "x" * 17),
+        ("--personal-text", "\u00e9" * 9), ("-a blake2sp --personal-text", "x" * 9))},
+    **{words: "the --personal and --personal-text options are mutually exclusive"
+       for words in ("--personal 00 --personal-text x", "-c --personal-text x --personal=00")},
     "--show-digests": "the --show-digests option is meaningful only when verifying checksums",
     "-c --show-digests --key-file b": "--show-digests does not support --key-file: "
                                       "it would print a valid MAC of a changed file",
-    "-a blake2s -l 264": "invalid length: '264'\nmaximum digest length for 'BLAKE2s' is 256 bits",
-    "-a blake2sp -l 264": "invalid length: '264'\nmaximum digest length for 'BLAKE2sp' is 256 bits",
-    "-a blake2bp -l 520": "invalid length: '520'\nmaximum digest length for 'BLAKE2bp' is 512 bits",
-    "-a blake2sp --salt " + "00" * 9: "the salt is too long: at most 16 bytes, 8 for BLAKE2s and BLAKE2sp",
-    "--tree 0": "invalid leaf length: '0'\na leaf has 1 to 4294967295 bytes",
-    "--tree 4294967296": "invalid leaf length: '4294967296'\na leaf has 1 to 4294967295 bytes",
-    "--tree 4k": "invalid leaf length: '4k'\na leaf has 1 to 4294967295 bytes",
-    "--threads x": "invalid number of threads: 'x'\nthe value is not a number of threads, or 0 for all processors",
-    "--threads 4294967296": "invalid number of threads: '4294967296'\n"
-                            "the value is not a number of threads, or 0 for all processors",
-    "--threads 4": "the --threads option is meaningful only with --tree",
-    "--threads 0 --salt 00": "the --threads option is meaningful only with --tree",
-    "--raw --tag": "--tag does not support --no-names and --raw",
-    "--no-names --tag": "--tag does not support --no-names and --raw",
-    "-c --raw": "the --no-names and --raw options are meaningless when verifying checksums",
-    "-c --no-names": "the --no-names and --raw options are meaningless when verifying checksums",
+    **{f"-a blake2{name} -l {most + 8}": f"invalid length: '{most + 8}'\n"
+       f"maximum digest length for 'BLAKE2{name}' is {most} bits"
+       for name, most in (("s", 256), ("sp", 256), ("bp", 512))},
+    **{f"--tree {leaf}": f"invalid leaf length: '{leaf}'\na leaf has 1 to 4294967295 bytes"
+       for leaf in ("0", "4294967296", "4k")},
+    **{f"--threads {count}": f"invalid number of threads: '{count}'\n{NO_THREADS}" for count in ("x", "4294967296")},
+    **{words: "the --threads option is meaningful only with --tree"
+       for words in ("--threads 4", "--threads 0 --salt 00")},
+    **{f"{words} --tag": "--tag does not support --no-names and --raw" for words in ("--raw", "--no-names")},
+    **{f"-c {words}": "the --no-names and --raw options are meaningless when verifying checksums"
+       for words in ("--raw", "--no-names")},
     "--raw a": "the --raw option needs one file",
     "--key-file - a -": "standard input is the key, and cannot be a file too",
-    "--tree 4 -a blake2s": "the --tree option supports blake2b only",
-    "-a blake2bp --tree 4": "the --tree option supports blake2b only",
-    "-a blake2sp --tree 4": "the --tree option supports blake2b only",
+    **{words: "the --tree option supports blake2b only"
+       for words in ("--tree 4 -a blake2s", "-a blake2bp --tree 4", "-a blake2sp --tree 4")},
     "--tree 4 --key-file b": "the --tree option does not support --key-file",
     "--tree 4 --text": "--tree does not support --text mode",
 }
