@@ -66,7 +66,7 @@ fn message_if_refused(is_refused: bool, argument: &str, value: usize, bounds: &s
 }
 
 macro_rules! family {
-    ($test:ident, $hasher:ident, $mac:ident, $make:ident, $max:literal) => {
+    ($test:ident, $hasher:ident, $mac:ident, $make:ident, $max:literal, $small:literal) => {
         mod $test {
             use super::*;
 
@@ -78,7 +78,7 @@ macro_rules! family {
                 made.err().map(|error| error.to_string())
             }
 
-            // What the conformance cases have not.
+            // What the conformance cases have not: among it wrong lengths with no message.
             #[test]
             fn several_messages_are_refused() {
                 let (new, tree) = (Params::new, Tree::SEQUENTIAL);
@@ -98,6 +98,8 @@ macro_rules! family {
                         (new().tree(Tree { inner_length: 7, ..tree }), "tree.inner_length", 7, "0"),
                         (new().key(b""), "key.len()", 0, concat!("1 to ", $max)),
                         (new().key(&[1; $max + 1]), "key.len()", $max + 1, concat!("1 to ", $max)),
+                        (new().salt(&[1; $small + 1]), "salt.len()", $small + 1, concat!("0 to ", $small)),
+                        (new().persona(&[1; $small + 1]), "persona.len()", $small + 1, concat!("0 to ", $small)),
                     ] {
                         assert_eq!(error_of_many(params, count, count), message_if_refused(true, name, value, wanted));
                     }
@@ -153,8 +155,8 @@ macro_rules! family {
     };
 }
 
-family!(blake2b, Blake2b, Blake2bMac, blake2b, 64);
-family!(blake2s, Blake2s, Blake2sMac, blake2s, 32);
+family!(blake2b, Blake2b, Blake2bMac, blake2b, 64, 16);
+family!(blake2s, Blake2s, Blake2sMac, blake2s, 32, 8);
 
 #[test]
 fn no_text_shows_a_key() {
