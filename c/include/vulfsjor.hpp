@@ -60,13 +60,12 @@ namespace vulfsjor {
  *   - a literal such as "abc" or u8"abc": its characters, without the zero at its end. An array of
  *     const char is taken for one, and refused if its last element is not zero: when it is compiled
  *     from C++20 on, and otherwise by the call that it is passed to;
- *   - a pointer to char, which is a string of C: the characters before the first zero. A call that
- *     it is passed to refuses a null pointer;
  *   - an array of unsigned char or std::byte: all its elements. So `const unsigned char a[] = "abc"`
  *     is four bytes, the zero among them.
  *
- * An array of char that is not const is a buffer, which does not say how much of it is in use. It
- * does not compile: pass a pointer and a length. */
+ * An array of char that is not const is a buffer, which does not say how much of it is in use, and
+ * neither does a pointer to char. They do not compile: pass a pointer and a length or, for a string
+ * of C that is not null, std::string_view(string). */
 class bytes {
     template <class C>
     using element = std::remove_cv_t<std::remove_pointer_t<decltype(std::data(std::declval<C>()))>>;
@@ -83,6 +82,9 @@ class bytes {
     static constexpr bool is_text =
         std::is_array_v<C> && is_character<std::remove_cv_t<std::remove_extent_t<C>>>;
     template <class E> using if_character = std::enable_if_t<is_character<E>, int>;
+    template <class P>
+    using if_pointer =
+        std::enable_if_t<std::is_pointer_v<P> && is_character<std::remove_cv_t<std::remove_pointer_t<P>>>, int>;
     template <std::size_t N> friend class short_bytes;
 
   public:
@@ -97,12 +99,8 @@ class bytes {
     template <class E, std::size_t N, if_character<E> = 0> bytes(E (&buffer)[N]) = delete; // pass bytes(buffer, length)
     template <class E, std::size_t N, if_character<E> = 0> bytes(E (&&buffer)[N]) = delete; // pass bytes(buffer, length)
     template <class E, std::size_t N, if_character<E> = 0> bytes(const E (&&buffer)[N]) = delete; // pass bytes(buffer, length)
+    template <class P, if_pointer<P> = 0> bytes(const P &buffer) = delete; // pass bytes(buffer, length)
     // clang-format on
-
-    template <class P, if_character<std::remove_cv_t<std::remove_pointer_t<P>>> = 0,
-              std::enable_if_t<std::is_pointer_v<P>, int> = 0>
-    bytes(const P &string) noexcept
-        : data_(string), size_(string ? std::strlen(reinterpret_cast<const char *>(string)) : 1) {}
 
     template <class C, std::enable_if_t<is_byte<element<const C &>> && !is_text<C>, int> = 0>
     constexpr bytes(const C &container VULFSJOR_LIVES) noexcept
@@ -124,6 +122,7 @@ class bytes {
  * `bytes`, are N + 1 bytes here, which hashers refuse. */
 template <std::size_t N> class short_bytes {
     template <class E> using if_character = bytes::if_character<E>;
+    template <class P> using if_pointer = bytes::if_pointer<P>;
     template <class C>
     static constexpr bool is_other = !bytes::is_text<std::remove_reference_t<C>> &&
                                      !std::is_same_v<std::decay_t<C>, short_bytes> &&
@@ -157,6 +156,7 @@ template <std::size_t N> class short_bytes {
     template <class E, std::size_t M, if_character<E> = 0> short_bytes(E (&buffer)[M]) = delete; // pass bytes(buffer, length)
     template <class E, std::size_t M, if_character<E> = 0> short_bytes(E (&&buffer)[M]) = delete; // pass bytes(buffer, length)
     template <class E, std::size_t M, if_character<E> = 0> short_bytes(const E (&&buffer)[M]) = delete; // pass bytes(buffer, length)
+    template <class P, if_pointer<P> = 0> short_bytes(const P &buffer) = delete; // pass bytes(buffer, length)
     // clang-format on
 
     /* Whether it was made of bytes, if only of none. */

@@ -64,10 +64,10 @@ static_assert(blake2b::block_length == 128 && blake2s::block_length == 64);
 static_assert(blake2b::max_digest_length == 64 && blake2s::max_digest_length == 32);
 
 template <class T> constexpr bool is_bytes = std::is_convertible_v<T, bytes>;
-static_assert(is_bytes<const char *> && is_bytes<const char (&)[4]> && is_bytes<std::string> &&
+static_assert(!is_bytes<const char *> && is_bytes<const char (&)[4]> && is_bytes<std::string> &&
               is_bytes<std::string_view> && is_bytes<unsigned char (&)[4]> &&
               is_bytes<std::vector<char>> && is_bytes<const std::array<std::byte, 4> &>);
-static_assert(is_bytes<char *> && is_bytes<std::array<char, 4> &> && !is_bytes<char (&)[4]> &&
+static_assert(!is_bytes<char *> && is_bytes<std::array<char, 4> &> && !is_bytes<char (&)[4]> &&
               !is_bytes<char (&&)[4]> && !is_bytes<const char (&&)[4]>);
 static_assert(std::is_aggregate_v<parameters> && std::is_nothrow_default_constructible_v<parameters> &&
               std::is_nothrow_copy_constructible_v<parameters> && !std::is_trivially_destructible_v<parameters>);
@@ -170,11 +170,10 @@ template <class H> void inputs() {
           all[10].update(std::u8string(u8"a text")));
 #endif
     for (const H &each : all) CHECK(each.count() == 6 && each.digest() == all[0].digest());
-    /* Strings of C, and what is no literal and no string. */
-    char buffer[] = {'a', ' ', 't', 'e', 'x', 't', 0, 'x'}, *pointer = buffer, *null = nullptr;
+    /* A string of C, and what is no literal and no string. */
+    char buffer[] = {'a', ' ', 't', 'e', 'x', 't', 0, 'x'}, *pointer = buffer;
     H hasher;
-    CHECK(!hasher.update(null) && !hasher.update(static_cast<const char *>(nullptr)) && !hasher.count());
-    CHECK(hasher.update(pointer) && hasher.count() == 6 && hasher.digest() == all[0].digest());
+    CHECK(hasher.update(std::string_view(pointer)) && hasher.count() == 6 && hasher.digest() == all[0].digest());
     CHECK(hasher.update(buffer, sizeof buffer) && hasher.count() == 14);
     CHECK(hasher.update(bytes(buffer, sizeof buffer)) && hasher.count() == 22);
     CHECK(hasher.update("ab\0cd") && hasher.count() == 27 && hasher.update("") && hasher.count() == 27);
@@ -182,10 +181,7 @@ template <class H> void inputs() {
     const unsigned char four[] = "abc";
     CHECK(hasher.update(four) && hasher.count() == 34);
 #ifdef __cpp_char8_t
-    const char8_t *utf8 = u8"a text", *no_utf8 = nullptr;
-    CHECK(!hasher.update(no_utf8) && hasher.count() == 34);
-    hasher.reset();
-    CHECK(hasher.update(utf8) && hasher.digest() == all[0].digest());
+    static_assert(!is_bytes<const char8_t *> && !is_bytes<char8_t *>);
 #endif
 #if __cplusplus < 202002L
     /* From C++20 on the compiler refuses it. */

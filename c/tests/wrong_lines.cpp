@@ -20,9 +20,9 @@ struct config {
 };
 std::vector<unsigned char> load_key();
 config load();
-bool lines(blake2b &h, const config &given, config &open, char *argument, const char *string);
+bool lines(blake2b &h, const config &given, config &open, char parameter[32], const char *string);
 
-bool lines(blake2b &h, const config &given, config &open, char *argument, const char *string) {
+bool lines(blake2b &h, const config &given, config &open, char parameter[32], const char *string) {
     parameters p, q{16, "key", std::string("salt"), load_key(), {}}, r{16};
     char buffer[65536];
     unsigned char raw[32] = {1};
@@ -50,12 +50,42 @@ bool lines(blake2b &h, const config &given, config &open, char *argument, const 
     all = !blake2b::hash(buffer).empty() && all; // NO: deleted
     all = !blake2b::hash("", {16, buffer, "", "", {}}).empty() && all; // NO: deleted
 
+    /* ---- a pointer to char, whose bytes would end at a zero among them, or somewhere after them */
+    std::vector<char> read(32);
+    const std::string body("a\0b", 3);
+    all = h.update(parameter) && all; // NO: deleted
+    all = h.update(string) && all; // NO: deleted
+    all = h.update(read.data()) && all; // NO: deleted
+    all = h.update(body.c_str()) && all; // NO: deleted
+    all = h.update(std::string_view("ab").data()) && all; // NO: deleted
+    all = h.update(all ? "a\0b" : "cd") && all; // NO: deleted
+    all = h.verify(string) && all; // NO: deleted
+    p.key = parameter; // NO: deleted
+    p.key = string; // NO: deleted
+    p.key = read.data(); // NO: deleted
+    p.key = +given.key; // NO: deleted
+    p.key = body.c_str(); // NO: deleted
+    p.salt = string; // NO: deleted
+    p.personal = parameter; // NO: deleted
+    const bytes to_zero(string); // NO: deleted
+    const parameters of_pointer{16, string, "", "", {}}; // NO: deleted
+    all = !blake2b::hash(string).empty() && all; // NO: deleted
+
     /* ---- what is no bytes */
     all = h.update(nullptr) && all; // NO: deleted
     all = h.update(7) && all; // NO: .
     p.key = nullptr; // NO: .
     p.key = &raw[0]; // NO: .
     p.key = std::vector<int>(8); // NO: .
+    p.key = std::optional<std::string>("key"); // NO: .
+    p.key = std::wstring(L"key"); // NO: .
+    p.salt = p.key; // NO: .
+    all = h.update(&read, read.size(), 0) && all; // NO: .
+    all = h.update(read, read.size()) && all; // NO: .
+    all = h.update({1, 2, 3}) && all; // NO: .
+    all = h.update(L"abc") && all; // NO: .
+    all = h.update(std::vector<bool>(8)) && all; // NO: .
+    all = h.update(false) && all; // NO: .
     p.key = 32; // NO: .
 
     /* ---- results that are dropped */
@@ -75,9 +105,13 @@ bool lines(blake2b &h, const config &given, config &open, char *argument, const 
     h = p; // NO: .
     h = blake2b("key"); // NO: .
     h = blake2bp(); // NO: .
+    h = blake2b(32); // NO: .
+    h = blake2b({"key", 32}); // NO: .
+    all = h == h && all; // NO: .
 
     /* ---- right */
-    all = h.update("ab\0cd") && h.update(u8"abc") && h.update(string) && h.update(argument) && all;
+    all = h.update("ab\0cd") && h.update(u8"abc") && h.update(std::string_view(string)) && all;
+    all = h.update(parameter, length) && h.update(body) && h.update(read) && all;
     all = h.update(buffer, length) && h.update(bytes(buffer, length)) && h.update({buffer, length}) && all;
     all = h.update(raw) && h.update(given.secret) && h.update(load().secret) && h.update(load_key()) && all;
     all = h.update(std::string_view(buffer, length)) && h.update(std::array<char, 4>{}) && all;
@@ -90,7 +124,9 @@ bool lines(blake2b &h, const config &given, config &open, char *argument, const 
     p.key = std::string_view(given.key, sizeof given.key);
     p.key = "a key";
     p.key = u8"a key";
-    p.key = string;
+    p.key = body;
+    p.key = std::string_view(parameter);
+    p.key = bytes(parameter, 32);
     p.salt = std::array<unsigned char, 4>{};
     p.personal = "tenant " + std::to_string(length);
     p.key = std::nullopt;
@@ -101,7 +137,8 @@ bool lines(blake2b &h, const config &given, config &open, char *argument, const 
     const parameters s{.digest_length = 16}, t{.key = "key", .personal = load_key()}, u{.salt = raw};
     all = h.update(std::span(raw)) && blake2b::create(s) && blake2b::create(t) && blake2b::create(u) && all;
 #endif
-    all = view.size() && dangling.size() && text.size() && blake2b::create(of_buffer) && all;
+    all = view.size() && dangling.size() && text.size() && to_zero.size() && all;
+    all = blake2b::create(of_buffer) && blake2b::create(of_pointer) && all;
     return all && blake2b::create(q) && blake2b::create(r) && blake2b::create({20, raw}) &&
            blake2b::hash("abc", {32, "key"}).size() == 32;
 }
