@@ -3,13 +3,16 @@
 import assert from "node:assert/strict";
 import { createHash } from "node:crypto";
 import { once } from "node:events";
-import { mkdtempSync, rmSync, writeFileSync } from "node:fs";
+import { createReadStream, mkdtempSync, rmSync, writeFileSync } from "node:fs";
 import { open } from "node:fs/promises";
 import { createServer } from "node:http";
 import { tmpdir } from "node:os";
 import { join } from "node:path";
+import { createInterface } from "node:readline";
 import { PassThrough, Readable } from "node:stream";
+import { pipeline } from "node:stream/promises";
 import test from "node:test";
+import { inspect } from "node:util";
 import * as vulfsjor from "../index.js";
 import { hexOf } from "./common.mjs";
 
@@ -194,6 +197,55 @@ test("the rest of a stream is not its digest", async () => {
   assert.equal(hexOf(await blake2bStream(two)), WANTED);
 });
 
+test("a stream of text is refused, whatever made it one", async () => {
+  const folder = mkdtempSync(join(tmpdir(), "vulfsjor-"));
+  const path = join(folder, "file");
+  writeFileSync(path, BODY);
+  const handle = await open(path);
+  const isOfText = { name: "TypeError", message: /chunk must be a Uint8Array.*, not a string/ };
+  try {
+    for (const open of [
+      () => createReadStream(path, "utf8"), () => createReadStream(path).setEncoding("hex"),
+      () => createInterface({ input: createReadStream(path) }),
+      () => handle.readLines({ autoClose: false }), () => Readable.from("text"),
+      () => Readable.from(["text"]), () => new PassThrough({ encoding: "latin1" }).end(BODY),
+      () => new Blob([BODY]).stream().pipeThrough(new TextDecoderStream()), () => ["text"],
+    ]) {
+      await assert.rejects(blake2bStream(open()), isOfText, `${open}`);
+    }
+    const hash = new Blake2b({ key: KEY });
+    await assert.rejects(pipeline(createReadStream(path, "utf8"), hashWritable(hash)), isOfText);
+    assert.throws(() => hash.digest(), /has ended/);
+    const text = new Blob([BODY]).stream().pipeThrough(new TextDecoderStream());
+    await assert.rejects(text.pipeThrough(hashTransform(new Blake2b())).getReader().read(), isOfText);
+  } finally {
+    await handle.close();
+    rmSync(folder, { recursive: true });
+  }
+  for (const source of [path, new URL(`file://${path}`), 3, new FormData(), null, Promise.resolve()]) {
+    if (source instanceof FormData) source.append("name", "text");
+    await assert.rejects(blake2bStream(source), { name: "TypeError", message: /must be a/ });
+  }
+});
+
+test("what shows or copies a hash has neither its key nor its calls", () => {
+  for (const [name, lost] of [...CLASSES.map((name) => [name, "verify"]), ["Blake2xb", "read"]]) {
+    const hash = new vulfsjor[name]({ key: KEY }).update(BODY);
+    assert.deepEqual(Reflect.ownKeys(hash), []);
+    assert.equal(JSON.stringify(hash), "{}");
+    assert.doesNotMatch(inspect(hash, { showHidden: true, depth: 9, getters: true }), /7, 7|0707/);
+    assert.equal(String(hash), "[object Object]");
+    for (const copy of [{ ...hash }, structuredClone(hash)]) assert.equal(copy[lost], undefined);
+    const likeIt = Object.assign(Object.create(vulfsjor[name].prototype), hash);
+    for (const copy of [likeIt, Object.create(hash), new Proxy(hash, {})]) {
+      assert.throws(() => copy[lost](BODY), /called without its (hash|output)/);
+    }
+    for (const wrong of [KEY, [...KEY], hex(KEY), { key: [...KEY] }, { key: hex(KEY) }, { salt: KEY }]) {
+      assert.throws(() => new vulfsjor[name](wrong), ({ message }) => !/7, ?7|0707/.test(message));
+    }
+  }
+});
+
 test("a response whose body was read is refused", async () => {
   const response = new Response(MESSAGE);
   const { body } = response;
@@ -367,6 +419,10 @@ test("a hash with a pipe that has not ended is refused, and nothing is lost", as
     assert.equal(hash.update(BODY).hex(), new Blake2b({ key: KEY }).update(MESSAGE).update(BODY)
       .update(MESSAGE).update(BODY).hex());
   }
+  // that never ends
+  const endless = new Blake2b();
+  await ofWeb().pipeTo(hashWritable(endless), { preventClose: true });
+  assert.throws(() => endless.digest(), { message: `Blake2b.digest: ${message}` });
   // between two chunks
   const hash = new Blake2b();
   const writer = hashWritable(hash).getWriter();

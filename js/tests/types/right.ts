@@ -176,6 +176,16 @@ new Blake2b().digest("hex");
 new Blake2b().verify("00");
 // @ts-expect-error a check has no value
 if (new Blake2b({ key: digest }).verify(digest)) console.log();
+// @ts-expect-error also after await
+if (await new Blake2b({ key: digest }).verify(digest)) console.log();
+// @ts-expect-error nor is a check that is not called
+if (copy.verify) console.log();
+// @ts-expect-error a promise is no digest
+equal(blake2bStream([digest]), digest);
+// @ts-expect-error a promise is always true
+if (blake2bStream([digest])) console.log();
+// @ts-expect-error a key is an option
+new Blake2b().key = digest;
 // @ts-expect-error nor is it compared
 export const isRight: boolean = new TreeHash({ leafLength: 5 }).verify(digest);
 // @ts-expect-error the tree of BLAKE2bp is fixed
