@@ -27,6 +27,12 @@ fn main() -> Result<(), InvalidArgument> {
     if mac.verify(b"tag") { // refused
         println!("accepted");
     }
+    if mac.verify(b"tag") == true { // refused
+        println!("accepted");
+    }
+    let _ = mac.verify == Ok(()); // refused
+    let _ = mac == mac; // refused
+    let _ = mac.finalize() == mac; // refused
     let _ = mac.finalize() == "tag"; // refused
     Ok(())
 }
