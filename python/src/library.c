@@ -114,7 +114,7 @@ static int number_of(PyObject *given, uint64_t *number) {
 }
 
 int range_of(PyObject *given, uint64_t least, uint64_t most, const char *name, uint64_t *number) {
-    if (!PyLong_Check(given)) {
+    if (!PyLong_Check(given) || PyBool_Check(given)) {
         PyErr_Format(PyExc_TypeError, "%s must be an integer", name);
         return -1;
     }
@@ -128,6 +128,10 @@ int range_of(PyObject *given, uint64_t least, uint64_t most, const char *name, u
 int to_size(PyObject *given, void *size) {
     Py_ssize_t number = PyNumber_AsSsize_t(given, NULL);
     if (number == -1 && PyErr_Occurred()) return 0;
+    if (PyBool_Check(given)) {
+        PyErr_SetString(PyExc_TypeError, "digest_size must be an integer");
+        return 0;
+    }
     *(int *)size = number < 0 ? -1 : number > INT_MAX ? INT_MAX : (int)number;
     return 1;
 }

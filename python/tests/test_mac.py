@@ -1,9 +1,13 @@
 """Tests of message authentication codes: blake2b_mac and its three kin, verify, and programs that check a tag
 in a wrong way, which must not accept a forgery."""
 import copy
+import functools
+import gc
 import hashlib
 import hmac
 import inspect
+import io
+import json
 import pickle
 import textwrap
 import unittest
@@ -156,6 +160,17 @@ class Macs(unittest.TestCase):
             self.assertRaises(TypeError, make_mac, MESSAGE, key=KEY)  # as hashes have it
             self.assertRaises(BufferError, make_mac, memoryview(bytes(8))[::2])
 
+    def test_a_bool_is_no_number(self):
+        """A digest of True bytes would be one that a few hundred tries forge."""
+        calls = [*(functools.partial(make_mac, KEY) for _, _, make_mac, *_ in FAMILIES),
+                 functools.partial(vulfsjor.blake2b_many, []), functools.partial(vulfsjor.tree_root, b"", 4096)]
+        for call in calls:
+            self.assertRaisesRegex(TypeError, "^digest_size must be an integer$", call, digest_size=True)
+        for call in (lambda: vulfsjor.derive_key(KEY, b"", True), lambda: vulfsjor.blake2xb(length=True),
+                     lambda: vulfsjor.blake2xs().digest(True), lambda: vulfsjor.tree_root(b"", True),
+                     lambda: vulfsjor.tree_leaves(b"", 4096, first=False, ends=True)):
+            self.assertRaisesRegex(TypeError, "must be an integer$", call)
+
     def test_objects(self):
         """They are neither changed, nor subclassed, nor pickled, nor compared by their tags."""
         for _, _, make_mac, *_ in FAMILIES:
@@ -168,6 +183,13 @@ class Macs(unittest.TestCase):
                 self.assertRaises(AttributeError, setattr, mac, field, 1)
             self.assertNotEqual(mac, make_mac(KEY))
             self.assertNotEqual(mac, mac.digest())
+            self.assertRaises(TypeError, copy.deepcopy, [mac])
+            self.assertRaises(TypeError, json.dumps, mac)
+            self.assertRaises(TypeError, vars, mac)
+            for read in (bytes, memoryview, len):
+                self.assertRaises(TypeError, read, mac)
+            self.assertRegex(f"{mac}", r"^<vulfsjor\.blake2\w+_mac object at 0x[0-9a-f]+>$")
+            self.assertEqual(gc.get_referents(mac), [])
 
 
 # Programs that look right, and check a tag wrongly. `request` has a message and a forged tag.
@@ -228,6 +250,25 @@ WRONG = {
     "a key that file_digest does not get": """
         import io
         vulfsjor.file_digest(io.BytesIO(BODY), vulfsjor.blake2b).verify(hashlib.blake2b(BODY).digest())
+        accepted = BODY""",
+    "a tag of one byte, for a flag": """
+        is_short = 32 == 32
+        if vulfsjor.blake2b_mac(KEY, BODY, digest_size=is_short or 64).digest() == TAG[:1]:
+            accepted = BODY""",
+    "a check by each of two keys": """
+        if all(vulfsjor.blake2b_mac(key, BODY, digest_size=32).verify(FORGED) is None for key in (KEY, BODY)):
+            accepted = BODY""",
+    "a key and a message that are swapped, of text": """
+        vulfsjor.blake2b_mac("user=admin", KEY).verify(FORGED)
+        accepted = BODY""",
+    "the object of a hash in the place of its class": """
+        import io
+        vulfsjor.file_digest(io.BytesIO(BODY), vulfsjor.blake2b_mac(KEY)).verify(FORGED)
+        accepted = BODY""",
+    "a file that is open for text": """
+        import os
+        with open(os.devnull) as file:
+            vulfsjor.file_digest(file, vulfsjor.blake2b_mac, key=KEY).verify(FORGED)
         accepted = BODY""",
     "a key where file_digest has none": """
         import io

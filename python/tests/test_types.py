@@ -118,6 +118,12 @@ REFUSED = (
     "vulfsjor.TreeHasher(1, b'salt')", "vulfsjor.TreeHasher(1).update('text')",
     "vulfsjor.TreeHasher(1).update_leaves(b'', None)", "vulfsjor.TreeHasher(1).leaves_ahead('x')",
 )
+# Checks that are taken for values, and comparisons that are never true.
+CHECKS = (
+    "if mac.verify(b''): print()", "if not mac.verify(b''): print()", "assert mac.verify(b'')",
+    "is_right: bool = mac.verify(b'')", "print(all([mac.verify(b'')]))", "if mac.verify: print()",
+    "if mac == b'tag': print()", "if mac.digest == b'tag': print()", "if mac.digest() == 'tag': print()",
+)
 # The types of arguments by their names.
 NAMED = {
     **dict.fromkeys(("context", "data", "digests", "key", "person", "salt", "tag"), "_Bytes"),
@@ -228,6 +234,15 @@ class Mypy(unittest.TestCase):
         places = {error.partition(": error: ")[0] for error in errors if ": error: " in error}
         wanted = {f"program.py:{len(good) + place}" for place in range(1, len(REFUSED) + 1)}
         self.assertEqual(places, wanted, "\n".join([*errors, last]))
+
+    def test_checks(self):
+        """A check has no value, so mypy refuses each line that uses one."""
+        right = ["import vulfsjor", "mac = vulfsjor.blake2b_mac(b'k')", "mac.verify(b'')"]
+        path = self.write("checks.py", "\n".join([*right, *CHECKS, ""]))
+        last, errors = self.said("mypy", "--strict", "--cache-dir=/dev/null", path)
+        places = [error.partition(": error: ")[0] for error in errors if ": error: " in error]
+        self.assertEqual(places, [f"checks.py:{len(right) + place}" for place in range(1, len(CHECKS) + 1)],
+                         "\n".join([*errors, last]))
 
 
 if __name__ == "__main__":
