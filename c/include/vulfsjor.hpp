@@ -15,6 +15,9 @@
 #ifndef VULFSJOR_HPP
 #define VULFSJOR_HPP
 
+#if __cplusplus < 201703L && !(defined(_MSVC_LANG) && _MSVC_LANG >= 201703L)
+#error "vulfsjor.hpp is for C++17 and later"
+#endif
 #include "vulfsjor.h"
 
 #include <array>

@@ -1,6 +1,6 @@
 #!/usr/bin/env python3
 """Tests that the lines of wrong_lines.cpp that are marked as wrong get an error or a warning with the
-message that the mark names, and no other line does:
+message that the mark names, and no other line does, and that C++14 is refused:
 
     c/tests/wrong_lines.py FOLDER/include STANDARD COMPILER..
 
@@ -34,7 +34,9 @@ def main():
             line = 0
             print(text)
         about[line] = about.get(line, "") + text + "\n"
-    wrong, marked = 0, 0
+    older = subprocess.run([*compiler, "-std=c++14", f"-I{include}", "-fsyntax-only", LINES], capture_output=True,
+                           text=True, check=False).stderr
+    wrong, marked = int("vulfsjor.hpp is for C++17 and later" not in older), 0
     for number, text in enumerate(LINES.read_text(encoding="utf-8").splitlines(), 1):
         mark = re.search(r"; // NO(?:\((\w+)\))?: (.*)", text)
         wanted = mark and (not mark[1] or mark[1] in has)

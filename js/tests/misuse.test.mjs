@@ -9,8 +9,8 @@ import { createServer } from "node:http";
 import { tmpdir } from "node:os";
 import { join } from "node:path";
 import { createInterface } from "node:readline";
-import { PassThrough, Readable } from "node:stream";
-import { pipeline } from "node:stream/promises";
+import { Duplex, PassThrough, Readable, Writable } from "node:stream";
+import { finished, pipeline } from "node:stream/promises";
 import test from "node:test";
 import { inspect } from "node:util";
 import * as vulfsjor from "../index.js";
@@ -216,6 +216,14 @@ test("a stream of text is refused, whatever made it one", async () => {
     const hash = new Blake2b({ key: KEY });
     await assert.rejects(pipeline(createReadStream(path, "utf8"), hashWritable(hash)), isOfText);
     assert.throws(() => hash.digest(), /has ended/);
+    const options = { decodeStrings: false };
+    for (const to of [Writable.fromWeb(hashWritable(new Blake2b()), options),
+      Duplex.fromWeb(hashTransform(new Blake2b()), options).resume()]) {
+      await assert.rejects(finished(createReadStream(path, "utf8").pipe(to)), isOfText);
+    }
+    const kept = new Blake2b();
+    await finished(createReadStream(path).pipe(Writable.fromWeb(hashWritable(kept), options)));
+    assert.equal(kept.hex(), hex(blake2b(BODY)));
     const text = new Blob([BODY]).stream().pipeThrough(new TextDecoderStream());
     await assert.rejects(text.pipeThrough(hashTransform(new Blake2b())).getReader().read(), isOfText);
   } finally {
