@@ -2,22 +2,20 @@
 // the engine of Safari; each where it is installed.
 import assert from "node:assert/strict";
 import { spawn, spawnSync } from "node:child_process";
-import { mkdtempSync, readFileSync, rmSync, writeFileSync } from "node:fs";
+import { readFileSync, writeFileSync } from "node:fs";
 import { createServer } from "node:http";
-import { tmpdir } from "node:os";
 import { extname, join } from "node:path";
 import test from "node:test";
 import { fileURLToPath } from "node:url";
 import { endBrowser } from "./chromium.mjs";
-import { HUGE } from "./common.mjs";
+import { casesOf, hasCommand, HUGE, newFolder } from "./common.mjs";
+import { HASHES } from "./conformance_driver.mjs";
 
 const top = fileURLToPath(new URL("..", import.meta.url));
-const TYPES = {
-  ".js": "text/javascript", ".mjs": "text/javascript", ".json": "application/json", "": "text/html",
-};
-const CHECK = `const [vulfsjor, { checkCases }, cases] = await Promise.all([import("/index.js"),
-  import("/tests/check_cases.mjs"), fetch("/cases.json").then((answer) => answer.json())]);
-  const answer = await checkCases(vulfsjor, cases);`;
+const TYPES = { ".js": "text/javascript", ".mjs": "text/javascript", ".json": "application/json", "": "text/html" };
+const CHECK = `const [vulfsjor, { tryCases }, texts] = await Promise.all([import("/index.js"),
+  import("/tests/conformance_driver.mjs"), fetch("/cases.json").then((answer) => answer.json())]);
+  const answer = texts.map((text) => tryCases(vulfsjor, text));`;
 // Hashes a tree by workers of the browser: whole ones, some that do not exist, and some that throw
 // after they have started.
 const THREADS = `const message = Uint8Array.from({ length: 9_000_001 }, (_, i) => i ^ (i >> 8));
@@ -38,7 +36,8 @@ const THREADS = `const message = Uint8Array.from({ length: 9_000_001 }, (_, i) =
   const [through, last] = [new vulfsjor.Blake2b(), new vulfsjor.Blake2b()];
   await new Blob([message]).stream().pipeThrough(vulfsjor.hashTransform(through))
     .pipeTo(vulfsjor.hashWritable(last));
-  const piped = [vulfsjor.hex(vulfsjor.blake2b(message)), through.hex(), last.hex()];
+  const piped = [vulfsjor.hex(vulfsjor.blake2b(message)), through.hex(), last.hex(),
+    vulfsjor.hex(await vulfsjor.blake2bStream(new Blob([message])))];
   const ended = new vulfsjor.Blake2b();
   const { readable, writable } = vulfsjor.hashTransform(ended);
   await readable.cancel();
@@ -73,18 +72,20 @@ try {
 }
 </script>`;
 
-// Some of tests/vectors.json: those of hashes and roots, of short messages.
-const VECTORS = JSON.parse(readFileSync(new URL("../../tests/vectors.json", import.meta.url)));
-const CASES = VECTORS
-  .filter(({ kind }) => ["hash", "parallel", "many", "root"].includes(kind))
-  .flatMap(({ columns, rows, ...fixed }) => rows.map((row) =>
-    ({ ...fixed, ...Object.fromEntries(columns.map((name, i) => [name, row[i]])) })))
-  .filter(({ length, lengths = [length] }) => Math.max(...lengths) <= 6000)
-  .filter((_, i) => i % (HUGE ? 2 : 9) === 0);
+// Some of the conformance cases.
+const CASES = HASHES.map((hash) => casesOf(hash, HUGE ? 4 : 40));
+const COUNT = CASES.map((text) => text.match(/^case /gm).length);
+
+// Asserts that all cases were tried, and that most have not ended early.
+function assertCases(answer) {
+  assert.deepEqual(answer.flatMap(({ wrong }) => wrong), []);
+  assert.deepEqual(answer.map(({ cases }) => cases), COUNT);
+  for (const { cases, skipped } of answer) assert.ok(skipped < cases / 4, `${skipped} of ${cases}`);
+}
 
 // Serves the package, opens the page in a browser, and returns what the page sends back.
-async function answerOf(command, wordsOf, cases) {
-  const folder = mkdtempSync(join(tmpdir(), "vulfsjor-browser-"));
+async function answerOf(command, wordsOf) {
+  const folder = newFolder();
   let answered;
   const answer = new Promise((resolve) => (answered = resolve));
   const server = createServer((request, response) => {
@@ -96,15 +97,13 @@ async function answerOf(command, wordsOf, cases) {
     }
     const files = {
       "/": PAGE,
-      "/cases.json": JSON.stringify(cases),
+      "/cases.json": JSON.stringify(CASES),
       "/worker.js": `${CHECK}\npostMessage(answer);`,
       "/throws.js": "postMessage('ready'); onmessage = () => { throw new Error('no reason'); };",
     };
     try {
       const body = files[pathname] ?? readFileSync(join(top, pathname));
-      response.setHeader(
-        "content-type",
-        TYPES[pathname === "/" ? "" : extname(pathname)] ?? "application/octet-stream");
+      response.setHeader("content-type", TYPES[pathname === "/" ? "" : extname(pathname)]);
       response.end(body);
     } catch {
       response.statusCode = 404;
@@ -133,60 +132,48 @@ const BROWSERS = {
   ],
   "firefox-esr": (folder, url) => ["--headless", "--no-remote", "--profile", folder, url],
 };
-const hasCommand = (command) => spawnSync(command, ["--version"]).error === undefined;
-
 for (const [command, wordsOf] of Object.entries(BROWSERS)) {
-  test(`${CASES.length} cases of hashlib and a tree by workers in ${command}`, async (t) => {
+  test(`conformance cases, streams, pipes and a tree by workers in ${command}`, async (t) => {
     if (!hasCommand(command)) return t.skip(`no ${command}`);
-    const { fault, page, worker, threads, piped, streams } = await answerOf(command, wordsOf, CASES);
+    const { fault, page, worker, threads, piped, streams } = await answerOf(command, wordsOf);
     assert.equal(fault, undefined);
     const [root, byThreads, cause, byOne, failed, ...more] = threads;
-    assert.deepEqual(
-      [byThreads, cause, byOne, more], [root, "Error: it could not be started", root, []]);
+    assert.deepEqual([byThreads, cause, byOne, more], [root, "Error: it could not be started", root, []]);
     assert.match(failed, /^Error: treeRootStream: a worker failed: .*no reason$/);
-    assert.deepEqual(
-      piped, [...Array(3).fill(piped[0]), "TypeError: Blake2b.digest: this hash has ended"]);
+    assert.deepEqual(piped, [...Array(4).fill(piped[0]), "TypeError: Blake2b.digest: this hash has ended"]);
     // hashlib's of abc, and of three zeros
     assert.deepEqual(streams, ["63906248", "2daf7f13", ...Array(6).fill(
       "TypeError: blake2bStream: source was already read, or something else is reading it")]);
-    for (const { right, wrong } of [page, worker]) {
-      assert.deepEqual(wrong, []);
-      assert.equal(right, CASES.length);
-    }
+    assertCases(page);
+    assertCases(worker);
   });
 }
 
-test(`${CASES.length} cases of hashlib in jsc, the engine of Safari`, (t) => {
+test("conformance cases in jsc, the engine of Safari", (t) => {
   // jsc does not know --version, and then ends with another status
   if (!hasCommand("jsc")) return t.skip("no jsc");
-  const folder = mkdtempSync(join(tmpdir(), "vulfsjor-jsc-"));
-  try {
-    // the shell has no atob, and no encoder of texts
-    writeFileSync(join(folder, "main.mjs"), `
-      const digits = "ABCDEFGHIJKLMNOPQRSTUVWXYZabcdefghijklmnopqrstuvwxyz0123456789+/";
-      globalThis.atob = (text) => {
-        const out = [];
-        let bits = 0;
-        let count = 0;
-        for (const digit of text.replace(/=/g, "")) {
-          bits = ((bits << 6) | digits.indexOf(digit)) & 0xffff;
-          if ((count += 6) >= 8) out.push(String.fromCharCode((bits >> (count -= 8)) & 255));
-        }
-        return out.join("");
-      };
-      const cases = JSON.parse(readFile(${JSON.stringify(join(folder, "cases.json"))}));
-      const vulfsjor = await import(${JSON.stringify(join(top, "index.js"))});
-      const { checkCases } = await import(${JSON.stringify(join(top, "tests/check_cases.mjs"))});
-      print(JSON.stringify(await checkCases(vulfsjor, cases)));
-    `);
-    writeFileSync(join(folder, "cases.json"), JSON.stringify(CASES));
-    const { stdout, stderr } = spawnSync(
-      "jsc", ["-m", join(folder, "main.mjs")], { encoding: "utf8", maxBuffer: 2 ** 28 });
-    assert.match(stdout, /^\{/, stderr);
-    const { right, wrong } = JSON.parse(stdout);
-    assert.deepEqual(wrong, []);
-    assert.equal(right, CASES.length);
-  } finally {
-    rmSync(folder, { recursive: true });
-  }
+  const folder = newFolder();
+  // the shell has no atob, and no encoder of texts
+  writeFileSync(join(folder, "main.mjs"), `
+    const digits = "ABCDEFGHIJKLMNOPQRSTUVWXYZabcdefghijklmnopqrstuvwxyz0123456789+/";
+    globalThis.atob = (text) => {
+      const out = [];
+      let bits = 0;
+      let count = 0;
+      for (const digit of text.replace(/=/g, "")) {
+        bits = ((bits << 6) | digits.indexOf(digit)) & 0xffff;
+        if ((count += 6) >= 8) out.push(String.fromCharCode((bits >> (count -= 8)) & 255));
+      }
+      return out.join("");
+    };
+    const cases = JSON.parse(readFile(${JSON.stringify(join(folder, "cases.json"))}));
+    const vulfsjor = await import(${JSON.stringify(join(top, "index.js"))});
+    const { tryCases } = await import(${JSON.stringify(join(top, "tests/conformance_driver.mjs"))});
+    print(JSON.stringify(cases.map((text) => tryCases(vulfsjor, text))));
+  `);
+  writeFileSync(join(folder, "cases.json"), JSON.stringify(CASES));
+  const { stdout, stderr } = spawnSync(
+    "jsc", ["-m", join(folder, "main.mjs")], { encoding: "utf8", maxBuffer: 2 ** 28 });
+  assert.match(stdout, /^\{/, stderr);
+  assertCases(JSON.parse(stdout));
 });

@@ -1,18 +1,17 @@
 // Bundles of the package, and workers in them: in node and in Chromium, under policies that forbid
 // some ways to start a worker.
 import assert from "node:assert/strict";
-import { execFile, spawnSync } from "node:child_process";
-import { cpSync, mkdtempSync, readFileSync, rmSync, writeFileSync } from "node:fs";
+import { execFile } from "node:child_process";
+import { cpSync, readFileSync, writeFileSync } from "node:fs";
 import { createServer } from "node:http";
-import { tmpdir } from "node:os";
 import { basename, dirname, extname, join } from "node:path";
-import test, { after, before } from "node:test";
+import test, { before } from "node:test";
 import { fileURLToPath } from "node:url";
 import { promisify } from "node:util";
 import { startChromium } from "./chromium.mjs";
+import { hasCommand, newFolder } from "./common.mjs";
 
 const top = fileURLToPath(new URL("..", import.meta.url));
-const hasCommand = (command) => spawnSync(command, ["--version"]).status === 0;
 const WORKER = "node_modules/vulfsjor/src/vulfsjor_worker.js";
 // A message of two ranges, and its root by hashlib.
 const MESSAGE = "new Uint8Array(5_000_000).map((_, i) => i ^ (i >> 8))";
@@ -28,20 +27,17 @@ const PROGRAM = `import { hex, treeRootStream } from "vulfsjor";
   const show = (answer) => globalThis.document
     ? document.body.append(JSON.stringify(answer)) : console.log(JSON.stringify(answer));`;
 
-let folder;
+const folder = newFolder();
 const pathOf = (name) => join(folder, name);
 
 before(() => {
-  folder = mkdtempSync(join(tmpdir(), "vulfsjor-bundlers-"));
   for (const file of ["package.json", "index.js", "src"]) {
     cpSync(join(top, file), pathOf(`node_modules/vulfsjor/${file}`), { recursive: true });
   }
   writeFileSync(pathOf("app.mjs"), PROGRAM);
   // for bundlers that resolve no names without a plugin
-  writeFileSync(
-    pathOf("path.mjs"), PROGRAM.replace('"vulfsjor"', '"./node_modules/vulfsjor/index.js"'));
+  writeFileSync(pathOf("path.mjs"), PROGRAM.replace('"vulfsjor"', '"./node_modules/vulfsjor/index.js"'));
 });
-after(() => rmSync(folder, { recursive: true }));
 
 const run = promisify(execFile);
 // Bundles, and asserts that the bundler had no remark.

@@ -81,9 +81,7 @@ export async function startChromium(command = process.env.CHROMIUM ?? "chromium"
     for (const domain of ["Page", "Runtime", "Log", "Network", "DOM"]) {
       await call(`${domain}.enable`);
     }
-    await call(
-      "Emulation.setDeviceMetricsOverride",
-      { width, height: 900, deviceScaleFactor: 1, mobile: false });
+    await call("Emulation.setDeviceMetricsOverride", { width, height: 900, deviceScaleFactor: 1, mobile: false });
     await call("Page.navigate", { url });
     const evaluate = async (expression) => {
       const { result, exceptionDetails } = await call(

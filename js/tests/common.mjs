@@ -1,5 +1,10 @@
 // Helpers of several tests.
 import assert from "node:assert/strict";
+import { execFileSync, spawnSync } from "node:child_process";
+import { mkdtempSync, readFileSync, rmSync } from "node:fs";
+import { tmpdir } from "node:os";
+import { join } from "node:path";
+import { fileURLToPath } from "node:url";
 import { memories } from "../src/engine.js";
 
 /** Whether this is the full test, and the options of a test that only it has. */
@@ -40,3 +45,31 @@ export function assertClean(what = "after a call") {
     assertZeros(bytes, `${what} a memory`);
   }
 }
+
+/** A folder that is removed when the process ends. */
+export function newFolder() {
+  const folder = mkdtempSync(join(tmpdir(), "vulfsjor-"));
+  process.on("exit", () => rmSync(folder, { recursive: true, force: true }));
+  return folder;
+}
+
+let written = process.env.VULFSJOR_CONFORMANCE;
+
+/** The conformance cases of a hash, all or each one of so many. They are written if ./test has not done so. */
+export function casesOf(hash, each = 1) {
+  if (!written) {
+    written = newFolder();
+    execFileSync("python3", [fileURLToPath(new URL("../../tests/conformance/write.py", import.meta.url)), written]);
+  }
+  const text = readFileSync(join(written, `${hash}.txt`), "ascii");
+  return each === 1 ? text : text.split("\n\n").filter((_, i) => i % each === 1).join("\n\n");
+}
+
+export const hasCommand = (command) => spawnSync(command, ["--version"]).error === undefined;
+
+/** What a program prints that is run as a module by a new node. */
+export const printedBy = (program, options) => execFileSync(
+  process.execPath, ["--input-type=module", "-e", program], { encoding: "utf8", ...options });
+
+/** The address of the package, as a word of such a program. */
+export const INDEX = JSON.stringify(new URL("../index.js", import.meta.url).href);

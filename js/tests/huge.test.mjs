@@ -1,9 +1,8 @@
 // Messages of 2^32 bytes and more: in memory, in pieces, and as files. They take minutes, so they
 // run only if VULFSJOR_TEST_HUGE is set. Memory and files are sparse.
 import assert from "node:assert/strict";
-import { createReadStream, mkdtempSync, openSync, readSync, rmSync, writeSync } from "node:fs";
+import { createReadStream, openSync, readSync, writeSync } from "node:fs";
 import { open } from "node:fs/promises";
-import { tmpdir } from "node:os";
 import { join } from "node:path";
 import test from "node:test";
 import {
@@ -11,7 +10,7 @@ import {
   blake2bpStream, blake2s, blake2sStream, blake2sp, equal, hex, treeLeaves, treeRoot,
   treeRootOfLeaves, treeRootStream,
 } from "../index.js";
-import { assertClean } from "./common.mjs";
+import { assertClean, LONG as FULL, newFolder } from "./common.mjs";
 
 const SIZE = 2 ** 32; // the longest array of node 20
 const ENDS = [[1, 0, 100], [2, SIZE - 100, 100], [3, SIZE, 1000]]; // a byte, where, and how often
@@ -68,19 +67,14 @@ function blobOf(descriptor) {
       return buffer;
     },
   });
-  return Object.defineProperties(
-    new Blob(), { size: { value: SIZE + 1000 }, slice: { value: slice } });
+  return Object.defineProperties(new Blob(), { size: { value: SIZE + 1000 }, slice: { value: slice } });
 }
 
-const skip = process.env.VULFSJOR_TEST_HUGE ? false : "VULFSJOR_TEST_HUGE is not set";
-
-test("messages of 2^32 bytes and more", { skip }, async (t) => {
+test("messages of 2^32 bytes and more", FULL, async (t) => {
   const message = sparseMessage();
   const tail = new Uint8Array(1000).fill(3);
   const treeOf = (leafLength) => ({ leafLength, ...options });
-  const folder = mkdtempSync(join(tmpdir(), "vulfsjor-"));
-  t.after(() => rmSync(folder, { recursive: true }));
-  const file = join(folder, "file");
+  const file = join(newFolder(), "file");
   const descriptor = openSync(file, "w+");
   for (const [byte, at, count] of ENDS) {
     writeSync(descriptor, Buffer.alloc(count, byte), 0, count, at);

@@ -5,17 +5,12 @@ import test from "node:test";
 
 // Instances whose functions note their name and the arguments that say how much they are given.
 const calls = [];
-const passed = {}; // all arguments of the last call of a function
 let refused; // the name of a function that refuses
 let refusedIn; // the memory of the last that did
 const { Instance } = WebAssembly;
-const GIVEN = {
-  vulfsjor_ffi_blake2b: 3, vulfsjor_ffi_blake2s: 3, vulfsjor_ffi_blake2bp: 3,
-  vulfsjor_ffi_blake2sp: 3, vulfsjor_ffi_blake2b_update: 2, vulfsjor_ffi_blake2s_update: 2,
-  vulfsjor_ffi_blake2bp_update: 2, vulfsjor_ffi_blake2sp_update: 2,
-  vulfsjor_ffi_blake2xb_update: 2, vulfsjor_ffi_tree_update: 2, vulfsjor_ffi_blake2b_many: 4, vulfsjor_ffi_blake2s_many: 4,
-  vulfsjor_ffi_tree_leaves: 5, vulfsjor_ffi_tree_root_of_leaves: 3, vulfsjor_ffi_memcmp: 1,
-};
+// The place of the argument that says how much a function is given.
+const placeOf = (name) => ({ memcmp: 1, tree_leaves: 5, tree_root_of_leaves: 3 })[name] ??
+  (/_update$/.test(name) ? 2 : /_many$/.test(name) ? 4 : /^blake2[bs]p?$/.test(name) ? 3 : undefined);
 const PLANS = /tree_(plan|part)$/; // not noted
 WebAssembly.Instance = class {
   constructor(...words) {
@@ -24,10 +19,9 @@ WebAssembly.Instance = class {
       Object.entries(exports).map(([name, value]) => {
         if (typeof value !== "function" || PLANS.test(name)) return [name, value];
         return [name, (...given) => {
-          const amount = given[GIVEN[name]] ?? "";
           const called = name.replace("vulfsjor_ffi_", "");
+          const amount = given[placeOf(called)] ?? "";
           calls.push(`${called} ${amount}`.trim());
-          passed[called] = given;
           if (called !== refused) return value(...given);
           refusedIn = exports.memory.buffer;
           return -1;
@@ -51,6 +45,9 @@ const PIECE = 65536;
 const WINDOW = 8 * 65536 - 8192;
 const message = new Uint8Array(2 * WINDOW);
 const part = (length) => message.subarray(0, length);
+// The updates of a message that is longer than a piece.
+const updates = (name, length) => [
+  ...Array(Math.floor(length / PIECE)).fill(`${name}_update ${PIECE}`), `${name}_update ${length % PIECE}`];
 
 // Asserts the calls of some work.
 function assertCalls(work, ...wanted) {
@@ -63,56 +60,47 @@ test("a message is one call, or updates by pieces", () => {
   assertCalls(() => blake2b(part(PIECE)), `blake2b ${PIECE}`);
   assertCalls(() => blake2s(part(3), { key: part(1) }), "blake2s 3");
   assertCalls(() => blake2s(part(PIECE + 1)),
-    "blake2s_init_salt_personal", `blake2s_update ${PIECE}`, "blake2s_update 1", "blake2s_final");
+    "blake2s_init_salt_personal", ...updates("blake2s", PIECE + 1), "blake2s_final");
   assertCalls(() => blake2b(part(3), { salt: part(1) }),
     "blake2b_init_salt_personal", "blake2b_update 3", "blake2b_final");
   assertCalls(() => blake2b(part(3), { personalization: part(1), tree: { lastNode: true } }),
     "blake2b_init_tree", "blake2b_set_last_node", "blake2b_update 3", "blake2b_final");
   assertCalls(() => blake2bp(part(PIECE), { key: part(64) }), `blake2bp ${PIECE}`);
   assertCalls(() => blake2bp(part(PIECE + 1)),
-    "blake2bp_init_salt_personal", `blake2bp_update ${PIECE}`, "blake2bp_update 1",
-    "blake2bp_final");
+    "blake2bp_init_salt_personal", ...updates("blake2bp", PIECE + 1), "blake2bp_final");
   assertCalls(() => blake2sp(part(3), { salt: part(1) }),
     "blake2sp_init_salt_personal", "blake2sp_update 3", "blake2sp_final");
 });
 
 test("a tree takes the whole window at a time", () => {
-  assertCalls(() => treeRoot(part(WINDOW), { leafLength: 5 }),
-    "tree_init", `tree_update ${WINDOW}`, "tree_final");
+  assertCalls(() => treeRoot(part(WINDOW), { leafLength: 5 }), "tree_init", `tree_update ${WINDOW}`, "tree_final");
   assertCalls(() => treeRoot(part(WINDOW + 1), { leafLength: 5 }),
     "tree_init", `tree_update ${WINDOW}`, "tree_update 1", "tree_final");
 });
 
 test("several messages are passed in whole groups that fill window and records", () => {
   const several = (count, length) => Array.from({ length: count }, () => part(length));
-  assertCalls(() => blake2bMany(several(200, 10)),
-    ...[64, 64, 64, 8].map((count) => `blake2b_many ${count}`));
+  assertCalls(() => blake2bMany(several(200, 10)),...[64, 64, 64, 8].map((count) => `blake2b_many ${count}`));
   assertCalls(() => blake2sMany(several(65, 0)), "blake2s_many 64", "blake2s_many 1");
   // five of these fit into the window: a whole group of four, or less than a group of eight
   assertCalls(() => blake2bMany(several(7, 100_000)), "blake2b_many 4", "blake2b_many 3");
   assertCalls(() => blake2sMany(several(9, 100_000)), "blake2s_many 5", "blake2s_many 4");
-  assertCalls(() => blake2bMany([part(WINDOW), part(WINDOW - 1), part(1)]),
-    "blake2b_many 1", "blake2b_many 2");
+  assertCalls(() => blake2bMany([part(WINDOW), part(WINDOW - 1), part(1)]), "blake2b_many 1", "blake2b_many 2");
   assertCalls(() => blake2bMany([part(WINDOW + 1), part(1)]),
-    "blake2b_init_salt_personal", ...Array(7).fill(`blake2b_update ${PIECE}`),
-    `blake2b_update ${WINDOW + 1 - 7 * PIECE}`, "blake2b_final", "blake2b_many 1");
+    "blake2b_init_salt_personal", ...updates("blake2b", WINDOW + 1), "blake2b_final", "blake2b_many 1");
 });
 
 test("leaves are passed as many as fit into the window with their digests", () => {
   const leaves = (length, leafLength) =>
     treeLeaves(part(length), { leafLength, first: 0, ends: true });
   const most = Math.floor(WINDOW / (100 + 64) / 4) * 4 * 100; // whole groups
-  assertCalls(() => leaves(2 * most + 1, 100),
-    `tree_leaves ${most}`, `tree_leaves ${most}`, "tree_leaves 1");
+  assertCalls(() => leaves(2 * most + 1, 100), `tree_leaves ${most}`, `tree_leaves ${most}`, "tree_leaves 1");
   assertCalls(() => leaves(WINDOW - 64, WINDOW - 64), `tree_leaves ${WINDOW - 64}`);
-  const long = ["tree_init_leaf", ...Array(7).fill(`blake2b_update ${PIECE}`),
-    `blake2b_update ${WINDOW - 63 - 7 * PIECE}`, "blake2b_final"];
+  const long = ["tree_init_leaf", ...updates("blake2b", WINDOW - 63), "blake2b_final"];
   assertCalls(() => leaves(2 * (WINDOW - 63), WINDOW - 63), ...long, ...long);
   const root = (length) => treeRootOfLeaves(part(length), { leafLength: 5 });
   assertCalls(() => root(WINDOW), `tree_root_of_leaves ${WINDOW}`);
-  assertCalls(() => root(WINDOW + 64), "tree_init_root",
-    ...Array(7).fill(`blake2b_update ${PIECE}`), `blake2b_update ${WINDOW + 64 - 7 * PIECE}`,
-    "blake2b_final");
+  assertCalls(() => root(WINDOW + 64), "tree_init_root", ...updates("blake2b", WINDOW + 64), "blake2b_final");
 });
 
 test("equal compares halves of the window", () => {
@@ -121,44 +109,14 @@ test("equal compares halves of the window", () => {
   assertCalls(() => both(WINDOW / 2), `memcmp ${WINDOW / 2}`);
   assertCalls(() => both(WINDOW / 2 + 1), `memcmp ${WINDOW / 2}`, "memcmp 1");
   assertCalls(() => equal(part(1), part(2)));
-  // all of it, wherever the first difference is
-  const changed = message.slice(0, WINDOW + 1);
-  changed[0] ^= 1;
-  assertCalls(() => equal(part(WINDOW + 1), changed),
-    `memcmp ${WINDOW / 2}`, `memcmp ${WINDOW / 2}`, "memcmp 1");
-});
-
-test("a digest has exactly the length for which final is called", () => {
-  const salt = part(1);
-  for (const digestLength of [1, 20, 32]) {
-    for (const [name, work] of [
-      ["blake2b_final", () => new Blake2b({ digestLength }).digest()],
-      ["blake2s_final", () => blake2s(part(PIECE + 1), { digestLength })],
-      ["blake2bp_final", () => blake2bp(part(3), { digestLength, salt })],
-      ["blake2sp_final", () => new Blake2sp({ digestLength }).digest()],
-      ["tree_final", () => treeRoot(part(3), { digestLength, leafLength: 5 })],
-      ["tree_final", () => new TreeHash({ digestLength, leafLength: 5 }).digest()],
-      ["blake2b_final", () =>
-        treeRootOfLeaves(part(WINDOW + 64), { digestLength, leafLength: 5 })],
-    ]) {
-      passed[name] = undefined;
-      assert.equal(work().length, digestLength);
-      assert.equal(passed[name][2], BigInt(digestLength), name);
-    }
-    passed.tree_final = undefined;
-    const root = new TreeHash({ digestLength, leafLength: 5 });
-    assert.equal(root.copy().verify(root.digest()), undefined);
-    assert.equal(passed.tree_final[2], BigInt(digestLength));
+  // all of it, wherever the difference is
+  for (const place of [0, WINDOW / 2, WINDOW]) {
+    const changed = message.slice(0, WINDOW + 1);
+    changed[place] ^= 0x80;
+    assertCalls(() => assert.equal(equal(part(WINDOW + 1), changed), false),
+      `memcmp ${WINDOW / 2}`, `memcmp ${WINDOW / 2}`, "memcmp 1");
   }
-  const leaves = treeLeaves(part(WINDOW), { leafLength: WINDOW, first: 0, ends: true });
-  assert.equal(leaves.length, 64);
-  assert.equal(passed.blake2b_final[2], 64n);
-});
-
-test("every message of many has a digest", () => {
-  const several = Array.from({ length: 1000 }, (_, i) => Uint8Array.of(i, i >> 8).subarray(i % 2));
-  assert.deepEqual(blake2bMany(several), several.map((each) => blake2b(each)));
-  assert.deepEqual(blake2sMany(several), several.map((each) => blake2s(each)));
+  assert.equal(both(WINDOW + 1), true);
 });
 
 test("short updates wait, and make no call", () => {
@@ -294,33 +252,6 @@ test("an update that is too long changes nothing", () => {
   }
 });
 
-test("the places of state and arguments do not overlap", () => {
-  new Blake2b({ key: part(64), salt: part(16), personalization: part(16), tree: {} })
-    .update(part(WAITING + 1)).digest();
-  assert.throws(() => new Blake2b({ key: part(64) }).verify(part(64)), { name: "InvalidTagError" });
-  const [state, , key, , salt, , personalization, , node] = passed.blake2b_init_tree;
-  const places = [
-    [state, BLAKE2B.stateLength], [key, 64], [salt, 16], [personalization, 16], [node, 16],
-    [passed.blake2b_final[1], 64], [passed.blake2b_verify[1], 64],
-    [passed.blake2b_update[1], WINDOW],
-  ].map(([at, length]) => [Number(at), Number(at) + length]).sort(([a], [b]) => a - b);
-  for (let i = 1; i < places.length; i++) assert.ok(places[i - 1][1] <= places[i][0], `${i}`);
-  // each message is after its state, with room for what waits, and before the end of the memory
-  const { exports } = new Instance(whole.moduleOf(), {});
-  const end = Number(exports.__heap_base.value) + WINDOW + 8192;
-  for (const [name, make, kind] of [
-    ["blake2b", () => new Blake2b(), BLAKE2B], ["blake2bp", () => new Blake2bp(), whole.BLAKE2BP],
-    ["blake2sp", () => new Blake2sp(), whole.BLAKE2SP],
-    ["tree", () => new TreeHash({ leafLength: 5 }), whole.TREE],
-    ["blake2xb", () => new Blake2xb(), whole.BLAKE2XB],
-  ]) {
-    make().update(part(2 * WINDOW));
-    const [at, window] = passed[`${name}_update`].map(Number);
-    assert.equal(at + kind.stateLength, window, name);
-    assert.ok(window + (kind.isTree ? WINDOW : PIECE) <= end, name);
-  }
-});
-
 test("states have the library's sizes", () => {
   const { exports } = new Instance(whole.moduleOf(), {});
   const sizeOf = (name) => Number(exports[`vulfsjor_ffi_${name}_state_size`]());
@@ -329,36 +260,24 @@ test("states have the library's sizes", () => {
   for (const { name, stateLength } of kinds) assert.equal(stateLength, sizeOf(name), name);
 });
 
-test("digest and verify set the state to zero", () => {
-  const options = { digestLength: 32, key: part(0), salt: part(0), personalization: part(0) };
-  for (const kind of [BLAKE2B, whole.BLAKE2BP, whole.BLAKE2SP]) {
-    for (const end of [
-      (state, waiting) => engine.final(kind, state, waiting, 32),
-      (state, waiting) => engine.verify(kind, state, waiting, 32, part(32)),
-    ]) {
-      for (const waiting of [0, 9, WAITING]) {
-        const state = engine.begin(kind, options);
-        state.fill(7, kind.stateLength, kind.stateLength + waiting);
-        end(state, waiting);
-        assert.ok(state.every((byte) => byte === 0));
-        assertClean();
-      }
-    }
-  }
-});
-
-test("what has waited and was absorbed, or was reset, waits no longer", () => {
+test("digest and verify set the state to zero, and what was absorbed or reset waits no longer", () => {
   const options = { digestLength: 32, key: part(5), salt: part(0), personalization: part(0) };
   for (const kind of [BLAKE2B, whole.BLAKE2BP, whole.BLAKE2SP]) {
-    for (const absorb of [
-      (state) => assert.equal(engine.update(kind, state, WAITING, part(1)), true),
-      (state) => assert.equal(engine.update(kind, state, WAITING, part(2 * PIECE)), true),
-      (state) => engine.reset(kind, state),
+    const waits = (state) => state.subarray(kind.stateLength);
+    const all = (state) => state;
+    for (const [left, waiting, work] of [
+      ...[0, 9, WAITING].flatMap((waiting) => [
+        [all, waiting, (state) => engine.final(kind, state, waiting, 32)],
+        [all, waiting, (state) => engine.verify(kind, state, waiting, 32, part(32))],
+      ]),
+      [waits, WAITING, (state) => assert.equal(engine.update(kind, state, WAITING, part(1)), true)],
+      [waits, WAITING, (state) => assert.equal(engine.update(kind, state, WAITING, part(2 * PIECE)), true)],
+      [waits, WAITING, (state) => engine.reset(kind, state)],
     ]) {
       const state = engine.begin(kind, options);
-      state.fill(7, kind.stateLength);
-      absorb(state);
-      assert.ok(state.subarray(kind.stateLength).every((byte) => byte === 0));
+      state.fill(7, kind.stateLength, kind.stateLength + waiting);
+      work(state);
+      assertZeros(left(state), `${kind.name} ${work}`);
       assertClean();
     }
   }

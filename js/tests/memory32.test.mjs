@@ -1,15 +1,14 @@
-// The modules of the package: made from that of dist/wasm, and doing the same.
+// The modules of the package are made from that of dist/wasm. conformance.test.mjs tries both.
 import assert from "node:assert/strict";
 import { execFileSync, spawnSync } from "node:child_process";
 import { createHash } from "node:crypto";
-import { cpSync, mkdtempSync, readFileSync, rmSync, writeFileSync } from "node:fs";
-import { tmpdir } from "node:os";
+import { cpSync, readFileSync, writeFileSync } from "node:fs";
 import { join } from "node:path";
 import test from "node:test";
 import { fileURLToPath } from "node:url";
 import { decode } from "../src/wasm.js";
 import { lower } from "../tools/memory32.mjs";
-import { HUGE } from "./common.mjs";
+import { newFolder } from "./common.mjs";
 
 const here = (path) => fileURLToPath(new URL(path, import.meta.url));
 const MODULE = here("../../dist/wasm/vulfsjor.wasm");
@@ -19,9 +18,8 @@ test("the files of modules in src/ are what tools/build.mjs makes", () => {
   execFileSync(here("../tools/build.mjs"), ["--check"]);
 });
 
-test("tools/build.mjs writes and compares the modules, and writes the page", (t) => {
-  const folder = mkdtempSync(join(tmpdir(), "vulfsjor-build-"));
-  t.after(() => rmSync(folder, { recursive: true }));
+test("tools/build.mjs writes and compares the modules, and writes the page", () => {
+  const folder = newFolder();
   const file = (path) => join(folder, path);
   const build = (...words) => {
     const { status, stderr } = spawnSync(
@@ -110,32 +108,6 @@ test("a module of one hash has its functions as they are, and traps instead of t
     { message: "lower: an export is absent" });
 });
 
-const CALLS = HUGE ? "25000" : "8000";
-
-test(`${CALLS} random calls of both modules return the same and leave the same memory`, () => {
-  const flags = Number(process.versions.node.split(".")[0]) < 24
-    ? ["--experimental-wasm-memory64"] : [];
-  const text = execFileSync(
-    process.execPath, [...flags, here("both_memories.mjs"), MODULE, CALLS], { encoding: "utf8" });
-  const answers = JSON.parse(text);
-  // each function was called, and each that refuses was seen to do both
-  const called = new Set(Object.keys(answers).map((each) => each.split(" ")[0]));
-  const exported = WebAssembly.Module.exports(new WebAssembly.Module(decode()))
-    .filter(({ kind }) => kind === "function").map(({ name }) => name);
-  assert.deepEqual([...called].sort(), exported.sort());
-  for (const name of [
-    "blake2b", "blake2s_init_salt_personal", "blake2b_update", "blake2s_final", "blake2b_many",
-    "blake2bp", "blake2sp_init_salt_personal", "blake2bp_update", "blake2sp_final", "tree_update",
-    "tree_leaves", "tree_root_of_leaves", "memcmp", "blake2xb", "blake2xs_derive_key",
-    "blake2xs_init_salt_personal", "blake2xb_update", "blake2xb_squeeze", "blake2xs_squeeze",
-    "blake2xs_reset",
-  ]) {
-    assert.ok(
-      answers[`vulfsjor_ffi_${name} 0`] > 0 && answers[`vulfsjor_ffi_${name} -1`] > 0,
-      `${name} ${answers[`vulfsjor_ffi_${name} 0`]} ${answers[`vulfsjor_ffi_${name} -1`]}`);
-  }
-});
-
 // A module of one function from an i64 to nothing, with a 64-bit memory, and this body.
 const moduleOf = (...body) => Uint8Array.of(
   0, 97, 115, 109, 1, 0, 0, 0, 1, 5, 1, 0x60, 1, 0x7e, 0, 3, 2, 1, 0, 5, 3, 1, 4, 1,
@@ -203,8 +175,7 @@ test("a lowered module runs as it did", () => {
   const code = bytes.indexOf(10, 24); // exports stand before the code
   const exports = [7, 9, 2, 1, 102, 0, 0, 1, 109, 2, 0]; // f and m
   bytes.splice(code, 0, ...exports);
-  const { f, m } = new WebAssembly.Instance(
-    new WebAssembly.Module(Uint8Array.from(bytes))).exports;
+  const { f, m } = new WebAssembly.Instance(new WebAssembly.Module(Uint8Array.from(bytes))).exports;
   f(1000n);
   assert.deepEqual([...new Uint8Array(m.buffer, 1000, 24)], [
     0x88, 0xff, 0, 0, 9, 9, 9, 0,
@@ -217,8 +188,7 @@ const range = (first, last) => Array.from({ length: last - first + 1 }, (_, i) =
 test("lower refuses what it does not know", () => {
   const bytes = moduleOf(...ADDRESS, DROP);
   assert.throws(() => lower(lower(bytes)), { message: "lower: the memory is not 64 bits wide" });
-  assert.throws(
-    () => lower(bytes.subarray(0, -1)), { message: "lower: the module ends too early" });
+  assert.throws(() => lower(bytes.subarray(0, -1)), { message: "lower: the module ends too early" });
   assert.throws(
     () => lower(bytes.subarray(1)),
     { message: "lower: this is not a WebAssembly module of version 1" });
@@ -241,8 +211,7 @@ test("lower refuses what it does not know", () => {
   throws("lower: several memories", moduleOf(...ADDRESS, 0x28, 0x40, 1, 0, DROP));
   throws("lower: several memories", moduleOf(...ADDRESS, ...ADDRESS, ...ADDRESS, 0xfc, 10, 0, 1));
   throws("lower: several memories", moduleOf(...ADDRESS, ...ADDRESS, ...ADDRESS, 0xfc, 10, 1, 0));
-  throws("lower: several memories",
-    moduleOf(...ADDRESS, ...CONSTANTS.i32, ...ADDRESS, 0xfc, 11, 1));
+  throws("lower: several memories", moduleOf(...ADDRESS, ...CONSTANTS.i32, ...ADDRESS, 0xfc, 11, 1));
   throws("lower: a number is not in its shortest form", // that of groups of locals
     [...moduleOf().slice(0, 24), 10, 5, 1, 3, 0x80, 0, 0x0b]);
   throws("lower: a number is too large for 32 bits",

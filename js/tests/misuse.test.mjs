@@ -3,10 +3,9 @@
 import assert from "node:assert/strict";
 import { createHash } from "node:crypto";
 import { once } from "node:events";
-import { createReadStream, mkdtempSync, rmSync, writeFileSync } from "node:fs";
+import { createReadStream, writeFileSync } from "node:fs";
 import { open } from "node:fs/promises";
 import { createServer } from "node:http";
-import { tmpdir } from "node:os";
 import { join } from "node:path";
 import { createInterface } from "node:readline";
 import { Duplex, PassThrough, Readable, Writable } from "node:stream";
@@ -14,10 +13,10 @@ import { finished, pipeline } from "node:stream/promises";
 import test from "node:test";
 import { inspect } from "node:util";
 import * as vulfsjor from "../index.js";
-import { hexOf } from "./common.mjs";
+import { hexOf, newFolder } from "./common.mjs";
 
 const {
-  Blake2b, Blake2xb, InvalidTagError, TreeHash, blake2b, blake2bStream, deriveKey, equal,
+  Blake2b, InvalidTagError, TreeHash, blake2b, blake2bStream, deriveKey, equal,
   hashTransform, hashWritable, hex, treeRootStream, utf8,
 } = vulfsjor;
 const KEY = new Uint8Array(32).fill(7);
@@ -44,8 +43,7 @@ test("a check whose result is dropped stops the program", () => {
     assert.throws(() => accept(BODY, undefined), TypeError);
     assert.throws(() => accept(BODY, hex(tag)), TypeError);
     // nor is the check true
-    assert.equal(new vulfsjor[name]({ key: KEY }).verify(new vulfsjor[name]({ key: KEY }).digest()),
-      undefined);
+    assert.equal(new vulfsjor[name]({ key: KEY }).verify(new vulfsjor[name]({ key: KEY }).digest()), undefined);
   }
   const root = new TreeHash({ leafLength: 4 }).update(BODY).digest();
   assert.equal(new TreeHash({ leafLength: 4 }).update(BODY).verify(root), undefined);
@@ -105,10 +103,12 @@ test("a plain digest is no tag", () => {
     const digest = new vulfsjor[name]().update(BODY).digest();
     for (const options of [undefined, {}, { salt: utf8("salt") }, { digestLength: digest.length }]) {
       const hash = new vulfsjor[name](options).update(BODY);
-      assert.throws(() => hash.verify(digest), { name: "TypeError", message: /compare .* equal\(\)/ });
+      assert.throws(() => hash.verify(digest), {
+        name: "TypeError",
+        message: `${name}.verify: this hash has no key, so that anybody can make the tag; compare digests with equal()`,
+      });
       assert.throws(() => hash.copy().reset().verify(digest), { name: "TypeError" });
-      assert.equal(hash.copy().update(BODY).hex(),
-        new vulfsjor[name](options).update(BODY).update(BODY).hex()); // nothing was lost
+      assert.equal(hash.hex(), new vulfsjor[name](options).update(BODY).hex()); // nothing was lost
     }
     assert.throws(() => new vulfsjor[name]({ ...(key && { key }) }).verify(digest), TypeError);
     assert.equal(equal(new vulfsjor[name]().update(BODY).digest(), digest), true);
@@ -163,43 +163,41 @@ test("an upload that a parser has read is refused", async () => {
   }, "one upload"), READ);
 });
 
-const ofNode = () => Readable.from([MESSAGE.subarray(0, 70_000), MESSAGE.subarray(70_000)],
-  { objectMode: false });
+const ofNode = () => Readable.from([MESSAGE.subarray(0, 70_000), MESSAGE.subarray(70_000)], { objectMode: false });
 const ofWeb = () => new Blob([MESSAGE]).stream();
 
 test("the rest of a stream is not its digest", async () => {
-  const started = ofNode();
-  await once(started, "readable");
-  started.read(10);
-  await assert.rejects(blake2bStream(started), READ);
-  const byLoop = ofNode();
-  for await (const chunk of byLoop.iterator({ destroyOnReturn: false })) {
-    assert.ok(chunk.length > 0);
-    break;
+  for (const [make, read] of [
+    [ofNode, async (source) => {
+      await once(source, "readable");
+      source.read(10);
+    }],
+    [ofNode, async (source) => {
+      for await (const chunk of source.iterator({ destroyOnReturn: false })) return assert.ok(chunk.length > 0);
+    }],
+    [ofNode, (source) => source.destroy()],
+    [ofWeb, async (source) => {
+      const reader = source.getReader();
+      await assert.rejects(blake2bStream(source), READ); // it is locked
+      await reader.read();
+      reader.releaseLock();
+    }],
+    [ofWeb, async (source) => {
+      for await (const chunk of source) assert.ok(chunk.length > 0);
+    }],
+    [ofWeb, (source) => source.cancel()],
+  ]) {
+    const source = make();
+    await read(source);
+    await assert.rejects(blake2bStream(source), READ);
   }
-  await assert.rejects(blake2bStream(byLoop), READ);
-  const web = ofWeb();
-  const reader = web.getReader();
-  await assert.rejects(blake2bStream(web), READ); // it is locked
-  await reader.read();
-  reader.releaseLock();
-  await assert.rejects(blake2bStream(web), READ);
-  const whole = ofWeb();
-  for await (const chunk of whole) assert.ok(chunk.length > 0);
-  await assert.rejects(blake2bStream(whole), READ);
-  const canceled = ofWeb();
-  await canceled.cancel();
-  await assert.rejects(blake2bStream(canceled), READ);
-  const destroyed = ofNode().destroy();
-  await assert.rejects(blake2bStream(destroyed), READ);
   const [one, two] = ofWeb().tee();
   assert.equal(hexOf(await blake2bStream(one)), WANTED);
   assert.equal(hexOf(await blake2bStream(two)), WANTED);
 });
 
 test("a stream of text is refused, whatever made it one", async () => {
-  const folder = mkdtempSync(join(tmpdir(), "vulfsjor-"));
-  const path = join(folder, "file");
+  const path = join(newFolder(), "file");
   writeFileSync(path, BODY);
   const handle = await open(path);
   const isOfText = { name: "TypeError", message: /chunk must be a Uint8Array.*, not a string/ };
@@ -228,7 +226,6 @@ test("a stream of text is refused, whatever made it one", async () => {
     await assert.rejects(text.pipeThrough(hashTransform(new Blake2b())).getReader().read(), isOfText);
   } finally {
     await handle.close();
-    rmSync(folder, { recursive: true });
   }
   for (const source of [path, new URL(`file://${path}`), 3, new FormData(), null, Promise.resolve()]) {
     if (source instanceof FormData) source.append("name", "text");
@@ -273,9 +270,7 @@ test("a response whose body was read is refused", async () => {
 test("of two readers of a stream one is refused", async () => {
   for (const make of [ofNode, ofWeb, async function* () { yield MESSAGE; }]) {
     const source = make();
-    const [first, second] = await Promise.allSettled([
-      blake2bStream(source), blake2bStream(source),
-    ]);
+    const [first, second] = await Promise.allSettled([blake2bStream(source), blake2bStream(source)]);
     assert.equal(hexOf(first.value), WANTED);
     assert.equal(second.reason.message, READ.message);
     await assert.rejects(blake2bStream(source), READ); // afterwards too
@@ -341,8 +336,7 @@ test("iterables that are no streams may be synchronous, and read again if they b
 });
 
 test("a file whose numbers are bigints has the digest of the file", async () => {
-  const folder = mkdtempSync(join(tmpdir(), "vulfsjor-"));
-  const path = join(folder, "file");
+  const path = join(newFolder(), "file");
   writeFileSync(path, MESSAGE);
   const handle = await open(path);
   try {
@@ -369,7 +363,6 @@ test("a file whose numbers are bigints has the digest of the file", async () => 
     assert.deepEqual(await Promise.all(tree), [salted, salted]);
   } finally {
     await handle.close();
-    rmSync(folder, { recursive: true });
   }
 });
 
@@ -387,18 +380,6 @@ test("a chunk that shrinks while workers hash it is refused, and no shorter mess
     const root = treeRootStream([chunk], { leafLength: 65536, threads: 2, onProgress });
     await assert.rejects(root, RangeError, `${left} bytes are left`);
   }
-});
-
-test("a method that lost its object says so", () => {
-  const { update } = new Blake2b();
-  assert.throws(() => update(BODY), {
-    name: "TypeError", message: "update: called without its hash; use it as hash.update",
-  });
-  const { read } = new Blake2xb();
-  assert.throws(() => read(3), {
-    name: "TypeError", message: "read: called without its output; use it as output.read",
-  });
-  assert.throws(() => [BODY].forEach(new Blake2b().update), /called without its hash/);
 });
 
 test("a hash with a pipe that has not ended is refused, and nothing is lost", async () => {

@@ -1,10 +1,7 @@
 // Hashes of what is piped, in streams of the web and of node.
 import assert from "node:assert/strict";
 import { createHash, randomBytes } from "node:crypto";
-import {
-  createReadStream, createWriteStream, mkdtempSync, readFileSync, rmSync, writeFileSync,
-} from "node:fs";
-import { tmpdir } from "node:os";
+import { createReadStream, createWriteStream, readFileSync, writeFileSync } from "node:fs";
 import { join } from "node:path";
 import { Duplex, Readable, Writable } from "node:stream";
 import { finished, pipeline } from "node:stream/promises";
@@ -13,6 +10,7 @@ import {
   Blake2b, Blake2bp, Blake2s, Blake2sp, TreeHash, blake2bp, blake2s, blake2sp, hashTransform,
   hashWritable, hex, treeRoot, utf8,
 } from "../index.js";
+import { newFolder } from "./common.mjs";
 
 const MESSAGE = new Uint8Array(randomBytes(1_000_000));
 const WANTED = createHash("blake2b512").update(MESSAGE).digest("hex");
@@ -52,9 +50,8 @@ test("streams of the web are hashed on the way, and passed on unchanged", async 
   assert.equal((await readable.getReader().read()).value, chunk);
 });
 
-test("streams of node are hashed on the way, by pipeline and by pipe", async (t) => {
-  const folder = mkdtempSync(join(tmpdir(), "vulfsjor-"));
-  t.after(() => rmSync(folder, { recursive: true }));
+test("streams of node are hashed on the way, by pipeline and by pipe", async () => {
+  const folder = newFolder();
   const [from, to] = ["from", "to"].map((name) => join(folder, name));
   writeFileSync(from, MESSAGE);
   const hashes = [1, 2, 3, 4].map(() => new Blake2b());
@@ -127,8 +124,7 @@ test("what fails on either side fails on the other, and ends the hash", async ()
   // of node
   const hash = new Blake2b();
   const sink = new Writable({ write: (chunk, _, done) => done(fault) });
-  await assert.rejects(
-    pipeline(Readable.from([MESSAGE, MESSAGE]), hashTransform(hash), sink), fault);
+  await assert.rejects(pipeline(Readable.from([MESSAGE, MESSAGE]), hashTransform(hash), sink), fault);
   await settle();
   assertEnded(hash);
   const source = new Readable({ read() { this.destroy(fault); } });

@@ -1,7 +1,6 @@
 // The pages: each example prints what the comments after its lines say, and the numbers are those
 // of the code.
 import assert from "node:assert/strict";
-import { execFileSync } from "node:child_process";
 import { readFileSync } from "node:fs";
 import test from "node:test";
 import { fileURLToPath } from "node:url";
@@ -14,6 +13,7 @@ import { LEAF_DIGEST } from "../src/leaves.js";
 import { MOST_THREADS } from "../src/platform.js";
 import { LONGEST_LEAF } from "../src/threads.js";
 import { BLAKE2BP, BLAKE2SP, TREE } from "../src/whole_module.js";
+import { printedBy } from "./common.mjs";
 
 const cwd = fileURLToPath(new URL("..", import.meta.url));
 const read = (path) => readFileSync(new URL(path, import.meta.url), "utf8");
@@ -25,9 +25,7 @@ for (const [page, count] of [["js/README.md", 7], ["README.md", 1]]) {
     for (const [, block] of blocks) {
       const wanted = [...block.matchAll(/; \/\/ (.*)$/gm)].map(([, line]) => line);
       assert.ok(wanted.length > 0, block);
-      const got = execFileSync(
-        process.execPath, ["--input-type=module", "-e", block], { cwd, encoding: "utf8" });
-      assert.deepEqual(got.trim().split("\n"), wanted);
+      assert.deepEqual(printedBy(block, { cwd }).trim().split("\n"), wanted);
     }
   });
 }

@@ -1,7 +1,6 @@
 // What ends a run, the texts of what is refused then, and what stays in memory. The digests of pieces,
 // copies and resets are in conformance.test.mjs.
 import assert from "node:assert/strict";
-import { execFileSync } from "node:child_process";
 import { createHash } from "node:crypto";
 import test from "node:test";
 import v8 from "node:v8";
@@ -13,7 +12,7 @@ import {
 import { BLAKE2B } from "../src/blake2b.js";
 import { SLAB, memories } from "../src/engine.js";
 import { BLAKE2XB } from "../src/whole_module.js";
-import { assertClean, HUGE, hexOf } from "./common.mjs";
+import { assertClean, assertZeros, HUGE, hexOf, INDEX, printedBy } from "./common.mjs";
 
 const M = utf8("message");
 const KEY = new Uint8Array(32).fill(0xa5);
@@ -26,97 +25,55 @@ const HASHERS = [
 ];
 const isSmall = (Hasher) => Hasher === Blake2s || Hasher === Blake2sp;
 
-for (const [Hasher, options] of HASHERS) {
-  const name = `${Hasher.name} of ${Object.keys(options)}`;
-  const hasVerify = "key" in options || Hasher === TreeHash;
-  const digestOf = (...pieces) =>
-    pieces.reduce((run, piece) => run.update(piece), new Hasher(options)).hex();
-
-  test(`${name}: a run that has ended refuses all but wipe`, () => {
-    const ends = {
-      digest: (run) => run.digest(), hex: (run) => run.hex(), wipe: (run) => run.wipe(),
-      ...(hasVerify && {
-        verify: (run) => assert.throws(() => run.verify(new Uint8Array(1)), InvalidTagError),
-      }),
-      dispose: (run) => run[Symbol.dispose ?? Symbol.for("Symbol.dispose")](),
-    };
-    const calls = {
-      update: (run) => run.update(M), digest: (run) => run.digest(), hex: (run) => run.hex(),
-      verify: (run) => run.verify(M), copy: (run) => run.copy(), reset: (run) => run.reset(),
-    };
-    for (const end of Object.values(ends)) {
+test("a run that has ended refuses all but wipe", () => {
+  for (const [Hasher, options] of HASHERS) {
+    const ends = [
+      (run) => run.digest(), (run) => run.hex(), (run) => run.wipe(),
+      (run) => run[Symbol.dispose ?? Symbol.for("Symbol.dispose")](),
+    ];
+    if ("key" in options || Hasher === TreeHash) {
+      ends.push((run) => assert.throws(() => run.verify(new Uint8Array(1)), InvalidTagError));
+    }
+    for (const end of ends) {
       const run = new Hasher(options).update(M);
       end(run);
-      for (const [call, make] of Object.entries(calls)) {
-        assert.throws(() => make(run), {
+      for (const [call, ...words] of [["update", M], ["digest"], ["hex"], ["verify", M], ["copy"], ["reset"]]) {
+        assert.throws(() => run[call](...words), {
           name: "TypeError",
-          message: `${Hasher.name}.${call}: this hash has ended, ` +
-            "by digest, hex, verify, wipe or a failed call",
+          message: `${Hasher.name}.${call}: this hash has ended, by digest, hex, verify, wipe or a failed call`,
         });
       }
       run.wipe();
       assert.equal(run.digestLength, options.digestLength ?? (isSmall(Hasher) ? 32 : 64));
       assert.equal(run.blockLength, isSmall(Hasher) ? 64 : 128);
     }
-  });
+  }
+});
 
-  test(`${name}: a refused call leaves the run as it was`, () => {
+test("a refused call leaves the run as it was", () => {
+  for (const [Hasher, options] of HASHERS) {
     const run = new Hasher(options).update(M);
-    assert.throws(() => run.update("text"), TypeError);
-    assert.throws(() => run.update(M, M), TypeError);
-    assert.throws(() => run.digest("hex"), TypeError);
-    assert.throws(() => run.verify("text"), TypeError);
-    if (!hasVerify) {
-      // whatever the tag is: anybody can make it
-      for (const tag of [new Hasher(options).update(M).digest(), M, new Uint8Array(0)]) {
-        assert.throws(() => run.verify(tag), {
-          name: "TypeError",
-          message: `${Hasher.name}.verify: this hash has no key, so that anybody can make the tag; ` +
-            "compare digests with equal()",
-        });
-      }
+    for (const [call, ...words] of [["update", "text"], ["update", M, M], ["digest", "hex"], ["verify", "text"]]) {
+      assert.throws(() => run[call](...words), TypeError);
     }
-    assert.equal(run.hex(), digestOf(M));
-  });
+    assert.equal(run.hex(), new Hasher(options).update(M).hex());
+  }
+});
 
-  test(`${name}: nothing is left in the library's memory after any call`, () => {
+test("nothing is left in the library's memory after a call, however long its message is", () => {
+  for (const [Hasher, options] of HASHERS.filter((_, i) => i % 2 > 0 || i > 7)) {
     const run = new Hasher(options);
-    assertClean("new");
-    for (const length of [0, 1, 64, 128, 129, 512, 513, 1000, 65536, 65537, 600000]) {
+    for (const length of [513, 65537, 600000]) {
       run.update(new Uint8Array(length).fill(0x5a));
       assertClean(`update of ${length}`);
-      const copy = run.copy();
-      copy.digest();
+      run.copy().digest();
       assertClean("digest");
-      assert.throws(
-        () => run.copy().verify(M), { name: hasVerify ? "InvalidTagError" : "TypeError" });
+      assert.throws(() => run.copy().verify(M), InvalidTagError);
       assertClean("verify");
     }
     run.reset();
     assertClean("reset");
-    run.wipe();
-    assertClean("wipe");
-  });
-}
-
-test("what a caller does with its bytes afterwards changes nothing", () => {
-  const key = KEY.slice();
-  const salt = Uint8Array.of(1, 2, 3);
-  const message = M.slice();
-  const run = new Blake2b({ key, salt });
-  const tree = new TreeHash({ leafLength: 3, salt });
-  run.update(message);
-  tree.update(message);
-  [key, salt, message].forEach((bytes) => bytes.fill(0));
-  const wanted = new Blake2b({ key: KEY, salt: Uint8Array.of(1, 2, 3) }).update(M).hex();
-  assert.equal(run.copy().hex(), wanted);
-  assert.equal(run.reset().update(M).hex(), wanted);
-  const root = hexOf(treeRoot(M, { leafLength: 3, salt: Uint8Array.of(1, 2, 3) }));
-  assert.equal(tree.reset().update(M).hex(), root);
-  const first = blake2b(M);
-  first.fill(0);
-  assert.notEqual(hexOf(blake2b(M)), hexOf(first));
-  assert.equal(blake2b(M).buffer.byteLength, 64);
+  }
 });
 
 test("a subclass keeps its class in a copy", () => {
@@ -133,10 +90,10 @@ test("a subclass keeps its class in a copy", () => {
 test("the memory does not grow with messages or with runs", () => {
   const sizes = () => new Set(memories().map((bytes) => bytes.length));
   const before = sizes();
-  const runs = Array.from({ length: 20000 }, () => new Blake2b({ key: KEY }).update(M));
-  blake2b(new Uint8Array(2 ** 24));
-  treeRoot(new Uint8Array(2 ** 24), { leafLength: 2 ** 20 });
-  blake2bMany(Array.from({ length: 5000 }, () => new Uint8Array(3000)));
+  const runs = Array.from({ length: 3000 }, () => new Blake2b({ key: KEY }).update(M));
+  blake2b(new Uint8Array(2 ** 22));
+  treeRoot(new Uint8Array(2 ** 22), { leafLength: 2 ** 20 });
+  blake2bMany(Array.from({ length: 1000 }, () => new Uint8Array(3000)));
   assert.deepEqual(sizes(), before);
   assert.equal(new Set(runs.map((run) => run.hex())).size, 1);
   assertClean();
@@ -147,8 +104,7 @@ test("a method without its object says so", () => {
   const output = new Blake2xb({ key: KEY });
   const dispose = Symbol.dispose ?? Symbol.for("Symbol.dispose");
   for (const [what, object, methods, getters] of [
-    ["hash", hash, ["update", "digest", "hex", "verify", "copy", "reset", "wipe"],
-      ["digestLength", "blockLength"]],
+    ["hash", hash, ["update", "digest", "hex", "verify", "copy", "reset", "wipe"], ["digestLength", "blockLength"]],
     ["output", output, ["update", "read", "copy", "wipe"], ["left", "blockLength"]],
   ]) {
     const { prototype } = Object.getPrototypeOf(object.constructor);
@@ -191,7 +147,7 @@ function callOnFullStack(call) {
   };
   // frames before it shift the places where calls are cut
   const shift = (count) => (count === 0 ? dive() : shift(count - 1));
-  for (let count = 0; count < (HUGE ? 16 : 4); count++) {
+  for (let count = 0; count < (HUGE ? 16 : 2); count++) {
     passed = 0;
     shift(count);
   }
@@ -217,7 +173,7 @@ test("a stack that is full ends a call, and not the library", () => {
   }
   // some calls have ended inside the library, whose memory was wiped and given up
   assert.ok(seen.size > 3, `${seen.size} memories`); // more than one of a module
-  for (const bytes of seen) assert.ok(bytes.every((byte) => byte === 0));
+  for (const bytes of seen) assertZeros(bytes, "a memory that was given up");
 });
 
 test("a run that failed on a full stack returns no digest, or that of before", () => {
@@ -249,8 +205,7 @@ test("a run that failed on a full stack returns no digest, or that of before", (
       ended++;
     }
   }
-  assert.ok(
-    done.length > 0 && ended > 0, `${ended} of ${failed.length} ended, ${done.length} done`);
+  assert.ok(done.length > 0 && ended > 0, `${ended} of ${failed.length} ended, ${done.length} done`);
 });
 
 // Runs some work in which the call of fill or set with this number throws, and notes the states that
@@ -340,8 +295,7 @@ test("a copy or a short update that fails leaves its hash as it was, and nothing
     assert.deepEqual([...states].filter(isState), []);
     assert.equal(run.hex(), wanted);
   }
-  const ended = strange(
-    new Proxy(Strange, { get(...words) { ended.wipe(); return Reflect.get(...words); } }));
+  const ended = strange(new Proxy(Strange, { get(...words) { ended.wipe(); return Reflect.get(...words); } }));
   assert.throws(() => ended.copy(), /^TypeError: Blake2b.copy: this hash has ended/);
   const output = new Blake2xb({ key: KEY }).update(M);
   assert.ok(failAt(0, new Set(), () => output.copy()));
@@ -392,13 +346,10 @@ test("the state of a run under a key is wiped when its object goes", async () =>
 });
 
 test("load compiles ahead, and again", async () => {
-  const index = new URL("../index.js", import.meta.url).href;
-  const program = `const { blake2b, hex, load } = await import("${index}");
+  const printed = printedBy(`const { blake2b, hex, load } = await import(${INDEX});
     WebAssembly.Module = class { constructor() { throw new Error("on this thread"); } };
     await load();
-    console.log(hex(blake2b(new Uint8Array(0), { digestLength: 4 })));`;
-  const words = ["--input-type=module", "-e", program];
-  const printed = execFileSync(process.execPath, words, { encoding: "utf8" });
+    console.log(hex(blake2b(new Uint8Array(0), { digestLength: 4 })));`);
   assert.equal(printed, "1271cf25\n"); // hashlib's
   assert.equal(await load(), undefined);
   await load();

@@ -2,8 +2,7 @@
 import assert from "node:assert/strict";
 import { createHash, randomBytes } from "node:crypto";
 import { getEventListeners } from "node:events";
-import { createReadStream, openAsBlob, writeFileSync, mkdtempSync, rmSync } from "node:fs";
-import { tmpdir } from "node:os";
+import { createReadStream, openAsBlob, writeFileSync } from "node:fs";
 import { join } from "node:path";
 import test from "node:test";
 import {
@@ -11,7 +10,7 @@ import {
   blake2spStream, treeRoot, treeRootStream, utf8,
 } from "../index.js";
 import { SLAB } from "../src/engine.js";
-import { hexOf } from "./common.mjs";
+import { hexOf, newFolder } from "./common.mjs";
 
 const MESSAGE = new Uint8Array(randomBytes(9_000_000));
 const KEY = utf8("a key");
@@ -31,22 +30,14 @@ const streamOf = (pieces, more = {}) =>
   });
 
 test("a blob, a stream, an async iterable and a file have one digest", async () => {
-  const folder = mkdtempSync(join(tmpdir(), "vulfsjor-"));
-  const file = join(folder, "file");
+  const file = join(newFolder(), "file");
   writeFileSync(file, MESSAGE);
-  try {
-    const sources = [
-      new Blob([MESSAGE]), new Blob([MESSAGE]).stream(), new Response(MESSAGE).body,
-      streamOf(piecesOf(70000)),
-      (async function* () { yield* piecesOf(12345); })(), createReadStream(file),
-    ];
-    if (openAsBlob) sources.push(await openAsBlob(file));
-    for (const source of sources) {
-      assert.equal(hexOf(await blake2bStream(source, { key: KEY })), WANTED);
-    }
-  } finally {
-    rmSync(folder, { recursive: true });
-  }
+  const sources = [
+    new Blob([MESSAGE]), new Blob([MESSAGE]).stream(), new Response(MESSAGE).body, streamOf(piecesOf(70000)),
+    (async function* () { yield* piecesOf(12345); })(), createReadStream(file),
+  ];
+  if (openAsBlob) sources.push(await openAsBlob(file));
+  for (const source of sources) assert.equal(hexOf(await blake2bStream(source, { key: KEY })), WANTED);
 });
 
 test("the other hashes, and empty sources", async () => {
@@ -58,29 +49,22 @@ test("the other hashes, and empty sources", async () => {
   }
   const options = { leafLength: 65536, digestLength: 20, personalization: KEY };
   assert.deepEqual(await treeRootStream(blob, options), treeRoot(MESSAGE, options));
-  assert.equal(hexOf(await blake2bStream(new Blob([]))), createHash("blake2b512").digest("hex"));
-  assert.equal(
-    hexOf(await blake2bStream(streamOf([][Symbol.iterator]()))),
-    createHash("blake2b512").digest("hex"));
+  for (const empty of [new Blob([]), streamOf([][Symbol.iterator]())]) {
+    assert.equal(hexOf(await blake2bStream(empty)), createHash("blake2b512").digest("hex"));
+  }
 });
 
 test("progress counts up to the end", async () => {
-  const counts = [];
-  await blake2bStream(new Blob([MESSAGE]), { onProgress: (...both) => counts.push(both) });
-  assert.deepEqual(counts, [[4194304, 9000000], [8388608, 9000000], [9000000, 9000000]]);
-  counts.length = 0;
-  await blake2bStream(
-    new Blob([MESSAGE.subarray(0, 4194304)]), { onProgress: (...both) => counts.push(both) });
-  assert.deepEqual(counts, [[4194304, 4194304]]);
-  counts.length = 0;
-  await blake2bStream(
-    streamOf(piecesOf(4_000_000)), { onProgress: (...both) => counts.push(both) });
   const unknown = [[4000000, undefined], [8000000, undefined], [9000000, undefined]];
-  assert.deepEqual(counts, unknown);
-  counts.length = 0;
-  const pieces = (async function* () { yield* piecesOf(4_000_000); })();
-  await blake2bStream(pieces, { onProgress: (...both) => counts.push(both) });
-  assert.deepEqual(counts, unknown);
+  for (const [source, wanted] of [
+    [new Blob([MESSAGE]), [[4194304, 9000000], [8388608, 9000000], [9000000, 9000000]]],
+    [new Blob([MESSAGE.subarray(0, 4194304)]), [[4194304, 4194304]]],
+    [streamOf(piecesOf(4_000_000)), unknown], [(async function* () { yield* piecesOf(4_000_000); })(), unknown],
+  ]) {
+    const counts = [];
+    await blake2bStream(source, { onProgress: (...both) => counts.push(both) });
+    assert.deepEqual(counts, wanted);
+  }
 });
 
 test("what fails rejects, and the source is released", async () => {
@@ -116,14 +100,12 @@ test("what fails rejects, and the source is released", async () => {
 
 test("an abort ends it, before and on the way", async () => {
   const blob = new Blob([MESSAGE]);
-  await assert.rejects(
-    blake2bStream(blob, { signal: AbortSignal.abort() }), { name: "AbortError" });
+  await assert.rejects(blake2bStream(blob, { signal: AbortSignal.abort() }), { name: "AbortError" });
   const control = new AbortController();
   const fault = new Error("enough");
   let count = 0;
   await assert.rejects(
-    blake2bStream(
-      blob, { signal: control.signal, onProgress() { if (++count === 2) control.abort(fault); } }),
+    blake2bStream(blob, { signal: control.signal, onProgress() { if (++count === 2) control.abort(fault); } }),
       fault);
   assert.equal(count, 2);
   let isCancelled = false;
@@ -137,8 +119,7 @@ test("an abort ends it, before and on the way", async () => {
   setTimeout(() => late.abort(fault), 20);
   await assert.rejects(blake2bStream(stalled, { signal: late.signal }), fault);
   assert.equal(reason, fault);
-  await assert.rejects(
-    blake2bStream((async function* () {})(), { signal: AbortSignal.abort(fault) }), fault);
+  await assert.rejects(blake2bStream((async function* () {})(), { signal: AbortSignal.abort(fault) }), fault);
   // a signal that has only what the types call for
   const listeners = new Set();
   const signal = {
@@ -197,8 +178,7 @@ test("an iterator that fails to end, or to go on, changes nothing", async () => 
   const iterable = (next) =>
     ({ [Symbol.asyncIterator]: () => ({ next, return() { throw new Error("the end"); } }) });
   await assert.rejects(blake2bStream(iterable(() => { throw fault; })), fault);
-  await assert.rejects(
-    blake2bStream(iterable(() => ({ done: false, value: 5 }))), { name: "TypeError" });
+  await assert.rejects(blake2bStream(iterable(() => ({ done: false, value: 5 }))), { name: "TypeError" });
   assert.equal(
     hexOf(await blake2bStream(iterable(() => ({ done: true })))),
     createHash("blake2b512").digest("hex"));

@@ -1,8 +1,6 @@
 // The root of a tree by workers. The digests of leaves are in conformance.test.mjs, and what fails in
 // worker_faults.test.mjs.
 import assert from "node:assert/strict";
-import { execFileSync } from "node:child_process";
-import { EventEmitter } from "node:events";
 import { open, truncate } from "node:fs/promises";
 import os from "node:os";
 import test from "node:test";
@@ -11,9 +9,14 @@ import vm from "node:vm";
 import workerThreads from "node:worker_threads";
 import { blake2b, blake2bStream, hex, treeLeaves, treeRootOfLeaves, treeRootStream, utf8 } from "../index.js";
 import { processorCount } from "../src/platform.js";
+import { INDEX, printedBy } from "./common.mjs";
 import {
-  MESSAGE, RANGE, SALT, byThreads, counted, ended, inPieces, openMessage, rootOf, withWorkers,
+  MESSAGE, RANGE, Ready, SALT, byThreads, counted, ended, fileOf, inPieces, openMessage, rootOf, withWorkers,
 } from "./worker_support.mjs";
+
+// The root of a blob of the message by workers of this class.
+const rootBy = (Class, options = { leafLength: 65536 }) =>
+  withWorkers(Class, () => byThreads(new Blob([MESSAGE]), options));
 
 test("the root by threads is that of one", async () => {
   for (const [length, leafLength] of [
@@ -36,26 +39,17 @@ test("salt and personalization are taken at the call", async () => {
   const promise = byThreads(new Blob([MESSAGE]), { leafLength: 65536, ...labels });
   labels.salt.fill(0);
   labels.personalization.fill(0);
-  assert.equal(
-    await promise, rootOf(MESSAGE, { leafLength: 65536, salt: SALT, personalization: SALT }));
+  assert.equal(await promise, rootOf(MESSAGE, { leafLength: 65536, salt: SALT, personalization: SALT }));
 });
 
 test("as many workers as there are ranges start, and all of them are stopped", async () => {
-  const wanted = [[undefined, 0], [1, 0], [2, 2], [3, 3], [200, 3]];
-  for (const [threads, count] of wanted) {
+  const wanted = [[undefined, 0], [1, 0], [2, 2], [200, 3], [3, 0, 2 ** 26 + 1], [3, 1, 2 ** 26]];
+  for (const [threads, count, leafLength = 65536] of wanted) {
     const begun = [];
-    await withWorkers(
-      counted(begun), () => byThreads(new Blob([MESSAGE]), { leafLength: 65536, threads }));
+    await rootBy(counted(begun), { leafLength, threads });
     assert.equal(begun.length, count);
     await ended(begun);
   }
-  const begun = [];
-  await withWorkers(
-    counted(begun), () => byThreads(new Blob([MESSAGE]), { leafLength: 64 * 1024 * 1024 + 1 }));
-  assert.equal(begun.length, 0);
-  await withWorkers(
-    counted(begun), () => byThreads(new Blob([MESSAGE]), { leafLength: 64 * 1024 * 1024 }));
-  assert.equal(begun.length, 1);
 });
 
 test("workers use the module that is compiled here", async () => {
@@ -63,9 +57,7 @@ test("workers use the module that is compiled here", async () => {
   const program = `globalThis.atob = () => { throw new Error("decoded again"); };
     import("${worker}");`;
   const Class = counted([], () => [program, { eval: true }]);
-  const root = await withWorkers(
-    Class, () => byThreads(new Blob([MESSAGE]), { leafLength: 65536 }));
-  assert.equal(root, rootOf(MESSAGE, { leafLength: 65536 }));
+  assert.equal(await rootBy(Class), rootOf(MESSAGE, { leafLength: 65536 }));
 });
 
 test("ranges and digests are transferred, not copied", async () => {
@@ -76,7 +68,7 @@ test("ranges and digests are transferred, not copied", async () => {
       lengths.push(job.message.length);
     }
   };
-  await withWorkers(Class, () => byThreads(new Blob([MESSAGE]), { leafLength: 65536 }));
+  await rootBy(Class);
   assert.deepEqual(lengths, [0, 0, 0]);
 });
 
@@ -123,10 +115,13 @@ test("workers read an open file of node", async (t) => {
     }
   };
   await file.read(new Uint8Array(7)); // its position does not matter
-  for (const length of [9_000_001, 2 * RANGE, RANGE + 1, RANGE, 1, 0]) {
+  for (const [length, ...forms] of [
+    [9_000_001, [65536, 3], [100_003, 2], [3_000_000, 3], [65536, 1]], [2 * RANGE, [65536, 3]], [RANGE + 1, [100_003, 2]],
+    [RANGE, [65536, 3]], [1, [65536, 3], [65536, 1]], [0, [65536, 3], [65536, 1]],
+  ]) {
     await truncate(path, length);
     const message = MESSAGE.subarray(0, length);
-    for (const [leafLength, threads] of [[65536, 3], [100_003, 2], [3_000_000, 3], [65536, 1]]) {
+    for (const [leafLength, threads] of forms) {
       const options = { leafLength, threads, salt: SALT, digestLength: 40 };
       const counts = [];
       jobs.length = 0;
@@ -156,11 +151,7 @@ for (const [leafLength, leaves, ranges] of [[65536, 64, 40], [16, 65536, 8]]) te
   const made = []; // references to the digests
   let kept = true;
   let sent = 0;
-  const Class = class extends EventEmitter {
-    constructor() {
-      super();
-      setImmediate(() => this.emit("message", "ready"));
-    }
+  const Class = class extends Ready {
     async postMessage({ file, range }) {
       const i = Number(range.first) / leaves;
       assert.equal(file.length, leafLength * leaves);
@@ -177,10 +168,9 @@ for (const [leafLength, leaves, ranges] of [[65536, 64, 40], [16, 65536, 8]]) te
       made[i] = new WeakRef(digests);
       this.emit("message", digests);
     }
-    terminate() {}
   };
-  const handle = { fd: 3, stat: async () => ({ isFile: () => true, size: ranges * leaves * leafLength }) };
-  const root = await withWorkers(Class, () => byThreads(handle, { leafLength, threads: count }));
+  const file = fileOf(ranges * leaves * leafLength);
+  const root = await withWorkers(Class, () => byThreads(file, { leafLength, threads: count }));
   const all = Buffer.concat(Array.from({ length: ranges }, (_, i) => digestsOf(i)));
   assert.equal(root, hex(treeRootOfLeaves(all, { leafLength })));
   assert.equal(kept, false); // once the root has them
@@ -190,19 +180,14 @@ test("past 4 GiB each part of a file is read where it is", async () => {
   const size = 2 ** 32 + 3 * RANGE + 5;
   // by workers, which answer with zeros
   const jobs = [];
-  const Class = class extends EventEmitter {
-    constructor() {
-      super();
-      setImmediate(() => this.emit("message", "ready"));
-    }
+  const Class = class extends Ready {
     postMessage({ file, range }) {
       jobs.push([file.at, file.length, range.first, range.ends]);
       const digests = new Uint8Array(64 * Math.ceil(file.length / 65536));
       setImmediate(() => this.emit("message", digests));
     }
-    terminate() {}
   };
-  const handle = { fd: 3, stat: async () => ({ isFile: () => true, size }) };
+  const handle = fileOf(size);
   await withWorkers(Class, () => byThreads(handle, { leafLength: 65536 }));
   const whole = Math.floor(size / RANGE);
   assert.deepEqual(jobs.sort((a, b) => a[0] - b[0]), Array.from({ length: whole + 1 }, (_, i) => [
@@ -217,8 +202,7 @@ test("past 4 GiB each part of a file is read where it is", async () => {
   };
   const counts = [];
   const digest = await blake2bStream(handle, { onProgress: (count) => counts.push(count) });
-  assert.deepEqual(places, [
-    [0, RANGE, 0], [0, 15, size - 15], [0, 5, size - 5]]);
+  assert.deepEqual(places, [[0, RANGE, 0], [0, 15, size - 15], [0, 5, size - 5]]);
   const read = new Uint8Array(RANGE + 15);
   read.set(MESSAGE.subarray(1000, 2000));
   read.set(MESSAGE.subarray(2000, 2010), RANGE);
@@ -244,30 +228,24 @@ test("a file that is read in short pieces has the same digest", async (t) => {
 test("a file that ends early, is closed or is a folder is refused", async (t) => {
   const { folder, file } = await openMessage(t);
   const size = MESSAGE.length + 5;
-  const longer = {
-    fd: file.fd,
-    stat: async () => ({ isFile: () => true, size }),
-    read: (...words) => file.read(...words),
-  };
+  const same = { fd: file.fd, read: (...words) => file.read(...words) };
+  const longer = fileOf(size, same);
   const end = `the file ends at byte ${MESSAGE.length}`;
   const rejects = (source, threads, error) => assert.rejects(
     treeRootStream(source, { leafLength: 65536, threads }), error);
   await rejects(longer, 3, { message: `treeRootStream: a worker failed: ${end}` });
   await rejects(longer, 1, { message: `treeRootStream: ${end}` });
-  const silent = { ...longer, stat: async () => ({ isFile: () => true, size: 0 }) }; // as in /proc
+  const silent = fileOf(0, same); // as in /proc
   for (const threads of [1, 3]) {
     await rejects(silent, threads, { name: "TypeError", message: /has bytes and the length 0/ });
-  }
-  const other = await open(folder);
-  for (const threads of [1, 3]) {
+    const other = await open(folder);
     const message = "treeRootStream: source must be a regular file";
     await rejects(other, threads, { name: "TypeError", message });
+    await other.close();
+    await rejects(other, threads, { code: "EBADF" });
   }
-  await other.close();
-  for (const threads of [1, 3]) await rejects(other, threads, { code: "EBADF" });
   const signal = AbortSignal.abort(new Error("stopped"));
-  await assert.rejects(
-    treeRootStream(file, { leafLength: 65536, threads: 3, signal }), { message: "stopped" });
+  await assert.rejects(treeRootStream(file, { leafLength: 65536, threads: 3, signal }), { message: "stopped" });
 });
 
 test("threads 0 means all processors, and 256 at most", async (t) => {
@@ -276,8 +254,7 @@ test("threads 0 means all processors, and 256 at most", async (t) => {
   for (const [processors, count] of [[1, 0], [2, 2]]) {
     os.availableParallelism = () => processors;
     const begun = [];
-    const root = await withWorkers(
-      counted(begun), () => byThreads(new Blob([MESSAGE]), { leafLength: 65536, threads: 0 }));
+    const root = await rootBy(counted(begun), { leafLength: 65536, threads: 0 });
     assert.equal(root, rootOf(MESSAGE, { leafLength: 65536 }));
     assert.equal(begun.length, count);
   }
@@ -288,31 +265,21 @@ test("threads 0 means all processors, and 256 at most", async (t) => {
 });
 
 test("progress counts what the workers have hashed", async () => {
-  const counts = [];
-  await byThreads(
-    new Blob([MESSAGE]), { leafLength: 65536, onProgress: (...both) => counts.push(both) });
-  assert.equal(counts.length, 3);
-  assert.deepEqual(counts.at(-1), [9_000_001, 9_000_001]);
-  assert.ok(counts.every(([count], i) => count > (counts[i - 1]?.[0] ?? 0)), String(counts));
-  counts.length = 0;
-  await byThreads(
-    new Blob([MESSAGE]), { leafLength: 1000, onProgress: (count) => counts.push(count) });
-  const lengths = counts.map((count, i) => count - (counts[i - 1] ?? 0));
-  assert.deepEqual(lengths.sort((a, b) => a - b), [616_001, 4_192_000, 4_192_000]);
-  counts.length = 0; // a range of a leaf that is longer than a range
-  await byThreads(
-    new Blob([MESSAGE]), { leafLength: 5_000_000, onProgress: (count) => counts.push(count) });
-  assert.equal(counts.length, 2);
-  await byThreads(new Blob([]), { leafLength: 1, onProgress: (...both) => counts.push(both) });
-  assert.deepEqual(counts.at(-1), [0, 0]);
+  const countsOf = async (message, leafLength) => {
+    const counts = [];
+    await byThreads(new Blob([message]), { leafLength, onProgress: (...both) => counts.push(both) });
+    assert.deepEqual(counts.at(-1), [message.length, message.length]);
+    return counts.map(([count], i) => count - (counts[i - 1]?.[0] ?? 0)).sort((a, b) => a - b);
+  };
+  assert.deepEqual(await countsOf(MESSAGE, 65536), [611_393, RANGE, RANGE]);
+  assert.deepEqual(await countsOf(MESSAGE, 1000), [616_001, 4_192_000, 4_192_000]);
+  assert.deepEqual(await countsOf(MESSAGE, 5_000_000), [4_000_001, 5_000_000]); // a range of a leaf that is longer
+  assert.deepEqual(await countsOf(new Uint8Array(0), 1), [0]);
 });
 
 test("a process ends after a call by threads", () => {
-  const index = new URL("../index.js", import.meta.url).href;
-  const program = `import { hex, treeRootStream } from "${index}";
+  const printed = printedBy(`import { hex, treeRootStream } from ${INDEX};
     const root = await treeRootStream(new Blob(["abc"]), { leafLength: 2, threads: 4 });
-    console.log(hex(root).slice(0, 8));`;
-  const printed = execFileSync(
-    process.execPath, ["--input-type=module", "-e", program], { encoding: "utf8", timeout: 60000 });
+    console.log(hex(root).slice(0, 8));`, { timeout: 60000 });
   assert.equal(printed, "19fc31bb\n"); // hashlib's
 });

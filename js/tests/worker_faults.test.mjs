@@ -1,13 +1,18 @@
 // Workers of browsers, in the place of which stands a class, and what happens if a worker fails or a
 // call is stopped.
 import assert from "node:assert/strict";
-import { EventEmitter } from "node:events";
 import test from "node:test";
 import { treeLeaves, treeRoot, treeRootStream } from "../index.js";
 import { processorCount } from "../src/platform.js";
 import {
-  MESSAGE, RANGE, byThreads, counted, ended, inPieces, openMessage, rootOf, withWorkers,
+  MESSAGE, RANGE, Ready, byThreads, counted, ended, fileOf, inPieces, openMessage, rootOf, withWorkers,
 } from "./worker_support.mjs";
+
+const LEAF = { leafLength: 65536 };
+const ROOT = rootOf(MESSAGE, LEAF);
+const blob = () => new Blob([MESSAGE]);
+// A worker of node that runs this program.
+const running = (program, begun = []) => counted(begun, () => [program, { eval: true }]);
 
 // Runs the work as a browser would, whose Worker is this class, on a number of processors.
 async function inBrowser(Worker, hardwareConcurrency, work) {
@@ -64,8 +69,7 @@ test("in a browser, workers read slices of a blob", async () => {
   };
   for (const length of [MESSAGE.length, RANGE, 0]) {
     const message = MESSAGE.subarray(0, length);
-    const root = await inBrowser(
-      Class, 4, () => byThreads(new Blob([message]), { leafLength: 65536, threads: 2 }));
+    const root = await inBrowser(Class, 4, () => byThreads(new Blob([message]), { leafLength: 65536, threads: 2 }));
     assert.equal(root, rootOf(message, { leafLength: 65536 }));
   }
   assert.deepEqual(ranges.sort((a, b) => a[0] - b[0] || a[1] - b[1]), [
@@ -75,22 +79,19 @@ test("in a browser, workers read slices of a blob", async () => {
 
 test("what a worker of node or of a browser reports is an error of the call", async () => {
   const fault = new Error("cannot be read");
-  const options = { leafLength: 65536 };
   for (const [event, value, message] of [
     ["messageerror", fault, "cannot be read"], ["error", fault, "cannot be read"],
     ["exit", 5, "it exited with code 5"],
   ]) {
-    const Class = class extends EventEmitter {
+    const Class = class extends Ready {
       constructor(program, words) {
         super();
         assert.match(program, /^"use strict";/);
         assert.deepEqual(words, { eval: true, execArgv: [] });
-        setImmediate(() => this.emit("message", "ready"));
       }
       postMessage() { setImmediate(() => this.emit(event, value)); }
-      terminate() {}
     };
-    await assert.rejects(withWorkers(Class, () => byThreads(new Blob([MESSAGE]), options)),
+    await assert.rejects(withWorkers(Class, () => byThreads(blob(), LEAF)),
       { message: `treeRootStream: a worker failed: ${message}` });
   }
   for (const [event, value, message] of [
@@ -102,7 +103,7 @@ test("what a worker of node or of a browser reports is an error of the call", as
     };
     Fake.made.length = 0;
     await assert.rejects(
-      inBrowser(Class, 4, () => byThreads(new Blob([MESSAGE]), { ...options, threads: 2 })),
+      inBrowser(Class, 4, () => byThreads(blob(), { ...LEAF, threads: 2 })),
       { message: `treeRootStream: a worker failed: ${message}` });
     assert.deepEqual(Fake.made.splice(2), ["stopped", "stopped"]);
   }
@@ -131,29 +132,26 @@ test("where a text cannot be started a file is, or else the calling thread hashe
     [() => undefined, undefined, ["text", "stopped"]],
     [(url) => isText(url) && {}, undefined, ["text", "stopped", "file", "stopped"]],
     [(url) => (isText(url) ? thrown : undefined), undefined, ["text", "file", "stopped"]],
-    [(url) => (isText(url) ? thrown : { message: "no file" }), "no file",
-      ["text", "file", "stopped"]],
+    [(url) => (isText(url) ? thrown : { message: "no file" }), "no file", ["text", "file", "stopped"]],
     [(url) => (isText(url) ? {} : thrown), "refused", ["text", "stopped", "file"]],
     [() => ({}), "it could not be started", ["text", "stopped", "file", "stopped"]],
   ]) {
     Fake.failing = failing;
-    for (const source of [new Blob([MESSAGE]), inPieces(MESSAGE, 777_777)]) {
+    for (const source of [blob(), inPieces(MESSAGE, 777_777)]) {
       Fake.made.length = 0;
       released.length = 0;
       const [causes, counts] = [[], []];
       const root = await inBrowser(Class, 4, () => byThreads(source, {
-        leafLength: 65536, threads: 2,
-        onFallback: (...words) => causes.push(words), onProgress: (count) => counts.push(count),
+        ...LEAF, threads: 2, onFallback: (...words) => causes.push(words), onProgress: (count) => counts.push(count),
       }));
-      assert.equal(root, rootOf(MESSAGE, { leafLength: 65536 }));
+      assert.equal(root, ROOT);
       // of the two workers only the first calls onFallback, and each is started once
       assert.deepEqual(causes.map(([fault, ...more]) => [fault.message, ...more]),
         cause === undefined ? [] : [[cause]]);
       const twice = made.flatMap((name) => [name, name]).sort();
       assert.deepEqual(Fake.made.map((entry) =>
         (entry === "stopped" ? entry : isText(entry[0]) ? "text" : "file")).sort(), twice);
-      assert.deepEqual(Fake.made.filter(([url]) => url === file[0]),
-        Array(2 * made.includes("file")).fill(file));
+      assert.deepEqual(Fake.made.filter(([url]) => url === file[0]), Array(2 * made.includes("file")).fill(file));
       assert.equal(new Set(released).size, 2);
       assert.deepEqual(held, []);
       assert.deepEqual([counts.length, counts.at(-1)], [3, MESSAGE.length]);
@@ -189,17 +187,15 @@ test("where a text cannot be started a file is, or else the calling thread hashe
 });
 
 test("threads is an integer from 0 to 256, onFallback a function, and only of trees", async () => {
-  const rejects = (options, name, message) =>
-    assert.rejects(treeRootStream(new Blob([]), { leafLength: 5, ...options }), { name, message });
-  for (const threads of [257, 1.5, -1, NaN]) {
-    await rejects(
-      { threads }, "RangeError",
-      `treeRootStream: threads must be an integer from 0 to 256, not ${threads}`);
+  for (const [options, name, message] of [
+    ...[257, 1.5, -1, NaN].map((threads) =>
+      [{ threads }, "RangeError", `threads must be an integer from 0 to 256, not ${threads}`]),
+    [{ threads: "4" }, "TypeError", "threads must be a number, not a string"],
+    [{ onFallback: true }, "TypeError", "onFallback must be a function, not a boolean"],
+  ]) {
+    await assert.rejects(treeRootStream(new Blob([]), { leafLength: 5, ...options }),
+      { name, message: `treeRootStream: ${message}` });
   }
-  await rejects(
-    { threads: "4" }, "TypeError", "treeRootStream: threads must be a number, not a string");
-  await rejects({ onFallback: true }, "TypeError",
-    "treeRootStream: onFallback must be a function, not a boolean");
   assert.throws(() => treeRoot(MESSAGE, { leafLength: 5, threads: 2 }), {
     message: 'treeRoot: unknown property "threads" of options; ' +
       "known are leafLength, digestLength, salt, personalization",
@@ -227,8 +223,7 @@ test("an abort, or progress that throws, ends it and stops the workers", async (
       control.abort(fault);
     };
     const options = { leafLength: 65536, onProgress, signal: control.signal };
-    await assert.rejects(
-      withWorkers(counted(begun), () => byThreads(source.stream, options)), fault);
+    await assert.rejects(withWorkers(counted(begun), () => byThreads(source.stream, options)), fault);
     assert.equal(source.isLetGo, fault);
     assert.equal(source.stream.locked, false);
     assert.equal(count, 3);
@@ -253,48 +248,43 @@ test("a worker that fails is an error, and nothing hangs", async () => {
     "it exited with code 0": started("process.exit(0)"),
   };
   for (const [cause, program] of Object.entries(programs)) {
-    for (const source of [endlessSource().stream, new Blob([MESSAGE]), new Blob([])]) {
+    for (const source of [endlessSource().stream, blob(), new Blob([])]) {
       const begun = [];
-      const Class = counted(begun, () => [program, { eval: true }]);
-      await assert.rejects(withWorkers(Class, () => byThreads(source, { leafLength: 65536 })), {
-        name: "Error", message: `treeRootStream: a worker failed: ${cause}`,
-      });
+      await assert.rejects(withWorkers(running(program, begun), () => byThreads(source, LEAF)),
+        { name: "Error", message: `treeRootStream: a worker failed: ${cause}` });
       await ended(begun);
     }
   }
   // one of several, and a source that stalls
   let number = 0;
-  const second = counted(
-    [], (...words) => (++number === 2 ? [started("process.exit(3)"), { eval: true }] : words));
+  const second = counted([], (...words) => (++number === 2 ? [started("process.exit(3)"), { eval: true }] : words));
   const stalled = (async function* () {
     yield MESSAGE;
     await new Promise(() => setTimeout(() => {}, 1e6).unref());
   })();
-  await assert.rejects(withWorkers(second, () => byThreads(stalled, { leafLength: 65536 })),
+  await assert.rejects(withWorkers(second, () => byThreads(stalled, LEAF)),
     { message: "treeRootStream: a worker failed: it exited with code 3" });
 });
 
 test("in node, too, the calling thread hashes what no worker can be started for", async (t) => {
   const { file } = await openMessage(t);
-  const wanted = rootOf(MESSAGE, { leafLength: 65536 });
-  const options = { leafLength: 65536, threads: 2 };
+  const options = { ...LEAF, threads: 2 };
   const begun = [];
-  const failing = (program) => counted(begun, () => [program, { eval: true }]);
   let number = 0;
   const refusing = class { constructor() { throw new Error("no room"); } };
   for (const [Class, cause] of [
-    [failing('throw new Error("nothing here")'), "nothing here"],
-    [failing("process.exit(3)"), "it exited with code 3"],
-    [failing(""), "it exited with code 0"], [refusing, "no room"],
+    [running('throw new Error("nothing here")', begun), "nothing here"],
+    [running("process.exit(3)", begun), "it exited with code 3"],
+    [running("", begun), "it exited with code 0"], [refusing, "no room"],
     // only one of two
     [counted(begun, (...words) =>
       (++number % 2 === 0 ? ["process.exit(3)", { eval: true }] : words)), "it exited with code 3"],
   ]) {
-    for (const source of [file, new Blob([MESSAGE]), inPieces(MESSAGE, 777_777)]) {
+    for (const source of [file, blob(), inPieces(MESSAGE, 777_777)]) {
       const causes = [];
       const onFallback = (fault) => causes.push(fault.message);
       const root = await withWorkers(Class, () => byThreads(source, { ...options, onFallback }));
-      assert.equal(root, wanted);
+      assert.equal(root, ROOT);
       assert.deepEqual(causes, [cause]);
     }
   }
@@ -302,7 +292,7 @@ test("in node, too, the calling thread hashes what no worker can be started for"
   // without a function to call, and with one that throws
   const fault = new Error("I want workers");
   const call = (more) => withWorkers(refusing, () => byThreads(file, { ...options, ...more }));
-  assert.equal(await call({ onFallback: undefined }), wanted);
+  assert.equal(await call({ onFallback: undefined }), ROOT);
   await assert.rejects(call({ onFallback() { throw fault; } }), fault);
   // an abort comes through between ranges, and the file's errors are those of the call
   const control = new AbortController();
@@ -311,15 +301,12 @@ test("in node, too, the calling thread hashes what no worker can be started for"
     counts.push(count);
     setImmediate(() => control.abort(fault));
   };
-  await assert.rejects(
-    call({ leafLength: 64, onFallback() {}, onProgress, signal: control.signal }), fault);
+  await assert.rejects(call({ leafLength: 64, onFallback() {}, onProgress, signal: control.signal }), fault);
   assert.ok(counts.length < 3, String(counts));
   const before = counts.length;
   await new Promise((resolve) => setTimeout(resolve, 50));
   assert.equal(counts.length, before);
-  const size = MESSAGE.length + 5;
-  const longer = { fd: file.fd, stat: async () => ({ isFile: () => true, size }) };
-  await assert.rejects(
-    withWorkers(refusing, () => byThreads(longer, { ...options, onFallback() {} })),
+  const longer = fileOf(MESSAGE.length + 5, { fd: file.fd });
+  await assert.rejects(withWorkers(refusing, () => byThreads(longer, { ...options, onFallback() {} })),
     { message: `the file ends at byte ${MESSAGE.length}` });
 });

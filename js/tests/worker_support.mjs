@@ -1,11 +1,12 @@
 // What the tests of workers share: a message, and classes in the place of node's Worker.
 import { randomBytes } from "node:crypto";
-import { mkdtemp, open, rm, writeFile } from "node:fs/promises";
-import os from "node:os";
+import { EventEmitter } from "node:events";
+import { open, writeFile } from "node:fs/promises";
 import { join } from "node:path";
 import { after } from "node:test";
 import workerThreads from "node:worker_threads";
 import { hex, treeRoot, treeRootStream, utf8 } from "../index.js";
+import { newFolder } from "./common.mjs";
 
 export const MESSAGE = new Uint8Array(randomBytes(9_000_001));
 export const SALT = utf8("a salt");
@@ -45,15 +46,24 @@ export function counted(begun = [], make = (...words) => words) {
   };
 }
 
+// A worker of node that has started, and only does what postMessage of a class of it does.
+export class Ready extends EventEmitter {
+  constructor() {
+    super();
+    setImmediate(() => this.emit("message", "ready"));
+  }
+  terminate() {}
+}
+
+// A file of node that has this many bytes, or says so.
+export const fileOf = (size, more) => ({ fd: 3, stat: async () => ({ isFile: () => true, size }), ...more });
+
 // A folder with a file of the message that is open in node.
 export async function openMessage(t) {
-  const folder = await mkdtemp(join(os.tmpdir(), "vulfsjor-"));
+  const folder = newFolder();
   const path = join(folder, "message");
   await writeFile(path, MESSAGE);
   const file = await open(path, "r+");
-  t.after(async () => {
-    await file.close();
-    await rm(folder, { recursive: true });
-  });
+  t.after(() => file.close());
   return { folder, path, file };
 }

@@ -2,12 +2,10 @@
 import faulthandler
 import os
 import random
-import tempfile
 import threading
 import time
-import unittest
 
-import support  # noqa: F401  the package
+import support
 import oracle
 
 DICE = random.Random(2)
@@ -30,25 +28,17 @@ def have_ended():
     return not other_threads()
 
 
-class Test(unittest.TestCase):
-    """A test with a folder for files. One that hangs ends the program and shows where."""
+class Test(support.Test):
+    """A test that ends the program, and shows where, if it hangs."""
 
     def setUp(self):
         faulthandler.dump_traceback_later(300, exit=True)
         self.addCleanup(faulthandler.cancel_dump_traceback_later)
-        self.folder = tempfile.TemporaryDirectory()
-        self.addCleanup(self.folder.cleanup)
 
-    def file(self, data, name="file"):
-        """The path of a file with these bytes."""
-        path = os.path.join(self.folder.name, name)
+    def file(self, data=b"", length=None):
+        """The path of a file with these bytes, and then zeros up to this length."""
+        path = os.path.join(self.folder, "file")
         with open(path, "wb") as file:
             file.write(data)
+            file.truncate(length)
         return path
-
-    def refuses(self, kind, text, call, *args, **words):
-        """The call raises this exception, with this text."""
-        with self.assertRaises(kind) as caught:
-            call(*args, **words)
-        self.assertIs(type(caught.exception), kind)
-        self.assertEqual(str(caught.exception), text)

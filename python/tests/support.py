@@ -8,6 +8,7 @@ usage: support.py FOLDER      builds the package in FOLDER. Status 77: a tool is
 """
 import atexit
 import contextlib
+import functools
 import importlib.util
 import os
 import shutil
@@ -15,6 +16,7 @@ import subprocess
 import sys
 import sysconfig
 import tempfile
+import threading
 import unittest
 import zipfile
 
@@ -65,8 +67,7 @@ def cannot_compile(compiler):
 
 def run(*words, **named):
     """Runs a program, and returns what it has printed and its status."""
-    return subprocess.run(words, stdout=subprocess.PIPE, stderr=subprocess.STDOUT, text=True,
-                          check=False, **named)
+    return subprocess.run(words, stdout=subprocess.PIPE, stderr=subprocess.STDOUT, text=True, check=False, **named)
 
 
 def build(folder, python=sys.executable, **environment):
@@ -93,6 +94,29 @@ def package():
             raise RuntimeError(f"building failed:\n{done.stdout}")
         os.environ["VULFSJOR_PACKAGE"] = folder
     return os.path.abspath(os.environ["VULFSJOR_PACKAGE"])
+
+
+def by_threads(count, work):
+    """Does some work in several threads, and waits for them."""
+    threads = [threading.Thread(target=work) for _ in range(count)]
+    for thread in threads:
+        thread.start()
+    for thread in threads:
+        thread.join()
+
+
+class Test(unittest.TestCase):
+    """A test with a folder, self.folder, that is made if it is used."""
+
+    @functools.cached_property
+    def folder(self):
+        return self.enterContext(tempfile.TemporaryDirectory())
+
+    def refuses(self, kind, text, call, *args, **words):
+        """The call raises this exception, and no subclass, with this text."""
+        with self.assertRaises(kind) as caught:
+            call(*args, **words)
+        self.assertEqual((type(caught.exception), str(caught.exception)), (kind, text))
 
 
 if __name__ == "__main__":

@@ -2,11 +2,9 @@
 same digest or the same exception with the same message. test_conformance.py has the values of all other calls."""
 import array
 import ctypes
-import functools
 import itertools
 import mmap
 import pickle
-import threading
 import unittest
 
 import _blake2
@@ -19,38 +17,19 @@ FAMILIES = (("blake2b", 64), ("blake2s", 32))
 def edge_parameters(longest):
     """Each parameter by itself, at its edges, beyond them, and of other types."""
     small, bits = longest // 4, 64 if longest == 64 else 48
-    numbers = {
-        "digest_size": (1, longest),
-        "fanout": (0, 255),
-        "depth": (1, 255),
-        "leaf_size": (0, 2**32 - 1),
-        "node_offset": (0, 2**bits - 1),
-        "node_depth": (0, 255),
-        "inner_size": (0, longest),
-    }
+    numbers = {"digest_size": (1, longest), "fanout": (0, 255), "depth": (1, 255), "leaf_size": (0, 2**32 - 1),
+               "node_offset": (0, 2**bits - 1), "node_depth": (0, 255), "inner_size": (0, longest)}
     for name, (least, most) in numbers.items():
         near = [bound + step for bound in (least, most) for step in (-2, -1, 0, 1, 2)]
         far = [2**power + step for power in (8, 31, 32, 48, 63, 64, 100) for step in (-1, 0, 1)]
-        for value in near + far + [-number for number in far]:
-            yield {name: value}
-        for value in (
-            None, 1.0, "1", b"1", True, type("Index", (), {"__index__": lambda self: 2})()
-        ):
+        index = type("Index", (), {"__index__": lambda self: 2})()
+        for value in (*near, *far, *(-number for number in far), None, 1.0, "1", b"1", True, index):
             yield {name: value}
     for name, most in {"key": longest, "salt": small, "person": small}.items():
-        for length in (0, 1, most - 1, most, most + 1, 2 * most, 1000):
-            yield {name: bytes(length)}
-            yield {name: bytes(range(1, 256))[:length]}
-        for value in (
-            None,
-            1,
-            "text",
-            bytearray(b"12"),
-            memoryview(b"12"),
-            memoryview(b"1234")[::2],
-            array.array("H", [1, 2]),
-            [1],
-        ):
+        texts = [text[:length] for length in (0, 1, most - 1, most, most + 1, 2 * most, 1000)
+                 for text in (bytes(1000), bytes(range(1, 256)))]
+        for value in (*texts, None, 1, "text", bytearray(b"12"), memoryview(b"12"), memoryview(b"1234")[::2],
+                      array.array("H", [1, 2]), [1]):
             yield {name: value}
     for name in ("last_node", "usedforsecurity"):
         for value in (0, 1, 2, None, "", "x", True, False):
@@ -60,18 +39,8 @@ def edge_parameters(longest):
     except TypeError:
         yield {"data": b"x"}
     yield {"size": 1}
-    refused = {
-        "digest_size": 0,
-        "salt": bytes(99),
-        "person": bytes(99),
-        "fanout": -1,
-        "depth": 0,
-        "leaf_size": 2**32,
-        "node_offset": 2**64,
-        "node_depth": -1,
-        "inner_size": -1,
-        "key": bytes(99),
-    }
+    refused = {"digest_size": 0, "salt": bytes(99), "person": bytes(99), "fanout": -1, "depth": 0, "leaf_size": 2**32,
+               "node_offset": 2**64, "node_depth": -1, "inner_size": -1, "key": bytes(99)}
     for first, second in itertools.combinations(refused, 2):  # which of two is refused first
         yield {first: refused[first], second: refused[second]}
 
@@ -118,62 +87,20 @@ def edges_of_objects(module, name):
 def inputs():
     """Objects to hash, and objects that are refused."""
     mapped = mmap.mmap(-1, 5000, access=mmap.ACCESS_READ)
-    yield from (
-        b"", b"abc", bytearray(b"abc"), memoryview(b"abc"), memoryview(b"abcdef")[1:4], mapped
-    )
-    yield from (
-        memoryview(b"abcdef")[::2],
-        array.array("I", [1, 2, 3]),
-        (ctypes.c_char * 8)(),
-        ctypes.c_uint64(7),
-    )
-    yield from (
-        ((ctypes.c_char * 3) * 4)(),
-        memoryview(bytes(12)).cast("B", (3, 4)),
-        bytes(4096),
-        bytearray(4096),
-    )
-    yield from ("text", "", 1, None, [1, 2], object(), 1.5)
+    yield from (b"", b"abc", bytearray(b"abc"), memoryview(b"abc"), memoryview(b"abcdef")[1:4], mapped,
+                memoryview(b"abcdef")[::2], array.array("I", [1, 2, 3]), (ctypes.c_char * 8)(), ctypes.c_uint64(7),
+                ((ctypes.c_char * 3) * 4)(), memoryview(bytes(12)).cast("B", (3, 4)), bytes(4096), bytearray(4096),
+                "text", "", 1, None, [1, 2], object(), 1.5)
 
 
 def compare_edges():
     """All calls at the edges. How many they were."""
     count = 0
     for name, longest in FAMILIES:
-        for ours, theirs in zip(
-            edges_of(vulfsjor, name, longest), edges_of(_blake2, name, longest), strict=True
-        ):
+        for ours, theirs in zip(edges_of(vulfsjor, name, longest), edges_of(_blake2, name, longest), strict=True):
             assert ours[1:] == theirs[1:], (name, ours, theirs)
             count += 1
     return count
-
-
-def share_among_threads(make):
-    """Many threads update one hasher with long and short pieces of one message, and copy it
-    meanwhile. Each copy has hashed a prefix of the message, since all pieces are whole periods."""
-    piece, hasher, prefixes = b"12345678" * 1000, make(), make()
-    pieces, digests, refused, beginnings = [piece[:1000], piece], [], [], {make().digest()}
-
-    def work():
-        for turn in range(200):
-            hasher.update(pieces[turn % 2])
-            digests.append(hasher.copy().digest())
-            digests.append(hasher.digest())
-            try:
-                hasher.verify(b"")
-            except vulfsjor.InvalidTag:
-                refused.append(turn)
-
-    threads = [threading.Thread(target=work) for _ in range(4)]
-    for thread in threads:
-        thread.start()
-    for thread in threads:
-        thread.join()
-    for _ in range(4 * 100 * 9):
-        prefixes.update(piece[:1000])
-        beginnings.add(prefixes.digest())
-    assert hasher.digest() == prefixes.digest() == make(piece * 450).digest()
-    assert len(digests) == 1600 and set(digests) <= beginnings and len(refused) == 800
 
 
 class Compare(unittest.TestCase):
@@ -181,10 +108,6 @@ class Compare(unittest.TestCase):
 
     def test_edges(self):
         self.assertGreater(compare_edges(), 1000)
-
-    def test_threads_share_an_object(self):
-        for make in (vulfsjor.blake2b, vulfsjor.blake2s, vulfsjor.blake2bp, vulfsjor.blake2sp):
-            share_among_threads(functools.partial(make, key=b"key"))
 
 
 if __name__ == "__main__":

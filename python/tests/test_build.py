@@ -40,10 +40,9 @@ SHARED = {"src/vulfsjor.h": "c/include/vulfsjor.h", "src/choose.c": "c/choose.c"
           "src/threads.c": "c/threads.c", "src/vulfsjor_threads.h": "c/include/vulfsjor_threads.h",
           "src/thunks.h": "c/thunks.h", "src/portable.c": "dist/c/vulfsjor.c", "src/MANIFEST": "dist/MANIFEST",
           **{f"src/{name}": f"dist/{name}" for name in (
-              "aarch64/vulfsjor.s", "x86_64/vulfsjor-v2.s",
-              "x86_64/vulfsjor-v3.s", "x86_64/vulfsjor-v4.s", "aarch64/coff.inc",
-              "aarch64/elf.inc", "aarch64/macho.inc", "x86_64/coff.inc", "x86_64/elf.inc",
-              "x86_64/macho.inc")}}
+              "aarch64/vulfsjor.s", *(f"x86_64/vulfsjor-v{level}.s" for level in (2, 3, 4)),
+              *(f"{processor}/{system}.inc" for processor in ("aarch64", "x86_64")
+                for system in ("coff", "elf", "macho")))}}
 FOR_TESTS = {"tests/read_sources.py": "tools/read_sources.py", **{f"tests/{name}": f"tests/{name}" for name in (
     "b2_model.py", "common.py", "oracle.py", "vectors.json", "vectors.py")}}
 # A compiler that writes to the file that it should make what a command prints.
@@ -53,13 +52,8 @@ for word; do [ "$last" = -o ] && made=$word; last=$word; done
 """
 
 
-class Test(unittest.TestCase):
-    """A test with a folder."""
-
-    def setUp(self):
-        held = tempfile.TemporaryDirectory()
-        self.addCleanup(held.cleanup)
-        self.folder = held.name
+class Test(support.Test):
+    """A test that runs programs."""
 
     def succeeds(self, *words, **named):
         """Runs a program, whose status is 0, and returns what it prints."""
@@ -92,7 +86,6 @@ class Build(Test):
     """build_package.py, in copies of the repository."""
 
     def setUp(self):
-        super().setUp()
         if support.cannot_build():
             self.skipTest(support.cannot_build())
 
@@ -128,6 +121,13 @@ class Build(Test):
         self.assertIsNone(why)
         return os.path.join(self.folder, printed.splitlines()[-1])
 
+    def files_of(self, **words):
+        """The files of a new wheel, by their names, and the words or the text that the fake compiler has written."""
+        with zipfile.ZipFile(self.made(**words)) as wheel:
+            found = {name: wheel.read(name) for name in wheel.namelist()}
+        return found, next(text for name, text in found.items() if name.startswith("vulfsjor/_library.")
+                           and not name.endswith(".pyi"))
+
     def refused(self, folder=os.path.join(TOP, "python"), prefix="", **environment):
         """Why a build is refused, with lines of Python before it. It prints nothing else."""
         printed, why = self.build("wheel", folder, environment, prefix)
@@ -154,9 +154,7 @@ class Build(Test):
                             {"_PYTHON_HOST_PLATFORM": "freebsd-14.0-release-amd64"},
                             {"_PYTHON_HOST_PLATFORM": "linux-x86_64", "VULFSJOR_PORTABLE": "1"},
                             {"_PYTHON_HOST_PLATFORM": "linux-x86_64", "prefix": "sys.maxsize = 2**31 - 1"}):
-            with zipfile.ZipFile(self.made(CC=fake, **environment)) as wheel:
-                names = [name for name in wheel.namelist() if name.startswith("vulfsjor/_library")]
-                words = wheel.read(names[0]).decode().splitlines()
+            words = self.files_of(CC=fake, **environment)[1].decode().splitlines()
             self.assertEqual([word for word in words if word.endswith((".c", ".s"))],
                              ["src/library.c", "src/by_threads.c", "src/trees.c", "src/xof.c", "src/portable.c"])
         with zipfile.ZipFile(self.made(VULFSJOR_PORTABLE="1", CFLAGS="-O0")) as wheel:
@@ -168,18 +166,18 @@ class Build(Test):
                          hashlib.blake2b(b"abc", key=b"k").hexdigest())
 
     def test_what_is_missing(self):
-        said = "build_package.py: there is no C compiler{}: install GCC{}, or set CC"
-        self.assertEqual(self.refused(PATH=""), said.format("", " or Clang"))
-        self.assertEqual(self.refused(CC="absent -x"), said.format(" absent -x", " or Clang"))
-        self.assertEqual(self.refused(PATH="", _PYTHON_HOST_PLATFORM="win-amd64"), said.format("", " of MinGW-w64"))
-        self.assertEqual(self.refused(CC=self.fake("CL.exe"), _PYTHON_HOST_PLATFORM="win-amd64"), "build_package.py: "
-                         "MSVC cannot assemble the code of vulfsjor: set CC to the GCC of MinGW-w64")
-        self.assertEqual(self.refused(CC="false"), "build_package.py: the compiler failed")
-        self.assertEqual(self.refused(prefix="sysconfig.get_path = lambda name: '/absent'", CC="false"),
-                         "build_package.py: the compiler failed: Python.h is missing; install the headers, such as "
-                         "Debian's python3-dev")
-        self.assertEqual(self.refused(prefix="sys.version_info = (3, 10, 9)"),
-                         "build_package.py: vulfsjor needs CPython 3.11 or later")
+        none = "there is no C compiler{}: install GCC{}, or set CC"
+        for said, environment in (
+                (none.format("", " or Clang"), {"PATH": ""}),
+                (none.format(" absent -x", " or Clang"), {"CC": "absent -x"}),
+                (none.format("", " of MinGW-w64"), {"PATH": "", "_PYTHON_HOST_PLATFORM": "win-amd64"}),
+                ("MSVC cannot assemble the code of vulfsjor: set CC to the GCC of MinGW-w64",
+                 {"CC": self.fake("CL.exe"), "_PYTHON_HOST_PLATFORM": "win-amd64"}),
+                ("the compiler failed", {"CC": "false"}),
+                ("the compiler failed: Python.h is missing; install the headers, such as Debian's python3-dev",
+                 {"CC": "false", "prefix": "sysconfig.get_path = lambda name: '/absent'"}),
+                ("vulfsjor needs CPython 3.11 or later", {"prefix": "sys.version_info = (3, 10, 9)"})):
+            self.assertEqual(self.refused(**environment), f"build_package.py: {said}")
         for arguments in (["wheel"], ["egg", self.folder], ["wheel", self.folder, "more"]):
             self.assertEqual(self.refused(prefix=f"sys.argv[1:] = {arguments}"),
                              "usage: build_package.py wheel|sdist FOLDER")
@@ -191,9 +189,8 @@ class Build(Test):
         for name in names:
             self.fake(os.path.join(folder, name), f"echo {name}")
         for name in names:
-            wheel = self.made(CC="", PATH=folder, prefix="sysconfig.get_config_var = {'CC': 'own -x'}.get")
-            with zipfile.ZipFile(wheel) as file:
-                self.assertEqual(file.read("vulfsjor/_library.abi3.so"), f"{name}\n".encode())
+            _, text = self.files_of(CC="", PATH=folder, prefix="sysconfig.get_config_var = {'CC': 'own -x'}.get")
+            self.assertEqual(text, f"{name}\n".encode())
             os.remove(os.path.join(folder, name))
 
     def test_a_python_without_the_gil(self):
@@ -205,8 +202,7 @@ class Build(Test):
         self.assertEqual(os.path.basename(wheel), f"vulfsjor-{VERSION}-{version}-{version}t-a_platform_5.whl")
         with zipfile.ZipFile(wheel) as file:
             words = file.read("vulfsjor/_library.own.so").decode().splitlines()
-            self.assertIn(f"\nTag: {version}-{version}t-a_platform_5\n",
-                          file.read(f"{ABOUT}/WHEEL").decode())
+            self.assertIn(f"\nTag: {version}-{version}t-a_platform_5\n", file.read(f"{ABOUT}/WHEEL").decode())
         self.assertIn("-DPy_GIL_DISABLED=1", words)
 
     def test_the_words_of_a_platform(self):
@@ -225,13 +221,11 @@ class Build(Test):
                 end = "pyd" if options == windows else "abi3.so"
                 words = file.read(f"vulfsjor/_library.{end}").decode().splitlines()
             platform_name = re.sub("[-.]", "_", name)
-            self.assertEqual(os.path.basename(wheel),
-                             f"vulfsjor-{VERSION}-cp311-abi3-{platform_name}.whl")
+            self.assertEqual(os.path.basename(wheel), f"vulfsjor-{VERSION}-cp311-abi3-{platform_name}.whl")
             self.assertEqual([word for word in words if word.endswith((".c", ".s", ".S"))],
                              ["src/library.c", "src/by_threads.c", "src/trees.c", "src/xof.c", "src/choose.c",
                               "src/vulfsjor.s"])
-            self.assertEqual((words[0], words[-1]),
-                             ("-x", "-lpython3" if options == windows else "-lz"))
+            self.assertEqual((words[0], words[-1]), ("-x", "-lpython3" if options == windows else "-lz"))
             self.assertEqual(words[words.index("-g"):words.index("-o")], ["-g", "-D A", *options.split()])
             self.assertIn(f"-I{sysconfig.get_path('include')}", words)
 
@@ -242,9 +236,7 @@ class Build(Test):
                 ("linux-x86_64", "x86_64/elf", ["x86_64/vulfsjor-v2", "x86_64/vulfsjor-v3", "x86_64/vulfsjor-v4"]),
                 ("macosx-11.0-arm64", "aarch64/macho", ["aarch64/vulfsjor"]),
                 ("win-arm64", "aarch64/coff", ["aarch64/vulfsjor"])):
-            wheel = self.made(CC=keep, _PYTHON_HOST_PLATFORM=name)
-            with zipfile.ZipFile(wheel) as file:
-                text = file.read(f"vulfsjor/_library.{'pyd' if 'win' in name else 'abi3.so'}")
+            _, text = self.files_of(CC=keep, _PYTHON_HOST_PLATFORM=name)
             head, *parts = (pathlib.Path(TOP, "dist", it).read_bytes()
                             for it in (f"{macros}.inc", *(f"{it}.s" for it in texts)))
             self.assertTrue(text == b"".join([head, b"\tvj_marks\n", *parts]), name)
@@ -429,8 +421,7 @@ class Build(Test):
         with open(path, "rb") as file:
             self.assertEqual(struct.unpack("<H", file.read(20)[18:]), (183,))  # EM_AARCH64
         names = self.succeeds("aarch64-linux-gnu-nm", "-D", path).split("\n")
-        self.assertEqual([name.split()[-1] for name in names if " T " in name],
-                         ["PyInit__library"])
+        self.assertEqual([name.split()[-1] for name in names if " T " in name], ["PyInit__library"])
         unmet = [name.split()[-1] for name in names if " U " in name]
         self.assertEqual([name for name in unmet if "blake2" in name or "vulfsjor" in name], [])
         self.assertIn("PyModuleDef_Init", unmet)
@@ -451,17 +442,14 @@ class Processors(Test):
             program = f"import sys\nsys.path.insert(0, {FOLDER!r})\nimport vulfsjor"
             return run("qemu-x86_64", "-cpu", processor, sys.executable, "-S", "-E", "-c", program)
 
-        features = ("sse3", "ssse3", "cx16", "sse4.2", "popcnt", "lahf-lm")
-        below = ["core2duo"]
-        if HUGE:
-            below += ["Nehalem,-sse4.1", *(f"Haswell,-{feature}" for feature in features)]
+        features = ("sse3", "ssse3", "cx16", "sse4.2", "popcnt", "lahf-lm") if HUGE else ()
+        below = ["core2duo", *["Nehalem,-sse4.1"] * HUGE, *(f"Haswell,-{feature}" for feature in features)]
         with concurrent.futures.ThreadPoolExecutor(os.cpu_count()) as pool:
             done = dict(zip(below, pool.map(said, below)))
         for name, each in done.items():
             self.assertEqual(each.returncode, 1, (name, each.stdout))
-            self.assertEqual(
-                each.stdout.splitlines()[-1],
-                "ImportError: vulfsjor needs a processor of x86-64-v2, with SSE4.2 and POPCNT")
+            self.assertEqual(each.stdout.splitlines()[-1],
+                             "ImportError: vulfsjor needs a processor of x86-64-v2, with SSE4.2 and POPCNT")
         self.assertEqual(said("Nehalem").returncode, 0)
 
 

@@ -2,7 +2,7 @@
 
 Of every call it also tests: the bytes of the arguments, of several types, are unchanged, and no view of them is kept; a
 digest has the same digits, again and of a copy; a hash in one call is that of an object in pieces, and under a key that
-of the MAC; the root of a tree is the same by threads.
+of the MAC, which accepts only this tag and goes on; the root of a tree is the same by threads.
 """
 import array
 import hmac
@@ -184,8 +184,20 @@ class Driver:
             hasher.update(data[start:start + max(1, len(data) // 3)])
         assert value == (hasher.digest(given["length"]) if "x" in name else hasher.digest()), "another digest in pieces"
         if "key" in given and "x" not in name and set(given) <= {"key", "digest_size", "salt", "person"}:
-            assert value == getattr(vulfsjor, f"{name}_mac")(data=data, **given).digest(), "another tag"
+            mac = getattr(vulfsjor, f"{name}_mac")(data=data, **given)
+            assert mac.verify(value) is None
+            self.refuses_tags(mac, value[:-1] + bytes([value[-1] ^ 1]), value[:-1], value + b"\0")
+            assert value == mac.digest() == mac.copy().digest() and len(value) == mac.digest_size, "another tag"
         return value
+
+    @staticmethod
+    def refuses_tags(mac, *tags):
+        for tag in tags:
+            try:
+                mac.verify(tag)
+            except vulfsjor.InvalidTag:
+                continue
+            raise AssertionError(f"{tag.hex()} is accepted")
 
     def many(self, name, *messages, **words):
         given = self.arguments(name, words)

@@ -1,18 +1,16 @@
 """Tests of file_digest next to hashlib.file_digest: files of every kind, its parameters, and what is refused."""
+import concurrent.futures
 import functools
 import hashlib
 import io
 import os
 import random
 import socket
-import sys
-import tempfile
 import threading
-import time
 import unittest
 from unittest import mock
 
-from support import WITHOUT_GIL
+from support import Test
 from test_parallel import parallel
 import oracle
 import vulfsjor
@@ -45,15 +43,11 @@ class File(io.RawIOBase):
         return len(read)
 
 
-class Digests(unittest.TestCase):
+class Digests(Test):
     """Which bytes are hashed."""
 
-    def setUp(self):
-        held = tempfile.TemporaryDirectory()
-        self.addCleanup(held.cleanup)
-        self.path = os.path.join(held.name, "file")
-
     def write(self, data):
+        self.path = os.path.join(self.folder, "file")
         with open(self.path, "wb") as file:
             file.write(data)
 
@@ -63,15 +57,12 @@ class Digests(unittest.TestCase):
             data = DICE.randbytes(length)
             self.write(data)
             for name, wanted in NAMED.items():
-                for buffering in (0, -1):
+                for buffering, digest in ((0, name), (-1, getattr(vulfsjor, name))):
                     with open(self.path, "rb", buffering) as file:
-                        found = vulfsjor.file_digest(file, name)
+                        found = vulfsjor.file_digest(file, digest)
                         self.assertEqual((found.digest(), file.tell()), (wanted(data).digest(), length))
                         self.assertIs(type(found), getattr(vulfsjor, name))
                         self.assertEqual(file.read(), b"")
-                    with open(self.path, "rb", buffering) as file:
-                        found = vulfsjor.file_digest(file, getattr(vulfsjor, name))
-                        self.assertEqual(found.digest(), wanted(data).digest())
 
     def test_parameters(self):
         data = DICE.randbytes(1000)
@@ -136,7 +127,7 @@ class Digests(unittest.TestCase):
             thread.join()
 
 
-class Refusals(unittest.TestCase):
+class Refusals(Test):
     """What is refused, as by hashlib.file_digest where that refuses it too."""
 
     def outcome(self, call, *given, **words):
@@ -146,21 +137,14 @@ class Refusals(unittest.TestCase):
             return type(error), str(error).partition(" at 0x")[0]
 
     def test_files(self):
-        with tempfile.TemporaryDirectory() as folder:
-            path = os.path.join(folder, "file")
-            with open(path, "w", encoding="utf-8") as text, open(path + "2", "wb") as written:
-                for file in (path, None, 5, b"abc", bytearray(), [b"x"], text, written, io.StringIO("x"),
-                             io.BufferedWriter(written.raw)):
-                    ours, theirs = (self.outcome(module.file_digest, file, "blake2b") for module in (vulfsjor, hashlib))
-                    self.assertEqual(ours, theirs, file)
-                    self.assertIs(ours[0], ValueError)
-                    self.assertRegex(ours[1], "is not a file-like object in binary reading mode|^'<")
-            with open(path, encoding="utf-8") as text, open(path, "rb") as closed:
-                closed.close()
-                for file in (text, closed):
-                    self.assertEqual(*(self.outcome(module.file_digest, file, "blake2b")
-                                       for module in (vulfsjor, hashlib)))
-                    self.assertRaises(ValueError, vulfsjor.file_digest, file, "blake2b")
+        path = os.path.join(self.folder, "file")
+        with open(path, "w", encoding="utf-8") as text, open(path + "2", "wb") as written, \
+                open(path, encoding="utf-8") as read, open(path, "rb") as closed:
+            closed.close()
+            for file in (path, None, 5, b"abc", bytearray(), [b"x"], text, written, io.StringIO("x"), read, closed):
+                ours, theirs = (self.outcome(module.file_digest, file, "blake2b") for module in (vulfsjor, hashlib))
+                self.assertEqual(ours, theirs, file)
+                self.assertIs(ours[0], ValueError)
         held = io.BytesIO(b"x")
         held.close()
         self.assertRaises(ValueError, vulfsjor.file_digest, held, "blake2b")
@@ -206,45 +190,17 @@ class Refusals(unittest.TestCase):
 
 
 class Threads(unittest.TestCase):
-    """Other threads run while a file is hashed, and several are hashed at a time."""
-
-    @unittest.skipIf(WITHOUT_GIL, "no GIL")
-    def test_others_run(self):
-        """Threads switch only when one lets go of the GIL."""
-        self.addCleanup(sys.setswitchinterval, sys.getswitchinterval())
-        sys.setswitchinterval(1000)
-        turns, ended = [], threading.Event()
-
-        def count():
-            while not ended.is_set():
-                turns.append(1)
-                time.sleep(0)
-
-        other = threading.Thread(target=count)
-        other.start()
-        data, end = io.BytesIO(bytes(1 << 26)), time.monotonic() + 20
-        before = len(turns)
-        while len(turns) < before + 5 and time.monotonic() < end:
-            vulfsjor.file_digest(data, "blake2b")
-        found = len(turns)
-        ended.set()
-        other.join()
-        self.assertGreater(found, before)
+    """Several files are hashed at a time. test_threads.py sees that others run meanwhile."""
 
     def test_several_at_a_time(self):
         datas = [DICE.randbytes(500_000 + i) for i in range(6)]
-        found = [None] * 6
 
-        def work(place):
-            found[place] = vulfsjor.file_digest(File(*(datas[place][at:at + 7000] for at in range(0, 600_000, 7000))),
-                                                "blake2b").digest()
+        def digest_of(data):
+            file = File(*(data[at:at + 7000] for at in range(0, 600_000, 7000)))
+            return vulfsjor.file_digest(file, "blake2b").digest()
 
-        threads = [threading.Thread(target=work, args=(place,)) for place in range(6)]
-        for thread in threads:
-            thread.start()
-        for thread in threads:
-            thread.join()
-        self.assertEqual(found, [hashlib.blake2b(data).digest() for data in datas])
+        with concurrent.futures.ThreadPoolExecutor(6) as pool:
+            self.assertEqual(list(pool.map(digest_of, datas)), [hashlib.blake2b(data).digest() for data in datas])
 
     def test_memory(self):
         """One buffer, whatever the length of the file is."""

@@ -10,7 +10,7 @@ import tempfile
 import unittest
 from functools import partial
 
-from support import long
+from support import Test, long
 from test_parallel import parallel
 import oracle
 import vulfsjor
@@ -32,7 +32,7 @@ def mapping(length=LENGTH):
     return data
 
 
-class Cheap(unittest.TestCase):
+class Cheap(Test):
     """Calls that do not read all their bytes."""
 
     def test_arguments_are_refused(self):
@@ -64,31 +64,27 @@ class Cheap(unittest.TestCase):
         data, hasher = mapping(2**32 + 64), vulfsjor.TreeHasher(3 * MIB)
         view = memoryview(data)
         for part in (view, view[:2**32]):
-            with self.assertRaisesRegex(ValueError, "^data must be whole leaves, at least one$"):
-                hasher.leaves_ahead(part)
-            with self.assertRaisesRegex(ValueError, "^data must be whole leaves, unless it ends"):
-                vulfsjor.tree_leaves(part, 3 * MIB, first=0, ends=False)
+            self.refuses(ValueError, "data must be whole leaves, at least one", hasher.leaves_ahead, part)
+            self.refuses(ValueError, "data must be whole leaves, unless it ends the message", vulfsjor.tree_leaves,
+                         part, 3 * MIB, first=0, ends=False)
         for length in (2**32 + 1, 2**32 + 32, 2**32 + 63):
-            with self.assertRaisesRegex(ValueError, "^digests must have 64 bytes for each leaf, "):
-                vulfsjor.tree_root_of_leaves(view[:length], 1)
-            with self.assertRaisesRegex(ValueError, "^digests must have 64 bytes for each leaf$"):
-                hasher.update_leaves(view[:length], b"x")
-        with self.assertRaisesRegex(ValueError, "^data must follow the digests, "):
-            hasher.update_leaves(data, b"")
+            self.refuses(ValueError, "digests must have 64 bytes for each leaf, and at least one leaf",
+                         vulfsjor.tree_root_of_leaves, view[:length], 1)
+            self.refuses(ValueError, "digests must have 64 bytes for each leaf", hasher.update_leaves, view[:length],
+                         b"x")
+        self.refuses(ValueError, "data must follow the digests, at least one byte of it", hasher.update_leaves, data,
+                     b"")
         hasher.update(b"x")
-        with self.assertRaisesRegex(ValueError, "^the hasher is not at a leaf boundary$"):
-            hasher.update_leaves(data, b"x")
-        with self.assertRaisesRegex(ValueError, r"^the data ends at 2\^58 bytes or more of the message$"):
-            vulfsjor.tree_leaves(data, 1 << 31, first=2**27 - 1, ends=True)
+        self.refuses(ValueError, "the hasher is not at a leaf boundary", hasher.update_leaves, data, b"x")
+        self.refuses(ValueError, "the data ends at 2^58 bytes or more of the message", vulfsjor.tree_leaves, data,
+                     1 << 31, first=2**27 - 1, ends=True)
         self.assertEqual(hasher.digest(), oracle.tree_root(b"x", 3 * MIB))
 
     def test_lengths_that_no_memory_has(self):
         """Of buffers of which no byte is read."""
         data = (ctypes.c_char * 2**58).from_address(id(self))
-        with self.assertRaisesRegex(OverflowError, r"^2\^58 bytes or more$"):
-            vulfsjor.tree_root(data, 1 << 31)
-        with self.assertRaisesRegex(OverflowError, r"^2\^58 bytes or more$"):
-            vulfsjor.TreeHasher(1 << 31).update(data)
+        self.refuses(OverflowError, "2^58 bytes or more", vulfsjor.tree_root, data, 1 << 31)
+        self.refuses(OverflowError, "2^58 bytes or more", vulfsjor.TreeHasher(1 << 31).update, data)
         data = (ctypes.c_char * 2**57).from_address(id(self))
         self.assertRaises(MemoryError, vulfsjor.tree_leaves, data, 1, first=0, ends=True)
         self.assertRaises(MemoryError, vulfsjor.TreeHasher(1).leaves_ahead, data)
@@ -100,8 +96,7 @@ def tree(data, leaf_size):
     leaves = [view[at:at + leaf_size] for at in range(0, len(view), leaf_size)]
     with concurrent.futures.ThreadPoolExecutor(4) as pool:
         return b"".join(pool.map(
-            lambda each: oracle.range_digests(each[1], leaf_size, each[0],
-                                              each[0] == len(leaves) - 1, **TEXTS),
+            lambda each: oracle.range_digests(each[1], leaf_size, each[0], each[0] == len(leaves) - 1, **TEXTS),
             enumerate(leaves)))
 
 
@@ -160,11 +155,9 @@ class Slow(unittest.TestCase):
                 return vulfsjor.tree_root_of_leaves(vulfsjor.tree_leaves(
                     data, leaf_size, first=0, ends=True, **TEXTS), leaf_size, **TEXTS)
 
-            calls = [lambda: pieces(3, head=77),
-                     lambda: vulfsjor.tree_root(data, leaf_size, threads=3, **TEXTS)]
+            calls = [lambda: pieces(3, head=77), lambda: vulfsjor.tree_root(data, leaf_size, threads=3, **TEXTS)]
             if leaf_size == max(LEAVES):
-                calls += [parts, leaves, lambda: pieces(1),
-                          lambda: vulfsjor.tree_root(data, leaf_size, **TEXTS)]
+                calls += [parts, leaves, lambda: pieces(1), lambda: vulfsjor.tree_root(data, leaf_size, **TEXTS)]
             self.are_equal(lambda: root, *calls)
             with tempfile.NamedTemporaryFile() as file:
                 os.truncate(file.fileno(), LENGTH)

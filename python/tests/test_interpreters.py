@@ -61,8 +61,7 @@ class Interpreters(unittest.TestCase):
                 for file in ("test_against_hashlib.py", "test_conformance.py", "test_mac.py", "test_parallel.py",
                              "test_tree_*.py"):
                     with self.subTest(python=python, file=file):
-                        self.succeeds(python, "-m", "unittest", "discover", HERE, file,
-                                      VULFSJOR_PACKAGE=FOLDER)
+                        self.succeeds(python, "-m", "unittest", "discover", HERE, file, VULFSJOR_PACKAGE=FOLDER)
 
     def test_without_the_gil(self):
         """The module is built for that Python, leaves the GIL off, and passes the tests."""
@@ -79,8 +78,7 @@ class Interpreters(unittest.TestCase):
                 self.succeeds(python, os.path.join(HERE, "in_subinterpreters.py"), folder)
                 for file in ("test_against_hashlib.py", "test_api.py", "test_conformance.py", "test_mac.py",
                              "test_parallel.py", "test_threads.py", "test_tree_*.py"):
-                    self.succeeds(python, "-m", "unittest", "discover", HERE, file,
-                                  VULFSJOR_PACKAGE=folder)
+                    self.succeeds(python, "-m", "unittest", "discover", HERE, file, VULFSJOR_PACKAGE=folder)
 
 
 if __name__ == "__main__":

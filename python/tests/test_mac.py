@@ -1,5 +1,6 @@
 """Tests of message authentication codes: blake2b_mac and its three kin, verify, and programs that check a tag
-in a wrong way, which must not accept a forgery."""
+in a wrong way, which must not accept a forgery. test_conformance.py has right tags, and wrong ones of each length."""
+import concurrent.futures
 import copy
 import functools
 import gc
@@ -8,8 +9,8 @@ import hmac
 import inspect
 import io
 import json
+import os
 import pickle
-import textwrap
 import unittest
 
 from test_parallel import parallel
@@ -48,19 +49,6 @@ class Verify(unittest.TestCase):
             yield make_mac(words["key"], message, **{name: word for name, word in words.items()
                                                      if name != "key"}), tag
 
-    def test_every_size_and_every_bit(self):
-        for _, make, make_mac, theirs, longest, _ in FAMILIES:
-            for size in range(1, longest + 1):
-                tag = theirs(MESSAGE, key=KEY, digest_size=size).digest()
-                for mac in (make(MESSAGE, key=KEY, digest_size=size),
-                            make_mac(KEY, MESSAGE, digest_size=size)):
-                    self.accepts(mac, tag)
-                    for bit in range(8 * size):
-                        self.refuses(mac, (int.from_bytes(tag, "big") ^ 1 << bit).to_bytes(size, "big"))
-                    for other in (tag[:-1], tag + b"\0", b"", tag + tag, tag[1:]):
-                        self.refuses(mac, other)
-        self.assertGreater(self.checked, 50_000)
-
     def test_it_does_not_end_the_run(self):
         for (mac, tag), (_, longer) in zip(self.both(b"a", key=KEY), self.both(b"ab", key=KEY)):
             self.accepts(mac, tag)
@@ -87,8 +75,7 @@ class Verify(unittest.TestCase):
     def test_a_hash_without_a_key_is_refused(self):
         """Whatever the tag is, and its type."""
         for _, make, *_ in FAMILIES:
-            for plain in (make(MESSAGE), make(MESSAGE, key=b""), make(MESSAGE, salt=b"s"),
-                          make(MESSAGE).copy()):
+            for plain in (make(MESSAGE), make(MESSAGE, key=b""), make(MESSAGE, salt=b"s"), make(MESSAGE).copy()):
                 for tag in (plain.digest(), b"", b"wrong", "text", None):
                     with self.assertRaises(ValueError) as caught:
                         plain.verify(tag)
@@ -120,8 +107,7 @@ class Macs(unittest.TestCase):
     def test_fields(self):
         for name, make, make_mac, _, longest, salt in FAMILIES:
             mac, plain = make_mac(KEY, digest_size=5), make()
-            self.assertEqual((mac.name, mac.block_size, mac.digest_size),
-                             (f"{name}_mac", plain.block_size, 5))
+            self.assertEqual((mac.name, mac.block_size, mac.digest_size), (f"{name}_mac", plain.block_size, 5))
             self.assertEqual((make_mac(KEY).digest_size, plain.name), (longest, name))
             self.assertIs(type(mac.copy()), make_mac)
             self.assertEqual((make_mac.MAX_KEY_SIZE, make_mac.MAX_DIGEST_SIZE, make_mac.SALT_SIZE,
@@ -143,8 +129,7 @@ class Macs(unittest.TestCase):
                     make_mac(key, b"data")
             make_mac(bytes(longest)), make_mac(b"k")
             for size in (0, -1, longest + 1, 2**31, 2**32 + 16, 2**64 + 16, -(2**32) + 16, -(2**70)):
-                with self.assertRaisesRegex(
-                        ValueError, f"^digest_size must be between 1 and {longest} bytes$"):
+                with self.assertRaisesRegex(ValueError, f"^digest_size must be between 1 and {longest} bytes$"):
                     make_mac(KEY, digest_size=size)
             for text in ("salt", "person"):
                 make_mac(KEY, **{text: bytes(salt)})
@@ -192,119 +177,59 @@ class Macs(unittest.TestCase):
             self.assertEqual(gc.get_referents(mac), [])
 
 
-# Programs that look right, and check a tag wrongly. `request` has a message and a forged tag.
+BODY, FORGED = b"user=admin", bytes(32)
+TAG = hashlib.blake2b(BODY, key=KEY, digest_size=32).digest()
+UNKEYED = hashlib.blake2b(BODY).digest()
+ABSENT = os.environb.get(b"A_KEY_THAT_IS_NOT_SET", b"")
+
+
+def mac_of_body():
+    return vulfsjor.blake2b_mac(KEY, BODY, digest_size=32)
+
+
+# Checks that look right and do not hold. Each has to raise: a program that drops the result, asks for its truth or
+# compares it goes on otherwise.
 WRONG = {
-    "a check whose result is dropped": """
-        def load(key, body, tag):
-            vulfsjor.blake2b(body, key=key, digest_size=32).verify(tag)
-            return body
-        accepted = load(KEY, BODY, FORGED)""",
-    "the same, of a MAC": """
-        vulfsjor.blake2s_mac(KEY, BODY).verify(FORGED)
-        accepted = BODY""",
-    "a check that is asked for its truth": """
-        if vulfsjor.blake2b_mac(KEY, BODY, digest_size=32).verify(FORGED):
-            accepted = BODY""",
-    "a check that is compared with False": """
-        if vulfsjor.blake2bp(BODY, key=KEY).verify(FORGED) is not False:
-            accepted = BODY""",
-    "a check in a list": """
-        if False not in [vulfsjor.blake2sp(BODY, key=KEY).verify(tag) for tag in (FORGED,)]:
-            accepted = BODY""",
-    "a check in another thread": """
-        from concurrent.futures import ThreadPoolExecutor
-        with ThreadPoolExecutor() as pool:
-            list(pool.map(vulfsjor.blake2b(BODY, key=KEY).verify, [FORGED]))
-        accepted = BODY""",
-    "a key that the environment has not": """
-        import os
-        key = os.environb.get(b"A_KEY_THAT_IS_NOT_SET", b"")
-        vulfsjor.blake2b(BODY, key=key).verify(hashlib.blake2b(BODY).digest())
-        accepted = BODY""",
-    "the same, of a MAC with that key": """
-        import os
-        key = os.environb.get(b"A_KEY_THAT_IS_NOT_SET", b"")
-        vulfsjor.blake2b_mac(key, BODY).verify(hashlib.blake2b(BODY).digest())
-        accepted = BODY""",
-    "a key that was forgotten": """
-        vulfsjor.blake2s(BODY).verify(hashlib.blake2s(BODY).digest())
-        accepted = BODY""",
-    "an empty slice of a key": """
-        mac = vulfsjor.blake2sp(key=KEY[32:])
-        mac.update(BODY)
-        mac.verify(mac.digest())
-        accepted = BODY""",
-    "a beginning of a tag": """
-        vulfsjor.blake2b_mac(KEY, BODY, digest_size=32).verify(TAG[:1])
-        accepted = BODY""",
-    "a tag that was not sent": """
-        vulfsjor.blake2b_mac(KEY, BODY, digest_size=32).verify(b"")
-        accepted = BODY""",
-    "hexadecimal digits": """
-        vulfsjor.blake2b_mac(KEY, BODY, digest_size=32).verify(TAG.hex())
-        accepted = BODY""",
-    "the MAC itself": """
-        mac = vulfsjor.blake2b_mac(KEY, BODY, digest_size=32)
-        mac.verify(mac)
-        accepted = BODY""",
-    "a key that file_digest does not get": """
-        import io
-        vulfsjor.file_digest(io.BytesIO(BODY), vulfsjor.blake2b).verify(hashlib.blake2b(BODY).digest())
-        accepted = BODY""",
-    "a tag of one byte, for a flag": """
-        is_short = 32 == 32
-        if vulfsjor.blake2b_mac(KEY, BODY, digest_size=is_short or 64).digest() == TAG[:1]:
-            accepted = BODY""",
-    "a check by each of two keys": """
-        if all(vulfsjor.blake2b_mac(key, BODY, digest_size=32).verify(FORGED) is None for key in (KEY, BODY)):
-            accepted = BODY""",
-    "a key and a message that are swapped, of text": """
-        vulfsjor.blake2b_mac("user=admin", KEY).verify(FORGED)
-        accepted = BODY""",
-    "the object of a hash in the place of its class": """
-        import io
-        vulfsjor.file_digest(io.BytesIO(BODY), vulfsjor.blake2b_mac(KEY)).verify(FORGED)
-        accepted = BODY""",
-    "a file that is open for text": """
-        import os
-        with open(os.devnull) as file:
-            vulfsjor.file_digest(file, vulfsjor.blake2b_mac, key=KEY).verify(FORGED)
-        accepted = BODY""",
-    "a key where file_digest has none": """
-        import io
-        vulfsjor.file_digest(io.BytesIO(BODY), vulfsjor.blake2b, KEY).verify(FORGED)
-        accepted = BODY""",
+    "a forgery": lambda: vulfsjor.blake2b(BODY, key=KEY, digest_size=32).verify(FORGED),
+    "the same, of each MAC": lambda: vulfsjor.blake2s_mac(KEY, BODY).verify(FORGED),
+    "of BLAKE2bp": lambda: vulfsjor.blake2bp(BODY, key=KEY).verify(FORGED),
+    "of BLAKE2sp": lambda: vulfsjor.blake2sp(BODY, key=KEY).verify(FORGED),
+    "a check in another thread": lambda: list(concurrent.futures.ThreadPoolExecutor(1).map(
+        mac_of_body().verify, [FORGED])),
+    "a key that the environment has not": lambda: vulfsjor.blake2b(BODY, key=ABSENT).verify(UNKEYED),
+    "the same, of a MAC with that key": lambda: vulfsjor.blake2b_mac(ABSENT, BODY).verify(UNKEYED),
+    "a key that was forgotten": lambda: vulfsjor.blake2s(BODY).verify(hashlib.blake2s(BODY).digest()),
+    "an empty slice of a key": lambda: vulfsjor.blake2sp(BODY, key=KEY[32:]).verify(vulfsjor.blake2sp(BODY).digest()),
+    "a beginning of a tag": lambda: mac_of_body().verify(TAG[:1]),
+    "a tag that was not sent": lambda: mac_of_body().verify(b""),
+    "hexadecimal digits": lambda: mac_of_body().verify(TAG.hex()),
+    "the MAC itself": lambda: mac_of_body().verify(mac_of_body()),
+    "a key that file_digest does not get":
+        lambda: vulfsjor.file_digest(io.BytesIO(BODY), vulfsjor.blake2b).verify(UNKEYED),
+    "a tag of one byte, for a flag": lambda: vulfsjor.blake2b_mac(KEY, BODY, digest_size=32 == 32),
+    "a check by each of two keys":
+        lambda: all(vulfsjor.blake2b_mac(key, BODY, digest_size=32).verify(FORGED) is None for key in (KEY, BODY)),
+    "a key and a message that are swapped, of text": lambda: vulfsjor.blake2b_mac("user=admin", KEY).verify(FORGED),
+    "the object of a hash in the place of its class":
+        lambda: vulfsjor.file_digest(io.BytesIO(BODY), vulfsjor.blake2b_mac(KEY)).verify(FORGED),
+    "a file that is open for text": lambda: vulfsjor.file_digest(io.StringIO("text"), vulfsjor.blake2b_mac, key=KEY),
+    "a key where file_digest has none":
+        lambda: vulfsjor.file_digest(io.BytesIO(BODY), vulfsjor.blake2b, KEY).verify(FORGED),
 }
-RIGHT = """
-    vulfsjor.blake2b(BODY, key=KEY, digest_size=32).verify(TAG)
-    vulfsjor.blake2b_mac(KEY, BODY, digest_size=32).verify(TAG)
-    accepted = BODY"""
 
 
 class Programs(unittest.TestCase):
     """Programs that accept a message."""
 
-    def run_program(self, text, names):
-        """Runs a program with these names."""
-        body = b"user=admin"
-        names |= {"vulfsjor": vulfsjor, "hashlib": hashlib, "KEY": KEY, "BODY": body, "FORGED": bytes(32),
-                  "TAG": hashlib.blake2b(body, key=KEY, digest_size=32).digest()}
-        exec(textwrap.dedent(text), names)
-
-    def test_the_right_one(self):
-        names = {}
-        self.run_program(RIGHT, names)
-        self.assertEqual(names["accepted"], b"user=admin")
+    def test_right_ones(self):
+        for make in (lambda: vulfsjor.blake2b(BODY, key=KEY, digest_size=32), mac_of_body):
+            self.assertIsNone(make().verify(TAG))
 
     def test_wrong_ones(self):
-        """Each ends with an exception, and before it accepts."""
-        for name, text in WRONG.items():
-            with self.subTest(name):
-                names = {}
-                with self.assertRaises((ValueError, TypeError)) as caught:
-                    self.run_program(text, names)
-                self.assertIn(type(caught.exception), (vulfsjor.InvalidTag, ValueError, TypeError))
-                self.assertNotIn("accepted", names)
+        for name, check in WRONG.items():
+            with self.subTest(name), self.assertRaises((ValueError, TypeError)) as caught:
+                check()
+            self.assertIn(type(caught.exception), (vulfsjor.InvalidTag, ValueError, TypeError))
 
 
 if __name__ == "__main__":

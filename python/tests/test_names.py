@@ -1,5 +1,6 @@
 """Tests of the names of the package: its versions, numbers, signatures, stubs and examples."""
 import ast
+import contextlib
 import doctest
 import inspect
 import os
@@ -61,9 +62,7 @@ class Words(unittest.TestCase):
                       for each in inspect.signature(theirs).parameters.values()
                       if each.name != "string"]
             self.assertEqual(list(inspect.signature(make).parameters.values()), wanted)
-            self.assertEqual(
-                (make.__module__, make.__name__, make().name), ("vulfsjor", name, name)
-            )
+            self.assertEqual((make.__module__, make.__name__, make().name), ("vulfsjor", name, name))
             for method in ("copy", "digest", "hexdigest", "update"):
                 signature = inspect.signature(getattr(make, method))
                 self.assertEqual(signature, inspect.signature(getattr(theirs, method)))
@@ -92,10 +91,8 @@ class Words(unittest.TestCase):
         for name in vulfsjor.__all__:
             thing = getattr(vulfsjor, name)
             self.assertTrue(thing.__doc__)
-            for member in (
-                name for name in dir(thing) if inspect.isclass(thing) and name.islower()
-            ):
-                if not member.startswith("_") and member not in dir(ValueError):
+            for member in dir(thing) if inspect.isclass(thing) else ():
+                if member.islower() and not member.startswith("_") and member not in dir(ValueError):
                     self.assertTrue(getattr(thing, member).__doc__, member)
 
     def stub(self):
@@ -111,13 +108,8 @@ class Words(unittest.TestCase):
                 declared.add(node.name)
                 if node.name == "InvalidTag":
                     continue
-                members = {
-                    part.target.id if isinstance(part, ast.AnnAssign) else part.name
-                    for part in node.body
-                }
-                there = {
-                    name for name in dir(getattr(vulfsjor, node.name)) if not name.startswith("_")
-                }
+                members = {part.target.id if isinstance(part, ast.AnnAssign) else part.name for part in node.body}
+                there = {name for name in dir(getattr(vulfsjor, node.name)) if not name.startswith("_")}
                 self.assertEqual(members - {"_root_of_file"}, there | {"__new__"})
                 for part in node.body:
                     if isinstance(part, ast.FunctionDef) and not part.decorator_list:
@@ -127,11 +119,7 @@ class Words(unittest.TestCase):
                 self.same_signature(node, vulfsjor._library, node.name)
             elif isinstance(node, ast.AnnAssign):
                 declared.add(node.target.id)
-        there = {
-            name
-            for name in dir(vulfsjor._library)
-            if not name.startswith("_") or name == "__version__"
-        }
+        there = {name for name in dir(vulfsjor._library) if not name.startswith("_") or name == "__version__"}
         self.assertEqual(declared, there)
         self.assertEqual(set(vulfsjor.__all__) - declared, {"file_digest", "tree_root_file"})
         self.assertEqual(set(vulfsjor.__all__), {
@@ -139,40 +127,22 @@ class Words(unittest.TestCase):
 
     def same_signature(self, node, owner, name):
         """Compares the names, kinds and defaults of a function's arguments with the stub."""
-        theirs = inspect.signature(
-            owner if name == "__new__" else getattr(owner, name)
-        ).parameters.values()
-        mine, args = [], node.args
-        first = [arg.arg for arg in args.posonlyargs + args.args]
+        theirs = inspect.signature(owner if name == "__new__" else getattr(owner, name)).parameters.values()
+        args, empty = node.args, inspect.Parameter.empty
         plain = args.posonlyargs + args.args
-        defaults = [None] * (len(plain) - len(args.defaults)) + args.defaults
-        for arg, default in zip(plain, defaults):
-            mine.append((arg.arg, None if default is None else ast.literal_eval(default)))
-        for arg, default in zip(args.kwonlyargs, args.kw_defaults):
-            mine.append((arg.arg, None if default is None else ast.literal_eval(default)))
-        names = [parameter.name for parameter in theirs]
-        if first[0] == "cls" or first[0] == "self" and "self" not in names:
+        defaults = [None] * (len(plain) - len(args.defaults)) + args.defaults + args.kw_defaults
+        mine = [(arg.arg, None if default is None else ast.literal_eval(default))
+                for arg, default in zip(plain + args.kwonlyargs, defaults)]
+        if plain[0].arg == "cls" or plain[0].arg == "self" and "self" not in [each.name for each in theirs]:
             mine = mine[1:]
-        empty = inspect.Parameter.empty
-        self.assertEqual(
-            mine,
-            [
-                (parameter.name, None if parameter.default is empty else parameter.default)
-                for parameter in theirs
-            ],
-            name,
-        )
+        self.assertEqual(mine, [(each.name, None if each.default is empty else each.default) for each in theirs], name)
 
     def test_examples(self):
         failed, tried = doctest.testmod(vulfsjor, verbose=False)
         self.assertEqual((failed, tried > 4), (0, True))
-        here = os.getcwd()
-        with tempfile.TemporaryDirectory() as folder:
-            os.chdir(folder)
-            failed, tried = doctest.testfile(
-                os.path.join(HERE, "..", "README.md"), module_relative=False, verbose=False
-            )
-            os.chdir(here)
+        page = os.path.join(HERE, "..", "README.md")
+        with tempfile.TemporaryDirectory() as folder, contextlib.chdir(folder):
+            failed, tried = doctest.testfile(page, module_relative=False, verbose=False)
         self.assertEqual((failed, tried > 20), (0, True))
 
 

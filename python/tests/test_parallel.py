@@ -27,8 +27,7 @@ def parallel(name):
     return make
 
 
-FAMILIES = (("blake2bp", "blake2b", parallel("b"), 64, 128),
-            ("blake2sp", "blake2s", parallel("s"), 32, 64))
+FAMILIES = (("blake2bp", "blake2b", parallel("b"), 64, 128), ("blake2sp", "blake2s", parallel("s"), 32, 64))
 TEXTS = ("key", "salt", "person")
 
 

@@ -1,12 +1,13 @@
 """Tests of objects that threads share, and of the GIL: other threads run during long calls. test_tree_threads.py has
 trees by several threads."""
 import contextlib
+import io
 import sys
 import threading
 import time
 import unittest
 
-from support import WITHOUT_GIL
+from support import WITHOUT_GIL, by_threads
 from test_api import FAMILIES, OUTPUTS
 import oracle
 import vulfsjor
@@ -65,6 +66,7 @@ class Threads(unittest.TestCase):
         self.assert_lets_others_run(lambda: vulfsjor.derive_key(b"key", b"", 1 << 24))
         for call in (
             lambda: vulfsjor.derive_key(b"key", LONG, 9),
+            lambda: vulfsjor.file_digest(io.BytesIO(LONG), "blake2b"),
             lambda: vulfsjor.TreeHasher(4096).update_leaves(LONG, b"x"),
             lambda: vulfsjor.tree_root(LONG, 4096),
             lambda: vulfsjor.TreeHasher(4096).update(LONG),
@@ -79,14 +81,10 @@ class Threads(unittest.TestCase):
         tries: in a single try the update may not have started."""
         for _, make, theirs, _, _ in FAMILIES:
             wanted = theirs(LONG).digest()
-            for call in (
-                lambda hasher: hasher.copy().digest() == wanted,
-                lambda hasher: hasher.digest() == wanted,
-            ):
+            for call in (lambda hasher: hasher.copy().digest() == wanted, lambda hasher: hasher.digest() == wanted):
                 self.assertTrue(any(self.is_met(call, make()) for _ in range(100)))
             tag = make(LONG, key=b"key").digest()  # test_mac.py knows that it is right
-            self.assertTrue(any(self.is_met(lambda mac: accepts(mac, tag), make(key=b"key"))
-                                for _ in range(100)))
+            self.assertTrue(any(self.is_met(lambda mac: accepts(mac, tag), make(key=b"key")) for _ in range(100)))
         for _, make, _ in OUTPUTS:
             wanted = make(LONG).digest(9)
             for call in (lambda output: output.copy().digest(9) == wanted,
@@ -106,13 +104,10 @@ class Threads(unittest.TestCase):
     def test_short_ones_do_not(self):
         for _, make, _, _, _ in FAMILIES:
             hasher, short = make(), bytes(2047)
-            self.assertEqual(
-                self.turns_during(lambda: [hasher.update(short) for _ in range(3000)]), 0
-            )
+            self.assertEqual(self.turns_during(lambda: [hasher.update(short) for _ in range(3000)]), 0)
 
     def test_2048_bytes_are_long(self):
-        for make in (*(make for _, make, *_ in (*FAMILIES, *OUTPUTS)),
-                     lambda: vulfsjor.TreeHasher(4096)):
+        for make in (*(make for _, make, *_ in (*FAMILIES, *OUTPUTS)), lambda: vulfsjor.TreeHasher(4096)):
             hasher, before, end = make(), self.turns, time.monotonic() + 20
             while self.turns == before and time.monotonic() < end:
                 hasher.update(bytes(2048))
@@ -182,11 +177,7 @@ class Shared(unittest.TestCase):
                 for _ in range(3000):
                     hasher.update(bytes(99))
 
-            threads = [threading.Thread(target=work) for _ in range(4)]
-            for thread in threads:
-                thread.start()
-            for thread in threads:
-                thread.join()
+            by_threads(4, work)
             self.assertEqual(hasher.digest(*size), wanted(bytes(4 * 3000 * 99)).digest(*size))
 
     def test_trees(self):

@@ -23,25 +23,22 @@ class Files(Test):
 
     def test_regular_files(self):
         """From 256 KiB on a file is for threads."""
-        for length in (0, 1, 99, 100, 2047, 256 * KIB - 1, 256 * KIB, MIB, 2 * MIB + 1, len(DATA)):
+        for length in (0, 1, 2047, 256 * KIB - 1, 256 * KIB, 2 * MIB + 1, len(DATA)):
             path = self.file(DATA[:length])
             wanted = oracle.tree_root(DATA[:length], 5000, 20, **TEXTS)
-            for threads in (0, 1, 2, 4):
-                for name in (path, path.encode(), pathlib.Path(path)):
-                    seen = []
-                    found = vulfsjor.tree_root_file(name, 5000, digest_size=20, threads=threads,
-                                                    progress=seen.append, **TEXTS)
-                    self.assertEqual((found, seen[-1]), (wanted, length))
-                    self.assertEqual(seen, sorted(set(seen)))
+            for threads, name in ((0, path), (1, path.encode()), (2, pathlib.Path(path)), (4, path)):
+                seen = []
+                found = vulfsjor.tree_root_file(name, 5000, digest_size=20, threads=threads, progress=seen.append,
+                                                **TEXTS)
+                self.assertEqual((found, seen[-1]), (wanted, length))
+                self.assertEqual(seen, sorted(set(seen)))
 
     def test_long_leaves(self):
         """Four leaves of 4 MiB are as many bytes as a buffer may have, and a longer leaf is read in pieces."""
-        path = self.file(b"")
         data = bytearray(40 * MIB + 5)
         for place in range(0, len(data), MIB // 2):
             data[place] = place >> 19
-        with open(path, "wb") as file:
-            file.write(data)
+        path = self.file(data)
         for leaf_size in (4 * MIB, 4 * MIB + 1, 16 * MIB + 1):
             wanted = oracle.tree_root(data, leaf_size)
             for threads in (1, 2, 3):
@@ -65,7 +62,7 @@ class Files(Test):
     def test_nothing_is_left_open(self):
         before = os.listdir("/proc/self/fd")
         vulfsjor.tree_root_file(self.file(DATA), 1 << 14, threads=2)
-        self.assertRaises(OSError, vulfsjor.tree_root_file, self.folder.name, 1)
+        self.assertRaises(OSError, vulfsjor.tree_root_file, self.folder, 1)
         for data in (DATA, b"short"):
             self.assertRaises(ZeroDivisionError, vulfsjor.tree_root_file, self.file(data), 1 << 14,
                               progress=lambda done: 1 / 0)
@@ -91,13 +88,13 @@ class Files(Test):
             os.close(reader)
 
     def test_pipes(self):
-        for data, step in ((b"", 1), (b"abc", 1), (DATA[:100_000], 999), (DATA[:8 * MIB], 1 << 16), (DATA, 1 << 16)):
-            for threads in (0, 1, 3):
-                seen = []
-                found = self.through_pipe(data, step, threads=threads, progress=seen.append)
-                self.assertEqual((found, seen[-1]), (oracle.tree_root(data, 1 << 14), len(data)))
-                self.assertEqual(seen, sorted(set(seen)))
-        name = os.path.join(self.folder.name, "fifo")
+        for data, step, threads in ((b"", 1, 0), (b"abc", 1, 1), (DATA[:100_000], 999, 3), (DATA[:8 * MIB], 1 << 16, 1),
+                                    (DATA, 1 << 16, 3)):
+            seen = []
+            found = self.through_pipe(data, step, threads=threads, progress=seen.append)
+            self.assertEqual((found, seen[-1]), (oracle.tree_root(data, 1 << 14), len(data)))
+            self.assertEqual(seen, sorted(set(seen)))
+        name = os.path.join(self.folder, "fifo")
         os.mkfifo(name)
         with subprocess.Popen(["sh", "-c", f"printf abc >'{name}'"]):
             self.assertEqual(vulfsjor.tree_root_file(name, 2), oracle.tree_root(b"abc", 2))
@@ -117,8 +114,7 @@ class Files(Test):
                 self.assertEqual(vulfsjor.tree_root_file(name, 10), wanted)
 
     def test_sparse_and_growing_files(self):
-        path = self.file(b"")
-        os.truncate(path, 5 * MIB + 3)
+        path = self.file(length=5 * MIB + 3)
         wanted = oracle.tree_root(bytes(5 * MIB + 3), 1 << 16)
         for threads in (1, 4):
             self.assertEqual(vulfsjor.tree_root_file(path, 1 << 16, threads=threads), wanted)
@@ -158,8 +154,7 @@ class Refusals(Test):
         text = "[Errno 5] the file became shorter while it was read: {!r}"
         for threads in (1, 2):
             for end in (0, MIB, 40 * MIB, 64 * MIB - 5):
-                path = self.file(b"")
-                os.truncate(path, 64 * MIB)
+                path = self.file(length=64 * MIB)
                 with self.assertRaises(OSError) as caught:
                     vulfsjor.tree_root_file(path, 1 << 14, threads=threads,
                                             progress=lambda done: os.truncate(path, end))
@@ -167,16 +162,22 @@ class Refusals(Test):
                 self.assertEqual((caught.exception.errno, caught.exception.filename), (errno.EIO, path))
 
     def test_refusals(self):
-        root, absent = vulfsjor.tree_root_file, os.path.join(self.folder.name, "absent")
-        self.refuses(FileNotFoundError, f"[Errno 2] No such file or directory: {absent!r}", root, absent, 1)
-        self.refuses(IsADirectoryError, f"[Errno 21] Is a directory: {self.folder.name!r}", root, self.folder.name, 1)
-        self.refuses(OSError, "[Errno 9] Bad file descriptor", root, 12345, 1)
-        self.refuses(ValueError, "embedded null byte", root, "a\0b", 1)
+        root, absent = vulfsjor.tree_root_file, os.path.join(self.folder, "absent")
+        for kind, text, path, leaf_size, words in (
+                (FileNotFoundError, f"[Errno 2] No such file or directory: {absent!r}", absent, 1, {}),
+                (IsADirectoryError, f"[Errno 21] Is a directory: {self.folder!r}", self.folder, 1, {}),
+                (OSError, "[Errno 9] Bad file descriptor", 12345, 1, {}),
+                (ValueError, "embedded null byte", "a\0b", 1, {}),
+                (OSError, "[Errno 5] Input/output error: '/proc/self/mem'", "/proc/self/mem", 10, {}),
+                (TypeError, "progress must be callable", absent, 1, {"progress": 5}),
+                (ValueError, "leaf_size must be between 1 and 4294967295", absent, 0, {}),
+                (ValueError, "threads must be 0 or more", absent, 1, {"threads": -1})):
+            self.refuses(kind, text, root, path, leaf_size, **words)
         for path in (None, 1.5, [], object()):
             self.assertRaises(TypeError, root, path, 1)
+        self.assertRaises(TypeError, root, absent, 1, threads=1.0)
         for length in (3, MIB):
-            with open(self.file(b""), "wb") as file:
-                os.truncate(file.fileno(), length)
+            with open(self.file(length=length), "ab") as file:
                 for threads in (1, 3):
                     self.refuses(OSError, f"[Errno 9] Bad file descriptor: {file.fileno()}", root, file.fileno(), 1,
                                  threads=threads)
@@ -185,10 +186,6 @@ class Refusals(Test):
         self.refuses(BlockingIOError, f"[Errno 11] Resource temporarily unavailable: {reader}", root, reader, 1)
         os.close(reader)
         os.close(writer)
-        self.refuses(TypeError, "progress must be callable", root, absent, 1, progress=5)
-        self.refuses(ValueError, "leaf_size must be between 1 and 4294967295", root, absent, 0)
-        self.refuses(ValueError, "threads must be 0 or more", root, absent, 1, threads=-1)
-        self.assertRaises(TypeError, root, absent, 1, threads=1.0)
 
     def test_short_reads_and_errors(self):
         class File(io.FileIO):
@@ -205,8 +202,6 @@ class Refusals(Test):
             self.assertEqual(vulfsjor.tree_root_file(path, 1 << 14), wanted)
             with mock.patch.object(File, "fails", True):
                 self.refuses(OSError, f"[Errno 6] broken: {path!r}", vulfsjor.tree_root_file, path, 1 << 14)
-        self.refuses(OSError, "[Errno 5] Input/output error: '/proc/self/mem'", vulfsjor.tree_root_file,
-                     "/proc/self/mem", 10)
 
     def test_changed_arguments(self):
         """What the callback changes comes too late."""
@@ -258,8 +253,7 @@ class Progress(Test):
 
     def test_its_exception_stops_all(self):
         """A file that would take days."""
-        path = self.file(b"")
-        os.truncate(path, 1 << 43)
+        path = self.file(length=1 << 43)
         for kind in (ZeroDivisionError, KeyboardInterrupt, SystemExit):
             for threads in (1, 3):
                 for leaf_size in (1 << 14, 2**32 - 1):

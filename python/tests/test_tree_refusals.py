@@ -1,5 +1,6 @@
 """Tests of what the calls of a tree refuse, with the texts, and of what is left of a dead hasher. test_conformance.py
 has what they return."""
+import contextlib
 import ctypes
 import unittest
 
@@ -9,7 +10,9 @@ import vulfsjor
 NOT_BYTES = ((TypeError, "Strings must be encoded before hashing", "x" * 64),
              (TypeError, "object supporting the buffer API required", None),
              (BufferError, "memoryview: underlying buffer is not C-contiguous", memoryview(bytes(128))[::2]))
+LEAVES, SIZES = "leaf_size must be between 1 and 4294967295", "digest_size must be between 1 and 64 bytes"
 BOUNDARY, TOO_FAR = "the hasher is not at a leaf boundary", "the data ends at 2^58 bytes or more of the message"
+BEYOND = (2**64, 2**64 + 1, 2**70, -1, -(2**70))  # what no 64 bits hold
 
 
 class Parameters(Test):
@@ -18,7 +21,7 @@ class Parameters(Test):
     def calls(self):
         """Each call by its keywords, and whether it has a digest_size."""
         path = self.file(DATA)
-        yield lambda **words: vulfsjor.TreeHasher(**words), True
+        yield vulfsjor.TreeHasher, True
         yield lambda **words: vulfsjor.tree_root(b"x", **words), True
         yield lambda **words: vulfsjor.tree_root(DATA, threads=3, **words), True
         yield lambda **words: vulfsjor.tree_root_file(path, threads=3, **words), True
@@ -27,21 +30,18 @@ class Parameters(Test):
         yield lambda **words: vulfsjor.tree_leaves(b"x", first=0, ends=True, **words), False
 
     def test_numbers_and_texts(self):
-        leaves, sizes = "leaf_size must be between 1 and 4294967295", "digest_size must be between 1 and 64 bytes"
         for call, has_size in self.calls():
             call(leaf_size=1 << 16, **TEXTS)
             call(leaf_size=2**32 - 1, salt=bytearray(16), person=memoryview(bytes(16)))
-            for size in (0, -1, -(2**70), 2**32, 2**64 - 1, 2**64, 2**64 + 1, 2**70):
-                self.refuses(ValueError, leaves, call, leaf_size=size)
-            self.refuses(TypeError, "leaf_size must be an integer", call, leaf_size=1.0)
-            for name in ("salt", "person"):
-                for length in (17, 1000):
-                    self.refuses(ValueError, f"maximum {name} length is 16 bytes", call, leaf_size=9,
-                                 **{name: bytes(length)})
-                self.refuses(TypeError, "a bytes-like object is required, not 'str'", call, leaf_size=9,
-                             **{name: "text"})
-            for size in (-1, 0, 65, 2**31, 2**32 + 1, 2**70, -(2**32) + 5, -(2**70)) if has_size else ():
-                self.refuses(ValueError, sizes, call, leaf_size=9, digest_size=size)
+            for kind, text, words in (
+                    *((ValueError, LEAVES, {"leaf_size": size}) for size in (0, 2**32, *BEYOND)),
+                    (TypeError, "leaf_size must be an integer", {"leaf_size": 1.0}),
+                    *((ValueError, f"maximum {name} length is 16 bytes", {name: bytes(length)})
+                      for name in TEXTS for length in (17, 1000)),
+                    *((TypeError, "a bytes-like object is required, not 'str'", {name: "text"}) for name in TEXTS),
+                    *((ValueError, SIZES, {"digest_size": size})
+                      for size in (0, 65, 2**31, 2**32 + 1, -(2**32) + 5, *BEYOND) if has_size)):
+                self.refuses(kind, text, call, **{"leaf_size": 9} | words)
             self.assertRaises(TypeError, call)
             self.assertRaises(TypeError, call, leaf_size=1 << 16, key=b"k")
 
@@ -54,7 +54,7 @@ class Parameters(Test):
         index = type("Index", (), {"__index__": lambda self: 2})()
         for call in (updated, lambda threads: vulfsjor.tree_root(DATA, 1 << 14, threads=threads),
                      lambda threads: vulfsjor.tree_root_file(self.file(DATA), 1 << 14, threads=threads)):
-            for threads in (0, 1, 2, 7, 1000, 2**63, 2**64, 2**64 + 1, 2**70, True, index):
+            for threads in (0, 1, 7, 2**63, 2**64 + 1, 2**70, True, index):
                 self.assertEqual(call(threads), ROOT)
             for threads in (-1, -(2**63), -(2**64) + 1, -(2**70)):
                 self.refuses(ValueError, "threads must be 0 or more", call, threads)
@@ -66,49 +66,42 @@ class Parts(Test):
     """Ranges of leaves, and roots of these."""
 
     def test_ranges(self):
-        leaves = vulfsjor.tree_leaves
-        for length in (1, 9, 11, 25):
-            self.refuses(ValueError, "data must be whole leaves, unless it ends the message", leaves, bytes(length),
-                         10, first=0, ends=False)
-        for first, ends in ((0, False), (1, True), (1, False), (2**54, True)):
-            self.refuses(ValueError, "data must not be empty, unless it is all of an empty message", leaves, b"", 10,
-                         first=first, ends=ends)
-        for data, leaf_size, first in ((b"x", 1, 2**58 - 1), (b"xy", 1, 2**58 - 2), (bytes(1024), 1024, 2**48 - 1)):
-            self.refuses(ValueError, TOO_FAR, leaves, data, leaf_size, first=first, ends=True)
-        for leaf_size, last in ((1, 2**58 - 1), (1024, 2**48 - 1), (2**32 - 1, 2**26)):
-            for first in (last + 1, 2**63, 2**64 - 1, 2**64, 2**64 + 1, 2**70, -1, -(2**70)):
-                self.refuses(ValueError, f"first must be between 0 and {last}", leaves, b"x", leaf_size, first=first,
-                             ends=True)
-        self.refuses(TypeError, "first must be an integer", leaves, b"x", 1, first=None, ends=True)
+        leaves, whole = vulfsjor.tree_leaves, "data must be whole leaves, unless it ends the message"
+        empty, flag = "data must not be empty, unless it is all of an empty message", "ends must be True or False"
+        for kind, text, data, leaf_size, first, ends in (
+                (ValueError, whole, bytes(9), 10, 0, False), (ValueError, whole, bytes(11), 10, 0, False),
+                *((ValueError, empty, b"", 10, *where) for where in ((0, False), (1, True), (2**54, True))),
+                (ValueError, TOO_FAR, b"x", 1, 2**58 - 1, True), (ValueError, TOO_FAR, b"xy", 1, 2**58 - 2, True),
+                (ValueError, TOO_FAR, bytes(1024), 1024, 2**48 - 1, True),
+                *((ValueError, f"first must be between 0 and {last}", b"x", leaf_size, first, True)
+                  for leaf_size, last in ((1, 2**58 - 1), (1024, 2**48 - 1), (2**32 - 1, 2**26))
+                  for first in (last + 1, *BEYOND)),
+                (TypeError, "first must be an integer", b"x", 1, None, True),
+                *((TypeError, flag, b"x", 1, 0, ends)
+                  for ends in (2, 5, -1, 2**63, 2**64, 2**64 + 1, None, "False", b"", 1.0, [True])),
+                *((kind, text, data, 1, 0, True) for kind, text, data in NOT_BYTES)):
+            self.refuses(kind, text, leaves, data, leaf_size, first=first, ends=ends)
         for words in ({}, {"first": 0}, {"ends": True}):
             self.refuses(TypeError, "tree_leaves() requires the keyword arguments first and ends", leaves, b"x", 1,
                          **words)
-        for ends in (2, 5, -1, 2**63, 2**64, 2**64 + 1, None, "False", b"", 1.0, [True]):
-            self.refuses(TypeError, "ends must be True or False", leaves, b"x", 1, first=0, ends=ends)
         for ends in (0, 1):
             self.assertEqual(leaves(b"x", 1, first=0, ends=ends), leaves(b"x", 1, first=0, ends=bool(ends)))
-        for kind, text, data in NOT_BYTES:
-            self.refuses(kind, text, leaves, data, 1, first=0, ends=True)
 
     def test_digests(self):
-        root = vulfsjor.tree_root_of_leaves
-        for length in (0, 1, 32, 63, 65, 127, 129):
-            self.refuses(ValueError, "digests must have 64 bytes for each leaf, and at least one leaf", root,
-                         bytes(length), 1)
-        for kind, text, data in NOT_BYTES:
-            self.refuses(kind, text, root, data, 1)
+        many = "digests must have 64 bytes for each leaf, and at least one leaf"
+        for kind, text, data in (*((ValueError, many, bytes(length)) for length in (0, 1, 63, 65)), *NOT_BYTES):
+            self.refuses(kind, text, vulfsjor.tree_root_of_leaves, data, 1)
 
     def test_counts(self):
         count = vulfsjor.tree_leaf_count
         for leaf_size in (1, 2, 64, 2**32 - 1):
             for length in (0, 1, leaf_size - 1, leaf_size, leaf_size + 1, 5 * leaf_size, 2**64 - 1):
                 self.assertEqual(count(length, leaf_size=leaf_size), max(1, -(-length // leaf_size)))
-        for size in (0, -1, 2**32, 2**70):
-            self.refuses(ValueError, "leaf_size must be between 1 and 4294967295", count, 5, size)
-        for length in (-1, -(2**70), 2**64, 2**70):
-            self.refuses(ValueError, f"length must be between 0 and {2**64 - 1}", count, length, 5)
-        self.refuses(TypeError, "length must be an integer", count, "5", 5)
-        self.refuses(TypeError, "leaf_size must be an integer", count, 5, 5.0)
+        for kind, text, *words in (
+                *((ValueError, LEAVES, 5, size) for size in (0, 2**32, *BEYOND)),
+                *((ValueError, f"length must be between 0 and {2**64 - 1}", length, 5) for length in BEYOND),
+                (TypeError, "length must be an integer", "5", 5), (TypeError, "leaf_size must be an integer", 5, 5.0)):
+            self.refuses(kind, text, count, *words)
 
 
 class Hasher(Test):
@@ -116,33 +109,27 @@ class Hasher(Test):
 
     def test_what_it_refuses(self):
         most = (2**58 - 1) // 100
-        for count in (0, 1, 99, 100, 101):
+        for count in (0, 1, 100, 101):
             hasher = vulfsjor.TreeHasher(100)
             hasher.update(bytes(count))
-            before = hasher.digest()
-            for length in (0, 1, 99, 101, 150):
-                self.refuses(ValueError, "data must be whole leaves, at least one", hasher.leaves_ahead, bytes(length))
-            for length in (1, 32, 63, 65):
-                self.refuses(ValueError, "digests must have 64 bytes for each leaf", hasher.update_leaves,
-                             bytes(length), b"x")
-            self.refuses(ValueError, "data must follow the digests, at least one byte of it", hasher.update_leaves,
-                         bytes(64), b"")
+            before, ahead, update = hasher.digest(), hasher.leaves_ahead, hasher.update_leaves
+            rows = [(ValueError, "data must be whole leaves, at least one", ahead, bytes(n)) for n in (0, 99, 101)]
+            rows += [(ValueError, "digests must have 64 bytes for each leaf", update, bytes(n), b"x") for n in (1, 65)]
+            rows += [(ValueError, "data must follow the digests, at least one byte of it", update, bytes(64), b"")]
+            rows += [(kind, text, call, data) for kind, text, data in NOT_BYTES for call in (
+                hasher.update, ahead, lambda data: update(data, b"x"), lambda data: update(b"", data))]
             if count % 100:
-                self.refuses(ValueError, BOUNDARY, hasher.leaves_ahead, bytes(100))
-                self.refuses(ValueError, BOUNDARY, hasher.update_leaves, bytes(64), b"x")
+                rows += [(ValueError, BOUNDARY, ahead, bytes(100)), (ValueError, BOUNDARY, update, bytes(64), b"x")]
             else:
-                self.refuses(ValueError, TOO_FAR, hasher.leaves_ahead, bytes(100), most)
-                for skip in (most + 1, 2**64 - 1, 2**64, 2**70, -1, -(2**70)):
-                    self.refuses(ValueError, f"skip must be between 0 and {most}", hasher.leaves_ahead, bytes(100),
-                                 skip)
-                self.refuses(TypeError, "skip must be an integer", hasher.leaves_ahead, bytes(100), 1.0)
-            for kind, text, data in NOT_BYTES:
-                for call in (hasher.update, hasher.leaves_ahead, lambda data: hasher.update_leaves(data, b"x"),
-                             lambda data: hasher.update_leaves(b"", data)):
-                    self.refuses(kind, text, call, data)
+                rows += [(ValueError, TOO_FAR, ahead, bytes(100), most),
+                         (TypeError, "skip must be an integer", ahead, bytes(100), 1.0),
+                         *((ValueError, f"skip must be between 0 and {most}", ahead, bytes(100), skip)
+                           for skip in (most + 1, *BEYOND))]
+            for row in rows:
+                self.refuses(*row)
             for name in ("digest_size", "leaf_size", "count", "other"):
                 self.assertRaises(AttributeError, setattr, hasher, name, 1)
-            hasher.update_leaves(b"", b"")
+            update(b"", b"")
             self.assertEqual((hasher.digest(), hasher.count), (before, count))
 
     def test_inputs_end_before_2_to_the_58(self):
@@ -185,14 +172,14 @@ class Hasher(Test):
             lambda: vulfsjor.tree_leaves(b"x", 1, person=held),
             lambda: vulfsjor.tree_root_of_leaves(held[:], 1, person=held),
             lambda: vulfsjor.tree_root_of_leaves(held, 1), lambda: vulfsjor.TreeHasher(1, salt=held),
-            lambda: vulfsjor.tree_root(held, 1, threads=2), lambda: vulfsjor.TreeHasher(1).update(held),
+            lambda: vulfsjor.tree_root(held, 1, threads=2), lambda: vulfsjor.tree_root(held, 0, threads=2),
+            lambda: vulfsjor.tree_root(held, 1, threads=-1), lambda: vulfsjor.TreeHasher(1).update(held),
+            lambda: vulfsjor.TreeHasher(1).update(held, threads=2),
             lambda: hasher.leaves_ahead(held), lambda: hasher.update_leaves(held, b""),
             lambda: hasher.update_leaves(b"", held), lambda: hasher.update_leaves(held, None),
         ):
-            try:
+            with contextlib.suppress(ValueError, OverflowError, TypeError):
                 call()
-            except (ValueError, OverflowError, TypeError):
-                pass
             held.append(1)
             held.pop()
 

@@ -11,13 +11,13 @@ import threading
 import time
 import unittest
 
-from support import FOLDER
+from support import FOLDER, by_threads
 from common_trees import DATA, DICE, MIB, TEXTS, Test, have_ended, other_threads
 import oracle
 import vulfsjor
 
 KIB = 1 << 10
-LONG = 1 << 28
+LONG = 1 << 27
 
 
 class Threads(Test):
@@ -25,46 +25,31 @@ class Threads(Test):
 
     def test_roots_are_those_of_hashlib(self):
         """From 512 KiB on there are two threads."""
-        for length in (0, 5, 512 * KIB - 1, 512 * KIB, 512 * KIB + 1, 3 * MIB, len(DATA)):
-            for leaf_size in (1000, 1 << 16, MIB, MIB + 1, 3 * MIB, 2**32 - 1):
+        for length in (5, 512 * KIB - 1, 512 * KIB, 512 * KIB + 1, 3 * MIB, len(DATA)):
+            for leaf_size in (1000, 1 << 16, MIB + 1, 2**32 - 1):
                 data = DATA[:length]
                 size = DICE.randint(1, 64)
                 wanted = oracle.tree_root(data, leaf_size, size, **TEXTS)
-                for threads in (0, 2, 3, 5):
+                for threads in (0, 2, 5):
                     found = vulfsjor.tree_root(data, leaf_size, digest_size=size, threads=threads, **TEXTS)
                     self.assertEqual(found, wanted)
-        small = DATA[:3 * MIB]
-        self.assertEqual(vulfsjor.tree_root(small, 61, threads=3), oracle.tree_root(small, 61))
 
     def test_any_buffer(self):
         short = DATA[:3 * MIB]
         wanted = oracle.tree_root(short, 4096)
         shaped = ((ctypes.c_char * MIB) * 3).from_buffer_copy(short)
-        for data in (
-            bytearray(short),
-            memoryview(DATA)[:3 * MIB],
-            memoryview(array.array("d", short)),
-            (ctypes.c_uint16.__ctype_be__ * (3 * MIB // 2)).from_buffer_copy(short),
-            memoryview(short).cast("B", (3, MIB)),
-        ):
+        for data in (bytearray(short), memoryview(DATA)[:3 * MIB], memoryview(array.array("d", short)),
+                     (ctypes.c_uint16.__ctype_be__ * (3 * MIB // 2)).from_buffer_copy(short),
+                     memoryview(short).cast("B", (3, MIB))):
             self.assertEqual(vulfsjor.tree_root(data, 4096, threads=3), wanted)
         for threads in (1, 3):
-            for call in (lambda data: vulfsjor.tree_root(data, 4096, threads=threads),
-                         lambda data: vulfsjor.TreeHasher(4096).update(data, threads=threads)):
-                self.refuses(BufferError, "Buffer must be single dimension", call, shaped)
-                self.refuses(TypeError, "Strings must be encoded before hashing", call, "x")
-                self.refuses(TypeError, "object supporting the buffer API required", call, 5)
-                self.refuses(BufferError, "memoryview: underlying buffer is not C-contiguous", call,
-                             memoryview(DATA)[::2])
-
-    def test_views_are_let_go(self):
-        data = bytearray(MIB)
-        for threads in (1, 3):
-            vulfsjor.tree_root(data, 4096, threads=threads)
-            vulfsjor.TreeHasher(4096).update(data, threads=threads)
-            self.assertRaises(ValueError, vulfsjor.tree_root, data, 0, threads=threads)
-            self.assertRaises(ValueError, vulfsjor.tree_root, data, 1, threads=-threads)
-            data.append(1)
+            for kind, text, data in (
+                    (BufferError, "Buffer must be single dimension", shaped),
+                    (TypeError, "Strings must be encoded before hashing", "x"),
+                    (TypeError, "object supporting the buffer API required", 5),
+                    (BufferError, "memoryview: underlying buffer is not C-contiguous", memoryview(DATA)[::2])):
+                self.refuses(kind, text, vulfsjor.tree_root, data, 4096, threads=threads)
+                self.refuses(kind, text, vulfsjor.TreeHasher(4096).update, data, threads=threads)
 
     def most_threads(self, call):
         """The most threads of a call, with this one, which makes it."""
@@ -137,7 +122,7 @@ class Updates(Test):
     """Updates by threads."""
 
     def test_roots_are_those_of_hashlib(self):
-        for leaf_size in (1000, 1 << 16, MIB + 1, 3 * MIB, 20 * MIB):
+        for leaf_size in (1000, MIB + 1, 20 * MIB):
             wanted = oracle.tree_root(DATA, leaf_size, 20, **TEXTS)
             for cut in (1, leaf_size, 5 * MIB + 7, len(DATA)):
                 for threads in (0, 3):
@@ -175,41 +160,12 @@ class Updates(Test):
 
         self.addCleanup(sys.setswitchinterval, sys.getswitchinterval())
         sys.setswitchinterval(1e-6)
-        threads = [threading.Thread(target=work) for _ in range(3)]
-        for thread in threads:
-            thread.start()
-        for thread in threads:
-            thread.join()
+        by_threads(3, work)
         self.assertEqual((len(done), hasher.count), (1500, sum(done)))
 
 
 class Shared(Test):
     """A hasher that threads share."""
-
-    def test_threads_share_a_hasher(self):
-        """Each digest during an update is that of a prefix: all pieces are whole periods."""
-        piece, hasher, digests = b"12345678" * 1000, vulfsjor.TreeHasher(4000), []
-
-        def work():
-            for turn in range(100):
-                hasher.update((piece[:1000], piece)[turn % 2])
-                digests.append(hasher.copy().digest())
-                digests.append(hasher.digest())
-                digests.append(bytes.fromhex(hasher.hexdigest()))
-
-        threads = [threading.Thread(target=work) for _ in range(4)]
-        for thread in threads:
-            thread.start()
-        for thread in threads:
-            thread.join()
-        self.assertEqual(hasher.digest(), oracle.tree_root(piece * 225, 4000))
-        whole, prefixes = b"", set()  # the digests of the leaves that more data follows
-        for leaf in range(450):
-            for length in range(1000, 4001, 1000):
-                last = oracle.range_digests(piece[:length], 4000, leaf)
-                prefixes.add(oracle.root_of_leaves(whole + last, 4000))
-            whole += oracle.range_digests(piece[:4000], 4000, leaf, False)
-        self.assertEqual((len(digests), set(digests) - prefixes), (1200, set()))
 
     def test_digests_during_an_update(self):
         """A digest meanwhile is that of the data before the update, or after it."""
@@ -339,8 +295,7 @@ class Signals(Test):
         return said.strip().splitlines()[-1:], time.monotonic() - start
 
     def test_interrupts(self):
-        path = self.file(b"")
-        os.truncate(path, 1 << 37)
+        path = self.file(length=1 << 37)
         for lines in (
             f"print(flush=True); vulfsjor.tree_root_file({path!r}, 1 << 16, threads=3)",
             f"print(flush=True); vulfsjor.tree_root_file({path!r}, 1 << 16, threads=1)",

@@ -5,48 +5,29 @@ import functools  # noqa: F401  in an expression
 import io  # noqa: F401
 import os
 import re
-import tempfile
 import unittest
 import warnings
 
-from support import FOLDER, absent, long, run
+from support import FOLDER, Test, absent, long, run
 import vulfsjor
 
 STUB = os.path.join(FOLDER, "vulfsjor", "_library.pyi")
 HASH = "vulfsjor.blake2{}(b'x', digest_size=4, key=b'', salt=b'', person=b'', {}=True)"
 # Expressions and the types of their values.
 RESULTS = {
-    **{expression.format(family, "last_node" if family in "bs" else "usedforsecurity"):
-       kind.format(family) for family in ("b", "s", "bp", "sp") for expression, kind in {
-        HASH: "vulfsjor.blake2{}",
-        HASH + ".copy()": "vulfsjor.blake2{}",
-        HASH + ".update(bytearray(b'x'))": "None",
-        HASH + ".digest()": "bytes",
-        HASH + ".hexdigest()": "str",
-        HASH + ".name": "str",
-        HASH + ".block_size": "int",
-        HASH + ".digest_size": "int",
-        "vulfsjor.blake2{}.MAX_DIGEST_SIZE": "int",
-        "vulfsjor.blake2{}.MAX_KEY_SIZE": "int",
-        "vulfsjor.blake2{}.PERSON_SIZE": "int",
-        "vulfsjor.blake2{}.SALT_SIZE": "int",
-    }.items()},
+    **{made + member: kind.format(name) for family in ("b", "s", "bp", "sp")
+       for made, name in ((HASH.format(family, "last_node" if family in "bs" else "usedforsecurity"),
+                           f"blake2{family}"), (f"vulfsjor.blake2{family}_mac(b'k')", f"blake2{family}_mac"))
+       for member, kind in {
+        "": "vulfsjor.{}", ".copy()": "vulfsjor.{}", ".update(bytearray(b'x'))": "None", ".digest()": "bytes",
+        ".hexdigest()": "str", ".name": "str", ".block_size": "int", ".digest_size": "int"}.items()},
+    **{f"vulfsjor.blake2{family}{end}.{number}": "int" for family in ("b", "s", "bp", "sp") for end in ("", "_mac")
+       for number in ("MAX_DIGEST_SIZE", "MAX_KEY_SIZE", "PERSON_SIZE", "SALT_SIZE")},
     **{expression.format(family): kind.format(family) for family in ("b", "s", "bp", "sp")
        for expression, kind in {
         "vulfsjor.blake2{0}(key=b'k').verify(vulfsjor.blake2{0}(key=b'k').digest())": "None",
         "vulfsjor.blake2{0}_mac(b'k').verify(vulfsjor.blake2{0}(key=b'k').digest())": "None",
-        "vulfsjor.blake2{}_mac(b'k', b'', digest_size=4, salt=b'', person=b'')": "vulfsjor.blake2{}_mac",
-        "vulfsjor.blake2{}_mac(key=b'k', data=b'').copy()": "vulfsjor.blake2{}_mac",
-        "vulfsjor.blake2{}_mac(b'k').update(bytearray(b'x'))": "None",
-        "vulfsjor.blake2{}_mac(b'k').digest()": "bytes",
-        "vulfsjor.blake2{}_mac(b'k').hexdigest()": "str",
-        "vulfsjor.blake2{}_mac(b'k').name": "str",
-        "vulfsjor.blake2{}_mac(b'k').block_size": "int",
-        "vulfsjor.blake2{}_mac(b'k').digest_size": "int",
-        "vulfsjor.blake2{}_mac.MAX_DIGEST_SIZE": "int",
-        "vulfsjor.blake2{}_mac.MAX_KEY_SIZE": "int",
-        "vulfsjor.blake2{}_mac.PERSON_SIZE": "int",
-        "vulfsjor.blake2{}_mac.SALT_SIZE": "int",
+        "vulfsjor.blake2{}_mac(key=b'k', data=b'', digest_size=4, salt=b'', person=b'')": "vulfsjor.blake2{}_mac",
         "vulfsjor.file_digest(io.BytesIO(), vulfsjor.blake2{}, key=b'', person=b'')": "vulfsjor.blake2{}",
         "vulfsjor.file_digest(io.BytesIO(), vulfsjor.blake2{}_mac, key=b'k')": "vulfsjor.blake2{}_mac",
     }.items()},
@@ -79,16 +60,11 @@ RESULTS = {
     "vulfsjor.tree_root_file('/dev/null', 2, threads=1, progress=print)": "bytes",
     "vulfsjor.tree_root_file(b'/dev/null', 2, digest_size=4, salt=b'', person=b'')": "bytes",
     "vulfsjor.TreeHasher(leaf_size=2, digest_size=4, salt=b'', person=b'')": "vulfsjor.TreeHasher",
-    "vulfsjor.TreeHasher(2).copy()": "vulfsjor.TreeHasher",
-    "vulfsjor.TreeHasher(2).count": "int",
-    "vulfsjor.TreeHasher(2).digest_size": "int",
-    "vulfsjor.TreeHasher(2).leaf_size": "int",
-    "vulfsjor.TreeHasher(2).digest()": "bytes",
-    "vulfsjor.TreeHasher(2).hexdigest()": "str",
-    "vulfsjor.TreeHasher(2).leaves_ahead(b'ab', skip=1)": "bytes",
-    "vulfsjor.TreeHasher(2).update(b'x', threads=3)": "None",
-    "vulfsjor.TreeHasher(2).update_leaves(b'', b'')": "None",
-    "vulfsjor.TreeHasher(2)._root_of_file('', os.open('/dev/null', os.O_RDONLY), 0, 1, None)": "bytes",
+    **{f"vulfsjor.TreeHasher(2).{member}": kind for member, kind in {
+        "copy()": "vulfsjor.TreeHasher", "count": "int", "digest_size": "int", "leaf_size": "int", "digest()": "bytes",
+        "hexdigest()": "str", "leaves_ahead(b'ab', skip=1)": "bytes", "update(b'x', threads=3)": "None",
+        "update_leaves(b'', b'')": "None",
+        "_root_of_file('', os.open('/dev/null', os.O_RDONLY), 0, 1, None)": "bytes"}.items()},
 }
 # What a type checker has to refuse, and the package does.
 REFUSED = (
@@ -167,8 +143,7 @@ class Results(unittest.TestCase):
                     with self.assertRaises(TypeError):
                         type("Other", (getattr(vulfsjor, owner.name),), {})
             for node in owner.body:
-                prefix = "vulfsjor" if hasattr(vulfsjor, getattr(node, "name", "")) else (
-                    "vulfsjor._library")
+                prefix = "vulfsjor" if hasattr(vulfsjor, getattr(node, "name", "")) else ("vulfsjor._library")
                 if isinstance(owner, ast.ClassDef):
                     prefix = f"vulfsjor.{owner.name}"
                 if isinstance(node, ast.AnnAssign):
@@ -192,13 +167,8 @@ class Results(unittest.TestCase):
 
 
 @unittest.skipIf(absent(tools=["mypy", "stubtest"]), "no mypy and stubtest")
-class Mypy(unittest.TestCase):
+class Mypy(Test):
     """mypy, without its cache."""
-
-    def setUp(self):
-        held = tempfile.TemporaryDirectory()
-        self.addCleanup(held.cleanup)
-        self.folder = held.name
 
     def write(self, name, text):
         path = os.path.join(self.folder, name)
@@ -208,8 +178,7 @@ class Mypy(unittest.TestCase):
 
     def said(self, *words, **environment):
         """The last line of a program, and all others."""
-        done = run(*words, cwd=self.folder,
-                   env={**os.environ, "MYPYPATH": FOLDER, "PYTHONPATH": "", **environment})
+        done = run(*words, cwd=self.folder, env={**os.environ, "MYPYPATH": FOLDER, "PYTHONPATH": "", **environment})
         *lines, last = done.stdout.splitlines() or [""]
         return last, lines
 

@@ -349,10 +349,10 @@ def trees(w):
         w.case("refused-top", f"top 0:64 {words(**{'leaf': 4, name: value})}")
     w.case("refused-leaves", "leaves none 0 1 leaf=4")
     for leaf in (258047, 258048, 258049, 100000):  # around what JavaScript hashes at once
-        w.case("leaves", f"leaves 5:{5 + 3 * leaf} 7 0 leaf={leaf}")
+        w.case("leaves", f"leaves 5:{5 + 3 * leaf} 7 {leaf % 2} leaf={leaf}")
         w.hash("root", 2 * leaf + 1, leaf=leaf)
     for length in (0, 1, 63, 64, 65, 128, 192, 640, 6400, 258048, 258112, 640000):
-        w.case("top", f"top 0:{length} {words(**w.arguments())}")
+        w.case("top", f"top 0:{length} {words(**w.arguments() | {'size': 1 + length % 63})}")
     for size in (0, 65, 256, 2**32 + 1):
         w.case("refused-top", f"top 0:64 leaf=4 size={size}")
     w.case("refused-top", "top none leaf=4")
