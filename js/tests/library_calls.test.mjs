@@ -5,6 +5,7 @@ import test from "node:test";
 
 // Instances whose functions note their name and the arguments that say how much they are given.
 const calls = [];
+const passed = {}; // all arguments of the last call of a function
 let refused; // the name of a function that refuses
 let refusedIn; // the memory of the last that did
 const { Instance } = WebAssembly;
@@ -22,6 +23,7 @@ WebAssembly.Instance = class {
           const called = name.replace("vulfsjor_ffi_", "");
           const amount = given[placeOf(called)] ?? "";
           calls.push(`${called} ${amount}`.trim());
+          passed[called] = given;
           if (called !== refused) return value(...given);
           refusedIn = exports.memory.buffer;
           return -1;
@@ -308,4 +310,31 @@ test("a memory that could not be wiped is wiped before the next call", () => {
   blake2b(key);
   assert.notEqual(BLAKE2B.module.current.bytes, bytes);
   assert.ok(bytes.every((byte) => byte === 0));
+});
+
+test("the places of state and arguments do not overlap", () => {
+  new Blake2b({ key: part(64), salt: part(16), personalization: part(16), tree: {} })
+    .update(part(WAITING + 1)).digest();
+  assert.throws(() => new Blake2b({ key: part(64) }).verify(part(64)), { name: "InvalidTagError" });
+  const [state, , key, , salt, , personalization, , node] = passed.blake2b_init_tree;
+  const places = [
+    [state, BLAKE2B.stateLength], [key, 64], [salt, 16], [personalization, 16], [node, 16],
+    [passed.blake2b_final[1], 64], [passed.blake2b_verify[1], 64],
+    [passed.blake2b_update[1], WINDOW],
+  ].map(([at, length]) => [Number(at), Number(at) + length]).sort(([a], [b]) => a - b);
+  for (let i = 1; i < places.length; i++) assert.ok(places[i - 1][1] <= places[i][0], `${i}`);
+  // each message is after its state, with room for what waits, and before the end of the memory
+  const { exports } = new Instance(whole.moduleOf(), {});
+  const end = Number(exports.__heap_base.value) + WINDOW + 8192;
+  for (const [name, make, kind] of [
+    ["blake2b", () => new Blake2b(), BLAKE2B], ["blake2bp", () => new Blake2bp(), whole.BLAKE2BP],
+    ["blake2sp", () => new Blake2sp(), whole.BLAKE2SP],
+    ["tree", () => new TreeHash({ leafLength: 5 }), whole.TREE],
+    ["blake2xb", () => new Blake2xb(), whole.BLAKE2XB],
+  ]) {
+    make().update(part(2 * WINDOW));
+    const [at, window] = passed[`${name}_update`].map(Number);
+    assert.equal(at + kind.stateLength, window, name);
+    assert.ok(window + (kind.isTree ? WINDOW : PIECE) <= end, name);
+  }
 });
