@@ -1,12 +1,12 @@
 # What the parts of the tests of the C library share; a part reads it by `source` and ends with `part FUNCTION`, or
-# `part FUNCTION cases` if it needs the test vectors and the conformance cases. It installs the library in a temporary
+# `part FUNCTION cases` if it needs the conformance cases. It installs the library in a temporary
 # folder:
 #
 #   c/tests/PART.sh [--cpu CPU] [--from DIST]
 #
 # c/install.sh explains the options. Without DIST the library is that of dist/. Without options it
-# is the one in the folder VULFSJOR_INSTALLED, if that is set, as by ./test, the test vectors are those
-# in the folder VULFSJOR_VECTORS, and the conformance cases those in VULFSJOR_CONFORMANCE.
+# is the one in the folder VULFSJOR_INSTALLED, if that is set, as by ./test, and the conformance cases are
+# those in the folder VULFSJOR_CONFORMANCE.
 declare -F part >/dev/null && return
 set -u
 source "$(dirname "$(readlink -f "${BASH_SOURCE[0]}")")/../../tests/tap.sh"
@@ -15,7 +15,6 @@ tests=$here/tests
 prefix=$work/installed
 # In these words, so that install.sh does not compare dist/ with the sources each time.
 dist=$top/./dist
-cases=${VULFSJOR_VECTORS:-$work/vectors}
 conforming=${VULFSJOR_CONFORMANCE:-$work/conforming}
 # The hashes of the conformance cases.
 hashes=(blake2b blake2s blake2bp blake2sp blake2xb blake2xs tree)
@@ -108,23 +107,21 @@ wanted_of_readme() {
 print(hashlib.blake2b(b"hello world", digest_size=32, key=b"key").hexdigest())'
 }
 
-# The test vectors of the families, a line each, unless ./test has written them.
-write_cases() {
-    local family
-    [ -z "${VULFSJOR_VECTORS-}" ] || return 0
-    mkdir "$cases"
-    for family in b s; do
-        python3 "$top/tests/vectors.py" --lines $family >"$work/lines" &&
-            grep '^[hnrt] ' "$work/lines" >"$cases/$family" &&
-            grep '^p ' "$work/lines" >"$cases/${family}p" &&
-            grep '^x ' "$work/lines" >"$cases/x$family" || return 1
-    done
-}
-
 # The conformance cases, unless ./test has written them.
 write_conformance() {
     [ -d "$conforming" ] || { mkdir "$conforming" && "$top/tests/conformance/write.py" "$conforming"; }
 }
+
+# One of so many cases of a hash, for what is slow: HASH NUMBER
+some_cases() { awk -v RS= -v ORS='\n\n' "NR % $2 == 1" "$conforming/$1.txt" >"$work/some_$1"; }
+
+# conformance.c of a hash, compiled with these words, under memcheck, which sees branches and addresses by secrets, over
+# those cases: HASH WORDS..
+secrets_run() {
+    cc -std=c99 "${warnings[@]}" -DTEST_SECRETS -I"$include" $(hash_words "$1") "$tests/conformance.c" "${@:2}" \
+        -o "$work/secrets" && valgrind -q --error-limit=no "$work/secrets" "$work/some_$1"
+}
+has_memcheck() { has valgrind && echo '#include <valgrind/memcheck.h>' | cc -E - >/dev/null 2>&1; }
 
 # Runs the tests of a part, unless its file is read by another part for its functions.
 part() {
@@ -133,8 +130,7 @@ part() {
         skip "all tests" "no C compiler cc"
     elif { [ "$prefix" = "${VULFSJOR_INSTALLED-}" ] ||
         check "install.sh" "$here/install.sh" "${cpu[@]}" "${from[@]}" "$prefix"; } &&
-        { [ $# -eq 1 ] || ! has python3 || { check "tests/vectors.json in lines" write_cases &&
-            check "the conformance cases are written" write_conformance; }; }; then
+        { [ $# -eq 1 ] || ! has python3 || check "the conformance cases are written" write_conformance; }; then
         "$1"
     fi
     finish

@@ -9,7 +9,12 @@
  * length, and so is a state, for sanitizers.
  *
  *   cc -std=c99 -I FOLDER/include conformance.c ARCHIVE -o conformance     for BLAKE2b; the others as in family.h
- *   cc the same with -DTEST_T                                              for the tree of two levels */
+ *   cc the same with -DTEST_T                                              for the tree of two levels
+ *   cc the same with -DTEST_SECRETS, and then valgrind -q --error-limit=no conformance FILE
+ *
+ * The last tests that no branch and no address depends on a key, a message or a digest of a leaf, which memcheck takes
+ * for undefined: it reports each of them. A comparison (verify, memcmp, hex2bin) may have one report, that of its
+ * result. With `branch` or `address` in the place of the file one is made, and has to be reported. */
 #include <errno.h>
 #include "check.h"
 #include "conformance.h"
@@ -27,6 +32,46 @@ static state_t *slots[26];
 static int has_key[26];
 static int can; /* 0: there is a call or an argument that C has not */
 
+#ifdef TEST_SECRETS
+/* The result of a comparison, which may have one report: reports so far, and those of comparisons. */
+static unsigned long reported, allowed;
+static int end_comparison(int result) {
+    const unsigned long reports = VALGRIND_COUNT_ERRORS - reported;
+    CHECK(reports <= 1);
+    allowed += reports;
+    SHOW(&result, sizeof result);
+    return result;
+}
+#define COMPARED(call) end_comparison((reported = VALGRIND_COUNT_ERRORS, call))
+
+/* Whether memcheck takes this byte for a secret: else it would see no branch on it. */
+static int is_secret(const uint8_t *byte) {
+    uint8_t bits = 0;
+    return VALGRIND_GET_VBITS(byte, &bits, 1) == 1 && bits;
+}
+
+/* A key as digits and back, which depends on no byte of it but for the answer. */
+static void check_digits(void) {
+    uint8_t key[MAX], back[MAX];
+    char digits[2 * MAX + 1];
+    HIDE(memset(key, 0xc5, MAX), MAX);
+    CHECK(!vulfsjor_bin2hex(digits, sizeof digits, key, MAX) && is_secret((uint8_t *)digits));
+    CHECK(!COMPARED(vulfsjor_hex2bin(back, MAX, digits, 2 * MAX)) && same(key, back, MAX));
+}
+
+/* A branch on a byte of a key, or an address from one, has to be reported. */
+static int plant_leak(int is_branch) {
+    static uint8_t table[256];
+    volatile uint8_t found, key = 3;
+    HIDE((uint8_t *)&key, 1);
+    if (!is_branch) found = ((volatile uint8_t *)table)[key], (void)found;
+    else if (key > 3) puts("never");
+    return VALGRIND_COUNT_ERRORS ? 0 : 1;
+}
+#else
+#define COMPARED(call) (call)
+#endif
+
 /* ---- the words of a line */
 
 /* BYTES. No bytes are by turns a null pointer and another. */
@@ -40,6 +85,13 @@ static text text_of(const char *w) {
     else made = (text){malloc(to - at ? to - at : 1), to - at};
     for (size_t i = 0; at < to; i++, at++) made.bytes[i] = (uint8_t)(at + (at >> 8) + (at >> 16));
     if (!made.length && turn++ % 2) free(made.bytes), made.bytes = NULL;
+    return made;
+}
+
+/* The same of a key or a message, which are secrets. */
+static text secret_of(const char *w) {
+    text made = text_of(w);
+    if (made.bytes) HIDE(made.bytes, made.length);
     return made;
 }
 
@@ -66,7 +118,7 @@ static uint64_t number_field(const char *name, const char *otherwise, uint64_t m
 static given read_given(void) {
     const char *size = value_of("size", NULL), *key = value_of("key", NULL);
     given made = {.size = MAX}, *g = &made;
-    if (key) g->key = text_of(key);
+    if (key) g->key = secret_of(key);
     g->salt = text_of(value_of("salt", "-")), g->person = text_of(value_of("person", "-"));
     g->tree.fanout = (uint8_t)number_field("fanout", "1", 255, &g->is_node);
     g->tree.depth = (uint8_t)number_field("depth", "1", 255, &g->is_node);
@@ -106,6 +158,7 @@ static void gives_bytes(int status, uint8_t *out, size_t n) {
     for (size_t i = status ? 0 : n; i < n + 9; i++) CHECK(out[i] == 0xaa);
     if (status) gives_refusal("");
     else strcpy(got, n ? "= " : "= -");
+    SHOW(out, n);
     for (size_t i = 0; !status && i < n; i++) at += (size_t)sprintf(got + at, "%02x", out[i]);
     free(out);
 }
@@ -142,13 +195,13 @@ static void new_state(state_t **S, const given *g) {
         memset(&other, 0xa5, sizeof other);
         int another = init_by(i, &other, g);
         CHECK(init_by(i, NULL, g) < 0);
-        CHECK(another == ABSENT || (another == status && !memcmp(*S, &other, sizeof other)));
+        CHECK(another == ABSENT || (another == status && same(*S, &other, sizeof other)));
     }
 }
 
 /* In one call, and by a state in two pieces. */
 static void call_hash(const given *g) {
-    text message = text_of(part[2]);
+    text message = secret_of(part[2]);
     size_t n = g->size > sizeof got / 4 ? 0 : g->size, half = message.length / 2;
     uint8_t *one = room_of(n), *run = room_of(n);
     state_t S;
@@ -163,15 +216,19 @@ static void call_hash(const given *g) {
 #ifdef TEST_X
     if (g->size >= CONSTANT(UNKNOWN_LENGTH)) by_state = -1, memset(run, 0xaa, n);
 #endif
-    if (status != ABSENT) CHECK(status == by_state && !memcmp(one, run, n + 9));
+    if (status != ABSENT) CHECK(status == by_state && same(one, run, n + 9));
+#ifdef TEST_SECRETS
+    const int is_wanted = g->key.length + message.length > 0;
+    if (!by_state && n) CHECK(is_secret(run) == is_wanted && is_secret(run + n - 1) == is_wanted);
+#endif
     free(one), free(message.bytes);
     gives_bytes(by_state, run, n);
     if (by_state) gives_refusal(argument);
 }
 
 static void call_equal(void) {
-    text one = text_of(part[1]), other = text_of(part[2]);
-    gives_answer(one.length == other.length && !vulfsjor_memcmp(one.bytes, other.bytes, one.length));
+    text one = secret_of(part[1]), other = secret_of(part[2]);
+    gives_answer(one.length == other.length && !COMPARED(vulfsjor_memcmp(one.bytes, other.bytes, one.length)));
     if (one.length) CHECK(vulfsjor_memcmp(one.bytes, NULL, 1) == -1 && vulfsjor_memcmp(NULL, one.bytes, 1) == -1);
     free(one.bytes), free(other.bytes);
 }
@@ -183,7 +240,7 @@ static void call_many(const given *g) {
     size_t count = 0, null = 0, n = g->size > 64 ? 0 : g->size;
     for (size_t i = 2; i < parts; i++) {
         if (strchr(part[i], '=')) continue;
-        text t = text_of(part[i]);
+        text t = secret_of(part[i]);
         if (t.bytes || !t.length) null += null == count;
         /* `none` is null by turns with 0 and 1 byte, and no bytes is never null. */
         if (!t.bytes && !t.length) messages[count++] = (vulfsjor_message){nothing, 0};
@@ -202,7 +259,7 @@ static void call_many(const given *g) {
 
 #if defined(TEST_X) && !defined(TEST_S)
 static void call_derive(const given *g) {
-    text context = text_of(part[1]);
+    text context = secret_of(part[1]);
     size_t n = g->size < 1 << 16 ? g->size : 0;
     uint8_t *out = room_of(n), *other = room_of(n);
     int status = vulfsjor_blake2xb_derive_key(other, g->size, TEXT(g->key), NULL, 0);
@@ -210,7 +267,7 @@ static void call_derive(const given *g) {
     CHECK(vulfsjor_blake2xb_derive_key(out, g->size, NULL, 0, TEXT(context)) == -1);
     CHECK(vulfsjor_blake2xb_derive_key(out, g->size, NULL, 1, TEXT(context)) == -1);
     CHECK(vulfsjor_blake2xb_derive_key(out, g->size, "", 0, TEXT(context)) == -1);
-    CHECK(vulfsjor_blake2xb_derive_key(out, g->size, TEXT(g->key), "", 0) == status && !memcmp(out, other, n + 9));
+    CHECK(vulfsjor_blake2xb_derive_key(out, g->size, TEXT(g->key), "", 0) == status && same(out, other, n + 9));
     memset(out, 0xaa, n);
     gives_bytes(vulfsjor_blake2xb_derive_key(out, g->size, TEXT(g->key), TEXT(context)), out, n);
     free(context.bytes), free(other);
@@ -229,7 +286,7 @@ static int leaves_in(uint8_t *out, size_t n, text t, const given *g) {
 }
 
 static void call_leaves(const given *g) {
-    text t = text_of(part[1]);
+    text t = secret_of(part[1]);
     size_t n = 64 * (size_t)vulfsjor_tree_leaf_count(t.length, g->tree.leaf_length);
     uint8_t *out = room_of(n);
     CHECK(leaves_in(NULL, n, t, g) == -1 && leaves_in(out, n + 1, t, g) == -1 && leaves_in(out, n + 64, t, g) == -1);
@@ -244,7 +301,7 @@ static int top_in(uint8_t *out, text t, const given *g) {
 }
 
 static void call_top(const given *g) {
-    text t = text_of(part[1]);
+    text t = secret_of(part[1]);
     size_t n = g->size > 64 ? 0 : g->size;
     uint8_t *out = room_of(n);
     CHECK(top_in(NULL, t, g) == -1 && top_in(out, t, &no_salt) == -1 && top_in(out, t, &no_person) == -1);
@@ -254,7 +311,7 @@ static void call_top(const given *g) {
 }
 
 static void call_next(state_t *S) {
-    text t = text_of(part[3]);
+    text t = secret_of(part[3]);
     uint64_t skip = strtoull(part[2], NULL, 10), leaf = vulfsjor_tree_leaf_length(S);
     size_t n = leaf ? 64 * (size_t)(t.length / leaf) : 64;
     uint8_t *out = room_of(n);
@@ -269,7 +326,7 @@ static void call_next(state_t *S) {
 }
 
 static void call_absorb(state_t *S) {
-    text whole = text_of(part[2]), more = text_of(part[3]);
+    text whole = secret_of(part[2]), more = secret_of(part[3]);
     uint64_t leaf = vulfsjor_tree_leaf_length(S), count = vulfsjor_tree_count(S);
     size_t n = leaf ? 64 * (size_t)(whole.length / leaf) : 0;
     uint8_t *out = room_of(n);
@@ -289,7 +346,7 @@ static void call_absorb(state_t *S) {
 /* ---- calls of a state */
 
 static void call_update(state_t *S) {
-    text t = text_of(part[2]);
+    text t = secret_of(part[2]);
     uint64_t count = BLAKE(count)(S);
     CHECK(BLAKE(update)(NULL, TEXT(t)) == -1);
     gives_status(BLAKE(update)(S, TEXT(t)));
@@ -352,11 +409,11 @@ static void call_verify(state_t *S) {
     text t = text_of(part[2]);
     uint8_t wanted[MAX];
     size_t n = BLAKE(digest_size)(S);
-    int is_ready = n && (t.bytes || !t.length), status = BLAKE(verify)(S, TEXT(t));
+    int is_ready = n && (t.bytes || !t.length), status = COMPARED(BLAKE(verify)(S, TEXT(t)));
     CHECK(BLAKE(verify)(NULL, TEXT(t)) == -1);
     if (is_ready && !has_key[*part[1] - 'a']) {
         CHECK(status == -1 && !write_output(S, wanted, n));
-        status = t.length != n || memcmp(wanted, t.bytes, n);
+        status = t.length != n || !same(wanted, t.bytes, n);
     }
     if (is_ready) gives_answer(!status);
     else gives_status(status);
@@ -405,7 +462,7 @@ static void call_slot(state_t **S) {
     if (!*S) *S = calloc(1, sizeof **S);
     state_t before = **S;
     call_state(*S);
-    if (*got == '!') CHECK(!memcmp(*S, &before, sizeof before));
+    if (*got == '!') CHECK(same(*S, &before, sizeof before));
     else if (can && (IS("digest") || IS("verify") || IS("wipe"))) CHECK(is_ended(*S) && !room_in(*S));
 }
 
@@ -445,12 +502,15 @@ static char *words_of(char *line) {
     return "";
 }
 
-/* Whether the numbers are those of the file; one that is not in the list has to be run whole. */
+/* Whether the numbers are those of the file; one that is not in the list has to be run whole, but for secrets. */
 static int are_all(const char *file, int cases, int skipped) {
     for (size_t i = 0; i < sizeof files / sizeof *files; i++)
         if (strstr(file, HASH ".txt") && !strcmp(files[i].hash, HASH))
             return cases == files[i].cases &&
                    skipped == (sizeof(size_t) == 8 ? files[i].skipped : files[i].skipped_on_32);
+#ifdef TEST_SECRETS
+    return cases > 20 && VALGRIND_COUNT_ERRORS == allowed;
+#endif
     return cases > 20 && !skipped;
 }
 
@@ -458,6 +518,10 @@ int main(int argc, char **argv) {
     static char line[200000], name[100], whole[200];
     FILE *file = argc > 1 ? fopen(argv[1], "r") : NULL;
     int cases = 0, calls = 0, skipped = 0;
+#ifdef TEST_SECRETS
+    if (argc > 1 && !file) return plant_leak(argv[1][0] == 'b');
+    check_digits();
+#endif
     while (file && fgets(line, sizeof line, file)) {
         line[strcspn(line, "\n")] = 0;
         snprintf(whole, sizeof whole, "%.150s", line);

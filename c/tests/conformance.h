@@ -26,9 +26,29 @@ typedef struct given {
 #define TEXT(t) (t).bytes, (t).length
 #define TEXTS TEXT(g->key), TEXT(g->salt), TEXT(g->person)
 
+/* With TEST_SECRETS, under memcheck of valgrind: bytes that are a secret, or no longer one. */
+#ifdef TEST_SECRETS
+#include <valgrind/memcheck.h>
+#define HIDE(bytes, length) (void)VALGRIND_MAKE_MEM_UNDEFINED(bytes, length)
+#define SHOW(bytes, length) (void)VALGRIND_MAKE_MEM_DEFINED(bytes, length)
+#else
+#define HIDE(bytes, length) (void)0
+#define SHOW(bytes, length) (void)0
+#endif
+
+/* Whether bytes are the same, some of which may be secrets, and then stay secrets. */
+static inline int same(const void *a, const void *b, size_t n) {
+#ifdef TEST_SECRETS
+    static uint8_t copies[2][100000];
+    SHOW(memcpy(copies[0], a, n), n), SHOW(memcpy(copies[1], b, n), n);
+    a = copies[0], b = copies[1];
+#endif
+    return !memcmp(a, b, n);
+}
+
 static inline int is_ended(const state_t *S) {
     static const state_t zeros;
-    return !memcmp(S, &zeros, sizeof zeros);
+    return same(S, &zeros, sizeof zeros);
 }
 
 /* A flag that is on, each time another number. */
@@ -91,6 +111,12 @@ static inline int refuses_no_key(const given *g) {
     state_t S[4];
     uint8_t out[1] = {0xaa};
     memset(S, 0x5a, sizeof S);
+#ifdef TEST_NODES
+    vulfsjor_message empty = {"", 0};
+    if (!BLAKE(init_tree)(S, g->size, "", 0, TEXT(g->salt), TEXT(g->person), &g->tree) || !is_ended(S)) return 0;
+    if (!BLAKE(many)(out, 1, &empty, 1, "", 0, NULL, 0, NULL, 0) || !BLAKE(many)(out, 1, &empty, 0, "", 0, 0, 0, 0, 0))
+        return 0;
+#endif
     return ONE_CALL(out, 1, "", 0, "", 0) && *out == 0xaa &&
            BLAKE(init_key)(S, g->size, NULL, 0) && BLAKE(init_key)(S + 1, g->size, "", 0) &&
            BLAKE(init_mac)(S + 2, g->size, NULL, 0, TEXT(g->salt), TEXT(g->person)) &&

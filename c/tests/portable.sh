@@ -137,14 +137,8 @@ compiles_for_msvc() {
     done
 }
 
-# Branches and addresses by a key or a message, with this compiler, of some of the test vectors:
-# memcheck is slow.
-secrets_here() {
-    awk 'NR % (/^p/ ? 15 : 100) == 1 && length($0) < 8900' "$cases/$family" >"$work/secret_cases" &&
-        cc -std=c99 $quick "${warnings[@]}" $(family_words "$family") "-I$here/include" \
-            "$tests/secrets.c" "$work/here.o" -o "$work/secrets" &&
-        valgrind -q --error-limit=no "$work/secrets" "$work/secret_cases"
-}
+# Branches and addresses by a key or a message, with this compiler, of some of the cases: memcheck is slow.
+secrets_here() { some_cases "$1" 160 && secrets_run "$1" $quick "$work/here.o"; }
 
 test_portable() {
     local name
@@ -155,9 +149,9 @@ test_portable() {
         check "key_scan.c, blake2$family, over the file in C" keys_there $family "$work/here.o"
     done
     check "an unknown order of bytes, with cc -O0" unknown_order
-    needs valgrind
-    for family in b s bp sp; do
-        check "no branch or address by a secret, blake2$family, with cc -O2" secrets_here
+    has_memcheck || missing="no valgrind with its headers"
+    for name in blake2{b,s,bp,sp}; do
+        check "no branch or address by a secret, $name, with cc -O2" secrets_here $name
     done
     needs clang
     check "the file in C, in MSVC's dialect" compiles_for_msvc
