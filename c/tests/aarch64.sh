@@ -26,11 +26,6 @@ first_calls_for_arm() {
         LD_LIBRARY_PATH=$prefix/lib "$work/first_calls"
 }
 
-libb2_for_arm() {
-    cc -std=c99 -O1 "${warnings[@]}" $(family_words "$family") -o "$work/libb2" "$tests/libb2.c" \
-        "$prefix/lib/libvulfsjor-libb2.a" && "$work/libb2" "$cases/$family"
-}
-
 # Branch protection: each object is marked, so a program is without a demand, and a linker that demands
 # marks takes them. On a processor that enforces it, calls through pointers return.
 protected_by_bti() {
@@ -73,11 +68,6 @@ test_aarch64() {
         skip "the library for aarch64" "no $arm with a C library, no qemu-aarch64 or no python3"
         return
     fi
-    # Of the test vectors every eleventh, since emulation is slow. The other programs run whole.
-    all=$cases cases=$work/cases
-    mkdir "$cases"
-    for family in b s; do awk 'NR % 11 == 1' "$all/$family" >"$cases/$family"; done
-    cp "$all"/[bs]p "$all"/x[bs] "$cases/"
     prefix=$work/prefix include=$work/prefix/include libb2=$work/prefix/include/vulfsjor-libb2
     archive=$prefix/lib/libvulfsjor.a shared=$prefix/lib/libvulfsjor.so
     check "install.sh with CC=$arm" env "CC=$arm" "CFLAGS=$quick" "$here/install.sh" --from "$dist" "$prefix" ||
@@ -88,11 +78,9 @@ test_aarch64() {
         check_huge "conformance.c, $hash, for aarch64, with the shared library" run_hash conformance $hash -O1 "$shared"
     done
     for family in b s; do
-        check "edge_cases.c, blake2$family, for aarch64" compare_lines edge_cases -O2 -I"$include"
+        check "edge_cases.c, blake2$family, for aarch64" edge_cases -O2
         check "key_scan.c, blake2$family, for aarch64" scan_for_keys
-        check_once "libb2_header.c, blake2$family, for aarch64" compare_lines libb2_header -O2 \
-            -I"$libb2"
-        check_once "libb2's names, blake2$family, for aarch64" libb2_for_arm
+        check_once "libb2's names, blake2$family, for aarch64" names_of_libb2 $family "$prefix/lib/libvulfsjor-libb2.a"
     done
     for family in bp sp xb xs; do
         check "key_scan.c, blake2$family, for aarch64" scan_for_keys

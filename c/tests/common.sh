@@ -93,6 +93,15 @@ family_words() {
 # The same for a hash of the conformance cases.
 hash_words() { if [ "$1" = tree ]; then echo -DTEST_T; else family_words "${1#blake2}"; fi; }
 
+# A test of code that all families share: of BLAKE2s and its kin, which repeat BLAKE2b, only in the full test.
+check_once() { if [[ $family == *s* ]]; then check_huge "$@"; else check "$@"; fi; }
+
+# libb2.c with these words behind it. libb2's threads would spin while they wait.
+names_of_libb2() {
+    cc -std=c99 -g $quick "${warnings[@]}" $(family_words "$1") -o "$work/libb2" "$tests/libb2.c" "${@:2}" &&
+        OMP_WAIT_POLICY=passive GOMP_SPINCOUNT=0 "$work/libb2"
+}
+
 # The words for a program over a library of this name.
 words_for() {
     case $1 in

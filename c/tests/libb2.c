@@ -1,26 +1,18 @@
-/* Tests libb2's functions by their own names: what c/PORTING.md says of them and of libb2, row by
- * row, and the hashes of tests/vectors.json. libb2.sh links it with libvulfsjor-libb2.a and,
- * if libb2 is installed, with libb2 itself under LIBB2, so that what the page says of libb2 is
- * tested too.
+/* Tests libb2's functions by their own names: what c/PORTING.md says of them and of libb2, row by row. libb2.sh links it
+ * with libvulfsjor-libb2.a and, if libb2 is installed, with libb2 itself under LIBB2, so that what the page says of
+ * libb2 is tested too. Digests are compared with those of one call, which the conformance cases are run over.
  *
- *   libb2 CASES
- *
- * TEST_S is for BLAKE2s. libb2_family.h declares the functions. VULFSJOR_TEST_HUGE in the
- * environment adds a message of more than 2^32 bytes. */
+ * TEST_S is for BLAKE2s, TEST_P for BLAKE2bp, and both are for BLAKE2sp. libb2_family.h declares the functions.
+ * VULFSJOR_TEST_HUGE in the environment adds a message of more than 2^32 bytes. */
 #define _POSIX_C_SOURCE 200112L
 #include "check.h"
 #include "libb2_family.h"
-
-#include <signal.h>
-#include <stdlib.h>
-#include <string.h>
-#include <sys/wait.h>
-#include <unistd.h>
+#include "texts.h"
 
 #ifdef TEST_S
-enum { BLOCK = 64, LONGEST = 32, SIZE = 182 };
+enum { BLOCK = 64, LONGEST = 32, SIZE = 182, PARALLEL_SIZE = 2155 };
 #else
-enum { BLOCK = 128, LONGEST = 64, SIZE = 358 };
+enum { BLOCK = 128, LONGEST = 64, SIZE = 358, PARALLEL_SIZE = 2307 };
 #endif
 
 #ifdef LIBB2
@@ -28,12 +20,19 @@ enum { BLOCK = 128, LONGEST = 64, SIZE = 358 };
 #else
 #define IS_LIBB2 0
 #endif
-/* What a row says: of libb2 the first, of the functions here the second. DIES is an end by a
- * signal. */
+#ifdef TEST_P
+#define IS_PARALLEL 1
+#else
+#define IS_PARALLEL 0
+#endif
+/* What a row says: of libb2 the first, of the functions here the second. DIES is an end by a signal. */
 enum { DIES = 1000 };
 #define ROW(libb2, here) (IS_LIBB2 ? (libb2) : (here))
 
-/* The status of a call in a child process, or DIES if a signal ends that process. */
+/* The status of a call; of libb2, in a child process, or DIES if a signal ends that process. */
+#ifdef LIBB2
+#include <sys/wait.h>
+#include <unistd.h>
 #define STATUS(call) (fork_is_child() ? (_exit((call) & 0xff), 0) : child_status())
 static int fork_is_child(void) {
     fflush(stdout);
@@ -46,98 +45,107 @@ static int child_status(void) {
     if (wait(&status) < 0) abort();
     return WIFSIGNALED(status) ? DIES : (int8_t)WEXITSTATUS(status);
 }
-
-static uint32_t seed = 1;
-static uint32_t random_below(uint32_t most) {
-    seed = seed * 1664525u + 1013904223u;
-    return (seed >> 8) % most;
-}
+#else
+#define STATUS(call) (call)
+#endif
 
 static uint8_t *null_bytes(void) { return NULL; }
+static X(_state) *null_state(void) { return NULL; }
 static int is_zero(const void *bytes, size_t length) {
     for (size_t i = 0; i < length; i++)
         if (((const uint8_t *)bytes)[i]) return 0;
     return 1;
 }
+#define IS_WIPED(S) ROW(!is_zero(&S, sizeof S), is_zero(&S, sizeof S))
+#define SAME(a, b) (!memcmp(&(a), &(b), sizeof(a)))
 
-static size_t from_hex(const char *digits, uint8_t *bytes) {
-    size_t length = digits[0] == '-' ? 0 : strlen(digits) / 2;
-    /* Not by sscanf, which looks for the end of all digits each time. */
-    for (size_t i = 0; i < length; i++)
-        bytes[i] = (uint8_t)strtoul((char[]){digits[2 * i], digits[2 * i + 1], 0}, NULL, 16);
-    return length;
+static uint8_t out[256], message[4000];
+
+static void check_null_pointers(void) {
+    X(_state) S;
+    CHECK(STATUS(X(_init)(null_state(), LONGEST)) == ROW(DIES, -1));
+    CHECK(STATUS(X(_init_key)(null_state(), LONGEST, "k", 1)) == ROW(DIES, -1));
+    CHECK(STATUS(X(_update)(null_state(), message, 1)) == ROW(DIES, -1));
+    CHECK(STATUS(X(_update)(null_state(), message, 0)) == ROW(IS_PARALLEL ? DIES : 0, -1));
+    CHECK(STATUS(X(_final)(null_state(), out, LONGEST)) == ROW(DIES, -1));
+    CHECK(X(_init)(&S, LONGEST) == 0);
+    CHECK(STATUS(X(_update)(&S, null_bytes(), 300)) == ROW(DIES, -1));
+    CHECK(STATUS(X(_final)(&S, null_bytes(), LONGEST)) == ROW(DIES, -1));
+    int null_key = STATUS(X(_init_key)(&S, LONGEST, null_bytes(), 1));
+    CHECK(null_key == -1 || (IS_LIBB2 && null_key == DIES));
+    CHECK(BLAKE2(null_bytes(), "a", NULL, LONGEST, 1, 0) == -1 && BLAKE2(out, NULL, NULL, LONGEST, 1, 0) == -1);
+    CHECK(BLAKE2(out, "a", NULL, LONGEST, 1, 1) == -1 && BLAKE2(out, NULL, NULL, LONGEST, 0, 0) == 0);
 }
 
-static char line[1 << 19], digits[5][1 << 18];
-static uint8_t key[256], salt[256], persona[256], message[1 << 17], wanted[256], out[256];
-
-/* The first bytes of hashlib.blake2b(last_node=True).digest(), and of blake2s. */
-#ifdef TEST_S
-static const uint8_t last_empty[] = {0x24, 0xfc, 0x11, 0x3c, 0x3d, 0xbe, 0x8c, 0x84};
-#else
-static const uint8_t last_empty[] = {0x05, 0xcc, 0x8c, 0xc5, 0x31, 0x83, 0xc6, 0xfb};
-#endif
-
-static X(_state) *null_state(void) { return NULL; }
-
-/* The digest of a message in random pieces, where the run may be copied between two of them. */
-static void check_in_pieces(X(_state) *S, size_t length, size_t digest) {
-    X(_state) copy;
-    for (size_t at = 0, n; at < length; at += n) {
-        n = random_below(random_below(2) ? 20 : 700) + 1;
-        if (n > length - at) n = length - at;
-        CHECK(X(_update)(S, message + at, n) == 0 && X(_update)(S, NULL, 0) == 0);
-        memcpy(&copy, S, sizeof copy);
-        *S = copy;
-    }
+static void check_lengths(void) {
+    X(_state) S;
+    CHECK(sizeof S == (IS_PARALLEL ? PARALLEL_SIZE : SIZE) && __alignof__(X(_state)) == 1);
+    CHECK(offsetof(X(_state), outlen) == sizeof S - (IS_PARALLEL ? 1 : 2));
+    memset(&S, 0x5a, sizeof S);
+    CHECK(X(_init)(&S, 0) == -1 && IS_WIPED(S) && X(_init)(&S, LONGEST + 1) == -1);
+    CHECK(X(_init)(&S, 256 + LONGEST) == -1);
+    CHECK(X(_init_key)(&S, LONGEST, "k", 0) == -1 && X(_init_key)(&S, LONGEST, message, LONGEST + 1) == -1);
+    CHECK(X(_init_key)(&S, 0, "k", 1) == -1 && X(_init_key)(&S, LONGEST + 1, "k", 1) == -1);
     memset(out, 0xaa, sizeof out);
-    CHECK(X(_final)(S, out, digest - 1) == -1 && X(_final)(S, out, digest + 1) == -1 &&
-          out[0] == 0xaa);
-    CHECK(X(_final)(S, out, digest) == 0 && !memcmp(out, wanted, digest) && out[digest] == 0xaa);
-    CHECK(IS_LIBB2 || is_zero(S, sizeof *S));
+    CHECK(BLAKE2(out, "a", NULL, 0, 1, 0) == -1 && BLAKE2(out, "a", NULL, LONGEST + 1, 1, 0) == -1);
+    CHECK(BLAKE2(out, "a", message, LONGEST, 1, LONGEST + 1) == -1);
+    if (!IS_LIBB2) {
+        CHECK_64(BLAKE2(out, "a", message, TWO_TO(32) | LONGEST, 1, 1) == -1);
+        CHECK_64(BLAKE2(out, "a", message, LONGEST, 1, TWO_TO(32) | 1) == -1);
+        CHECK(BLAKE2(out, "a", message, ~(size_t)0, 1, 1) == -1);
+    }
+    CHECK(out[0] == 0xaa && out[LONGEST] == 0xaa);
 }
 
-/* Tests a case of a hash by a parameter block. If it has no salt and no persona, tests it also by
- * init or init_key, and in one call. */
-static void hash_case(size_t digest, size_t keys, size_t salted, size_t named, size_t length) {
-    X(_state) *S = malloc(sizeof *S);
-    X(_param) P;
-    uint8_t first[BLOCK] = {0};
-    memset(&P, 0, sizeof P);
-    P.digest_length = (uint8_t)digest, P.key_length = (uint8_t)keys, P.fanout = P.depth = 1;
-    memcpy(P.salt, salt, salted);
-    memcpy(P.personal, persona, named);
-    memcpy(first, key, keys);
-    memset(S, 0x5a, sizeof *S);
-    CHECK(X(_init_param)(S, &P) == 0 && S->outlen == digest && S->last_node == 0);
-    if (keys) CHECK(X(_update)(S, first, BLOCK) == 0);
-    check_in_pieces(S, length, digest);
-    if (!salted && !named) {
-        CHECK((keys ? X(_init_key)(S, digest, key, keys) : X(_init)(S, digest)) == 0);
-        check_in_pieces(S, length, digest);
+/* Calls with a state after finalization, and with a zeroed state. */
+static void check_without_state(void) {
+    X(_state) S, before;
+    CHECK(X(_init)(&S, LONGEST) == 0 && X(_update)(&S, message, 2000) == 0 && X(_final)(&S, out, LONGEST) == 0);
+    CHECK(IS_WIPED(S));
+    before = S;
+    CHECK(X(_update)(&S, message, 1) == ROW(0, -1) && (IS_LIBB2 || SAME(S, before)));
+    CHECK(X(_final)(&S, out, LONGEST) == ROW(0, -1) && X(_final)(&S, out, 0) == -1);
+    memset(&S, 0, sizeof S);
+    CHECK(X(_update)(&S, message, 1) == ROW(0, -1));
+}
+
+/* A state in pieces, which may be copied between two of them, and no digest of another length. */
+static void check_in_pieces(void) {
+    for (size_t i = 0; i < 60; i++) {
+        const size_t size = 1 + i % LONGEST, keys = i % 3 ? i % LONGEST : 0, length = random_number() % sizeof message;
+        uint8_t wanted[LONGEST];
+        X(_state) *S = malloc(sizeof *S), copy;
+        memset(S, 0x5a, sizeof *S);
+        CHECK((keys ? X(_init_key)(S, size, message + 7, keys) : X(_init)(S, size)) == 0 && S->outlen == size);
+        for (size_t at = 0, n; at < length; at += n) {
+            n = random_number() % (random_number() % 2 ? 20 : 1500) + 1;
+            if (n > length - at) n = length - at;
+            CHECK(X(_update)(S, message + at, n) == 0 && X(_update)(S, message, 0) == 0);
+            copy = *S;
+            memset(S, 0x5a, sizeof *S);
+            *S = copy;
+        }
         memset(out, 0xaa, sizeof out);
-        CHECK(BLAKE2(out, message, key, digest, length, keys) == 0 && !memcmp(out, wanted, digest));
-        CHECK(out[digest] == 0xaa);
+        CHECK(X(_final)(S, out, size - 1) == -1 && X(_final)(S, out, size + 1) == -1 && out[0] == 0xaa);
+        CHECK(BLAKE2(wanted, message, keys ? message + 7 : NULL, size, length, keys) == 0);
+        CHECK(X(_final)(S, out, size) == 0 && !memcmp(out, wanted, size) && out[size] == 0xaa && IS_WIPED(*S));
+        free(S);
     }
-    free(S);
 }
 
-static int cases_of(const char *name) {
-    FILE *file = fopen(name, "r");
-    size_t digest;
-    int cases = 0;
-    while (file && fgets(line, sizeof line, file)) {
-        if (sscanf(line, "h %zu %262143s %262143s %262143s %262143s %262143s", &digest, digits[0],
-                   digits[1], digits[2], digits[3], digits[4]) != 6) continue;
-        from_hex(digits[4], wanted);
-        hash_case(digest, from_hex(digits[0], key), from_hex(digits[1], salt),
-                  from_hex(digits[2], persona), from_hex(digits[3], message));
-        cases++;
+/* The output may overlap the input or the key. */
+static void check_overlaps(void) {
+    uint8_t wanted[LONGEST], mixed[2000];
+    CHECK(BLAKE2(wanted, message, message + 40, LONGEST, 2000, LONGEST) == 0);
+    for (size_t at = 0; at + LONGEST <= 2000; at += 113) {
+        memcpy(mixed, message, 2000);
+        CHECK(BLAKE2(mixed + at, mixed, mixed + 40, LONGEST, 2000, LONGEST) == 0);
+        CHECK(!memcmp(mixed + at, wanted, LONGEST) && !memcmp(mixed, message, at));
+        CHECK(!memcmp(mixed + at + LONGEST, message + at + LONGEST, 2000 - LONGEST - at));
     }
-    if (file) fclose(file);
-    return cases;
 }
 
+#ifndef TEST_P
 static int status_of(X(_state) *S, uint8_t digest, uint8_t keys) {
     X(_param) P;
     memset(&P, 0, sizeof P);
@@ -145,98 +153,70 @@ static int status_of(X(_state) *S, uint8_t digest, uint8_t keys) {
     return X(_init_param)(S, &P);
 }
 
-static void check_null_pointers(void) {
+static void check_blocks(void) {
     X(_state) S;
-    CHECK(STATUS(X(_init)(null_state(), LONGEST)) == ROW(DIES, -1));
-    CHECK(STATUS(X(_init_key)(null_state(), LONGEST, "k", 1)) == ROW(DIES, -1));
     CHECK(STATUS(status_of(null_state(), LONGEST, 0)) == ROW(DIES, -1));
     CHECK(STATUS(X(_init_param)(&S, NULL)) == ROW(DIES, -1));
-    CHECK(STATUS(X(_update)(null_state(), message, 1)) == ROW(DIES, -1));
-    CHECK(STATUS(X(_update)(null_state(), message, 0)) == ROW(0, -1));
-    CHECK(STATUS(X(_final)(null_state(), out, LONGEST)) == ROW(DIES, -1));
-    CHECK(X(_init)(&S, LONGEST) == 0);
-    CHECK(STATUS(X(_update)(&S, null_bytes(), 300)) == ROW(DIES, -1));
-    CHECK(STATUS(X(_final)(&S, null_bytes(), LONGEST)) == ROW(DIES, -1));
-    CHECK(BLAKE2(null_bytes(), "a", NULL, LONGEST, 1, 0) == -1 &&
-          BLAKE2(out, NULL, NULL, LONGEST, 1, 0) == -1);
-    CHECK(BLAKE2(out, "a", NULL, LONGEST, 1, 1) == -1 &&
-          BLAKE2(out, NULL, NULL, LONGEST, 0, 0) == 0);
+    for (int length = 0; length <= 255; length++) {
+        const int is_digest = length >= 1 && length <= LONGEST;
+        CHECK(status_of(&S, (uint8_t)length, 0) == ROW(0, is_digest ? 0 : -1));
+        CHECK(IS_LIBB2 || is_digest ? S.outlen == length && S.last_node == 0 : is_zero(&S, sizeof S));
+        CHECK(status_of(&S, LONGEST, (uint8_t)length) == ROW(0, length <= LONGEST ? 0 : -1));
+    }
 }
 
-static void check_lengths(void) {
-    X(_state) S;
-    CHECK(sizeof S == SIZE && __alignof__(X(_state)) == 1 &&
-          offsetof(X(_state), last_node) == SIZE - 1);
-    memset(&S, 0x5a, sizeof S);
-    CHECK(X(_init)(&S, 0) == -1 && X(_init)(&S, LONGEST + 1) == -1 &&
-          X(_init)(&S, 256 + LONGEST) == -1);
-    CHECK(ROW(!is_zero(&S, sizeof S), is_zero(&S, sizeof S)));
-    CHECK(X(_init_key)(&S, LONGEST, "k", 0) == -1 &&
-          X(_init_key)(&S, LONGEST, message, LONGEST + 1) == -1);
-    CHECK(X(_init_key)(&S, 0, "k", 1) == -1);
-    int null_key = STATUS(X(_init_key)(&S, LONGEST, null_bytes(), 1));
-    CHECK(IS_LIBB2 ? null_key == -1 || null_key == DIES : null_key == -1);
-    memset(out, 0xaa, sizeof out);
-    CHECK(BLAKE2(out, "a", NULL, 0, 1, 0) == -1 && BLAKE2(out, "a", NULL, LONGEST + 1, 1, 0) == -1);
-    CHECK(BLAKE2(out, "a", message, LONGEST, 1, LONGEST + 1) == -1 && out[0] == 0xaa &&
-          out[LONGEST] == 0xaa);
-    CHECK(status_of(&S, 0, 0) == ROW(0, -1) && status_of(&S, LONGEST + 1, 0) == ROW(0, -1));
-    CHECK(status_of(&S, LONGEST, LONGEST + 1) == ROW(0, -1));
-    CHECK(status_of(&S, LONGEST, LONGEST) == 0 && status_of(&S, 1, 0) == 0);
-}
-
-/* Calls with a state after finalization, and with a zeroed state. */
-static void check_without_run(void) {
-    X(_state) S, before;
-    CHECK(X(_init)(&S, LONGEST) == 0 && X(_update)(&S, message, 200) == 0);
-    CHECK(X(_final)(&S, out, LONGEST) == 0);
-    CHECK(ROW(!is_zero(&S, sizeof S), is_zero(&S, sizeof S)));
-    before = S;
-    CHECK(X(_update)(&S, message, 1) == ROW(0, -1) && (IS_LIBB2 || !memcmp(&S, &before, sizeof S)));
-    CHECK(X(_final)(&S, out, LONGEST) == ROW(0, -1));
-    CHECK(X(_final)(&S, out, 0) == ROW(-1, -1));
-    memset(&S, 0, sizeof S);
-    CHECK(X(_update)(&S, message, 1) == ROW(0, -1));
-}
-
-/* A state that holds more than a block is refused and stays; libb2 may hold two. */
+/* A state that holds more than a block is refused and stays; libb2 may hold two. So is a count that would pass 2^64. */
 static void check_refused_states(void) {
     static const uint32_t lengths[] = {BLOCK + 1, 256, 65536, (uint32_t)1 << 31, UINT32_MAX};
     X(_state) S, before;
-    for (size_t i = 0; i < sizeof lengths / sizeof *lengths; i++) {
+    for (size_t i = 0; !IS_LIBB2 && i < sizeof lengths / sizeof *lengths; i++) {
         CHECK(X(_init)(&S, LONGEST) == 0);
         S.buflen = lengths[i];
         S.f[0] = 9;
         memset(S.buf + BLOCK, 7, BLOCK);
         before = S;
-        CHECK(X(_update)(&S, message, 1) == -1 && X(_final)(&S, out, LONGEST) == -1);
-        CHECK(!memcmp(&S, &before, sizeof S));
+        CHECK(X(_update)(&S, message, 1) == -1 && X(_final)(&S, out, LONGEST) == -1 && SAME(S, before));
     }
-}
-
-/* A count that would pass 2^64 is refused, and the state stays. */
-static void check_long_message(void) {
-    X(_state) S, before;
     CHECK(X(_init)(&S, LONGEST) == 0);
     memset(S.t, 0xff, 8);
     before = S;
-    CHECK(X(_update)(&S, message, 3 * BLOCK) == ROW(0, -1) &&
-          (IS_LIBB2 || !memcmp(&S, &before, sizeof S)));
+    CHECK(X(_update)(&S, message, 3 * BLOCK) == ROW(0, -1) && (IS_LIBB2 || SAME(S, before)));
 }
 
-/* The two words of the counter are one number. BLAKE2s needs the second from 2^32 bytes on. */
-static void check_counter_words(void) {
+/* The fields that libb2's header names. The two words of the counter are one number: BLAKE2s needs the second from 2^32
+ * bytes on. */
+static void check_fields(void) {
     const uint64_t begun = ((uint64_t)1 << 32) - BLOCK, more = 3 * BLOCK + 1;
     uint64_t count;
     X(_state) S;
-
-    for (int turn = 0; turn < 2; turn++) {
+    CHECK(offsetof(X(_state), last_node) == SIZE - 1);
+    CHECK(X(_init)(&S, 7) == 0 && X(_update)(&S, message, 5 * BLOCK + 3) == 0);
+    memcpy(&count, S.t, sizeof count);
+    CHECK(S.outlen == 7 && IN_STATE(count) + S.buflen == 5 * BLOCK + 3);
+    for (uint64_t turn = 0; turn < 2; turn++) {
         CHECK(X(_init)(&S, LONGEST) == 0);
-        count = begun + (turn ? (uint64_t)7 << 32 : 0);
+        count = IN_STATE(begun + (turn * 7 << 32));
         memcpy(S.t, &count, sizeof count);
         CHECK(X(_update)(&S, message, more) == 0);
         memcpy(&count, S.t, sizeof count);
-        CHECK(count + S.buflen == begun + more + (turn ? (uint64_t)7 << 32 : 0));
+        CHECK(IN_STATE(count) + S.buflen == begun + more + (turn * 7 << 32));
+    }
+}
+
+/* The last-node flag is any value but 0. */
+static void check_last_node(void) {
+    /* The first bytes of hashlib.blake2b(last_node=True).digest(), and of blake2s. */
+#ifdef TEST_S
+    static const uint8_t wanted[] = {0x24, 0xfc, 0x11, 0x3c, 0x3d, 0xbe, 0x8c, 0x84};
+#else
+    static const uint8_t wanted[] = {0x05, 0xcc, 0x8c, 0xc5, 0x31, 0x83, 0xc6, 0xfb};
+#endif
+    X(_state) S;
+    for (int value = 1; value < 256; value++) {
+        CHECK(X(_init)(&S, LONGEST) == 0);
+        S.last_node = (uint8_t)value;
+        CHECK(X(_update)(&S, NULL, 0) == 0 && S.last_node == value && X(_final)(&S, out, LONGEST) == 0);
+        CHECK(!memcmp(out, wanted, 8));
     }
 }
 
@@ -245,62 +225,54 @@ static void check_counter_words(void) {
  * for n in [2**22] * 1024 + [100]: hashed.update(bytes(n)) */
 static void check_long_input(void) {
 #ifdef TEST_S
-    static const uint8_t wanted_bytes[] = {0x1f, 0x45, 0xae, 0xa8, 0x24, 0x53, 0xd6, 0x0d};
+    static const uint8_t wanted[] = {0x1f, 0x45, 0xae, 0xa8, 0x24, 0x53, 0xd6, 0x0d};
 #else
-    static const uint8_t wanted_bytes[] = {0xb0, 0xcc, 0x7b, 0xaa, 0x8d, 0x7a, 0xcf, 0x1d};
+    static const uint8_t wanted[] = {0xb0, 0xcc, 0x7b, 0xaa, 0x8d, 0x7a, 0xcf, 0x1d};
 #endif
     const size_t length = ((size_t)1 << 32) + 100;
     uint8_t *zeros = calloc(length, 1);
     X(_state) S;
-
-    CHECK(zeros && BLAKE2(out, zeros, NULL, LONGEST, length, 0) == 0);
-    CHECK(!memcmp(out, wanted_bytes, sizeof wanted_bytes));
+    CHECK(zeros && BLAKE2(out, zeros, NULL, LONGEST, length, 0) == 0 && !memcmp(out, wanted, sizeof wanted));
     CHECK(X(_init)(&S, LONGEST) == 0 && X(_update)(&S, zeros, length) == 0);
-    CHECK(X(_final)(&S, out, LONGEST) == 0 && !memcmp(out, wanted_bytes, sizeof wanted_bytes));
+    CHECK(X(_final)(&S, out, LONGEST) == 0 && !memcmp(out, wanted, sizeof wanted));
     free(zeros);
 }
+#endif
 
-/* The fields that libb2's header names, and the digest over its own input or key. */
-static void check_fields_and_overlaps(void) {
-    X(_state) S;
-    CHECK(X(_init)(&S, 7) == 0 && X(_update)(&S, message, 5 * BLOCK + 3) == 0);
-    CHECK(S.outlen == 7 && S.t[0] + S.buflen == 5 * BLOCK + 3 && S.t[1] == 0);
-    CHECK(BLAKE2(wanted, "abc", "key", LONGEST, 3, 3) == 0);
-    memcpy(out, "abc", 3);
-    CHECK(BLAKE2(out, out, "key", LONGEST, 3, 3) == 0 && !memcmp(out, wanted, LONGEST));
-    memcpy(out, "key", 3);
-    CHECK(BLAKE2(out, "abc", out, LONGEST, 3, 3) == 0 && !memcmp(out, wanted, LONGEST));
-}
-
-/* The last-node flag is any value but 0. */
-static void check_last_node(void) {
-    X(_state) S;
-    CHECK(X(_init)(&S, LONGEST) == 0 && X(_final)(&S, wanted, LONGEST) == 0);
-    for (int value = 1; value < 256; value++) {
-        CHECK(X(_init)(&S, LONGEST) == 0);
-        S.last_node = (uint8_t)value;
-        CHECK(X(_update)(&S, NULL, 0) == 0 && S.last_node == value &&
-              X(_final)(&S, out, LONGEST) == 0);
-        CHECK(memcmp(out, wanted, LONGEST));
-        if (value > 1) CHECK(!memcmp(out, message, LONGEST));
-        memcpy(message, out, LONGEST);
+#ifdef VULFSJOR_LIBB2_BLAKE2_H
+/* What only the header has: the constants, and blake2, which is blake2b. */
+static void check_header(void) {
+    uint8_t other[64];
+    CHECK(BLAKE2B_BLOCKBYTES == 128 && BLAKE2B_OUTBYTES == 64 && BLAKE2B_KEYBYTES == 64 && BLAKE2B_SALTBYTES == 16);
+    CHECK(BLAKE2S_BLOCKBYTES == 64 && BLAKE2S_OUTBYTES == 32 && BLAKE2S_KEYBYTES == 32 && BLAKE2S_SALTBYTES == 8);
+    CHECK(BLAKE2B_PERSONALBYTES == 16 && BLAKE2S_PERSONALBYTES == 8);
+    CHECK(sizeof(struct __blake2b_param) == 64 && sizeof(struct __blake2s_param) == 32);
+    for (size_t size = 1; size <= 64; size++) {
+        CHECK(blake2(out, message, message + 9, size, 150, 9) == 0);
+        CHECK(blake2b(other, message, message + 9, size, 150, 9) == 0 && !memcmp(out, other, size));
     }
-    CHECK(!memcmp(out, last_empty, 8));
+    CHECK(blake2(out, message, NULL, 0, 1, 0) == -1 && blake2(out, message, NULL, 65, 1, 0) == -1);
+    CHECK(blake2(NULL, message, NULL, 64, 1, 0) == -1 && blake2(out, NULL, NULL, 64, 1, 0) == -1);
 }
+#endif
 
-int main(int count, char **names) {
-    int cases = count > 1 ? cases_of(names[1]) : 0;
-
-    CHECK(cases > 50);
-    check_null_pointers();
-    check_lengths();
-    check_without_run();
-    if (!IS_LIBB2) check_refused_states();
-    check_long_message();
-    check_counter_words();
-    if (!IS_LIBB2 && getenv("VULFSJOR_TEST_HUGE")) check_long_input();
-    check_fields_and_overlaps();
+int main(void) {
+    for (size_t i = 0; i < sizeof message; i++) message[i] = (uint8_t)(i % 251);
+    check_null_pointers(); /* first: no process may fork once libb2 has threads */
+#ifndef TEST_P
+    check_blocks();
+    check_refused_states();
+    check_fields();
     check_last_node();
-    printf("%d cases, %d checks, %d failures\n", cases, checks, fails);
+    if (!IS_LIBB2 && getenv("VULFSJOR_TEST_HUGE")) check_long_input();
+#endif
+    check_lengths();
+    check_without_state();
+    check_in_pieces();
+    check_overlaps();
+#ifdef VULFSJOR_LIBB2_BLAKE2_H
+    check_header();
+#endif
+    printf("%d checks, %d failures\n", checks, fails);
     return fails != 0;
 }

@@ -4,24 +4,6 @@ source "$(dirname "$(readlink -f "$0")")/common.sh"
 
 beside=$prefix/lib/libvulfsjor-libb2.a
 
-# libb2.c with these words behind it.
-names_of_libb2() {
-    local family=$1
-    shift
-    cc -std=c99 -g $quick "${warnings[@]}" $(family_words "$family") -o "$work/libb2" \
-        "$tests/libb2.c" "$@" &&
-        "$work/libb2" "$cases/$family"
-}
-
-# The same of libb2_parallel.c. libb2's threads would spin while they wait.
-parallel_names_of_libb2() {
-    local family=$1
-    shift
-    cc -std=c99 -g $quick "${warnings[@]}" $(family_words "$family") -o "$work/libb2_parallel" \
-        "$tests/libb2_parallel.c" "$@" &&
-        OMP_WAIT_POLICY=passive GOMP_SPINCOUNT=0 "$work/libb2_parallel" "$cases/$family"
-}
-
 # The conformance cases by libb2's names, from a shared library of them. A parameter block may have a depth of 0 and any
 # inner length, as in libb2.
 names_conform() {
@@ -34,14 +16,6 @@ names_conform() {
 | libb2 | blake2bp | 475 of 1316 | none |
 | libb2 | blake2sp | 407 of 1140 | none |
 END
-}
-
-# Random cases of BLAKE2bp or BLAKE2sp against libb2, which needs all of its threads.
-random_cases() {
-    cc -std=c99 -O2 "${warnings[@]}" $(family_words "$1") -I"$include" \
-        "$tests/against_libb2.c" "$archive" -lb2 -o "$work/against_libb2" &&
-        env -u OMP_THREAD_LIMIT OMP_WAIT_POLICY=passive GOMP_SPINCOUNT=0 \
-            "$work/against_libb2" "$2" "$3"
 }
 
 # What docs/ and PORTING.md say of threads: libb2 returns another digest, and no error, if it gets
@@ -95,60 +69,6 @@ beside_libb2() {
         cc "${warnings[@]}" -I"$include" "$tests/beside_libb2.c" $words -o "$work/both" &&
             LD_LIBRARY_PATH=$prefix/lib "$work/both" || return 1
     done
-}
-
-# Two parts of a program that share states, one of them compiled with the header here and the other
-# with libb2's own: each allocates, and each makes every other call. Nothing after a state changes.
-shared_states() {
-    local part
-    cat >"$work/part.c" <<'END'
-#include <blake2.h>
-#include <string.h>
-static struct { blake2b_state b; uint8_t after_b[256]; blake2s_state s; uint8_t after_s[256]; } own;
-void *PART(own)(void) { return memset(&own, 0xaa, sizeof own); }
-int PART(is_whole)(void) {
-    for (int i = 0; i < 256; i++) if (own.after_b[i] != 0xaa || own.after_s[i] != 0xaa) return 0;
-    return 1;
-}
-int PART(init)(void *b, void *s) { return blake2b_init(b, 64) | blake2s_init_key(s, 32, "k", 1); }
-int PART(update)(void *b, void *s, const uint8_t *in, size_t n) {
-    return blake2b_update(b, in, n) | blake2s_update(s, in, n);
-}
-int PART(final)(void *b, void *s, uint8_t *out) {
-    return blake2b_final(b, out, 64) | blake2s_final(s, out + 64, 32);
-}
-void *PART(s)(void) { return &own.s; }
-END
-    cat >"$work/parts.c" <<'END'
-#include <stdint.h>
-#include <stdio.h>
-#define PART(x) void *x##_own(void), *x##_s(void); int x##_is_whole(void), \
-    x##_init(void *, void *), x##_final(void *, void *, uint8_t *), \
-    x##_update(void *, void *, const uint8_t *, size_t);
-PART(a) PART(b)
-int main(void) {
-    uint8_t out[96], in[300] = {0};
-    for (int own = 0; own < 2; own++) for (int turn = 0; turn < 2; turn++) {
-        void *b = own ? b_own() : a_own(), *s = own ? b_s() : a_s();
-        int bad = (turn ? b_init : a_init)(b, s);
-        for (int i = 0; i < 5; i++) bad |= (i % 2 == turn ? b_update : a_update)(b, s, in, 299);
-        bad |= (turn ? a_final : b_final)(b, s, out);
-        if (bad || !(own ? b_is_whole : a_is_whole)()) return 1;
-        for (int i = 0; i < 96; i++) printf("%02x", out[i]);
-        putchar('\n');
-    }
-    return 0;
-}
-END
-    for part in a b; do
-        cc $quick -c "-DPART(x)=${part}_##x" "$work/part.c" -o "$work/part_$part.o" \
-            $([ $part = b ] || echo "-I$libb2") || return 1
-    done
-    cc "$work/parts.c" "$work"/part_[ab].o "$beside" -o "$work/parts" &&
-        diff <("$work/parts") <(python3 -c 'import hashlib
-for turn in range(4):
-    data = bytes(1495)
-    print(hashlib.blake2b(data).hexdigest() + hashlib.blake2s(data, key=b"k").hexdigest())')
 }
 
 # Whether libb2 has threads, as it has where it was built with OpenMP.
@@ -234,35 +154,19 @@ test_libb2() {
     check "libb2.c without a warning" cc -std=c99 -O2 "${warnings[@]}" -c "$here/libb2/libb2.c" \
         -o "$work/libb2.o"
     check "a configure script finds libb2" configure_finds
-    for family in b s bp sp; do
-        check "key_scan.c by libb2's names, blake2$family" keys_of_names $family
+    for family in b bp s sp; do
+        check_once "key_scan.c by libb2's names, blake2$family" keys_of_names $family
+        check "libb2's names, blake2$family" names_of_libb2 $family "$beside"
+        check "libb2's names by the header here, blake2$family" names_of_libb2 $family -DOWN_HEADER -I"$libb2" "$archive"
     done
     needs python3
     check "the conformance cases by libb2's names" names_conform
-    for family in b s; do
-        check "libb2's names, blake2$family" names_of_libb2 $family "$beside"
-        check "libb2's names by the header here, blake2$family" names_of_libb2 $family \
-            -DOWN_HEADER -I"$libb2" "$archive"
-        check "libb2's names, blake2${family}p" parallel_names_of_libb2 ${family}p "$beside"
-        check "libb2's names by the header here, blake2${family}p" parallel_names_of_libb2 \
-            ${family}p -DOWN_HEADER -I"$libb2" "$archive"
-    done
     has_libb2 || missing="no libb2"
-    for family in b s; do
-        check "libb2's names with its own header, blake2$family" names_of_libb2 $family \
-            -DOWN_HEADER "$beside"
-        check "what is said of libb2 itself, blake2$family" names_of_libb2 $family \
-            -DOWN_HEADER -DLIBB2 -w -lb2
-        check "libb2's names with its own header, blake2${family}p" parallel_names_of_libb2 \
-            ${family}p -DOWN_HEADER "$beside"
-        check "what is said of libb2 itself, blake2${family}p" parallel_names_of_libb2 \
-            ${family}p -DOWN_HEADER -DLIBB2 -w -lb2
-        check "200 random cases against libb2, blake2${family}p" random_cases ${family}p 200 2
-        check_huge "10,000 random cases against libb2, blake2${family}p" random_cases \
-            ${family}p 10000 1
+    for family in b s bp sp; do
+        check "libb2's names with its own header, blake2$family" names_of_libb2 $family -DOWN_HEADER "$beside"
+        check "what is said of libb2 itself, blake2$family" names_of_libb2 $family -DOWN_HEADER -DLIBB2 -w -lb2
     done
     check "this library and libb2 in one program" beside_libb2
-    check "states that both headers share" shared_states
     libb2_has_threads || missing=${missing:-"libb2 has no threads"}
     for family in bp sp; do
         check "libb2 with too few threads, blake2$family" too_few_threads $family

@@ -2,17 +2,13 @@
 # Tests the library from C and C++, and the examples of c/README.md.
 source "$(dirname "$(readlink -f "$0")")/common.sh"
 
-# A test of code that all families share: of BLAKE2s and its kin, which repeat BLAKE2b, only in the full test.
-check_once() { if [[ $family == *s* ]]; then check_huge "$@"; else check "$@"; fi; }
-
 # A test program of a hash of the conformance cases, compiled with these words and run: NAME HASH WORDS..
 run_hash() {
     local name=$1 hash=$2
     cc -std=c99 -g $quick "${warnings[@]}" -I"$include" $(hash_words "$hash") "$tests/$name.c" "${@:3}" \
         -o "$work/$name" &&
-        LD_LIBRARY_PATH=$prefix/lib ${run_by-} "$work/$name" "$conforming/$hash.txt"
+        LD_LIBRARY_PATH=$prefix/lib "$work/$name" "$conforming/$hash.txt"
 }
-run_in_valgrind() { run_by="valgrind -q --error-exitcode=9 --leak-check=full" run_hash "$@"; }
 
 # The header alone, in each language that it is for.
 headers_compile() {
@@ -69,13 +65,10 @@ END
         [ "$(grep -c '^vulfsjor' "$work/ignored.c")" -gt 30 ]
 }
 
-# A test program of a family, with these words, whose digests Python's hashlib has to have too.
-compare_lines() {
-    local source=$1
-    shift
-    cc -std=c99 -g "${warnings[@]}" $(family_words "$family") -o "$work/$source" \
-        "$tests/$source.c" "$@" "$archive" &&
-        "$work/$source" >"$work/lines" && python3 "$tests/check_with_hashlib.py" <"$work/lines"
+# edge_cases.c of the family, compiled with these words.
+edge_cases() {
+    cc -std=c99 -g $quick "${warnings[@]}" $(family_words "$family") -I"$include" "$tests/edge_cases.c" "$@" "$archive" \
+        -o "$work/edge_cases" && "$work/edge_cases"
 }
 
 # What the inline functions pass to the library, which is a part of the test; and what those of
@@ -113,10 +106,7 @@ compile_hasher() {
     "$1" "-std=$2" "${warnings[@]}" -Wconversion -Wsign-conversion -Wshadow -Wold-style-cast \
         -Wzero-as-null-pointer-constant -I"$include" "$tests/hasher.cpp" "${@:3}"
 }
-hasher_of_cpp() {
-    compile_hasher "$@" "$archive" -o "$work/hasher" &&
-        "$work/hasher" >"$work/lines" && python3 "$tests/check_with_hashlib.py" <"$work/lines"
-}
+hasher_of_cpp() { compile_hasher "$@" "$archive" -o "$work/hasher" && "$work/hasher"; }
 
 # The conformance cases by the header for C++.
 conformance_of_cpp() {
@@ -184,21 +174,6 @@ python_example() {
         python3 "$tests/ctypes_example.py" "$example" "$shared"
 }
 
-# A family's own tests, and libb2's header.
-test_family() {
-    local level
-    family=$1
-    check "edge_cases.c, blake2$family" compare_lines edge_cases $quick -I"$include"
-    for level in $(some 2 0); do
-        check "libb2_header.c, blake2$family, -O$level" compare_lines libb2_header -O$level \
-            -I"$libb2"
-    done
-    needs_sanitizers
-    check_once "edge_cases.c, blake2$family, with sanitizers" compare_lines edge_cases $quick -I"$include" \
-        "${sanitizers[@]}"
-    needs
-}
-
 # The authors' vectors of BLAKE2Xb or BLAKE2Xs, as conformance cases, by a program that has been made.
 authors_vectors() {
     awk '{ key = $3 == "-" ? "" : " key=" $3
@@ -207,7 +182,7 @@ authors_vectors() {
 }
 
 # The conformance cases of a hash, and made states: with the archive, and of one hash, or of all in the full test, with
-# the shared library, with sanitizers and in valgrind.
+# the shared library, and with sanitizers. secrets.sh runs them in valgrind.
 test_hash() {
     local hash=$1 name check=check_huge
     [ "$hash" != blake2b ] || check=check
@@ -216,8 +191,6 @@ test_hash() {
         $check "$name.c, $hash, with the shared library" run_hash $name "$hash" "$shared"
         needs_sanitizers
         $check "$name.c, $hash, with sanitizers" run_hash $name "$hash" "${sanitizers[@]}" "$archive"
-        needs valgrind
-        $check "$name.c, $hash, in valgrind" run_in_valgrind $name "$hash" -O1 "$archive"
         needs
     done
     [[ $hash == blake2x* ]] || return 0
@@ -282,6 +255,12 @@ test_languages() {
         -fno-exceptions
     needs
     test_keys
+    for family in b s; do
+        check "edge_cases.c, blake2$family" edge_cases
+        needs_sanitizers
+        check_once "edge_cases.c, blake2$family, with sanitizers" edge_cases "${sanitizers[@]}"
+        needs
+    done
     for family in b s bp sp xb xs; do
         check "passed_arguments.c, blake2$family" passes $family
         check "passed_arguments.c, blake2$family, through thunks.h" passes_by_calls $family
@@ -292,7 +271,6 @@ test_languages() {
     check "passed_arguments.c calls each function" all_are_passed
     [ -n "${VULFSJOR_TEST_HUGE-}" ] || skip "huge.c, every call" "VULFSJOR_TEST_HUGE is not set"
     if has python3; then
-        for family in b s; do test_family $family; done
         for hash in "${hashes[@]}"; do test_hash $hash; done
         check "a status that is ignored" ignored_statuses_warn
         test_examples

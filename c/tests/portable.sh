@@ -57,23 +57,10 @@ wiped_by_install() {
 # A test program of a hash of the conformance cases: NAME HASH
 hash_there() { run_there "$1" $(hash_words "$2") "$tests/$1.c" -- "$conforming/$2.txt"; }
 
-# Whether the lines of a program are right: those of another processor, which were, or each by
-# hashlib.
-lines_are_right() {
-    cmp -s "$work/lines" "$work/right-$1" ||
-        { python3 "$tests/check_with_hashlib.py" <"$work/lines" && cp "$work/lines" "$work/right-$1"; }
-}
-
-edge_cases_there() {
-    run_there edge_cases $(family_words "$family") "$tests/edge_cases.c" -- >"$work/lines" &&
-        lines_are_right "edge_cases-$family"
-}
+edge_cases_there() { run_there edge_cases $(family_words "$1") "$tests/edge_cases.c" --; }
 
 # libb2's names, which copy states of libb2.
-libb2_there() {
-    run_there libb2 $(family_words "$family") "-I$here/include/libb2" "$tests/libb2_header.c" -- \
-        >"$work/lines" && lines_are_right "libb2-$family"
-}
+libb2_there() { run_there libb2 $(family_words "$1") -DOWN_HEADER "-I$here/include/libb2" "$tests/libb2.c" --; }
 
 tree_parts_there() { run_there tree_parts "$tests/tree_parts.c" -- "$1"; }
 
@@ -100,8 +87,8 @@ test_there() {
         check "made_states.c, $hash, for $processor" hash_there made_states $hash
     done
     for family in $families; do
-        check "edge_cases.c, blake2$family, for $processor" edge_cases_there
-        check "libb2_header.c, blake2$family, for $processor" libb2_there
+        check "edge_cases.c, blake2$family, for $processor" edge_cases_there $family
+        check "libb2.c, blake2$family, for $processor" libb2_there $family
     done
     check "tree_parts.c, for $processor" tree_parts_there $turns
     check "the stack that is wiped, for $processor" stack_there

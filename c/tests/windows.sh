@@ -302,16 +302,13 @@ test_windows() {
         $check "conformance.c, $hash, from one build to the others" all_builds_for_windows $hash
     done
     for family in b s; do
-        check_by_wine "edge_cases.c, blake2$family, for Windows" compare_lines edge_cases -O2 -I"$include"
-        check_by_wine "passed_arguments.c, blake2$family, for Windows, through thunks.h" \
-            passes_by_calls $family
+        check_by_wine "edge_cases.c, blake2$family, for Windows" edge_cases
         check_by_wine "key_scan.c, blake2$family, for Windows" scan_for_keys
-        check_once_by_wine "libb2_header.c, blake2$family, for Windows" compare_lines libb2_header -O2 \
-            -I"$libb2" "$prefix/lib/libvulfsjor-libb2.a"
+        check_once_by_wine "libb2.c, blake2$family, for Windows" names_of_libb2 $family -DOWN_HEADER -I"$libb2" \
+            "$prefix/lib/libvulfsjor-libb2.a"
     done
-    for family in bp sp xb xs; do
-        check_by_wine "passed_arguments.c, blake2$family, for Windows, through thunks.h" \
-            passes_by_calls $family
+    for family in b s bp sp xb xs; do
+        check_by_wine "passed_arguments.c, blake2$family, for Windows, through thunks.h" passes_by_calls $family
     done
     check "passed_arguments.c calls each function through thunks.h" all_are_passed
     check_by_wine "tree_parts.c, for Windows" parts_with "$(turns 500)" -O2
