@@ -14,13 +14,17 @@
 
 static int checks, fails;
 
-/* Counts a condition, and reports it if it does not hold. */
+/* Counts a condition, and reports it if it does not hold, with what a test has to say of it. */
+#ifndef SAY_MORE
+#define SAY_MORE() (void)0
+#endif
 #define CHECK(condition)                                                        \
     do {                                                                        \
         checks++;                                                               \
         if (!(condition)) {                                                     \
             fails++;                                                            \
             fprintf(stderr, "%s:%d: not %s\n", __FILE__, __LINE__, #condition); \
+            SAY_MORE();                                                         \
         }                                                                       \
     } while (0)
 

@@ -66,38 +66,27 @@ static void start_and_take(void) {
 
 /* ---- The calls. Each returns 0 if its status is the expected one. */
 
-static int call_init_key(void) { return BLAKE(init_key)(&state, SIZE, key, MAX); }
+#define CALL(name, wrong) \
+    static int name(void) { return wrong; }
 
-static int call_refused_size(void) { return !BLAKE(init_key)(&state, NO_SIZE, key, MAX); }
-
-static int call_update(void) { return BLAKE(update)(&state, message, length); }
-
+CALL(call_init_key, BLAKE(init_key)(&state, SIZE, key, MAX))
+CALL(call_refused_size, !BLAKE(init_key)(&state, NO_SIZE, key, MAX))
+CALL(call_update, BLAKE(update)(&state, message, length))
 #ifndef TEST_X
-static int call_final(void) { return BLAKE(final)(&state, out, MAX); }
+CALL(call_final, BLAKE(final)(&state, out, MAX))
 #endif
 
 #ifdef LIBB2_NAMES
-static int call_one_call(void) { return BLAKE2(out, message, key, MAX, length, MAX); }
+CALL(call_one_call, BLAKE2(out, message, key, MAX, length, MAX))
 #else
 static uint8_t salt[2 * MAX];
 
-static int call_init_salt(void) {
-    return BLAKE(init_salt_personal)(&state, SIZE, key, MAX, salt, MAX / 4, salt, MAX / 4);
-}
-
+CALL(call_init_salt, BLAKE(init_salt_personal)(&state, SIZE, key, MAX, salt, MAX / 4, salt, MAX / 4))
 /* Not by the header, which sets the state to zero before. */
-static int call_refused_salt(void) {
-    return !LIBRARY(init_salt_personal)(&state, SIZE, key, MAX, salt, MAX / 4 + 1, salt, 0);
-}
-
-static int call_one_call(void) { return ONE_CALL(out, SIZE, message, length, key, MAX); }
-
-static int call_reset(void) { return BLAKE(reset)(&state); }
-
-static int call_wipe(void) {
-    BLAKE(wipe)(&state);
-    return 0;
-}
+CALL(call_refused_salt, !LIBRARY(init_salt_personal)(&state, SIZE, key, MAX, salt, MAX / 4 + 1, salt, 0))
+CALL(call_one_call, ONE_CALL(out, SIZE, message, length, key, MAX))
+CALL(call_reset, BLAKE(reset)(&state))
+CALL(call_wipe, (BLAKE(wipe)(&state), 0))
 
 #ifdef TEST_X
 static void start_and_read(void) {
@@ -115,72 +104,38 @@ static void start_read_and_reset(void) {
     if (BLAKE(reset)(&state)) report_failure("a reset");
 }
 
-static int call_derive_key(void) {
-    return BLAKE(derive_key)(out, SIZE, key, MAX, message, length);
-}
-
-static int call_squeeze_none(void) { return BLAKE(squeeze)(&state, NULL, 0); }
-
-static int call_squeeze_part(void) { return BLAKE(squeeze)(&state, out, 7); }
-
-static int call_squeeze_block(void) { return BLAKE(squeeze)(&state, out, MAX); }
-
-static int call_squeeze_blocks(void) { return BLAKE(squeeze)(&state, out, LANES * MAX); }
-
-static int call_refused_squeeze(void) { return !BLAKE(squeeze)(&state, out, SIZE); }
-
-static int call_refused_update(void) { return !BLAKE(update)(&state, message, length); }
-#elif defined(TEST_P)
-static int call_refused(void) {
-    return BLAKE(refused)(MAX, key, MAX, salt, MAX / 4, salt, MAX) != VULFSJOR_ARGUMENT_PERSONAL;
-}
-
-static int call_refused_null(void) {
-    return BLAKE(refused)(MAX, key, MAX, NULL, 1, NULL, 0) != VULFSJOR_ARGUMENT_SALT;
-}
+CALL(call_derive_key, BLAKE(derive_key)(out, SIZE, key, MAX, message, length))
+CALL(call_squeeze_none, BLAKE(squeeze)(&state, NULL, 0))
+CALL(call_squeeze_part, BLAKE(squeeze)(&state, out, 7))
+CALL(call_squeeze_block, BLAKE(squeeze)(&state, out, MAX))
+CALL(call_squeeze_blocks, BLAKE(squeeze)(&state, out, LANES * MAX))
+CALL(call_refused_squeeze, !BLAKE(squeeze)(&state, out, SIZE))
+CALL(call_refused_update, !BLAKE(update)(&state, message, length))
+#else
+#ifdef TEST_P
+#define REFUSED(...) BLAKE(refused)(__VA_ARGS__)
+CALL(call_refused, REFUSED(MAX, key, MAX, salt, MAX / 4, salt, MAX) != VULFSJOR_ARGUMENT_PERSONAL)
 #else
 static vulfsjor_tree tree = {3, 4096, 2, 2, 0, MAX}, no_tree = {3, 4096, 2, 0, 0, MAX};
 
-static int call_init_tree(void) {
-    return BLAKE(init_tree)(&state, MAX, key, MAX, salt, MAX / 4, salt, MAX / 4, &tree);
-}
-
-static int call_refused_depth(void) {
-    return !BLAKE(init_tree)(&state, MAX, key, MAX, salt, 0, salt, 0, &no_tree);
-}
-
-static int call_refused(void) {
-    return BLAKE(refused)(MAX, key, MAX, salt, MAX / 4, salt, MAX / 4, &no_tree) !=
-           VULFSJOR_ARGUMENT_DEPTH;
-}
-
-static int call_refused_null(void) {
-    return BLAKE(refused)(MAX, key, MAX, NULL, 1, NULL, 0, NULL) != VULFSJOR_ARGUMENT_SALT;
-}
-
-static int call_many_one(void) { return BLAKE(many)(out, MAX, messages, 1, key, MAX, 0, 0, 0, 0); }
-
-static int call_many_four(void) { return BLAKE(many)(out, MAX, messages, 4, key, MAX, 0, 0, 0, 0); }
-
-static int call_many_lanes(void) {
-    return BLAKE(many)(out, MAX, messages, LANES, key, MAX, 0, 0, 0, 0);
-}
-
-static int call_many_more(void) {
-    return BLAKE(many)(out, MAX, messages, LANES + 1, key, MAX, 0, 0, 0, 0);
-}
-
-static int call_set_last_node(void) { return BLAKE(set_last_node)(&state, 1); }
+#define REFUSED(...) BLAKE(refused)(__VA_ARGS__, NULL)
+#define MANY(count) BLAKE(many)(out, MAX, messages, count, key, MAX, 0, 0, 0, 0)
+CALL(call_init_tree, BLAKE(init_tree)(&state, MAX, key, MAX, salt, MAX / 4, salt, MAX / 4, &tree))
+CALL(call_refused_depth, !BLAKE(init_tree)(&state, MAX, key, MAX, salt, 0, salt, 0, &no_tree))
+CALL(call_refused, BLAKE(refused)(MAX, key, MAX, salt, 1, salt, 1, &no_tree) != VULFSJOR_ARGUMENT_DEPTH)
+CALL(call_many_one, MANY(1))
+CALL(call_many_four, MANY(4))
+CALL(call_many_lanes, MANY(LANES))
+CALL(call_many_more, MANY(LANES + 1))
+CALL(call_set_last_node, BLAKE(set_last_node)(&state, 1))
 #endif
 
-#ifndef TEST_X
-static int call_verify_right(void) { return BLAKE(verify)(&state, tag, MAX); }
+CALL(call_refused_null, REFUSED(MAX, key, MAX, NULL, 1, NULL, 0) != VULFSJOR_ARGUMENT_SALT)
+CALL(call_verify_right, BLAKE(verify)(&state, tag, MAX))
+CALL(call_verify_wrong, !BLAKE(verify)(&state, wrong, MAX))
+CALL(call_verify_short, !BLAKE(verify)(&state, tag, MAX - 1))
 
-static int call_verify_wrong(void) { return !BLAKE(verify)(&state, wrong, MAX); }
-
-static int call_verify_short(void) { return !BLAKE(verify)(&state, tag, MAX - 1); }
-
-/* A copy of the key in a frame that is then dead. */
+/* A copy of the key in a frame that is then dead, and one by its digits. */
 static int call_wipe_bytes(void) {
     uint8_t copy[MAX];
     int status;

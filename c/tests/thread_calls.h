@@ -1,5 +1,8 @@
 /* What thread_faults.c has instead of the system: the calls of threads.c that can fail, and which of them does; and
  * the calls of vulfsjor_threads.h over them, after which nothing may be left. */
+#define SAY_MORE() fprintf(stderr, "%s %d\n", fault.call, fault.at)
+#include "check.h"
+
 #include <dirent.h>
 #include <errno.h>
 #include <fcntl.h>
@@ -7,7 +10,6 @@
 #include <pthread.h>
 #include <sched.h>
 #include <signal.h>
-#include <stdio.h>
 #include <stdlib.h>
 #include <sys/stat.h>
 #include <unistd.h>
@@ -20,16 +22,6 @@ enum { BYTES = 40 << 20, FEW = 100000 };
 #else
 #define EACH_BYTE 0
 #endif
-
-static int fails;
-#define CHECK(condition)                                                                  \
-    do {                                                                                  \
-        if (!(condition)) {                                                               \
-            fails++;                                                                      \
-            fprintf(stderr, "%s:%d: not %s (%s %d)\n", __FILE__, __LINE__, #condition,   \
-                    fault.call, fault.at);                                                \
-        }                                                                                 \
-    } while (0)
 
 /* ---- the calls of threads.c that can fail */
 
@@ -126,44 +118,28 @@ static int is_hash(const char *name) {
         return __real_##name arguments;                 \
     }
 
-WRAP(int32_t, vulfsjor_ffi_tree_leaves, -1,
-     (uint8_t * o, size_t on, uint64_t f, uint32_t e, const uint8_t *i, size_t n, const uint8_t *s,
-      size_t sn, const uint8_t *p, size_t pn, uint32_t l),
-     (o, on, f, e, i, n, s, sn, p, pn, l))
-WRAP(int32_t, vulfsjor_ffi_tree_init_root, -1,
-     (vulfsjor_blake2b_state * r, size_t on, const uint8_t *s, size_t sn, const uint8_t *p,
-      size_t pn, uint32_t l),
-     (r, on, s, sn, p, pn, l))
-WRAP(int32_t, vulfsjor_ffi_tree_root, -1,
-     (uint8_t * o, size_t on, const uint8_t *i, size_t n, const uint8_t *s, size_t sn,
-      const uint8_t *p, size_t pn, uint32_t l),
-     (o, on, i, n, s, sn, p, pn, l))
-WRAP(int32_t, vulfsjor_ffi_tree_update, -1, (vulfsjor_tree_state * s, const uint8_t *i, size_t n),
-     (s, i, n))
-WRAP(int32_t, vulfsjor_ffi_tree_leaves_ahead, -1,
-     (const vulfsjor_tree_state *s, uint8_t *o, size_t on, uint64_t k, const uint8_t *i, size_t n),
-     (s, o, on, k, i, n))
-WRAP(int32_t, vulfsjor_ffi_tree_update_leaves, -1,
-     (vulfsjor_tree_state * s, const uint8_t *d, size_t dn, const uint8_t *i, size_t n),
-     (s, d, dn, i, n))
-WRAP(int32_t, vulfsjor_ffi_tree_final, -1, (vulfsjor_tree_state * s, uint8_t *o, size_t n),
-     (s, o, n))
+#define IN(name) const uint8_t *name, size_t name##n
+#define TEXTS IN(s), IN(p), uint32_t l
+#define GIVEN s, sn, p, pn, l
+#define TREE vulfsjor_tree_state *t
+WRAP(int32_t, vulfsjor_ffi_tree_leaves, -1, (uint8_t *o, size_t on, uint64_t f, uint32_t e, IN(i), TEXTS),
+     (o, on, f, e, i, in, GIVEN))
+WRAP(int32_t, vulfsjor_ffi_tree_init_root, -1, (vulfsjor_blake2b_state *r, size_t on, TEXTS), (r, on, GIVEN))
+WRAP(int32_t, vulfsjor_ffi_tree_root, -1, (uint8_t *o, size_t on, IN(i), TEXTS), (o, on, i, in, GIVEN))
+WRAP(int32_t, vulfsjor_ffi_tree_update, -1, (TREE, IN(i)), (t, i, in))
+WRAP(int32_t, vulfsjor_ffi_tree_leaves_ahead, -1, (const TREE, uint8_t *o, size_t on, uint64_t k, IN(i)),
+     (t, o, on, k, i, in))
+WRAP(int32_t, vulfsjor_ffi_tree_update_leaves, -1, (TREE, IN(d), IN(i)), (t, d, dn, i, in))
+WRAP(int32_t, vulfsjor_ffi_tree_final, -1, (TREE, uint8_t *o, size_t n), (t, o, n))
 WRAP(int32_t, vulfsjor_ffi_tree_plan, -1,
-     (vulfsjor_plan * p, uint64_t s, uint64_t n, uint32_t l, const vulfsjor_limits *m),
-     (p, s, n, l, m))
-WRAP(int32_t, vulfsjor_ffi_tree_plan_update, -1,
-     (vulfsjor_plan * p, const vulfsjor_tree_state *s, uint64_t n, const vulfsjor_limits *m),
-     (p, s, n, m))
-WRAP(int32_t, vulfsjor_ffi_tree_part, -1,
-     (vulfsjor_part * p, const vulfsjor_plan *w, uint64_t i), (p, w, i))
-WRAP(int32_t, vulfsjor_ffi_tree_init_leaf, -1,
-     (vulfsjor_blake2b_state * t, uint64_t i, uint32_t l, const uint8_t *s, size_t sn,
-      const uint8_t *p, size_t pn, uint32_t n),
-     (t, i, l, s, sn, p, pn, n))
-WRAP(int32_t, vulfsjor_ffi_blake2b_update, -1,
-     (vulfsjor_blake2b_state * s, const uint8_t *i, size_t n), (s, i, n))
-WRAP(int32_t, vulfsjor_ffi_blake2b_final, -1, (vulfsjor_blake2b_state * s, uint8_t *o, size_t n),
-     (s, o, n))
+     (vulfsjor_plan *w, uint64_t s, uint64_t n, uint32_t l, const vulfsjor_limits *m), (w, s, n, l, m))
+WRAP(int32_t, vulfsjor_ffi_tree_plan_update, -1, (vulfsjor_plan *w, const TREE, uint64_t n, const vulfsjor_limits *m),
+     (w, t, n, m))
+WRAP(int32_t, vulfsjor_ffi_tree_part, -1, (vulfsjor_part *p, const vulfsjor_plan *w, uint64_t i), (p, w, i))
+WRAP(int32_t, vulfsjor_ffi_tree_init_leaf, -1, (vulfsjor_blake2b_state *r, uint64_t i, uint32_t e, TEXTS),
+     (r, i, e, GIVEN))
+WRAP(int32_t, vulfsjor_ffi_blake2b_update, -1, (vulfsjor_blake2b_state *r, IN(i)), (r, i, in))
+WRAP(int32_t, vulfsjor_ffi_blake2b_final, -1, (vulfsjor_blake2b_state *r, uint8_t *o, size_t n), (r, o, n))
 
 WRAP(off_t, lseek, -1, (int f, off_t from, int w), (f, from, w))
 #if __GLIBC_PREREQ(2, 33) /* before that it is not a function */
@@ -321,19 +297,30 @@ static int root_of_updates(void) {
     return status;
 }
 
-/* The file through a pipe that holds all of it. */
-static int root_of_pipe(void) {
-    int ends[2], status, error;
+/* Closes the file of a call, whose status and errno stay. */
+static int close_after(int file, int status) {
+    const int error = errno;
 
-    if (pipe(ends) || fcntl(ends[1], F_SETPIPE_SZ, 1 << 20) < 0 ||
-        write(ends[1], message, length) != (ssize_t)length)
-        exit(3);
-    close(ends[1]);
-    status = vulfsjor_tree_root_fd(root, 64, ends[0], 0, 0, 0, 0, leaf, asked);
-    error = errno;
-    close(ends[0]);
+    close(file);
     errno = error;
     return status;
+}
+
+/* A pipe that holds all of the message after these bytes. */
+static int pipe_after(size_t head) {
+    int ends[2];
+
+    if (pipe(ends) || fcntl(ends[1], F_SETPIPE_SZ, 1 << 20) < 0 ||
+        write(ends[1], message + head, length - head) != (ssize_t)(length - head))
+        exit(3);
+    close(ends[1]);
+    return ends[0];
+}
+
+static int root_of_pipe(void) {
+    const int file = pipe_after(0);
+
+    return close_after(file, vulfsjor_tree_root_fd(root, 64, file, 0, 0, 0, 0, leaf, asked));
 }
 
 /* What the calls of progress have reported: how often, the last number, and whether each was more
@@ -371,34 +358,23 @@ static int update_by(int file, size_t head) {
     return status;
 }
 
-/* The message after its first 1,000 bytes from the file, or all of it, or all from a pipe. */
+/* The message after its first 1,000 bytes from the file, or all of it, or after them from a pipe. */
 static int root_after(size_t head) {
-    int file = open(path, O_RDONLY | O_CLOEXEC), status, error;
+    int file = open(path, O_RDONLY | O_CLOEXEC), status;
 
     if (file < 0 || __real_lseek(file, (off_t)head, SEEK_SET) < 0) exit(3);
     status = update_by(file, head);
-    error = errno;
     CHECK(status || reads.resized_at || __real_lseek(file, 0, SEEK_CUR) == (off_t)length);
-    close(file);
-    errno = error;
-    return status;
+    return close_after(file, status);
 }
 
 static int root_of_rest(void) { return root_after(1000); }
 static int root_of_all(void) { return root_after(0); }
 
 static int root_of_piped_rest(void) {
-    int ends[2], status, error;
+    const int file = pipe_after(1000);
 
-    if (pipe(ends) || fcntl(ends[1], F_SETPIPE_SZ, 1 << 20) < 0 ||
-        write(ends[1], message + 1000, length - 1000) != (ssize_t)(length - 1000))
-        exit(3);
-    close(ends[1]);
-    status = update_by(ends[0], 1000);
-    error = errno;
-    close(ends[0]);
-    errno = error;
-    return status;
+    return close_after(file, update_by(file, 1000));
 }
 
 /* How many descriptors are open. */
@@ -411,18 +387,24 @@ static int open_descriptors(void) {
     return count;
 }
 
-/* Makes the call, which has to fail with this errno, or to succeed if `error` is 0. No memory,
- * thread or descriptor may be left. */
-static void expect_errno(int (*call)(void), int error) {
-    int open = open_descriptors(), status;
+/* Makes the call, after which no memory, thread or descriptor may be left, and the root is there or is blank. */
+static int call_cleanly(int (*call)(void)) {
+    int open = open_descriptors(), status, error;
 
     memcpy(root, blank, 64);
     errno = reads.inherited = 0;
     status = call();
+    error = errno;
     CHECK(call != root_of_file || !reads.inherited);
-    CHECK(status == (error ? -1 : 0) && (!error || errno == error));
-    CHECK(!memcmp(root, error ? blank : wanted, 64));
+    CHECK(!memcmp(root, status ? blank : wanted, 64));
     CHECK(!atomic_value(&allocated) && !atomic_value(&running) && open_descriptors() == open);
+    errno = error;
+    return status;
+}
+
+/* The same of a call that has to fail with this errno, or to succeed if `error` is 0. */
+static void expect_errno(int (*call)(void), int error) {
+    CHECK(call_cleanly(call) == (error ? -1 : 0) && (!error || errno == error));
 }
 
 /* Fails the first call of this name, then the second, until there is no such call. There have to be
@@ -431,15 +413,11 @@ static void each_call_fails(int (*call)(void), const char *name, int given, int 
     int at = 0, hit = 1;
 
     while (hit) {
-        int open = open_descriptors(), status;
+        int status;
         plan_fault(name, ++at, given);
-        memcpy(root, blank, 64);
-        errno = 0;
-        status = call();
+        status = call_cleanly(call);
         hit = is_hit();
         CHECK(status == (hit && error ? -1 : 0) && (!status || errno == error));
-        CHECK(!memcmp(root, status ? blank : wanted, 64));
-        CHECK(!atomic_value(&allocated) && !atomic_value(&running) && open_descriptors() == open);
     }
     CHECK(at > least);
     plan_fault("", 0, 0);

@@ -188,13 +188,8 @@ static void progress_ends_calls(void) {
         for (int most = reported.calls, at = 1; at <= most; at++) {
             reported.last_call = at;
             plan_fault("", 0, 0);
-            memcpy(root, blank, 64);
-            if (!calls[i]()) {
-                CHECK(reported.calls < at); /* this thread had fewer parts now */
-                continue;
-            }
-            CHECK(errno == ECANCELED && reported.calls == at && !memcmp(root, blank, 64));
-            CHECK(!atomic_value(&allocated) && !atomic_value(&running));
+            if (call_cleanly(calls[i])) CHECK(errno == ECANCELED && reported.calls == at);
+            else CHECK(reported.calls < at); /* this thread had fewer parts now */
         }
         reported.last_call = 0;
     }

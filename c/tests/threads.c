@@ -9,6 +9,8 @@
  *
  * It is also run over threads.c compiled with -DLEAST_BYTES=1, so few bytes have many threads. */
 #define _GNU_SOURCE
+#define SAY_MORE() perror("errno")
+#include "check.h"
 #include "vulfsjor_threads.h"
 #define LIMIT 600 /* of thousands of random messages */
 #include "time_limit.h"
@@ -19,7 +21,6 @@
 #include <limits.h>
 #include <pthread.h>
 #include <signal.h>
-#include <stdio.h>
 #include <stdlib.h>
 #include <sys/mman.h>
 #include <sys/socket.h>
@@ -33,15 +34,6 @@
 #endif
 
 enum { BYTES = 35 << 20 };
-
-static int fails;
-#define CHECK(condition)                                                      \
-    do {                                                                      \
-        if (!(condition)) {                                                   \
-            fails++;                                                          \
-            fprintf(stderr, "threads.c:%d: not %s (errno %d)\n", __LINE__, #condition, errno); \
-        }                                                                     \
-    } while (0)
 
 static unsigned char *message, root[64], wanted[64], blank[64];
 static char path[PATH_MAX], other[PATH_MAX];
@@ -104,48 +96,32 @@ static void compare_roots(size_t length, size_t outlen, uint32_t leaf, unsigned 
 
     memcpy(wanted, blank, 64);
     CHECK(!vulfsjor_tree_root(wanted, outlen, in, length, "salt", 4, "pers", 4, leaf));
-    memcpy(root, blank, 64);
-    overwrite_free_memory(length, leaf);
-    CHECK(
-        !vulfsjor_tree_root_threads(root, outlen, in, length, "salt", 4, "pers", 4, leaf, threads));
-    CHECK(!memcmp(root, wanted, 64));
-    memcpy(root, blank, 64);
-    overwrite_free_memory(length, leaf);
-    CHECK(!vulfsjor_tree_root_file(root, outlen, path, "salt", 4, "pers", 4, leaf, threads));
-    CHECK(!memcmp(root, wanted, 64));
-    memcpy(root, blank, 64);
-    overwrite_free_memory(length, leaf);
-    CHECK(!vulfsjor_tree_root_fd(root, outlen, file, "salt", 4, "pers", 4, leaf, threads));
-    CHECK(!memcmp(root, wanted, 64) && lseek(file, 0, SEEK_CUR) == (off_t)length);
-    close(file);
+    for (int way = 0; way < 3; way++) {
+        memcpy(root, blank, 64);
+        overwrite_free_memory(length, leaf);
+        CHECK(!(way == 0   ? vulfsjor_tree_root_threads(root, outlen, in, length, "salt", 4, "pers", 4, leaf, threads)
+                : way == 1 ? vulfsjor_tree_root_file(root, outlen, path, "salt", 4, "pers", 4, leaf, threads)
+                           : vulfsjor_tree_root_fd(root, outlen, file, "salt", 4, "pers", 4, leaf, threads)));
+        CHECK(!memcmp(root, wanted, 64));
+    }
+    CHECK(lseek(file, 0, SEEK_CUR) == (off_t)length && !close(file));
 }
 
-/* The state that has absorbed the head of the message, and its rest from the file at this path. */
-static vulfsjor_tree_state by_file(size_t length, size_t head, uint32_t leaf, unsigned threads) {
+/* Compares the root of a file that is absorbed after this head, and then a byte, with that of the bytes. */
+static void compare_by_file(size_t length, size_t head, uint32_t leaf, unsigned threads) {
     vulfsjor_tree_state state;
     int file = open(path, O_RDONLY);
 
     CHECK(!vulfsjor_tree_init(&state, 64, "salt", 4, "pers", 4, leaf));
     CHECK(!vulfsjor_tree_update(&state, message, head) && lseek(file, (off_t)head, SEEK_SET) >= 0);
-    CHECK(!vulfsjor_tree_update_fd(&state, file, threads, NULL, NULL));
-    CHECK(lseek(file, 0, SEEK_CUR) == (off_t)length);
-    close(file);
-    return state;
-}
-
-/* Compares the root of a file that is absorbed after this head, and then a byte, with that of the
- * bytes. */
-static void compare_by_file(size_t length, size_t head, uint32_t leaf, unsigned threads) {
-    vulfsjor_tree_state state = by_file(length, head, leaf, threads), longer = state;
-
-    CHECK(vulfsjor_tree_count(&state) == length);
-    CHECK(!vulfsjor_tree_final(&state, root, 64));
-    CHECK(!vulfsjor_tree_root(wanted, 64, message, length, "salt", 4, "pers", 4, leaf));
-    CHECK(!memcmp(root, wanted, 64));
-    CHECK(!vulfsjor_tree_update(&longer, message + length, 1));
-    CHECK(!vulfsjor_tree_final(&longer, root, 64));
-    CHECK(!vulfsjor_tree_root(wanted, 64, message, length + 1, "salt", 4, "pers", 4, leaf));
-    CHECK(!memcmp(root, wanted, 64));
+    CHECK(!vulfsjor_tree_update_fd(&state, file, threads, NULL, NULL) && vulfsjor_tree_count(&state) == length);
+    CHECK(lseek(file, 0, SEEK_CUR) == (off_t)length && !close(file));
+    for (size_t more = 0; more < 2; more++) {
+        vulfsjor_tree_state longer = state;
+        CHECK(!vulfsjor_tree_update(&longer, message + length, more) && !vulfsjor_tree_final(&longer, root, 64));
+        CHECK(!vulfsjor_tree_root(wanted, 64, message, length + more, "salt", 4, "pers", 4, leaf));
+        CHECK(!memcmp(root, wanted, 64));
+    }
 }
 
 static void random_roots(int turns) {
@@ -205,8 +181,7 @@ static int are_alike(vulfsjor_tree_state a, vulfsjor_tree_state b, size_t outlen
     return are && !memcmp(root, wanted, 64);
 }
 
-/* Absorbs the message in pieces of random lengths, by threads and without, and compares the
- * states. */
+/* Absorbs the message in pieces of random lengths, by threads and without, and compares the states. */
 static void compare_updates(size_t length, uint32_t leaf, size_t most, unsigned threads) {
     vulfsjor_tree_state by_threads, by_one;
     size_t outlen = 1 + random_below(64);
@@ -217,40 +192,31 @@ static void compare_updates(size_t length, uint32_t leaf, size_t most, unsigned 
         size_t n = random_below(most + 1);
         if (n > length - done) n = length - done;
         CHECK(!vulfsjor_tree_update_threads(&by_threads, n ? message + done : NULL, n, threads));
-        CHECK(!vulfsjor_tree_update(&by_one, message + done, n));
-        CHECK(are_alike(by_threads, by_one, outlen));
+        CHECK(!vulfsjor_tree_update(&by_one, message + done, n) && are_alike(by_threads, by_one, outlen));
         done += n;
     }
-    memcpy(root, blank, 64);
-    memcpy(wanted, blank, 64);
-    CHECK(!vulfsjor_tree_final(&by_threads, root, outlen));
+    CHECK(are_alike(by_threads, by_one, outlen));
     CHECK(!vulfsjor_tree_root(wanted, outlen, message, length, "salt", 4, "pers", 4, leaf));
-    CHECK(!memcmp(root, wanted, 64));
+    CHECK(!memcmp(root, wanted, outlen));
 }
 
+/* Random pieces, and such that end at leaves, one byte before and one byte after. */
 static void check_updates(int turns) {
+    enum { LEAF = 70000 };
+
     for (int turn = 0; turn < turns; turn++)
         compare_updates(random_below(30000), (uint32_t)(1 + random_below(turn % 2 ? 2000 : 60)),
                         turn % 3 ? 10000 : 300, (unsigned)random_below(6));
     for (int turn = 0; turn < 8; turn++)
         compare_updates(8 << 20, (uint32_t)(1 + random_below(200000)), 4 << 20, 4);
-}
-
-/* Pieces that end at leaves, one byte before and one byte after. */
-static void updates_at_leaves(void) {
-    enum { LEAF = 70000 };
-
-    for (int first = -1; first <= 1; first++)
-        for (int second = -1; second <= 1; second++) {
-            vulfsjor_tree_state state;
-            size_t one = (size_t)(10 * LEAF + first), two = (size_t)(9 * LEAF + second);
-            CHECK(!vulfsjor_tree_init(&state, 64, 0, 0, 0, 0, LEAF));
-            CHECK(!vulfsjor_tree_update_threads(&state, message, one, 3));
-            CHECK(!vulfsjor_tree_update_threads(&state, message + one, two, 3));
-            CHECK(!vulfsjor_tree_final(&state, root, 64));
-            CHECK(!vulfsjor_tree_root(wanted, 64, message, one + two, 0, 0, 0, 0, LEAF));
-            CHECK(!memcmp(root, wanted, 64));
-        }
+    for (size_t i = 0; i < 9; i++) {
+        vulfsjor_tree_state state;
+        const size_t one = 10 * LEAF - 1 + i % 3, two = 9 * LEAF - 1 + i / 3;
+        CHECK(!vulfsjor_tree_init(&state, 64, 0, 0, 0, 0, LEAF));
+        CHECK(!vulfsjor_tree_update_threads(&state, message, one, 3));
+        CHECK(!vulfsjor_tree_update_threads(&state, message + one, two, 3) && !vulfsjor_tree_final(&state, root, 64));
+        CHECK(!vulfsjor_tree_root(wanted, 64, message, one + two, 0, 0, 0, 0, LEAF) && !memcmp(root, wanted, 64));
+    }
 }
 
 #define KEPT(call)                                                                        \
@@ -441,39 +407,32 @@ static void check_special_files(void) {
         CHECK((call) == -1 && errno == (error) && !memcmp(root, blank, 64)); \
     } while (0)
 
+/* Wrong arguments of each call, alone, which it refuses before anything is opened or read. */
 static void check_refused_arguments(void) {
-    REFUSED(EINVAL, root_threads(root, 0, message, 5, 0, 0, 0, 0, 4, 2));
-    REFUSED(EINVAL, root_threads(root, 65, message, 5, 0, 0, 0, 0, 4, 2));
-    REFUSED(EINVAL, root_threads(NULL, 64, message, 5, 0, 0, 0, 0, 4, 2));
-    REFUSED(EINVAL, root_threads(root, 64, NULL, 5, 0, 0, 0, 0, 4, 2));
-    REFUSED(EINVAL, root_threads(root, 64, message, 5, message, 17, 0, 0, 4, 2));
-    REFUSED(EINVAL, root_threads(root, 64, message, 5, NULL, 1, 0, 0, 4, 2));
-    REFUSED(EINVAL, root_threads(root, 64, message, 5, 0, 0, message, 17, 4, 2));
-    REFUSED(EINVAL, root_threads(root, 64, message, 5, 0, 0, NULL, 1, 4, 2));
-    REFUSED(EINVAL, root_threads(root, 64, message, 5, 0, 0, 0, 0, 0, 2));
-    REFUSED(EINVAL, root_threads(root, 64, message, (size_t)1 << 58, 0, 0, 0, 0, 1, 2));
-    REFUSED(EINVAL, root_threads(root, 64, message, SIZE_MAX, 0, 0, 0, 0, 1, 1));
-}
-
-/* Each is refused before anything is opened or read. */
-static void refused_arguments_of_files(void) {
+    static const struct {
+        size_t outlen, saltlen, personallen;
+        const void *salt, *personal;
+        uint32_t leaf;
+    } rows[] = {{0, 0, 0, NULL, NULL, 4},  {65, 0, 0, NULL, NULL, 4},  {64, 17, 0, blank, NULL, 4},
+                {64, 1, 0, NULL, NULL, 4}, {64, 0, 17, NULL, blank, 4}, {64, 0, 1, NULL, NULL, 4},
+                {64, 0, 0, NULL, NULL, 0}};
     int ends[2];
 
     CHECK(!pipe(ends) && write(ends[1], "a", 1) == 1 && !close(ends[1]));
-    REFUSED(EINVAL, root_fd(root, 0, ends[0], 0, 0, 0, 0, 4, 2));
-    REFUSED(EINVAL, root_fd(root, 65, ends[0], 0, 0, 0, 0, 4, 2));
+    for (size_t i = 0; i < sizeof rows / sizeof *rows; i++) {
+#define ROW rows[i].salt, rows[i].saltlen, rows[i].personal, rows[i].personallen, rows[i].leaf, 2
+        REFUSED(EINVAL, root_threads(root, rows[i].outlen, message, 5, ROW));
+        REFUSED(EINVAL, root_fd(root, rows[i].outlen, ends[0], ROW));
+        REFUSED(EINVAL, root_file(root, rows[i].outlen, other, ROW));
+    }
+    REFUSED(EINVAL, root_threads(NULL, 64, message, 5, 0, 0, 0, 0, 4, 2));
     REFUSED(EINVAL, root_fd(NULL, 64, ends[0], 0, 0, 0, 0, 4, 2));
-    REFUSED(EINVAL, root_fd(root, 64, ends[0], message, 17, 0, 0, 4, 2));
-    REFUSED(EINVAL, root_fd(root, 64, ends[0], 0, 0, NULL, 1, 4, 2));
-    REFUSED(EINVAL, root_fd(root, 64, ends[0], 0, 0, 0, 0, 0, 2));
-    CHECK(read(ends[0], root, 1) == 1 && root[0] == 'a');
-    REFUSED(EINVAL, root_file(root, 0, other, 0, 0, 0, 0, 4, 2));
     REFUSED(EINVAL, root_file(NULL, 64, other, 0, 0, 0, 0, 4, 2));
     REFUSED(EINVAL, root_file(root, 64, NULL, 0, 0, 0, 0, 4, 2));
-    REFUSED(EINVAL, root_file(root, 64, other, NULL, 1, 0, 0, 4, 2));
-    REFUSED(EINVAL, root_file(root, 64, other, 0, 0, message, 17, 4, 2));
-    REFUSED(EINVAL, root_file(root, 64, other, 0, 0, 0, 0, 0, 2));
-    close(ends[0]);
+    REFUSED(EINVAL, root_threads(root, 64, NULL, 5, 0, 0, 0, 0, 4, 2));
+    REFUSED(EINVAL, root_threads(root, 64, message, (size_t)1 << 58, 0, 0, 0, 0, 1, 2));
+    REFUSED(EINVAL, root_threads(root, 64, message, SIZE_MAX, 0, 0, 0, 0, 1, 1));
+    CHECK(read(ends[0], root, 1) == 1 && root[0] == 'a' && !close(ends[0]));
 }
 
 /* The file is closed again if its descriptor is 0, as in a program without standard input. */
@@ -574,8 +533,7 @@ static void *cancel_myself(void *given) {
     wrong |= vulfsjor_tree_root_threads(root, 64, message, 1 << 20, 0, 0, 0, 0, 65536, 4);
     wrong |= memcmp(root, wanted, 64);
     wrong |= vulfsjor_tree_root_fd(root, 64, file, 0, 0, 0, 0, 65536, 4) | memcmp(root, wanted, 64);
-    wrong |=
-        vulfsjor_tree_root_file(root, 64, path, 0, 0, 0, 0, 65536, 4) | memcmp(root, wanted, 64);
+    wrong |= vulfsjor_tree_root_file(root, 64, path, 0, 0, 0, 0, 65536, 4) | memcmp(root, wanted, 64);
     wrong |= vulfsjor_tree_root_file(root, 64, "/nowhere", 0, 0, 0, 0, 65536, 4) != -1;
     *(int *)given = wrong;
     pthread_testcancel();
@@ -671,7 +629,6 @@ int main(int count, char **words) {
     RUN(roots_at_edges());
     RUN(roots_of_long_leaves(turns < 60 ? 2 : 1));
     RUN(check_updates(turns < 60 ? 20 : 200));
-    RUN(updates_at_leaves());
     RUN(refused_updates());
     RUN(refused_updates_by_files());
     RUN(position_of_descriptor());
@@ -679,7 +636,6 @@ int main(int count, char **words) {
     RUN(descriptor_zero());
     RUN(check_special_files());
     RUN(check_refused_arguments());
-    RUN(refused_arguments_of_files());
     RUN(refused_files());
     RUN(signals_while_hashing());
     RUN(check_cancellation());
