@@ -77,16 +77,6 @@ texts_stand_together() {
         cc -c "$work/all.S" -o "$work/all.o"
 }
 
-# All archives in a shared library, by a compiler that is not one for PIE by itself.
-archives_for_shared_library() {
-    local folder=$work/no_pie
-    mkdir -p "$folder" && printf '#!/bin/sh\nexec cc -fno-pie "$@"\n' >"$folder/cc" &&
-        chmod +x "$folder/cc" &&
-        CC=$folder/cc "$here/make_libraries.sh" "$folder/lib" "${here_texts[@]}" &&
-        cc -shared -Wl,-z,text -Wl,--whole-archive "$folder/lib"/libvulfsjor-{libb2,threads}.a \
-            -Wl,--no-whole-archive -pthread -o "$folder/all.so"
-}
-
 # A program takes of the archives what it calls, if the linker leaves out the rest.
 programs_take_what_they_call() {
     local lib=$prefix/lib section
@@ -223,50 +213,32 @@ test_emulated() {
     needs
 }
 
-# A library for tests, which takes one build or alternates (c/make_libraries.sh).
-make_build() { "$here/make_libraries.sh" --test "$1" "$work/build_$1" "${texts[@]}"; }
-
-# A test program for a hash over such a library, compiled once for all of them: NAME BUILD HASH
+# A test program for a hash over one build or alternating ones, compiled once for all of them: NAME BUILD HASH
 run_of_build() {
     local name=$1 build=$2 object=$work/$1_$3.o level=$quick
     [ "$name" != key_scan ] || level=-O2
     [ -e "$object" ] || cc -std=gnu99 $level -I"$include" $(hash_words "$3") -c "$tests/$name.c" -o "$object" || return
-    cc -Wl,-z,now "$object" "$work/build_$build/libvulfsjor.a" -o "$work/of_build" &&
+    cc -Wl,-z,now "$object" "$work/build_$build.o" "$archive" -o "$work/of_build" &&
         "$work/of_build" "$conforming/$3.txt"
 }
 
-# Two modules, each with one of these builds, and a program whose runs cross between them.
-runs_cross() {
-    local build
-    for build; do
-        cc -std=c99 -O2 "${warnings[@]}" -fPIC -shared -fvisibility=hidden -DMODULE -I"$include" \
-            "$tests/between_builds.c" "$work/build_$build/libvulfsjor.a" -o "$work/between_builds_$build.so" ||
-            return 1
-    done
-    cc -std=c99 -O2 "${warnings[@]}" -I"$include" "$tests/between_builds.c" -o "$work/between_builds" -ldl &&
-        "$work/between_builds" "$work/between_builds_$1.so" "$work/between_builds_$2.so"
-}
-
+# Each build, and calls that alternate between all of them: states may go from one to the others.
 test_builds() {
-    local build hash builds=2 alternating=
+    local build hash builds=2
     case $level in
-        4) builds="2 3 4" alternating=234 ;;
-        3) builds="2 3" alternating=23 ;;
+        4) builds="2 3 4 234" ;;
+        3) builds="2 3 23" ;;
         *) skip "the build for x86-64-v3" "the processor is below x86-64-v3" ;;
     esac
     [ "$level" = 4 ] || skip "the build for x86-64-v4" "the processor is below x86-64-v4"
-    [ -z "${VULFSJOR_TEST_HUGE-}" ] || builds+=" $alternating" # else runs that cross between builds stand for it
     for build in $builds; do
-        check "a test library with build $build (several: alternating)" make_build $build || return
+        check "the choice of build $build (several: alternating)" choose_build -DCHOOSE_TEST=$build build_$build || return
         for hash in "${hashes[@]}"; do
             ! has python3 || check "conformance.c, $hash, by build $build" run_of_build conformance $build $hash
-            [ $hash = tree ] || check "key_scan.c, $hash, by build $build" run_of_build key_scan $build $hash
+            [ $hash = tree ] || [ ${#build} -gt 1 ] ||
+                check "key_scan.c, $hash, by build $build" run_of_build key_scan $build $hash
         done
     done
-    for build in $(some $(seq "$level" -1 3)); do
-        check "runs that cross between the builds 2 and $build" runs_cross 2 "$build"
-    done
-    [ "$level" -lt 4 ] || check_huge "runs that cross between the builds 3 and 4" runs_cross 3 4
 }
 
 # Calls from a constructor and from threads, static and shared.
@@ -290,8 +262,8 @@ compile_repeat_call() {
     local level
     level=$(valgrind -q "$work/choose" | sed -n '2s/ .*//p')
     cc -O2 -I"$include" "$tests/repeat_call.c" "$archive" -o "$work/repeat_call_chosen" &&
-        "$here/make_libraries.sh" "$work/direct" "$dist/x86_64/vulfsjor-v$level.s" &&
-        cc -O2 -I"$include" "$tests/repeat_call.c" "$work/direct/libvulfsjor.a" -o "$work/repeat_call_direct"
+        choose_build "-DCHOOSE_ONE=v$level" direct &&
+        cc -O2 -I"$include" "$tests/repeat_call.c" "$work/direct.o" "$archive" -o "$work/repeat_call_direct"
 }
 
 # A task of repeat_call.c takes as many instructions a call for dispatch as c/README.md says.
@@ -327,8 +299,7 @@ test_choosing() {
     is_x86 || missing="the processor is not x86-64"
     check "marks for branch protection" objects_are_marked
     missing=
-    check "the assembly with that of another number" texts_stand_together "${here_texts[@]}"
-    check "the archives in a shared library" archives_for_shared_library
+    check "the assembly with that of another number" texts_stand_together $(some "${here_texts[@]}")
     check "what a program takes of the library" programs_take_what_they_call
     check "hidden names, libvulfsjor.a" names_are_hidden "$archive" "$include"
     check "hidden names, libvulfsjor-libb2.a" names_are_hidden "$prefix/lib/libvulfsjor-libb2.a" "$include"

@@ -130,6 +130,8 @@ secrets_run() {
     cc -std=c99 "${warnings[@]}" -DTEST_SECRETS -I"$include" $(hash_words "$1") "$tests/conformance.c" "${@:2}" \
         -o "$work/secrets" && valgrind -q --error-limit=no "$work/secrets" "$work/some_$1"
 }
+# What a program takes of the builds in the archive (choose.c), as an object to link before that: WORD NAME
+choose_build() { cc -std=c99 -O2 -I"$include" "$1" -c "$here/choose.c" -o "$work/$2.o"; }
 has_memcheck() { has valgrind && echo '#include <valgrind/memcheck.h>' | cc -E - >/dev/null 2>&1; }
 
 # Runs the tests of a part, unless its file is read by another part for its functions.

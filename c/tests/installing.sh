@@ -7,9 +7,12 @@ one=()
 ! chooses || one=(--cpu x86-64-v2)
 install_into() { CFLAGS=$quick "$here/install.sh" "${cpu[@]}" "${one[@]}" --from "$dist" "$@"; }
 
-# The same, made once for all of these installations.
+# The same, made once for all of these installations, where another archive was.
 install_one() {
-    [ -e "$work/built" ] || install_into --build "$work/built" || return
+    if [ ! -e "$work/built/kind" ]; then
+        mkdir -p "$work/built" && ar rc "$work/built/libvulfsjor.a" "$empty" &&
+            touch "$work/built/libvulfsjor.so.0.0.9" && install_into --build "$work/built" || return
+    fi
     "$here/install.sh" --built "$work/built" "$@"
 }
 
@@ -18,16 +21,12 @@ files_below() { (cd "$1" && find . -type f -o -type l | sed 's/^\.\///' | LC_ALL
 
 # The files of an installation, with this in the place of lib/.
 wanted_files() {
-    printf '%s\n' include/vulfsjor-libb2/blake2.h include/vulfsjor.h{,pp} "$1libvulfsjor.a" \
-        "$1libvulfsjor.so" "$1libvulfsjor.so.0" "$1libvulfsjor.so.$(version)" \
-        "$1libvulfsjor-libb2.a" \
-        "$1pkgconfig/vulfsjor.pc" "$1pkgconfig/vulfsjor-static.pc" "$1vulfsjor-libb2/libb2.a" \
-        "$1vulfsjor-libb2/pkgconfig/libb2.pc" "$1libvulfsjor-threads.a" \
-        "$1pkgconfig/vulfsjor-threads.pc" include/vulfsjor_threads.h "$1libvulfsjor-static.a" \
-        "$1cmake/vulfsjor/vulfsjor-config.cmake" \
-        "$1cmake/vulfsjor/vulfsjor-config-version.cmake" |
-        LC_ALL=C sort
+    printf '%s\n' include/vulfsjor-libb2/blake2.h include/vulfsjor{.h,.hpp,_threads.h} \
+        "$1"libvulfsjor{,-libb2,-static,-threads}.a "$1"libvulfsjor.so{,.0,".$(version)"} \
+        "$1"pkgconfig/vulfsjor{,-static,-threads}.pc "$1"cmake/vulfsjor/vulfsjor-config{,-version}.cmake \
+        "$1"vulfsjor-libb2/{libb2.a,pkgconfig/libb2.pc} | LC_ALL=C sort
 }
+has_files() { files_below "$1" | diff <(wanted_files lib/) -; }
 
 # A program by the words of one file for pkg-config in this folder, run where the shared library is
 # found.
@@ -58,28 +57,29 @@ program_with_threads() {
         LD_LIBRARY_PATH=$libraries "$work/program"
 }
 
-# The files for pkg-config of an installation, and its archives by other names.
+# One program of an installation, and each, by its files for pkg-config, with its archives by other names.
+program_works() { ! has pkg-config || program_by_words "$1/pkgconfig" vulfsjor-static /nowhere; }
 words_work() {
     local lib=$1
     cmp "$lib/libvulfsjor-static.a" "$lib/libvulfsjor.a" &&
-        cmp "$lib/vulfsjor-libb2/libb2.a" "$lib/libvulfsjor-libb2.a" || return 1
-    has pkg-config || return 0
-    program_by_words "$lib/pkgconfig" vulfsjor "$lib" &&
-        program_by_words "$lib/pkgconfig" vulfsjor-static /nowhere &&
-        program_by_words "$lib/vulfsjor-libb2/pkgconfig" libb2 /nowhere &&
-        program_with_threads "$lib/pkgconfig" "$lib" &&
-        [ "$(PKG_CONFIG_PATH=$lib/pkgconfig pkg-config --modversion vulfsjor)" = "$(version)" ]
+        cmp "$lib/vulfsjor-libb2/libb2.a" "$lib/libvulfsjor-libb2.a" && program_works "$lib" || return 1
+    ! has pkg-config || {
+        program_by_words "$lib/pkgconfig" vulfsjor "$lib" &&
+            program_by_words "$lib/vulfsjor-libb2/pkgconfig" libb2 /nowhere &&
+            program_with_threads "$lib/pkgconfig" "$lib" &&
+            [ "$(PKG_CONFIG_PATH=$lib/pkgconfig pkg-config --modversion vulfsjor)" = "$(version)" ]
+    }
 }
 
-# A folder with a space; then moved as a whole; then uninstalled, where other files stay.
+# A folder with a space that is named from the current one; then moved as a whole; then uninstalled, where other files
+# stay.
 folder_with_a_space() {
-    local folder="$work/a folder"
-    install_one "$folder" && files_below "$folder" | diff <(wanted_files lib/) - &&
-        words_work "$folder/lib" &&
-        mv "$folder" "$work/another folder" && words_work "$work/another folder/lib" || return 1
-    folder="$work/another folder"
+    local folder="$work/another folder"
+    cd "$work" && install_one "./a folder" && has_files "a folder" && write_program program.c &&
+        cc program.c -I"a folder/include" "a folder/lib/libvulfsjor.a" -o program && cd / && "$work/program" &&
+        mv "$work/a folder" "$folder" && words_work "$folder/lib" || return 1
     touch "$folder"/{lib/theirs,lib/cmake/vulfsjor/theirs,include/theirs.h} &&
-        "$here/install.sh" --uninstall "$folder" &&
+        cd "$work" && "$here/install.sh" --uninstall "another folder" &&
         files_below "$folder" | diff <(printf '%s\n' include/theirs.h lib/cmake/vulfsjor/theirs lib/theirs) - &&
         [ ! -e "$folder/lib/vulfsjor-libb2" ] && [ ! -e "$folder/include/vulfsjor-libb2" ] &&
         rm "$folder/lib/cmake/vulfsjor/theirs" && "$here/install.sh" --uninstall "$folder" &&
@@ -93,7 +93,7 @@ package() {
         files_below "$root$work/usr" | diff <(wanted_files lib/x86_64-linux-gnu/) - &&
         ! grep -rlF "$root" "$root" && ! grep -rlF "$work" "$root" &&
         words_work "$root$work/usr/lib/x86_64-linux-gnu" || return 1
-    DESTDIR=$root LIBDIR=$work/lib64 install_one "$work/usr" && words_work "$root$work/lib64" &&
+    DESTDIR=$root LIBDIR=$work/lib64 install_one "$work/usr" && program_works "$root$work/lib64" &&
         [ "$(files_below "$root$work/lib64" | wc -l)" -eq 14 ] || return 1
     DESTDIR=$root install_one /usr/local && grep -qx prefix=/usr/local "$root/usr/local/lib/pkgconfig/vulfsjor.pc" &&
         DESTDIR=$root "$here/install.sh" --uninstall /usr/local || return 1
@@ -102,15 +102,12 @@ package() {
         [ -z "$(files_below "$root")" ]
 }
 
-# Only one build, without the choice, and with the same functions; made where another archive was.
+# Only one build, without the choice, and with the same functions.
 one_build() {
     local folder=$work/one
-    mkdir "$folder.made" && ar rc "$folder.made/libvulfsjor.a" "$empty" && touch "$folder.made/libvulfsjor.so.0.0.9" &&
-        CFLAGS=$quick "$here/install.sh" --cpu x86-64-v2 --from "$dist" --build "$folder.made" &&
-        "$here/install.sh" --built "$folder.made" "$folder" && ! ar t "$folder/lib/libvulfsjor.a" | grep empty &&
+    install_one "$folder" && ! ar t "$folder/lib/libvulfsjor.a" | grep empty &&
         grep -qx 'Description: .*, proved, for x86-64-v2' "$folder/lib/pkgconfig/vulfsjor.pc" &&
-        files_below "$folder" | diff <(wanted_files lib/) - &&
-        words_work "$folder/lib" && ! nm "$folder/lib/libvulfsjor.a" | grep -q vulfsjor_ffi_level &&
+        has_files "$folder" && ! nm "$folder/lib/libvulfsjor.a" | grep -q vulfsjor_ffi_level &&
         names_are_hidden "$folder/lib/libvulfsjor.a" "$folder/include" &&
         nm -g --defined-only "$folder/lib/libvulfsjor.a" |
         sed -n 's/.* T \(vulfsjor_ffi_[a-z0-9_]*[a-z]\)$/\1/p' | LC_ALL=C sort |
@@ -123,8 +120,7 @@ installs_again() {
     local folder=$work/again
     install_one "$folder" && echo old >"$work/old" && ln -sf "$work/old" "$folder/lib/libvulfsjor.a" &&
         ln -sf nowhere "$folder/lib/libvulfsjor.so" &&
-        install_one "$folder" && words_work "$folder/lib" && [ "$(cat "$work/old")" = old ] &&
-        files_below "$folder" | diff <(wanted_files lib/) -
+        install_one "$folder" && program_works "$folder/lib" && [ "$(cat "$work/old")" = old ] && has_files "$folder"
 }
 
 # A program has at most 80 KB, and code of the family that it calls and of no other: PROGRAM FAMILY
@@ -165,7 +161,7 @@ vendored_by_hand() {
     sed -n 's/^    \(\(cp\|rm\) .*YOURS.*\)/\1/p' "$here/README.md" >copy.sh
     [ "$(wc -l <copy.sh)" -eq 2 ] && sh -e copy.sh && cd YOURS && [ ! -e x86_64/b2-v2.s ] &&
         rm ../c ../dist || return 1
-    for words in -O0 -O2 "-O2 -static" "-O2 -fPIC -shared"; do
+    for words in -O0 "-O2 -static" "-O2 -fPIC -shared"; do
         # shellcheck disable=SC2086
         cc $words "${warnings[@]}" -std=gnu99 -I. hello.c choose.c vulfsjor.S -o program || return 1
         [[ $words == *-shared ]] || ./program || return 1
@@ -248,7 +244,7 @@ $find 0.1 REQUIRED)" vulfsjor::vulfsjor vulfsjor::threads && needs_shared
 # within the installation, and has the static library and the shared one.
 installed_by_cmake() {
     local folder=$work/by\ cmake find
-    printf '#!/bin/sh\necho "$*" >>"$0.calls"\nexec cc "$@"\n' >"$work/noted" && chmod +x "$work/noted" &&
+    write_noted noted cc &&
         cmake -S "$here" -B "$folder.build" -DCMAKE_INSTALL_LIBDIR=lib -DCMAKE_C_COMPILER="$work/noted" \
             -DCMAKE_C_FLAGS=-DASKED &&
         cmake --build "$folder.build" && grep -q -e '-DASKED .*/choose\.o$' "$work/noted.calls" &&
@@ -261,8 +257,7 @@ installed_by_cmake() {
         diff <(files_of_all | sed 's,^\(bin\|include\|share/man\)/,other/,' | LC_ALL=C sort) - || return 1
     find="list(APPEND CMAKE_PREFIX_PATH \"$folder\")
 find_package(vulfsjor 0.1 REQUIRED)"
-    project_by_cmake "$find" vulfsjor::vulfsjor vulfsjor::threads && needs_nothing &&
-        project_by_cmake "$shared_is_on
+    project_by_cmake "$shared_is_on
 $find" vulfsjor::vulfsjor vulfsjor::threads && needs_shared && rm -r "$folder/include" &&
         refuses 1 'no folder above' project_by_cmake "$find" vulfsjor::vulfsjor vulfsjor::threads
 }
@@ -282,14 +277,10 @@ find_package(vulfsjor $(version) EXACT REQUIRED)" vulfsjor::vulfsjor vulfsjor::t
 
 # The modules for pkg-config in CMake and in meson.
 modules_by_cmake() {
-    local of=PkgConfig:: find
-    find="set(ENV{PKG_CONFIG_PATH} \"$prefix/lib/pkgconfig:$prefix/lib/vulfsjor-libb2/pkgconfig\")
+    project_by_cmake "set(ENV{PKG_CONFIG_PATH} \"$prefix/lib/pkgconfig\")
 find_package(PkgConfig REQUIRED)
-pkg_check_modules(static REQUIRED IMPORTED_TARGET vulfsjor-static)
 pkg_check_modules(shared REQUIRED IMPORTED_TARGET vulfsjor)
-pkg_check_modules(threads REQUIRED IMPORTED_TARGET vulfsjor-threads)"
-    project_by_cmake "$find" ${of}static ${of}threads && needs_nothing &&
-        project_by_cmake "$find" ${of}shared "${of}threads" &&
+pkg_check_modules(threads REQUIRED IMPORTED_TARGET vulfsjor-threads)" PkgConfig::shared PkgConfig::threads &&
         [ "$(cat "$work/needed")" = libvulfsjor.so.0 ]
 }
 modules_by_meson() {
@@ -324,34 +315,17 @@ libb2 vulfsjor-libb2/pkgconfig ../../../include/vulfsjor-libb2 ../../vulfsjor-li
 END
 }
 
-# A program with a name of the first drafts fails when it is compiled, configured or linked, and no
-# file of the installation has one.
-old_names() {
-    local call='int blake2_c_blake2b(void); int main(void) { return blake2_c_blake2b(); }'
-    echo '#include <blake2_c.h>' >"$work/header.c" && echo "$call" >"$work/call.c" &&
-        refuses 1 'blake2_c\.h' cc -c "$work/header.c" -I"$include" -o "$work/old" &&
-        refuses 1 blake2_c_blake2b cc "$work/call.c" "$archive" -o "$work/old" &&
-        refuses 1 blake2_c_blake2b cc "$work/call.c" "$shared" -o "$work/old" &&
-        refuses 1 -lblake2_c cc "$empty" -L"$prefix/lib" -lblake2_c -o "$work/old" &&
-        ! grep -rE 'blake2_(c([^a-z]|$)|threads)' "$prefix" && [ ! -e "$work/old" ] || return 1
-    ! has cmake || refuses 1 vulfsjor::blake2_c project_by_cmake "set(vulfsjor_DIR
-\"$prefix/lib/cmake/vulfsjor\")
-find_package(vulfsjor REQUIRED)" vulfsjor::blake2_c vulfsjor::threads || return 1
-    ! has pkg-config || refuses 1 blake2_c env PKG_CONFIG_PATH="$prefix/lib/pkgconfig" pkg-config \
-        --cflags blake2_c
-}
-
 # Compilers of several words; and one that makes no position-independent programs by default, whose
 # libraries become a part of a shared library all the same.
 compilers_of_words() {
     local folder=$work/words
     mkdir -p "$folder/bin" && printf '#!/bin/sh\necho "$*" >>"%s/calls"\nexec "$@"\n' "$folder" \
         >"$folder/bin/ccache" && chmod +x "$folder/bin/ccache" &&
-        PATH=$folder/bin:$PATH CC="ccache cc" install_into "$folder" && words_work "$folder/lib" &&
+        PATH=$folder/bin:$PATH CC="ccache cc" install_into "$folder" && program_works "$folder/lib" &&
         [ "$(grep -c -- ' -c ' "$folder/calls")" -ge 5 ] && ! grep -v '^cc ' "$folder/calls" &&
         CC="cc -fno-pie" install_into "$folder" && cc -shared -Wl,-z,defs -Wl,-z,text \
-        -Wl,--whole-archive "$folder/lib/libvulfsjor-threads.a" -Wl,--no-whole-archive \
-        "$folder/lib/libvulfsjor.a" -pthread -o "$folder/shared.so"
+        -Wl,--whole-archive "$folder/lib"/libvulfsjor-{libb2,threads}.a -Wl,--no-whole-archive -pthread \
+        -o "$folder/shared.so"
 }
 
 # The files of a program that `make install` installs.
@@ -372,8 +346,17 @@ are_copies() {
     done
 }
 
-# make, which builds in a folder of its own.
-make_here() { make -C "$top" built="$work/made" "$@"; }
+# make, which builds in a folder of its own, once for all of these tests, with each variable of the GNU standards, and
+# with tools that note their words.
+made_flags="-O0 -g -flto" made_links="-Wl,-z,separate-code -L/asked"
+! is_x86 || made_links+=" -Wl,-z,cet-report=warning"
+make_here() {
+    make -C "$top" built="$work/made" CC="$work/noted_cc" AR="env $work/noted_ar" CPPFLAGS=-DASKED=1 \
+        CFLAGS="$made_flags" LDFLAGS="$made_links" "$@"
+}
+
+# Writes a compiler or an archiver that notes its words: NAME COMMAND
+write_noted() { printf '#!/bin/sh\necho "$*" >>"$0.calls"\nexec %s "$@"\n' "$2" >"$work/$1" && chmod +x "$work/$1"; }
 
 # All files of an installation of programs and library, with this before their names: PREFIX
 files_of_all() {
@@ -384,7 +367,7 @@ files_of_all() {
 # `make install` and `make uninstall`, below DESTDIR.
 made_by_make() {
     local root="$work/made here" place="$work/made here/opt/a b"
-    (umask 077 && make_here install prefix="/opt/a b" DESTDIR="$root" CC="cc -O1" CFLAGS=$quick) &&
+    (umask 077 && make_here install prefix="/opt/a b" DESTDIR="$root") &&
         files_below "$place" | diff <(files_of_all) - &&
         [ "$(cd "$place" && find . -type f -perm 755 | sort | paste -sd ' ')" = \
             "./bin/b2 ./bin/b2sum ./lib/libvulfsjor.so.$(version)" ] &&
@@ -399,54 +382,44 @@ made_by_make() {
         ! make_here -n install PROGRAMS=b2 | grep -q b2sum
 }
 
-# The variables of the GNU standards: each reaches the compiler, the archiver or its folder. What was
-# built is installed without a compiler.
+# The variables of the GNU standards: each reaches the compiler, the archiver or its folder. What was built is installed
+# without a compiler.
 variables_of_make() {
-    local folder=$work/variables root=$work/variables/root tool line more=
-    ! is_x86 || more=" -Wl,-z,cet-report=warning"
-    mkdir -p "$folder" && for tool in cc ar; do
-        printf '#!/bin/sh\necho "$*" >>"%s/%s.calls"\nexec %s "$@"\n' "$folder" $tool $tool >"$folder/$tool" &&
-            chmod +x "$folder/$tool" || return 1
-    done
-    make_here built="$folder/made" all CC="$folder/cc" AR="env $folder/ar" CPPFLAGS=-DASKED=1 \
-        CFLAGS="-O0 -g -flto" LDFLAGS="-Wl,-z,separate-code -L/asked$more" 2>"$folder/said" || return 1
+    local root=$work/variables line folders=(prefix=/p bindir=/b libdir=/l includedir=/i mandir=/m datarootdir=/d)
+    write_noted noted_cc cc && write_noted noted_ar ar && make_here all 2>"$work/made_said" || return 1
     # Debug information names no temporary file, so that another build is the same.
-    ! grep -rlaF -e "$folder" -e /text.s --exclude words "$folder/made" || return 1
+    ! grep -rlaF -e "$work/made" -e /text.s --exclude words "$work/made" || return 1
     # Only objects of the system have no marks.
-    ! grep "missing IBT" "$folder/said" | grep -v "ld: /usr/" || return 1
+    ! grep "missing IBT" "$work/made_said" | grep -v "ld: /usr/" || return 1
     while read -r line; do
         case " $line" in
-            " -dumpmachine" | " -print-"* | " -DASKED=1 -O0 -g -flto -E -P -") ;;
-            *" -E "*"/macros.h "* | *" -c "*.s\ *) [[ " $line" == *" -DASKED=1 -O0 -g -flto "* ]] || return 1 ;;
-            *" -c "*) [[ $line == *" -DASKED=1 -O0 -g -flto "*" -fno-lto "* ]] || return 1 ;;
-            *) [[ " $line" == *" -DASKED=1 -O0 -g -flto -Wl,-z,separate-code -L/asked$more "*"-fno-lto "* ]] ||
-                { echo "$line" && return 1; } ;;
+            " -dumpmachine" | " -print-"* | " -DASKED=1 $made_flags -E -P -") ;;
+            *" -E "*"/macros.h "* | *" -c "*.s\ *) [[ " $line" == *" -DASKED=1 $made_flags "* ]] || return 1 ;;
+            *" -c "*) [[ $line == *" -DASKED=1 $made_flags "*" -fno-lto "* ]] || return 1 ;;
+            *) [[ " $line" == *" -DASKED=1 $made_flags $made_links "*"-fno-lto "* ]] || { echo "$line" && return 1; } ;;
         esac
-    done <"$folder/cc.calls"
-    [ "$(grep -vc -e ' -c ' -e ' -E ' -e -dumpmachine "$folder/cc.calls")" -eq 3 ] &&
-        [ "$(grep -c -e ' -E .*/macros' "$folder/cc.calls")" -eq 1 ] &&
-        [ "$(wc -l <"$folder/ar.calls")" -eq 3 ] &&
-        make_here built="$folder/made" -s install DESTDIR="$root" prefix=/p bindir=/b \
-            libdir=/l includedir=/i mandir=/m datarootdir=/d && [ "$(wc -l <"$folder/ar.calls")" -eq 3 ] &&
-        make_here built="$folder/made" -q all CC="$folder/cc" AR="env $folder/ar" CPPFLAGS=-DASKED=1 \
-            CFLAGS="-O0 -g -flto" LDFLAGS="-Wl,-z,separate-code -L/asked$more" &&
-        ! make_here built="$folder/made" -q install CC=cc && ! CFLAGS="it's" make_here built="$folder/made" -q all &&
-        files_below "$root" | diff <(files_of_all |
+    done <"$work/noted_cc.calls"
+    [ "$(grep -vc -e ' -c ' -e ' -E ' -e -dumpmachine "$work/noted_cc.calls")" -eq 3 ] &&
+        [ "$(grep -c -e ' -E .*/macros' "$work/noted_cc.calls")" -eq 1 ] &&
+        [ "$(wc -l <"$work/noted_ar.calls")" -eq 3 ] && make_here -s install DESTDIR="$root" "${folders[@]}" &&
+        [ "$(wc -l <"$work/noted_ar.calls")" -eq 3 ] && make_here -q all && ! make_here -q install CC=cc &&
+        ! make_here -q all CFLAGS="it's" && files_below "$root" | diff <(files_of_all |
             sed 's|^bin/|b/|;s|^include/|i/|;s|^lib/|l/|;s|^share/man/|m/|;s|^share/|d/|' | LC_ALL=C sort) - &&
         [ "$(printf abc | "$root/b/b2sum")" = "$(printf abc | b2sum)" ] &&
-        make_here uninstall DESTDIR="$root" prefix=/p bindir=/b libdir=/l includedir=/i mandir=/m datarootdir=/d &&
-        [ -z "$(files_below "$root")" ] || return 1
-    # Each of these is built again if what it is made of has changed.
+        make_here uninstall DESTDIR="$root" "${folders[@]}" && [ -z "$(files_below "$root")" ] || return 1
+    make_here -s install DESTDIR="$root" prefix=/p exec_prefix=/e &&
+        (cd "$root" && ls -d e/* p/* | paste -sd ' ' | grep -x "e/bin e/lib p/include p/share") &&
+        make_here uninstall DESTDIR="$root" prefix=/p exec_prefix=/e && [ -z "$(files_below "$root")" ]
+}
+
+# Each of these is built again if what it is made of has changed.
+built_again() {
+    local line
     for line in tools/launcher.sh:b2 c/{choose.c,system.h,vulfsjor.map,include/vulfsjor.h,make_libraries.sh}:lib/kind \
         c/{libb2/libb2.c,include/libb2/blake2.h}:lib/kind dist/{MANIFEST,macros.h,x86_64/{elf.inc,b2sum.s}}:b2sum; do
-        make -C "$top" built="$folder/made" -q "$folder/made/${line#*:}" &&
-            ! make -C "$top" built="$folder/made" -q -W "${line%:*}" "$folder/made/${line#*:}" ||
+        make_here -q "$work/made/${line#*:}" && ! make_here -q -W "${line%:*}" "$work/made/${line#*:}" ||
             { echo "$line" && return 1; }
     done
-    make_here built="$folder/made" -s install DESTDIR="$root" prefix=/p exec_prefix=/e &&
-        (cd "$root" && ls -d e/* p/* | paste -sd ' ' | grep -x "e/bin e/lib p/include p/share") &&
-        make_here uninstall DESTDIR="$root" prefix=/p exec_prefix=/e && [ -z "$(files_below "$root")" ] &&
-        [ "$(make_here -n clean | grep -v ^make)" = "rm -rf out" ]
 }
 
 # Next to files of others, in the folders of the system: nothing is installed, unless by another name; and then the
@@ -496,17 +469,11 @@ follows_the_prefix() {
     done
 }
 
-# No rule takes a word that is not listed, such as one that is the name of somebody's program.
-unknown_targets() {
-    local word
-    for word in install-strip install-gcc uninstall-gcc out/make/gcc; do
-        refuses 2 "No rule to make target '$word'" make -C "$top" -n $word || return 1
-    done
-}
-
-# What the other names of the Makefile run, and the list of all.
+# What the other names of the Makefile run, and the list of all. No rule takes a word that is not listed, such as one
+# that is the name of somebody's program.
 run_by_make() {
-    diff <(make -C "$top" -n --no-print-directory test release prove twins dist bench docs) - <<'END' &&
+    local word
+    diff <(make -C "$top" -n --no-print-directory test release prove twins dist bench docs) - <<'END' || return 1
 ./test
 tools/release.sh
 ./test --prove
@@ -519,9 +486,13 @@ tests/page_numbers.py --write
 tools/manual.py
 tests/pages.py
 END
-        [ "$(make -C "$top" --no-print-directory help | cut -f 1 | cut -d ' ' -f 2 | paste -sd ' ')" = \
-            "all help install uninstall test clean release prove twins dist bench docs" ] &&
-        [ "$(make_here -n)" = "$(make_here -n all)" ]
+    [ "$(make -C "$top" --no-print-directory help | cut -f 1 | cut -d ' ' -f 2 | paste -sd ' ')" = \
+        "all help install uninstall test clean release prove twins dist bench docs" ] &&
+        [ "$(make_here -n)" = "$(make_here -n all)" ] && [ "$(make_here -n clean | grep -v ^make)" = "rm -rf out" ] ||
+        return 1
+    for word in install-strip install-gcc uninstall-gcc out/make/gcc; do
+        refuses 2 "No rule to make target '$word'" make -C "$top" -n $word || return 1
+    done
 }
 
 # What CMake need not find out of the compiler if it only configures.
@@ -573,17 +544,6 @@ write_threads() {
         'return vulfsjor_tree_root_threads(out, 64, 0, 0, 0, 0, 0, 0, 1, 0); }' >"$1"
 }
 
-# A folder that is named from the current one, with the words of c/README.md, from elsewhere
-# afterwards.
-relative_folder() {
-    mkdir -p "$work/here" && cd "$work/here" && install_one ./some/folder &&
-        files_below some/folder |
-        diff <(wanted_files lib/) - && write_program program.c &&
-        cc -O2 program.c -Isome/folder/include some/folder/lib/libvulfsjor.a -o program && cd / &&
-        "$work/here/program" && words_work "$work/here/some/folder/lib" && cd "$work/here" &&
-        "$here/install.sh" --uninstall some/folder && [ -z "$(files_below some/folder)" ]
-}
-
 # A repository of its own whose tools/dist.sh is a stand-in, which notes its words.
 make_stand_in() {
     mkdir -p "$1/tools" && cp "$top/tools/shell.sh" "$1/tools" && cp -R "$here" "$1/c" && cp -R "$dist" "$1/dist" &&
@@ -599,7 +559,7 @@ END
 comes_from() {
     local tree=$work/tree
     make_stand_in "$tree" && CFLAGS=$quick "$tree/c/install.sh" "${one[@]}" "$tree/made" &&
-        words_work "$tree/made/lib" && [ "$(cat "$tree/calls")" = current ] && touch "$tree/refuse" || return 1
+        program_works "$tree/made/lib" && [ "$(cat "$tree/calls")" = current ] && touch "$tree/refuse" || return 1
     refuses 1 stale "$tree/c/install.sh" "$tree/not_made" &&
         [ ! -e "$tree/not_made" ]
 }
@@ -672,19 +632,15 @@ is_portable() {
 machines_without_assembly() {
     local machine
     compiler_for || return 1
-    texts_for riscv64-linux-gnu | diff <(echo c/vulfsjor.c) - && is_portable riscv64-linux-gnu || return 1
-    [ -n "${VULFSJOR_TEST_HUGE-}" ] || touch "$work/noting" # it is the same build
+    texts_for riscv64-linux-gnu | diff <(echo c/vulfsjor.c) - && is_portable riscv64-linux-gnu &&
+        touch "$work/noting" || return 1
     texts_for x86_64-pc-linux-gnu --portable | diff <(echo c/vulfsjor.c) - || return 1
-    [ -e "$work/noting" ] || is_portable x86_64-pc-linux-gnu || return 1
-    touch "$work/noting"
     for machine in x86_64-linux-gnux32 aarch64-linux-gnu_ilp32 aarch64_be-linux-gnu i386-unknown-haiku; do
         texts_for $machine | diff <(echo c/vulfsjor.c) - || return 1
     done
-    rm "$work/noting"
-    ! is_x86 || texts_for x86_64-unknown-freebsd14.0 |
-        diff <(printf 'x86_64/vulfsjor-v%s.s\n' 2 3 4) - || return 1
-    touch "$work/noting"
-    ! is_x86 || for machine in x86_64-unknown-{openbsd,dragonfly6.4} x86_64-linux-android x86_64-w64-windows-gnu; do
+    # Of the three texts the first, since the compiler fails at it.
+    ! is_x86 ||
+        for machine in x86_64-unknown-{openbsd,freebsd14.0,dragonfly6.4} x86_64-{linux-android,w64-windows-gnu}; do
         texts_for $machine | diff <(echo x86_64/vulfsjor-v2.s) - || return 1
     done
     rm "$work/noting"
@@ -773,7 +729,7 @@ refusals() {
 }
 
 test_installing() {
-    check "a folder with a space, moved and uninstalled" folder_with_a_space
+    check "a folder with a space, from the current one, moved and uninstalled" folder_with_a_space
     check "DESTDIR and LIBDIR" package
     check "a second installation" installs_again
     check "a folder of the loader, and an upgrade" for_the_loader
@@ -781,10 +737,8 @@ test_installing() {
     check "machines without assembly, and --portable" machines_without_assembly
     check "compilers for 32 bits, without a name and with a sanitizer" odd_compilers
     check "how portable C is optimized" optimized
-    check "a folder named from the current one" relative_folder
     check "a project with the files by hand" vendored_by_hand
     check "compilers of several words" compilers_of_words
-    check "names of the first drafts" old_names
     needs cmake
     check "a project with the files by CMake" vendored_by_cmake
     check "what CMake chooses by the processor" chosen_by_cmake
@@ -793,10 +747,10 @@ test_installing() {
     check "find_package after cmake --install" installed_by_cmake
     check "find_package after cmake --install of portable C" portable_by_cmake
     needs make
-    check "make install and make uninstall" made_by_make
     check "the variables of make" variables_of_make
+    check "what make builds again" built_again
+    check "make install and make uninstall" made_by_make
     check "make install next to files of others" made_next_to_others
-    check "targets that are not there" unknown_targets
     check "the other names of the Makefile" run_by_make
     needs
     is_x86 || missing="the processor is not x86-64"

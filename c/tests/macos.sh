@@ -140,8 +140,8 @@ builds_program() {
 
 # In the linked program the assembly calls the functions of C that are in the place of three of its own, and
 # C the proved one. If they were weak in the text, as ELF has it, the text would call its own.
-calls_are_of_c() {
-    llvm-objdump --macho -d --no-show-raw-insn "$work/b2sum_$1" |
+calls_in_program() {
+    builds_program "$1" b2sum && llvm-objdump --macho -d --no-show-raw-insn "$work/b2sum_$1" |
         awk '/^_.*:$/ { own = substr($1, 1, length($1) - 1); print "has", own }
             /\t(callq|bl)\t/ { print own, $NF }' |
         sed -E 's/_b2sum\.\.(disk|hashes)\.\.([a-z_]*)(\.\.[0-9a-f]*)?(\.\.?proved)?_[0-9_]*_[a-z0-9]*/\2\4/g' |
@@ -187,7 +187,7 @@ for name, function, size in ("B", hashlib.blake2b, 64), ("S", hashlib.blake2s, 3
 }
 
 test_macos() {
-    local processor
+    local processor check
     check "what a Mac runs, on this system" "$tests/on_a_mac.sh"
     if ! has clang || [ -z "$linker" ] || ! has llvm-nm || ! has llvm-objdump; then
         skip "the library for macOS" "no clang, ld64.lld, llvm-nm or llvm-objdump"
@@ -197,9 +197,10 @@ test_macos() {
     for processor in arm64 x86_64; do
         write_compiler $processor
         check "install.sh for macOS on $processor" installs $processor
-        check "b2 for macOS on $processor" builds_program $processor b2
-        check "b2sum for macOS on $processor" builds_program $processor b2sum &&
-            check "and the functions of C that it calls" calls_are_of_c $processor
+        check=check_huge # of the programs one, whose C is the same
+        [ $processor != arm64 ] || check=check
+        $check "b2 for macOS on $processor" builds_program $processor b2
+        $check "b2sum for macOS on $processor, and the functions of C that it calls" calls_in_program $processor
     done
     [ -n "$lipo" ] || missing="no llvm-lipo"
     check "an object for both processors, and a library by CMake" makes_universal

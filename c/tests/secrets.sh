@@ -4,7 +4,7 @@ source "$(dirname "$(readlink -f "$0")")/common.sh"
 
 # The same of verify in C++.
 hasher_runs() {
-    c++ -std=c++17 -O2 "${warnings[@]}" -I"$include" -DTEST_SECRETS "$tests/hasher.cpp" "$1" \
+    c++ -std=c++17 -O2 "${warnings[@]}" -I"$include" -DTEST_SECRETS "$tests/hasher.cpp" "$@" \
         -o "$work/secrets" && valgrind -q --error-limit=no "$work/secrets"
 }
 
@@ -14,7 +14,7 @@ reports_leak() { valgrind -q "$work/secrets" "$1"; }
 # Over each build that memcheck runs, or without VULFSJOR_TEST_HUGE over the newest, or over the library where it is for
 # one processor.
 test_secrets() {
-    local hash build counts builds=none library=$archive
+    local hash build counts builds=none library=("$archive")
     if ! has_memcheck || ! has python3; then
         skip "branches and addresses by secrets" "no valgrind with its headers, or no python3"
         return
@@ -29,18 +29,17 @@ of BLAKE2s, ${counts[2]} of BLAKE2bp, ${counts[3]} of BLAKE2sp, ${counts[4]} of 
 and ${counts[6]} of trees." <(tr '\n' ' ' <"$top/docs/WIPING.md")
     for build in $builds; do
         if [ "$build" != none ]; then
-            library=$work/build_$build/libvulfsjor.a
-            check "a library with only build $build, for secrets" "$here/make_libraries.sh" --test "$build" \
-                "$work/build_$build" "$dist"/x86_64/vulfsjor-v{2,3,4}.s || return
+            library=("$work/build_$build.o" "$archive")
+            check "the choice of build $build" choose_build "-DCHOOSE_TEST=$build" "build_$build" || return
         fi
         for hash in "${hashes[@]}"; do
-            check "no branch or address by a key or a message, $hash, build $build" secrets_run $hash -O2 "$library"
+            check "no branch or address by a key or a message, $hash, build $build" secrets_run $hash -O2 "${library[@]}"
         done
     done
     check "memcheck reports a branch by a key" reports_leak branch
     check "memcheck reports an address by a key" reports_leak address
     needs c++
-    check "no branch by a byte of a tag in hasher.cpp" hasher_runs "$library"
+    check "no branch by a byte of a tag in hasher.cpp" hasher_runs "${library[@]}"
 }
 
 part test_secrets cases
