@@ -18,6 +18,9 @@ dist=$top/./dist
 conforming=${VULFSJOR_CONFORMANCE:-$work/conforming}
 # The hashes of the conformance cases.
 hashes=(blake2b blake2s blake2bp blake2sp blake2xb blake2xs tree)
+# One of each kind and length of words, or all in the full test: for a system or processor whose code is the same.
+kinds=(blake2b blake2sp blake2xb tree)
+[ -z "${VULFSJOR_TEST_HUGE-}" ] || kinds=("${hashes[@]}")
 cpu=() from=()
 [ $# -gt 0 ] || prefix=${VULFSJOR_INSTALLED:-$prefix}
 while [ $# -gt 0 ]; do

@@ -79,7 +79,7 @@ test_there() {
     local level=-O2 turns=100 hash type these=("${hashes[@]}") families="b s"
     processor=$1
     if [ ${#emulator[@]} -gt 0 ] && [ -z "${VULFSJOR_TEST_HUGE-}" ]; then
-        level=-O1 turns=20 these=(blake2b blake2sp blake2xb tree) families=b
+        level=-O1 turns=20 these=("${kinds[@]}") families=b
     fi
     check "the file in C, for $processor, without a warning" library_there $level || return
     for hash in "${these[@]}"; do

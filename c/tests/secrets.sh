@@ -22,7 +22,7 @@ test_secrets() {
     ! is_x86 || skip "branches and addresses by secrets, x86-64-v4" "memcheck has no AVX-512"
     [ "${cpu[*]}" != "--cpu x86-64-v4" ] || return 0
     ! chooses || builds=$(some $(seq $((level < 3 ? level : 3)) -1 2))
-    for hash in "${hashes[@]}"; do some_cases $hash 16; done
+    for hash in "${hashes[@]}"; do some_cases $hash 32; done
     counts=($(for hash in "${hashes[@]}"; do grep -c ^case "$work/some_$hash"; done))
     check "the numbers of cases in docs/WIPING.md" grep -qF "The test has ${counts[0]} cases of BLAKE2b, ${counts[1]} \
 of BLAKE2s, ${counts[2]} of BLAKE2bp, ${counts[3]} of BLAKE2sp, ${counts[4]} of BLAKE2Xb, ${counts[5]} of BLAKE2Xs \
@@ -33,7 +33,7 @@ and ${counts[6]} of trees." <(tr '\n' ' ' <"$top/docs/WIPING.md")
             check "the choice of build $build" choose_build "-DCHOOSE_TEST=$build" "build_$build" || return
         fi
         for hash in "${hashes[@]}"; do
-            check "no branch or address by a key or a message, $hash, build $build" secrets_run $hash -O2 "${library[@]}"
+            check "no branch or address by a key or a message, $hash, build $build" secrets_run $hash -O1 "${library[@]}"
         done
     done
     check "memcheck reports a branch by a key" reports_leak branch

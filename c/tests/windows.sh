@@ -289,11 +289,12 @@ test_windows() {
     export WINEPATH=$prefix/bin
     check "a program that wine itself ends is run again, and no other" runs_again
     check_by_wine "a server of wine" start_wine || return
+    export CFLAGS=$quick # of the libraries that are made here
     check "install.sh with CC=$mingw" env "CC=$mingw" "$here/install.sh" --from "$dist" "$prefix" ||
         return
     check "what is installed for Windows" installs
     check "the DLL" dll_is_right
-    for hash in "${hashes[@]}"; do
+    for hash in "${kinds[@]}"; do
         check_by_wine "conformance.c, $hash, for Windows" run_hash conformance $hash "$archive"
         check_huge_by_wine "made_states.c, $hash, for Windows" run_hash made_states $hash "$archive"
         check=check_huge_by_wine
