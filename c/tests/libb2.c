@@ -86,6 +86,10 @@ static void check_lengths(void) {
     CHECK(X(_init)(&S, 256 + LONGEST) == -1);
     CHECK(X(_init_key)(&S, LONGEST, "k", 0) == -1 && X(_init_key)(&S, LONGEST, message, LONGEST + 1) == -1);
     CHECK(X(_init_key)(&S, 0, "k", 1) == -1 && X(_init_key)(&S, LONGEST + 1, "k", 1) == -1);
+    CHECK(X(_init_key)(&S, LONGEST, null_bytes(), 0) == -1);
+    /* In one call a key of no bytes is no key, wherever it is. */
+    CHECK(BLAKE2(out, "a", "k", LONGEST, 1, 0) == 0 && BLAKE2(out + 64, "a", NULL, LONGEST, 1, 0) == 0);
+    CHECK(!memcmp(out, out + 64, LONGEST));
     memset(out, 0xaa, sizeof out);
     CHECK(BLAKE2(out, "a", NULL, 0, 1, 0) == -1 && BLAKE2(out, "a", NULL, LONGEST + 1, 1, 0) == -1);
     CHECK(BLAKE2(out, "a", message, LONGEST, 1, LONGEST + 1) == -1);
@@ -120,7 +124,7 @@ static void check_in_pieces(void) {
         for (size_t at = 0, n; at < length; at += n) {
             n = random_number() % (random_number() % 2 ? 20 : 1500) + 1;
             if (n > length - at) n = length - at;
-            CHECK(X(_update)(S, message + at, n) == 0 && X(_update)(S, message, 0) == 0);
+            CHECK(X(_update)(S, message + at, n) == 0 && X(_update)(S, null_bytes(), 0) == 0);
             copy = *S;
             memset(S, 0x5a, sizeof *S);
             *S = copy;

@@ -59,7 +59,7 @@ configure_finds() {
     cc -w -fno-builtin -o "$work/conftest" -include "$work/conftest.c" "$work/main.c" \
         -L"$prefix/lib/vulfsjor-libb2" -Wl,-Bstatic -lb2 -Wl,-Bdynamic || return
     ! has pkg-config || PKG_CONFIG_PATH=$prefix/lib/vulfsjor-libb2/pkgconfig pkg-config \
-        --exists 'libb2 >= 0.98'
+        --exists 'libb2 = 0.98.1'
 }
 
 # This library and libb2 in one program, by both headers, linked in both orders.

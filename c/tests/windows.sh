@@ -92,7 +92,8 @@ wanted_for_windows() {
 # What is installed, and that all of it goes again.
 installs() {
     (cd "$prefix" && find . -type f -o -type l) | sed 's|^\./||' | LC_ALL=C sort |
-        diff - <(wanted_for_windows) && cp -a "$prefix" "$work/again" &&
+        diff - <(wanted_for_windows) && [ "$(cd "$prefix" && find . -perm 755 -type f)" = ./bin/libvulfsjor-0.dll ] &&
+        cp -a "$prefix" "$work/again" &&
         "$here/install.sh" --uninstall "$work/again" && [ -z "$(find "$work/again" ! -type d)" ]
 }
 
