@@ -232,7 +232,7 @@ test_builds() {
     esac
     [ "$level" = 4 ] || skip "the build for x86-64-v4" "the processor is below x86-64-v4"
     for build in $builds; do
-        check "the choice of build $build (several: alternating)" choose_build -DCHOOSE_TEST=$build build_$build || return
+        check "the choice of $build (several: alternating)" choose_build -DCHOOSE_TEST=$build build_$build || return
         for hash in "${hashes[@]}"; do
             ! has python3 || check "conformance.c, $hash, by build $build" run_of_build conformance $build $hash
             [ $hash = tree ] || [ ${#build} -gt 1 ] ||

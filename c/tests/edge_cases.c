@@ -204,7 +204,7 @@ static void check_param_refusals(void) {
     }
 }
 
-/* A state from a block with a key's length is the keyed one, and verifies tags, once it has absorbed the key's block. */
+/* A state from a block with a key's length is the keyed one, and verifies tags once it has absorbed the key's block. */
 static void verify_by_block(void) {
     for (size_t keylen = 0; keylen <= MAX; keylen++) {
         param_t param = {.digest_length = MAX, .key_length = (uint8_t)keylen, .fanout = 1, .depth = 1};

@@ -1,6 +1,6 @@
-/* Tests what the conformance cases do not show of vulfsjor.hpp (conformance.cpp): what compiles, forms of bytes, copies,
- * moves, lengths that no memory has, texts of exceptions, counts past 2^32, and what is left of a key. Returns 0 if all
- * is as it should be.
+/* Tests what the conformance cases do not show of vulfsjor.hpp (conformance.cpp): what compiles, forms of bytes,
+ * copies, moves, lengths that no memory has, texts of exceptions, counts past 2^32, and what is left of a key. Returns
+ * 0 if all is as it should be.
  *
  *   c++ -std=c++17 -I FOLDER/include hasher.cpp ARCHIVE -o hasher
  *   ./hasher                                  the same with -std=c++20, and with -fno-exceptions

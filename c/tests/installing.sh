@@ -322,11 +322,10 @@ compilers_of_words() {
     local folder=$work/words
     mkdir -p "$folder/bin" && printf '#!/bin/sh\necho "$*" >>"%s/calls"\nexec "$@"\n' "$folder" \
         >"$folder/bin/ccache" && chmod +x "$folder/bin/ccache" &&
-        PATH=$folder/bin:$PATH CC="ccache cc" install_into "$folder" && program_works "$folder/lib" &&
-        [ "$(grep -c -- ' -c ' "$folder/calls")" -ge 5 ] && ! grep -v '^cc ' "$folder/calls" &&
-        CC="cc -fno-pie" install_into "$folder" && cc -shared -Wl,-z,defs -Wl,-z,text \
-        -Wl,--whole-archive "$folder/lib"/libvulfsjor-{libb2,threads}.a -Wl,--no-whole-archive -pthread \
-        -o "$folder/shared.so"
+        PATH=$folder/bin:$PATH CC="ccache cc -fno-pie" install_into "$folder" && program_works "$folder/lib" &&
+        [ "$(grep -c -- ' -c ' "$folder/calls")" -ge 5 ] && ! grep -v '^cc -fno-pie ' "$folder/calls" &&
+        cc -shared -Wl,-z,defs -Wl,-z,text -Wl,--whole-archive "$folder/lib"/libvulfsjor-{libb2,threads}.a \
+            -Wl,--no-whole-archive -pthread -o "$folder/shared.so"
 }
 
 # The files of a program that `make install` installs.
@@ -416,10 +415,10 @@ variables_of_make() {
 # Each of these is built again if what it is made of has changed.
 built_again() {
     local line
+    make_here -q all || return 1
     for line in tools/launcher.sh:b2 c/{choose.c,system.h,vulfsjor.map,include/vulfsjor.h,make_libraries.sh}:lib/kind \
         c/{libb2/libb2.c,include/libb2/blake2.h}:lib/kind dist/{MANIFEST,macros.h,x86_64/{elf.inc,b2sum.s}}:b2sum; do
-        make_here -q "$work/made/${line#*:}" && ! make_here -q -W "${line%:*}" "$work/made/${line#*:}" ||
-            { echo "$line" && return 1; }
+        ! make_here -q -W "${line%:*}" "$work/made/${line#*:}" || { echo "$line" && return 1; }
     done
 }
 
@@ -634,7 +633,7 @@ machines_without_assembly() {
     local machine
     compiler_for || return 1
     texts_for riscv64-linux-gnu | diff <(echo c/vulfsjor.c) - && is_portable riscv64-linux-gnu &&
-        touch "$work/noting" || return 1
+        [ "$(grep -c -e -Wl,-z,defs "$work/compiled")" -eq 1 ] && touch "$work/noting" || return 1
     texts_for x86_64-pc-linux-gnu --portable | diff <(echo c/vulfsjor.c) - || return 1
     for machine in x86_64-linux-gnux32 aarch64-linux-gnu_ilp32 aarch64_be-linux-gnu i386-unknown-haiku; do
         texts_for $machine | diff <(echo c/vulfsjor.c) - || return 1
@@ -650,18 +649,14 @@ machines_without_assembly() {
 # What the preprocessor says of the machine, by -m32; a compiler that does not name its machine; and one with a
 # sanitizer, whose functions are not in the library.
 odd_compilers() {
-    local flags
     compiler_for && touch "$work/noting" || return 1
     ! is_x86 || CFLAGS=-m32 texts_for x86_64-linux-gnu | diff <(echo c/vulfsjor.c) - || return 1
     rm "$work/noting" && printf '#!/bin/sh\nexit 1\n' >"$work/silent" && chmod +x "$work/silent" &&
         refuses 1 "silent does not know -dumpmachine: use GCC or Clang" env CC="$work/silent" "$here/install.sh" \
             --from "$dist" "$work/no" &&
         [ ! -e "$work/no" ] || return 1
-    for flags in "" -fsanitize=address; do
-        rm -f "$work/compiled" && CFLAGS=$flags CC="$work/for $(cc -dumpmachine)" "$here/install.sh" "${one[@]}" \
-            --from "$dist" "$work/odd" &&
-            [ "$(grep -c -e -Wl,-z,defs "$work/compiled")" -eq "$([ -z "$flags" ] && echo 1 || echo 0)" ] || return 1
-    done
+    rm -f "$work/compiled" && CFLAGS=-fsanitize=address CC="$work/for $(cc -dumpmachine)" "$here/install.sh" \
+        "${one[@]}" --from "$dist" "$work/odd" && ! grep -e -Wl,-z,defs "$work/compiled"
 }
 
 # The package for CMake is for the size of a pointer of what is installed.

@@ -1,5 +1,5 @@
-/* Tests libb2's functions by their own names: what c/PORTING.md says of them and of libb2, row by row. libb2.sh links it
- * with libvulfsjor-libb2.a and, if libb2 is installed, with libb2 itself under LIBB2, so that what the page says of
+/* Tests libb2's functions by their own names: what c/PORTING.md says of them and of libb2, row by row. libb2.sh links
+ * it with libvulfsjor-libb2.a and, if libb2 is installed, with libb2 itself under LIBB2, so that what the page says of
  * libb2 is tested too. Digests are compared with those of one call, which the conformance cases are run over.
  *
  * TEST_S is for BLAKE2s, TEST_P for BLAKE2bp, and both are for BLAKE2sp. libb2_family.h declares the functions.

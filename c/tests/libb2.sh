@@ -157,7 +157,8 @@ test_libb2() {
     for family in b bp s sp; do
         check_once "key_scan.c by libb2's names, blake2$family" keys_of_names $family
         check "libb2's names, blake2$family" names_of_libb2 $family "$beside"
-        check "libb2's names by the header here, blake2$family" names_of_libb2 $family -DOWN_HEADER -I"$libb2" "$archive"
+        check "libb2's names by the header here, blake2$family" names_of_libb2 $family -DOWN_HEADER -I"$libb2" \
+            "$archive"
     done
     needs python3
     check "the conformance cases by libb2's names" names_conform

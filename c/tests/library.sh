@@ -67,8 +67,8 @@ END
 
 # edge_cases.c of the family, compiled with these words.
 edge_cases() {
-    cc -std=c99 -g $quick "${warnings[@]}" $(family_words "$family") -I"$include" "$tests/edge_cases.c" "$@" "$archive" \
-        -o "$work/edge_cases" && "$work/edge_cases"
+    cc -std=c99 -g $quick "${warnings[@]}" $(family_words "$family") -I"$include" "$tests/edge_cases.c" "$@" \
+        "$archive" -o "$work/edge_cases" && "$work/edge_cases"
 }
 
 # What the inline functions pass to the library, which is a part of the test; and what those of

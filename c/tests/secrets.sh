@@ -33,7 +33,8 @@ and ${counts[6]} of trees." <(tr '\n' ' ' <"$top/docs/WIPING.md")
             check "the choice of build $build" choose_build "-DCHOOSE_TEST=$build" "build_$build" || return
         fi
         for hash in "${hashes[@]}"; do
-            check "no branch or address by a key or a message, $hash, build $build" secrets_run $hash -O1 "${library[@]}"
+            check "no branch or address by a key or a message, $hash, build $build" secrets_run $hash $quick \
+                "${library[@]}"
         done
     done
     check "memcheck reports a branch by a key" reports_leak branch

@@ -122,13 +122,9 @@ static int is_hash(const char *name) {
 #define TEXTS IN(s), IN(p), uint32_t l
 #define GIVEN s, sn, p, pn, l
 #define TREE vulfsjor_tree_state *t
-WRAP(int32_t, vulfsjor_ffi_tree_leaves, -1, (uint8_t *o, size_t on, uint64_t f, uint32_t e, IN(i), TEXTS),
-     (o, on, f, e, i, in, GIVEN))
 WRAP(int32_t, vulfsjor_ffi_tree_init_root, -1, (vulfsjor_blake2b_state *r, size_t on, TEXTS), (r, on, GIVEN))
 WRAP(int32_t, vulfsjor_ffi_tree_root, -1, (uint8_t *o, size_t on, IN(i), TEXTS), (o, on, i, in, GIVEN))
 WRAP(int32_t, vulfsjor_ffi_tree_update, -1, (TREE, IN(i)), (t, i, in))
-WRAP(int32_t, vulfsjor_ffi_tree_leaves_ahead, -1, (const TREE, uint8_t *o, size_t on, uint64_t k, IN(i)),
-     (t, o, on, k, i, in))
 WRAP(int32_t, vulfsjor_ffi_tree_update_leaves, -1, (TREE, IN(d), IN(i)), (t, d, dn, i, in))
 WRAP(int32_t, vulfsjor_ffi_tree_final, -1, (TREE, uint8_t *o, size_t n), (t, o, n))
 WRAP(int32_t, vulfsjor_ffi_tree_plan, -1,
@@ -152,6 +148,24 @@ WRAP(int, fstat, -1, (int f, struct stat *s), (f, s))
     type __real_##name parameters;   \
     type __wrap_##name parameters;   \
     type __wrap_##name parameters
+
+/* Leaves in memory are noted as those of a file are. */
+static unsigned char *message;
+static size_t length;
+static int32_t note_input(const uint8_t *input, size_t n) {
+    if (input >= message && input < message + length) note_read(n, input - message);
+    return 0;
+}
+
+WRAP(int32_t, vulfsjor_ffi_tree_leaves, (uint8_t *o, size_t on, uint64_t f, uint32_t e, IN(i), TEXTS)) {
+    if (fails_now("vulfsjor_ffi_tree_leaves")) return -1;
+    return seen ? note_input(i, in) : __real_vulfsjor_ffi_tree_leaves(o, on, f, e, i, in, GIVEN);
+}
+
+WRAP(int32_t, vulfsjor_ffi_tree_leaves_ahead, (const TREE, uint8_t *o, size_t on, uint64_t k, IN(i))) {
+    if (fails_now("vulfsjor_ffi_tree_leaves_ahead")) return -1;
+    return seen ? note_input(i, in) : __real_vulfsjor_ffi_tree_leaves_ahead(t, o, on, k, i, in);
+}
 
 /* The largest block since this was set to 0. */
 static size_t largest;
@@ -239,9 +253,8 @@ WRAP(ssize_t, read, (int f, void *to, size_t n)) {
 
 /* ---- what is called over them */
 
-static unsigned char *message, root[64], wanted[64], blank[64];
+static unsigned char root[64], wanted[64], blank[64];
 static char path[PATH_MAX];
-static size_t length;
 static uint32_t leaf;
 static unsigned asked;
 

@@ -14,6 +14,8 @@
 #include "time_limit.h"
 #include "thread_calls.h"
 
+#include <sys/mman.h>
+
 /* The file has another length from this read on. */
 static void resize_at_read(int at, size_t size, int error) {
     int (*const calls[])(void) = {root_of_file, root_of_all};
@@ -325,6 +327,23 @@ static void memory_is_as_said(void) {
     CHECK(largest > 15 * MIB && largest <= 16 * MIB);
 }
 
+/* The same of bytes in memory, of which there is one page; an update absorbs the first and the last by itself. */
+static void long_bytes(void) {
+    unsigned char *const kept = message;
+
+    leaf = 65536;
+    message = mmap(NULL, length, PROT_READ, MAP_PRIVATE | MAP_ANONYMOUS | MAP_NORESERVE, -1, 0);
+    CHECK(message != MAP_FAILED);
+    for (int is_update = 0; is_update < 2; is_update++) {
+        memset(seen, 0, MIBS * sizeof *seen);
+        CHECK(!(is_update ? root_of_updates() : root_of_bytes()));
+        for (int i = is_update; i + 1 < MIBS - is_update; i++) CHECK(seen[i] == 1 << 20);
+        CHECK(is_update || seen[MIBS - 1] == 1);
+    }
+    munmap(message, length);
+    message = kept;
+}
+
 /* Each byte of a file of more than 2^32 bytes is read once. Nothing is hashed. */
 static void long_files(void) {
     static const uint32_t leaves[] = {4096,    65536,   1 << 22, 1 << 24, (1 << 24) + (1 << 20),
@@ -346,6 +365,7 @@ static void long_files(void) {
             for (once = 0; once + 1 < MIBS && seen[once] == 1 << 20; once++) continue;
             CHECK(once == MIBS - 1 && seen[once] == 1);
         }
+    long_bytes();
     __real_free(seen);
     seen = NULL;
 }
