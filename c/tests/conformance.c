@@ -509,7 +509,7 @@ static int are_all(const char *file, int cases, int skipped) {
             return cases == files[i].cases &&
                    skipped == (sizeof(size_t) == 8 ? files[i].skipped : files[i].skipped_on_32);
 #ifdef TEST_SECRETS
-    return cases > 20 && VALGRIND_COUNT_ERRORS == allowed;
+    return cases > 9 && VALGRIND_COUNT_ERRORS == allowed;
 #endif
     return cases > 20 && !skipped;
 }

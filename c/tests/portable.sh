@@ -125,7 +125,7 @@ compiles_for_msvc() {
 }
 
 # Branches and addresses by a key or a message, with this compiler, of some of the cases: memcheck is slow.
-secrets_here() { some_cases "$1" 160 && secrets_run "$1" $quick "$work/here.o"; }
+secrets_here() { some_cases "$1" 100 && secrets_run "$1" $quick "$work/here.o"; }
 
 test_portable() {
     local name
