@@ -76,15 +76,17 @@ files_there() {
 
 # The tests of the library for a processor.
 test_there() {
-    local level=-O2 turns=100 hash type these=("${hashes[@]}") families="b s"
+    local level=-O2 turns=100 hash type these=("${hashes[@]}") families="b s" check=check_once
     processor=$1
+    [ ${#emulator[@]} -eq 0 ] || check=check
     if [ ${#emulator[@]} -gt 0 ] && [ -z "${VULFSJOR_TEST_HUGE-}" ]; then
         level=-O1 turns=20 these=("${kinds[@]}") families=b
     fi
     check "the file in C, for $processor, without a warning" library_there $level || return
     for hash in "${these[@]}"; do
         check "conformance.c, $hash, for $processor" hash_there conformance $hash
-        check "made_states.c, $hash, for $processor" hash_there made_states $hash
+        family=${hash#blake2}
+        $check "made_states.c, $hash, for $processor" hash_there made_states $hash
     done
     for family in $families; do
         check "edge_cases.c, blake2$family, for $processor" edge_cases_there $family
@@ -133,12 +135,13 @@ test_portable() {
     compiler=(cc) emulator=()
     test_there here
     for family in b s bp sp xb xs; do
-        check "key_scan.c, blake2$family, over the file in C" keys_there $family "$work/here.o"
+        check_once "key_scan.c, blake2$family, over the file in C" keys_there $family "$work/here.o"
     done
     check "an unknown order of bytes, with cc -O0" unknown_order
     has_memcheck || missing="no valgrind with its headers"
-    for name in blake2{b,s,bp,sp}; do
-        check "no branch or address by a secret, $name, with cc -O2" secrets_here $name
+    for family in b s bp sp; do
+        name=blake2$family
+        check_once "no branch or address by a secret, $name, with cc -O2" secrets_here $name
     done
     needs clang
     check "the file in C, in MSVC's dialect" compiles_for_msvc
