@@ -54,6 +54,7 @@ static struct {
     off_t size;
     int file, calls, resized, ended;
     int least; /* the read of the first byte waits until there are as many reads; 0: it does not */
+    int others, waiting; /* and until so many threads wait for room; those that have waited */
     int inherited; /* whether a program that is started meanwhile would have a file that was read */
 } reads;
 
@@ -61,10 +62,11 @@ static void wait_for(int *counter, int n) {
     while (atomic_value(counter) < n) usleep(100);
 }
 
-/* Waits for reads.least reads, which come before that of the first byte ends, and no more do. */
+/* Waits for reads.least reads, which come before that of the first byte ends, and no more do, since all other threads
+ * wait then. */
 static void wait_for_reads(void) {
     wait_for(&reads.calls, reads.least);
-    usleep(20000);
+    wait_for(&reads.waiting, reads.others);
     CHECK(atomic_value(&reads.calls) == reads.least);
 }
 
@@ -219,6 +221,11 @@ WRAP(int, pthread_create, (pthread_t *t, const pthread_attr_t *a, void *(*f)(voi
     return error;
 }
 
+WRAP(int, pthread_cond_wait, (pthread_cond_t *c, pthread_mutex_t *m)) {
+    atomic_add(&reads.waiting, 1);
+    return __real_pthread_cond_wait(c, m);
+}
+
 WRAP(int, pthread_join, (pthread_t t, void **x)) {
     atomic_add(&reads.ended, 1); /* the caller's thread has no more to do */
     atomic_add(&running, -1);
@@ -263,7 +270,7 @@ static void plan_fault(const char *call, int at, int error) {
     fault.at = at;
     fault.error = error;
     fault.counted = 0;
-    reads.calls = reads.resized = reads.ended = 0;
+    reads.calls = reads.resized = reads.ended = reads.waiting = 0;
     started = 0;
 }
 

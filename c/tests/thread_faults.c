@@ -159,6 +159,7 @@ static void reads_are_short(void) {
 static void threads_wait_for_the_first_part(void) {
     use_file(BYTES, 100, 4);
     reads.least = 8;
+    reads.others = 3;
     expect_errno(root_of_file, 0);
     plan_fault("first pread", 1, ENXIO);
     expect_errno(root_of_file, ENXIO);
