@@ -14,11 +14,13 @@ import hashlib
 import itertools
 import os
 import random
+import re
 import shutil
 import subprocess
 
 from b2sum_support import (FILES, both_digests, check_line, digest, escaped, line, lines, needs_of_tag, root, root_line,
                            run_tests)
+from common import TOP
 from oracle import parallel_by_hashlib
 
 HUGE = bool(os.environ.get("VULFSJOR_TEST_HUGE"))
@@ -333,8 +335,8 @@ def test_demanded_lengths(runs):
 
 
 def test_macs(runs):
-    """What a check with a key promises: it is strict, its names have two bytes before them, whatever another manifest
-    has, and the pair of commands of the manual authenticates a manifest."""
+    """What a check with a key promises: it is strict, and its names have two bytes before them, whatever another
+    manifest has."""
     key = bytes(range(32))
     runs.write("key", key)
     check, sums = ["--key-file", "key", "--check"], line("b", b"abc", key=key)
@@ -356,26 +358,53 @@ def test_macs(runs):
                    (none if given else "") + did_not, 1)
         runs.wants([*words, "-c", "trusted", "stranger"], failed + ("" if given else "other: OK\n"),
                    did_not + ("\n" + none if given else ""), 1)
-    runs.wants(["--key-file", "key", "--tag", "b", "a"],
-               manifest := line("b", b"abc", tag=True, key=key) + line("a", b"", tag=True, key=key))
-    runs.write("SUMS", manifest.encode())
-    mac = line("SUMS", manifest.encode(), tag=True, key=key)
-    runs.wants(["--key-file", "key", "--tag", "SUMS"], mac)
-    runs.write("SUMS.mac", mac.encode())
-    runs.wants([*check, "SUMS.mac"], "SUMS: OK\n")
-    runs.wants([*check, "SUMS"], "b: OK\na: OK\n")
-    runs.write("a", b"abc")  # an attack without the key: the file and the line of another
-    runs.write("SUMS", manifest.replace(manifest.splitlines(True)[1], manifest.splitlines(True)[0].replace(
-        "(b)", "(a)")).encode())
-    runs.wants([*check, "SUMS"], "b: OK\na: OK\n")
-    runs.wants([*check, "SUMS.mac"], "SUMS: FAILED\n", "WARNING: 1 computed checksum did NOT match", 1)
-    runs.write("a", FILES["a"])
     for mode, others in ((0o644, True), (0o640, True), (0o604, True), (0o600, False), (0o733, False), (0o400, False)):
         os.chmod(runs.path("key"), mode)
         said = "WARNING: others may read the key file" if others else ""
         runs.wants(["--key-file", "key", "b", "key"], line("b", b"abc", key=key) + line("key", key, key=key), said)
         runs.wants(["--key-file", "-", "b", "key"], line("b", b"abc", key=key) + line("key", key, key=key), data=key)
     runs.ends("checks with a key")
+
+
+def commands_of_manual(runs, number):
+    """The status of the commands in the manual that make a manifest and its MAC, or of those that check both, and what
+    they print."""
+    with open(os.path.join(TOP, "docs", "B2SUM.md")) as page:
+        section = page.read().partition("### Checking with a key")[2]
+    text = re.findall(r"(?:^    .+\n)+", section, re.MULTILINE)[number]
+    text = 'b2sum() { "$0" "$@"; }\n' + text.replace("KEY", "key").replace("FILE..", "b a x")
+    done = subprocess.run(["sh", "-c", text, runs.program], cwd=runs.folder, stdout=subprocess.PIPE,
+                          stderr=subprocess.DEVNULL)
+    return done.returncode, done.stdout
+
+
+def test_manifest_macs(runs):
+    """The commands of the manual that authenticate a manifest: they refuse what somebody without the key can write."""
+    key = bytes(range(32))
+    mac, other = line("b", b"abc", tag=True, key=key), line("a", b"", tag=True, key=key)
+    forged = mac + mac.replace("(b)", "(a)")
+    for name, data in (("key", key), ("x", forged.encode())):
+        runs.write(name, data)
+    runs.holds("made", commands_of_manual(runs, 0) == (0, b""))
+    made = {}
+    for name in ("SUMS", "SUMS.mac"):
+        with open(runs.path(name)) as file:
+            made[name] = file.read()
+    file_mac = line("x", forged.encode(), tag=True, key=key)
+    runs.holds("the manifest", made["SUMS"] == mac + other + file_mac)
+    runs.holds("right", commands_of_manual(runs, 1) == (0, b"b: OK\na: OK\nx: OK\n"))
+    runs.write("a", b"abc")
+    runs.write("old", made["SUMS"].encode())
+    named = file_mac.replace("(x)", "(SUMS)")
+    for sums_mac in (made["SUMS.mac"], mac, made["SUMS.mac"].replace("(SUMS)", "(old)"), named, file_mac,
+                     named.replace("-key", "-key-personal"), named.split()[-1] + "  SUMS\n", "",
+                     made["SUMS.mac"].replace("(SUMS)", "(old)") + made["SUMS.mac"]):
+        runs.write("SUMS", forged.encode())
+        runs.write("SUMS.mac", sums_mac.encode())
+        runs.wants(["--key-file", "key", "-c", "SUMS"], "b: OK\na: OK\n")
+        got = commands_of_manual(runs, 1)
+        runs.holds(sums_mac, got == (1, b""), got)
+    runs.ends("MACs of manifests by the commands of the manual")
 
 
 def test_trees(runs):
@@ -556,6 +585,6 @@ def test_differences(runs):
 
 
 COMPUTING = (test_lengths, test_parameters, test_parallel, test_demanded_lengths, test_shapes, test_trees)
-TESTS = (*COMPUTING, test_personal_text, test_random, test_needs, test_macs, test_tags, test_names, test_differences,
-         test_key_input)
+TESTS = (*COMPUTING, test_personal_text, test_random, test_needs, test_macs, test_manifest_macs, test_tags, test_names,
+         test_differences, test_key_input)
 run_tests(TESTS, COMPUTING if HUGE else ())
