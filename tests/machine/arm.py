@@ -291,6 +291,10 @@ class Arm(Processor):
         registers = ops[:-1]
         if len({r.size for r in registers}) != 1 or len(registers) != 1 + kind.endswith("p"):
             raise CannotShow("a %s of %d registers" % (name, len(registers)))
+        places, base = [(r.kind, r.index) for r in registers], ops[-1].base
+        if kind in LOADS and len(set(places)) != len(places) or ops[-1].mode != "at" and (
+                ("general", base.index) in places):
+            raise CannotShow("what a %s does whose registers are the same differs between processors" % name)
         size = SIZES.get(name[-1], registers[0].size)
         data = [self.read(r)[:size] for r in registers]
         at = self.place_of(ops[-1])
