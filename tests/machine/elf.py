@@ -6,18 +6,18 @@ import struct
 
 PROGBITS, SYMBOLS, RELOCATIONS, NOTE, NOBITS, GROUP = 1, 2, 4, 7, 8, 17    # types of sections
 WRITABLE, ALLOCATED, EXECUTABLE, MERGED = 1, 2, 4, 16      # flags of sections
-STRINGS = MERGED | 32
-FUNCTION = 2                                               # a type of symbols
+NO_TYPE, FUNCTION = 0, 2                                   # types of symbols
 LOCAL, GLOBAL = 0, 1                                       # bindings of symbols
 UNDEFINED = 0                                              # a number of no section
 HIDDEN = 2                                                 # a visibility of symbols
 
 
 class Section:
-    """The header of a section, and its bytes."""
+    """The header of a section, and its bytes. Linkers merge what is the same in units."""
 
     def __init__(self, name: str, header: tuple, data: bytes) -> None:
-        self.name, (_, self.type, self.flags, self.address, at, self.size) = name, header
+        self.name, (_, self.type, self.flags, self.address, at, self.size) = name, header[:6]
+        self.alignment, self.unit = header[8:]
         self.data = b"" if self.type == NOBITS else data[at:at + self.size]
 
 
@@ -36,8 +36,8 @@ class Elf:
     def __init__(self, data: bytes) -> None:
         table, = struct.unpack_from("<Q", data, 40)
         size, count, names = struct.unpack_from("<HHH", data, 58)
-        headers = [struct.unpack_from("<IIQQQQI", data, table + k * size) for k in range(count)]
-        self.sections = [Section(text_at(data, headers[names][4] + h[0]), h[:6], data)
+        headers = [struct.unpack_from("<IIQQQQIIQQ", data, table + k * size) for k in range(count)]
+        self.sections = [Section(text_at(data, headers[names][4] + h[0]), h, data)
                          for h in headers]
         self.symbols = []
         for section, header in zip(self.sections, headers):

@@ -30,14 +30,19 @@ MODELS = {"x86_64": x86, "aarch64": arm, "wasm": wasm}
 
 CONSTANTS = ".rodata"                  # the section of the constants
 # The sections of a file that a processor sees, by the start of their names, with their flags.
-SECTIONS = ((".text", elf.ALLOCATED | elf.EXECUTABLE), (CONSTANTS, elf.ALLOCATED),
-            (CONSTANTS, elf.ALLOCATED | elf.MERGED), (CONSTANTS, elf.ALLOCATED | elf.STRINGS))
+SECTIONS = ((".text", elf.ALLOCATED | elf.EXECUTABLE), (CONSTANTS, elf.ALLOCATED | elf.MERGED))
 # What the linker reads for branch protection: the kind of a processor's features, and those of all code.
 MARKS = {"x86_64": (0xc0000002, 3), "aarch64": (0xc0000000, 1)}
 # The directives that the files use. Each means the same to all assemblers, in all folders.
 DIRECTIVES = frozenset("ascii asciz byte file globl hidden hword ident long p2align popsection quad "
                        "pushsection section short size type weak word xword zero".split())
 DIRECTIVE = re.compile(r"(?:^|[;/]|(?<!:lo12):)\s*\.([a-z]\w*)\b(?![\w.$]*\s*:)", re.I | re.M)
+# What the files do not have: what a preprocessor reads, comments, and other values of symbols.
+OTHER = re.compile(r"^\s*#|//|/\*|=", re.M)
+# How instructions begin that processors of the level of a file do not have: those with a prefix of AVX,
+# and of AVX-512.
+LATER = {"v2.s": re.compile(r"(?:66|67|f[023]|26|2e|36|3e|6[45])*(?:c[45]|62)"),
+         "v3.s": re.compile(r"(?:66|67|f[023]|26|2e|36|3e|6[45])*62")}
 OF_C = ("memcpy", "memmove", "memset")            # functions of the C library that the code calls
 # The kinds of relocation that fill in 4 bytes of constants, R_X86_64_PC32 and R_AARCH64_PREL32.
 # Any other fills in at most 8.
@@ -120,6 +125,9 @@ class Program:
         text = macros.expanded(text, self.kind)
         if edit:
             text = edit(text)
+        code = re.sub(r'^/\*[^*]*\*/$|"(?:[^"\\\n]|\\.)*"', "", text, flags=re.M)
+        if OTHER.search(code):
+            raise CannotShow("a comment, or a symbol with a value: %s" % OTHER.split(code)[0].split("\n")[-1])
         other = {name.lower() for name in DIRECTIVE.findall(text)} - DIRECTIVES
         if other:
             raise CannotShow("the directive .%s, which may mean something else to another "
@@ -161,7 +169,15 @@ class Program:
                         s.name.startswith(name) and s.flags == flags for name, flags in SECTIONS))):
                 raise IsWrong("the section %s has data, or code that may be overwritten, that "
                               "another file may replace, or that runs at the start" % s.name)
+            if is_kept and s.flags & elf.MERGED and not s.unit == s.alignment:
+                raise IsWrong("the constants of %s are merged by %d bytes, and aligned to %d" % (
+                    s.name, s.unit, s.alignment))
         for symbol in file.symbols:
+            if not re.fullmatch(r"[\w.$]*", symbol.name):
+                raise CannotShow("the symbol %s has other characters than names in C" % symbol.name)
+            if symbol.section == elf.UNDEFINED and symbol.name and (
+                    symbol.binding != elf.GLOBAL or symbol.type != elf.NO_TYPE):
+                raise IsWrong("%s may be absent, or is no function" % symbol.name)
             if symbol.section != elf.UNDEFINED and without_version(symbol.name) in OF_C:
                 raise IsWrong("%s has the name of a function of the C library" % symbol.name)
             if symbol.binding != elf.LOCAL and symbol.section != elf.UNDEFINED and (
@@ -216,6 +232,9 @@ class Program:
                 found[-1].next = found[-1].address + len(m[2].replace(" ", "")) // 2
                 if user:
                     forms.check(self.kind, user, m[3])
+                later = LATER.get(functions.build(self.path)[1])
+                if later and later.match(m[2].replace(" ", "")):
+                    raise IsWrong("processors of the level of the file do not have %s" % m[3])
                 if found[-1].target is not None and PREFIX.match(m[2]) and self.kind == "x86_64":
                     raise CannotShow("there is a prefix before a jump or a call: %s" % m[3])
             elif not m and start <= int(line.partition(":")[0], 16) < end:
