@@ -97,6 +97,13 @@ class Values:
         w = self.stack.w
         return (constant + (1 << w - 1)) % (1 << w) - (1 << w - 1) - self.processor.RED_ZONE
 
+    def is_on_stack(self, t: T.Term) -> bool:
+        """Whether a word is an address in the stack, or that of its end."""
+        constant, items = T.linear(t)
+        region, half = self.regions.get(self.stack), 1 << t.w - 1
+        return region is not None and items == {self.stack: 1} and (
+            region.low <= (constant + half) % (1 << t.w) - half <= region.high)
+
     @staticmethod
     def shifted_left(a: T.Term, k: int) -> T.Term:
         return T.add(a.w, (1 << k, a))
@@ -339,6 +346,8 @@ class Followed(Values):
     def forget_below(self) -> None:
         """Forgets the stack below its pointer, where a signal and the next call may write."""
         low = self.lowest()
+        if not self.regions[self.stack].low <= low <= 0:
+            raise IsWrong("the stack pointer leaves the stack")
         for key in [k for k in self.memory if k[0] is self.stack and k[1] < low]:
             del self.memory[key]
 
@@ -390,7 +399,7 @@ class Processor:
             return relation, None, None
         kind, a, b, r = m.flags
         if kind == "sub" and condition in {**self.RELATIONS, **self.SIGNED}:
-            on_stack = all(T.linear(t)[1] == {m.stack: 1} for t in (a, b))
+            on_stack = m.is_on_stack(a) and m.is_on_stack(b)
             if on_stack:               # its addresses are all on one side of 0, and of a half
                 a, b = (T.const(a.w, T.linear(t)[0]) for t in (a, b))
             if on_stack or not relation:            # with all numbers moved by a half of them

@@ -492,6 +492,7 @@ class Exact(Followed):
                 ">=", apart, T.const(64, length)), ("<=", apart, T.const(64, -size)))
 
     def copy_memory(self, to: T.Term, source: T.Term, length: T.Term) -> None:
+        need_public(length, "a length")
         if length is T.const(64, 0):
             return
         base, offset, region = self.region_of(source)
@@ -521,6 +522,7 @@ class Exact(Followed):
                        length, T.add(64, (1, offset), (-1, T.const(64, low))))
 
     def fill_memory(self, to: T.Term, byte: T.Byte, length: T.Term) -> None:
+        need_public(length, "a length")
         if length.op == "const":
             if length.args:
                 self.store(to, [byte] * length.args)
@@ -545,7 +547,8 @@ class Exact(Followed):
         constant, items = T.linear(offset)
         size = T.add(64, *[(k, u) for u, k in items.items()])
         # Without a wrap, a place is before the offset if it is less than the number and the rest.
-        if base_of(end) is None or high - low > 128 or not self.is_always("<=", size, 1 << 32):
+        if base_of(end) is None or high - low > 128 or not self.is_always("<=", size, 1 << 32) or (
+                base is self.stack and low < self.lowest()):
             raise CannotShow("a fill of %r bytes at %r" % (length, to))
         self.check_inside(region, offset, length, to)
         self.check_writable(region, to)

@@ -170,6 +170,8 @@ class Loop:
         for m in (second, after):      # of the stack an iteration has used
             end.deepest = min(end.deepest, m.deepest)
             end.secrets |= m.secrets
+            if m.pieces != end.pieces:
+                raise CannotShow("a loop writes at %r" % m.pieces[-1].offset)
         end.is_scrubbed = False
         return end
 
