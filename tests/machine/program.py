@@ -31,6 +31,7 @@ MODELS = {"x86_64": x86, "aarch64": arm, "wasm": wasm}
 CONSTANTS = ".rodata"                  # the section of the constants
 # The sections of a file that a processor sees, by the start of their names, with their flags.
 SECTIONS = ((".text", elf.ALLOCATED | elf.EXECUTABLE), (CONSTANTS, elf.ALLOCATED | elf.MERGED))
+IDENT, STACK_MARK = ".comment", ".note.GNU-stack"       # a section with the compiler, and a mark
 # What the linker reads for branch protection: the kind of a processor's features, and those of all code.
 MARKS = {"x86_64": (0xc0000002, 3), "aarch64": (0xc0000000, 1)}
 # The directives that the files use. Each means the same to all assemblers, in all folders.
@@ -172,12 +173,16 @@ class Program:
             if is_kept and s.flags & elf.MERGED and not s.unit == s.alignment:
                 raise IsWrong("the constants of %s are merged by %d bytes, and aligned to %d" % (
                     s.name, s.unit, s.alignment))
+            if s.size and not s.flags & elf.ALLOCATED and s.type == elf.PROGBITS and s.name != IDENT:
+                raise CannotShow("it is not known what linkers do with the section %s" % s.name)
+        if STACK_MARK not in [s.name for s in file.sections]:
+            raise IsWrong("the file lets the linker make the stack executable")
         for symbol in file.symbols:
             if not re.fullmatch(r"[\w.$]*", symbol.name):
                 raise CannotShow("the symbol %s has other characters than names in C" % symbol.name)
             if symbol.section == elf.UNDEFINED and symbol.name and (
-                    symbol.binding != elf.GLOBAL or symbol.type != elf.NO_TYPE):
-                raise IsWrong("%s may be absent, or is no function" % symbol.name)
+                    symbol.binding != elf.GLOBAL or symbol.type != elf.NO_TYPE or symbol.name not in OF_C):
+                raise IsWrong("%s may be absent, or is no function of the C library" % symbol.name)
             if symbol.section != elf.UNDEFINED and without_version(symbol.name) in OF_C:
                 raise IsWrong("%s has the name of a function of the C library" % symbol.name)
             if symbol.binding != elf.LOCAL and symbol.section != elf.UNDEFINED and (
