@@ -46,13 +46,21 @@ class Setup:
         self.state_at: Any = None
         self.out: Any = None
         self.cells: list = []
+        self.names: set = set()
         self.reads_key: tuple = ()     # the conditions of must_scrub, if the call absorbs bytes
+
+    def variable(self, name: str, w: int = 64) -> T.Term:
+        """A variable, which no other number of the call is."""
+        if name in self.names:
+            raise CannotShow("two numbers of a call are called %s" % name)
+        self.names.add(name)
+        return T.var(w, name, T.PUBLIC)
 
     def number(self, name: str, low: int = 0, high: int = MOST) -> T.Term:
         """A variable between two numbers, or a number."""
         if low == high:
             return T.const(64, low)
-        t = T.var(64, name, T.PUBLIC)
+        t = self.variable(name)
         if (low, high) != FREE:
             self.known = self.known.between([(1, t)], low, high)
         return t
@@ -422,7 +430,7 @@ class Cases:
     def lengths(self, setup: Setup, key: tuple, others: bool = True) -> tuple:
         """The arguments of an init, but for the state: what the specification needs."""
         kind, n = self.kind, self.kind.w // 4
-        size = setup.pass_number("output_size")
+        size = setup.pass_number("size")
         keyed = setup.number("key_size", *key)
         given = [size, setup.pass_buffer("key", keyed), keyed]
         for name in ("salt", "persona"):
@@ -456,7 +464,7 @@ class Cases:
 
         def read(setup: Any, key: Any) -> Any:
             given, conditions = self.lengths(setup, key)
-            tree = {name: T.var(8 * size, name, T.PUBLIC) for name, size in S.TREE_FIELDS}
+            tree = {name: setup.variable(name, 8 * size) for name, size in S.TREE_FIELDS}
             if is_struct:
                 setup.pass_struct("tree", [b for t in tree.values() for b in T.split(t)])
             for name in () if is_struct else S.TREE:
@@ -538,7 +546,7 @@ class Cases:
         for low_, high in ((0, 0), (1, (1 << 32) - 1)):
             def case(setup: Setup) -> Callable:
                 s = self.add_ready(setup)
-                on = T.var(32, "on", T.PUBLIC) if high else T.const(32, 0)
+                on = setup.variable("on", 32) if high else T.const(32, 0)
                 setup.bound((on,), low_, high)
                 setup.arguments.append(wide(on))
                 return lambda a: (0, S.set_last_node(s, high > 0), [])

@@ -150,7 +150,7 @@ class Cases(C.Cases):
         kind = self.kind
 
         def case(setup: Setup, is_known: bool, reading: tuple, node: tuple) -> Callable:
-            place = T.var(8, "place in a block", T.PUBLIC)
+            place = setup.variable("place in a block", 8)
             setup.bound((place,), 0, kind.w - 1)
             position = T.add(64, (kind.w, setup.number("block", 0, MOST // kind.w)), (
                 1, reads.of_byte(place)))
