@@ -141,6 +141,8 @@ class Setup:
             self.compare(end, expected(a))
             if not self.reads_key or S.must_scrub(a, *self.reads_key):
                 self.need_clean_stack(end)
+            elif end.keys:
+                raise IsWrong("a byte of the key may be left on the stack, at %+d" % max(end.keys))
             cpu(end).need_vectors()
         return len(ends)
 

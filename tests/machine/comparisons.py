@@ -62,12 +62,9 @@ class Differences:
             for offset in offsets:
                 b = any_of(b, (T.var(8, ("differ", offset, step, count), T.SECRET), 0))
             end.set_cells({c: b})
-        for m in (second, after):      # of the stack an iteration has used
-            end.deepest = min(end.deepest, m.deepest)
-            end.secrets |= m.secrets
-            if m.pieces != end.pieces:
-                raise CannotShow("a loop writes at %r" % m.pieces[-1].offset)
-        end.is_scrubbed = False
+        end.uses_stack_of([second, after])
+        if second.pieces + after.pieces != 2 * end.pieces:
+            raise CannotShow("a loop writes at a place that is not a number")
         return end
 
     def iterate_at(self, m: Any, i: T.Term, left: T.Term) -> tuple:

@@ -83,9 +83,7 @@ class Reads:
             self.check(n, position)
         behind = [(n, n.pc) for n in ends if n.pc != self.head]
         for n, _ in behind:            # of the stack the iterations before have used
-            n.deepest = min(other.deepest for other in ends)
-            n.secrets = set().union(*[other.secrets for other in ends])
-            n.is_scrubbed = False
+            n.uses_stack_of(ends)
         return behind
 
     def general(self, position: T.Term, f: T.Term) -> Any:

@@ -4,7 +4,7 @@ copies, if its length is not a number, is a choice byte by byte. A branch that i
 from __future__ import annotations
 
 import itertools
-from typing import Any, Callable, Iterator, NamedTuple
+from typing import Any, Callable, Iterable, Iterator, NamedTuple
 
 import terms as T
 from machine import Aligned, Followed, bitwise, chunks, joined, need_public
@@ -13,6 +13,7 @@ from ranges import OPPOSITE, signed
 from taint import is_secret
 from terms import CannotShow, IsWrong
 
+KEYS = ("start_block.", "new~", "rest~")      # variables that may be bytes of a key
 WRITTEN = 256                          # bytes of an output that are often written together
 _COUNT = itertools.count()             # for names of variables that are used once
 
@@ -117,9 +118,11 @@ class Exact(Followed):
         self.secret_of: Any = None     # the flags from a secret word, and the word
         self.compared_bytes: Any = None
         # The lowest place of the stack that was used, the places where a secret may be, also below
-        # the stack pointer, and whether scrub_stack has overwritten all below the frame of the call.
+        # the stack pointer, or a byte of a key, and whether scrub_stack has overwritten all below the
+        # frame of the call.
         self.deepest, self.is_scrubbed = 0, False
         self.secrets: set = set()
+        self.keys: set = set()
         self.is_kept: Callable = is_secret_byte        # which bytes are secret there
         self.inside: dict = {}         # places of outputs that are known to be inside: offsets and sizes
         self.pieces: tuple = ()        # what was written to buffers at offsets that are terms, in order
@@ -133,18 +136,29 @@ class Exact(Followed):
         low = self.lowest()
         self.go_down(low - frame)
         self.secrets.update(range(low - frame, low))
+        if any(is_of_key(b) for r in self.general + self.vector for b in r):
+            self.keys.update(range(low - frame, low))
+
+    def uses_stack_of(self, others: list) -> None:
+        """Uses the stack as other paths have used it."""
+        self.deepest = min([self.deepest] + [m.deepest for m in others])
+        self.secrets, self.keys = (set().union(*[getattr(m, name) for m in [self] + others])
+                                   for name in ("secrets", "keys"))
+        self.is_scrubbed = False
 
     def put(self, base: T.Term, places: Any, data: list) -> None:
         """Writes bytes at places that are numbers."""
         self.memory.update(((base, at), b) for at, b in zip(places, data))
         if base is self.stack:
             self.is_scrubbed = False
-            self.secrets.difference_update(places)
+            for found in (self.secrets, self.keys):
+                found.difference_update(places)
             self.secrets.update(at for at, b in zip(places, data) if self.is_kept(b))
+            self.keys.update(at for at, b in zip(places, data) if is_of_key(b))
 
     def copy(self) -> Any:
         other = super().copy()
-        other.secrets = set(self.secrets)
+        other.secrets, other.keys = set(self.secrets), set(self.keys)
         return other
 
     def may_be_left(self, j: int, k: int, b: T.Byte) -> bool:
@@ -160,7 +174,7 @@ class Exact(Followed):
 
     def lost(self, n: int, is_compression: bool = False) -> list:
         """What a function leaves in a register: `after` is what one of the C library leaves."""
-        return fresh("new" if is_compression else "after", T.SECRET, n) if n else []
+        return fresh("left" if is_compression else "after", T.SECRET, n) if n else []
 
     def anything(self, n: int) -> list:
         """Public bytes of which nothing is known."""
@@ -593,6 +607,21 @@ def offsets(offset: T.Term, size: int) -> Any:
 
 def is_secret_byte(b: T.Byte) -> bool:
     return not isinstance(b, int) and bool(b[0].taint & T.SECRET)
+
+
+def is_of_key(b: T.Byte) -> bool:
+    """Whether a byte is by one of a key, or of its block in a state."""
+    return not isinstance(b, int) and is_secret_byte(b) and T.remembered(_is_of_key, b[0])
+
+
+def _is_of_key(t: T.Term) -> bool:
+    if t.op == "var" and isinstance(t.args, str):
+        return t.args.startswith(KEYS)
+    if t.op == "var" and t.args[0] == "key":
+        return True
+    inner = t.args[-1] if t.op in ("add", "xor") or t.op == "var" and t.args[0] in ("any", "zero") else t.args
+    parts = [u[0] if isinstance(u, tuple) else u for u in (inner if isinstance(inner, Iterable) else ())]
+    return any(T.remembered(_is_of_key, u) for u in parts if isinstance(u, T.Term))
 
 
 def is_zero(t: Any) -> T.Byte:

@@ -167,12 +167,9 @@ class Loop:
         words = Terms(self.calls, self.start).compress_all(
             kind, one["chain"], buffer, start, self.count, before)
         end = self.machine(self.count, words)
-        for m in (second, after):      # of the stack an iteration has used
-            end.deepest = min(end.deepest, m.deepest)
-            end.secrets |= m.secrets
-            if m.pieces != end.pieces:
-                raise CannotShow("a loop writes at %r" % m.pieces[-1].offset)
-        end.is_scrubbed = False
+        end.uses_stack_of([second, after])
+        if second.pieces + after.pieces != 2 * end.pieces:
+            raise CannotShow("a loop writes at a place that is not a number")
         return end
 
     def propose(self, first: dict, second: dict, call: dict) -> None:
