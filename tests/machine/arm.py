@@ -10,7 +10,7 @@ from machine import Processor, chunks, image, invert, joined, lanewise, need_pub
 from terms import CannotShow, IsWrong
 
 SP, ZERO, LINK, PLATFORM = 31, 32, 30, 18
-WIDTHS = {"b": 1, "h": 2, "s": 4, "d": 8, "q": 16}
+WIDTHS = {"b": 1, "h": 2, "s": 4, "w": 4, "d": 8, "x": 8, "q": 16}
 SAVED = tuple(range(19, 30))
 CONDITIONS = "eq ne cs cc hi ls mi pl vs vc ge lt gt le".split()
 SIZES = {"b": 1, "h": 2}
@@ -18,81 +18,45 @@ STORES, LOADS = ("str", "stur", "stp"), ("ldr", "ldur", "ldp")
 BITWISE = {"eor": "xor", "orr": "or", "and": "and"}
 
 
-class Register:
-    """A general register, or the low bytes of a vector register."""
+class Operand:
+    """A part of an instruction. `general` is a register, `vector` the low bytes of one, `lanes` one by parts of n bytes, of
+    which perhaps only one. `memory` is at a base register plus an offset or another register, which is added for the
+    access only ("at"), or also to the base, "before" or "after" the access. `number` is a constant, `shift` one of the
+    operand before, `word` what an instruction has to know itself, such as a condition, and `value` is in no register."""
 
-    def __init__(self, kind: str, index: int, size: int) -> None:
-        if kind == "general" and index == PLATFORM:
+    kind: str
+    mode: str
+    offset: int
+
+    def __init__(self, kind: str, **fields: Any) -> None:
+        self.__dict__.update(fields, kind=kind)
+        if kind == "general" and self.index == PLATFORM:
             raise IsWrong("x18 belongs to the platform")
-        self.kind, self.index, self.size = kind, index, size
+
+    def __getattr__(self, name: str) -> Any:
+        return None
 
 
-class Lanes:
-    """A vector register by parts of n bytes, of which perhaps only one."""
-
-    def __init__(self, index: int, size: int, n: int, lane: Any = None) -> None:
-        self.kind, self.index, self.size, self.n, self.lane = "lanes", index, size, n, lane
-
-
-class Place:
-    """Memory at a base register plus an offset or another register, and when to add it: "at" the
-    access only, "before" or "after"."""
-
-    def __init__(self, base: Any, index: Any, offset: int, mode: str) -> None:
-        self.kind, self.base, self.index, self.offset, self.mode = (
-            "memory", base, index, offset, mode)
-
-
-class Number:
-    """A constant."""
-
-    def __init__(self, value: int) -> None:
-        self.kind, self.value = "number", value
+NUMBER = r"#(-?(?:0x[0-9a-f]+|\d+))"
+# The kinds of operands by their texts, and what the groups of each say.
+OPERANDS: tuple = (
+    (r"([xw])(\d+|zr)", lambda m: Operand("general", index=ZERO if m[2] == "zr" else int(m[2]), size=WIDTHS[m[1]])),
+    (r"sp", lambda m: Operand("general", index=SP, size=8)),
+    (r"([bhsdq])(\d+)", lambda m: Operand("vector", index=int(m[2]), size=WIDTHS[m[1]])),
+    (r"v(\d+)\.(\d*)([bhsd])(?:<(\d+)>)?", lambda m: Operand(
+        "lanes", index=int(m[1]), size=int(m[2] or 0) * WIDTHS[m[3]], n=WIDTHS[m[3]], lane=int(m[4]) if m[4] else None)),
+    (NUMBER, lambda m: Operand("number", value=int(m[1], 0))),
+    (r"\[(\w+)(?:, (x\d+)|, " + NUMBER + r")?\](!?)", lambda m: Operand(
+        "memory", base=operand(m[1]), index=operand(m[2]) if m[2] else None, offset=int(m[3] or "0", 0),
+        mode="before" if m[4] else "at")),
+    (r"(lsl|lsr|ror) #(\d+)", lambda m: Operand("shift", name=m[1], count=int(m[2]))),
+)
 
 
-class Shift:
-    """A shift of the operand before."""
-
-    def __init__(self, name: str, count: int) -> None:
-        self.kind, self.name, self.count = "shift", name, count
-
-
-class Word:
-    """An operand that an instruction has to know itself, as text, such as a condition."""
-
-    def __init__(self, text: str) -> None:
-        self.kind, self.text = "word", text
-
-
-class Value:
-    """An operand that is in no register."""
-
-    def __init__(self, data: list) -> None:
-        self.kind, self.data = "value", data
-
-
-def operand(text: str) -> Any:
+def operand(text: str) -> Operand:
     """The operand that this is."""
-    m = re.fullmatch(r"([xw])(\d+|zr)|sp", text)
-    if m:
-        index = SP if text == "sp" else ZERO if m[2] == "zr" else int(m[2])
-        return Register("general", index, 4 if m[1] == "w" else 8)
-    m = re.fullmatch(r"([bhsdq])(\d+)", text)
-    if m:
-        return Register("vector", int(m[2]), WIDTHS[m[1]])
-    m = re.fullmatch(r"v(\d+)\.(\d*)([bhsd])(?:<(\d+)>)?", text)
-    if m:
-        n = WIDTHS[m[3]]
-        return Lanes(int(m[1]), int(m[2] or 0) * n, n, int(m[4]) if m[4] else None)
-    m = re.fullmatch(r"#(-?(?:0x[0-9a-f]+|\d+))", text)
-    if m:
-        return Number(int(m[1], 0))
-    m = re.fullmatch(r"\[(\w+)(?:, (x\d+)|, #(-?(?:0x[0-9a-f]+|\d+)))?\](!?)", text)
-    if m:
-        return Place(operand(m[1]), operand(m[2]) if m[2] else None, int(m[3] or "0", 0),
-                     "before" if m[4] else "at")
-    m = re.fullmatch(r"(lsl|lsr|ror) #(\d+)", text)
-    return Shift(m[1], int(m[2])) if m else Word(text)
+    return next((make(m) for pattern, make in OPERANDS for m in [re.fullmatch(pattern, text)] if m),
+                Operand("word", text=text))
 
 
 class Instruction:
@@ -129,6 +93,64 @@ def unknown(i: Instruction) -> CannotShow:
                       "tests/machine/check.py --forms" % " ".join(i.text.split()))
 
 
+# What instructions on words make of two words; the values may know more than the words say.
+
+def total(a: T.Term, b: T.Term, sign: int = 1) -> T.Term:
+    return T.add(a.w, (1, a), (sign, b))
+
+
+WORDS: dict = {
+    "add": lambda m, a, b: total(a, b), "sub": lambda m, a, b: total(a, b, -1), "and": lambda m, a, b: m.masked(a, b),
+    "orr": lambda m, a, b: m.either(a, b), "eor": lambda m, a, b: m.exclusive(a, b),
+    "mvn": lambda m, a, b: T.add(a.w, (-1, a), (-1, T.const(a.w, 1))), "neg": lambda m, a, b: T.add(a.w, (-1, a)),
+    "lsl": lambda m, a, b: m.shifted_left(a, b.args), "lsr": lambda m, a, b: m.shifted_right(a, b.args),
+    "ror": lambda m, a, b: T.ror(a.w, a, b.args), "ubfiz": lambda m, a, b, size: m.bitfield(a, b.args, size),
+}
+SHIFTS = ("lsl", "lsr", "ror")
+# Those that set flags: the operation, and the kind of the flags.
+SETS_FLAGS = {"adds": ("add", "add"), "cmn": ("add", "add"), "subs": ("sub", "sub"), "cmp": ("sub", "sub"),
+              "ands": ("and", "test"), "tst": ("and", "test")}
+ONLY_FLAGS = ("cmn", "cmp", "tst")
+
+
+def no_rule(*data: Any) -> Any:
+    raise CannotShow("there is no rule for this operation on vectors")
+
+
+def accumulate(w: int, k: int) -> Callable:
+    """Adds a word that is shifted to the right. If no bits overlap, the sum is the same as or."""
+    def f(old: T.Term, t: T.Term) -> T.Term:
+        moved = T.shr(w, t, k)
+        return T.rotation(w, old, moved) or T.disjoint(old, moved) or total(old, moved)
+    return f
+
+
+def paired(start: int) -> Callable:
+    """Parts of two vectors by turns, each second part from one on."""
+    return lambda n, a, b: joined(x + y for x, y in zip(chunks(a, n)[start::2], chunks(b, n)[start::2]))
+
+
+def reversed_in(size: int) -> Callable:
+    return lambda n, a: joined(joined(reversed(chunks(part, n))) for part in chunks(a, size))
+
+
+# What instructions on vectors make of parts of n bytes of others, and of a number.
+VECTORS: dict = {
+    "add": lambda n, a, b: lanewise(total, n, a, b), "uqsub": no_rule, "cmhi": no_rule,
+    "shl": lambda n, a, k: lanewise(lambda t: T.shl(8 * n, t, k), n, a),
+    "usra": lambda n, old, a, k: lanewise(accumulate(8 * n, k), n, old, a),
+    "zip1": lambda n, a, b: joined(x + y for x, y in zip(chunks(a, n), chunks(b, n))),
+    "zip2": lambda n, a, b: VECTORS["zip1"](n, a[len(a) // 2:], b[len(b) // 2:]),
+    "uzp1": lambda n, a, b: joined(chunks(a + b, n)[::2]), "uzp2": lambda n, a, b: joined(chunks(a + b, n)[1::2]),
+    "trn1": paired(0), "trn2": paired(1), "ext": lambda n, a, b, k: (a + b)[k:],
+    "xtn": lambda n, a: joined(p[:n] for p in chunks(a, 2 * n)),
+    "uxtl": lambda n, a: joined(p + [0] * len(p) for p in chunks(a, n // 2)),
+    "rev64": reversed_in(8), "rev32": reversed_in(4),
+    "tbl": lambda n, table, places: [table[p] if p < 16 else 0 for p in [number([b]) for b in places]],
+}
+COMPUTES, ACCUMULATES = ("add", "uqsub", "cmhi", "shl", "usra"), ("usra",)
+
+
 class Arm(Processor):
     """Registers 0 to 30, the stack pointer as the 32nd, and vector registers of 16 bytes."""
 
@@ -138,26 +160,19 @@ class Arm(Processor):
     RELATIONS = {"eq": "==", "ne": "!=", "cc": "<", "cs": ">=", "hi": ">", "ls": "<="}
     SIGNED = {"lt": "<", "ge": ">=", "gt": ">", "le": "<="}
 
+    COMMENT = "//"
+    SETS_RESULT = ("mov w0, wzr", "mov w0, #0xffffffff")
+
     # The calling convention.
 
     def start(self, sp: T.Term, back: T.Term, arguments: list) -> None:
-        """The state at the entry of a function."""
-        self.values.stack = sp
-        self.values.general[SP] = T.split(sp)
+        super().start(sp, back, arguments)
         self.values.general[LINK] = T.split(back)
-        for register, t in zip(self.ARGUMENTS, arguments):
-            self.values.general[register] = T.split(t)
 
     def at_entry(self) -> tuple:
         m = self.values
         saved = [list(m.general[r]) for r in SAVED] + [m.vector[r][:8] for r in range(8, 16)]
         return T.word(m.general[LINK]), m.stack_pointer(), saved
-
-    def argument(self, k: int) -> T.Term:
-        return T.word(self.values.general[k])
-
-    def answer(self) -> list:
-        return self.values.general[0]
 
     def enter(self) -> T.Term:
         """A call sets the register of the return address."""
@@ -182,55 +197,39 @@ class Arm(Processor):
     def need_vectors(self) -> None:
         """All but those of at_entry() belong to the call."""
 
-    @staticmethod
-    def only_returns(code: dict, pc: int) -> bool:
-        """Whether only the result is set from here to a return."""
-        for _ in range(3):
-            i = code[pc]
-            if i.name == "ret":
-                return True
-            if i.text.partition("//")[0].split() not in (
-                    ["mov", "w0,", "wzr"], ["mov", "w0,", "#0xffffffff"]):
-                return False
-            pc = i.next
-        return False
-
     # Operands.
 
-    def read(self, o: Any, size: Any = None) -> list:
-        if o.kind == "general":
-            return [0] * o.size if o.index == ZERO else self.values.general[o.index][:o.size]
-        if o.kind == "vector":
-            return self.values.vector[o.index][:o.size]
+    def read(self, o: Operand, size: Any = None) -> list:
+        if o.kind == "general" and o.index == ZERO:
+            return [0] * o.size
+        if o.kind in ("general", "vector"):
+            return getattr(self.values, o.kind)[o.index][:o.size]
         if o.kind == "number" and size:
             return list((o.value & (1 << 8 * size) - 1).to_bytes(size, "little"))
         if o.kind == "value":
             return o.data
         if o.kind != "lanes":
             raise CannotShow("a %s is not a value" % o.kind)
-        if o.lane is None:
-            return self.values.vector[o.index][:o.size]
-        return chunks(self.values.vector[o.index], o.n)[o.lane]
+        data = self.values.vector[o.index]
+        return data[:o.size] if o.lane is None else chunks(data, o.n)[o.lane]
 
-    def write(self, o: Any, data: Any) -> None:
-        if o.kind == "general":
-            if len(data) != o.size:
-                raise CannotShow("the result has not the size of its register")
-            if o.index != ZERO:
-                self.values.general[o.index] = self.values.cleaned(
-                    list(data) + [0] * (8 - o.size), True)
-            return
-        data = self.values.cleaned(list(data), False)
+    def write(self, o: Operand, data: list) -> None:
         is_lane = o.kind == "lanes" and o.lane is not None
         if len(data) != (o.n if is_lane else o.size):
-            raise CannotShow("the result does not fit a %s" % o.kind)
+            raise CannotShow("the result does not fit its operand")
+        data = list(data)
+        if o.kind == "general":
+            if o.index != ZERO:
+                self.values.general[o.index] = self.values.cleaned(data + [0] * (8 - o.size), True)
+            return
+        data = self.values.cleaned(data, False)
         if is_lane:
             parts = chunks(self.values.vector[o.index], o.n)
             parts[o.lane] = data
             data = joined(parts)
         self.values.vector[o.index] = data + [0] * (16 - len(data))
 
-    def place_of(self, m: Place) -> T.Term:
+    def place_of(self, m: Operand) -> T.Term:
         """The address of an access, before which the base register may move."""
         base = T.word(self.read(m.base))
         if m.base.index == SP and T.linear(base)[0] % 16:
@@ -243,7 +242,7 @@ class Arm(Processor):
             self.write(m.base, T.split(moved))
         return moved
 
-    def move_base(self, m: Place) -> None:
+    def move_base(self, m: Operand) -> None:
         """Moves the base register after an access, if it does that."""
         if m.mode == "after":
             base = T.word(self.read(m.base))
@@ -310,34 +309,34 @@ class Arm(Processor):
 
     def words(self, name: str, ops: list) -> bool:
         to, size = ops[0], ops[0].size
-        if ops[-1].kind == "shift" and name not in ("movk", "movz"):
+        if ops[-1].kind == "shift" and name != "movk":
             ops = ops[:-2] + [self.shifted(ops[-2], ops[-1], size)]
-        if name in ("cmp", "cmn", "tst", "ccmp"):
-            return self.compare(name, ops)
         if name in ("csel", "csinc", "cinc", "cinv", "cset", "csetm"):
             return self.select(name, ops)
+        if name in SETS_FLAGS or name in WORDS:
+            return self.compute(name, ops)
         if name == "adrp":
             self.write(to, T.split(T.add(64, (1, image()), (1, T.const(64, ops[1].value)))))
         elif name in ("mov", "fmov", "umov"):
-            data = self.read(ops[1], size)
-            self.write(to, data + [0] * (size - len(data)))
+            self.write(to, (self.read(ops[1], size) + [0] * size)[:size])
         elif name == "movk":
             k = ops[2].count // 8 if len(ops) == 3 else 0
             data = list(self.read(to))
             data[k:k + 2] = self.read(ops[1], 2)
             self.write(to, data)
+        elif name == "ccmp":
+            self.values.compare_again(self.read(to), self.read(ops[1], size))
         else:
-            return self.compute(name, ops)
+            return self.of_public(name, ops)
         return True
 
-    def shifted(self, o: Any, shift: Shift, size: int) -> Any:
+    def shifted(self, o: Operand, shift: Operand, size: int) -> Operand:
         """A shifted operand."""
         k = shift.count
         if o.kind == "number":
-            return Number(o.value << k)
-        f: Callable = {"lsl": self.values.shifted_left, "lsr": self.values.shifted_right,
-                       "ror": lambda a, k: T.ror(a.w, a, k)}[shift.name]
-        return Value(self.quietly(lambda a, b: f(a, k), self.read(o, size), [0] * size))
+            return Operand("number", value=o.value << k)
+        return Operand("value", data=self.quietly(
+            lambda a, b: WORDS[shift.name](self.values, a, T.const(a.w, k)), self.read(o, size), [0] * size))
 
     def quietly(self, f: Callable, a: list, b: list) -> list:
         """The bytes of a result, without the flags."""
@@ -346,68 +345,46 @@ class Arm(Processor):
         self.values.flags = flags
         return data
 
-    def product(self, a: list, b: list, is_low: bool = True) -> list:
-        """A product, whose time may depend on the operands."""
-        need_public(T.word(a + b), "the time of a product")
-        return self.quietly(lambda x, y: T.add(x.w, (y.args, x)) if is_low and y.op == "const" else None,
-                            a, b)
-
     def compute(self, name: str, ops: list) -> bool:
-        to, size, m = ops[0], ops[0].size, self.values
-        w = 8 * size
-        rest = [self.read(o, size) for o in ops[1:]]
-        plus = lambda sign: lambda a, b: T.add(w, (1, a), (sign, b))
-        table: dict = {
-            "add": plus(1), "adds": plus(1), "sub": plus(-1), "subs": plus(-1), "and": m.masked,
-            "ands": m.masked, "orr": m.either, "eor": m.exclusive,
-            "mvn": lambda a, b: T.add(w, (-1, a), (-1, T.const(w, 1))),
-            "neg": lambda a, b: T.add(w, (-1, a)),
-            "lsl": lambda a, b: m.shifted_left(a, b.args),
-            "lsr": lambda a, b: m.shifted_right(a, b.args),
-            "ror": lambda a, b: T.ror(w, a, b.args),
-            "ubfiz": lambda a, b: m.bitfield(a, b.args, ops[3].value),
-        }
-        if name == "udiv":             # only public numbers, because the time depends on them
-            need_public(T.word(rest[0] + rest[1]), "the time of a division")
-            self.write(to, m.anything(size))
-        elif name == "bfi":            # the other bits stay
-            self.write(to, self.quietly(lambda a, b: None, self.read(to, size), rest[0]))
-        elif name in ("mul", "umulh"):
-            self.write(to, self.product(rest[0], rest[1], name == "mul"))
-        elif name in ("madd", "msub"):
-            self.write(to, self.quietly(plus(1 if name == "madd" else -1), rest[2],
-                                        self.product(rest[0], rest[1])))
-        elif name not in table or name in ("lsl", "lsr", "ror") and not (
-                ops[2].kind == "number" and 0 < ops[2].value < w):
+        """An instruction of WORDS, perhaps with flags."""
+        m, to, size = self.values, ops[0], ops[0].size
+        operation, flags = SETS_FLAGS.get(name, (name, None))
+        sources = ops[name not in ONLY_FLAGS:]
+        if operation in SHIFTS and not (sources[1].kind == "number" and 0 < sources[1].value < 8 * size):
             return False
-        elif name in ("subs", "adds", "ands"):
-            kind = {"subs": "sub", "adds": "add", "ands": "test"}[name]
-            self.write(to, m.computed(kind, table[name], *rest))
-        else:
-            self.write(to, self.quietly(table[name], rest[0], (rest + [[0] * size])[1]))
+        if name == "cmn" and sources[1].kind == "number" and sources[1].value:      # a comparison with its negative
+            operation, flags, sources[1] = "sub", "sub", Operand("number", value=-sources[1].value)
+        a, b, *rest = [self.read(o, size) for o in sources] + [[0] * size] * (len(sources) < 2)
+        f = lambda x, y: WORDS[operation](m, x, y, *map(number, rest))
+        data = m.computed(flags, f, a, b) if flags else self.quietly(f, a, b)
+        if name not in ONLY_FLAGS:
+            self.write(to, data)
         return True
 
-    def compare(self, name: str, ops: list) -> bool:
-        size, m = ops[0].size, self.values
-        a, b = self.read(ops[0], size), self.read(ops[1], size)
-        if name == "tst":
-            m.computed("test", m.masked, a, b)
-        elif name == "ccmp":
-            m.compare_again(a, b)
-        elif name == "cmn" and ops[1].kind == "number" and ops[1].value:
-            minus = self.read(Number(-ops[1].value), size)
-            m.computed("sub", lambda x, y: T.add(x.w, (1, x), (-1, y)), a, minus)
-        else:
-            kind, sign = ("sub", -1) if name == "cmp" else ("add", 1)
-            m.computed(kind, lambda x, y: T.add(x.w, (1, x), (sign, y)), a, b)
+    def of_public(self, name: str, ops: list) -> bool:
+        """Products and divisions, whose time may depend on the operands, which must be public."""
+        if name not in ("udiv", "mul", "umulh", "madd", "msub", "bfi"):
+            return False
+        to, size = ops[0], ops[0].size
+        a, b, *rest = [self.read(o, size) for o in ops[1:]]
+        if name == "bfi":              # the other bits stay
+            self.write(to, self.quietly(lambda x, y: None, self.read(to, size), a))
+            return True
+        need_public(T.word(a + b), "the time of a product or a division")
+        times = lambda x, y: T.add(x.w, (y.args, x)) if name != "umulh" and y.op == "const" else None
+        data = self.values.anything(size) if name == "udiv" else self.quietly(times, a, b)
+        if rest:
+            data = self.quietly(lambda x, y: total(x, y, 1 if name == "madd" else -1), rest[0], data)
+        self.write(to, data)
         return True
 
     def select(self, name: str, ops: list) -> bool:
+        """One of two words, by a condition."""
         to, size, condition = ops[0], ops[0].size, ops[-1].text
         if condition not in CONDITIONS:
             return False
         compared = self.compared(condition)
-        one = self.read(Number(1), size)
+        one = self.read(Operand("number", value=1), size)
         more = lambda data: self.quietly(lambda a, b: T.add(a.w, (1, a), (1, b)), data, one)
         if name in ("cset", "csetm"):
             self.write(to, [self.values.bit(compared)] + [0] * (size - 1) if name == "cset" else (
@@ -427,75 +404,44 @@ class Arm(Processor):
     def vectors(self, name: str, ops: list) -> bool:
         """Executes an instruction whose result is a vector, if it is one of these."""
         to, m = ops[0], self.values
-        data = [self.read(o, 8) for o in ops[1:]
-                if o.kind in ("general", "vector", "lanes", "number")]
-        n = getattr(to, "n", to.kind == "vector" and to.size)
+        n = to.n or to.size
         if name in ("ld1", "ld1r", "ld4"):
             return self.load_lanes(name, ops)
         if name == "st1" and to.lane is not None:
             m.store(self.place_of(ops[1]), self.read(to, n))
             self.move_base(ops[1])
             return True
+        numbers = [o.value for o in ops[1:] if o.kind == "number"]
+        data = [self.read(o) for o in ops[1:] if o.kind in ("general", "vector", "lanes")]
         if name in BITWISE and len(data) == 2:
             is_zero = name == "eor" and ops[1].index == ops[2].index
             self.write(to, [0] * to.size if is_zero else m.combined(BITWISE[name], *data))
-        elif name in ("mov", "fmov", "dup"):
-            is_lane = to.kind == "lanes" and to.lane is not None
-            self.write(to, data[0][:n] * (to.size // n) if name == "dup" else
-                       data[0][:n] if is_lane else data[0])
         elif name == "movi":
-            if len(ops) > 2 or ops[1].value and (n == 8 or not 0 <= ops[1].value < 256):
+            if len(ops) > 2 or numbers[0] and (n == 8 or not 0 <= numbers[0] < 256):
                 return False           # shifted, or all bits of each byte
-            self.write(to, ([ops[1].value] + [0] * (n - 1)) * (to.size // n))
+            self.write(to, (numbers + [0] * (n - 1)) * (to.size // n))
+        elif name in ("mov", "fmov", "dup"):
+            self.write(to, data[0][:n] * (to.size // n) if name == "dup" else
+                       data[0][:n] if to.lane is not None else data[0])
         elif name in ("bit", "bif", "bsl"):
-            self.write(to, [self.inserted(name, *p) for p in zip(self.read(to, 16), *data)])
-        elif name in ("shl", "usra") and 0 < ops[2].value < 8 * n:
-            self.write(to, self.shift_lanes(name, n, ops[2].value, self.read(to), data[0]))
-        elif name in ("add", "tbl", "uqsub", "cmhi"):
-            f = {"add": lambda a, b: lanewise(lambda x, y: T.add(8 * n, (1, x), (1, y)), n, a, b),
-                 "tbl": look_up}.get(name, no_rule)
-            self.write(to, m.vector_of(f, *data))
-        else:
-            return self.move_lanes(name, ops, n, data)
-        return True
-
-    def move_lanes(self, name: str, ops: list, n: int, data: list) -> bool:
-        """Instructions that only move bytes."""
-        if name in ("zip1", "zip2"):
-            pairs = [a + b for a, b in zip(*[chunks(d, n) for d in data])]
-            half = len(pairs) // 2
-            result = joined(pairs[:half] if name == "zip1" else pairs[half:])
-        elif name in ("uzp1", "uzp2"):
-            result = joined(chunks(data[0] + data[1], n)[name == "uzp2"::2])
-        elif name in ("trn1", "trn2"):
-            a, b = (chunks(d, n)[name == "trn2"::2] for d in data)
-            result = joined(x + y for x, y in zip(a, b))
-        elif name == "xtn":
-            result = joined(p[:n] for p in chunks(data[0], 2 * n))
-        elif name == "ext":
-            result = (data[0] + data[1])[ops[3].value:][:ops[0].size]
-        elif name == "uxtl":
-            result = joined(p + [0] * len(p) for p in chunks(data[0], n // 2))
-        elif name in ("rev64", "rev32") and n < int(name[3:]) // 8:
-            result = joined(joined(reversed(chunks(part, n)))
-                            for part in chunks(data[0], int(name[3:]) // 8))
+            self.write(to, [self.inserted(name, *p) for p in zip(self.read(to), *data)])
+        elif name in VECTORS and (name not in ("shl", "usra") or 0 < numbers[0] < 8 * n):
+            self.write(to, self.result(name, n, data, numbers, to))
         else:
             return False
-        self.write(ops[0], result)
         return True
 
-    def shift_lanes(self, name: str, n: int, k: int, old: list, data: list) -> list:
-        """A shift to the left, or one to the right that is added."""
-        w = 8 * n
-        if name == "shl":
-            return self.values.vector_of(lambda a: lanewise(lambda t: T.shl(w, t, k), n, a), data)
-
-        def accumulate(old: T.Term, t: T.Term) -> T.Term:
-            moved = T.shr(w, t, k)
-            # If no bits overlap, the sum is the same as or.
-            return T.rotation(w, old, moved) or T.disjoint(old, moved) or (
-                T.add(w, (1, old), (1, moved)))
-        return self.values.vector_of(lambda a, b: lanewise(accumulate, n, a, b), old, data)
+    def result(self, name: str, n: int, data: list, numbers: list, to: Operand) -> list:
+        """The bytes that an instruction of VECTORS makes."""
+        if name in ACCUMULATES:
+            data = [self.read(to)] + data
+        f = lambda *sources: VECTORS[name](n, *sources, *numbers)[:to.size]
+        if name in COMPUTES:
+            return self.values.vector_of(f, *data)
+        try:
+            return f(*data)
+        except CannotShow:             # the places that bytes come from are not numbers
+            return self.values.vector_of(f, *data)
 
     def inserted(self, name: str, old: T.Byte, x: T.Byte, y: T.Byte) -> T.Byte:
         """A byte of which bits are chosen by a mask: exactly if the mask has all or none."""
@@ -522,16 +468,6 @@ class Arm(Processor):
         self.move_base(ops[1])
         self.write(to, data * (to.size // to.n) if name == "ld1r" else data)
         return True
-
-
-def look_up(table: list, places: list) -> list:
-    """The bytes of a vector at the places that another has, which are numbers."""
-    numbers = [number([p]) for p in places]
-    return [table[p] if p < 16 else 0 for p in numbers]
-
-
-def no_rule(*data: Any) -> Any:
-    raise CannotShow("there is no rule for this operation on vectors")
 
 
 Model = Arm

@@ -37,24 +37,46 @@ SPAN = (-BUFFER, BUFFER)
 # must be compared.
 USERS = {"F": (1, 3, 10), "T": (3, 2, 9), "W": (7, 1, 8)}
 OF_ZERO = ("add", "sub", "dec", "xor", "test", "shr", "shl", "cmp", "subs", "tst")
+# The program of the tests, which needs no C library. It reads the number of each test and a state, and writes the state
+# after the test.
 C = """
-#include <stdint.h>
-#include <stdio.h>
-struct state { uint64_t general[32]; uint8_t vector[2048]; uint8_t zero; uint8_t rest[63];
-               uint64_t masks[8]; uint8_t memory[%d]; };
+struct state { unsigned long general[32]; unsigned char vector[2048]; unsigned char zero; unsigned char rest[63];
+               unsigned long masks[8]; unsigned char memory[%d]; };
 static struct state s __attribute__((aligned(64)));
 extern void (*const tests[])(struct state *);
-extern const uint8_t bases[];
-int main(void) {
-    uint32_t k;
-    while (fread(&k, 4, 1, stdin) == 1 && fread(&s, sizeof s, 1, stdin) == 1) {
-        uint64_t base = (uint64_t)(s.memory + %d);
+extern const unsigned char bases[];
+#ifdef __x86_64__
+enum { READ = 0, WRITE = 1, EXIT = 60 };
+static long call(long n, long a, void *b, long c) {
+    __asm__ volatile("syscall" : "+a"(n) : "D"(a), "S"(b), "d"(c) : "rcx", "r11", "memory");
+    return n;
+}
+#else
+enum { READ = 63, WRITE = 64, EXIT = 93 };
+static long call(long n, long a, void *b, long c) {
+    register long x8 __asm__("x8") = n, x0 __asm__("x0") = a, x2 __asm__("x2") = c;
+    register void *x1 __asm__("x1") = b;
+    __asm__ volatile("svc 0" : "+r"(x0) : "r"(x8), "r"(x1), "r"(x2) : "memory");
+    return x0;
+}
+#endif
+static int all(long what, long file, void *data, long size) {
+    for (long done = 0, n; done < size; done += n)
+        if ((n = call(what, file, (char *)data + done, size - done)) <= 0)
+            return 0;
+    return 1;
+}
+void run(void) {
+    unsigned k;
+    while (all(READ, 0, &k, 4) && all(READ, 0, &s, sizeof s)) {
+        unsigned long base = (unsigned long)(s.memory + %d);
         s.general[bases[k]] = base;
         tests[k](&s);
         s.general[31] = base;
-        fwrite(&s, sizeof s, 1, stdout);
+        if (!all(WRITE, 1, &s, sizeof s))
+            break;
     }
-    return 0;
+    call(EXIT, 0, 0, 0);
 }
 """ % (2 * BUFFER, BUFFER)
 VECTORS, ZERO = 256, 256 + 2048        # where the registers and the flag are
@@ -172,7 +194,8 @@ def arm_test(k: int, text: str, _: tuple) -> list:
 
 def assembly(kind: str, tests: list, vectors: tuple) -> str:
     """The text of all tests, a table of them, and one of their base registers."""
-    out = [".intel_syntax noprefix"] * (kind == "x86_64") + [".text"]
+    out = [".intel_syntax noprefix", ".text", ".globl _start", "_start: call run"] if kind == "x86_64" else [
+        ".text", ".globl _start", "_start: bl run"]
     for k, (text, _) in enumerate(tests):
         out += (x86_test if kind == "x86_64" else arm_test)(k, text, vectors)
     out += [".section .data.rel.ro,\"aw\"", ".balign 8", ".globl tests", "tests:"]
@@ -385,8 +408,8 @@ def execute(kind: str, tests: list, vectors: tuple, inputs: list) -> list:
         for path, text in ((c, C), (s, assembly(kind, tests, vectors))):
             with open(path, "w") as f:
                 f.write(text)
-        static = ["-static"] * (kind == "aarch64")
-        subprocess.run(TOOLS[kind][0] + static + ["-O1", "-o", exe, c, s], check=True)
+        subprocess.run(TOOLS[kind][0] + ["-O1", "-ffreestanding", "-nostdlib", "-static", "-fno-stack-protector", "-o",
+                                         exe, c, s], check=True)
         data = b"".join(struct.pack("<I", k) + x for k, x in inputs)
         out = subprocess.run(["qemu-aarch64"] * (kind == "aarch64") + [exe], input=data,
                              stdout=subprocess.PIPE, check=True).stdout

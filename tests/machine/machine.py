@@ -362,9 +362,36 @@ class Processor:
     ARGUMENTS: tuple = ()              # the registers of arguments
     RELATIONS: dict = {}               # what a condition compares after a subtraction
     SIGNED: dict = {}                  # the same of numbers with a sign
+    COMMENT = ""                       # what begins a comment of objdump
+    SETS_RESULT: tuple = ()            # instructions that only set the result that is compared, before a return
 
     def __init__(self, values: Any) -> None:
         self.values = values
+
+    def start(self, sp: T.Term, back: T.Term, arguments: list) -> None:
+        """The state at the entry of a function."""
+        self.values.stack = sp
+        self.values.general[self.STACK_POINTER[1]] = T.split(sp)
+        for register, t in zip(self.ARGUMENTS, arguments):
+            self.values.general[register] = T.split(t)
+
+    def argument(self, k: int) -> T.Term:
+        return T.word(self.values.general[self.ARGUMENTS[k]])
+
+    def answer(self) -> list:
+        """The register of the result, which is the first on each processor."""
+        return self.values.general[0]
+
+    def only_returns(self, code: dict, pc: int) -> bool:
+        """Whether only the result is set from here to a return."""
+        for _ in range(4):
+            i = code[pc]
+            if i.is_return:
+                return True
+            if " ".join(i.text.partition(self.COMMENT)[0].split()) not in self.SETS_RESULT:
+                return False
+            pc = i.next
+        return False
 
     def step(self, i: Any) -> Any:
         """Executes an instruction other than a jump, a call or a return."""

@@ -56,7 +56,7 @@ class Wasm(Processor):
     RED_ZONE = 128
     FREE = ("nop", "unreachable", "end")
 
-    def start(self, sp: T.Term, back: T.Term, arguments: list, signature: Any) -> None:
+    def start(self, sp: T.Term, back: T.Term, arguments: list, signature: Any = None) -> None:
         """The state at the entry of a function, whose types are in a wasm_format.Function."""
         m = self.values
         m.stack = sp
