@@ -37,3 +37,9 @@ def cases(program: programs.Program, family: str, *numbers: Any) -> Any:
 def some(family: str) -> tuple:
     """The numbers of a short test."""
     return call_cases.some(family) if family else ()
+
+
+def show(program: programs.Program, name: str) -> tuple:
+    """Shows some cases of an exported function. Returns how many, and the paths."""
+    family = programs.found(PREFIX + r"(blake2x?[bs]|)", name)[1]
+    return cases(program, family, *some(family)).show(name[len(PREFIX + family):])

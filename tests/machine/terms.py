@@ -168,29 +168,45 @@ def need_width(w: int, *terms: Term) -> None:
 
 def add(w: int, *parts: tuple) -> Term:
     """The sum of pairs of a coefficient and a term."""
-    if len(parts) == 2:
+    constant, has_flag = 0, False
+    sums: dict = {}
+    for factor, t in parts:
+        if t.w != w:
+            need_width(w, t)
+        if t.op == "add":
+            constant += factor * t.args[0]
+            for u, k in t.args[1]:
+                sums[u] = sums.get(u, 0) + factor * k
+        elif t.op == "const":
+            constant += factor * t.args
+        else:
+            sums[t] = sums.get(t, 0) + factor
+            has_flag |= t.op == "ite"
+    if has_flag and len(parts) == 2:
         simple = leaves(lambda a, b: parts[0][0] * a + parts[1][0] * b, w, parts[0][1], parts[1][1])
         if simple:
             return simple
     mask = (1 << w) - 1
-    constant = 0
-    sums: dict = {}
-    for factor, t in parts:
-        need_width(w, t)
-        c, terms = linear(t)
-        constant += factor * c
-        for u, k in terms.items():
-            sums[u] = (sums.get(u, 0) + factor * k) & mask
     constant &= mask
-    items = sorted(((u, k) for u, k in sums.items() if k), key=lambda p: p[0].serial)
+    items = [(u, k & mask) for u, k in sums.items() if k & mask]
     if not items:
         return const(w, constant)
     if constant == 0 and len(items) == 1 and items[0][1] == 1:
         return items[0][0]
-    taint = 0
-    for u, _ in items:
-        taint |= u.taint
-    return _term("add", w, (constant, tuple(items)), taint)
+    items.sort(key=_serial)
+    return _term("add", w, (constant, tuple(items)), taint_of([u.taint for u, _ in items]))
+
+
+def _serial(item: tuple) -> int:
+    return item[0].serial
+
+
+def taint_of(taints: Iterable) -> int:
+    """The taints of all."""
+    result = 0
+    for taint in taints:
+        result |= taint
+    return result
 
 
 def _members(terms: tuple) -> tuple:
@@ -228,10 +244,7 @@ def xor(w: int, *terms: Any) -> Term:
     members |= {ite(w, n, m, 0) for n, m in marks.items()}
     if constant == 0 and len(members) == 1:
         return members.pop()
-    taint = 0
-    for u in members:
-        taint |= u.taint
-    return _term("xor", w, (constant, tuple(sorted(members, key=lambda u: u.serial))), taint)
+    return _term("xor", w, (constant, tuple(sorted(members, key=lambda u: u.serial))), taint_of([u.taint for u in members]))
 
 
 def _xor_all(numbers: Iterable | tuple) -> int:
@@ -386,10 +399,7 @@ def _word(bs: tuple) -> Term:
     names = {None if isinstance(b, int) else b[0].args[0] if b[0].op == "ite" else b for b in bs}
     names.discard(None)
     if len(names) > 1 or not all(isinstance(name, str) for name in names):
-        taint = 0
-        for b in bs:
-            taint |= 0 if isinstance(b, int) else b[0].taint
-        return _term("cat", 8 * n, bs, taint)
+        return _term("cat", 8 * n, bs, taint_of([b[0].taint for b in bs if isinstance(b, tuple)]))
     number = lambda k: int.from_bytes(
         bytes(b if isinstance(b, int) else b[0].args[k] for b in bs), "little")
     return ite(8 * n, names.pop(), number(1), number(2)) if names else const(8 * n, number(0))
@@ -483,7 +493,7 @@ def difference(a: Term, b: Term) -> Any:
 def depends(t: Term, taint: int) -> Any:
     """Inputs for which a term changes with a variable of this taint only, as text, or None."""
     names: dict = {}
-    _variables(t, names, set())
+    add_names(t, names, set())
     for seed in range(1, 9):
         numbers = Numbers(seed)
         before = value(t, numbers, {})
@@ -494,8 +504,8 @@ def depends(t: Term, taint: int) -> Any:
     return None
 
 
-def _variables(t: Term, names: dict, seen: set) -> None:
-    """Collects the variables of a term, with their taints."""
+def add_names(t: Term, names: dict, seen: set) -> None:
+    """Adds the names of the variables of a term, with their taints."""
     if t in seen or t.op == "const":
         return
     seen.add(t)
@@ -505,7 +515,7 @@ def _variables(t: Term, names: dict, seen: set) -> None:
     for part in t.args[1] if t.op in ("add", "xor") else t.args:
         u = part[0] if isinstance(part, tuple) else part
         if isinstance(u, Term):
-            _variables(u, names, seen)
+            add_names(u, names, seen)
 
 
 def substitute(t: Term, mapping: Any, memo: dict) -> Term:
