@@ -58,11 +58,11 @@ FORMS = {compression.EachCall: " with a counter each", compression.StripesCall: 
 # The families of exported functions, by the parts in which calls are followed.
 FOLLOWED = {"BLAKE2b": ("blake2b",), "BLAKE2s": ("blake2s", "memcmp", "wipe"), "BLAKE2bp": ("blake2bp",),
             "BLAKE2sp": ("blake2sp",), "BLAKE2X": ("blake2xb", "blake2xs"), "trees": ("tree",)}
-# What there is without --long: one message in all files; each function of several messages in one of these, by turns;
+# What there is without --long: one message in all files; one function of several messages of each kind in one of these;
 # each family of calls in one of the first two, but of BLAKE2Xs, which is written as BLAKE2Xb, only secrets; the tests
 # of the models there; rules of one width; and nothing that takes as long as all others.
 SHORT = V3, ARM, JS = "dist/x86_64/vulfsjor-v3.s", "dist/aarch64/vulfsjor.s", "js/src/wasm.js"
-SHORT_MANY = {entry: SHORT[k % 3] for k, entry in enumerate(e for e in functions.LIBRARY if e[2] > 1)}
+SHORT_MANY = {functions.MANY_B: V3, functions.EACH_S: ARM, functions.STRIPES_B: JS}
 SHORT_FOLLOWED = {part: SHORT[k % 2] for k, part in enumerate(FOLLOWED)}
 SHORT_WRITTEN = {"blake2b": ARM, "blake2s": V3, "blake2xb": V3, "": V3}
 SHORT_INSTRUCTIONS = {(path, "F") for path in SHORT} | {(ARM, "T"), (V3, "W")}
@@ -73,7 +73,7 @@ LONG_EXPORTS = ("_verify", "_squeeze", "_derive_key", "")
 LONG_CALLS = ("vulfsjor_ffi_tree_root", "vulfsjor_ffi_tree_update_leaves")
 # The users of forms.txt, and how often each instruction runs: without --long, and with it.
 USERS = {"F": "that compress", "T": "in which secrets are followed", "W": "that calls execute over variables"}
-ROUNDS = {"F": (4, 20), "T": (2, 10), "W": (4, 12)}
+ROUNDS = {"F": (3, 12), "T": (1, 6), "W": (2, 8)}
 SOLVER = None if facts.z3 else "python3-z3"
 
 

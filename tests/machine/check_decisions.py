@@ -79,14 +79,13 @@ class Run:
         self.decided += 1
         if answer not in (None, holds):
             raise Wrong("%r %s %r is %s" % (a, relation, b, answer))
-        low, high = (
-            x, x) if self.has_large or rng.random() > 0.05 else m.path_facts.range(a)
+        low, high = (x, x) if self.has_large or rng.random() > 0.02 else m.path_facts.range(a)
         if not low <= x <= high:
             raise Wrong("%r is %#x, and not in %s" % (a, x, (low, high)))
         if answer is None and not m.learn(relation, a, b, holds):
             raise Wrong("%r %s %r is called impossible" % (
                 a, relation if holds else OPPOSITE[relation], b))
-        for t, n in m.path_facts.values().items() if rng.random() < 0.1 else ():
+        for t, n in m.path_facts.values().items() if rng.random() < 0.05 else ():
             if n.args != self.value(t):
                 raise Wrong("%r is %#x, not %r" % (t, self.value(t), n))
 
@@ -96,7 +95,7 @@ def check(seed: int, count: int) -> tuple:
     that takes long is open."""
     rng, decided, runs = random.Random(seed), 0, 0
     Facts().ask()                      # makes the solver
-    Facts.solver.set("timeout", 100)
+    Facts.solver.set("timeout", 30)
     while decided < count:
         run, runs = Run(rng, runs % 8 == 7), runs + 1
         try:

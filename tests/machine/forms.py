@@ -3,15 +3,15 @@ from the tests of instructions. The models refuse an instruction of any other fo
 
 A form is a name, and for each operand its kind and its bytes: g8 is a general register, x, y, z or k a
 vector or a mask, m8 memory, m8* a word that is broadcast, n a number. `=` says that the last two
-operands are the same register. A line of forms.txt has a processor, a name, and for each model that
-executes it the operands: F is the model of the functions that compress, T that of taint tracking, and W
-that of whole calls."""
+operands are the same register. In forms.txt the forms are below their processor and the models that execute
+them: F is the model of the functions that compress, T that of taint tracking, and W that of whole calls."""
 
 from __future__ import annotations
 
 import functools
 import os
 import re
+import textwrap
 
 import x86
 from terms import CannotShow
@@ -82,24 +82,32 @@ def number(name: str, text: str) -> str:
 @functools.lru_cache(maxsize=None)
 def known() -> frozenset:
     """All forms of the table, each with the processor and the model."""
-    found = set()
+    found: set = set()
     with open(TABLE) as f:
         for line in f:
-            kind, name, *users = line.split()
-            for user, _, operands in (u.partition(":") for u in users):
-                found |= {(kind, user, ("%s %s" % (name, o)).strip()) for o in operands.split(";")}
+            if not line.startswith(" "):
+                kind, users = line.split()
+                continue
+            for name, _, operands in (word.partition(":") for word in line.split()):
+                found |= {(kind, user, ("%s %s" % (name, o)).strip()) for o in operands.split(";") for user in users}
     return frozenset(found)
 
 
 def write(found: set) -> None:
     """Writes the table."""
-    lines: dict = {}
+    users: dict = {}
     for kind, user, each in sorted(found):
+        users.setdefault((kind, each), []).append(user)
+    groups: dict = {}
+    for (kind, each), letters in users.items():
         name, _, operands = each.partition(" ")
-        lines.setdefault((kind, name), {}).setdefault(user, []).append(operands)
+        groups.setdefault((kind, "".join(letters)), {}).setdefault(name, []).append(operands)
     with open(TABLE, "w") as f:
-        for (kind, name), users in lines.items():
-            print(kind, name, *["%s:%s" % (u, ";".join(o)) for u, o in users.items()], file=f)
+        for (kind, letters), names in sorted(groups.items()):
+            words = ["%s:%s" % (name, ";".join(some)) for name, all_of in names.items()
+                     for some in (all_of[k:k + 4] for k in range(0, len(all_of), 4))]
+            f.write("%s %s\n%s\n" % (kind, letters, textwrap.fill(
+                " ".join(words), 118, initial_indent="  ", subsequent_indent="  ", break_on_hyphens=False)))
 
 
 def check(kind: str, user: str, text: str) -> None:

@@ -113,8 +113,8 @@ ALL = (
     Planted("a range that begins between two steps", ranges, "aligned", lambda _: (
         lambda low, high, start, step: (low, high, step)), failure(check_ranges.check, 200)),
     Planted("a test of the models that leaves out a form", check_instructions, "chosen", lambda right: (
-        lambda *arguments: (right(*arguments)[0], [t for t in right(*arguments)[1] if not t[0].startswith("ubfiz")])),
-            failure(check_instructions.check, ARM, "W", 1)),
+        lambda *arguments: (right(*arguments)[0], [t for t in right(*arguments)[1] if not t[0].startswith("usra")])),
+            failure(check_instructions.check, ARM, "F", 1)),
     Planted("a table of forms that has one less", forms, "known", lambda right: (
         lambda: right() - {("aarch64", "F", "ror x,x,#24")}), PROOF),
     Planted("a specification without the flag of the last block", check_specification.S, "digest", lambda _: (

@@ -1,8 +1,9 @@
-"""A model of the WebAssembly instructions that the compression functions use. Any other is an
-error."""
+"""A model of the WebAssembly instructions that the compression functions use. Any other is an error. Most are a line of
+pure_instructions()."""
 
 from __future__ import annotations
 
+import re
 from typing import Any, Callable
 
 import terms as T
@@ -25,27 +26,93 @@ class Instruction:
         self.numbers: list = [int(n) if n.lstrip("-").isdigit() else n for n in numbers]
 
 
-def parse(lines: Any) -> Any:
-    """The instructions of a function. A branch to a loop goes to the instruction after `loop`, and
-    one to a block goes to its `end`."""
+def parse(lines: list) -> list:
+    """The instructions of a function. A branch to a loop goes to the instruction after `loop`, and one to a block goes to
+    its `end`."""
     found = [Instruction(k, line) for k, line in enumerate(lines)]
-    ends: dict = {}
     opened: list = []
+    waiting: dict = {}                 # the block -> the branches to its end
     for i in found:
         if i.name in ("block", "loop", "if"):
-            opened.append(i.address)
+            opened.append(i)
         elif i.name == "end" and opened:
-            ends[opened.pop()] = i.address
-    opened = []
-    for i in found:
-        if i.name in ("block", "loop", "if"):
-            opened.append(i.address)
-        elif i.name == "end" and opened:
-            opened.pop()
+            for branch in waiting.pop(opened.pop(), ()):
+                branch.target = i.address
         elif i.name in ("br", "br_if") and i.numbers[0] < len(opened):
-            label = opened[-1 - i.numbers[0]]
-            i.target = label + 1 if found[label].name == "loop" else ends[label]
+            block = opened[-1 - i.numbers[0]]
+            if block.name == "loop":
+                i.target = block.address + 1
+            else:
+                waiting.setdefault(block, []).append(i)
     return found
+
+
+def shift(f: Callable) -> Callable:
+    """A shift by a number modulo the width."""
+    return lambda w, t, k: f(w, t, k % w) if k % w else t
+
+
+def signed_shift(w: int, t: T.Term, k: int) -> T.Term:
+    """A shift to the right that copies the sign, of a number or of one that a flag chooses."""
+    result = T.leaves(lambda n: (n >> k) - (n >> w - 1 << w - k), w, t)
+    if result is None:
+        raise CannotShow("there is no rule for a signed shift of %r" % t)
+    return result
+
+
+def select_bits(a: list, b: list, mask: list) -> list:
+    chosen = []
+    for x, y, m in zip(chunks(a, 4), chunks(b, 4), chunks(mask, 4)):
+        t = T.leaves(lambda p, q, k: p & k | q & ~k, 32, T.word(x), T.word(y), T.word(m))
+        if t is None:
+            raise CannotShow("there is no rule for a choice by %r" % T.word(m))
+        chosen.append(T.split(t))
+    return joined(chosen)
+
+
+def replace_lane(n: int) -> Callable:
+    def f(a: list, value: list, k: int) -> list:
+        parts = chunks(a, n)
+        parts[k] = value[:n]
+        return joined(parts)
+    return f
+
+
+def pure_instructions() -> dict:
+    """The instructions that only change the stack of operands: how many of these each takes, and what it makes of their
+    bytes, and of the numbers that are part of it."""
+    found: dict = {
+        "i32.const": (0, lambda n: T.split(T.const(32, n))), "i64.const": (0, lambda n: T.split(T.const(64, n))),
+        "v128.const": (0, lambda *data: list(data)), "i32.wrap_i64": (1, lambda a: a[:4]),
+        "i64.extend_i32_u": (1, lambda a: a + [0] * 4),
+        "i8x16.shuffle": (2, lambda a, b, *places: [(a + b)[p] for p in places]),
+        "v128.xor": (2, lambda a, b: bitwise(T.xor, a, b)), "v128.or": (2, lambda a, b: bitwise(T.either, a, b)),
+        "v128.and": (2, lambda a, b: bitwise(T.both, a, b)), "v128.bitselect": (3, select_bits),
+    }
+    words: dict = {
+        "add": lambda w, a, b: T.add(w, (1, a), (1, b)), "sub": lambda w, a, b: T.add(w, (1, a), (-1, b)), "xor": T.xor,
+        "and": T.both, "or": T.either, "eq": lambda w, a, b: T.test("zero", 32, T.add(w, (1, a), (-1, b))),
+        "ne": lambda w, a, b: T.test("nonzero", 32, T.add(w, (1, a), (-1, b))),
+        "shl": lambda w, a, b: shift(T.shl)(w, a, number(T.split(b))),
+        "shr_u": lambda w, a, b: shift(T.shr)(w, a, number(T.split(b))),
+    }
+    for kind, w in (("i32", 32), ("i64", 64)):
+        found[kind + ".eqz"] = 1, lambda a: T.split(T.test("zero", 32, T.word(a)))
+        for name, f in words.items():
+            found["%s.%s" % (kind, name)] = 2, lambda a, b, f=f, w=w: T.split(f(w, T.word(a), T.word(b)))
+    for kind, n in LANES.items():
+        of_lanes: dict = {
+            "splat": (1, lambda a, n=n: a[:n] * (16 // n)), "replace_lane": (2, replace_lane(n)),
+            "add": (2, lambda a, b, n=n: lanewise(lambda x, y: T.add(8 * n, (1, x), (1, y)), n, a, b))}
+        if n >= 4:
+            of_lanes["extract_lane"] = 1, lambda a, k, n=n: chunks(a, n)[k]
+        for name, f in (("shl", T.shl), ("shr_u", T.shr), ("shr_s", signed_shift)):
+            of_lanes[name] = 2, lambda a, k, f=f, n=n: lanewise(lambda t: shift(f)(8 * n, t, number(k)), n, a)
+        found.update({"%s.%s" % (kind, name): row for name, row in of_lanes.items()})
+    return found
+
+
+PURE = pure_instructions()
 
 
 class Wasm(Processor):
@@ -79,142 +146,65 @@ class Wasm(Processor):
             raise CannotShow("the stack of operands is empty")
         return self.values.operands.pop()
 
-    def pop_word(self) -> T.Term:
-        return T.word(self.pop())
-
-    def push(self, data: list | tuple) -> None:
+    def push(self, data: list) -> None:
         self.values.operands.append(list(data))
 
-    def follow(self, i: Instruction) -> Any:
+    def follow(self, i: Instruction) -> int | None:
         """Executes an instruction. Returns the address of the next one, or None after a return."""
         kind, _, what = i.name.partition(".")
-        method = getattr(self, "do_" + i.name.replace(".", "_"), None)
-        if method:
-            method(*i.numbers)
-            return i.next
-        if kind in ("br", "br_if", "block", "loop", "end", "return", "select"):
+        if kind in ("br", "br_if", "block", "loop", "end", "return"):
             return self.control(i)
-        known = (
-            kind in LANES and self.lanes(LANES[kind], what, i.numbers)
-            or kind in ("i32", "i64") and self.arithmetic(SIZES[kind], what)
-            or self.access(kind, what, i.numbers))
-        if not known:
-            raise CannotShow("the instruction %s is not modelled: add it to tests/machine/wasm.py, "
-                             "and run tests/machine/check.py --long" % i.text)
+        if i.name in PURE:
+            count, f = PURE[i.name]
+            self.push(f(*[self.pop() for _ in range(count)][::-1], *i.numbers))
+        elif kind == "local" and what in ("get", "set", "tee"):
+            self.local(what, i.numbers[0])
+        elif i.name == "global.get":
+            self.push(self.values.globals[i.numbers[0]])
+        elif i.name == "drop":
+            self.pop()
+        elif i.name == "i64.lt_s" or i.name == "i32.lt_s":
+            b, a = T.word(self.pop()), T.word(self.pop())
+            self.push(T.split(self.has_no_room(a, b)))
+        elif i.name == "select":
+            condition, b, a = (T.word(self.pop()) for _ in range(3))
+            self.push(T.split(self.values.choose(condition, b, a)))
+        elif i.name != "nop" and not self.access(kind, what, i.numbers):
+            raise CannotShow("the instruction %s is not modelled: add it to tests/machine/wasm.py, and run "
+                             "tests/machine/check.py --long" % i.text)
         return i.next
 
     def control(self, i: Instruction) -> int | None:
+        m = self.values
         if i.name in ("block", "loop") and not i.numbers:
-            self.values.labels.append(len(self.values.operands))
-        elif i.name == "return" or i.name == "end" and not self.values.labels:
-            self.values.labels = []
+            m.labels.append(len(m.operands))
+        elif i.name == "return" or i.name == "end" and not m.labels:
+            m.labels = []
             return None
         elif i.name == "end":
-            self.values.labels.pop()
-        elif i.name == "select":
-            condition, b, a = self.pop_word(), self.pop_word(), self.pop_word()
-            self.push(T.split(self.values.choose(condition, b, a)))
+            m.labels.pop()
         elif i.target is not None:
             # A branch about which nothing is assumed yet leaves the machine as it is.
-            top = (self.values.operands or [[0]])[-1]
-            taken = i.name == "br" or not self.values.is_zero(T.word(top))
+            taken = i.name == "br" or not m.is_zero(T.word((m.operands or [[0]])[-1]))
             if i.name == "br_if":
                 self.pop()
             if taken:
                 if i.numbers[0]:
-                    del self.values.labels[-i.numbers[0]:]
-                del self.values.operands[self.values.labels[-1]:]
+                    del m.labels[-i.numbers[0]:]
+                del m.operands[m.labels[-1]:]
                 return i.target
         else:
             raise CannotShow("%s is not modelled: add it to tests/machine/wasm.py" % i.text)
         return i.next
 
-    def do_nop(self) -> None:
-        pass
-
-    def do_drop(self) -> None:
-        self.pop()
-
-    def do_local_get(self, k: int) -> None:
-        self.push(self.values.locals[k])
-
-    def do_local_set(self, k: int) -> None:
-        data = self.pop()
-        if len(data) != len(self.values.locals[k]):
-            raise CannotShow("a value has not the size of its local")
-        self.values.locals[k] = data
-
-    def do_local_tee(self, k: int) -> None:
-        self.do_local_set(k)
-        self.do_local_get(k)
-
-    def do_global_get(self, k: int) -> None:
-        self.push(self.values.globals[k])
-
-    def do_i32_const(self, n: int) -> None:
-        self.push(T.split(T.const(32, n)))
-
-    def do_i64_const(self, n: int) -> None:
-        self.push(T.split(T.const(64, n)))
-
-    def do_i32_wrap_i64(self) -> None:
-        self.push(self.pop()[:4])
-
-    def do_i64_extend_i32_u(self) -> None:
-        self.push(self.pop() + [0] * 4)
-
-    def do_v128_const(self, *data: int) -> None:
-        self.push(data)
-
-    def do_i8x16_shuffle(self, *places: int) -> None:
-        b, a = self.pop(), self.pop()
-        self.push([(a + b)[p] for p in places])
-
-    def do_v128_xor(self) -> None:
-        b, a = self.pop(), self.pop()
-        self.push(bitwise(T.xor, a, b))
-
-    def do_v128_or(self) -> None:
-        b, a = self.pop(), self.pop()
-        self.push(bitwise(T.either, a, b))
-
-    def do_v128_and(self) -> None:
-        b, a = self.pop(), self.pop()
-        self.push(bitwise(T.both, a, b))
-
-    def do_v128_bitselect(self) -> None:
-        mask, b, a = self.pop(), self.pop(), self.pop()
-        chosen = []
-        for x, y, m in zip(chunks(a, 4), chunks(b, 4), chunks(mask, 4)):
-            f = lambda p, q, k: p & k | q & ~k
-            t = T.leaves(f, 32, T.word(x), T.word(y), T.word(m))
-            if t is None:
-                raise CannotShow("there is no rule for a choice by %r" % T.word(m))
-            chosen.append(T.split(t))
-        self.push(joined(chosen))
-
-    def arithmetic(self, n: int, what: str) -> bool:
-        """An operation on words of n bytes."""
-        w = 8 * n
-        if what == "eqz":
-            self.push(T.split(T.test("zero", 32, self.pop_word())))
-            return True
-        if what not in ("add", "sub", "xor", "and", "or", "ne", "eq", "lt_s", "shl", "shr_u"):
-            return False
-        b, a = self.pop_word(), self.pop_word()
-        if what in ("add", "sub"):
-            result = T.add(w, (1, a), (1 if what == "add" else -1, b))
-        elif what in ("xor", "and", "or"):
-            f: Any = {"xor": T.xor, "and": T.both, "or": T.either}[what]
-            result = f(w, a, b)
-        elif what in ("ne", "eq"):
-            result = T.test("nonzero" if what == "ne" else "zero", 32, T.add(w, (1, a), (-1, b)))
-        elif what == "lt_s":
-            result = self.has_no_room(a, b)
-        else:
-            result = shifted(T.shl if what == "shl" else T.shr, w, a, number(T.split(b)))
-        self.push(T.split(result))
-        return True
+    def local(self, what: str, k: int) -> None:
+        if what != "get":
+            data = self.pop()
+            if len(data) != len(self.values.locals[k]):
+                raise CannotShow("a value has not the size of its local")
+            self.values.locals[k] = data
+        if what != "set":
+            self.push(self.values.locals[k])
 
     def has_no_room(self, a: T.Term, b: T.Term) -> T.Term:
         """The check of the stack pointer at the entry, which traps without enough room."""
@@ -223,77 +213,31 @@ class Wasm(Processor):
             raise CannotShow("there is no rule for %r < %r" % (a, b))
         return T.const(32, 0)
 
-    def lanes(self, n: int, what: str, numbers: list) -> bool:
-        """An operation on lanes of n bytes."""
-        w = 8 * n
-        if what == "splat":
-            self.push(self.pop()[:n] * (16 // n))
-        elif what == "replace_lane":
-            value, parts = self.pop(), chunks(self.pop(), n)
-            parts[numbers[0]] = value[:n]
-            self.push(joined(parts))
-        elif what == "extract_lane" and n >= 4:
-            self.push(chunks(self.pop(), n)[numbers[0]])
-        elif what == "add":
-            b, a = self.pop(), self.pop()
-            self.push(lanewise(lambda x, y: T.add(w, (1, x), (1, y)), n, a, b))
-        elif what in ("shl", "shr_u", "shr_s"):
-            k, data = number(self.pop()), self.pop()
-            f = {"shl": T.shl, "shr_u": T.shr, "shr_s": signed_shift}[what]
-            self.push(lanewise(lambda t: shifted(f, w, t, k), n, data))
-        else:
+    def access(self, kind: str, what: str, numbers: list) -> bool:
+        """A load or a store, of some bytes or of a whole value."""
+        m = re.fullmatch(r"(load|store)(\d*)(?:_(u|zero|splat|lane))?", what)
+        if not m or not numbers or kind not in SIZES or m[1] == "store" and what != "store":
             return False
-        return True
-
-    def access(self, kind: str, what: Any, numbers: Any) -> Any:
-        """A load or a store."""
-        if not numbers:
-            return False
-        size = SIZES[kind] if kind in SIZES else 0
-        if what == "store":
-            data = self.pop()
-            self.values.store(self.effective(numbers[0]), data)
-        elif what == "load":
-            self.push(self.values.load(self.effective(numbers[0]), size))
-        elif what in ("load8_u", "load16_u", "load32_u"):
-            n = int(what[4:-2]) // 8
-            self.push(self.values.load(self.effective(numbers[0]), n) + [0] * (size - n))
-        elif what in ("load32_splat", "load64_splat"):
-            n = int(what[4:6]) // 8
-            self.push(self.values.load(self.effective(numbers[0]), n) * (16 // n))
-        elif what in ("load32_zero", "load64_zero"):
-            n = int(what[4:6]) // 8
-            self.push(self.values.load(self.effective(numbers[0]), n) + [0] * (16 - n))
-        elif what in ("load32_lane", "load64_lane"):
-            n = int(what[4:6]) // 8
-            parts = chunks(self.pop(), n)
-            parts[numbers[1]] = self.values.load(self.effective(numbers[0]), n)
-            self.push(joined(parts))
-        else:
-            return False
+        size = SIZES[kind]
+        n = int(m[2]) // 8 if m[2] else size
+        old = self.pop() if m[1] == "store" or m[3] == "lane" else []
+        address = self.effective(numbers[0])
+        if m[1] == "store":
+            self.values.store(address, old)
+            return True
+        data = self.values.load(address, n)
+        if m[3] == "lane":
+            data = replace_lane(n)(old, data, numbers[1])
+        self.push(data * (size // n) if m[3] == "splat" else (data + [0] * size)[:size])
         return True
 
     def effective(self, offset: int) -> T.Term:
         """The address below the values of an access, whose sum with the offset must not wrap."""
-        address = self.pop_word()
+        address = T.word(self.pop())
         self.values.place(address, 0, False)
         if offset >= ROOM:
             raise CannotShow("the offset %d is too high" % offset)
         return T.add(address.w, (1, address), (1, T.const(address.w, offset)))
-
-
-def shifted(f: Callable, w: int, t: T.Term, k: int) -> T.Term:
-    """A shift by k modulo the width."""
-    return f(w, t, k % w) if k % w else t
-
-
-def signed_shift(w: int, t: T.Term, k: int) -> Any:
-    """A shift to the right that copies the sign, of a number or of one that a flag chooses."""
-    f = lambda n: (n >> k) - (n >> w - 1 << w - k)
-    result = T.leaves(f, w, t)
-    if result is None:
-        raise CannotShow("there is no rule for a signed shift of %r" % t)
-    return result
 
 
 Model = Wasm
