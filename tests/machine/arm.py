@@ -19,10 +19,11 @@ BITWISE = {"eor": "xor", "orr": "or", "and": "and"}
 
 
 class Operand:
-    """A part of an instruction. `general` is a register, `vector` the low bytes of one, `lanes` one by parts of n bytes, of
-    which perhaps only one. `memory` is at a base register plus an offset or another register, which is added for the
-    access only ("at"), or also to the base, "before" or "after" the access. `number` is a constant, `shift` one of the
-    operand before, `word` what an instruction has to know itself, such as a condition, and `value` is in no register."""
+    """A part of an instruction. `general` is a register, `vector` the low bytes of one, `lanes` one by parts of n bytes,
+    of which perhaps only one. `memory` is at a base register plus an offset or another register, which is added for
+    the access only ("at"), or also to the base, "before" or "after" the access. `number` is a constant, `shift` one of
+    the operand before, `word` what an instruction has to know itself, such as a condition, and `value` is in no
+    register."""
 
     kind: str
     mode: str
@@ -44,7 +45,8 @@ OPERANDS: tuple = (
     (r"sp", lambda m: Operand("general", index=SP, size=8)),
     (r"([bhsdq])(\d+)", lambda m: Operand("vector", index=int(m[2]), size=WIDTHS[m[1]])),
     (r"v(\d+)\.(\d*)([bhsd])(?:<(\d+)>)?", lambda m: Operand(
-        "lanes", index=int(m[1]), size=int(m[2] or 0) * WIDTHS[m[3]], n=WIDTHS[m[3]], lane=int(m[4]) if m[4] else None)),
+        "lanes", index=int(m[1]), size=int(m[2] or 0) * WIDTHS[m[3]], n=WIDTHS[m[3]],
+        lane=int(m[4]) if m[4] else None)),
     (NUMBER, lambda m: Operand("number", value=int(m[1], 0))),
     (r"\[(\w+)(?:, (x\d+)|, " + NUMBER + r")?\](!?)", lambda m: Operand(
         "memory", base=operand(m[1]), index=operand(m[2]) if m[2] else None, offset=int(m[3] or "0", 0),
@@ -281,8 +283,7 @@ class Arm(Processor):
         kind = name.rstrip("bh") if name.endswith(("rb", "rh")) else name
         if kind in LOADS + STORES:
             self.transfer(name, kind, ops)
-        elif not ops or not (
-                self.words(name, ops) if ops[0].kind == "general" else self.vectors(name, ops)):
+        elif not ops or not (self.words(name, ops) if ops[0].kind == "general" else self.vectors(name, ops)):
             raise unknown(i)
 
     def transfer(self, name: str, kind: str, ops: list) -> None:
@@ -392,8 +393,7 @@ class Arm(Processor):
             return True
         a = self.read(ops[1], size)
         if name in ("cinc", "cinv"):
-            self.write(to, self.values.chosen(
-                compared, more(a) if name == "cinc" else invert(a), a))
+            self.write(to, self.values.chosen(compared, more(a) if name == "cinc" else invert(a), a))
         else:
             b = self.read(ops[2], size)
             self.write(to, self.values.chosen(compared, a, more(b) if name == "csinc" else b))
@@ -461,8 +461,7 @@ class Arm(Processor):
             parts = chunks(self.values.load(self.place_of(ops[1]), 64), 8)
             self.move_base(ops[1])
             for k in range(4):
-                self.values.vector[int(m[1]) + k] = self.values.cleaned(
-                    parts[k] + parts[4 + k], False)
+                self.values.vector[int(m[1]) + k] = self.values.cleaned(parts[k] + parts[4 + k], False)
             return True
         data = self.values.load(self.place_of(ops[1]), to.n)
         self.move_base(ops[1])

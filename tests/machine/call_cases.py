@@ -80,8 +80,7 @@ class Setup:
         self.regions[address] = Cells(0, len(data), lambda k: data[k], False)
         self.arguments.append(address)
 
-    def pass_buffer(self, name: str, length: Any, taint: int = T.SECRET,
-                    writable: bool = False) -> Buffer:
+    def pass_buffer(self, name: str, length: Any, taint: int = T.SECRET, writable: bool = False) -> Buffer:
         """A pointer to a buffer, and its length."""
         address = self.address(name)
         buffer = Buffer(name, length, taint, writable)
@@ -181,8 +180,7 @@ class Setup:
         if len(found) != len(wanted):
             raise CannotShow("%s has %d bytes, not %d" % (what, len(found), len(wanted)))
         memo: dict = {}
-        settle = lambda b: b if isinstance(b, int) else T.split(T.substitute(
-            b[0], m.path_facts.values(), memo))[b[1]]
+        settle = lambda b: b if isinstance(b, int) else T.split(T.substitute(b[0], m.path_facts.values(), memo))[b[1]]
         for k, (x, y) in enumerate(zip(found, wanted)):
             if x == y or settle(x) == settle(y) or self.is_same(m, x, y):
                 continue
@@ -210,13 +208,11 @@ def some(family: str) -> Any:
 
 
 class Cases:
-    """The cases of the functions of a family in a file. Each yields a title and a function that
-    fills a Setup and returns what is expected."""
+    """The cases of the functions of a family in a file. Each yields a title and a function that fills a Setup and
+    returns what is expected."""
 
-    def __init__(self, program: programs.Program, family: str, pending: Any = None,
-                 sizes: Any = None) -> None:
-        """With only some numbers of pending bytes before an update, and some sizes of tags, if
-        these are given."""
+    def __init__(self, program: programs.Program, family: str, pending: Any = None, sizes: Any = None) -> None:
+        """With only some numbers of pending bytes before an update, and some sizes of tags, if these are given."""
         self.calls, self.kind = Calls(program), KINDS[family]
         self.calls.measure(self.kind)
         self.prefix, self.wiped = "vulfsjor_ffi_" + family, S.zeros(self.kind)
@@ -285,8 +281,8 @@ class Cases:
         return setup.pass_buffer("message", n)
 
     def amounts(self, pending: Any) -> Any:
-        """The lengths of a message, by those that `pending` bytes leave: few, or fill + k blocks
-        + t. Each is a function of a setup that returns the length and the update."""
+        """The lengths of a message, by those that `pending` bytes leave: few, or fill + k blocks + t. Each is a
+        function of a setup that returns the length and the update."""
         kind, block = self.kind, self.kind.block
 
         def few(setup: Setup) -> tuple:
@@ -402,8 +398,8 @@ class Cases:
     # Inits and the call in one.
 
     def made(self, read: Callable) -> Iterator:
-        """The cases of an init: with and without a key, and refused. `read` adds its arguments, and
-        returns what the specification needs, and the conditions of its own."""
+        """The cases of an init: with and without a key, and refused. `read` adds its arguments, and returns what the
+        specification needs, and the conditions of its own."""
         kind = self.kind
         for has_key in (False, True):
             def accepted(setup: Setup) -> Callable:
@@ -515,8 +511,7 @@ class Cases:
             for amount in self.amounts(pending):
                 def accepted(setup: Setup) -> Callable:
                     n, absorb = amount(setup)
-                    size, out, data, key, keyed, conditions = arguments(
-                        setup, n, (1, kind.w) if has_key else (0, 0))
+                    size, out, data, key, keyed, conditions = arguments(setup, n, (1, kind.w) if has_key else (0, 0))
                     setup.reads_key = (0, keyed),
                     hold(setup, conditions + S.is_counted(pending, n))
                     return lambda a: (0, None, S.one_shot(

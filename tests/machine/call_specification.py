@@ -130,8 +130,7 @@ def init_tree(a: Any, kind: Kind, output_size: Any, key: Buffer, key_size: Any,
     if a.is_zero(key_size):
         return s
     pending = padded(a, key, key_size, kind.block)
-    return s.but(pending_length=kind.block, start_length=kind.block, pending=pending,
-                 start_block=pending)
+    return s.but(pending_length=kind.block, start_length=kind.block, pending=pending, start_block=pending)
 
 
 def init_param(a: Any, kind: Kind, block: list) -> State:
@@ -142,10 +141,10 @@ def init_param(a: Any, kind: Kind, block: list) -> State:
 # What is left on the stack.
 
 def must_scrub(a: Any, *conditions: tuple) -> bool:
-    """A call that has read a key, or compressed the block of one, overwrites its part of the stack: if
-    the first number of each of these pairs is less. They are (0, key_size) for an init and the call
-    in one, and (counter, start_length) for update, final and verify, because the key's block is then
-    the next or a later one that is compressed. Calls that are refused have read none."""
+    """A call that has read a key, or compressed the block of one, overwrites its part of the stack: if the first
+    number of each of these pairs is less. They are (0, key_size) for an init and the call in one, and (counter,
+    start_length) for update, final and verify, because the key's block is then the next or a later one that is
+    compressed. Calls that are refused have read none."""
     return all(a.may_be_less(*pair) for pair in conditions)
 
 
@@ -154,14 +153,13 @@ def must_scrub(a: Any, *conditions: tuple) -> bool:
 def update_few(a: Any, kind: Kind, s: State, data: Buffer, n: Any) -> State:
     """n bytes that the pending block has room for: pending_length + n <= block."""
     at = s.pending_length
-    pending = s.pending[:at] + [a.below(j, n, data(j), s.pending[at + j])
-                                for j in range(kind.block - at)]
+    pending = s.pending[:at] + [a.below(j, n, data(j), s.pending[at + j]) for j in range(kind.block - at)]
     return s.but(pending=pending, pending_length=a.plus(at, n))
 
 
 def update_many(a: Any, kind: Kind, s: State, data: Buffer, k: Term | int, t: Term) -> State:
-    """More bytes: fill + k blocks + t, where 1 <= t <= block and `fill` bytes fill the pending
-    block, or none if nothing is pending, when 1 <= k. The last block stays pending (3.3)."""
+    """More bytes: fill + k blocks + t, where 1 <= t <= block and `fill` bytes fill the pending block, or none if
+    nothing is pending, when 1 <= k. The last block stays pending (3.3)."""
     fill = kind.block - s.pending_length if s.pending_length else 0
     chain, count = s.chain, s.counter
     if s.pending_length:
@@ -171,13 +169,12 @@ def update_many(a: Any, kind: Kind, s: State, data: Buffer, k: Term | int, t: Te
     chain = a.compress_all(kind, chain, data, fill, k, count)
     rest = a.plus(fill, a.times(kind.block, k))
     pending = [a.below(j, t, data(a.plus(rest, j)), 0) for j in range(kind.block)]
-    return s.but(chain=chain, counter=a.plus(count, a.times(kind.block, k)), pending=pending,
-                 pending_length=t)
+    return s.but(chain=chain, counter=a.plus(count, a.times(kind.block, k)), pending=pending, pending_length=t)
 
 
 def digest(a: Any, kind: Kind, s: State) -> list:
-    """The longest digest: the last block, padded with zeros, with the flag f0, and f1 if the node
-    is the last one (3.3; the BLAKE2 document, 2.10)."""
+    """The longest digest: the last block, padded with zeros, with the flag f0, and f1 if the node is the last one
+    (3.3; the BLAKE2 document, 2.10)."""
     block = [a.below(j, s.pending_length, b, 0) for j, b in enumerate(s.pending)]
     count = a.plus(s.counter, s.pending_length)
     return a.compress(kind, s.chain, block, count, 1, a.is_on(s.last_node))
@@ -189,16 +186,15 @@ def final(a: Any, kind: Kind, s: State, out: Buffer) -> tuple:
     return [a.below(j, s.output_size, b, out(j)) for j, b in enumerate(whole)], zeros(kind)
 
 
-def one_shot(a: Any, kind: Kind, output_size: Any, key: Buffer, key_size: Any, absorb: Callable,
-             out: Buffer) -> list:
+def one_shot(a: Any, kind: Kind, output_size: Any, key: Buffer, key_size: Any, absorb: Callable, out: Buffer) -> list:
     """All of it, where `absorb` is one of both updates."""
     s = init_tree(a, kind, output_size, key, key_size, nothing, 0, nothing, 0)
     return final(a, kind, absorb(s), out)[0]
 
 
 def verify(a: Any, kind: Kind, s: State, tag: Buffer) -> Any:
-    """The tag is the digest if this byte is 1, and not if it is 0. It has output_size bytes; a tag
-    of another length is not the digest. The state is then wiped."""
+    """The tag is the digest if this byte is 1, and not if it is 0. It has output_size bytes; a tag of another length
+    is not the digest. The state is then wiped."""
     size = s.output_size
     return a.are_equal([tag(j) for j in range(size)], digest(a, kind, s)[:size])
 

@@ -58,8 +58,8 @@ FORMS = {compression.EachCall: " with a counter each", compression.StripesCall: 
 # The families of exported functions, by the parts in which calls are followed.
 FOLLOWED = {"BLAKE2b": ("blake2b",), "BLAKE2s": ("blake2s", "memcmp", "wipe"), "BLAKE2bp": ("blake2bp",),
             "BLAKE2sp": ("blake2sp",), "BLAKE2X": ("blake2xb", "blake2xs"), "trees": ("tree",)}
-# What there is without --long: one message in all files; one function of several messages of each kind in one of these;
-# each family of calls in one of the first two, but of BLAKE2Xs, which is written as BLAKE2Xb, only secrets; the tests
+# What there is without --long: one message in all files; one function of several messages of each kind in one of
+# these; each family of calls in one of the first two, but of BLAKE2Xs, which is written as BLAKE2Xb, only secrets; the tests
 # of the models there; rules of one width; and nothing that takes as long as all others.
 SHORT = V3, ARM, JS = "dist/x86_64/vulfsjor-v3.s", "dist/aarch64/vulfsjor.s", "js/src/wasm.js"
 SHORT_MANY = {functions.MANY_B: V3, functions.EACH_S: ARM, functions.STRIPES_B: JS}
@@ -338,9 +338,11 @@ def report(results: Any) -> bool:
     for verdict, title, why in results:
         count += 1
         failed += verdict == "not ok"
-        is_skipped = verdict == "skip"
-        print("%s %d - %s" % ("ok" if is_skipped else verdict, count, title) + (" # SKIP " + why) * is_skipped, flush=True)
-        if why and not is_skipped:
+        if verdict == "skip":
+            print("ok %d - %s # SKIP %s" % (count, title, why), flush=True)
+            continue
+        print("%s %d - %s" % (verdict, count, title), flush=True)
+        if why:
             print("# " + why, flush=True)
     print("1..%d" % count)
     return count > 0 and not failed

@@ -1,6 +1,6 @@
-"""Compares the specification of whole calls with the compiled library, over made-up states and arguments
-near each of their bounds: which calls are refused, what they return, and what they write then. The
-source's proofs say that the library keeps the contracts of crates/blake2_ffi."""
+"""Compares the specification of whole calls with the compiled library, over made-up states and arguments near each of
+their bounds: which calls are refused, what they return, and what they write then. The source's proofs say that the
+library keeps the contracts of crates/blake2_ffi."""
 
 from __future__ import annotations
 
@@ -103,8 +103,7 @@ class Call:
                 limits = dict(zip(("depth", "node_offset", "inner_length"), S.admits_tree(kind, 0, 0, 0)))
                 self.tree = {name: min((1 << 8 * n) - 1, self.near(*limits.get(name, (0, 0, (1 << 8 * n) - 1))[1:]))
                              for name, n in S.TREE_FIELDS}
-                self.place = Memory(b"".join(self.tree[name].to_bytes(n, "little")
-                                             for name, n in S.TREE_FIELDS), rng)
+                self.place = Memory(b"".join(self.tree[name].to_bytes(n, "little") for name, n in S.TREE_FIELDS), rng)
                 found.append(self.place.pointer())
             else:
                 found += self.make_buffer(what, *sizes.get(what, self.lengths(what)))
@@ -124,8 +123,7 @@ class Call:
         data = bytearray(self.rng.randbytes(size))
         if what == constant_time.PUBLIC and size > 1:
             data[:2] = bytes(min(255, self.near(low_, self.kind.w)) for low_ in (1, 0))
-        if self.end == "_verify" and self.is_ready() and size == self.state.output_size and (
-                self.rng.randrange(2)):
+        if self.end == "_verify" and self.is_ready() and size == self.state.output_size and (self.rng.randrange(2)):
             data = bytearray(S.digest(self.a, self.kind, self.state)[:size])
             data[self.rng.randrange(size)] ^= self.rng.choice((0, 0, 1, 128))
         memory = Memory(bytes(data), self.rng)
@@ -269,8 +267,7 @@ class XofCall(Call):
 
     def of_update(self) -> tuple:
         s, data = self.state, self.buffers[0][0]
-        if not self.is_ready() or not holds(
-                X.is_absorbing(s) + S.is_counted(s.counter, s.pending_length, len(data))):
+        if not self.is_ready() or not holds(X.is_absorbing(s) + S.is_counted(s.counter, s.pending_length, len(data))):
             return self.refused()
         return 0, X.over(s, absorb(self.a, self.kind, s, data)), None
 

@@ -1,6 +1,6 @@
-"""Tests what the machines of whole calls decide about numbers, over numbers: words are computed and
-compared. No answer may be wrong, no comparison that is true may be called impossible, and each word
-must have the number that its operation has."""
+"""Tests what the machines of whole calls decide about numbers, over numbers: words are computed and compared. No
+answer may be wrong, no comparison that is true may be called impossible, and each word must have the number that its
+operation has."""
 
 from __future__ import annotations
 
@@ -83,16 +83,15 @@ class Run:
         if not low <= x <= high:
             raise Wrong("%r is %#x, and not in %s" % (a, x, (low, high)))
         if answer is None and not m.learn(relation, a, b, holds):
-            raise Wrong("%r %s %r is called impossible" % (
-                a, relation if holds else OPPOSITE[relation], b))
+            raise Wrong("%r %s %r is called impossible" % (a, relation if holds else OPPOSITE[relation], b))
         for t, n in m.path_facts.values().items() if rng.random() < 0.05 else ():
             if n.args != self.value(t):
                 raise Wrong("%r is %#x, not %r" % (t, self.value(t), n))
 
 
 def check(seed: int, count: int) -> tuple:
-    """Whether at least so many comparisons are decided right: a verdict, and what was tried. A question
-    that takes long is open."""
+    """Whether at least so many comparisons are decided right: a verdict, and what was tried. A question that takes
+    long is open."""
     rng, decided, runs = random.Random(seed), 0, 0
     Facts().ask()                      # makes the solver
     Facts.solver.set("timeout", 30)

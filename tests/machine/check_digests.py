@@ -1,6 +1,6 @@
-"""Executes whole functions in the model over numbers, and compares digests with hashlib: messages
-of one block with random lengths, and both values of the flag of the last node. Functions of stripes
-are left out: their blocks are never the last."""
+"""Executes whole functions in the model over numbers, and compares digests with hashlib: messages of one block with
+random lengths, and both values of the flag of the last node. Functions of stripes are left out: their blocks are
+never the last."""
 
 from __future__ import annotations
 
@@ -60,8 +60,7 @@ def digests(program: Program, entry: Any, rng: Any) -> Any:
     call = compression.call_of(entry[0])(program, name, kind, lanes, assumed)
     concrete(call, numbers_of(call, texts, size))
     compression.Runner(program.code(name), call.cpu).run(call.machine)
-    found = [b"".join(bytes(T.split(call.result(call.machine, j, k))) for k in range(8))
-             for j in range(lanes)]
+    found = [b"".join(bytes(T.split(call.result(call.machine, j, k))) for k in range(8)) for j in range(lanes)]
     hash_of = getattr(hashlib, kind.name)
     return found, [hash_of(t, last_node=node).digest() for t, node in zip(texts, nodes)]
 

@@ -1,10 +1,9 @@
-"""Runs each form of instruction on the processor (for ARM in qemu-aarch64), over random registers and
-memory, and compares with the model: of the functions that compress, of those that calls execute over
-variables, and of those in which secrets are followed, which are the users F, W and T of forms.txt. What
-the model has as a number must be that number. For T each runs twice, over states that differ only in
-bytes that are secret: what is public must then be the same. Flags are compared through instructions
-that read them: after each that sets some, and after one that sets them and another that keeps some.
-check_wasm_instructions.py does it for WebAssembly."""
+"""Runs each form of instruction on the processor (for ARM in qemu-aarch64), over random registers and memory, and
+compares with the model: of the functions that compress, of those that calls execute over variables, and of those in
+which secrets are followed, which are the users F, W and T of forms.txt. What the model has as a number must be that
+number. For T each runs twice, over states that differ only in bytes that are secret: what is public must then be the
+same. Flags are compared through instructions that read them: after each that sets some, and after one that sets them
+and another that keeps some. check_wasm_instructions.py does it for WebAssembly."""
 
 from __future__ import annotations
 
@@ -37,8 +36,8 @@ SPAN = (-BUFFER, BUFFER)
 # must be compared.
 USERS = {"F": (1, 3, 10), "T": (3, 2, 9), "W": (7, 1, 8)}
 OF_ZERO = ("add", "sub", "dec", "xor", "test", "shr", "shl", "cmp", "subs", "tst")
-# The program of the tests, which needs no C library. It reads the number of each test and a state, and writes the state
-# after the test.
+# The program of the tests, which needs no C library. It reads the number of each test and a state, and writes the
+# state after the test.
 C = """
 struct state { unsigned long general[32]; unsigned char vector[2048]; unsigned char zero; unsigned char rest[63];
                unsigned long masks[8]; unsigned char memory[%d]; };
@@ -116,8 +115,8 @@ SIGNED = re.compile(r"(set|cmov)(n?s|n?o) |, (mi|pl|vs|vc)$")
 
 
 def form(kind: str, i: Any) -> Any:
-    """The instruction without the numbers of its registers and without its addresses, and its form. None
-    if it is part of whole functions only."""
+    """The instruction without the numbers of its registers and without its addresses, and its form. None if it is
+    part of whole functions only."""
     text = i.text.partition("#" if kind == "x86_64" else "//")[0].strip()
     found = forms.form(kind, i.text)
     if forms.CONTROL[kind].fullmatch(found):
@@ -205,8 +204,8 @@ def assembly(kind: str, tests: list, vectors: tuple) -> str:
 
 
 def readers(kind: str, tests: list, rng: Any) -> Iterator:
-    """Texts of several instructions, of which the last reads flags: one for each test of an
-    instruction that sets some, and one for each that keeps some and each that reads some."""
+    """Texts of several instructions, of which the last reads flags: one for each test of an instruction that sets
+    some, and one for each that keeps some and each that reads some."""
     first, keeping, last = FLAGS[kind]
     for text, base in tests:
         if text.split()[0] in SETS_FLAGS[kind] and "r14" not in text and "x14" not in text:
@@ -259,8 +258,7 @@ def executed(program: Program, user: str) -> list:
 
 
 def chosen(program: Program, user: str, count: int, rng: Any) -> tuple:
-    """The forms that are executed for a user, and up to `count` instructions of each, as (text, base
-    register)."""
+    """The forms that are executed for a user, and up to `count` instructions of each, as (text, base register)."""
     found: dict = {}
     for name in executed(program, user):
         for i in program.code(name):
@@ -313,8 +311,8 @@ def run_model(program: Program, m: Any, text: str) -> None:
 
 
 def places_of(program: Program, m: Any, buf: T.Term) -> Iterator:
-    """The bytes of the registers that a test compares, and of the memory that the model has written,
-    each with its place in a state."""
+    """The bytes of the registers that a test compares, and of the memory that the model has written, each with its
+    place in a state."""
     count, size = vectors_of(program.path)
     for j, r in enumerate(m.general[:31]):
         if (program.kind, j) != ("x86_64", x86.RSP):
@@ -325,12 +323,11 @@ def places_of(program: Program, m: Any, buf: T.Term) -> Iterator:
 
 
 def difference(program: Program, m: Any, buf: T.Term, before: list, after: list) -> str | None:
-    """What is called public and differs between the states after one or two runs, or is another
-    number than in the first, or None."""
+    """What is called public and differs between the states after one or two runs, or is another number than in the
+    first, or None."""
     one, written = after[0], set()
     numbers = {buf: T.const(64, struct.unpack_from("<32Q", one)[31])}
-    number_of = lambda b: b if isinstance(b, int) else T.split(
-        T.substitute(T.word([b]), numbers, {}))[0]
+    number_of = lambda b: b if isinstance(b, int) else T.split(T.substitute(T.word([b]), numbers, {}))[0]
     for at, b in places_of(program, m, buf):
         written.add(at)
         if is_secret(b):
@@ -379,8 +376,8 @@ def state(rng: Any, text: str, is_plain: bool, is_zero: bool = False) -> Any:
 
 
 def fit(kind: str, text: str, data: Any, rng: Any) -> None:
-    """Makes numbers such that an instruction does not fault: small indices, and a division whose
-    quotient has room."""
+    """Makes numbers such that an instruction does not fault: small indices, and a division whose quotient has
+    room."""
     indices = re.findall(r"\[x\d+, x(\d+)", text) + [n for n in (12, 13) if "r15+r%d" % n in text]
     for j in map(int, indices):
         data[8 * j:8 * j + 8] = bytes([rng.randrange(64)] + [0] * 7)
@@ -391,14 +388,12 @@ def fit(kind: str, text: str, data: Any, rng: Any) -> None:
 
 
 def compared(path: str, user: str, used: set, tests: list, what: str) -> tuple:
-    """The verdict of the tests of a model, over the forms that its functions have and the texts that it
-    was run with; and the forms that were run."""
+    """The verdict of the tests of a model, over the forms that its functions have and the texts that it was run with;
+    and the forms that were run."""
     kind = functions.architecture(path)
-    run = {f for text in tests
-           for f in (forms.form(kind, part) for part in text.split("; ")) if f in used}
+    run = {f for text in tests for f in (forms.form(kind, part) for part in text.split("; ")) if f in used}
     why = None if forms.WRITES in os.environ else forms.compare(kind, user, used, run)
-    return "not ok" if why else "ok", why or "%d forms, %s" % (len(used), what), {
-        (kind, user, f) for f in run}
+    return "not ok" if why else "ok", why or "%d forms, %s" % (len(used), what), {(kind, user, f) for f in run}
 
 
 def execute(kind: str, tests: list, vectors: tuple, inputs: list) -> list:
@@ -435,8 +430,8 @@ def inputs_of(program: Program, user: str, tests: list, rounds: int, rng: Any) -
 
 
 def check(path: str, user: str, rounds: int) -> tuple:
-    """Whether the model agrees with the processor: a verdict, the numbers or what differs, and the
-    forms that were run."""
+    """Whether the model agrees with the processor: a verdict, the numbers or what differs, and the forms that were
+    run."""
     program, (seed, count, tenths) = read(path), USERS[user]
     rng = random.Random(seed)
     used, tests = chosen(program, user, 1 if rounds < 5 else count, rng)
@@ -465,8 +460,7 @@ def check(path: str, user: str, rounds: int) -> tuple:
         if why:
             return "not ok", "%s: in the model %s" % (text, why), set()
         run.add(k)
-        if user != "W" or all(T.substitute(T.word(r), {buf: T.const(64, 0)}, {}).op == "const"
-                              for r in m.general):
+        if user != "W" or all(T.substitute(T.word(r), {buf: T.const(64, 0)}, {}).op == "const" for r in m.general):
             known.add(k)
         zeros.setdefault(text.split()[0], set()).add(after[0][ZERO])
     once = [name for name in OF_ZERO if user == "F" and zeros.get(name, {0, 1}) != {0, 1}]
@@ -475,5 +469,4 @@ def check(path: str, user: str, rounds: int) -> tuple:
     if len(known) < len(tests) * tenths // 10:
         return "not ok", "only %d of %d tests can be compared" % (len(known), len(tests)), set()
     what = "%d instructions, %d with a reader of flags or a jump, %d runs, %d compared"
-    return compared(path, user, used, [tests[k][0] for k in run],
-                    what % (first, len(extra), len(inputs), len(known)))
+    return compared(path, user, used, [tests[k][0] for k in run], what % (first, len(extra), len(inputs), len(known)))

@@ -1,6 +1,6 @@
-"""Tests what the machines that follow secrets say of ranges, over numbers: words are computed,
-compared and chosen, and paths meet. Each range must have the number that the word has, by its step
-too, and no comparison that is true may be called impossible."""
+"""Tests what the machines that follow secrets say of ranges, over numbers: words are computed, compared and chosen,
+and paths meet. Each range must have the number that the word has, by its step too, and no comparison that is true may
+be called impossible."""
 
 from __future__ import annotations
 
@@ -77,8 +77,7 @@ class Run:
         holds = TRUE[relation](self.value(a), self.value(b))
         if kind == "compare":
             if not m.learn(relation, a, b, holds):
-                raise Wrong("%r %s %r is called impossible" % (
-                    a, relation if holds else OPPOSITE[relation], b))
+                raise Wrong("%r %s %r is called impossible" % (a, relation if holds else OPPOSITE[relation], b))
             m.bounds |= {t for t in (a, b) if t.op in ("var", "add")}
             return
         c, d = (rng.choice(self.words) for _ in range(2))

@@ -1,5 +1,5 @@
-"""Executes call_specification.py over numbers, and compares digests with hashlib: random
-parameters, and messages that are absorbed in random pieces."""
+"""Executes call_specification.py over numbers, and compares digests with hashlib: random parameters, and messages
+that are absorbed in random pieces."""
 
 from __future__ import annotations
 
@@ -125,8 +125,7 @@ def one(a: Any, kind: Any, rng: Any) -> Any:
     out = S.final(a, kind, s, reader(bytes(80)))[0]
     if bytes(out[:size]) != wanted or any(out[size:]):
         return "the digest of %d bytes" % len(text)
-    if not S.verify(a, kind, s, reader(wanted)) or S.verify(a, kind, s, reader(
-            bytes([wanted[0] ^ 1]) + wanted[1:])):
+    if not S.verify(a, kind, s, reader(wanted)) or S.verify(a, kind, s, reader(bytes([wanted[0] ^ 1]) + wanted[1:])):
         return "the comparison with a tag"
     again = S.final(a, kind, S.reset(s), reader(bytes(80)))[0]
     if bytes(again[:size]) != state(b"").digest():
@@ -141,8 +140,7 @@ def one(a: Any, kind: Any, rng: Any) -> Any:
 def plain(a: Any, kind: Any, size: int, key: Any, text: str) -> Any:
     """The same for the call in one."""
     wanted = getattr(hashlib, kind.name)(text, digest_size=size, key=key).digest()
-    out = S.one_shot(a, kind, size, reader(key), len(key), lambda s: absorb(a, kind, s, text),
-                     reader(bytes(80)))
+    out = S.one_shot(a, kind, size, reader(key), len(key), lambda s: absorb(a, kind, s, text), reader(bytes(80)))
     return None if bytes(out[:size]) == wanted else "the digest of a call in one"
 
 

@@ -1,6 +1,6 @@
 """Shows by the SMT solver Z3 that the rules of terms.py keep the meaning of terms: each operation, over terms of each
-form, at each width and for each number of bits of a shift. With all cases, each pair of forms comes in both orders, and
-each form is shifted by each number of bits. Else only the forms for which a rule exists are."""
+form, at each width and for each number of bits of a shift. With all cases, each pair of forms comes in both orders,
+and each form is shifted by each number of bits. Else only the forms for which a rule exists are."""
 
 from __future__ import annotations
 

@@ -1,6 +1,5 @@
-"""Runs each form of WebAssembly instruction of the compression functions in node, over random
-operands, and compares with the model. Control, calls of locals, and the check of the stack are part
-of whole functions only."""
+"""Runs each form of WebAssembly instruction of the compression functions in node, over random operands, and compares
+with the model. Control, calls of locals, and the check of the stack are part of whole functions only."""
 
 from __future__ import annotations
 
@@ -130,8 +129,7 @@ def chosen(path: str, rng: Any, count: int) -> Any:
         for text in program.functions[functions.in_file(path, name)]:
             if text.split()[0] not in SKIPPED:
                 found.setdefault(text.split()[0], set()).add(text)
-    return len(found), [t for n in sorted(found)
-                        for t in rng.sample(sorted(found[n]), min(count, len(found[n])))]
+    return len(found), [t for n in sorted(found) for t in rng.sample(sorted(found[n]), min(count, len(found[n])))]
 
 
 def check(path: str, rounds: int) -> Any:
@@ -151,8 +149,7 @@ def check(path: str, rounds: int) -> Any:
                 data[:4] = (ADDRESS - int(text.split()[1]) % 128).to_bytes(4, "little")
             inputs.append((k, bytes(data)))
     small = [re_offset(t) for t in tests]
-    message = {"modules": [module(t).hex() for t in small],
-               "inputs": [(k, data.hex()) for k, data in inputs]}
+    message = {"modules": [module(t).hex() for t in small], "inputs": [(k, data.hex()) for k, data in inputs]}
     run = subprocess.run(["node", "-e", NODE], input=json.dumps(message), text=True,
                          stdout=subprocess.PIPE, check=True)
     for (k, before), after in zip(inputs, json.loads(run.stdout)):

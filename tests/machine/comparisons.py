@@ -1,5 +1,5 @@
-"""The loops of vulfsjor_memcmp, by induction over their iterations: each ors the differences of some
-bytes of two buffers into bytes of registers, and goes on behind these."""
+"""The loops of vulfsjor_memcmp, by induction over their iterations: each ors the differences of some bytes of two
+buffers into bytes of registers, and goes on behind these."""
 
 from __future__ import annotations
 
@@ -25,8 +25,8 @@ def difference(b: Any) -> tuple:
 
 
 class Differences:
-    """A loop, from the machine that comes to its head on. Its first iteration proposes what changes; a
-    general one must agree."""
+    """A loop, from the machine that comes to its head on. Its first iteration proposes what changes; a general one
+    must agree."""
 
     collects: dict
     rest: set
@@ -68,8 +68,8 @@ class Differences:
         return end
 
     def iterate_at(self, m: Any, i: T.Term, left: T.Term) -> tuple:
-        """An iteration, which is no later than the last: what is left grows or shrinks to 0 by one
-        number in each. It is tried with each that a loop may have."""
+        """An iteration, which is no later than the last: what is left grows or shrinks to 0 by one number in each. It
+        is tried with each that a loop may have."""
         self.unit, self.sign = next(((unit, sign) for unit in (128, 32, 8, 4, 1) for sign in (1, -1)
                                      if self.quotient(left, unit, sign) is not None), (0, 0))
         if not self.unit:
@@ -123,8 +123,8 @@ class Differences:
         return m
 
     def check(self, first: dict, second: dict, after: dict, i: T.Term) -> tuple:
-        """How many bytes an iteration compares, and for each byte that collects the offsets of the first
-        iteration; those of iteration i are as many further as that, i times."""
+        """How many bytes an iteration compares, and for each byte that collects the offsets of the first iteration;
+        those of iteration i are as many further as that, i times."""
         wanted = self.machine(T.add(64, (1, i), (1, T.const(64, 1)))).cells()
         offsets, step = {}, 0
         for c, b in self.collects.items():

@@ -38,19 +38,17 @@ def mask(w: int, name: str, assumed: dict) -> T.Term:
 
 
 class Call:
-    """A call of a function that compresses one block, or blocks of each of several messages: its
-    variables, its memory, and what it must return."""
+    """A call of a function that compresses one block, or blocks of each of several messages: its variables, its
+    memory, and what it must return."""
 
-    def __init__(self, program: Program, name: str, kind: R.Kind, lanes: int,
-                 assumed: dict) -> None:
+    def __init__(self, program: Program, name: str, kind: R.Kind, lanes: int, assumed: dict) -> None:
         self.program, self.kind, self.assumed = program, kind, assumed
         self.lanes = lanes
         w, n = kind.w, kind.bytes
         public = lambda what: T.var(64, what, T.PUBLIC)
         secret = lambda what, count: [[T.var(w, "%s%d.%d" % (what, j, k), T.SECRET)
                                        for k in range(count)] for j in range(lanes)]
-        self.sp, self.h, self.counter, self.back = map(
-            public, ("sp", "h", "counter", "return address"))
+        self.sp, self.h, self.counter, self.back = map(public, ("sp", "h", "counter", "return address"))
         self.words, self.chain, self.message = secret("h", 8), secret("H", 8), secret("m", 16)
         self.blocks = [public("block%d" % j) for j in range(lanes)]
         self.lengths = [public("length%d" % j) for j in range(lanes)]
@@ -74,8 +72,8 @@ class Call:
         return T.word(T.split(t)[:self.program.width // 8])
 
     def stack(self) -> Region:
-        """The function's part of the stack. At the entry, sp + 8 is a multiple of 16 on x86-64,
-        where the return address lies above, and sp is one elsewhere."""
+        """The function's part of the stack. At the entry, sp + 8 is a multiple of 16 on x86-64, where the return
+        address lies above, and sp is one elsewhere."""
         top = 8 if self.program.kind == "x86_64" else 0
         back = T.split(self.back)
         initial = lambda k: back[k] if 0 <= k < top else (T.var(8, "stack%d" % k, T.JUNK), 0)
@@ -107,8 +105,7 @@ class Call:
     def flags(self) -> T.Term:
         """A pointer to the flags of all messages."""
         flags = T.var(64, "flags", T.PUBLIC)
-        bits = [flag("%s%d" % (name, j), self.assumed) for j in range(self.lanes)
-                for name in ("last", "node")]
+        bits = [flag("%s%d" % (name, j), self.assumed) for j in range(self.lanes) for name in ("last", "node")]
         self.regions[self.pointer(flags)] = Region(0, 2 * self.lanes, lambda k: bits[k])
         return flags
 
@@ -165,33 +162,30 @@ class Call:
         """The chaining words, the stack and the registers after a return."""
         for k in range(8):
             for j in range(self.lanes):
-                check_same("chaining word %d of message %d" % (k, j), self.result(machine, j, k),
-                           wanted[j][k])
+                check_same("chaining word %d of message %d" % (k, j), self.result(machine, j, k), wanted[j][k])
         self.cpu(machine).check_return(self.entry)
         self.cpu(machine).need_vectors()
 
 
 class EachCall(Call):
-    """A call of a function that compresses one block of each of several messages, with a counter
-    for each."""
+    """A call of a function that compresses one block of each of several messages, with a counter for each."""
 
     def arguments(self) -> list:
         """The tables of the blocks' addresses, of the counters and of the flags."""
         self.counters = [T.var(64, "counter%d" % j, T.PUBLIC) for j in range(self.lanes)]
-        return [self.table("blocks", self.blocks), self.table("counters", self.counters),
-                self.flags()]
+        return [self.table("blocks", self.blocks), self.table("counters", self.counters), self.flags()]
 
     def counted(self, j: int, i: Any) -> T.Term:
         return self.counters[j]
 
 
 class StripesCall(Call):
-    """A call of a function that compresses the blocks of stripes, which hold one block of each
-    message, next to each other, with the flags off. The counter is that before the first."""
+    """A call of a function that compresses the blocks of stripes, which hold one block of each message, next to each
+    other, with the flags off. The counter is that before the first."""
 
     def arguments(self) -> list:
-        """The address of the stripes, the counter, and the number of stripes. The compiler has
-        removed the number of bytes, which the function does not use."""
+        """The address of the stripes, the counter, and the number of stripes. The compiler has removed the number of
+        bytes, which the function does not use."""
         self.blocks = self.blocks[:1]
         return [self.blocks[0], self.counter, self.count()]
 
@@ -278,16 +272,13 @@ class Runner:
 
     def check_all_reached(self, free: tuple) -> None:
         """Refuses code that no path has reached, except no-ops."""
-        unseen = [i for i in self.code.values()
-                  if i.address not in self.visited and i.name not in free]
+        unseen = [i for i in self.code.values() if i.address not in self.visited and i.name not in free]
         if unseen:
-            raise CannotShow("%d instructions were not reached, the first is %s" % (
-                len(unseen), unseen[0].text))
+            raise CannotShow("%d instructions were not reached, the first is %s" % (len(unseen), unseen[0].text))
 
 
 def show_one(program: Program, name: str, kind: R.Kind, lanes: int, runner: Runner) -> None:
-    """A function that compresses one block of each message. Each flag on which it branches is tried
-    both ways."""
+    """A function that compresses one block of each message. Each flag on which it branches is tried both ways."""
     waiting: list = [{}]
     while waiting:
         assumed = waiting.pop()
@@ -304,14 +295,12 @@ def show_one(program: Program, name: str, kind: R.Kind, lanes: int, runner: Runn
 
 
 class Loop:
-    """A function that compresses a number of blocks of each of several messages: a proof by
-    induction over the iterations of its only loop."""
+    """A function that compresses a number of blocks of each of several messages: a proof by induction over the
+    iterations of its only loop."""
 
-    def __init__(self, program: Program, name: str, kind: R.Kind, lanes: int,
-                 runner: Runner) -> None:
+    def __init__(self, program: Program, name: str, kind: R.Kind, lanes: int, runner: Runner) -> None:
         self.runner, self.kind = runner, kind
-        heads = {i.target for i in runner.code.values()
-                 if i.target is not None and i.target <= i.address}
+        heads = {i.target for i in runner.code.values() if i.target is not None and i.target <= i.address}
         if len(heads) != 1:
             raise CannotShow("the function has %d loops instead of one: if the compiler has split "
                              "it, tests/machine/compression.py needs a proof for that" % len(heads))
@@ -379,8 +368,8 @@ class Loop:
         return tuple((kind, at, k - k % size + j) for j in range(size))
 
     def classify(self, at_second: dict) -> None:
-        """Finds what an iteration changes: words that grow by a constant, bytes of chaining words,
-        and the rest. What is found is only proposed: invariant() checks it."""
+        """Finds what an iteration changes: words that grow by a constant, bytes of chaining words, and the rest. What
+        is found is only proposed: invariant() checks it."""
         words = {t: (j, k) for j, row in enumerate(self.call.words) for k, t in enumerate(row)}
         self.grows, self.chain, self.scratch = {}, {}, set()
         second = lambda c: at_second[c] if c in at_second else self.initial(c)
@@ -418,9 +407,8 @@ class Loop:
         return state
 
     def invariant(self) -> Any:
-        """The machine at iteration i, after it, the condition of the end, and the chaining words
-        that the iteration must leave. Bytes that are not as proposed count as undefined in the
-        next attempt, and so may not be used."""
+        """The machine at iteration i, after it, the condition of the end, and the chaining words that the iteration
+        must leave. Bytes that are not as proposed count as undefined in the next attempt, and so may not be used."""
         self.i = T.var(64, "i", T.PUBLIC)
         self.call.at_block(self.i)
         wanted = self.call.expected(self.call.chain, self.i)
@@ -485,8 +473,8 @@ def show(program: Program, name: str, kind: R.Kind, lanes: int) -> tuple:
 
 
 def frame(program: Program, name: str, kind: R.Kind, lanes: int) -> int:
-    """How many bytes of the stack below its return address a function that compresses uses, by its
-    proof. All terms are forgotten."""
+    """How many bytes of the stack below its return address a function that compresses uses, by its proof. All terms
+    are forgotten."""
     content = program.content(name) or (program, name)
     if content not in FRAMES:
         FRAMES[content] = -show(program, name, kind, lanes)[0].deepest

@@ -1,5 +1,5 @@
-"""Shows that no branch and no address of a whole call depends on a secret: for each function that
-C programs call, all code that it reaches. docs/MACHINE.md says what is shown."""
+"""Shows that no branch and no address of a whole call depends on a secret: for each function that C programs call,
+all code that it reaches. docs/MACHINE.md says what is shown."""
 
 from __future__ import annotations
 
@@ -22,8 +22,7 @@ ROUNDS = 20                            # of a loop, which are unrolled
 
 
 def state(n: Any, block: Any) -> Any:
-    """The fields of a state as pairs of a size and of whether it is public. n is the size of a
-    chaining word."""
+    """The fields of a state as pairs of a size and of whether it is public. n is the size of a chaining word."""
     return [(8 * n, False)] * 2 + [(8, True)] * 5 + [(block, False)] * 2
 
 
@@ -95,8 +94,7 @@ NOT_SHOWN = {("dist/x86_64/vulfsjor-v3.s", "vulfsjor_ffi_blake2bp")}
 class Call:
     """A call of an exported function: its memory and its arguments."""
 
-    def __init__(self, program: programs.Program, kinds: tuple, family: str, alignment: tuple,
-                 has_key: bool) -> None:
+    def __init__(self, program: programs.Program, kinds: tuple, family: str, alignment: tuple, has_key: bool) -> None:
         self.sp, self.has_key = T.var(64, "sp", T.PUBLIC), has_key
         self.regions = {image(): Memory(0, 1 << 32, program.constant, False)}
         self.words: list = []
@@ -108,8 +106,7 @@ class Call:
         back = T.var(64, "return address", T.PUBLIC)
         above = [back] if program.kind == "x86_64" else []
         above = [b for t in above + self.words[len(cpu.ARGUMENTS):] for b in T.split(t)]
-        self.regions[self.sp] = Memory(-STACK, len(above),
-                                       lambda k: secret() if k < 0 else above[k])
+        self.regions[self.sp] = Memory(-STACK, len(above), lambda k: secret() if k < 0 else above[k])
         self.machine = Taint(self.regions, cpu, alignment, self.ranges, BLOCKS.get(family, 128),
                              LONGEST.get(family, 0))
         cpu(self.machine).start(self.sp, back, self.words)
@@ -144,8 +141,7 @@ def entry(machine: Any, text: Any, low: int, size: int) -> list:
     """Bytes of a table of messages: pairs of an address and a length."""
     if machine.step_of_place % 16:
         raise CannotShow("the place in the table of messages is not known")
-    pair = T.split(T.add(64, (1, text), (1, machine.new(64, "at")))) + T.split(
-        machine.new(64, "length"))
+    pair = T.split(T.add(64, (1, text), (1, machine.new(64, "at")))) + T.split(machine.new(64, "length"))
     return [pair[(low + k) % 16] for k in range(size)]
 
 
@@ -162,8 +158,7 @@ class Analysis:
         self.program, self.codes = program, {}
         self.cpu: Any = program.model.Model    # what executes instructions over values
         self.exported, self.scrubs = exported, functions.scrubs(program)
-        self.listed = {functions.in_file(program.path, entry[0]): entry
-                       for entry in functions.FILES[program.path]}
+        self.listed = {functions.in_file(program.path, entry[0]): entry for entry in functions.FILES[program.path]}
         self.reached, self.entered, self.at = set(), set(), None
 
     def code(self, name: str) -> tuple:
@@ -320,8 +315,8 @@ def in_round(m: Any) -> str:
 
 
 def rounds_at(m: Any, head: int, origin: int) -> tuple:
-    """How often a machine that jumps back to a loop's head has passed the heads of loops by jumps
-    that were decided by numbers. Such rounds are kept apart, so that the loop is unrolled."""
+    """How often a machine that jumps back to a loop's head has passed the heads of loops by jumps that were decided
+    by numbers. Such rounds are kept apart, so that the loop is unrolled."""
     rounds = {h: n for h, n in m.rounds if not head < h <= origin}
     if not any(head <= p <= origin for p in m.undecided):
         rounds[head] = min(rounds.get(head, 0) + 1, ROUNDS)
@@ -384,8 +379,8 @@ def show(program: programs.Program, name: str, kinds: tuple, family: str) -> Ana
 
 
 def follow(program: programs.Program, entry: tuple) -> Analysis | None:
-    """The same, or None for a function of NOT_SHOWN for which no bound is known. Refuses one that is
-    shown after all."""
+    """The same, or None for a function of NOT_SHOWN for which no bound is known. Refuses one that is shown after
+    all."""
     name = entry[0]
     try:
         found = show(program, *entry)
@@ -399,15 +394,14 @@ def follow(program: programs.Program, entry: tuple) -> Analysis | None:
 
 
 def check(call: Call, after: Any, name: str) -> None:
-    """What must hold after a call: the result and the public fields of structs do not depend on a
-    secret, so that the next call may assume it, and a wiped state is zero."""
+    """What must hold after a call: the result and the public fields of structs do not depend on a secret, so that the
+    next call may assume it, and a wiped state is zero."""
     for word, layout in call.structs:
         if name.endswith("_wipe"):
             need_zeros(after, word)
         at = 0
         for size, is_public in layout:
-            if is_public and any(is_secret(after.byte(word, at + k, call.regions[word]))
-                                 for k in range(size)):
+            if is_public and any(is_secret(after.byte(word, at + k, call.regions[word])) for k in range(size)):
                 raise IsWrong("the field at %d of %s depends on a secret" % (at, word.args))
             at += size
     if not name.endswith(ANSWERS + ("_wipe",)):

@@ -22,8 +22,8 @@ class Section:
 
 
 class Symbol:
-    """A symbol: its type, its binding, the number of its section, and whether other libraries and
-    the program that it is linked into do not see it."""
+    """A symbol: its type, its binding, the number of its section, and whether other libraries and the program that it
+    is linked into do not see it."""
 
     def __init__(self, name: str, info: int, other: int, section: int) -> None:
         self.name, self.type, self.binding, self.section = name, info & 15, info >> 4, section
@@ -37,8 +37,7 @@ class Elf:
         table, = struct.unpack_from("<Q", data, 40)
         size, count, names = struct.unpack_from("<HHH", data, 58)
         headers = [struct.unpack_from("<IIQQQQIIQQ", data, table + k * size) for k in range(count)]
-        self.sections = [Section(text_at(data, headers[names][4] + h[0]), h, data)
-                         for h in headers]
+        self.sections = [Section(text_at(data, headers[names][4] + h[0]), h, data) for h in headers]
         self.symbols = []
         for section, header in zip(self.sections, headers):
             if section.type == SYMBOLS:

@@ -1,7 +1,6 @@
-"""What a path of a call knows of its numbers, and what follows from it, by the SMT solver Z3 over
-integers. A word of w bits is an integer from 0 to 2^w - 1, and a sum of words is one up to a multiple
-of 2^w, which is a variable of its own. Nothing else in this tool decides how the numbers of a whole
-call compare."""
+"""What a path of a call knows of its numbers, and what follows from it, by the SMT solver Z3 over integers. A word of
+w bits is an integer from 0 to 2^w - 1, and a sum of words is one up to a multiple of 2^w, which is a variable of its
+own. Nothing else in this tool decides how the numbers of a whole call compare."""
 
 from __future__ import annotations
 
@@ -36,8 +35,8 @@ def _number(t: T.Term) -> Any:
 
 
 def definition(t: T.Term) -> list:
-    """What is so of the integers of a term and its parts, by the meaning of its operator. Of another
-    operator only the range is known."""
+    """What is so of the integers of a term and its parts, by the meaning of its operator. Of another operator only
+    the range is known."""
     return [] if t.op == "const" else T.remembered(_definition, t)
 
 
@@ -90,8 +89,7 @@ def run_with_z3(script: str, arguments: list) -> None:
 
 
 class Model:
-    """Numbers of variables, for which Z3 says that some facts hold. Of a word, the number that follows
-    from these."""
+    """Numbers of variables, for which Z3 says that some facts hold. Of a word, the number that follows from these."""
 
     def __init__(self, names: dict) -> None:
         self.names = names
@@ -105,23 +103,21 @@ class Model:
 
 
 class Facts:
-    """A fact, and those before it on the path. Paths share what they have in common. `claim` returns
-    the fact as a list of conditions of which all hold, by a function that has the number of each of
-    some words, and one that is the or of conditions."""
+    """A fact, and those before it on the path. Paths share what they have in common. `claim` returns the fact as a
+    list of conditions of which all hold, by a function that has the number of each of some words, and one that is the
+    or of conditions."""
 
     solver: Any = None
     asserted: list = []                # the facts that the solver has, in its order
     questions = 0
 
-    def __init__(self, claim: Callable | None = None, words: tuple = (),
-                 before: Facts | None = None) -> None:
+    def __init__(self, claim: Callable | None = None, words: tuple = (), before: Facts | None = None) -> None:
         self.claim, self.words, self.before = claim, words, before
         self.answers: dict = {}        # relation, word, word -> whether it follows
         self.ranges: dict = {}
         self.fixed: dict | None = None
         self.models: list = []         # numbers of the variables for which Z3 says that all hold
-        self.variables: frozenset = (before.variables if before else frozenset()).union(
-            *map(variables, words))
+        self.variables: frozenset = (before.variables if before else frozenset()).union(*map(variables, words))
 
     def plus(self, relation: str, a: T.Term, b: T.Term) -> Facts:
         """With one more comparison that holds."""
@@ -131,8 +127,8 @@ class Facts:
         return after
 
     def between(self, pairs: list, low: int, high: int) -> Facts:
-        """With the fact that a sum is between two numbers. Its parts are words, sums of words and
-        numbers, each with a sign, and all are added as integers."""
+        """With the fact that a sum is between two numbers. Its parts are words, sums of words and numbers, each with
+        a sign, and all are added as integers."""
         parts: list = []
         for sign, t in pairs:
             constant, items = (t, {}) if isinstance(t, int) else T.linear(t)
@@ -164,8 +160,8 @@ class Facts:
             f = f.before
 
     def ask(self, claims: Iterable = (), words: Iterable = ()) -> Any:
-        """Numbers for which the facts and some claims about words hold, as a function, False if there
-        are none, or None if Z3 does not know."""
+        """Numbers for which the facts and some claims about words hold, as a function, False if there are none, or
+        None if Z3 does not know."""
         if Facts.solver is None:
             Facts.solver = z3.Solver()
             Facts.solver.set("rlimit", EFFORT)
@@ -215,12 +211,11 @@ class Facts:
 
     def decide(self, relation: str, a: T.Term, b: T.Term) -> bool | None:
         """Whether two words are so related, if that is known."""
-        return True if self.imply(relation, a, b) else (
-            False if self.imply(OPPOSITE[relation], a, b) else None)
+        return True if self.imply(relation, a, b) else (False if self.imply(OPPOSITE[relation], a, b) else None)
 
     def against(self, relation: str, a: T.Term, b: T.Term) -> str | None:
-        """Inputs of the call for which all facts hold and two words are not so related, as text, or
-        None. Z3 proposes them; all is computed again, so they are inputs."""
+        """Inputs of the call for which all facts hold and two words are not so related, as text, or None. Z3 proposes
+        them; all is computed again, so they are inputs."""
         other = OPPOSITE[relation]
         model = self.ask([compared(other, number(a), number(b), a.w)], (a, b))
         is_example = model and all(isinstance(name, str) and "~" not in name for name in model.names)

@@ -119,8 +119,8 @@ def check(kind: str, user: str, text: str) -> None:
 
 
 def compare(kind: str, user: str, used: set, run: set) -> str | None:
-    """What is wrong with the table, for the forms that some functions have, and those that a test of
-    their instructions has run; or None."""
+    """What is wrong with the table, for the forms that some functions have, and those that a test of their
+    instructions has run; or None."""
     used = {f for f in used if not CONTROL[kind].fullmatch(f)}
     missed = sorted(used - run)
     if missed:

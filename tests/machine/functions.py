@@ -1,5 +1,5 @@
-"""The functions that compress, by the names that the compiler gives them, and which file has which.
-A crate or a module with another name needs a change here and nowhere else."""
+"""The functions that compress, by the names that the compiler gives them, and which file has which. A crate or a
+module with another name needs a change here and nowhere else."""
 
 from __future__ import annotations
 
@@ -24,8 +24,7 @@ STRIPES_B = ("blake2_parallel..lanes..blake2bp..compress_in_lanes", R.BLAKE2B, 4
 STRIPES_S = ("blake2_parallel..lanes..blake2sp..compress_in_lanes", R.BLAKE2S, 8)
 SCRUB_STACK = "blake2_digest..wiping..scrub_stack.."
 SETTLE = "blake2_digest..wiping..settle.."
-# What `_final` and `_verify` call, by the family: the first zeroes the state, and the answer of the
-# second is public.
+# What `_final` and `_verify` call, by the family: the first zeroes the state, and the answer of the second is public.
 FINALIZE = "blake2_ffi..%s..finalize"
 IS_DIGEST_OF = "blake2_ffi..%s..is_digest_of"
 MEMCMP = "vulfsjor_ffi_memcmp"

@@ -30,8 +30,8 @@ def image() -> T.Term:
 class Region:
     """Memory from `low` to `high`, counted from its base, which is a term, or None for 0.
 
-    `initial` returns the byte at an offset at the start. The base is the second number of
-    `alignment` modulo the first. `writable` is the part that may be written."""
+    `initial` returns the byte at an offset at the start. The base is the second number of `alignment` modulo the
+    first. `writable` is the part that may be written."""
 
     def __init__(self, low: int, high: int, initial: Callable, writable: Any = None,
                  alignment: tuple = (1, 0)) -> None:
@@ -40,8 +40,8 @@ class Region:
 
 
 class Values:
-    """The registers and the memory of a machine, and what is known of their values. A subclass says
-    what that is. x86.py, arm.py and wasm.py execute instructions over them."""
+    """The registers and the memory of a machine, and what is known of their values. A subclass says what that is.
+    x86.py, arm.py and wasm.py execute instructions over them."""
 
     general: list
     vector: list
@@ -148,8 +148,8 @@ class Words(Values):
         return other
 
     def shrink_from(self, before: int) -> None:
-        """If the stack has shrunk since its lowest place was this, bytes below it are lost: a signal
-        may overwrite them. Only bytes of the stack may be below its pointer."""
+        """If the stack has shrunk since its lowest place was this, bytes below it are lost: a signal may overwrite
+        them. Only bytes of the stack may be below its pointer."""
         now = self.lowest()
         if now == before:
             return
@@ -305,8 +305,8 @@ class Aligned(CannotShow):
 
 
 class Followed(Values):
-    """What the values of whole calls have in common. `alignment` is that of the stack: a power of
-    two, and the stack pointer modulo that."""
+    """What the values of whole calls have in common. `alignment` is that of the stack: a power of two, and the stack
+    pointer modulo that."""
 
     def __init__(self, regions: dict, processor: Any, alignment: tuple) -> None:
         super().__init__(regions, processor)
@@ -402,8 +402,7 @@ class Processor:
         raise NotImplementedError
 
     def follow(self, i: Any) -> Any:
-        """Executes an instruction other than a call. Returns the address of the next one, or None after
-        a return."""
+        """Executes an instruction other than a call. Returns the address of the next one, or None after a return."""
         if i.is_return:
             return None
         if i.is_jump:
@@ -443,8 +442,7 @@ class Processor:
             raise IsWrong("the stack pointer is not a multiple of 16 at a call")
 
     def check_return(self, entry: tuple) -> None:
-        """Refuses a return with another address, stack pointer or register of the caller than at
-        the entry."""
+        """Refuses a return with another address, stack pointer or register of the caller than at the entry."""
         parts = "return address", "stack pointer", "registers"
         for what, found, wanted in zip(parts, self.at_entry(), entry):
             if found != wanted:

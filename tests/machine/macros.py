@@ -1,5 +1,5 @@
-"""The texts of dist/ are for every object format, by macros of the assembler. Here one is written as
-the assembler reads it for ELF, without macros: tests/object_formats.py compares both."""
+"""The texts of dist/ are for every object format, by macros of the assembler. Here one is written as the assembler
+reads it for ELF, without macros: tests/object_formats.py compares both."""
 
 import functools
 import os
@@ -10,13 +10,12 @@ ROOT = os.path.dirname(os.path.dirname(os.path.dirname(os.path.abspath(__file__)
 
 @functools.lru_cache(maxsize=None)
 def macros(kind: str) -> tuple[dict[str, tuple[list[str], list[str]]], list[str]]:
-    """The parameters and the lines of each macro of a processor's texts, by its name, and the lines
-    that are outside of all macros."""
+    """The parameters and the lines of each macro of a processor's texts, by its name, and the lines that are outside
+    of all macros."""
     with open(os.path.join(ROOT, "dist", kind, "elf.inc")) as f:
         text = f.read()
     macro = re.compile(r"^\.macro (\w+) ?(.*)\n((?:.*\n)*?)\.endm\n", re.M)
-    found = {name: (parameters.split(", "), body.splitlines())
-             for name, parameters, body in macro.findall(text)}
+    found = {name: (parameters.split(", "), body.splitlines()) for name, parameters, body in macro.findall(text)}
     return found, macro.sub("", text).splitlines()
 
 

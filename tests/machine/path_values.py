@@ -13,8 +13,8 @@ KINDS = {kind.name: kind for kind in (R.BLAKE2B, R.BLAKE2S)}
 
 
 class Example(T.Numbers):
-    """The numbers that a model has, random ones for other inputs, and what follows from these. A
-    variable that a path has made has no number, except undefined bytes of the stack."""
+    """The numbers that a model has, random ones for other inputs, and what follows from these. A variable that a path
+    has made has no number, except undefined bytes of the stack."""
 
     def __init__(self, seed: int, names: dict, results: dict) -> None:
         super().__init__(seed, tuple(names.items()))
@@ -67,8 +67,7 @@ class Example(T.Numbers):
 
     @staticmethod
     def words(kind: R.Kind, data: list) -> list:
-        return [int.from_bytes(bytes(data[k:k + kind.bytes]), "little")
-                for k in range(0, len(data), kind.bytes)]
+        return [int.from_bytes(bytes(data[k:k + kind.bytes]), "little") for k in range(0, len(data), kind.bytes)]
 
     def after(self, kind: R.Kind, h: list, block: list, count: int, last: int, node: int) -> list:
         """The chaining words after a block."""

@@ -1,5 +1,5 @@
-"""Reads the code and the constants of a file: assembles and links it, and disassembles it with
-objdump; or reads a WebAssembly module."""
+"""Reads the code and the constants of a file: assembles and links it, and disassembles it with objdump; or reads a
+WebAssembly module."""
 
 from __future__ import annotations
 
@@ -100,8 +100,8 @@ class Program:
             self.read_text(data.decode(), edit)
 
     def read_module(self, data: Any, edit: Any) -> None:
-        """The functions of a module. One without names has those of the module that it was made
-        from, function by function."""
+        """The functions of a module. One without names has those of the module that it was made from, function by
+        function."""
         if self.path.endswith(".js"):
             data = module_in(data.decode())
         module = module_of(data)
@@ -131,8 +131,7 @@ class Program:
             raise CannotShow("a comment, or a symbol with a value: %s" % OTHER.split(code)[0].split("\n")[-1])
         other = {name.lower() for name in DIRECTIVE.findall(text)} - DIRECTIVES
         if other:
-            raise CannotShow("the directive .%s, which may mean something else to another "
-                             "assembler" % min(other))
+            raise CannotShow("the directive .%s, which may mean something else to another " "assembler" % min(other))
         compiler, prefix, style = TOOLS[self.kind]
         with tempfile.TemporaryDirectory() as d:
             s, o, so = (os.path.join(d, "a" + suffix) for suffix in (".s", ".o", ".so"))
@@ -161,8 +160,8 @@ class Program:
                 lines.append(line)
 
     def read_symbols(self, file: elf.Elf) -> None:
-        """The functions that other files may call, and the symbols that they define, of an object
-        file. All that a processor sees must be code or constants that nothing writes."""
+        """The functions that other files may call, and the symbols that they define, of an object file. All that a
+        processor sees must be code or constants that nothing writes."""
         for s in file.sections:
             is_kept = s.size and s.flags & elf.ALLOCATED and not self.is_mark(s)
             if s.type == elf.GROUP or not s.flags & elf.ALLOCATED and s.flags & elf.EXECUTABLE or (
@@ -185,8 +184,7 @@ class Program:
                 raise IsWrong("%s may be absent, or is no function of the C library" % symbol.name)
             if symbol.section != elf.UNDEFINED and without_version(symbol.name) in OF_C:
                 raise IsWrong("%s has the name of a function of the C library" % symbol.name)
-            if symbol.binding != elf.LOCAL and symbol.section != elf.UNDEFINED and (
-                    not symbol.is_hidden):
+            if symbol.binding != elf.LOCAL and symbol.section != elf.UNDEFINED and (not symbol.is_hidden):
                 raise IsWrong("another file may define %s too" % symbol.name)
         self.globals = sorted(without_version(s.name) for s in file.symbols
                               if s.binding != elf.LOCAL and s.section != elf.UNDEFINED)
@@ -207,8 +205,8 @@ class Program:
         return rest == "plt" and name in self.external
 
     def target(self, i: Any, external: tuple) -> str:
-        """The name without version of the function that a call or a jump goes to: to its start, or
-        to one of these functions of another file, of whose names the file itself has none."""
+        """The name without version of the function that a call or a jump goes to: to its start, or to one of these
+        functions of another file, of whose names the file itself has none."""
         shown = found(r"<(.*)>", i.text)[1]
         name = without_version(shown)
         if self.is_external(shown):
@@ -221,8 +219,8 @@ class Program:
         return name
 
     def code(self, name: str, user: str | None = None) -> list:
-        """The instructions of a function. `user` is that of forms.txt, for whom they are executed: each
-        must have a form of the table."""
+        """The instructions of a function. `user` is that of forms.txt, for whom they are executed: each must have a
+        form of the table."""
         if name not in self.functions:
             raise CannotShow("%s has no function %s: the compiler may have inlined it, or it has "
                              "another name now: see tests/machine/functions.py" % (self.path, name))
@@ -255,9 +253,8 @@ class Program:
         return found
 
     def content(self, name: str) -> Any:
-        """All that executing a function depends on: the text of its instructions, their places
-        from its start on, and constants instead of their addresses. None if it has an address of
-        constants that is not only read from."""
+        """All that executing a function depends on: the text of its instructions, their places from its start on, and
+        constants instead of their addresses. None if it has an address of constants that is not only read from."""
         if self.kind == "wasm":
             return None
         start, found = self.extent(name)[0], []
@@ -291,8 +288,7 @@ class Program:
             raise CannotShow("%s has %d symbols %s instead of one" % (self.path, len(found), name))
         start, section, size, symbol = found[0]
         if symbol not in self.callable:
-            raise IsWrong("the symbol %s is not that of a function, which only this file defines"
-                          % symbol)
+            raise IsWrong("the symbol %s is not that of a function, which only this file defines" % symbol)
         inside = [s[3] for s in self.symbols if s[1] == section and start <= s[0] < start + size]
         # The symbol of the section itself may have the same address.
         others = [n for n in inside if n not in (found[0][3], section)]
@@ -301,10 +297,9 @@ class Program:
         return start, start + size
 
     def check_relocation(self, i: Any, line: str) -> None:
-        """Refuses a number that the linker fills in, except the address of a constant of the file,
-        and of the function that a call or a jump goes to."""
-        at, kind, symbol, plus = found(
-            r"([0-9a-f]+): (R_\w+)\t(.*?)([+-]0x[0-9a-f]+)?$", line).groups()
+        """Refuses a number that the linker fills in, except the address of a constant of the file, and of the
+        function that a call or a jump goes to."""
+        at, kind, symbol, plus = found(r"([0-9a-f]+): (R_\w+)\t(.*?)([+-]0x[0-9a-f]+)?$", line).groups()
         symbols = [s for s in self.symbols if s[3] == symbol]
         if i.name in ("call", "bl", "b") or i.name.startswith("j"):
             is_right = kind in OF_CALLS
@@ -316,8 +311,7 @@ class Program:
             is_right = place is not None and int(place[1], 16) == (
                 symbols[0][0] + int(plus or "0", 0) + i.next - int(at, 16))
         if not is_right:
-            raise CannotShow("the linker fills in a number of %s: %s of %s" % (
-                i.text, kind, symbol))
+            raise CannotShow("the linker fills in a number of %s: %s of %s" % (i.text, kind, symbol))
 
     def texts(self, name: str) -> list:
         """The instructions of a function, as text without comments."""
@@ -357,8 +351,7 @@ def constants(file: Any) -> Any:
             start, found = s.address, list(s.data)
     for s in file.sections:
         for entry in range(0, s.size, 24) if s.type == elf.RELOCATIONS else ():
-            place, info = (int.from_bytes(s.data[entry + k:entry + k + 8], "little")
-                           for k in (0, 8))
+            place, info = (int.from_bytes(s.data[entry + k:entry + k + 8], "little") for k in (0, 8))
             end = place + (4 if info & 0xffffffff in OF_FOUR_BYTES else 8)
             for k in range(max(place - start, 0), min(end - start, len(found))):
                 found[k] = None

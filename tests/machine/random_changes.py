@@ -1,6 +1,6 @@
 """Changes of the code that are made by chance or by a rule, each of which must be refused. Of a function that
-compresses, an instruction gets another operation, another number, or the operands of another instruction of the
-same form, or is left out. And each exported function branches, at its start, on a byte of each secret argument."""
+compresses, an instruction gets another operation, another number, or the operands of another instruction of the same
+form, or is left out. And each exported function branches, at its start, on a byte of each secret argument."""
 
 from __future__ import annotations
 
@@ -31,7 +31,8 @@ OTHER = {"paddq": "pxor", "paddd": "pxor", "pxor": "paddq", "psrlq": "psllq", "p
 # Changes that change nothing, as (path, function, seed): both registers have the same number.
 NEUTRAL: set = set()
 NUMBER = re.compile(r"#?0x[0-9a-f]+$|#?\d+$")
-BRANCH = {"x86_64": "\tcmpb $7, (%%%s)\n\tje 99999f\n99999:\n", "aarch64": "\tldrb w9, [%s]\n\tcbz w9, 99999f\n99999:\n"}
+BRANCH = {"x86_64": "\tcmpb $7, (%%%s)\n\tje 99999f\n99999:\n",
+          "aarch64": "\tldrb w9, [%s]\n\tcbz w9, 99999f\n99999:\n"}
 REGISTERS = {"x86_64": "rdi rsi rdx rcx r8 r9".split(), "aarch64": ["x%d" % k for k in range(6)]}
 # The arguments whose first byte is secret; each buffer has its length in the next register.
 SECRET = (constant_time.STATE, constant_time.NODE, constant_time.OUT, constant_time.BYTES, constant_time.KEY)
@@ -150,8 +151,8 @@ def place_of(kinds: tuple, k: int) -> Any:
 
 
 def check_branches(path: str, k: int) -> tuple:
-    """Whether a branch on argument k is refused in each exported function where it is secret: in taint tracking,
-    and, if it is a state, in whole calls."""
+    """Whether a branch on argument k is refused in each exported function where it is secret: in taint tracking, and,
+    if it is a state, in whole calls."""
     program = programs.Program(path, lambda text: with_branches(text, functions.architecture(path), k))
     shown, count = families.names(program), 0
     for entry in constant_time.exports(program):

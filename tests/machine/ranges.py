@@ -41,8 +41,8 @@ def gcd(a: int, b: int) -> int:
 
 
 def aligned(low: int, high: int, start: int, step: int) -> tuple:
-    """The least range that has all numbers between two that are a start plus multiples of a step,
-    which is 0 if the start is the only one."""
+    """The least range that has all numbers between two that are a start plus multiples of a step, which is 0 if the
+    start is the only one."""
     if step < 2:
         return low, high, step
     return low + (start - low) % step, high - (high - start) % step, step
@@ -67,9 +67,9 @@ def extended(t: T.Term) -> T.Term | None:
 
 
 class Ranges:
-    """The part of an abstract machine that has the ranges (low, high, step) of variables that have
-    a smaller one than their width. Sums of variables without a constant have ranges too; in
-    `residues`, modulo the width. `regions` has the bases of memory, which have no range."""
+    """The part of an abstract machine that has the ranges (low, high, step) of variables that have a smaller one than
+    their width. Sums of variables without a constant have ranges too; in `residues`, modulo the width. `regions` has
+    the bases of memory, which have no range."""
 
     ranges: dict
     residues: dict
@@ -100,8 +100,7 @@ class Ranges:
         if t.op in ("var", "add"):
             constant, sign, rest = parts(t)
             low, high, step = self.range_of_rest(rest)
-            return (constant + low, constant + high, step) if sign > 0 else (
-                constant - high, constant - low, step)
+            return (constant + low, constant + high, step) if sign > 0 else (constant - high, constant - low, step)
         bs = T.split(t)
         while bs and bs[-1] == 0:
             bs.pop()
@@ -146,8 +145,8 @@ class Ranges:
         return 0, (1 << t.w) - 1
 
     def limit(self, t: T.Term, low: int, high: int, step: int = 1) -> bool:
-        """Learns that a term is between two numbers, and one of low, low + step and so on, where
-        the step is a power of two. Returns whether that may be."""
+        """Learns that a term is between two numbers, and one of low, low + step and so on, where the step is a power
+        of two. Returns whether that may be."""
         inner = extended(t)
         if inner and -1 << t.w - 1 <= low and high < 1 << t.w:
             low, high = low + step * max(0, -(low // step)), min(high, (1 << inner.w) - 1)
@@ -187,8 +186,7 @@ class Ranges:
             k, (a, b, step) = signed(t.w, k), self.range_of(x)
             if x.op not in ("var", "slice") or abs(k) != 1 or x in self.regions:
                 continue
-            p, q = (low - last + b, high - first + a) if k == 1 else (
-                first - high + b, last - low + a)
+            p, q = (low - last + b, high - first + a) if k == 1 else (first - high + b, last - low + a)
             if max(a, p) > min(b, q):
                 return False
             if x.op == "slice":
@@ -212,8 +210,7 @@ class Ranges:
             if a is b or p == q == r == s:
                 return False
             for t, (low, high), (u, v) in ((a, (p, q), (r, s)), (b, (r, s), (p, q))):
-                if u == v and u in (low, high) and not self.limit(
-                        t, low + (u == low), high - (u == high)):
+                if u == v and u in (low, high) and not self.limit(t, low + (u == low), high - (u == high)):
                     return False
             return self.differ(a, b)
         strict = relation == "<"
@@ -223,8 +220,8 @@ class Ranges:
         return may and self.limit(T.add(a.w, (1, b), (-1, a)), strict + 0, s - p)
 
     def differ(self, a: T.Term, b: T.Term) -> bool:
-        """Learns that two words are not the same, if one end of the range of their difference would
-        be 0. Returns whether that may be."""
+        """Learns that two words are not the same, if one end of the range of their difference would be 0. Returns
+        whether that may be."""
         difference = T.add(a.w, (1, b), (-1, a))
         low, high, step = self.range_of(difference)
         if high - low >= 1 << a.w:
@@ -240,6 +237,5 @@ class Ranges:
         if new == old or visits <= VISITS:
             return new
         low = new[0] if new[0] >= old[0] else 0 if new[0] >= 0 else -TOP
-        top = next((n for n in (self.block, self.longest) if new[1] <= n),
-                   TOP if low else (1 << w) - 1)
+        top = next((n for n in (self.block, self.longest) if new[1] <= n), TOP if low else (1 << w) - 1)
         return aligned(low, top if new[1] > old[1] else new[1], new[0], new[2])

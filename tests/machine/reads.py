@@ -1,5 +1,5 @@
-"""The loop that reads the output of BLAKE2X, by induction over its iterations: each writes the next bytes
-of the output behind those that were written before, and moves the position by as many."""
+"""The loop that reads the output of BLAKE2X, by induction over its iterations: each writes the next bytes of the
+output behind those that were written before, and moves the position by as many."""
 
 from __future__ import annotations
 
@@ -15,8 +15,8 @@ WORD = 8
 
 
 def cycle(code: dict, head: int) -> frozenset:
-    """The addresses of a function's code that are reached from the head of a loop, and from which it is
-    reached again."""
+    """The addresses of a function's code that are reached from the head of a loop, and from which it is reached
+    again."""
     after: dict = {}
     before: dict = {}
     for i in code.values():
@@ -136,8 +136,7 @@ class Reads:
         """The words that grow, at this position."""
         state: dict = {}
         for group, (a, sign) in self.signs.items():
-            state.update(zip(group, T.split(T.add(
-                64, (1, a), (sign, position), (-sign, self.first)))))
+            state.update(zip(group, T.split(T.add(64, (1, a), (sign, position), (-sign, self.first)))))
         return state
 
     def machine(self, position: T.Term) -> Any:
@@ -180,10 +179,9 @@ class Reads:
         return found
 
 
-def need_output(m: Any, need: Callable, blocks: Callable, size: int, first: T.Term,
-                length: T.Term) -> None:
-    """Refuses an output of which not so many bytes are written: those of the blocks, from the first
-    position on. `size` is that of a block, and need(text, found, wanted) refuses other bytes."""
+def need_output(m: Any, need: Callable, blocks: Callable, size: int, first: T.Term, length: T.Term) -> None:
+    """Refuses an output of which not so many bytes are written: those of the blocks, from the first position on.
+    `size` is that of a block, and need(text, found, wanted) refuses other bytes."""
     waiting, end = list(m.pieces), T.const(64, 0)
     if any(base in m.regions and isinstance(m.regions[base], Buffer) for base, _ in m.memory):
         raise CannotShow("an output is written at a number of bytes from its start")

@@ -48,10 +48,9 @@ BLAKE2B = Kind("blake2b", 64, 12, (32, 24, 16, 63))
 BLAKE2S = Kind("blake2s", 32, 10, (16, 12, 8, 7))
 
 
-def F(kind: Kind, h: list, m: list, low: T.Term, high: T.Term, last: T.Term,
-      last_node: T.Term) -> list:
-    """The chaining words after a block. `low` and `high` are the words of the counter, and the
-    flags are words of zeros or ones; the second is that of the last node (BLAKE2, 2.10)."""
+def F(kind: Kind, h: list, m: list, low: T.Term, high: T.Term, last: T.Term, last_node: T.Term) -> list:
+    """The chaining words after a block. `low` and `high` are the words of the counter, and the flags are words of
+    zeros or ones; the second is that of the last node (BLAKE2, 2.10)."""
     w = kind.w
     v = list(h) + [T.const(w, n) for n in kind.iv]
     v[12] = T.xor(w, v[12], low)

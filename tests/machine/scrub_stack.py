@@ -1,5 +1,5 @@
-"""Shows that scrub_stack overwrites its N bytes of the stack with zeros, and does nothing else, on
-x86-64 and ARM: by whole_calls.py, over a stack of secrets."""
+"""Shows that scrub_stack overwrites its N bytes of the stack with zeros, and does nothing else, on x86-64 and ARM: by
+whole_calls.py, over a stack of secrets."""
 
 from __future__ import annotations
 

@@ -68,8 +68,8 @@ def any_of(a: T.Byte, b: T.Byte) -> T.Byte:
 
 
 class Buffer:
-    """Memory of a caller whose length is a term. The byte at an offset is a variable that is named
-    by the buffer and the offset."""
+    """Memory of a caller whose length is a term. The byte at an offset is a variable that is named by the buffer and
+    the offset."""
 
     def __init__(self, name: str, length: T.Term, taint: int, writable: bool = False) -> None:
         self.name, self.length, self.taint, self.writable = name, length, taint, writable
@@ -82,8 +82,8 @@ class Buffer:
 
 
 class Piece(NamedTuple):
-    """What was written to a buffer at an offset, a term: some bytes, from a place among them on, or one
-    byte over and over, up to a length. None are what the iterations of a loop have written before."""
+    """What was written to a buffer at an offset, a term: some bytes, from a place among them on, or one byte over and
+    over, up to a length. None are what the iterations of a loop have written before."""
 
     base: T.Term
     offset: T.Term
@@ -163,8 +163,7 @@ class Exact(Followed):
 
     def may_be_left(self, j: int, k: int, b: T.Byte) -> bool:
         """Whether a byte of a vector register is zero, as at the entry, or left by the C library."""
-        return b in (0, self.at_start["vector"][j][k]) or isinstance(b, tuple) and str(
-            b[0].args).startswith("after~")
+        return b in (0, self.at_start["vector"][j][k]) or isinstance(b, tuple) and str(b[0].args).startswith("after~")
 
     def is_left(self, j: int, start: int) -> bool:
         """Whether each is, from one on."""
@@ -208,8 +207,8 @@ class Exact(Followed):
         self.memory = {at: byte(b) for at, b in self.memory.items()}
 
     def is_as_at(self, entry: tuple, found: tuple, first: int) -> bool:
-        """Whether the return address, the stack pointer and the registers of the caller are those
-        of the entry, from the first of these on."""
+        """Whether the return address, the stack pointer and the registers of the caller are those of the entry, from
+        the first of these on."""
         byte = self.settler()
         saved = [[byte(b) for b in r] for r in entry[2]]
         return (first > 0 or found[0] is self.settled(entry[0])) and found[1] is entry[1] and (
@@ -459,8 +458,7 @@ class Exact(Followed):
             raise CannotShow("no memory is known at %r" % address)
         self.counts["addresses"] += 1
         offset = T.add(address.w, (1, address), (-1, bases[0]))
-        if bases[0] is self.stack and base_of(offset) is not None and (
-                base_of(offset) < self.lowest()):
+        if bases[0] is self.stack and base_of(offset) is not None and (base_of(offset) < self.lowest()):
             raise IsWrong("%r is below the stack" % address)
         return bases[0], offset, self.regions[bases[0]]
 
@@ -483,8 +481,7 @@ class Exact(Followed):
             return
         self.put(base, offsets(offset, len(data)), self.cleaned(data, False))
 
-    def add_piece(self, base: T.Term, offset: T.Term, region: Any, data: Any, length: T.Term,
-                  start: Any = 0) -> None:
+    def add_piece(self, base: T.Term, offset: T.Term, region: Any, data: Any, length: T.Term, start: Any = 0) -> None:
         """Writes bytes of some, or one byte over and over, at an offset that is a term."""
         if not isinstance(region, Buffer):
             raise CannotShow("it writes at an offset that is not a number: %r" % offset)
@@ -497,8 +494,8 @@ class Exact(Followed):
     # Functions of the C library.
 
     def check_disjoint(self, what: str, to: T.Term, size: int, source: T.Term, length: int) -> None:
-        """Refuses a function that may write to bytes that it reads, of two places with at most so
-        many bytes. Arguments do not overlap."""
+        """Refuses a function that may write to bytes that it reads, of two places with at most so many bytes.
+        Arguments do not overlap."""
         (base, at, _), (other, start, _) = self.region_of(to), self.region_of(source)
         apart = T.add(64, (1, at), (-1, start))
         if base is other and size and length:
@@ -588,8 +585,7 @@ class Exact(Followed):
         return self.path_facts.range(length)[1]
 
     def check_inside(self, region: Any, offset: T.Term, length: T.Term, address: T.Term) -> None:
-        self.need_inside("%r bytes at %r may not all be in its memory" % (length, address), region,
-                         offset, length)
+        self.need_inside("%r bytes at %r may not all be in its memory" % (length, address), region, offset, length)
 
 
 def base_of(offset: T.Term) -> Any:
@@ -636,7 +632,6 @@ def members_of(b: T.Byte) -> frozenset:
     """Bytes that all are zero if and only if this one is."""
     if b == 0:
         return frozenset()
-    if isinstance(b, tuple) and b[0].op == "var" and isinstance(b[0].args, tuple) and (
-            b[0].args[0] == "any"):
+    if isinstance(b, tuple) and b[0].op == "var" and isinstance(b[0].args, tuple) and (b[0].args[0] == "any"):
         return b[0].args[1]
     return frozenset([b])

@@ -42,17 +42,16 @@ def secret_bit() -> T.Byte:
 
 
 def has_name(b: Any) -> Any:
-    """Whether a secret byte keeps its name: a bit, and what a register has at the entry, which the
-    call must restore."""
+    """Whether a secret byte keeps its name: a bit, and what a register has at the entry, which the call must
+    restore."""
     return b == secret_bit() or b[0].op == "var" and b[0].taint == T.JUNK
 
 
 class Memory:
-    """Memory from `low` to `high`. `initial` returns the byte at an offset. If it is uniform,
-    offsets don't matter, and what is written to it is secret already."""
+    """Memory from `low` to `high`. `initial` returns the byte at an offset. If it is uniform, offsets don't matter,
+    and what is written to it is secret already."""
 
-    def __init__(self, low: int, high: int, initial: Callable, writable: bool = True,
-                 uniform: bool = False) -> None:
+    def __init__(self, low: int, high: int, initial: Callable, writable: bool = True, uniform: bool = False) -> None:
         self.low, self.high, self.initial = low, high, initial
         self.writable, self.uniform = writable, uniform
         self.table: Any = None         # of a table of messages: what returns an entry's bytes
@@ -124,8 +123,8 @@ class Taint(Ranges, Followed):
         return [unknown()] * n
 
     def cleaned(self, data: list, is_word: bool) -> list:
-        """Bytes as they are kept: what depends on a secret is only secret. A word of which a byte
-        is not known is a new variable."""
+        """Bytes as they are kept: what depends on a secret is only secret. A word of which a byte is not known is a
+        new variable."""
         data = [secret() if is_secret(b) and not has_name(b) else b for b in data]
         if not is_word or unknown() not in data:
             return data
@@ -141,8 +140,7 @@ class Taint(Ranges, Followed):
     # Flags.
 
     def computed(self, kind: str, f: Callable, x: list, y: list) -> list:
-        """The bytes of a result of two words, and the flags from it. f returns a term, the range
-        of one, or None."""
+        """The bytes of a result of two words, and the flags from it. f returns a term, the range of one, or None."""
         a, b = T.word(x), T.word(y)
         if (a.taint | b.taint) & ~T.PUBLIC:
             self.flags = ("secret",)
@@ -163,8 +161,8 @@ class Taint(Ranges, Followed):
             self.flags = None if old is None else ("ccmp",) + self.flags[1:]
 
     def learn(self, relation: str, a: T.Term, b: T.Term, holds: bool) -> bool:
-        """Learns that a comparison holds or does not, and what made a byte that is now known to be
-        0 or not. Returns whether that may be."""
+        """Learns that a comparison holds or does not, and what made a byte that is now known to be 0 or not. Returns
+        whether that may be."""
         if not self.assume(relation if holds else OPPOSITE[relation], a, b):
             return False
         low, high = self.unsigned(a)
@@ -172,8 +170,8 @@ class Taint(Ranges, Followed):
         return all(self.learn(*other) for other in known)
 
     def supposing(self, compared: Any, holds: bool) -> Any:
-        """This machine with what a comparison says of the ranges if it holds or does not, or None
-        if that may not be."""
+        """This machine with what a comparison says of the ranges if it holds or does not, or None if that may not
+        be."""
         m = copy.copy(self)
         m.ranges, m.residues = dict(self.ranges), dict(self.residues)
         relation, a, b = compared
@@ -207,8 +205,8 @@ class Taint(Ranges, Followed):
         return data
 
     def relate(self, one: Any, other: Any, visits: int, *words: T.Term) -> None:
-        """Learns the range of a word that is another in each of two machines. After some visits,
-        only one that does not grow."""
+        """Learns the range of a word that is another in each of two machines. After some visits, only one that does
+        not grow."""
         old, new = (m.range_of(t) for m, t in zip((one, other), words[1:]))
         low, high, step = merged_ranges(old, new)
         if visits <= VISITS or (low, high) == old[:2]:
@@ -253,8 +251,7 @@ class Taint(Ranges, Followed):
         return r
 
     def masked(self, a: T.Term, b: T.Term) -> Any:
-        """An and. One that clears the lowest bits only subtracts them. If it is not 0, neither of
-        both is 0."""
+        """An and. One that clears the lowest bits only subtracts them. If it is not 0, neither of both is 0."""
         if a.op == b.op == "const":
             return T.const(a.w, a.args & b.args)
         for t, u in ((a, b), (b, a)):
@@ -405,8 +402,8 @@ class Taint(Ranges, Followed):
     # Paths that meet.
 
     def join(self, other: Any, place: str, visits: int, is_loop: bool = False) -> bool:
-        """Adds another path to this state. Returns whether anything changed. At the head of a loop,
-        it learns how words differ that the loop changes."""
+        """Adds another path to this state. Returns whether anything changed. At the head of a loop, it learns how
+        words differ that the loop changes."""
         old = self.copy()
         self.where = place
         self.join_ranges(other)
@@ -420,8 +417,7 @@ class Taint(Ranges, Followed):
                     getattr(self, name)[at] = data
                     words.append((data, a, b))
         for base, k in self.different(other):
-            a, b = ([m.byte(base, k + j, self.regions[base]) for j in range(8)]
-                    for m in (old, other))
+            a, b = ([m.byte(base, k + j, self.regions[base]) for j in range(8)] for m in (old, other))
             data = self.joined(old, other, a, b, "%s%d" % (base.args, k), visits)
             self.memory.update({(base, k + j): byte for j, byte in enumerate(data)})
         self.relate_all(old, other, visits, [
@@ -433,8 +429,8 @@ class Taint(Ranges, Followed):
                    for name in tuple(self.processor.FILES) + self.KNOWN + ("facts", "flags"))
 
     def relate_all(self, old: Any, other: Any, visits: int, words: list) -> None:
-        """Learns how words that differ on two paths, given as they are after these and on each,
-        differ from each other and from words that were compared."""
+        """Learns how words that differ on two paths, given as they are after these and on each, differ from each
+        other and from words that were compared."""
         new = {x for t, _, _ in words for x in T.linear(t)[1] if x not in self.regions}
         bounds = [t for t in self.bounds if not new & set(T.linear(t)[1])]
         for k, three in enumerate(words):
@@ -442,8 +438,7 @@ class Taint(Ranges, Followed):
                 self.relate(old, other, visits, *(T.add(64, (1, u), (-1, t)) for u in three))
             for sign in (1, -1):
                 for pair in words[:k]:
-                    self.relate(old, other, visits, *(
-                        T.add(64, (1, u), (sign, v)) for u, v in zip(three, pair)))
+                    self.relate(old, other, visits, *(T.add(64, (1, u), (sign, v)) for u, v in zip(three, pair)))
 
     def without_base(self, *words: T.Term) -> tuple:
         """Words without the base of memory that all of them have, if there is one."""
@@ -522,10 +517,8 @@ class Taint(Ranges, Followed):
         return self.renew(T.var(8, "%s%s" % (self.where, name), T.PUBLIC), (0, 1, 1)), 0
 
     def common(self, t: T.Term, u: T.Term) -> T.Term:
-        """The base that two words have in common, or 0. Bases of memory that is only read become
-        a base of both."""
-        found = [[v for v, k in T.linear(s)[1].items() if v in self.regions and k == 1]
-                 for s in (t, u)]
+        """The base that two words have in common, or 0. Bases of memory that is only read become a base of both."""
+        found = [[v for v, k in T.linear(s)[1].items() if v in self.regions and k == 1] for s in (t, u)]
         if any(len(f) != 1 for f in found):
             return T.const(t.w, 0)
         (x,), (y,) = found
@@ -533,8 +526,7 @@ class Taint(Ranges, Followed):
             if any(self.regions[v].writable for v in (x, y)):
                 return T.const(t.w, 0)
             names = sorted(set(("%s|%s" % (x.args, y.args)).split("|")))
-            b = joined_byte(*[self.regions[v].initial(0) if self.regions[v].uniform else unknown()
-                              for v in (x, y)])
+            b = joined_byte(*[self.regions[v].initial(0) if self.regions[v].uniform else unknown() for v in (x, y)])
             x = T.var(t.w, "|".join(names), T.PUBLIC)
             self.regions[x] = Memory(0, 0, lambda k: b, False, True)
         return x

@@ -69,8 +69,7 @@ _words: dict = {}                            # what word() has returned
 
 
 def _too_wide(args: Any) -> bool:
-    return isinstance(args, tuple) and len(args) == 2 and isinstance(args[1], tuple) and (
-        len(args[1]) > WIDEST)
+    return isinstance(args, tuple) and len(args) == 2 and isinstance(args[1], tuple) and (len(args[1]) > WIDEST)
 
 
 def _term(op: str, w: int, args: Any, taint: int) -> Term:
@@ -244,7 +243,8 @@ def xor(w: int, *terms: Any) -> Term:
     members |= {ite(w, n, m, 0) for n, m in marks.items()}
     if constant == 0 and len(members) == 1:
         return members.pop()
-    return _term("xor", w, (constant, tuple(sorted(members, key=lambda u: u.serial))), taint_of([u.taint for u in members]))
+    found = sorted(members, key=lambda u: u.serial)
+    return _term("xor", w, (constant, tuple(found)), taint_of([u.taint for u in found]))
 
 
 def _xor_all(numbers: Iterable | tuple) -> int:
@@ -400,8 +400,7 @@ def _word(bs: tuple) -> Term:
     names.discard(None)
     if len(names) > 1 or not all(isinstance(name, str) for name in names):
         return _term("cat", 8 * n, bs, taint_of([b[0].taint for b in bs if isinstance(b, tuple)]))
-    number = lambda k: int.from_bytes(
-        bytes(b if isinstance(b, int) else b[0].args[k] for b in bs), "little")
+    number = lambda k: int.from_bytes(bytes(b if isinstance(b, int) else b[0].args[k] for b in bs), "little")
     return ite(8 * n, names.pop(), number(1), number(2)) if names else const(8 * n, number(0))
 
 
@@ -433,8 +432,8 @@ def test(op: str, w: int, t: Term) -> Term:
 
 
 def value(t: Term, numbers: Any, memo: dict) -> int:
-    """The number that a term has, by the definitions of its operators, where `numbers` has those
-    of the variables and whether each flag is on."""
+    """The number that a term has, by the definitions of its operators, where `numbers` has those of the variables and
+    whether each flag is on."""
     if t in memo:
         return memo[t]
     mask = (1 << t.w) - 1
@@ -459,8 +458,7 @@ def value(t: Term, numbers: Any, memo: dict) -> int:
     elif t.op in ("zero", "nonzero"):
         n = int((of(a[0]) == 0) == (t.op == "zero"))
     else:
-        n = sum((b if isinstance(b, int) else of(b[0]) >> 8 * b[1] & 255) << 8 * k
-                for k, b in enumerate(a))
+        n = sum((b if isinstance(b, int) else of(b[0]) >> 8 * b[1] & 255) << 8 * k for k, b in enumerate(a))
     memo[t] = n
     return n
 

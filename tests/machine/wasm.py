@@ -1,5 +1,5 @@
-"""A model of the WebAssembly instructions that the compression functions use. Any other is an error. Most are a line of
-pure_instructions()."""
+"""A model of the WebAssembly instructions that the compression functions use. Any other is an error. Most are a line
+of pure_instructions()."""
 
 from __future__ import annotations
 
@@ -27,8 +27,8 @@ class Instruction:
 
 
 def parse(lines: list) -> list:
-    """The instructions of a function. A branch to a loop goes to the instruction after `loop`, and one to a block goes to
-    its `end`."""
+    """The instructions of a function. A branch to a loop goes to the instruction after `loop`, and one to a block
+    goes to its `end`."""
     found = [Instruction(k, line) for k, line in enumerate(lines)]
     opened: list = []
     waiting: dict = {}                 # the block -> the branches to its end
@@ -79,8 +79,8 @@ def replace_lane(n: int) -> Callable:
 
 
 def pure_instructions() -> dict:
-    """The instructions that only change the stack of operands: how many of these each takes, and what it makes of their
-    bytes, and of the numbers that are part of it."""
+    """The instructions that only change the stack of operands: how many of these each takes, and what it makes of
+    their bytes, and of the numbers that are part of it."""
     found: dict = {
         "i32.const": (0, lambda n: T.split(T.const(32, n))), "i64.const": (0, lambda n: T.split(T.const(64, n))),
         "v128.const": (0, lambda *data: list(data)), "i32.wrap_i64": (1, lambda a: a[:4]),

@@ -1,6 +1,6 @@
-"""Shows that whole calls write and return what call_specification.py and xof_specification.py say, for
-all inputs, and nothing else. F is a function of which nothing is known here, because compression.py
-shows what it computes. docs/MACHINE.md says what is shown."""
+"""Shows that whole calls write and return what call_specification.py and xof_specification.py say, for all inputs,
+and nothing else. F is a function of which nothing is known here, because compression.py shows what it computes.
+docs/MACHINE.md says what is shown."""
 
 from __future__ import annotations
 
@@ -49,8 +49,7 @@ class Terms:
         return below(self.machine, j, self.word(n), x, y)
 
     def plus(self, a: T.Byte | T.Term, b: T.Byte | T.Term) -> Any:
-        return a + b if isinstance(a, int) and isinstance(b, int) else T.add(
-            64, (1, self.word(a)), (1, self.word(b)))
+        return a + b if isinstance(a, int) and isinstance(b, int) else T.add(64, (1, self.word(a)), (1, self.word(b)))
 
     def times(self, m: int, k: T.Term | int) -> T.Term | int:
         return m * k if isinstance(k, int) else T.add(64, (m, k))
@@ -97,8 +96,7 @@ class Terms:
             byte = any_of(byte, self.xor([p], [q])[0])
         return is_zero(T.word([byte]))
 
-    def compress(self, kind: Kind, chain: list, block: list, count: T.Term, last: int,
-                 node: int) -> list:
+    def compress(self, kind: Kind, chain: list, block: list, count: T.Term, last: int, node: int) -> list:
         return self.calls.result("F", kind, tuple(chain), tuple(block), self.word(count), last, node)
 
     def compress_all(self, kind: Kind, chain: list, data: Buffer, start: T.Term | int,
@@ -110,22 +108,21 @@ class Terms:
 
 
 class Loop:
-    """A loop that compresses one block in each iteration, by induction over its iterations. The
-    first iteration proposes which words grow by a constant and where the chaining words are. A
-    general iteration, after which j more follow, must agree."""
+    """A loop that compresses one block in each iteration, by induction over its iterations. The first iteration
+    proposes which words grow by a constant and where the chaining words are. A general iteration, after which j more
+    follow, must agree."""
 
     def __init__(self, calls: Calls, name: str, head: int, last: int, machine: Any) -> None:
         self.calls, self.name, self.head, self.last, self.start = calls, name, head, last, machine
 
     def iterate(self, machine: Any) -> tuple:
-        """The machine after an iteration, the word that is 0 if it is the last one, and the call of
-        the compression in it."""
+        """The machine after an iteration, the word that is 0 if it is the last one, and the call of the compression
+        in it."""
         calls = self.calls
         calls.compressed = []
         ends = calls.run(self.name, machine, self.head, {self.last})
         if len(ends) != 1 or len(calls.compressed) != 1:
-            raise CannotShow("an iteration has %d paths and %d compressions" % (
-                len(ends), len(calls.compressed)))
+            raise CannotShow("an iteration has %d paths and %d compressions" % (len(ends), len(calls.compressed)))
         compared = calls.cpu(ends[0]).condition(calls.code(self.name)[0][self.last])
         if compared is None or compared[0] != "!=" or compared[1].w != 64:
             raise CannotShow("the loop goes on by another condition than two words of 64 bits")
@@ -158,14 +155,12 @@ class Loop:
                 ("counter", call["counter"], T.add(64, (1, counter), (size, i))),
                 ("flags", call["flags"], [0, 0])):
             if found != wanted:
-                raise IsWrong("the %s of a block in a loop: %r instead of %r" % (
-                    what, found, wanted))
+                raise IsWrong("the %s of a block in a loop: %r instead of %r" % (what, found, wanted))
         if [call["region"].initial(T.add(64, (1, call["offset"]), (1, T.const(64, k))))
                 for k in range(size)] != call["block"]:
             raise CannotShow("a block in a loop is not that of its argument")
         before = T.add(64, (1, counter), (-1, T.const(64, size)))
-        words = Terms(self.calls, self.start).compress_all(
-            kind, one["chain"], buffer, start, self.count, before)
+        words = Terms(self.calls, self.start).compress_all(kind, one["chain"], buffer, start, self.count, before)
         end = self.machine(self.count, words)
         end.uses_stack_of([second, after])
         if second.pieces + after.pieces != 2 * end.pieces:
@@ -177,8 +172,7 @@ class Loop:
         places = {b: k for k, b in enumerate(call["result"])}
         self.grows, self.chain, self.rest = {}, {}, set()
         changed = {c for c in set(first) | set(second) if self.at(first, c) != self.at(second, c)}
-        self.chain = {c: places[self.at(second, c)] for c in changed
-                      if self.at(second, c) in places}
+        self.chain = {c: places[self.at(second, c)] for c in changed if self.at(second, c) in places}
         words = {(kind, at, k - k % 8) for kind, at, k in changed - set(self.chain)}
         for kind, at, start in words:
             group = tuple((kind, at, start + k) for k in range(8))
@@ -247,8 +241,8 @@ class Calls:
         self.forget()
 
     def measure(self, kind: Kind, are_many: bool = False) -> None:
-        """Finds how much of the stack the functions use that compress one block, or one of each of
-        several messages, before a call."""
+        """Finds how much of the stack the functions use that compress one block, or one of each of several messages,
+        before a call."""
         for name, (other, lanes) in self.listed.items():
             is_each = are_many and compression.call_of(name) is compression.EachCall
             if other is kind and (lanes == 1 or is_each):
@@ -261,12 +255,11 @@ class Calls:
     def result(self, what: str, kind: Kind, *arguments: Any) -> list:
         """The bytes of eight chaining words: the same variables for the same arguments."""
         n = self.results.setdefault((what, kind.name) + arguments, len(self.results))
-        return [b for j in range(8)
-                for b in T.split(T.var(kind.w, "%s%d.%d" % (what, n, j), T.SECRET))]
+        return [b for j in range(8) for b in T.split(T.var(kind.w, "%s%d.%d" % (what, n, j), T.SECRET))]
 
     def code(self, name: str) -> tuple:
-        """The instructions of a function by address, the first, and its loops that compress, compare or
-        read: the address of the head, with that of the jump back, or those of the loop that reads."""
+        """The instructions of a function by address, the first, and its loops that compress, compare or read: the
+        address of the head, with that of the jump back, or those of the loop that reads."""
         if name not in self.codes:
             found = self.program.code(name, "W")
             code, loops = {i.address: i for i in found}, {}
@@ -288,8 +281,8 @@ class Calls:
             not any(i.is_return or i.target is not None for i in body[:-1] if i is not found[0]))
 
     def run(self, name: str, machine: Any, start: Any = None, loop: Any = ()) -> list:
-        """The machines at all returns of a function. Or those after an iteration of a loop, from its
-        head on: at the head again or behind the loop, or at the one address of it that is given."""
+        """The machines at all returns of a function. Or those after an iteration of a loop, from its head on: at the
+        head again or behind the loop, or at the one address of it that is given."""
         code, first, loops = self.code(name)
         entry = self.cpu(machine).at_entry() if start is None else None
         waiting, ends = [(machine, first if start is None else start)], []
@@ -396,8 +389,7 @@ class Calls:
         if name in functions.SQUEEZES:
             self.position = T.add(64, (1, self.cpu(m).argument(0)), (1, T.const(64, self.place_of_position)))
         if name in self.scrubs and m.deepest < m.lowest() - self.scrubs[name]:
-            raise IsWrong("scrub_stack overwrites %d bytes, and the call has used more"
-                          % self.scrubs[name])
+            raise IsWrong("scrub_stack overwrites %d bytes, and the call has used more" % self.scrubs[name])
         ends = self.run(name, m)
         if name in self.answering:
             return [other for end in ends for other in self.public_answers(end)]
@@ -409,8 +401,8 @@ class Calls:
         return ends
 
     def compared(self, m: Any, i: Any, code: dict) -> list:
-        """Both ways of the branch by which a comparison returns: where all it has collected is zero, and
-        where not."""
+        """Both ways of the branch by which a comparison returns: where all it has collected is zero, and where
+        not."""
         if i.name not in ("je", "b.eq") or m.compared_bytes or not all(
                 self.cpu.only_returns(code, pc) for pc in (i.target, i.next)):
             raise IsWrong("a branch depends on secret data")

@@ -286,7 +286,8 @@ MOVED: dict = {
         shuffle_four(8)(part, imm) for part in chunks(a, 32))),
     "pshuflw": (1, by_halves(lambda a, imm: shuffle_four(2)(a[:8], imm) + a[8:])),
     "pshufhw": (1, by_halves(lambda a, imm: a[:8] + shuffle_four(2)(a[8:], imm))),
-    "pshufb": (2, by_halves(shuffle_bytes)), "palignr": (2, by_halves(lambda a, b, imm: (b + a + [0] * 32)[imm:imm + 16])),
+    "pshufb": (2, by_halves(shuffle_bytes)),
+    "palignr": (2, by_halves(lambda a, b, imm: (b + a + [0] * 32)[imm:imm + 16])),
     "psrldq": (1, by_halves(lambda a, imm: (a + [0] * 16)[min(imm, 16):][:16])),
     "punpcklqdq": (2, pick(8, 0, 2)), "punpckhqdq": (2, pick(8, 1, 3)),
     "punpckldq": (2, pick(4, 0, 4, 1, 5)), "punpckhdq": (2, pick(4, 2, 6, 3, 7)),
@@ -302,7 +303,8 @@ MOVED: dict = {
     **{"pbroadcast" + c: (1, lambda a, n=n: a[:n] * (WIDTH // n)) for c, n in zip("bwdq", (1, 2, 4, 8))},
     **{"pmovzx" + c: (1, extended(n)) for c, n in (("bw", 1), ("wd", 2), ("dq", 4))},
     **{"inserti" + c: (2, insert(None)) for c in ("128", "32x4", "64x2", "32x8", "64x4")},
-    **{"extracti" + c: (1, extract(n)) for c, n in (("128", 16), ("32x4", 16), ("64x2", 16), ("32x8", 32), ("64x4", 32))},
+    **{"extracti" + c: (1, extract(n))
+       for c, n in (("128", 16), ("32x4", 16), ("64x2", 16), ("32x8", 32), ("64x4", 32))},
     **{"broadcasti" + c: (1, lambda a, n=n: a[:n] * (WIDTH // n))
        for c, n in (("128", 16), ("32x4", 16), ("64x2", 16), ("64x4", 32))},
     **{"shufi" + c: (2, shuffle_quarters) for c in ("32x4", "64x2")},
@@ -531,8 +533,9 @@ class X86(Processor):
             self.write(to, [0] * to.size)
             self.values.flags = ("logic",) + (T.const(8 * to.size, 0),) * 3
             return
-        of_itself = name == "test" and same(to, source)
-        self.arithmetic(kind, lambda a, b: a if of_itself else f(self.values, a, b), to, source, name not in ONLY_FLAGS)
+        if name == "test" and same(to, source):
+            f = lambda m, a, b: a
+        self.arithmetic(kind, lambda a, b: f(self.values, a, b), to, source, name not in ONLY_FLAGS)
 
     def arithmetic(self, kind: str, f: Callable, to: Operand, source: Operand, keep: bool = True) -> None:
         """Sets a word and the flags, or only the flags."""

@@ -1,5 +1,5 @@
-"""The cases in which whole_calls.py shows the exported functions of BLAKE2Xb and BLAKE2Xs: together all
-inputs of each. The length of an output is known in advance in some, and not in others."""
+"""The cases in which whole_calls.py shows the exported functions of BLAKE2Xb and BLAKE2Xs: together all inputs of
+each. The length of an output is known in advance in some, and not in others."""
 
 from __future__ import annotations
 
@@ -22,8 +22,7 @@ NOT_ON, ON = (0, 0), (1, MOST)
 class Cases(C.Cases):
     """The cases of the functions of one of both."""
 
-    def __init__(self, program: programs.Program, family: str, pending: Any = None,
-                 sizes: Any = None) -> None:
+    def __init__(self, program: programs.Program, family: str, pending: Any = None, sizes: Any = None) -> None:
         """With only some cases of reads, one of each kind, if sizes are given."""
         self.is_short = sizes is not None
         self.calls, self.kind = Calls(program), C.KINDS[family]
@@ -152,8 +151,7 @@ class Cases(C.Cases):
         def case(setup: Setup, is_known: bool, reading: tuple, node: tuple) -> Callable:
             place = setup.variable("place in a block", 8)
             setup.bound((place,), 0, kind.w - 1)
-            position = T.add(64, (kind.w, setup.number("block", 0, MOST // kind.w)), (
-                1, reads.of_byte(place)))
+            position = T.add(64, (kind.w, setup.number("block", 0, MOST // kind.w)), (1, reads.of_byte(place)))
             s = self.add_ready(setup, is_known, reading=reading, last_node=node, position=position)
             setup.reads_key = (0, s.start_length),
             n = setup.number("n")

@@ -1,6 +1,6 @@
-"""What the exported functions of BLAKE2Xb and BLAKE2Xs write and return, from the contracts in
-crates/blake2_ffi, from the BLAKE2X document and from its reference code. It is read as
-call_specification.py is, which has the hash that both use: the root hash of the message."""
+"""What the exported functions of BLAKE2Xb and BLAKE2Xs write and return, from the contracts in crates/blake2_ffi,
+from the BLAKE2X document and from its reference code. It is read as call_specification.py is, which has the hash that
+both use: the root hash of the message."""
 
 from __future__ import annotations
 
@@ -15,8 +15,8 @@ if TYPE_CHECKING:
 
 
 class State(S.State):
-    """The state of a root hash, and a reader of the output: the root hash once bytes were read, salt
-    and persona, the length of the output, the bytes that were read, and whether any were."""
+    """The state of a root hash, and a reader of the output: the root hash once bytes were read, salt and persona, the
+    length of the output, the bytes that were read, and whether any were."""
 
     root: Any
     texts: Any
@@ -44,8 +44,7 @@ def output_length(kind: Kind, xof_length: Any, is_known: bool) -> Any:
 # When a call is accepted, for a length that is known in advance, and for one that is not.
 
 def is_length(kind: Kind, xof_length: Any, is_known: bool) -> list:
-    return [((xof_length,), 1, unknown(kind) - 1) if is_known else
-            ((xof_length,), unknown(kind), unknown(kind))]
+    return [((xof_length,), 1, unknown(kind) - 1) if is_known else ((xof_length,), unknown(kind), unknown(kind))]
 
 
 def is_ready(kind: Kind, s: State, is_known: bool) -> list:
@@ -102,22 +101,19 @@ def squeeze(a: Any, kind: Kind, s: State, n: Any, is_reading: bool) -> State:
 
 
 def stream(a: Any, kind: Kind, s: State, is_known: bool) -> Callable:
-    """The blocks of the output, by their numbers. Each is the hash of the root hash, without a key, and
-    with parameters of its own; the last one may be shorter, so its length has less than a block."""
+    """The blocks of the output, by their numbers. Each is the hash of the root hash, without a key, and with
+    parameters of its own; the last one may be shorter, so its length has less than a block."""
     n = kind.w // 4
 
     def block(i: Any) -> list:
         size = a.least(kind.w, a.minus(output_length(kind, s.xof_length, is_known), a.times(kind.w, i)))
         tree = (0, 0, kind.w, a.plus(i, a.times(1 << 32, s.xof_length)), 0, kind.w)
-        first = S.from_block(a, kind, S.parameter_block(
-            a, kind, size, 0, tree, s.texts[:n], s.texts[n:]), size)
-        return S.digest(a, kind, first.but(
-            pending=s.root + [0] * (kind.block - kind.w), pending_length=kind.w))
+        first = S.from_block(a, kind, S.parameter_block(a, kind, size, 0, tree, s.texts[:n], s.texts[n:]), size)
+        return S.digest(a, kind, first.but(pending=s.root + [0] * (kind.block - kind.w), pending_length=kind.w))
     return block
 
 
-def one_shot(a: Any, kind: Kind, size: Any, key: Buffer | Callable, key_size: Any,
-             absorb: Callable) -> State:
+def one_shot(a: Any, kind: Kind, size: Any, key: Buffer | Callable, key_size: Any, absorb: Callable) -> State:
     """The state of which all bytes are read, where `absorb` is one of both updates."""
     s = init(a, kind, size, key, key_size, S.nothing, 0, S.nothing, 0)
     return begin(a, kind, over(s, absorb(s)), False)
