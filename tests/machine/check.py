@@ -4,9 +4,9 @@ RFC 7693 (section 3.2) for all inputs, in constant time; that calls of BLAKE2b, 
 and the BLAKE2X document say; and that no branch and no address of a whole call depends on a secret. Prints TAP; the
 status is 1 if something failed. docs/MACHINE.md says what is shown and how to read the output.
 
-    tests/machine/check.py            the proofs: of one message in all files; of several messages, and some cases of
-                                      whole calls, each function in one file; some rules of terms, and instructions on
-                                      the processor
+    tests/machine/check.py            the proofs: of one message in all files; of several messages, one function of each
+                                      kind, and of each whole call some cases, in one file; some rules of terms, and
+                                      instructions on the processor
     tests/machine/check.py --long     also several messages and all cases of whole calls in all files, except those of
                                       BLAKE2X, all of which are shown in one; all rules and more runs of each
                                       instruction, whole functions against hashlib, the types of the tool, and the

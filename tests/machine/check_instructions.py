@@ -34,7 +34,7 @@ BUFFER = 4096                          # bytes on each side of the base of an ac
 SPAN = (-BUFFER, BUFFER)
 # For each user: the seed of its tests, of how many instructions of each form, and how many tenths of all
 # must be compared.
-USERS = {"F": (1, 3, 10), "T": (3, 2, 9), "W": (7, 1, 8)}
+USERS = {"F": (1, 6, 10), "T": (3, 4, 9), "W": (7, 4, 8)}
 OF_ZERO = ("add", "sub", "dec", "xor", "test", "shr", "shl", "cmp", "subs", "tst")
 # The program of the tests, which needs no C library. It reads the number of each test and a state, and writes the
 # state after the test.
@@ -112,24 +112,6 @@ SETS_FLAGS = {
 }
 # Readers of flags that are refused in calls that are executed over variables.
 SIGNED = re.compile(r"(set|cmov)(n?s|n?o) |, (mi|pl|vs|vc)$")
-
-
-def form(kind: str, i: Any) -> Any:
-    """The instruction without the numbers of its registers and without its addresses, and its form. None if it is
-    part of whole functions only."""
-    text = i.text.partition("#" if kind == "x86_64" else "//")[0].strip()
-    found = forms.form(kind, i.text)
-    if forms.CONTROL[kind].fullmatch(found):
-        return None
-    if kind == "aarch64":
-        text = re.sub(r"\b([xwvqsd])\d+\b", r"\1", text)
-        text = re.sub(r" \[(\w+)", " [base", text)
-        return re.sub(r"(base, #)-?\w+", r"\1n", text), found
-    if i.name == "lea":
-        return re.sub(r"\br\w+\b", "r", text), found
-    text = re.sub(r"\b([xyz]mm|k)\d+", r"\1", re.sub(r"\[.*\]", "[]", text))
-    size = lambda m: x86.GENERAL.get(m[0], (0, 0))[1]
-    return re.sub(r"\b\w+\b", lambda m: "g%d" % size(m) if size(m) else m[0], text), found
 
 
 def rewritten(kind: str, i: Any) -> tuple:
@@ -258,15 +240,15 @@ def executed(program: Program, user: str) -> list:
 
 
 def chosen(program: Program, user: str, count: int, rng: Any) -> tuple:
-    """The forms that are executed for a user, and up to `count` instructions of each, as (text, base register)."""
+    """The forms that are executed for a user, except those that are part of whole functions only, and up to `count`
+    instructions of each, as (text, base register)."""
     found: dict = {}
     for name in executed(program, user):
         for i in program.code(name):
-            f = form(program.kind, i)
-            if f is not None:
+            f = forms.form(program.kind, i.text)
+            if not forms.CONTROL[program.kind].fullmatch(f):
                 found.setdefault(f, set()).add(rewritten(program.kind, i))
-    return {f[1] for f in found}, [t for f in sorted(found)
-                                   for t in rng.sample(sorted(found[f]), min(count, len(found[f])))]
+    return set(found), [t for f in sorted(found) for t in rng.sample(sorted(found[f]), min(count, len(found[f])))]
 
 
 def machine(program: Program, user: str, text: str, base: int, data: bytes, places: set) -> tuple:
@@ -434,7 +416,7 @@ def check(path: str, user: str, rounds: int) -> tuple:
     run."""
     program, (seed, count, tenths) = read(path), USERS[user]
     rng = random.Random(seed)
-    used, tests = chosen(program, user, 1 if rounds < 5 else count, rng)
+    used, tests = chosen(program, user, count if rounds > 5 else 1 + (user == "F"), rng)
     extra = EXTRA[program.kind] if user == "F" else [
         t for t in readers(program.kind, tests, rng)
         if user == "T" or not SIGNED.search(t[0].split("; ")[-1])]
