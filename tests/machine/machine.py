@@ -382,13 +382,14 @@ class Processor:
         """The register of the result, which is the first on each processor."""
         return self.values.general[0]
 
-    def only_returns(self, code: dict, pc: int) -> bool:
+    @classmethod
+    def only_returns(cls, code: dict, pc: int) -> bool:
         """Whether only the result is set from here to a return."""
         for _ in range(4):
             i = code[pc]
             if i.is_return:
                 return True
-            if " ".join(i.text.partition(self.COMMENT)[0].split()) not in self.SETS_RESULT:
+            if " ".join(i.text.partition(cls.COMMENT)[0].split()) not in cls.SETS_RESULT:
                 return False
             pc = i.next
         return False
