@@ -397,17 +397,17 @@ class Cases:
 
     # Inits and the call in one.
 
-    def made(self, read: Callable) -> Iterator:
+    def made(self, read: Callable, keys: tuple = (False, True), init: Callable = S.init_tree) -> Iterator:
         """The cases of an init: with and without a key, and refused. `read` adds its arguments, and returns what the
         specification needs, and the conditions of its own."""
         kind = self.kind
-        for has_key in (False, True):
+        for has_key in keys:
             def accepted(setup: Setup) -> Callable:
                 setup.pass_state()
                 given, conditions = read(setup, (1, kind.w) if has_key else (0, 0))
                 setup.reads_key = (0, given[2]),
                 hold(setup, conditions)
-                return lambda a: (0, S.init_tree(a, kind, *given), [])
+                return lambda a: (0, init(a, kind, *given), [])
             accepted.__doc__ = "accepted, key %s" % has_key
             yield accepted
         yield from self.refused(lambda setup: (setup.pass_state(), read(setup, FREE)[1])[1])
@@ -437,20 +437,10 @@ class Cases:
         return given, S.admits(kind, size, keyed, given[4], given[6])
 
     def init_key(self) -> Iterator:
-        kind = self.kind
-
-        def read(setup: Any, key: Any) -> Any:
+        def read(setup: Setup, key: tuple) -> tuple:
             given, conditions = self.lengths(setup, key, False)
             return given, conditions + [((given[2],), 1, MOST)]
-
-        def accepted(setup: Setup) -> Callable:
-            setup.pass_state()
-            given, conditions = read(setup, (1, kind.w))
-            setup.reads_key = (0, given[2]),
-            hold(setup, conditions)
-            return lambda a: (0, S.init_tree(a, kind, *given), [])
-        yield accepted
-        yield from self.refused(lambda setup: (setup.pass_state(), read(setup, FREE)[1])[1])
+        yield from self.made(read, (True,))
 
     def init_salt_personal(self) -> Iterator:
         yield from self.made(self.lengths)

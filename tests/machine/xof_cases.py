@@ -176,21 +176,10 @@ class Cases(C.Cases):
     # Inits and the call in one.
 
     def init_salt_personal(self) -> Iterator:
-        kind = self.kind
-
         def read(setup: Setup, key: tuple) -> tuple:
             given, conditions = self.lengths(setup, key)
-            return given, [((given[0],), 1, X.unknown(kind))] + conditions[1:]
-        for has_key in (False, True):
-            def accepted(setup: Setup) -> Callable:
-                setup.pass_state()
-                given, conditions = read(setup, (1, kind.w) if has_key else (0, 0))
-                setup.reads_key = (0, given[2]),
-                hold(setup, conditions)
-                return lambda a: (0, X.init(a, kind, *given), [])
-            accepted.__doc__ = "accepted, key %s" % has_key
-            yield accepted
-        yield from self.refused(lambda setup: (setup.pass_state(), read(setup, FREE)[1])[1])
+            return given, [((given[0],), 1, X.unknown(self.kind))] + conditions[1:]
+        yield from self.made(read, init=X.init)
 
     def one_shot(self, derives: bool = False) -> Iterator:
         kind, block = self.kind, self.kind.block
