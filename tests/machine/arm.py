@@ -19,10 +19,10 @@ BITWISE = {"eor": "xor", "orr": "or", "and": "and"}
 
 
 class Operand:
-    """A part of an instruction. `general` is a register, `vector` the low bytes of one, `lanes` one by parts of n bytes,
-    of which perhaps only one. `memory` is at a base register plus an offset or another register, which is added for
-    the access only ("at"), or also to the base, "before" or "after" the access. `number` is a constant, `shift` one of
-    the operand before, `word` what an instruction has to know itself, such as a condition, and `value` is in no
+    """A part of an instruction. `general` is a register, `vector` the low bytes of one, `lanes` one by parts of n
+    bytes, of which perhaps only one. `memory` is at a base register plus an offset or another register, which is added
+    for the access only ("at"), or also to the base, "before" or "after" the access. `number` is a constant, `shift` one
+    of the operand before, `word` what an instruction has to know itself, such as a condition, and `value` is in no
     register."""
 
     kind: str

@@ -59,8 +59,8 @@ FORMS = {compression.EachCall: " with a counter each", compression.StripesCall: 
 FOLLOWED = {"BLAKE2b": ("blake2b",), "BLAKE2s": ("blake2s", "memcmp", "wipe"), "BLAKE2bp": ("blake2bp",),
             "BLAKE2sp": ("blake2sp",), "BLAKE2X": ("blake2xb", "blake2xs"), "trees": ("tree",)}
 # What there is without --long: one message in all files; one function of several messages of each kind in one of
-# these; each family of calls in one of the first two, but of BLAKE2Xs, which is written as BLAKE2Xb, only secrets; the tests
-# of the models there; rules of one width; and nothing that takes as long as all others.
+# these; each family of calls in one of the first two, but of BLAKE2Xs, which is written as BLAKE2Xb, only secrets;
+# the tests of the models there; rules of one width; and nothing that takes as long as all others.
 SHORT = V3, ARM, JS = "dist/x86_64/vulfsjor-v3.s", "dist/aarch64/vulfsjor.s", "js/src/wasm.js"
 SHORT_MANY = {functions.MANY_B: V3, functions.EACH_S: ARM, functions.STRIPES_B: JS}
 SHORT_FOLLOWED = {part: SHORT[k % 2] for k, part in enumerate(FOLLOWED)}
