@@ -14,7 +14,7 @@ from ranges import OPPOSITE
 from symbolic import Exact
 from taint import reset
 
-STEPS = 5
+STEPS, WAYS = 5, 3
 SMALL, LARGE = (1, -1, 2, 8, 64, 128), (1 << 32, 1 << 62, 1 << 63, -(1 << 62), 3)
 MASKS = (0xff, 7, 63, 127, -64, -128, -8, 0xffffffff, 0x7fffffff)
 
@@ -69,22 +69,22 @@ class Run:
             self.add(f(a, b), n)
 
     def compare(self) -> None:
-        """Asks for a comparison, and perhaps learns it."""
+        """Asks how two words compare, in some ways, and perhaps learns the last."""
         m, rng = self.machine, self.rng
         a, b = rng.choice(self.words), rng.choice(self.words + [T.const(64, self.number())])
-        relation = rng.choice(sorted(TRUE) + ["carry"])
         x, y = self.value(a), self.value(b)
-        holds = x + y >= 1 << 64 if relation == "carry" else TRUE[relation](x, y)
-        answer = m.decide(relation, a, b)
-        self.decided += 1
-        if answer not in (None, holds):
-            raise Wrong("%r %s %r is %s" % (a, relation, b, answer))
-        low, high = (x, x) if self.has_large or rng.random() > 0.02 else m.path_facts.range(a)
+        for relation in rng.sample(sorted(TRUE) + ["carry"], WAYS):
+            holds = x + y >= 1 << 64 if relation == "carry" else TRUE[relation](x, y)
+            answer = m.decide(relation, a, b)
+            self.decided += 1
+            if answer not in (None, holds):
+                raise Wrong("%r %s %r is %s" % (a, relation, b, answer))
+        low, high = (x, x) if self.has_large or rng.random() > 0.05 else m.path_facts.range(a)
         if not low <= x <= high:
             raise Wrong("%r is %#x, and not in %s" % (a, x, (low, high)))
         if answer is None and not m.learn(relation, a, b, holds):
             raise Wrong("%r %s %r is called impossible" % (a, relation if holds else OPPOSITE[relation], b))
-        for t, n in m.path_facts.values().items() if rng.random() < 0.05 else ():
+        for t, n in m.path_facts.values().items() if rng.random() < 0.1 else ():
             if n.args != self.value(t):
                 raise Wrong("%r is %#x, not %r" % (t, self.value(t), n))
 
