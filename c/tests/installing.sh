@@ -215,7 +215,8 @@ $add
 set(CMAKE_C_FLAGS)
 set(CMAKE_C_STANDARD)"
     project_by_cmake "$odd" vulfsjor::vulfsjor vulfsjor::threads && needs_nothing || return 1
-    ! is_x86 || are_marked "x86 feature: IBT, SHSTK" "" "$work"/project.*/build/vulfsjor/libvulfsjor.a || return 1
+    ! is_x86 || are_marked "x86 feature: IBT, SHSTK" "" "$work"/project.*/build/vulfsjor/libvulfsjor{,-threads}.a ||
+        return 1
     project_by_cmake "$shared_is_on
 $add" vulfsjor::vulfsjor vulfsjor::threads && needs_shared &&
         readelf -d "$work"/project.*/build/vulfsjor/libvulfsjor.so | grep -q BIND_NOW
