@@ -2,13 +2,14 @@
 _b2() {
     local word=${COMP_WORDS[COMP_CWORD]} kinds="b128 b256 b512 s128 s256" words=
     case $COMP_CWORD,${COMP_WORDS[1]} in
-        1,*) words="sum script steps witness tree xof derive --help --version" ;;
+        1,*) words="sum script steps witness tree leaves root xof derive --help --version" ;;
         2,sum | 2,script | 2,steps) words=$kinds ;;
         2,witness) words="$kinds b0 b8 s0 s8" ;;
-        2,tree) words="b128 b256 b512" ;;
+        2,tree | 2,root) words="b128 b256 b512" ;;
         2,xof) words="xb xs" ;;
-        3,tree | 3,xof | *,witness) ;;
-        *,tree) words="salt= persona= persona-text=" ;;
+        2,leaves | 3,leaves | 3,tree | 3,root | 3,xof | *,witness) ;;
+        4,leaves) words="more last" ;;
+        *,tree | *,leaves | *,root) words="salt= persona= persona-text=" ;;
         *,sum | *,script | *,steps | *,xof) words="key= salt= persona= persona-text=" ;;
     esac
     mapfile -t COMPREPLY < <(compgen -W "$words" -- "$word")

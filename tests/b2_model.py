@@ -185,14 +185,27 @@ def witness(family, size, a, b):
     return x[-j], y[-j]
 
 
-def tree_root(size, leaf_length, message, salt, persona):
-    """Section 9."""
-    def node(offset, depth, last_node, data):
-        return Input(data, None, salt, persona, Place(0, 2, leaf_length, offset, depth, 64), last_node)
-    count = max(1, -(-len(message) // leaf_length))
-    digests = [steps(B, 64, node(i, 0, i == count - 1, message[i * leaf_length:(i + 1) * leaf_length]))[1]
-               for i in range(count)]
-    return steps(B, size, node(0, 1, True, b"".join(digests)))[1]
+# Section 9: what the nodes of a tree share.
+Tree = namedtuple("Tree", "leaf_length salt persona")
+
+
+def tree_node(tree, size, offset, depth, last_node, data):
+    """The digest of a node, in this many bytes."""
+    place = Place(0, 2, tree.leaf_length, offset, depth, 64)
+    return steps(B, size, Input(data, None, tree.salt, tree.persona, place, last_node))[1]
+
+
+def leaf_digests(tree, first, ends, data):
+    """The digests of a range of leaves, from index `first` on, which ends the message or not."""
+    length = tree.leaf_length
+    count = max(1, -(-len(data) // length))
+    return [tree_node(tree, 64, first + i, 0, ends and i == count - 1, data[i * length:(i + 1) * length])
+            for i in range(count)]
+
+
+def root_over(tree, size, digests):
+    """The root over the digests of all leaves."""
+    return tree_node(tree, size, 0, 1, True, b"".join(digests))
 
 
 # ---- section 10, the program
@@ -201,6 +214,7 @@ COMMON = {"b128": (B, 16), "b256": (B, 32), "b512": (B, 64), "s128": (S, 16), "s
 KINDS = {"sum": COMMON, "script": COMMON, "steps": COMMON,
          "witness": COMMON | {"b0": (B, 0), "b8": (B, 1), "s0": (S, 0), "s8": (S, 1)},
          "tree": {kind: of for kind, of in COMMON.items() if of[0] is B},
+         "root": {kind: of for kind, of in COMMON.items() if of[0] is B},
          "xof": {"xb": (B, 64), "xs": (S, 32)}}
 
 
@@ -239,6 +253,55 @@ def options(words, names):
             raise Fault("wrong words")
         given[name] = value.encode() if is_text else hex_bytes(value)
     return given
+
+
+def leaf_length_of(digits):
+    """LEAF."""
+    length = decimal_number(digits, 10)
+    if not length or length >= 2**32:
+        raise Fault("wrong words")
+    return length
+
+
+def tree_of(leaf_length, words):
+    """The tree of LEAF and the arguments in brackets."""
+    given = options(words, ("salt", "persona"))
+    tree = Tree(leaf_length, given.get("salt", b""), given.get("persona", b""))
+    if max(len(tree.salt), len(tree.persona)) > B.salt:
+        raise Fault("wrong length")
+    return tree
+
+
+def part_lines(words, source):
+    """The lines of `leaves`."""
+    leaf_length = leaf_length_of(words[0] if words else "")
+    first = decimal_number(words[1], 18) if len(words) > 1 else None
+    if first is None or len(words) < 3 or words[2] not in ("more", "last"):
+        raise Fault("wrong words")
+    tree, ends = tree_of(leaf_length, words[3:]), words[2] == "last"
+    data = source()
+    is_range = (len(data) > 0 or first == 0) if ends else len(data) > 0 and len(data) % leaf_length == 0
+    if not is_range or first * leaf_length + len(data) >= 2**58:
+        raise Fault("wrong length")
+    return [digest.hex() for digest in leaf_digests(tree, first, ends, data)]
+
+
+def line_digests(data):
+    """The digests in the lines of the input of `root`."""
+    found = data.split(b"\n")
+    found = found[:-1] if found[-1] == b"" else found
+    for number, line in enumerate(found or [b""], 1):
+        if len(line) != 128 or not all(c in b"0123456789abcdefABCDEF" for c in line):
+            raise Fault(f"line {number}: wrong line")
+    return [bytes.fromhex(line.decode()) for line in found]
+
+
+def root_line(command, size, words, source):
+    """The line of `tree` or `root`, by the arguments after KIND."""
+    tree = tree_of(leaf_length_of(words[0] if words else ""), words[1:])
+    data = source()
+    digests = line_digests(data) if command == "root" else leaf_digests(tree, 0, True, data)
+    return root_over(tree, size, digests).hex()
 
 
 def output_length(family, digits):
@@ -304,6 +367,8 @@ def lines(words, source):
     """The lines that the arguments request; the source is a function that reads the input."""
     if words and words[0] == "derive":
         return [derived(words[1:], source)]
+    if words and words[0] == "leaves":
+        return part_lines(words[1:], source)
     if not words or words[0] not in KINDS or len(words) < 2 or words[1] not in KINDS[words[0]]:
         raise Fault("wrong words")
     command, (family, size), rest = words[0], KINDS[words[0]][words[1]], words[2:]
@@ -313,22 +378,17 @@ def lines(words, source):
             raise Fault("wrong words")
         pair = witness(family, size, *(Input(message) for message in messages))
         return [fields(family, "s", h, entry) for h, entry in pair] if pair else ["none"]
-    names = ("salt", "persona") if command == "tree" else ("key", "salt", "persona")
-    if command == "tree":
-        leaf_length = decimal_number(rest.pop(0), 10) if rest else None
-        if not leaf_length or leaf_length >= 2**32:
-            raise Fault("wrong words")
+    if command in ("tree", "root"):
+        return [root_line(command, size, rest, source)]
     if command == "xof":
         length = output_length(family, rest.pop(0) if rest else "")
-    given = Input(b"", **options(rest, names))
+    given = Input(b"", **options(rest, ("key", "salt", "persona")))
     if max(len(given.salt), len(given.persona)) > family.salt or given.key is not None and not (
             1 <= len(given.key) <= family.key):
         raise Fault("wrong length")
     data = source()
     if command == "script":
         return script(family, size, given, data)
-    if command == "tree":
-        return [tree_root(size, leaf_length, data, given.salt, given.persona).hex()]
     given = given._replace(message=data)
     if command == "xof":
         return [output(family, length, given).hex()]

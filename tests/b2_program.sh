@@ -69,6 +69,11 @@ start="s 6a09e667f2bdc908 bb67ae8584caa73b 3c6ef372fe94f82b a54ff53a5f1d36f1"
 start="$start 510e527fade682d1 9b05688c2b3e6c1f 1f83d9abfb41bd6b 5be0cd19137e2179"
 root=14b0752e3ca5c2b4f5df98dcb4fab97caeda23424260d531f9b0b52310bb58ee
 root=${root}cb6e13211a8298c3e52d543a21efa545053f3006100629ff6bd181611b38f8c8
+first_leaf=47e15a1ab6a4d0ea0932bb43e976dc986acdada1500296368d785f91231dfb18
+first_leaf=${first_leaf}7dff569df1fc1d2fe75672344086f316fdc3d2c2a0fbfd9ee88ea5c15777aab1
+last_leaf=d7f9ca207c01eede7baa10611ce6c59d93c7fdf7423c8c2e5359c04bc7ff8b8e
+last_leaf=${last_leaf}a20f10204fae53aed5627461a478d2a6254be4680df5bee95133f0abe307c364
+root_of_leaves=fff4fe46385b25c27bd98d2d71e449c3
 output=eea2823aa41ed238900ec86e5abd0edf2c9507fd48ff4b0d4a55e32cfe62fe6275
 root_of_parts=ece6ceb0305d1bf7a0dce3f6a9abe1720d59d063c8b5d7f1def3f93b0196ae44
 words="w 0000000001010040$(printf ' 0000000000000000%.0s' {1..7})"
@@ -87,6 +92,11 @@ test_commands() {
     run_over_nothing 0 none witness b512 616263 -
     run_over_input abcde 0 "$root" tree b512 4
     run_over_input abcde 0 "$root_of_parts" tree b256 4 persona=70 salt=0102
+    run_over_input abcd 0 "$first_leaf" leaves 4 0 more
+    run_over_input abcde 0 "$first_leaf\n$last_leaf" leaves 4 0 last
+    run_over_input e 0 "$last_leaf" leaves 4 1 last
+    run_over_input "$first_leaf\n$last_leaf\n" 0 "$root" root b512 4
+    run_over_input "$first_leaf\n$last_leaf" 0 "$root_of_leaves" root b128 4
     run_over_nothing 0 5abb265af975bd803708b70db42bd302 tree b128 4
     run_over_input abc 0 "$output" xof xs 33 persona-text=apple salt=01
     run_over_input 'master key' 0 7f71fabc20c90d95ae1ed05991e53c05396b98ff3a928cbc7bb3ae6b953f228c derive 32 context
@@ -99,7 +109,7 @@ test_help() {
     : >"$work/output" && check_end "b2 --help" $? 0 ""
     check "$build--help names every command" diff \
         <(sed -n 's/^  \([a-z-]*\) .*/\1/p' "$work/help") \
-        <(printf '%s\n' sum script steps witness tree xof derive --help --version)
+        <(printf '%s\n' sum script steps witness tree leaves root xof derive --help --version)
     check "$build--help has lines of at most 100 columns" test -z "$(grep '.\{101\}' "$work/help")"
 }
 
@@ -128,6 +138,13 @@ test_arguments() {
     run_over_nothing 2 "b2: wrong words" witness b512 61 61 61 61 61 61 61 61
     run_over_input 'f 0\nf 0\nf 00' 2 "b2: line 3: wrong line" script s256 key=01
     run_over_input 'f 0\nu 0 61\n' 2 "b2: line 2: no such slot" script b512
+    run_over_nothing 2 "b2: wrong words" leaves 4 0
+    run_over_nothing 2 "b2: wrong words" leaves 4 0 last key=01
+    run_over_input abcde 2 "b2: wrong length" leaves 4 0 more
+    run_over_nothing 2 "b2: wrong length" leaves 4 1 last
+    run_over_input abcd 2 "b2: wrong length" leaves 4 72057594037927935 last
+    run_over_input "$first_leaf\n$last_leaf \n" 2 "b2: line 2: wrong line" root b512 4
+    run_over_nothing 2 "b2: line 1: wrong line" root b512 4
 }
 
 # An input that can't be read, which `witness` and wrong words do not read.
@@ -137,6 +154,8 @@ test_inputs() {
         directory 1 "b2: read failed" "$command" s256 key=01
     done
     run_with_closed_input 1 "b2: read failed" tree b512 4
+    run_with_closed_input 1 "b2: read failed" leaves 4 0 last
+    directory 1 "b2: read failed" root b512 4
     run_with_closed_input 0 none witness b512 61 62
     run_with_closed_input 2 "b2: wrong words" sum b512 foo
 }
@@ -144,8 +163,8 @@ test_inputs() {
 # An output that takes nothing: a full one, and a closed one. Nothing more is printed.
 test_outputs() {
     : >"$work/output"
-    for given in "sum b512" "script b512" "steps s256" "tree b512 4" "witness b512 61 62" \
-        "sum" "add"; do
+    for given in "sum b512" "script b512" "steps s256" "tree b512 4" "leaves 4 0 last" "root b512 4" \
+        "witness b512 61 62" "sum" "add"; do
         # shellcheck disable=SC2086
         printf 'f 0\n' | "$program" $given >/dev/full 2>"$work/errors"
         check_end "b2 $given, its output full" "$?" 1 ""
@@ -210,6 +229,19 @@ ends_in() {
 has_room() { ends_in "$1" 0 "${@:2}"; }
 lacks_room() { ends_in "$1" 1 "b2: no memory" "${@:2}"; }
 
+# The digests of the leaves of the file `input`, in lines, by hashlib.
+leaves_of_input() {
+    python3 - "$top" "$work/input" "$1" "$2" <<'END'
+import sys
+sys.path.insert(0, sys.argv[1] + "/tests")
+from oracle import range_digests
+with open(sys.argv[2], "rb") as file:
+    digests = range_digests(file.read(), int(sys.argv[3]), int(sys.argv[4]))
+for start in range(0, len(digests), 64):
+    print(digests[start:start + 64].hex())
+END
+}
+
 # The root of the file `input` by hashlib, and a check that a run for it has room.
 root_of_input() { roots_by_hashlib "$1" "$work/input" | cut -c -128; }
 has_root_in() { has_room "$1" "$(root_of_input "$2")" tree b512 "$2"; }
@@ -233,6 +265,23 @@ check_memory_of_streams() {
     has_root_in $((13312 + 64)) 1048576
     has_root_in $((16384 + 64)) 3355443
     lacks_room 8192 tree b512 3355443
+}
+
+# The input and 64 bytes for each leaf. The input is read into a list, which doubles as it grows.
+check_memory_of_leaves() {
+    local wanted
+    take_zeros $((4 << 20))
+    leaves_of_input 65536 9 >"$work/wanted"
+    has_room $((6 << 10)) - leaves 65536 9 last
+    lacks_room $((3 << 10)) leaves 65536 9 last
+    leaves_of_input 64 0 >"$work/lines"
+    cp "$work/lines" "$work/wanted"
+    has_room $((10 << 10)) - leaves 64 0 last
+    lacks_room $((6 << 10)) leaves 64 0 last
+    wanted=$(root_of_input 64)
+    cp "$work/lines" "$work/input"
+    has_room $((32 << 10)) "$wanted" root b512 64
+    lacks_room $((8 << 10)) root b512 64
 }
 
 # What the transcript of this many zeros, in whole blocks of BLAKE2b, is.
@@ -295,6 +344,7 @@ test_memory() {
     take_zeros 0
     if least=$(least_for add b512); then
         check_memory_of_streams
+        check_memory_of_leaves
         check_memory_of_steps
         check_memory_of_scripts
     else

@@ -5,8 +5,8 @@ are cases too.
 
 For each command it runs random cases from one seed: arguments in random order and case, arguments that are wrong,
 missing or too many, arguments that are not UTF-8, inputs around every boundary, scripts with wrong lines and bad calls,
-and an input that can't be read. Status and output have to be the same; what `sum` and `tree` print is compared with
-hashlib too.
+and an input that can't be read. Status and output have to be the same; what `sum`, `tree`, `leaves` and `root` print is
+compared with hashlib too.
 
 usage: tests/compare_b2_model.py --program PATH [--cases N] [--seed N]
 """
@@ -21,7 +21,7 @@ import tap
 from b2_model import B, S, Input, Place, entries, parameter_words, read, run
 from common import FAMILIES, KINDS, TOP, Parser, at_least, program
 from common import read as read_file
-from oracle import tree_root
+from oracle import range_digests, root_of_leaves, tree_root
 
 FUNCTIONS = {name: family.function for name, family in FAMILIES.items()}
 
@@ -128,14 +128,57 @@ def witness_case(source, command):
     return [command, kind, *(random_hex(source, message) if message else "-" for message in (a, b))], b""
 
 
+def leaf_word(source):
+    """The length of a leaf, and a word for it that is sometimes refused."""
+    leaf = source.choice([1, 2, 7, 64, 127, 128, 129, 300, 4294967295])
+    return leaf, str(leaf) if source.random() < 0.9 else source.choice(
+        ["0", "04", "4294967296", "-1", "+4", "4k", "", "99999999999", "\u0664", "12a"])
+
+
+def root_kind(source):
+    """A KIND of `tree` and `root`, sometimes one that is refused."""
+    return source.choice(["b128", "b256", "b512", "b512", source.choice(["s256", "b0"])])
+
+
+def leaves_message(source, leaf):
+    """A message of some leaves, the last of which is often whole."""
+    return source.randbytes(min(leaf, 300) * source.randrange(11) + source.choice([0, 0, 1, source.randrange(9)]))
+
+
 def tree_case(source, command):
     """The words and the input of a `tree`."""
-    leaf = source.choice([1, 2, 7, 64, 127, 128, 129, 300, 4294967295])
-    message = source.randbytes(min(leaf, 300) * source.randrange(11) + source.choice([0, 0, 1, source.randrange(9)]))
-    word = str(leaf) if source.random() < 0.9 else source.choice(
-        ["0", "04", "4294967296", "-1", "+4", "4k", "", "99999999999", "\u0664", "12a"])
-    kind = source.choice(["b128", "b256", "b512", "b512", source.choice(["s256", "b0"])])
-    return [command, kind, word, *random_options(source, "b", ("salt", "persona"))], message
+    leaf, word = leaf_word(source)
+    return ([command, root_kind(source), word, *random_options(source, "b", ("salt", "persona"))],
+            leaves_message(source, leaf))
+
+
+def leaves_case(source, command):
+    """The words and the input of a `leaves`: a part, most often of whole leaves, at an index up to and past the last
+    one of a message of 2^58 bytes."""
+    leaf, word = leaf_word(source)
+    most = (2**58 - 1) // leaf
+    first = source.choice([0, 0, 1, source.randrange(1000), 2**32, most - source.randrange(12), most, most + 1])
+    first = str(first) if source.random() < 0.9 else source.choice(
+        ["00", "01", "-1", "+1", "", "9" * 18, "9" * 19, "1" + "0" * 18, "\u0664", "1a"])
+    end = source.choice(["more", "last", "last", "more", "last", source.choice(["end", "", "MORE", "last=1"])])
+    message = leaves_message(source, leaf)
+    if end == "more" and source.random() < 0.7:
+        message = message[:len(message) // leaf * leaf]
+    return [command, word, first, end, *random_options(source, "b", ("salt", "persona"))], message
+
+
+def root_case(source, command):
+    """The words and the input of a `root`: lines of digests, sometimes a wrong one."""
+    _, word = leaf_word(source)
+    digests = [source.randbytes(64).hex() for _ in range(source.choice([0, 1, 1, 2, 3, source.randrange(20)]))]
+    found = [line.upper() if source.random() < 0.1 else line for line in digests]
+    if found and source.random() < 0.2:
+        place = source.randrange(len(found))
+        line = found[place]
+        found[place] = source.choice(["", line + " ", line + "\r", " " + line, line[:-1], line[:-2], line + "00",
+                                      line[:-1] + "g", line + line, line[:64] + "\n" + line[64:], "-"])
+    data = "\n".join(found).encode() + (b"\n" if source.random() < 0.7 else b"")
+    return [command, root_kind(source), word, *random_options(source, "b", ("salt", "persona"))], data
 
 
 def output_length(source, most):
@@ -162,7 +205,7 @@ def derive_case(source, command):
 
 
 CASES = {"sum": sum_case, "steps": sum_case, "script": script_case, "witness": witness_case, "tree": tree_case,
-         "xof": xof_case, "derive": derive_case}
+         "leaves": leaves_case, "root": root_case, "xof": xof_case, "derive": derive_case}
 
 
 def unreadable_input():
@@ -184,14 +227,20 @@ def run_program(path, words, message):
 
 
 def of_hashlib(words, message):
-    """The line that `sum` or `tree` prints with these words, which are right, by hashlib."""
+    """What `sum`, `tree`, `leaves` or `root` prints with these words, which are right, by hashlib."""
     words = [word.decode() for word in words]
     given = {}
     for name, value in (word.split("=", 1) for word in words if "=" in word):
         given[name.removesuffix("-text")] = value.encode() if name == "persona-text" else bytes.fromhex(value)
-    named = {"salt": given.get("salt", b""), "person": given.get("persona", b""), "digest_size": KINDS[words[1]][1]}
+    named = {"salt": given.get("salt", b""), "person": given.get("persona", b"")}
+    if words[0] == "leaves":
+        digests = range_digests(message, int(words[1]), int(words[2]), words[3] == "last", **named)
+        return "\n".join(digests[i:i + 64].hex() for i in range(0, len(digests), 64))
+    named["digest_size"] = KINDS[words[1]][1]
     if words[0] == "tree":
         return tree_root(message, int(words[2]), **named).hex()
+    if words[0] == "root":
+        return root_of_leaves(bytes.fromhex(message.decode()), int(words[2]), **named).hex()
     return FUNCTIONS[words[1][0]](message, key=given.get("key", b""), **named).hexdigest()
 
 
@@ -266,7 +315,7 @@ def compare_cases(path, source, command, cases, unicode):
             continue
         wanted = run(words, unreadable_input if message is None else lambda: message)
         found = run_program(path, words, message)
-        if command in ("sum", "tree") and wanted[0] == 0:
+        if command in ("sum", "tree", "leaves", "root") and wanted[0] == 0:
             wanted = 0, of_hashlib(words, message).encode() + b"\n"
         if found != wanted:
             wrong.append(f"case {number}: b2 {words} over {message!r}\ngave {found}\nwanted {wanted}")

@@ -87,7 +87,8 @@ def transcripts():
 
 def large():
     """large: over 1,048,577 bytes, byte i being i modulo 251: the line of `sum`, and the digest of what
-    `steps` prints; and the line of `tree b256` for each length of a leaf."""
+    `steps` prints; the line of `tree b256` for each length of a leaf; and the digest of what `leaves` prints over all
+    except the last byte."""
     message = bytes(i % 251 for i in range(2**20 + 1))
     for kind in ("b512", "s256"):
         family, size = KINDS[kind]
@@ -95,6 +96,11 @@ def large():
         print(f"  {kind}: {blake2(family, size, message).hex()}, {len(text)} bytes, {digest(text)}")
     for leaf in (1, 64, 1000, 4096, 20000, 2**20, 2**20 + 1, 2**26):
         print(f"  {leaf}: {tree_root(message, leaf, 32).hex()}")
+    for leaf, first, end in ((64, 7, "more"), (64, 7, "last"), (1000, 3, "last"), (2**18, 0, "more"),
+                             (2**19, 1, "last")):
+        digests = range_digests(message[:-1], leaf, first, end == "last")
+        lines = "".join(digests[i:i + 64].hex() + "\n" for i in range(0, len(digests), 64))
+        print(f"  {leaf} {first} {end}|{digest(lines.encode())}")
 
 
 def texts():

@@ -189,7 +189,7 @@ offers() {
         diff <(by_$shell "${line[@]}" | sed '/^$/d' | sort) \
             <(printf '%s\n' $words | sed '/^$/d' | sort) || return
     done <<'END'
-b2 .:sum script steps witness tree xof derive --help --version
+b2 .:sum script steps witness tree leaves root xof derive --help --version
 b2 st:steps
 b2 script .:b128 b256 b512 s128 s256
 b2 sum s:s128 s256
@@ -199,6 +199,14 @@ b2 witness b8 .:
 b2 tree .:b128 b256 b512
 b2 tree b512 .:
 b2 tree b512 4096 .:salt= persona= persona-text=
+b2 leaves .:
+b2 leaves 4096 .:
+b2 leaves 4096 0 .:more last
+b2 leaves 4096 0 l:last
+b2 leaves 4096 0 last .:salt= persona= persona-text=
+b2 root .:b128 b256 b512
+b2 root b256 .:
+b2 root b256 4096 .:salt= persona= persona-text=
 b2 script s256 .:key= salt= persona= persona-text=
 b2 xof .:xb xs
 b2 xof xb .:

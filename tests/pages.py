@@ -154,7 +154,7 @@ def field_rows():
 
 def program_rows():
     """The rows that have the KINDs and the errors."""
-    for name, of_b, of_s in (("kind_of", "all except `xof`", "all except `tree` and `xof`"),
+    for name, of_b, of_s in (("kind_of", "all except `xof`", "all except `tree`, `root` and `xof`"),
                              ("compared_kind_of", "`witness`", "`witness`")):
         cases = definition("b2_commands", "ArgumentTasks", name)
         for word, family, size in re.findall(r'codes "(\w+)"\) then Ok \(blake2([bs])_of ([0-9]+)\)', cases):

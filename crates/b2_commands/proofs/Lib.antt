@@ -2,10 +2,16 @@ mod AcceptedInputs
 mod PrintedDigits
 mod FilledBuffers
 mod PrintedDigests
+mod LeafLines
+mod LeafRuns
 mod LineLemmas
 mod OutputLaws
 mod PrintedInTurn
+mod PrintedLeaves
 mod PrintedRoot
+mod RangeBytes
+mod ReadBackLeaves
+mod RootLines
 mod ScriptLemmas
 mod Statuses
 mod TasksWithoutInput

@@ -6,6 +6,10 @@ use Rattle.std.specs.Str.{bytes_eq}
 abbrev pub usage_line : List ℕ → List ℕ
 usage_line text = codes "usage: b2 " ++ text ++ 10 ∷ []
 
+-- The options of a tree.
+abbrev pub salt_usage : List ℕ
+salt_usage = codes " [salt=HEX] [persona=HEX | persona-text=TEXT]"
+
 -- The options of a hash function.
 abbrev pub options_usage : List ℕ
 options_usage = codes " [key=HEX] [salt=HEX] [persona=HEX | persona-text=TEXT]"
@@ -19,7 +23,10 @@ usage_of command =
     else if bytes_eq command (codes "witness")
     then usage_line (codes "witness KIND MESSAGE MESSAGE")
     else if bytes_eq command (codes "tree")
-    then usage_line (codes "tree KIND LEAF [salt=HEX] [persona=HEX | persona-text=TEXT]")
+    then usage_line (codes "tree KIND LEAF" ++ salt_usage)
+    else if bytes_eq command (codes "leaves")
+    then usage_line (codes "leaves LEAF FIRST more|last" ++ salt_usage)
+    else if bytes_eq command (codes "root") then usage_line (codes "root KIND LEAF" ++ salt_usage)
     else if bytes_eq command (codes "xof")
     then usage_line (codes "xof KIND LENGTH" ++ options_usage)
     else if bytes_eq command (codes "derive") then usage_line (codes "derive LENGTH CONTEXT")

@@ -2,7 +2,7 @@
 -- right, and the first error is returned.
 use Rattle.std.specs.Prelude.{◌≡◌, ⊤, ℕ, ◌^◌, ◌==◌, ◌&&◌, nat_lt, Bool, true, false}
 use Rattle.std.specs.Prelude.{if◌then◌else◌, List, [], ◌∷◌, codes, Option}
-use Rattle.std.specs.Prelude.{Some, None, is_some, position, Result, Ok, Err}
+use Rattle.std.specs.Prelude.{Some, None, is_some, ok_or, position, Result, Ok, Err}
 use Rattle.std.specs.List.{before_first, after_first}
 use Rattle.std.specs.Result.{result_map_both}
 use Rattle.std.specs.Str.{bytes_eq}
@@ -70,7 +70,7 @@ compared_kind_of word =
 abbrev pub tree_kind : Kind → Result Kind Fault
 tree_kind kind = if is_blake2b kind.family then Ok kind else Err WrongWords
 
--- The kind of root that `tree` prints, as an argument names it.
+-- The kind of root that `tree` or `root` prints, as an argument names it.
 abbrev pub tree_kind_of : List ℕ → Result Kind Fault
 tree_kind_of word = and_then (kind_of word) tree_kind
 
@@ -83,6 +83,18 @@ some_leaf (Some n) = if nat_lt 0 n && nat_lt n (2 ^ 32) then Ok n else Err Wrong
 -- with no leading zero.
 abbrev pub leaf_value : List ℕ → Result ℕ Fault
 leaf_value digits = some_leaf (number_value 10 digits)
+
+-- The index of a leaf, as the argument FIRST names it: at most 18 decimal digits with no leading
+-- zero.
+abbrev pub index_value : List ℕ → Result ℕ Fault
+index_value digits = ok_or (number_value 18 digits) WrongWords
+
+-- Whether a part ends its message, as an argument says.
+abbrev pub ends_value : List ℕ → Result Bool Fault
+ends_value word =
+    if bytes_eq word (codes "last") then Ok true
+    else if bytes_eq word (codes "more") then Ok false
+    else Err WrongWords
 
 -- The family that the KIND of `xof` names: that of BLAKE2Xb or BLAKE2Xs.
 abbrev pub output_family_of : List ℕ → Result Family Fault
@@ -165,6 +177,10 @@ pub data Task : Type 0 where
   to_witness : Kind → List ℕ → List ℕ → Task
   -- `tree KIND LEAF [salt=HEX] [persona=HEX]`
   to_tree : Kind → ℕ → Given → Task
+  -- `leaves LEAF FIRST more [salt=HEX] [persona=HEX]`, or with `last`
+  to_leaves : ℕ → ℕ → Bool → Given → Task
+  -- `root KIND LEAF [salt=HEX] [persona=HEX]`
+  to_root : Kind → ℕ → Given → Task
   -- `xof KIND LENGTH [key=HEX] [salt=HEX] [persona=HEX]`
   to_xof : Family → ℕ → Given → Task
   -- `derive LENGTH CONTEXT`
@@ -202,17 +218,35 @@ abbrev pub witness_task : List (List ℕ) → Result Task Fault
 witness_task [] = Err WrongWords
 witness_task (word ∷ words) = and_then (compared_kind_of word) (λ kind. first_task kind words)
 
--- The task of the arguments after KIND of `tree`.
-abbrev pub leaf_task : Kind → List (List ℕ) → Result Task Fault
-leaf_task kind [] = Err WrongWords
-leaf_task kind (leaf ∷ words) =
+-- The task of the arguments after KIND of `tree` or `root`.
+abbrev pub leaf_task : (Kind → ℕ → Given → Task) → Kind → List (List ℕ) → Result Task Fault
+leaf_task to kind [] = Err WrongWords
+leaf_task to kind (leaf ∷ words) =
     and_then (leaf_value leaf)
-    (λ n. and_then (with_words false nothing_given words) (λ given. Ok (to_tree kind n given)))
+    (λ n. and_then (with_words false nothing_given words) (λ given. Ok (to kind n given)))
 
--- The task of the arguments after `tree`.
-abbrev pub tree_task : List (List ℕ) → Result Task Fault
-tree_task [] = Err WrongWords
-tree_task (word ∷ words) = and_then (tree_kind_of word) (λ kind. leaf_task kind words)
+-- The task of the arguments after `tree` or `root`.
+abbrev pub tree_task : (Kind → ℕ → Given → Task) → List (List ℕ) → Result Task Fault
+tree_task to [] = Err WrongWords
+tree_task to (word ∷ words) = and_then (tree_kind_of word) (λ kind. leaf_task to kind words)
+
+-- The task of the arguments after FIRST of `leaves`.
+abbrev pub end_task : ℕ → ℕ → List (List ℕ) → Result Task Fault
+end_task n first [] = Err WrongWords
+end_task n first (word ∷ words) =
+    and_then (ends_value word)
+    (λ ends. and_then (with_words false nothing_given words)
+    (λ given. Ok (to_leaves n first ends given)))
+
+-- The task of the arguments after LEAF of `leaves`.
+abbrev pub index_task : ℕ → List (List ℕ) → Result Task Fault
+index_task n [] = Err WrongWords
+index_task n (word ∷ words) = and_then (index_value word) (λ first. end_task n first words)
+
+-- The task of the arguments after `leaves`.
+abbrev pub leaves_task : List (List ℕ) → Result Task Fault
+leaves_task [] = Err WrongWords
+leaves_task (word ∷ words) = and_then (leaf_value word) (λ n. index_task n words)
 
 -- The task of the arguments after KIND of `xof`.
 abbrev pub output_task_of : Family → List (List ℕ) → Result Task Fault
@@ -250,7 +284,9 @@ task_of (command ∷ words) =
     else if bytes_eq command (codes "script") then given_task to_script words
     else if bytes_eq command (codes "steps") then given_task to_steps words
     else if bytes_eq command (codes "witness") then witness_task words
-    else if bytes_eq command (codes "tree") then tree_task words
+    else if bytes_eq command (codes "tree") then tree_task to_tree words
+    else if bytes_eq command (codes "leaves") then leaves_task words
+    else if bytes_eq command (codes "root") then tree_task to_root words
     else if bytes_eq command (codes "xof") then xof_task words
     else if bytes_eq command (codes "derive") then derive_task words
     else if bytes_eq command (codes "--help") then only to_help words

@@ -11,7 +11,7 @@ use Rattle.blake2_streams.specs.declared.stream.StreamFault.{StreamFault}
 use Rattle.blake2_streams.specs.declared.stream.StreamFault.TheVariants.{Read, Write}
 use Rattle.blake2_streams.specs.declared.stream.StreamFault.TheVariants.{TooLong as StreamTooLong}
 use Rattle.b2_commands.specs.ArgumentTasks.{Task, task_of, IsReadingFault}
-use Rattle.b2_commands.specs.Tasks.{IsRefusedInput, IsRefusedTask, IsTooLongFor, IsFaultOfScript}
+use Rattle.b2_commands.specs.Tasks.{IsRefusedInput, IsRefusedTask, IsTooLongFor, IsFaultOfLines}
 use Rattle.b2_commands.specs.Tasks.{TakesMemory}
 
 -- The error of the program for an error of a stream that is hashed.
@@ -47,7 +47,7 @@ fault_text ReadFailed = codes "read failed"
 fault_text NoMemory = codes "no memory"
 fault_text WriteFailed = []
 
--- The line of a script that an error names, counted from 1.
+-- The line of the input that an error names, counted from 1.
 abbrev pub line_number : Fault → Option ℕ
 line_number (WrongLine number) = Some number
 line_number (NoSuchSlot number) = Some number
@@ -65,18 +65,18 @@ abbrev pub fault_line : Fault → List ℕ
 fault_line WriteFailed = []
 fault_line fault = codes "b2: " ++ place_text (line_number fault) ++ fault_text fault ++ 10 ∷ []
 
--- The task is not refused, and its script has this error.
-abbrev pub IsScriptFault : Fault → Task → Option (List ℕ) → Type 0
-IsScriptFault fault task left = (¬ IsRefusedTask task) × IfSome left (IsFaultOfScript fault task)
+-- The task is not refused, and the lines of its input have this error.
+abbrev pub IsDueInLines : Fault → Task → Option (List ℕ) → Type 0
+IsDueInLines fault task left = (¬ IsRefusedTask task) × IfSome left (IsFaultOfLines fault task)
 
 -- The cause of an error, once the arguments are read: the task that they name, what the source had
 -- left, and whether a read has failed. Lengths are checked first, and the input is read only if
--- they are right. That of a key which is the input is checked after it is read.
+-- they are right. That of an input which is a key or a part is checked after it is read.
 abbrev pub IsDue : Fault → Task → Option (List ℕ) → Bool → Type 0
 IsDue WrongLength task left failed = IsRefusedTask task ⊎ IfSome left (IsRefusedInput task)
-IsDue (WrongLine number) task left failed = IsScriptFault (WrongLine number) task left
-IsDue (NoSuchSlot number) task left failed = IsScriptFault (NoSuchSlot number) task left
-IsDue (LineTooLong number) task left failed = IsScriptFault (LineTooLong number) task left
+IsDue (WrongLine number) task left failed = IsDueInLines (WrongLine number) task left
+IsDue (NoSuchSlot number) task left failed = IsDueInLines (NoSuchSlot number) task left
+IsDue (LineTooLong number) task left failed = IsDueInLines (LineTooLong number) task left
 IsDue TooLong task left failed = (¬ IsRefusedTask task) × IfSome left (IsTooLongFor task)
 IsDue ReadFailed task left failed = (¬ IsRefusedTask task) × IsTrue failed
 IsDue NoMemory task left failed = (¬ IsRefusedTask task) × TakesMemory task × (failed ≡ false)

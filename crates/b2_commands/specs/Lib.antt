@@ -3,6 +3,8 @@ pub mod TaskEnds
 pub mod Faults
 pub mod Inputs
 pub mod Kinds
+pub mod LeafDigests
+pub mod LeafLaws
 pub mod PrintedLines
 pub mod DecimalNumbers
 pub mod ReadOptions

@@ -4,17 +4,20 @@ use Rattle.std.specs.Prelude.{unwrap_or, IfSome, Result, Err, IsOkAnd}
 use Rattle.std.specs.List.{flat_map}
 use Rattle.std.specs.Io.KnownBytes.{Appends}
 use Rattle.blake2.specs.Family.{Family, blake2b}
-use Rattle.blake2.specs.Hash.{Input, sequential}
+use Rattle.blake2.specs.Hash.{Input, digest, sequential}
 use Rattle.blake2.specs.MacArguments.{key_count, IsRefused}
 use Rattle.blake2.specs.States.{digest_of, node_digest_of, input as input_of_parts}
 use Rattle.blake2.specs.Streams.{line_of}
-use Rattle.blake2_tree.specs.TreeRoot.{tree_parameters, tree_root}
+use Rattle.blake2_tree.specs.LeafRanges.{IsRange, range_digests}
+use Rattle.blake2_tree.specs.TreeRoot.{TreeParameters, root_over, tree_parameters, tree_root}
 use Rattle.blake2_xof.specs.Xof.{derived, settings, xof}
 use Rattle.b2_commands.specs.declared.fault.Fault.{Fault}
 use Rattle.b2_commands.specs.declared.help.TheConstants.{HELP, VERSION}
 use Rattle.b2_commands.specs.ArgumentTasks.{Given, nothing_given, Task}
 use Rattle.b2_commands.specs.ArgumentTasks.Task.{to_sum, to_script, to_steps, to_witness, to_tree}
+use Rattle.b2_commands.specs.ArgumentTasks.Task.{to_leaves, to_root}
 use Rattle.b2_commands.specs.ArgumentTasks.Task.{to_xof, to_derive, to_help, to_version}
+use Rattle.b2_commands.specs.LeafDigests.{digest_lines, read_digests}
 use Rattle.b2_commands.specs.PrintedLines.{transcript_lines}
 use Rattle.b2_commands.specs.Scripts.{script_digests}
 use Rattle.b2_commands.specs.PrintedWitnesses.{PrintsWitness}
@@ -28,12 +31,21 @@ abbrev pub IsRefusedByTree : Given → Type 0
 IsRefusedByTree given =
     (16 < length (unwrap_or given.salt [])) ⊎ (16 < length (unwrap_or given.persona []))
 
+-- What the nodes of a tree share, with the salt and the personalization that are given.
+abbrev pub tree_with : ℕ → Given → TreeParameters
+tree_with leaf_length given =
+    tree_parameters (unwrap_or given.salt []) (unwrap_or given.persona []) leaf_length
+
 -- The root of n bytes with the salt and the personalization that are given, as a function of the
 -- message.
 abbrev pub root_with : ℕ → ℕ → Given → List ℕ → List ℕ
-root_with n leaf_length given message =
-    tree_root n
-    (tree_parameters (unwrap_or given.salt []) (unwrap_or given.persona []) leaf_length) message
+root_with n leaf_length given message = tree_root n (tree_with leaf_length given) message
+
+-- The root of n bytes over the joined digests of leaves, with the salt and the personalization that
+-- are given.
+abbrev pub root_over_with : ℕ → ℕ → Given → List ℕ → List ℕ
+root_over_with n leaf_length given digests =
+    digest blake2b n (root_over (tree_with leaf_length given) digests)
 
 -- The BLAKE2 digest of n bytes with the salt, the personalization and the key that are given, as a
 -- function of the last-node flag and the message.
@@ -67,14 +79,19 @@ IsRefusedTask (to_script kind given) = IsRefusedBy kind.family given
 IsRefusedTask (to_steps kind given) = IsRefusedBy kind.family given
 IsRefusedTask (to_witness kind a b) = ⊥
 IsRefusedTask (to_tree kind leaf_length given) = IsRefusedByTree given
+IsRefusedTask (to_leaves leaf_length first ends given) = IsRefusedByTree given
+IsRefusedTask (to_root kind leaf_length given) = IsRefusedByTree given
 IsRefusedTask (to_xof f n given) = IsRefusedBy f given
 IsRefusedTask (to_derive n context) = ⊥
 IsRefusedTask to_help = ⊥
 IsRefusedTask to_version = ⊥
 
--- The input of the task is a key of a length that is not accepted: `derive` needs 1 to 64 bytes.
+-- The input of the task has a length that is not accepted: `derive` needs a key of 1 to 64 bytes,
+-- and `leaves` a range of a message's leaves.
 abbrev pub IsRefusedInput : Task → List ℕ → Type 0
 IsRefusedInput (to_derive n context) key = (length key ≡ 0) ⊎ (64 < length key)
+IsRefusedInput (to_leaves leaf_length first ends given) part =
+    ¬ IsRange leaf_length first ends (length part)
 IsRefusedInput task input = ⊥
 
 -- The bytes of an input, with those of a key's block, are 2^64 or above.
@@ -92,13 +109,15 @@ IsTooLongFor (to_tree kind leaf_length given) input = 2 ^ 58 ≤ length input
 IsTooLongFor (to_xof f n given) input = IsTooLongBy f given input
 IsTooLongFor task input = ⊥
 
--- The task allocates memory after its arguments are read. `script` and `steps` hold the input, and
--- `tree` holds a piece of it. `sum` and `xof` pass the input on in pieces of a fixed length, and
--- the others need no memory.
+-- The task allocates memory after its arguments are read. `script`, `steps`, `leaves` and `root`
+-- hold the input, and `tree` holds a piece of it. `sum` and `xof` pass the input on in pieces of a
+-- fixed length, and the others need no memory.
 abbrev pub TakesMemory : Task → Type 0
 TakesMemory (to_script kind given) = ⊤
 TakesMemory (to_steps kind given) = ⊤
 TakesMemory (to_tree kind leaf_length given) = ⊤
+TakesMemory (to_leaves leaf_length first ends given) = ⊤
+TakesMemory (to_root kind leaf_length given) = ⊤
 TakesMemory task = ⊥
 
 -- The digests that a script returns with the options that are given.
@@ -106,11 +125,12 @@ abbrev pub script_answer : Family → ℕ → Given → List ℕ → Result (Lis
 script_answer f n given script =
     script_digests (digest_with f n given) (key_count f given.key) script
 
--- The script of a task has this error.
-abbrev pub IsFaultOfScript : Fault → Task → List ℕ → Type 0
-IsFaultOfScript fault (to_script kind given) input =
+-- The lines of a task's input, a script or the digests of leaves, have this error.
+abbrev pub IsFaultOfLines : Fault → Task → List ℕ → Type 0
+IsFaultOfLines fault (to_script kind given) input =
     script_answer kind.family kind.bytes given input ≡ Err fault
-IsFaultOfScript fault task input = ⊥
+IsFaultOfLines fault (to_root kind leaf_length given) input = read_digests input ≡ Err fault
+IsFaultOfLines fault task input = ⊥
 
 -- The sink accepted the output of a task on what a source had left. `witness`, `--help` and
 -- `--version` read no input.
@@ -130,6 +150,12 @@ Outputs (to_witness kind a b) left old new =
 Outputs (to_tree kind leaf_length given) left old new =
     IfSome left (λ input. Appends old new
     (line_of (root_with kind.bytes leaf_length given input)))
+Outputs (to_leaves leaf_length first ends given) left old new =
+    IfSome left (λ part. Appends old new
+    (digest_lines (range_digests (tree_with leaf_length given) first ends part)))
+Outputs (to_root kind leaf_length given) left old new =
+    IfSome left (λ input. IsOkAnd (read_digests input)
+    (λ digests. Appends old new (line_of (root_over_with kind.bytes leaf_length given digests))))
 Outputs (to_xof f n given) left old new =
     IfSome left (λ input. Appends old new (line_of (output_with f n given input)))
 Outputs (to_derive n context) left old new =

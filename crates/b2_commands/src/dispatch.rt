@@ -13,6 +13,7 @@ ghost use Rattle.b2_commands.specs.Faults.{IsTold, status_of, fault_line};
 use crate::digests::hash;
 use crate::fault::Fault;
 use crate::help::{HELP, VERSION, advise, print_text};
+use crate::leaves::leaves;
 use crate::outputs::{derive, xof};
 use crate::task::Task;
 use crate::tree::tree;
@@ -64,6 +65,10 @@ pub fn run<S: Source, K: Sink, N: Sink>(
         }
         Ok(Task::Tree(root)) => {
             let end = tree(alloc, &root, source, sink);
+            status_after(end, sink)
+        }
+        Ok(Task::Leaves(part)) => {
+            let end = leaves(alloc, &part, source, sink);
             status_after(end, sink)
         }
         Ok(Task::Xof(output)) => {

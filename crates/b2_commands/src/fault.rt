@@ -21,9 +21,11 @@ pub enum Fault {
     /// The HEX of an argument is not an even number of hexadecimal digits, or the argument of a
     /// message is empty.
     WrongHex,
-    /// A key, salt or persona has a length that the hash function or the tree does not accept.
+    /// A key, salt or persona has a length that the hash function or the tree does not accept, or
+    /// the input of `leaves` is not a range of a message's leaves.
     WrongLength,
-    /// The line of this number in the script, counted from 1, is malformed.
+    /// The line of this number in the input, counted from 1, is malformed: in a script it is not a
+    /// call, and for `root` it is not a digest.
     WrongLine(usize),
     /// The call in the line of this number names a slot that is absent or has ended.
     NoSuchSlot(usize),
@@ -60,7 +62,7 @@ impl Fault {
         line
     }
 
-    // Returns the number of the script's line that the error names, from 1, or `None` if it names
+    // Returns the number of the input's line that the error names, from 1, or `None` if it names
     // no line.
     fn script_line(self) -> Option<usize>
         ensures { result ≡ line_number self }

@@ -210,7 +210,18 @@ pub(crate) fn print_digest<K: Sink, const N: usize>(
     ensures fault { IsOkUnless result Fault.WriteFailed }
     ensures line { OnOk result (Appends (K.held sink.old) (K.held sink.new) (line_of digest.now)) }
 {
+    print_bytes(digest, sink)
+}
+
+/// Prints at most 64 bytes as a line, as `print_digest` does.
+pub(crate) fn print_bytes<K: Sink>(bytes: &[u8], sink: &mut K) -> Result<(), Fault>
+    requires size { length bytes.now ≤ 64 }
+    requires sink { K.failed sink.old ≡ false }
+    ensures write { IsErrOf result Fault.WriteFailed ↔ IsTrue (K.failed sink.new) }
+    ensures fault { IsOkUnless result Fault.WriteFailed }
+    ensures line { OnOk result (Appends (K.held sink.old) (K.held sink.new) (line_of bytes.now)) }
+{
     let mut line = Line::new();
-    line.push_hex(digest);
+    line.push_hex(bytes);
     line.print(sink)
 }

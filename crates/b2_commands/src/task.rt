@@ -1,13 +1,13 @@
 //! The task that the arguments of a command line name.
 
-ghost use Rattle.std.specs.Prelude.{◌≡◌, ◌≢◌, ◌<◌, ◌≤◌, length, map, IfOk, IfErr};
+ghost use Rattle.std.specs.Prelude.{◌≡◌, ◌≢◌, ◌<◌, length, map, IfOk, IfErr};
 ghost use Rattle.std.specs.String.{string_bytes};
 ghost use Rattle.b2_commands.specs.ArgumentTasks.{task_of, IsReadingFault};
 
-use crate::arguments::{Blake2bKind, Kind, Options};
+use crate::arguments::{Kind, Options};
 use crate::fault::Fault;
-use crate::numbers::number_of;
 use crate::output_arguments::{Derivation, Extended};
+use crate::tree_arguments::{Over, Part, Root};
 use crate::witness_arguments::Comparison;
 use std::alloc::Global;
 
@@ -22,15 +22,6 @@ pub(crate) enum Output {
     Transcript,
 }
 
-/// The root of a tree over the input, whose leaves have `leaf_length` bytes, at least 1.
-#[derive(Drop)]
-pub(crate) struct Root {
-    pub(crate) kind: Blake2bKind,
-    pub(crate) leaf_length: u32,
-    pub(crate) options: Options,
-    ghost leaf: { 1 ≤ leaf_length },
-}
-
 /// The task that a command line names.
 #[derive(Drop)]
 pub(crate) enum Task {
@@ -38,8 +29,10 @@ pub(crate) enum Task {
     Hash(Output, Kind, Options),
     /// `witness`.
     Compare(Comparison),
-    /// `tree`.
+    /// `tree` or `root`.
     Tree(Root),
+    /// `leaves`.
+    Leaves(Part),
     /// `xof`.
     Xof(Extended),
     /// `derive`.
@@ -73,7 +66,9 @@ impl Task {
             "script" => Output::Digests,
             "steps" => Output::Transcript,
             "witness" => return Ok(Task::Compare(Comparison::from_words(alloc, words)?)),
-            "tree" => return Ok(Task::Tree(Root::from_words(alloc, words)?)),
+            "tree" => return Ok(Task::Tree(Root::from_words(alloc, Over::Message, words)?)),
+            "leaves" => return Ok(Task::Leaves(Part::from_words(alloc, words)?)),
+            "root" => return Ok(Task::Tree(Root::from_words(alloc, Over::Leaves, words)?)),
             "xof" => return Ok(Task::Xof(Extended::from_words(alloc, words)?)),
             "derive" => return Ok(Task::Derive(Derivation::from_words(alloc, words)?)),
             "--help" => return Self::alone(Task::Help, words),
@@ -100,50 +95,6 @@ impl Task {
         match words.split_first() {
             None => Ok(task),
             Some(_) => Err(Fault::WrongWords),
-        }
-    }
-}
-
-impl Root {
-    ghost use Rattle.b2_commands.specs.ReadTasks.{root_task};
-    ghost use Rattle.b2_commands.specs.ArgumentTasks.{tree_task, leaf_value};
-
-    // Reads the arguments KIND LEAF [salt=HEX] [persona=HEX] from left to right, and returns the
-    // root. KIND must be one of BLAKE2b. The errors are those of `Task::from_words`.
-    fn from_words(alloc: Global, words: &[String]) -> Result<Root, Fault>
-        ensures task { IfOk result (λ root.
-            tree_task (map string_bytes words.now) ≡ Ok (root_task root)) }
-        ensures fault { IfErr result (λ fault.
-            IsReadingFault fault (tree_task (map string_bytes words.now))) }
-        ensures memory { result ≡ Err Fault.NoMemory → 1 < length words.now }
-    {
-        let Some((kind, words)) = words.split_first() else {
-            return Err(Fault::WrongWords);
-        };
-        let Kind::Blake2b(kind) = Kind::from_word(kind.as_str())? else {
-            return Err(Fault::WrongWords);
-        };
-        let Some((leaf, words)) = words.split_first() else {
-            return Err(Fault::WrongWords);
-        };
-        let leaf_length = Self::leaf_of(leaf.as_bytes())?;
-        let options = Options::from_words(alloc, false, words)?;
-        Ok(Root {
-            kind,
-            leaf_length,
-            options,
-        })
-    }
-
-    // Returns the number of bytes of a leaf that LEAF names: 1 to 2^32 - 1 in decimal digits
-    // without a leading zero. The error is `Fault::WrongWords`, if LEAF is anything else.
-    fn leaf_of(digits: &[u8]) -> Result<u32, Fault>
-        ensures value { result ≡ leaf_value digits.now }
-        ensures some { IfOk result (λ n. 1 ≤ n) }
-    {
-        match number_of(digits, 10) {
-            Some(number) if number > 0 => u32::try_from(number).map_err(|_| Fault::WrongWords),
-            _ => Err(Fault::WrongWords),
         }
     }
 }

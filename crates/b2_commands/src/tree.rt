@@ -1,4 +1,5 @@
-//! `b2 tree`: the root of a tree of hashes over the input.
+//! `b2 tree` and `b2 root`: the root of a tree of hashes over the input, or over the digests of its
+//! leaves.
 
 ghost use Rattle.std.specs.Prelude.{◌≡◌, ◌≢◌, ◌↔◌, ◌⊎◌, ◌+◌, ◌^◌, ◌<◌, ◌≤◌, length, false};
 ghost use Rattle.std.specs.Prelude.{IsTrue, IfErr, IfSome, OnOk};
@@ -9,6 +10,9 @@ ghost use Rattle.blake2_tree.specs.TreeHashers.{count, Took};
 ghost use Rattle.b2_commands.specs.declared.fault.Fault.TheVariants.{ReadFailed, TooLong};
 ghost use Rattle.b2_commands.specs.declared.fault.Fault.TheVariants.{WriteFailed};
 ghost use Rattle.b2_commands.specs.TaskEnds.{EndsTask};
+ghost use Rattle.b2_commands.specs.ArgumentTasks.{blake2b_of};
+ghost use Rattle.b2_commands.specs.ArgumentTasks.Task.{to_root, to_tree};
+ghost use Rattle.b2_commands.specs.Kinds.{blake2b_value};
 ghost use Rattle.b2_commands.specs.ReadOptions.{given_of};
 ghost use Rattle.b2_commands.specs.ReadTasks.{root_task};
 ghost use Rattle.b2_commands.specs.Tasks.{IsRefusedByTree, root_with};
@@ -16,20 +20,17 @@ ghost use Rattle.b2_commands.specs.TreeFaults.{IsFaultOfTree};
 
 use crate::arguments::{Blake2bKind, Options};
 use crate::fault::Fault;
-use crate::input::fill;
+use crate::input::{fill, read_all};
+use crate::leaf_lines::digests_of;
 use crate::print::print_digest;
-use crate::task::Root;
+use crate::tree_arguments::{Over, Root};
 use blake2::streams::{Sink, Source};
-use blake2_tree::{LABEL_BYTES, MESSAGE_LIMIT, TreeHasher, best_piece_length};
+use blake2_tree::{LABEL_BYTES, MESSAGE_LIMIT, TreeHasher, best_piece_length, root_of_leaves};
 use std::alloc::Global;
 
-/// Prints the root of all that the source returns, as a line. It reads the source in pieces, and
-/// allocates memory for one. Neither device may have failed before.
-///
-/// The error is a `Fault`: `WrongLength` if the salt or the persona has more than 16 bytes;
-/// `ReadFailed` if a read returns an error; `TooLong` if the input has 2^58 bytes or more;
-/// `NoMemory` if the allocation fails; `WriteFailed` if a write fails. If it is not
-/// `WriteFailed`, nothing was printed.
+/// Prints the root as a line: of all that the source returns, or over the digests in its lines.
+/// Neither device may have failed before. The errors are those of `of_message` and of
+/// `over_leaves`.
 pub(crate) fn tree<S: Source, K: Sink>(
     alloc: Global,
     root: &Root,
@@ -41,6 +42,32 @@ pub(crate) fn tree<S: Source, K: Sink>(
     ensures { EndsTask (root_task root.now) result (S.left source.old)
         (S.failed source.new) (K.failed sink.new) (K.held sink.old) (K.held sink.new) }
 {
+    match root.over {
+        Over::Message => of_message(alloc, root, source, sink),
+        Over::Leaves => over_leaves(alloc, root, source, sink),
+    }
+}
+
+// Prints the root of all that the source returns, as a line. It reads the source in pieces, and
+// allocates memory for one. Neither device may have failed before.
+//
+// The error is a `Fault`: `WrongLength` if the salt or the persona has more than 16 bytes;
+// `ReadFailed` if a read returns an error; `TooLong` if the input has 2^58 bytes or more;
+// `NoMemory` if the allocation fails; `WriteFailed` if a write fails. If it is not
+// `WriteFailed`, nothing was printed.
+fn of_message<S: Source, K: Sink>(
+    alloc: Global,
+    root: &Root,
+    source: &mut S,
+    sink: &mut K,
+) -> Result<(), Fault>
+    requires source { S.failed source.old ≡ false }
+    requires sink { K.failed sink.old ≡ false }
+    ensures { EndsTask
+        (to_tree (blake2b_value root.now.kind) root.now.leaf_length (given_of root.now.options))
+        result (S.left source.old) (S.failed source.new) (K.failed sink.new)
+        (K.held sink.old) (K.held sink.new) }
+{
     let options = &root.options;
     match root.kind {
         Blake2bKind::B128 => print_root::<S, K, 16>(alloc, root.leaf_length, options, source, sink),
@@ -50,7 +77,7 @@ pub(crate) fn tree<S: Source, K: Sink>(
 }
 
 // Prints the root of `N` bytes, at most 64, with leaves of `leaf_length` bytes, at least 1. The
-// errors are those of `tree`.
+// errors are those of `of_message`.
 fn print_root<S: Source, K: Sink, const N: usize>(
     alloc: Global,
     leaf_length: u32,
@@ -114,4 +141,60 @@ fn absorb<S: Source, const N: usize>(
             return Ok(());
         }
     }
+}
+
+// Prints the root over the digests of leaves in the source's lines, as a line. The text and the
+// digests are held in memory. Neither device may have failed before.
+//
+// The error is a `Fault`: `WrongLength` if the salt or the persona has more than 16 bytes;
+// `ReadFailed` if a read returns an error; `WrongLine` if there is no line, or one is not a digest;
+// `NoMemory` if an allocation fails; `WriteFailed` if a write fails. If it is not `WriteFailed`,
+// nothing was printed.
+fn over_leaves<S: Source, K: Sink>(
+    alloc: Global,
+    root: &Root,
+    source: &mut S,
+    sink: &mut K,
+) -> Result<(), Fault>
+    requires source { S.failed source.old ≡ false }
+    requires sink { K.failed sink.old ≡ false }
+    ensures { EndsTask
+        (to_root (blake2b_value root.now.kind) root.now.leaf_length (given_of root.now.options))
+        result (S.left source.old) (S.failed source.new) (K.failed sink.new)
+        (K.held sink.old) (K.held sink.new) }
+{
+    let (leaf, options) = (root.leaf_length, &root.options);
+    match root.kind {
+        Blake2bKind::B128 => print_root_over::<S, K, 16>(alloc, leaf, options, source, sink),
+        Blake2bKind::B256 => print_root_over::<S, K, 32>(alloc, leaf, options, source, sink),
+        Blake2bKind::B512 => print_root_over::<S, K, 64>(alloc, leaf, options, source, sink),
+    }
+}
+
+// Prints the root of `N` bytes, at most 64, over the digests of leaves of `leaf_length` bytes, at
+// least 1. The errors are those of `over_leaves`.
+fn print_root_over<S: Source, K: Sink, const N: usize>(
+    alloc: Global,
+    leaf_length: u32,
+    options: &Options,
+    source: &mut S,
+    sink: &mut K,
+) -> Result<(), Fault>
+    requires size { N ≤ 64 }
+    requires leaf { 1 ≤ leaf_length }
+    requires source { S.failed source.old ≡ false }
+    requires sink { K.failed sink.old ≡ false }
+    ensures { EndsTask (to_root (blake2b_of N) leaf_length (given_of options.now)) result
+        (S.left source.old) (S.failed source.new) (K.failed sink.new)
+        (K.held sink.old) (K.held sink.new) }
+{
+    let salt = options.salt();
+    let persona = options.persona();
+    if salt.len() > LABEL_BYTES || persona.len() > LABEL_BYTES {
+        return Err(Fault::WrongLength);
+    }
+    let text = read_all(alloc, source)?;
+    let digests = digests_of(alloc, text.as_slice())?;
+    let root = root_of_leaves::<N>(salt, persona, leaf_length, digests.as_slice());
+    print_digest(&root, sink)
 }

@@ -9,6 +9,7 @@ mod failing_outputs;
 mod help;
 mod input_lengths;
 mod large;
+mod leaves;
 mod memory;
 mod outputs;
 mod refusals;

@@ -1,6 +1,7 @@
 //! Devices that move few bytes a call, and that fail at each call.
 
 use super::input_lengths::script_of;
+use super::leaves::FIRST;
 use super::{check_line, run_over, words_of};
 use b2_commands::run;
 use blake2::streams::{SliceSink, SliceSource};
@@ -142,8 +143,12 @@ fn devices_give_little_or_fail(rt: HostRuntime) {
     check_devices(&rt, "tree b512 1", &[b'a'; 129]);
     check_devices(&rt, "tree b128 4", b"abcde");
     check_devices(&rt, "tree b256 4294967295", b"abc");
+    check_devices(&rt, "leaves 64 1 last", &[b'a'; 129]);
+    check_devices(&rt, "leaves 4 0 more", b"abcdefgh");
+    check_devices(&rt, "leaves 4 0 more", b"abcde");
     let lines = b"u 0 6162\nc 0\nu 0 63\nd 0\nu 1 63\nf 1\nf 0\n";
     check_devices(&rt, "script b512", lines);
+    check_devices(&rt, "root b512 4", FIRST.as_bytes());
     check_devices(&rt, "script s128 key=01", b"d 0\nu 0 61\nf 0");
     check_devices(&rt, "script s128", b"f 0\nf 0\n");
     check_devices(&rt, "script s128", b"f 0\nx 0\n");
@@ -153,6 +158,7 @@ fn devices_give_little_or_fail(rt: HostRuntime) {
 fn outputs_take_little_or_fail(rt: HostRuntime) {
     check_outputs(&rt, "sum b999", b"");
     check_outputs(&rt, "tree b256 4 key=", b"abc");
+    check_outputs(&rt, "root b256 4", b"abc");
     check_outputs(&rt, "witness b0 61 62", b"");
     check_outputs(&rt, "witness s0 - 00", b"");
     check_outputs(&rt, "witness b512 61 62", b"");
@@ -178,6 +184,8 @@ fn reads_fail_behind_whole_pieces(rt: HostRuntime) {
         "steps b512",
         "steps s256 key=01",
         "tree b128 4294967295",
+        "leaves 1 0 more",
+        "root b128 1",
     ] {
         check_ends(&rt, words, &input, &[4096, 8192, 65_536]);
     }

@@ -34,6 +34,7 @@ const STOPS: &str = "\
 65|script s128 key=01|d 0\nd 0\nf 0\n;\
 0|steps b512|;138|steps b512|;200|steps s256|;\
 0|tree b512 4|abcde;32|tree b128 4|abcde;\
+0|leaves 4 0 last|abcde;129|leaves 4 0 last|abcde;200|leaves 4 0 last|abcde;0|root b512 4|abcde;\
 0|witness b0 61 62|;208|witness s0 61 62|;0|witness b512 61 62|;4|witness b512 61 62|;\
 0|add|;13|sum b512 key=1|;0|script b512|f 0\nf 0\n;15|steps b512 key=|";
 

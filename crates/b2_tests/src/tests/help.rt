@@ -63,6 +63,20 @@ fn notes_what_is_wrong(rt: HostRuntime) {
         )
     );
     assert!(rt; notes(alloc, "derive 0 a", b"usage: b2 derive LENGTH CONTEXT\n"));
+    assert!(rt;
+        notes(
+            alloc,
+            "leaves 4 0",
+            b"usage: b2 leaves LEAF FIRST more|last [salt=HEX] [persona=HEX | persona-text=TEXT]\n"
+        )
+    );
+    assert!(rt;
+        notes(
+            alloc,
+            "root s256 4",
+            b"usage: b2 root KIND LEAF [salt=HEX] [persona=HEX | persona-text=TEXT]\n"
+        )
+    );
     assert!(rt; notes(alloc, "--help sum", b"usage: b2 --help\n"));
 }
 

@@ -20,7 +20,7 @@ f506f03008633ed93b4adae5c5ca1cbb9a51ec0ae2958ae4766f69c7cc268be9\n\
 
 // LEAF, and the line of `tree b256` over the input. A piece of the input has many such leaves, a
 // few, or not a whole one.
-const ROOTS: &str = "\
+pub(super) const ROOTS: &str = "\
 1|f407bf53d3409f308fe0e894fdb3a448e5542b8c651cf28e9d2e90d145595883\n\
 64|1b6af88dbba72489483c4756533e1050f6c780af2f42784787c398987a7c71f5\n\
 1000|4f9e0d1124250152879c91ffa01a972c39f0260fa25ae8f0bc335c1c4659d11e\n\
@@ -32,7 +32,7 @@ const ROOTS: &str = "\
 ";
 
 // Returns the input, whose byte i is i modulo 251.
-fn large_input(alloc: Global) -> Result<Vec<u8>, AllocError> {
+pub(super) fn large_input(alloc: Global) -> Result<Vec<u8>, AllocError> {
     let mut input = Vec::with_capacity(alloc, INPUT_BYTES)?;
     for i in 0..INPUT_BYTES {
         input.push((i % 251) as u8)?;

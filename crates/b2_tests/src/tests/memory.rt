@@ -2,6 +2,7 @@
 
 ghost use Rattle.std.specs.Prelude.{◌≤◌};
 
+use super::leaves::FIRST;
 use super::script::{ABC, NOTHING};
 use super::witness::B0;
 use super::{text_of, words_of};
@@ -196,6 +197,14 @@ fn each_request_for_memory_refused(rt: HostRuntime) {
     let root = "14b0752e3ca5c2b4f5df98dcb4fab97caeda23424260d531f9b0b52310bb58ee\
         cb6e13211a8298c3e52d543a21efa545053f3006100629ff6bd181611b38f8c8\n";
     check_refusals(&rt, "tree b512 4 salt= persona=", b"abcde", &[root], 128);
+    check_refusals(&rt, "leaves 4 0 more salt=", b"abcd", &[FIRST, "\n"], 16);
+    check_refusals(
+        &rt,
+        "root b128 4 salt=",
+        FIRST.as_bytes(),
+        &["39544fb70173708ee0632ecf773a3c6a\n"],
+        16,
+    );
 }
 
 #[test]

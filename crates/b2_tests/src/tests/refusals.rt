@@ -54,6 +54,29 @@ steps s128 persona=000000000000000000||b2: wrong length\n\
 steps b128 persona=0000000000000000000000000000000000||b2: wrong length\n\
 steps s256 key=000102030405060708090a0b0c0d0e0f101112131415161718191a1b1c1d1e1f20||\
 b2: wrong length\n\
+leaves||b2: wrong words\n\
+leaves 4||b2: wrong words\n\
+leaves 4 0||b2: wrong words\n\
+leaves 0 0 last||b2: wrong words\n\
+leaves 4294967296 0 last||b2: wrong words\n\
+leaves b512 4 last||b2: wrong words\n\
+leaves 4 00 last||b2: wrong words\n\
+leaves 4 -1 last||b2: wrong words\n\
+leaves 4 1000000000000000000 last||b2: wrong words\n\
+leaves 4 0 end||b2: wrong words\n\
+leaves 4 0 LAST||b2: wrong words\n\
+leaves 4 0 last more||b2: wrong words\n\
+leaves 4 0 last key=01||b2: wrong words\n\
+leaves 4 0 last salt=1||b2: wrong hex\n\
+leaves 4 0 last salt=0000000000000000000000000000000000||b2: wrong length\n\
+leaves 4 0 more persona=0000000000000000000000000000000000||b2: wrong length\n\
+root||b2: wrong words\n\
+root b512||b2: wrong words\n\
+root s256 4||b2: wrong words\n\
+root b512 0||b2: wrong words\n\
+root b512 4 key=01||b2: wrong words\n\
+root b512 4 persona=0||b2: wrong hex\n\
+root b512 4 salt=0000000000000000000000000000000000||b2: wrong length\n\
 xof||b2: wrong words\n\
 xof xb||b2: wrong words\n\
 xof b512 8||b2: wrong words\n\

@@ -35,6 +35,12 @@ returns-in-Ok-Tree-clause-told g c =
     told_by (map string_bytes c.args.words.now) _ c.tree-end.result _ _ _ _ _ _ _ _ _
     c.in-Ok-Tree.ensures.task (search rules) (search rules) told.printed told.failed
 
+pub returns-in-Ok-Leaves-clause-told : goal.returns-in-Ok-Leaves-clause-told
+returns-in-Ok-Leaves-clause-told g c =
+    let told = c.status_after-in-Ok-Leaves.ensures in
+    told_by (map string_bytes c.args.words.now) _ c.leaves-end.result _ _ _ _ _ _ _ _ _
+    c.in-Ok-Leaves.ensures.task (search rules) (search rules) told.printed told.failed
+
 pub returns-in-Ok-Xof-clause-told : goal.returns-in-Ok-Xof-clause-told
 returns-in-Ok-Xof-clause-told g c =
     let told = c.status_after-in-Ok-Xof.ensures in

@@ -1,10 +1,26 @@
-use Rattle.std.proofs.Common.{◌≡◌, ◌+◌, ◌*◌, ◌^◌, add-one, get_or, refl, sym, ◌∙◌, arith}
-use Rattle.std.proofs.Math.Nat.{pow-suc}
+use Rattle.std.proofs.Common.{◌≡◌, ℕ, ◌+◌, ◌*◌, ◌^◌, ◌<◌, ◌≤◌, add-one, get_or, refl, sym, ◌∙◌, arith}
+use Rattle.std.proofs.Math.Nat.{pow-suc, pow-le-pow_right}
 use Rattle.std.proofs.lemmas.Bool.Decides.{nat_tests}
 use Rattle.std.proofs.lemmas.Int.Digits.{digits_value_more}
 use Rattle.std.proofs.lemmas.List.Folds.{list_all_more}
 use Rattle.std.specs.Char.{digit_value, is_ascii_digit}
 use Rattle.b2_commands.proofs.numbers.value_of.Goals as goal
+
+-- The number of fewer than 18 digits.
+small : (i number : ℕ) → i < 18 → number < 10 ^ i → number < 10 ^ 17
+small i number few below =
+    let most : 10 ^ i ≤ 10 ^ 17 = pow-le-pow_right {n = 10} (omega arith) {i = i} {j = 17} (omega arith) in
+    omega arith
+
+pub overflow_mul-number : goal.overflow_mul-number
+overflow_mul-number c =
+    let i = c.loop-digit.digit-index in
+    omega (arith, small i c.loop-digit.number (omega arith) c.loop-digit.invariant.below)
+
+pub overflow_add-number : goal.overflow_add-number
+overflow_add-number c =
+    let i = c.loop-digit.digit-index in
+    grind (arith, nat_tests, small i c.loop-digit.number (omega arith) c.loop-digit.invariant.below)
 
 pub loop-digit-preserved : goal.loop-digit-preserved
 loop-digit-preserved c =

@@ -1,14 +1,5 @@
 use Rattle.std.proofs.Common.{arith}
-use Rattle.hex.specs.Hex.{lower_digits}
-use Rattle.hex.proofs.HexLemmas.{length-encode_with}
 use Rattle.b2_commands.proofs.print.print_digest.Goals as goal
 
-pub print-requires-clause-room : goal.print-requires-clause-room
-print-requires-clause-room g c =
-    rw (c.push_hex.ensures, c.new-line.ensures)
-    (omega (
-      arith,
-      c.requires.size,
-      c.told-digest,
-      length-encode_with lower_digits c.args.digest.now,
-    ))
+pub print_bytes-requires-clause-size : goal.print_bytes-requires-clause-size
+print_bytes-requires-clause-size g c = omega (arith, c.requires.size, c.told-digest)
