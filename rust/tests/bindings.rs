@@ -1,5 +1,7 @@
 //! Refusals, traits and what is left of a key: the lines of the crate around the calls of the
 //! library.
+// Both orders, references, copies and what is not equal are compared, as programs may write them.
+#![allow(clippy::op_ref, clippy::clone_on_copy, clippy::nonminimal_bool, clippy::precedence)]
 #![cfg(feature = "std")]
 use std::collections::hash_map::DefaultHasher;
 use std::error::Error;
