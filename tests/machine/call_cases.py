@@ -204,7 +204,7 @@ def some(family: str) -> Any:
     kind = KINDS[family]
     if "x" in family:                  # whose root hash is updated as that of the other family
         return (0, 1), ()
-    return (0, 1, kind.block), (1, kind.w)
+    return (0, 1, kind.block), (1, kind.w - 1, kind.w)
 
 
 class Cases:
