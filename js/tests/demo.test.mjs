@@ -240,9 +240,8 @@ onPage("what is in a manifest and is not here, or is no line of one, is said", L
   await page.compare(`${b256}  name\n`.repeat(1000));
   assert.equal(await page.evaluate(VERDICT), "1,000 digests: 1,000 no such file below.");
   assert.deepEqual((await page.evaluate(LINES)).slice(199), [["name", "no such file below"], ["and 800 more"]]);
-  // a digest alone is computed for each file, after a pause
-  await page.compare("0".repeat(40));
-  await page.compare("b0b2850a0db21cea059541b48650649f");
+  // a digest alone is computed for each file, after a pause: the second is typed within the first one's
+  await Promise.all(["0".repeat(40), "b0b2850a0db21cea059541b48650649f"].map(page.compare));
   await page.until(`${VERDICT} === "Equal to the BLAKE2s-128 of one byte."`, 20);
   await page.evaluate(PAUSE);
   assert.equal((await page.evaluate(CARDS)).some(({ digests }) => "BLAKE2b-160" in digests), false);
