@@ -3,7 +3,7 @@
 
     tests/vectors.py                    writes the file, with the digests of Python's hashlib
     tests/vectors.py --check            ends with status 1 if the file is another
-    tests/vectors.py --lines b|s        prints the cases of a family in lines, for C and Rust
+    tests/vectors.py --lines b|s        prints the cases of a family in lines, for Rust
 
 The file is a list of groups. Each row of a group is a case: its values are those of the group's
 columns, and all else in the group holds for each row. The names are those of hashlib's arguments.
@@ -253,7 +253,7 @@ def cases():
 # ---- lines
 
 def lines(case):
-    """The lines of a case for C and Rust: its kind, and what it has; bytes in digits, and `-` for none."""
+    """The lines of a case for Rust: its kind, and what it has; bytes in digits, and `-` for none."""
     given = {"key": b"", "salt": b"", "person": b"", **arguments(case)}
     key, salt, person = (given[name] for name in STARTS)
     wanted, size = bytes.fromhex(case["digest"]), case.get("digest_size")
