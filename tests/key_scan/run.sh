@@ -36,8 +36,11 @@ build() {
         rattle_cpu=x86-64-v3 toolchain=$work/toolchain
         make_v4_toolchain "$toolchain" x86_64_v4 || return
     fi
-    prove_libraries blake2_state "$work/proofs" && mkdir -p "$work/src" &&
-        cp "$here/calls.rt.txt" "$work/src/lib.rt" &&
+    prove_libraries blake2_state "$work/proofs" && mkdir -p "$work/src" && {
+        cat "$here/calls.rt.txt"
+        sed '1,/^\/\/ The forms/d;s/Blake2bMac512/Blake2sMac256/;s/Blake2b512/Blake2s256/;s/_b\([_(]\)/_s\1/;s/64/32/' \
+            "$here/calls.rt.txt"
+    } >"$work/src/lib.rt" &&
         build_crate "$work" keyed blake2 "$work" --crate-type staticlib --cpu "$rattle_cpu" \
             --toolchain "$toolchain" -o "$work/keyed.a"
 }

@@ -68,47 +68,25 @@ static __attribute__((noinline)) void fill_stack(void)
         bytes[i] = 0x55;
 }
 
+// Stores 16 vector registers of so many bytes each to these places.
+#define LOWER_NUMBERS "0,1,2,3,4,5,6,7,8,9,10,11,12,13,14,15"
+#define UPPER_NUMBERS "16,17,18,19,20,21,22,23,24,25,26,27,28,29,30,31"
+#define STORE_ALL(instruction, kind, size, numbers, places) \
+    __asm__ volatile(".set at, 0\n .irp n," numbers "\n" instruction " %%" kind "\\n, at(%0)\n" \
+                     ".set at, at + " #size "\n .endr" ::"r"(places) : "memory")
+
 // Runs a form, and copies the vector registers and the stack below this frame before anything else.
 static __attribute__((noinline)) _Bool run(const struct form *form)
 {
     int is_b = form->family == 'b';
     _Bool is_taken = form->call(key, message, LENGTH, is_b ? tag_b : tag_s, is_b ? 64 : 32);
-#if defined(__AVX__)
-    __asm__ volatile(
-        "vmovdqu %%ymm0, 0(%0)\n vmovdqu %%ymm1, 32(%0)\n"
-        "vmovdqu %%ymm2, 64(%0)\n vmovdqu %%ymm3, 96(%0)\n"
-        "vmovdqu %%ymm4, 128(%0)\n vmovdqu %%ymm5, 160(%0)\n"
-        "vmovdqu %%ymm6, 192(%0)\n vmovdqu %%ymm7, 224(%0)\n"
-        "vmovdqu %%ymm8, 256(%0)\n vmovdqu %%ymm9, 288(%0)\n"
-        "vmovdqu %%ymm10, 320(%0)\n vmovdqu %%ymm11, 352(%0)\n"
-        "vmovdqu %%ymm12, 384(%0)\n vmovdqu %%ymm13, 416(%0)\n"
-        "vmovdqu %%ymm14, 448(%0)\n vmovdqu %%ymm15, 480(%0)\n"
-        :
-        : "r"(vectors)
-        : "memory");
 #if defined(__AVX512F__)
-#define STORE(register, place) "vmovdqu64 %%zmm" #register ", " #place "*64(%0)\n"
-    __asm__ volatile(
-        STORE(16, 0) STORE(17, 1) STORE(18, 2) STORE(19, 3) STORE(20, 4) STORE(21, 5) STORE(22, 6)
-        STORE(23, 7) STORE(24, 8) STORE(25, 9) STORE(26, 10) STORE(27, 11) STORE(28, 12)
-        STORE(29, 13) STORE(30, 14) STORE(31, 15)
-        :
-        : "r"(vectors + LOWER)
-        : "memory");
+    STORE_ALL("vmovdqu64", "zmm", 64, UPPER_NUMBERS, vectors + LOWER);
 #endif
+#if defined(__AVX__)
+    STORE_ALL("vmovdqu", "ymm", 32, LOWER_NUMBERS, vectors);
 #else
-    __asm__ volatile(
-        "movdqu %%xmm0, 0(%0)\n movdqu %%xmm1, 16(%0)\n"
-        "movdqu %%xmm2, 32(%0)\n movdqu %%xmm3, 48(%0)\n"
-        "movdqu %%xmm4, 64(%0)\n movdqu %%xmm5, 80(%0)\n"
-        "movdqu %%xmm6, 96(%0)\n movdqu %%xmm7, 112(%0)\n"
-        "movdqu %%xmm8, 128(%0)\n movdqu %%xmm9, 144(%0)\n"
-        "movdqu %%xmm10, 160(%0)\n movdqu %%xmm11, 176(%0)\n"
-        "movdqu %%xmm12, 192(%0)\n movdqu %%xmm13, 208(%0)\n"
-        "movdqu %%xmm14, 224(%0)\n movdqu %%xmm15, 240(%0)\n"
-        :
-        : "r"(vectors)
-        : "memory");
+    STORE_ALL("movdqu", "xmm", 16, LOWER_NUMBERS, vectors);
 #endif
     uint8_t *from;
     __asm__ volatile("mov %%rsp, %0" : "=r"(from));
