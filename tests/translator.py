@@ -9,6 +9,7 @@ Needs node and a C compiler. Other processors need their compiler and emulator, 
 several words, of a Rust that compiles for another processor, and RUSTC_RUNNER its emulator.
 """
 import os
+import re
 import shutil
 import subprocess
 import sys
@@ -22,21 +23,22 @@ sys.path.append(FOLDER)
 import functions  # noqa: E402
 import wasm_to_c  # noqa: E402
 import wasm_to_rust  # noqa: E402
-from wasm_format import CannotRead  # noqa: E402
+from wasm_format import MORE, PLAIN, CannotRead  # noqa: E402
 from wasm_values import Refused  # noqa: E402
 
 HUGE = bool(os.environ.get("VULFSJOR_TEST_HUGE"))
-# The compilers, with words, and what runs their programs: those of the short form, and the others.
-TARGETS = {"clang -O1 with sanitizers":
-               (["clang", "-O1", "-fsanitize=address,undefined", "-fno-sanitize-recover=all"], []),
+# The compilers, with words, and what runs their programs: those of the short form, of which one optimizes, and the
+# others.
+TARGETS = {"clang with sanitizers": (["clang", "-O0", "-fsanitize=address,undefined", "-fno-sanitize-recover=all"], []),
            "cc -O1, an unknown order of bytes": (["cc", "-O1", "-U__BYTE_ORDER__"], []),
-           "s390x": (["s390x-linux-gnu-gcc", "-O1", "-static"], ["qemu-s390x"])}
+           "s390x": (["s390x-linux-gnu-gcc", "-O0", "-static"], ["qemu-s390x"])}
 MORE_TARGETS = {processor: ([f"{compiler}-gcc", "-O2", "-static"], [emulator]) for processor, compiler, emulator in (
     ("riscv64", "riscv64-linux-gnu", "qemu-riscv64"), ("i386", "i686-linux-gnu", "qemu-i386"),
     ("armhf", "arm-linux-gnueabihf", "qemu-arm"), ("ppc64el", "powerpc64le-linux-gnu", "qemu-ppc64le"))}
-MORE_TARGETS["cc -O2"] = ["cc", "-O2"], []
+MORE_TARGETS |= {"cc -O2": (["cc", "-O2"], []), "clang -O1": (["clang", "-O1"], [])}
 # Sums that are too long for their type would panic in Rust with these words.
-RUSTC = [*os.environ.get("RUSTC", "rustc").split(), "-C", "opt-level=1", "-C", "debug-assertions=on", "-A", "warnings"]
+RUSTC = [*os.environ.get("RUSTC", "rustc").split(), "-C", f"opt-level={int(HUGE)}", "-C", "debug-assertions=on",
+         "-A", "warnings"]
 INPUTS = [(0, 0), (1, 2**64 - 1), (0x0123456789abcdef, 0xfedcba9876543210), (1 << 63, 1 << 31),
           (0x7fffffff80000000, 0xff80), (0x9e3779b97f4a7c15, 0xbf58476d1ce4e5b9), (33, 0x94d049bb133111eb)]
 C_TYPES = {"i64": "uint64_t", "i32": "uint32_t"}
@@ -96,12 +98,9 @@ for (const [k, bits] of [%s].entries()) for (const [a, b] of [%s]) {
 }
 console.log(lines.join("\\n"));
 """
-HAS_ALL = {f"{type_}.{name}" for type_ in ("i32", "i64") for name in functions.BINARY + functions.COMPARISONS +
-           functions.LOADS[type_] + functions.STORES[type_] + functions.EXTENDS[type_] +
-           ["const", "div_u", "rem_u", "eqz"]}
-HAS_ALL |= {"i32.wrap_i64", "i64.extend_i32_s", "i64.extend_i32_u", "local.get", "local.set", "local.tee", "global.get",
-            "global.set", "memory.copy", "memory.fill", "block", "loop", "end", "br", "br_if", "return", "unreachable",
-            "select", "drop", "call"}
+# All instructions that a function may have.
+HAS_ALL = {known.partition(" ")[0] for known in (*PLAIN.values(), *MORE.values()) if not re.search(
+    r"^f|^if|else|nop|br_table|c[lt]z|popcnt|(div|rem)_s|init", known)}
 
 
 def header_of(results):
@@ -131,7 +130,6 @@ class Case:
         self.wanted = self.output(["node", "--experimental-wasm-memory64", "--no-warnings", "run.mjs"])
 
     def write(self, name, data):
-        """Writes a file."""
         with open(os.path.join(self.folder, name), "wb") as file:
             file.write(data)
 
@@ -142,16 +140,13 @@ class Case:
         return done.stdout if not done.returncode else f"{words[0]}: {done.returncode} {done.stderr[-3000:]}"
 
     def translate(self):
-        """Writes the functions in C."""
         self.write("v.c", str(wasm_to_c.Program(self.data, self.header)).encode())
 
     def run(self, compiler, emulator):
-        """What the functions in C return."""
         said = self.output([*compiler, "-std=c99", "-w", "-I.", "main.c", "v.c", "-o", "run"])
         return said or self.output([*emulator, "./run"])
 
     def run_in_rust(self):
-        """What the functions in Rust return."""
         self.write("v.rs", str(wasm_to_rust.Program(self.data, self.header)).encode())
         said = self.output([*RUSTC, "--edition=2021", "main.rs", "-o", "run"])
         return said or self.output([*os.environ.get("RUSTC_RUNNER", "").split(), "./run"])
@@ -193,21 +188,20 @@ def test_targets(case, name):
 
 # ---- what is refused
 
-def one(lines, results=("i64",), locals_=("i64", "i64", "i32"), more=b"", names=("vulfsjor_ffi_t0",), exports=None):
-    """A module with a function of these lines for each name."""
-    made = [(name, ["i64"] * 3, list(results), list(locals_), lines + ["end"]) for name in names]
+def one(text, results=("i64",), more=b"", names=("vulfsjor_ffi_t0",), exports=None):
+    made = [(name, ["i64"] * 3, list(results), ["i64", "i64", "i32"], [*text.split("; "), "end"]) for name in names]
     return functions.module(made, exports or {names[0]: 0}, more)
 
 
-ALIGNED = ["global.get 0", "local.tee 4", "i64.const 32", "i64.sub", "i64.const -32", "i64.and", "local.tee 3",
-           "global.set 0"]
-RETURN = ["local.get 1"]
-TAKE = ["global.get 0", "i64.const 32", "i64.sub", "local.tee 3", "global.set 0"]
-GIVE = ["local.get 3", "i64.const 32", "i64.add", "global.set 0"]
-RUNTIME = {"__rattle_leave": ["i32.const 0", "global.set 1", "unreachable"],
-           "__rattle_trap": ["i32.const 0", "drop", "unreachable"],
-           "a::settle::<=16>": ["nop"], "a::scrub_stack::<=16>": ["nop"],
-           "__rattle_enter": ["i32.const 0"]}
+RETURN = "local.get 1"
+LOWER = "global.get 0; i64.const 32; i64.sub"
+TAKE = f"{LOWER}; local.tee 3; global.set 0"
+GIVE = "local.get 3; i64.const 32; i64.add; global.set 0; local.get 1"
+ALIGNED = "global.get 0; local.tee 4; i64.const 32; i64.sub; i64.const -32; i64.and; local.tee 3; global.set 0"
+RUNTIME = {"__rattle_leave": "i32.const 0; global.set 1; unreachable",
+           "__rattle_trap": "i32.const 0; drop; unreachable", "a::settle::<=16>": "nop",
+           "a::scrub_stack::<=16>": "nop", "__rattle_enter": "i32.const 0"}
+# Modules with something before, after or instead of the parts of one that is translated.
 REFUSED = {
     "an import": one(RETURN, more=functions.section(2, b"\x00")),
     "a table": one(RETURN, more=functions.section(4, b"\x01\x70\x00\x00")),
@@ -218,71 +212,51 @@ REFUSED = {
     "another function than the header's": one(RETURN, exports={"vulfsjor_ffi_t1": 0}),
     "a function that the header lacks": one(RETURN, exports={"vulfsjor_ffi_t0": 0, "vulfsjor_ffi_t1": 0}),
     "other globals": one(RETURN).replace(b"\x7f\x01\x41\0\x0b", b"\x7f\x01\x41\1\x0b"),
-    "two names that are one in C": one(RETURN + ["local.get 0", "local.get 1", "local.get 2", "call 1", "local.get 0",
-                                                 "local.get 1", "local.get 2", "call 2", "drop", "drop"],
+    "two names that are one in C": one(f"{RETURN}; local.get 0; local.get 1; local.get 2; call 1; local.get 0; "
+                                       "local.get 1; local.get 2; call 2; drop; drop",
                                        names=("vulfsjor_ffi_t0", "a::b", "a:b")),
-    "an if": one(["local.get 5", "if", "end"] + RETURN),
-    "a block with a result": one(["block i64", "local.get 1", "end"]),
-    "a branch with a result": one(["local.get 1", "local.get 5", "br_if 0"]),
-    "br to the end of a function with a result": one(["local.get 1", "br 0"]),
-    "a table of branches": one(["block", "local.get 5", "br_table 1 0 0", "end"] + RETURN),
-    "operands that are left over": one(["local.get 1"] + RETURN),
-    "a quotient of signed numbers": one(["local.get 1", "local.get 2", "i64.div_s"]),
-    "a rest of signed numbers": one(["local.get 1", "local.get 2", "i64.rem_s"]),
-    "clz": one(["local.get 1", "i64.clz"]), "ctz": one(["local.get 1", "i64.ctz"]),
-    "popcnt": one(["local.get 1", "i64.popcnt"]),
-    "floating point": one(["local.get 0", "f64.load 0", "drop"] + RETURN),
-    "the flag of a call elsewhere": one(["i32.const 0", "global.set 1"] + RETURN),
-    "another global": one(["global.get 2"]),
-    "another global in a function with a part of the stack": one(TAKE + ["global.get 2", "drop"] + GIVE + RETURN),
-    "a stack pointer from somewhere": one(["local.get 0", "global.set 0"] + RETURN),
-    "a stack pointer from memory": one(TAKE + ["local.get 0", "i64.load 0", "global.set 0"] + RETURN),
-    "a stack pointer that stays lower": one(TAKE + ["local.get 3", "i64.const 16", "i64.add", "global.set 0"] + RETURN),
-    "a part of the stack of 24 bytes": one([x.replace("32", "24") for x in TAKE + GIVE] + RETURN),
-    "a part of the stack of a length that is not known": one(["global.get 0", "local.get 1", "i64.sub",
-                                                              "global.set 0"] + RETURN),
-    "two parts of the stack": one(TAKE + ["local.get 3", "i64.const 16", "i64.sub", "global.set 0"] + GIVE + RETURN),
-    "a store below the part of the stack": one(TAKE + ["local.get 3", "i64.const 8", "i64.sub", "local.get 1",
-                                                       "i64.store 0"] + GIVE + RETURN),
-    "a store above the part of the stack": one(TAKE + ["local.get 3", "local.get 1", "i64.store 25"] + GIVE + RETURN),
-    "a load above the part of the stack": one(TAKE + ["local.get 3", "i64.load8_u 32", "drop"] + GIVE + RETURN),
-    "parts of the stack of two lengths": one(TAKE + ["global.get 0", "i64.const 64", "i64.sub", "drop"] + GIVE +
-                                             RETURN),
-    "a load above the stack pointer": one(["global.get 0", "i64.load 0"]),
-    "a store above an aligned part of the stack": one(ALIGNED + ["local.get 3", "local.get 1", "i64.store 25"] +
-                                                      RETURN),
-    "a store below an aligned part of the stack": one(ALIGNED + ["local.get 3", "i64.const 8", "i64.sub", "local.get 1",
-                                                                 "i64.store 0"] + RETURN),
-    "another store below an aligned part": one(ALIGNED + ["local.get 4", "i64.const 40", "i64.sub", "local.get 1",
-                                                          "i64.store 0"] + RETURN),
-    "an alignment of 8": one(TAKE[:3] + ["i64.const -8", "i64.and", "local.tee 3", "global.set 0"] + RETURN),
-    "an alignment of 128": one(TAKE[:3] + ["i64.const -128", "i64.and", "local.tee 3", "global.set 0"] + RETURN),
-    "a stack pointer after another branch": one(TAKE[:3] + ["local.set 3", "block", "local.get 5", "br_if 0",
-                                                            "local.get 1", "local.set 3", "end", "local.get 3",
-                                                            "global.set 0"] + RETURN),
-    "a stack pointer that a loop changes": one(TAKE[:3] + [
-        "local.set 3", "loop", "local.get 3", "global.set 0", "local.get 1", "local.set 3", "local.get 5", "br_if 0",
-        "end"] + RETURN),
     **{f"another {name}": functions.module(
-        [("vulfsjor_ffi_t0", ["i64"] * 3, ["i64"], [], RETURN + ["end"]),
-         (name, [], ["i32"] if name == "__rattle_enter" else [], ["i64"], lines + ["end"])], {"vulfsjor_ffi_t0": 0})
-       for name, lines in RUNTIME.items()},
+        [("vulfsjor_ffi_t0", ["i64"] * 3, ["i64"], [], [RETURN, "end"]),
+         (name, [], ["i32"] if name == "__rattle_enter" else [], ["i64"], [*text.split("; "), "end"])],
+        {"vulfsjor_ffi_t0": 0}) for name, text in RUNTIME.items()},
+    **{text: one(text) for text in (
+        f"local.get 5; if; end; {RETURN}", "block i64; local.get 1; end",  # blocks and branches
+        "local.get 1; local.get 5; br_if 0", "local.get 1; br 0", f"block; local.get 5; br_table 1 0 0; end; {RETURN}",
+        f"local.get 1; {RETURN}",  # operands that are left over
+        "local.get 1; local.get 2; i64.div_s", "local.get 1; local.get 2; i64.rem_s",  # operators
+        "local.get 1; i64.clz", "local.get 1; i64.ctz", "local.get 1; i64.popcnt",
+        f"local.get 0; f64.load 0; drop; {RETURN}",
+        f"i32.const 0; global.set 1; {RETURN}", "global.get 2", f"{TAKE}; global.get 2; drop; {GIVE}",  # globals
+        # The stack pointer: from somewhere or memory, left lower, or after a branch or a loop that changes it.
+        f"local.get 0; global.set 0; {RETURN}", f"{TAKE}; local.get 0; i64.load 0; global.set 0; {RETURN}",
+        f"{TAKE}; local.get 3; i64.const 16; i64.add; global.set 0; {RETURN}",
+        f"{LOWER}; local.set 3; block; local.get 5; br_if 0; local.get 1; local.set 3; end; local.get 3; global.set 0; "
+        f"{RETURN}",
+        f"{LOWER}; local.set 3; loop; local.get 3; global.set 0; local.get 1; local.set 3; local.get 5; br_if 0; end; "
+        f"{RETURN}",
+        # Its part of the stack: of 24 bytes, of an unknown length, two of them, or another alignment.
+        f"{TAKE}; {GIVE}".replace("32", "24"), f"global.get 0; local.get 1; i64.sub; global.set 0; {RETURN}",
+        f"{TAKE}; local.get 3; i64.const 16; i64.sub; global.set 0; {GIVE}",
+        f"{TAKE}; global.get 0; i64.const 64; i64.sub; drop; {GIVE}",
+        f"{LOWER}; i64.const -8; i64.and; local.tee 3; global.set 0; {RETURN}",
+        f"{LOWER}; i64.const -128; i64.and; local.tee 3; global.set 0; {RETURN}",
+        # Accesses above and below it.
+        f"{TAKE}; local.get 3; i64.const 8; i64.sub; local.get 1; i64.store 0; {GIVE}",
+        f"{TAKE}; local.get 3; local.get 1; i64.store 25; {GIVE}", f"{TAKE}; local.get 3; i64.load8_u 32; drop; {GIVE}",
+        "global.get 0; i64.load 0", f"{ALIGNED}; local.get 3; local.get 1; i64.store 25; {RETURN}",
+        f"{ALIGNED}; local.get 3; i64.const 8; i64.sub; local.get 1; i64.store 0; {RETURN}",
+        f"{ALIGNED}; local.get 4; i64.const 40; i64.sub; local.get 1; i64.store 0; {RETURN}")},
 }
 # What is like some of these, and is translated.
 ACCEPTED = {
-    "a function": one(RETURN), "a part of the stack": one(TAKE + GIVE + RETURN),
-    "the last bytes of it": one(TAKE + ["local.get 3", "local.get 1", "i64.store 24"] + GIVE + RETURN),
-    "an address that is reached by a negative number": one(TAKE + [
-        "local.get 3", "i64.const 32", "i64.add", "i64.const -8", "i64.add", "local.get 1", "i64.store 0"] + GIVE +
-                                                         RETURN),
-    "a stack pointer that waits": one(TAKE[:3] + ["local.set 3", "local.get 3", "local.get 1", "local.set 3",
-                                                  "global.set 0"] + RETURN),
-    "an alignment of 32, and the last bytes": one(ALIGNED + ["local.get 3", "local.get 1", "i64.store 24",
-                                                             "local.get 4", "global.set 0"] + RETURN),
     "data of no bytes": one(RETURN) + functions.section(11, b"\x01\0\x42\x10\x0b\0"),
-    "the same stack pointer after two branches": one(TAKE[:3] + [
-        "local.set 3", "block", "local.get 5", "br_if 0", "local.get 3", "local.set 3", "end", "local.get 3",
-        "global.set 0"] + RETURN),
+    **{text: one(text) for text in (
+        RETURN, f"{TAKE}; {GIVE}", f"{TAKE}; local.get 3; local.get 1; i64.store 24; {GIVE}",
+        f"{TAKE}; local.get 3; i64.const 32; i64.add; i64.const -8; i64.add; local.get 1; i64.store 0; {GIVE}",
+        f"{LOWER}; local.set 3; local.get 3; local.get 1; local.set 3; global.set 0; {RETURN}",
+        f"{ALIGNED}; local.get 3; local.get 1; i64.store 24; local.get 4; global.set 0; {RETURN}",
+        f"{LOWER}; local.set 3; block; local.get 5; br_if 0; local.get 3; local.set 3; end; local.get 3; global.set 0; "
+        f"{RETURN}")},
 }
 
 
@@ -296,7 +270,6 @@ def why_refused(data):
 
 
 def main():
-    """Runs the tests."""
     seed, count = map(int, sys.argv[1:3]) if len(sys.argv) == 3 else (1, 300 if HUGE else 40)
     wrong = [name for name, data in REFUSED.items() if not why_refused(data)]
     wrong += [f"{name}: {why_refused(data)}" for name, data in ACCEPTED.items() if why_refused(data)]

@@ -4,8 +4,10 @@ tools/wasm_format.py, and modules of them. Not a program.
 A function is called with a buffer of 64 bytes and two numbers. It reads and writes the buffer, its locals and its part
 of the stack, calls functions before it, and returns a number of all its locals, or writes that to the buffer.
 """
+import collections
 import os
 import random
+import re
 import sys
 
 TOP = os.path.dirname(os.path.dirname(os.path.dirname(os.path.abspath(__file__))))
@@ -13,396 +15,271 @@ sys.path.insert(0, os.path.join(TOP, "tools"))
 from wasm_format import MORE, PLAIN  # noqa: E402
 
 TYPES = {"i32": 0x7f, "i64": 0x7e}
-BUFFER, FUEL, FRAME, SAVED, ALIAS = 0, 7, 8, 9, 10  # locals
-UNREAD = {"i64": 11, "i32": 12}
-LATE = 13  # set on one of two ways only
+BITS = {"i32": 32, "i64": 64}
 PARAMETERS = ["i64"] * 3
+# The locals: 0 is the buffer, 1 to 6 are free, 7 is the fuel of loops, 8 the part of the stack, 9 what the stack
+# pointer was, 10 an address or a number, 11 and 12 are never read, and 13 is set on one of two ways only.
 LOCALS = ["i64", "i64", "i32", "i32", "i32", "i64", "i64", "i64", "i64", "i32", "i64"]
+BUFFER, FRAME = 0, 8
 FREE = {"i64": [1, 2, 3, 4], "i32": [5, 6]}
+UNREAD = {"i64": 11, "i32": 12}
+RESULTS = ["i64"], ["i32"], []
+
+# The rules: a name, how often it is chosen, and instructions. `@t` is an expression of the rule's type, `@u` one of
+# the other type, and `@i32/3` one of depth 3; another `@name` is a rule of this name, or a method, for the type after
+# `/`, of which `any` is a random one; `@body/1` are statements in 1 block, and `@body/+1` in one more than here. In
+# braces is a choice of FIELDS, the same each time if it ends in 1, also in the rules that are named without a type.
+RULES = """
+number 5: @t; @t; {t}.{binary}
+number 2: @t; local.tee {k}
+number 1: @t; @t; @i32; select
+number 1: {t}.const {n}; {t}.const {n}; @i32; select; {t}.const {far}; {t}.shl
+number 2: @load
+number 1: @u; {change}
+number 1: @t; {t}.const {divisor}; {t}.{divide}
+number 1: @t; @t; {t}.const 1; {t}.or; {t}.{divide}
+number 1: @t; {t}.{extend}
+number 2: @test/any; {widen}
+number 2: @t/0
+number 1: @t; {t}.const {below}; {t}.{sum}
+number 1: {t}.const {large}; {t}.const {large}; {t}.{product}
+leaf 1: {t}.const {n}
+leaf 4: local.get {k}
+test 5: @t; @t; {t}.{comparison}; {not}
+test 1: @t; {t}.eqz; {not}
+test 1: {t}.const {n}; {t}.eqz; {not}
+load 1: local.get {at}; {t}.{load} {place}
+mix 1: local.get {k1}; {t}.{sum}; {t}.const 9; {t}.rotl; local.set {k1}
+
+statement 3: @t/4; @mix
+statement 3: @store
+statement 1: @fill
+statement 1: @copy
+statement 1: @t/3; drop
+statement 2: @load; {t}.const {n}; {t}.add; @write/any; @mix
+statement 1: @t/1; local.get {k1}; {t}.{onto}; local.set {k1}
+statement 1: local.get {k1}; @t/1; {t}.{onto1}; @t/1; {t}.{onto1}; local.set {k1}
+statement 1: local.get {k1}; @t/1; {t}.sub; @t/1; {t}.add; local.set {k1}
+statement 1: @t/1; @t/1; @i32/0; select; local.set {k}
+statement 1: local.get {k1}; local.get {k1}; {t}.{onto}; local.set {k}
+statement 1: local.get {k1}; block; @i32/1; br_if 0; @t/1; local.set {k1}; end; @t/1; {t}.sub; @mix
+statement 1: local.get {at1}; {t}.{load} {place1}; local.get {at1}; {t}.const {n}; {t}.store {place1}; local.set {k}
+statement 1: local.get 0; {t}.load 8; local.get 0; i32.const {few}; i64.const 16; memory.fill 0; local.set {k}
+statement 1: @moving
+statement 1: block; local.get {i}; br_if 0; local.get {j}; local.set 13; end; local.get 13; local.get {j1}; i64.xor; \
+local.set {j1}
+statement 2: @low; @high
+statement 1: @high; @low
+statement 1: @low; @high; local.get {at1}; local.get {k1}; {t}.const 16; {t}.shr_u; {t}.store{bits} {p1+2}
+statement 1: local.get {at1}; local.get {k1}; {t}.store16 {p1}; local.get {at1}; local.get {k1}; {t}.const {half}; \
+{t}.shr_u; {t}.store16 {p1+2}
+statement 1: @zero; @touching
+statement 1: @touching; @zero
+statement 1: @zero; @touching; local.get {at1}; {t}.const {zero}; {t}.store{bits} {p1+3}
+write 1: @store
+write 1: @fill
+write 1: @copy
+store 1: local.get {at}; @t/3; {t}.{store} {place}
+fill 1: @place; @i32/2; i64.const {few}; memory.fill 0
+copy 1: @place; @place; i64.const {few}; memory.copy 0 0
+place 1: local.get {at}; i64.const {few}; i64.add
+moving 1: local.get 0; i32.const 8; i32.store8 16; @moved; i32.store8 8; @moved; i32.store8 9
+moving 1: local.get 0; @first; i64.store8 1; local.get 0; @first; i64.const 8; i64.shr_u; i64.store8 2
+moving 1: local.get 0; local.get {i1}; i32.const 24; i32.shr_u; i32.store8 1; local.get 0; local.get {i1}; \
+i32.const 32; i32.shr_u; i32.store8 2
+low 1: local.get {at1}; local.get {k1}; {t}.store8 {p1}
+high 3: local.get {at1}; local.get {k1}; {t}.const 8; {t}.shr_u; {t}.store{bits} {p1+1}
+high 1: local.get {at}; local.get {k1}; {t}.const 8; {t}.shr_u; {t}.store8 {p1+1}
+high 1: local.get {at1}; local.get {k}; {t}.const 8; {t}.shr_u; {t}.store8 {p1+1}
+high 1: local.get {at1}; local.get {k1}; {t}.const {far8}; {t}.shr_u; {t}.store8 {p1+1}
+high 1: local.get {at1}; local.get {k1}; {t}.const 8; {t}.{no_part}; {t}.store8 {p1+1}
+high 1: local.get {at1}; local.get {k1}; {t}.const 8; {t}.shr_u; {t}.store8 {p1+2}
+zero 2: local.get {at1}; i32.const {zero}; i32.store8 {p1}
+zero 1: local.get {at1}; i64.const 1; i64.add; i32.const 0; i32.store8 {p1}
+touching 2: local.get {at1}; i64.const {zero}; i64.store{wide} {p1+1}
+touching 1: local.get {at}; i32.const 0; i32.store16 {p1+1}
+touching 1: local.get {at1}; i32.const 0; i32.store8 {p1+2}
+moved 1: local.get 0; local.get 0; i64.load8_u 16; i64.add; i32.const 0
+first 1: local.get 0; i64.load 0
+
+in_block 1: @i32/0; br_if {label}
+in_block 1: @i32/1; br_if {label}
+calling 2: @call
+calling 1: @calls
+calling 1: @load; {t}.const {n}; {t}.add; @call; @mix
+nesting 1: block; @body/+1; end
+nesting 1: block; loop; @fuel; @body/+2; br 0; end; end
+nesting 1: @i64/3; block; @body/1; end; @i64/2; i64.sub; @mix/i64
+nesting 2: @t/2; @plain; @t/2; {t}.sub; @mix
+nesting 1: block; @body/+1; br 0; end
+nesting 1: block; @body/+1; @i64/1; br 0; end
+nesting 1: block; @t/2; @t/2; {t}.{comparison}; i32.eqz; br_if 0; @body/1; end
+nesting 1: block; block; @body/+2; br {inner}; @body/0; end; @body/+1; end
+fuel 1: local.get 7; i32.eqz; br_if 1; local.get 7; i32.const 1; i32.sub; local.set 7
+
+on_stack 1: local.get 8; i64.const 8; i64.or; @i64/1; i64.store {after1}; local.get 8; i64.const 8; i64.add; \
+i64.load {after1}; @mix/i64
+on_stack 1: local.get 8; @i64/1; i64.store {last1}; local.get 8; i64.const {last1}; i64.add; i64.load 0; local.get 8; \
+i32.load8_u 0; i64.extend_i32_u; i64.add; @mix/i64
+on_stack 1: local.get 8; local.set 10; block; loop; @fuel; local.get 10; i64.const 99; i64.lt_s; br_if 1; i64.const 5; \
+local.set 10; br 0; end; end; block; local.get {j}; i64.const 5; i64.gt_u; br_if 0; local.get 8; local.set 10; end; \
+local.get 10; i64.const 99; i64.{order}; i64.extend_i32_u; @mix/i64
+
+enter 1: block; block; global.get 0; i64.const 16; i64.lt_s; br_if 0; br 1; end; unreachable; end
+enter 1: block; global.get 0; i64.const 15; i64.gt_s; br_if 0; unreachable; end
+take 2: global.get 0; i64.const {room}; i64.sub; local.tee 8; global.set 0; @enter; local.get 8; i32.const {few}; \
+i64.const {room}; memory.fill 0
+give 2: local.get 8; i64.const {room}; i64.add; global.set 0
+take_aligned 1: global.get 0; local.tee 9; i64.const {room}; i64.sub; i64.const {mask}; i64.and; local.tee 8; \
+global.set 0; @enter; local.get 8; i32.const {few}; i64.const {room}; memory.fill 0
+give_aligned 1: local.get 9; global.set 0
+"""
+BY_NAME = collections.defaultdict(list)
+for _rule in filter(None, RULES.split("\n")):
+    _name, _weight, _text = re.fullmatch(r"(\w+) (\d): (.*)", _rule).groups()
+    BY_NAME[_name] += [_text.split("; ")] * int(_weight)
+
 BINARY = "add sub mul and or xor shl shr_u shr_s rotl rotr".split()
 COMPARISONS = "eq ne lt_s lt_u gt_s gt_u le_s le_u ge_s ge_u".split()
 LOADS = {"i32": "load load8_s load8_u load16_s load16_u".split(),
          "i64": "load load8_s load8_u load16_s load16_u load32_s load32_u".split()}
 STORES = {"i32": "store store8 store16".split(), "i64": "store store8 store16 store32".split()}
 EXTENDS = {"i32": "extend8_s extend16_s".split(), "i64": "extend8_s extend16_s extend32_s".split()}
-RESULTS = ["i64"], ["i32"], []
-
-
-def other(type_):
-    """The other type of numbers."""
-    return "i32" if type_ == "i64" else "i64"
+# What is in braces in the rules, for all types or for each.
+FIELDS = {
+    "binary": BINARY, "comparison": COMPARISONS, "load": LOADS, "store": STORES, "extend": EXTENDS, "k": FREE,
+    "i": FREE["i32"], "j": FREE["i64"], "t": {type_: [type_] for type_ in TYPES}, "sum": ["add", "xor", "sub"],
+    "change": {"i32": ["i32.wrap_i64"], "i64": ["i64.extend_i32_s", "i64.extend_i32_u"]},
+    "widen": {"i32": [""], "i64": ["i64.extend_i32_u"]}, "not": ["", "i32.eqz"], "far": [24, 31, 40],
+    "divisor": [1, 3, 10, 4096, -5], "divide": ["div_u", "rem_u"], "below": [-1, -2, -8, -300],
+    "large": [0x7fff, 0xffff, 0x7fffffff], "product": ["add", "mul", "mul"], "place": range(57), "few": range(32),
+    "bits": [8, 16], "half": [16, 16, 8], "far8": [0, 16, 24, 32], "no_part": ["shr_s", "shl", "add", "rotr"],
+    "zero": [0, 0, 0, 0, -1], "wide": [8, 16, 32, ""], "p": range(40), "onto": ["add", "sub", "sub", "mul", "xor"],
+    "inner": [0, 1], "order": ["lt_s", "gt_s"], "mask": [-32, -64],
+}
+EDGES = [0, 1, 2, 7, 31, 32, 63, 64, 127, 128, 255, 256, 32767, 32768, 65535, 1 << 31]
 
 
 class Maker:
-    """Makes functions, from a seed."""
-
     def __init__(self, seed):
         self.random = random.Random(seed)
         self.room = 0               # bytes of the part of the stack
         self.functions = []         # results and lines of each
 
     def one_of(self, *things):
-        """One of these."""
         return self.random.choice(things)
 
     def number(self, type_):
         """A number, often one at an edge."""
-        w = 32 if type_ == "i32" else 64
-        n = self.one_of(0, 1, 2, 7, 31, 32, 63, 64, 127, 128, 255, 256, 32767, 32768, 65535, 1 << 31, (1 << w) - 1,
-                        (1 << w) - 2, (1 << w) - 8, (1 << w) - 300, 1 << w - 1, (1 << w - 1) - 1,
+        w = BITS[type_]
+        n = self.one_of(*EDGES, (1 << w) - 1, (1 << w) - 2, (1 << w) - 8, (1 << w) - 300, 1 << w - 1, (1 << w - 1) - 1,
                         self.random.getrandbits(w))
-        return [f"{type_}.const {n - (n >> w - 1 << w)}"]
-
-    def local(self, type_):
-        """A local that holds any number."""
-        return self.one_of(*FREE[type_])
+        return n - (n >> w - 1 << w)
 
     def address(self):
-        """An address, with at least 64 bytes after it."""
-        if self.room >= 64 and self.random.random() < .3:
-            return [f"local.get {FRAME}"]
-        return [f"local.get {BUFFER}"]
+        """The local of an address, with at least 64 bytes after it."""
+        return FRAME if self.room >= 64 and self.random.random() < .3 else BUFFER
 
-    def place(self, at_most=31):
-        """An address with as many bytes after it as before it."""
-        return self.address() + [f"i64.const {self.random.randrange(at_most + 1)}", "i64.add"]
+    def field(self, name, type_, blocks):
+        here = {"n": lambda: self.number(type_), "at": self.address, "label": lambda: self.random.randrange(blocks),
+                "room": lambda: self.room, "last": lambda: self.room - 8,
+                "after": lambda: self.one_of(0, 8, 24) if self.room >= 48 else 0}
+        if name in here:
+            return here[name]()
+        found = FIELDS[name]
+        return self.random.choice(found[type_] if isinstance(found, dict) else found)
 
-    def load(self, type_):
-        """A number from memory."""
-        return self.address() + [f"{type_}.{self.one_of(*LOADS[type_])} {self.random.randrange(57)}"]
+    def apply(self, name, type_, depth=0, nesting=0, blocks=0, kept=None):
+        """The lines of a rule, after these choices. Expressions in it have this depth, and statements may nest so far
+        in these blocks."""
+        lines, kept = [], {} if kept is None else kept
 
-    # ---- expressions
+        def chosen(match):
+            word, more = match[1], int(match[2] or 0)
+            if not word.endswith("1"):
+                return str(self.field(word, type_, blocks))
+            if word not in kept:
+                kept[word] = self.field(word[:-1], type_, blocks)
+            return str(kept[word] + more if more else kept[word])
+
+        for item in self.random.choice(BY_NAME[name]):
+            if not item.startswith("@"):
+                lines.append(re.sub(r"\{(\w+)(?:\+(\d))?\}", chosen, item))
+                continue
+            part, _, more = item[1:].partition("/")
+            of = {"t": type_, "u": "i32" if type_ == "i64" else "i64"}.get(part, part)
+            if of in TYPES:
+                lines += self.expression(of, int(more) if more else depth)
+            elif part == "body":
+                lines += self.statements(nesting, int(more) + (blocks if more.startswith("+") else 0))
+            elif part in BY_NAME:
+                of = self.one_of(*TYPES) if more == "any" else more or type_
+                lines += self.apply(part, of, depth, kept=None if more else kept)
+            else:
+                lines += getattr(self, part)()
+        return list(filter(None, lines))
 
     def expression(self, type_, depth):
         """Lines that leave a number of this type."""
-        if not depth:
-            return self.number(type_) if self.random.random() < .2 else [f"local.get {self.local(type_)}"]
-        kinds = ["binary"] * 5 + ["tee", "tee", "select", "chosen", "load", "load", "change", "divide", "extend"]
-        kinds += ["test", "test", "leaf", "leaf", "negative", "numbers"]
-        return getattr(self, "make_" + self.one_of(*kinds))(type_, depth - 1)
+        return self.apply("number" if depth else "leaf", type_, depth - 1)
 
-    def make_leaf(self, type_, _):
-        """A number or a local."""
-        return self.expression(type_, 0)
-
-    def make_binary(self, type_, depth):
-        """An operator."""
-        return (self.expression(type_, depth) + self.expression(type_, depth) +
-                [f"{type_}.{self.one_of(*BINARY)}"])
-
-    def make_numbers(self, type_, _):
-        """An operator with two numbers, whose result may not have their length."""
-        numbers = [f"{type_}.const {self.one_of(0x7fff, 0xffff, 0x7fffffff)}" for _ in range(2)]
-        return numbers + [f"{type_}.{self.one_of('add', 'mul', 'mul')}"]
-
-    def make_negative(self, type_, depth):
-        """A sum with a negative number, or all bits changed."""
-        return (self.expression(type_, depth) + [f"{type_}.const {self.one_of(-1, -2, -8, -300)}"] +
-                [f"{type_}.{self.one_of('add', 'xor', 'sub')}"])
-
-    def make_tee(self, type_, depth):
-        """A local that is set meanwhile."""
-        return self.expression(type_, depth) + [f"local.tee {self.local(type_)}"]
-
-    def make_select(self, type_, depth):
-        """One of two."""
-        return (self.expression(type_, depth) + self.expression(type_, depth) + self.expression("i32", depth) +
-                ["select"])
-
-    def make_chosen(self, type_, depth):
-        """One of two numbers, shifted to where an int has no room."""
-        return (self.number(type_) + self.number(type_) + self.expression("i32", depth) +
-                ["select", f"{type_}.const {self.one_of(24, 31, 40)}", f"{type_}.shl"])
-
-    def make_load(self, type_, _):
-        """A number from memory."""
-        return self.load(type_)
-
-    def make_change(self, type_, depth):
-        """A number of the other type."""
-        inner = self.expression(other(type_), depth)
-        return inner + (["i32.wrap_i64"] if type_ == "i32" else ["i64.extend_i32_" + self.one_of("s", "u")])
-
-    def make_divide(self, type_, depth):
-        """A quotient or a rest by what is not 0."""
-        name = f"{type_}.{self.one_of('div_u', 'rem_u')}"
-        if self.random.random() < .5:
-            return self.expression(type_, depth) + [f"{type_}.const {self.one_of(1, 3, 10, 4096, -5)}", name]
-        return (self.expression(type_, depth) + self.expression(type_, depth) +
-                [f"{type_}.const 1", f"{type_}.or", name])
-
-    def make_extend(self, type_, depth):
-        """The sign of a part."""
-        return self.expression(type_, depth) + [f"{type_}.{self.one_of(*EXTENDS[type_])}"]
-
-    def make_test(self, type_, depth):
-        """A comparison, or its opposite."""
-        if type_ == "i64":
-            return self.make_test("i32", depth) + ["i64.extend_i32_u"]
-        of = self.one_of("i32", "i64")
-        if self.random.random() < .3:
-            lines = (self.expression(of, depth) if self.random.random() < .7 else self.number(of)) + [f"{of}.eqz"]
-        else:
-            lines = self.expression(of, depth) + self.expression(of, depth) + [f"{of}.{self.one_of(*COMPARISONS)}"]
-        return lines + ["i32.eqz"] * self.random.randrange(2)
-
-    # ---- statements. `depth` is how far blocks may nest, `blocks` how many a branch may leave.
-
-    def statements(self, depth, blocks):
-        """One to four statements."""
-        return [line for _ in range(self.random.randrange(1, 5)) for line in self.statement(depth, blocks)]
-
-    def statement(self, depth, blocks):
+    def statement(self, nesting, blocks):
         """A statement: it leaves no operand."""
-        kinds = ["set"] * 3 + ["store"] * 3 + ["fill", "copy", "drop", "waits", "waits", "late"] + ["onto"] * 3
-        kinds += ["zeros", "parts", "parts", "moving"]
-        kinds += ["branch", "branch"] if blocks else []
-        kinds += ["call", "call", "calls"] if self.functions else []
-        kinds += ["block", "loop", "held", "pending", "pending", "leave", "skip", "dead"] if depth else []
-        kinds += ["or_eight", "forget", "deep"] if self.room else []
-        return getattr(self, "write_" + self.one_of(*kinds))(depth - 1, blocks)
+        names = (("statement", True), ("in_block", blocks), ("calling", self.functions), ("nesting", nesting),
+                 ("on_stack", self.room))
+        name = self.one_of(*(name for name, is_possible in names if is_possible for _ in BY_NAME[name]))
+        return self.apply(name, self.one_of(*TYPES), nesting=nesting - 1, blocks=blocks)
 
-    def write_set(self, _, __):
-        """Sets a local."""
-        type_ = self.one_of("i32", "i64")
-        return self.expression(type_, 4) + self.mix(type_)
+    def statements(self, nesting, blocks):
+        return [line for _ in range(self.random.randrange(1, 5)) for line in self.statement(nesting, blocks)]
 
-    def mix(self, type_):
-        """Changes a local by a number, so that what it was and what the number is are both left in it."""
-        k = self.local(type_)
-        return [f"local.get {k}", f"{type_}.{self.one_of('add', 'xor', 'sub')}", f"{type_}.const 9", f"{type_}.rotl",
-                f"local.set {k}"]
+    # ---- what has no rule
 
-    def write_store(self, _, __):
-        """Writes a number."""
-        type_ = self.one_of("i32", "i64")
-        return (self.address() + self.expression(type_, 3) +
-                [f"{type_}.{self.one_of(*STORES[type_])} {self.random.randrange(57)}"])
+    def plain(self):
+        """A statement with no other in it."""
+        return self.statement(0, 0)
 
-    def write_onto(self, _, __):
-        """Sets a local to what it was and other numbers."""
-        type_ = self.one_of("i32", "i64")
-        k, number = self.local(type_), self.expression(type_, 1)
-        operator = f"{type_}." + self.one_of("add", "sub", "sub", "mul", "xor")
-        old, set_ = [f"local.get {k}"], [f"local.set {k}"]
-        return self.one_of(number + old + [operator] + set_,
-                           old + number + [operator] + self.expression(type_, 1) + [operator] + set_,
-                           old + number + [f"{type_}.sub"] + self.expression(type_, 1) + [f"{type_}.add"] + set_,
-                           number + self.expression(type_, 1) + (old if type_ == "i32" else ["i32.const 1"]) +
-                           ["select"] + set_)
-
-    def write_zeros(self, _, __):
-        """Writes zeros next to each other, up or down, sometimes with a gap or another number or address."""
-        lines, base, low, high = [], self.address(), 28, 28
-        for _ in range(self.random.randrange(2, 4)):
-            size, gap = self.one_of(1, 2, 4, 8), self.one_of(0, 0, 0, 1)
-            place = self.one_of(low - gap - size, high + gap)
-            low, high = min(low, place), max(high, place + size)
-            type_ = self.one_of("i32", "i64") if size < 4 else "i32" if size == 4 else "i64"
-            name = "store" if size > 2 else f"store{8 * size}"
-            if self.random.random() < .3:
-                base = self.address() + self.one_of([], ["i64.const 1", "i64.add"])
-            lines += base + [f"{type_}.const {self.one_of(0, 0, 0, 0, -1)}", f"{type_}.{name} {place}"]
-        return lines
-
-    def write_parts(self, _, __):
-        """Writes parts of a number next to each other, as LLVM writes its bytes, sometimes one elsewhere, not at
-        all, or something else."""
-        type_ = self.one_of("i32", "i64")
-        k, base, begin, at, parts = self.local(type_), self.address(), self.random.randrange(1, 50), 0, []
-        while at < (4 if type_ == "i32" else 8):
-            size = self.one_of(1, 1, 2, 4)
-            parts.append((at, size))
-            at += size
-        parts = self.one_of(parts, parts[::-1], self.random.sample(parts, len(parts)), parts[1:] or parts)
-        lines, changed = [], self.random.randrange(2 * len(parts))
-        for n, (at, size) in enumerate(parts):
-            local, place, by, operator, where = k, begin + at, 8 * at, "shr_u", base
-            if n == changed:
-                local, place, by, operator, where = self.one_of(
-                    (self.local(type_), place, by, operator, where), (local, place - 1, by, operator, where),
-                    (local, place, by + 8, operator, where), (local, place, max(by - 8, 0), operator, where),
-                    (local, place, by, self.one_of("shr_s", "shl", "add", "rotr"), where),
-                    (local, place, by, operator, self.address()))
-            name = "store" if f"i{8 * size}" == type_ else f"store{8 * size}"
-            shift = [f"{type_}.const {by}", f"{type_}.{operator}"] if by else []
-            lines += where + [f"local.get {local}"] + shift + [f"{type_}.{name} {place}"]
-        return lines
-
-    def write_moving(self, _, __):
-        """Two writes next to each other, of which the first changes the address or the number of the second, or which
-        are of a number that is shifted by as many bits as it has."""
-        base = ["local.get 0", "local.get 0", "i64.load8_u 16", "i64.add"]
-        number, low = ["local.get 0", "i64.load 0"], ["local.get 0", f"local.get {self.local('i32')}"]
-        return self.one_of(
-            ["local.get 0", "i32.const 8", "i32.store8 16"] + (base + ["i32.const 0"] + ["i32.store8 8"]) +
-            (base + ["i32.const 0"] + ["i32.store8 9"]),
-            ["local.get 0"] + number + ["i64.store8 1", "local.get 0"] + number + [
-                "i64.const 8", "i64.shr_u", "i64.store8 2"],
-            low + ["i32.const 24", "i32.shr_u", "i32.store8 1"] + low + ["i32.const 32", "i32.shr_u", "i32.store8 2"])
-
-    def write_fill(self, _, __):
-        """Fills memory, also with no bytes."""
-        return self.place() + self.expression("i32", 2) + [f"i64.const {self.random.randrange(32)}", "memory.fill 0"]
-
-    def write_copy(self, _, __):
-        """Copies memory, also onto itself, and also no bytes."""
-        return self.place() + self.place() + [f"i64.const {self.random.randrange(32)}", "memory.copy 0 0"]
-
-    def write_drop(self, _, __):
-        """An expression of which nothing is left but what it sets."""
-        return self.expression(self.one_of("i32", "i64"), 3) + ["drop"]
-
-    def write_branch(self, _, blocks):
-        """Leaves a block on a condition, which may be a number."""
-        return self.expression("i32", self.one_of(0, 1, 3)) + [f"br_if {self.random.randrange(blocks)}"]
-
-    def write_call(self, _, __):
-        """Calls a function."""
-        lines, type_ = self.call()
-        if type_ and self.random.random() < .3:  # whose result is not used
-            return lines + [self.one_of("drop", f"local.set {UNREAD[type_]}")]
-        return lines + (self.mix(type_) if type_ else [])
-
-    def call(self):
+    def any_call(self):
         """Lines that call one of the functions before, and the type of what they leave."""
         k = self.random.randrange(len(self.functions))
-        lines = self.address() + self.expression("i64", 2) + self.expression("i64", 2) + [f"call {k}"]
-        results = self.functions[k][0]
-        return lines, results[0] if results else None
+        lines = [f"local.get {self.address()}", *self.expression("i64", 2), *self.expression("i64", 2), f"call {k}"]
+        return lines, *(self.functions[k][0] or [None])
 
-    def write_calls(self, depth, blocks):
+    def call(self):
+        """Calls a function, whose result is used or not."""
+        lines, type_ = self.any_call()
+        if type_ and self.random.random() < .3:
+            return lines + [self.one_of("drop", f"local.set {UNREAD[type_]}")]
+        return lines + (self.apply("mix", type_) if type_ else [])
+
+    def calls(self):
         """The result of a call waits during another."""
-        found = [self.call(), self.call()]
-        types = [type_ or "i64" for _, type_ in found]
         lines = []
-        for call, type_ in found:
-            lines += call + ([] if type_ else ["i64.const 5"])
-        if types[0] != types[1]:
-            lines += ["i32.wrap_i64"] if types[1] == "i64" else ["i64.extend_i32_u"]
-        return lines + [f"{types[0]}.sub"] + self.mix(types[0])
+        for _ in range(2):
+            call, type_ = self.any_call()
+            lines += call + {"i32": ["i64.extend_i32_u"], None: ["i64.const 5"]}.get(type_, [])
+        return lines + ["i64.sub"] + self.apply("mix", "i64")
 
-    def write_waits(self, depth, blocks):
-        """A sum over a load waits while memory is written, or while a function may do so."""
-        type_ = self.one_of("i32", "i64")
-        lines = self.load(type_) + self.number(type_) + [f"{type_}.add"]
-        write = [self.write_store, self.write_fill, self.write_copy] + [self.write_call] * bool(self.functions)
-        lines += self.one_of(*write)(depth, blocks)
-        return lines + self.mix(type_)
-
-    def write_late(self, depth, blocks):
-        """A load that waits while memory is written, and is then set."""
-        type_ = self.one_of("i32", "i64")
-        return self.load(type_) + self.write_store(depth, blocks) + [f"local.set {self.local(type_)}"]
-
-    def write_pending(self, _, __):
-        """An operand waits while something is written."""
-        type_ = self.one_of("i32", "i64")
-        return (self.expression(type_, 2) + self.statement(0, 0) + self.expression(type_, 2) +
-                [f"{type_}.sub"] + self.mix(type_))
-
-    def write_block(self, depth, blocks):
-        """A block."""
-        return ["block"] + self.statements(depth, blocks + 1) + ["end"]
-
-    def write_held(self, depth, _):
-        """Operands wait below a block, from which branches lead past them."""
-        return (self.expression("i64", 3) + ["block"] + self.statements(depth, 1) + ["end"] +
-                self.expression("i64", 2) + ["i64.sub"] + self.mix("i64"))
-
-    def write_skip(self, depth, _):
-        """A branch on the opposite of a comparison."""
-        type_ = self.one_of("i32", "i64")
-        return (["block"] + self.expression(type_, 2) + self.expression(type_, 2) +
-                [f"{type_}.{self.one_of(*COMPARISONS)}", "i32.eqz", "br_if 0"] + self.statements(depth, 1) + ["end"])
-
-    def write_leave(self, depth, blocks):
-        """A block that ends with a branch, which leaves an operand behind."""
-        return (["block"] + self.statements(depth, blocks + 1) +
-                self.expression("i64", 1) * self.random.randrange(2) + ["br 0", "end"])
-
-    def write_dead(self, depth, blocks):
-        """Code that nothing reaches, with blocks in it, after a branch to one of two labels."""
-        return (["block", "block"] + self.statements(depth, blocks + 2) + [f"br {self.random.randrange(2)}"] +
-                self.statements(1, 0) + ["end"] + self.statements(depth, blocks + 1) + ["end"])
-
-    def write_loop(self, depth, blocks):
-        """A loop that ends when the fuel is used up. A branch may begin it again, or leave it."""
-        return (["block", "loop", f"local.get {FUEL}", "i32.eqz", "br_if 1", f"local.get {FUEL}", "i32.const 1",
-                 "i32.sub", f"local.set {FUEL}"] + self.statements(depth, blocks + 2) + ["br 0", "end", "end"])
-
-    # ---- the stack
-
-    def write_or_eight(self, _, __):
-        """An address on the stack plus 8, as LLVM writes it, and a place after that."""
-        after = self.one_of(0, 8, 24) if self.room >= 48 else 0
-        return [f"local.get {FRAME}", "i64.const 8", "i64.or"] + self.expression("i64", 1) + [
-            f"i64.store {after}", f"local.get {FRAME}", f"i64.load {8 + after}"] + self.mix("i64")
-
-    def write_deep(self, _, __):
-        """The last bytes of the part of the stack, and the first."""
-        last = self.room - 8
-        return [f"local.get {FRAME}"] + self.expression("i64", 1) + [
-            f"i64.store {last}", f"local.get {FRAME}", f"i64.const {last}", "i64.add", "i64.load 0",
-            f"local.get {FRAME}", "i32.load8_u 0", "i64.extend_i32_u", "i64.add"] + self.mix("i64")
-
-    def write_forget(self, _, __):
-        """A local that is an address on the stack at first, and a small number in the next turn of a loop."""
-        return [f"local.get {FRAME}", f"local.set {ALIAS}", "block", "loop", f"local.get {FUEL}", "i32.eqz", "br_if 1",
-                f"local.get {FUEL}", "i32.const 1", "i32.sub", f"local.set {FUEL}", f"local.get {ALIAS}",
-                "i64.const 99", "i64.lt_s", "br_if 1", "i64.const 5", f"local.set {ALIAS}", "br 0", "end", "end",
-                "block",
-                f"local.get {self.local('i64')}", "i64.const 5", "i64.gt_u", "br_if 0", f"local.get {FRAME}",
-                f"local.set {ALIAS}", "end", f"local.get {ALIAS}", "i64.const 99", f"i64.{self.one_of('lt_s', 'gt_s')}",
-                "i64.extend_i32_u"] + self.mix("i64")
-
-    def enter(self):
-        """The lines that take a part of the stack, as LLVM writes them, and those that give it back."""
-        self.room = self.one_of(0, 0, 16, 48, 160, 160, 1040)
-        check = self.one_of(["block", "block", "global.get 0", "i64.const 16", "i64.lt_s", "br_if 0", "br 1", "end",
-                             "unreachable", "end"],
-                            ["block", "global.get 0", "i64.const 15", "i64.gt_s", "br_if 0", "unreachable", "end"])
-        if not self.room:
-            return check, []
-        fill = [f"local.get {FRAME}", f"i32.const {self.random.randrange(256)}", f"i64.const {self.room}",
-                "memory.fill 0"]
-        if self.random.random() < .3:
-            mask = self.one_of(-32, -64)
-            return (["global.get 0", f"local.tee {SAVED}", f"i64.const {self.room}", "i64.sub", f"i64.const {mask}",
-                     "i64.and", f"local.tee {FRAME}", "global.set 0"] + check + fill,
-                    [f"local.get {SAVED}", "global.set 0"])
-        return (["global.get 0", f"i64.const {self.room}", "i64.sub", f"local.tee {FRAME}", "global.set 0"] + check +
-                fill, [f"local.get {FRAME}", f"i64.const {self.room}", "i64.add", "global.set 0"])
-
-    def rare(self):
-        """Lines that each function has: a local that is set on one of two ways only; and parts of a number, also
-        shifted by as many bits as it has, and zeros, which touch or do not."""
-        (first, second), number = FREE["i64"][:2], FREE["i32"][0]
-        lines = ["block", f"local.get {number}", "br_if 0", f"local.get {first}", f"local.set {LATE}", "end",
-                 f"local.get {LATE}", f"local.get {second}", "i64.xor", f"local.set {second}"]
-        for place, by, bits in ((44, 0, 8), (45, 8, 8), (46, 24, 16), (52, 0, 16), (54, 8, 16), (56, None, 8),
-                                (57, None, 8), (59, None, 8), (60, 0, 8), (61, None, 8), (62, 24, 8), (63, 32, 8)):
-            part = [f"local.get {number}", f"i32.const {by}", "i32.shr_u"][:3 if by else 1]
-            lines += [f"local.get {BUFFER}", *(["i32.const 0"] if by is None else part), f"i32.store{bits} {place}"]
-        return lines
+    # ---- functions
 
     def function(self):
         """The results and the lines of a function."""
         results = RESULTS[len(self.functions) % 3]
-        begin, end = self.enter()
-        lines = begin + ["i32.const 5", f"local.set {FUEL}"]
+        self.room = self.one_of(0, 0, 16, 48, 160, 160, 1040)
+        aligned = "_aligned" * (self.random.random() < .3)
+        lines = self.apply(f"take{aligned}" if self.room else "enter", "i64") + ["i32.const 5", "local.set 7"]
+        end = self.apply(f"give{aligned}", "i64") if self.room else []
         for _ in range(8):
             lines += self.statement(3, 0)
-        lines += self.rare()
         sums = [f"local.get {FREE['i64'][0]}"]
         for n in FREE["i64"][1:]:
             sums += ["i64.const 13", "i64.rotl", f"local.get {n}", "i64.add"]
         for n in FREE["i32"]:
             sums += [f"local.get {n}", "i64.extend_i32_u", "i64.xor"]
         if not results:
-            return results, lines + [f"local.get {BUFFER}"] + sums + ["i64.store 0"] + end + ["end"]
+            return results, lines + ["local.get 0"] + sums + ["i64.store 0"] + end + ["end"]
         sums += ["i32.wrap_i64"] if results == ["i32"] else []
-        result = self.local(results[0])
+        result = self.one_of(*FREE[results[0]])
         if self.random.random() < .5:
             return results, lines + sums + [f"local.set {result}"] + end + [f"local.get {result}", "return", "end"]
         return results, lines + sums + end + ["end"]
@@ -418,9 +295,8 @@ class Maker:
 
 # ---- modules
 
-CODES = {known.partition(" ")[0]: (bytes([code]), known.partition(" ")[2]) for code, known in PLAIN.items()}
-CODES.update({known.partition(" ")[0]: (b"\xfc" + bytes([code]), known.partition(" ")[2])
-              for code, known in MORE.items()})
+CODES = {known.partition(" ")[0]: (prefix + bytes([code]), known.partition(" ")[2])
+         for prefix, table in ((b"", PLAIN), (b"\xfc", MORE)) for code, known in table.items()}
 
 
 def leb(n, signed=False):
@@ -434,11 +310,10 @@ def leb(n, signed=False):
 
 
 def instruction(line):
-    """The bytes of an instruction."""
     name, *words = line.split()
     code, kinds = CODES[name]
     if kinds == "b":
-        return code + (b"\x40" if not words else bytes([TYPES[words[0]]]))
+        return code + bytes([TYPES[words[0]] if words else 0x40])
     if kinds == "m":
         return code + b"\0" + leb(int(words[0]))
     kinds = kinds.replace("t", "u" * len(words))
@@ -446,33 +321,31 @@ def instruction(line):
 
 
 def listed(parts):
-    """A list: its length, and its parts."""
     return leb(len(parts)) + b"".join(parts)
 
 
+def sized(data):
+    return leb(len(data)) + data
+
+
 def section(id_, content):
-    """A section."""
-    return bytes([id_]) + leb(len(content)) + content
+    return bytes([id_]) + sized(content)
 
 
 def module(functions, exports, more=b""):
     """A module: of functions (name, parameters, results, other locals, lines), with a stack of a page and a half, and
     with exports, by name. `more` are other sections, after the first."""
-    types = listed([b"\x60" + listed([bytes([TYPES[t]]) for t in f[1]]) + listed([bytes([TYPES[t]]) for t in f[2]])
-                    for f in functions])
-    globals_ = listed([b"\x7e\x01\x42" + leb(98304, True) + b"\x0b", b"\x7f\x01\x41\0\x0b",
-                       b"\x7e\0\x42" + leb(98304, True) + b"\x0b"])
-    bodies = []
-    for _, _, _, locals_, lines in functions:
-        body = listed([b"\x01" + bytes([TYPES[t]]) for t in locals_]) + b"".join(map(instruction, lines))
-        bodies.append(leb(len(body)) + body)
-    named = listed([leb(k) + listed([bytes([byte]) for byte in f[0].encode()]) for k, f in enumerate(functions)])
-    named = section(1, named)
-    exported = [listed([bytes([byte]) for byte in name.encode()]) + b"\0" + leb(k) for name, k in exports.items()]
+    types = listed([b"\x60" + b"".join(sized(bytes(TYPES[t] for t in each)) for each in f[1:3]) for f in functions])
+    top = leb(98304, True)
+    globals_ = listed([b"\x7e\x01\x42" + top + b"\x0b", b"\x7f\x01\x41\0\x0b", b"\x7e\0\x42" + top + b"\x0b"])
+    bodies = [sized(listed([bytes([1, TYPES[t]]) for t in locals_]) + b"".join(map(instruction, lines)))
+              for *_, locals_, lines in functions]
+    names = listed([leb(k) + sized(f[0].encode()) for k, f in enumerate(functions)])
+    exported = [sized(name.encode()) + b"\0" + leb(k) for name, k in exports.items()]
     return (b"\0asm\1\0\0\0" + section(1, types) + more + section(3, listed([leb(k) for k in range(len(functions))])) +
             section(5, b"\x01\x04\x02") + section(6, globals_) +
             section(7, listed(exported + [b"\x06memory\x02\0"])) + section(10, listed(bodies)) +
-            section(0, b"\x04name" + named))
+            section(0, b"\x04name" + section(1, names)))
 
 
 # The functions of Rattle's runtime between which an exported function calls another.
