@@ -6,7 +6,6 @@ compared with hashlib first. "The digest of X" is BLAKE2b-256 of X.
 
 usage: tests/expected_values.py [NAME..]
 """
-import hashlib
 import itertools
 import random
 import struct
@@ -18,61 +17,59 @@ from oracle import SCALAR, check, hashlib_node, range_digests, tree_root
 ALPHABET = bytes(i % 251 for i in range(6000))
 TEXTS = {"salt": b"salt", "person": b"persona"}
 LENGTHS = [0, 1, 63, 64, 65, 127, 128, 129, 255, 256, 257]
-
-
-def digest(data):
-    """BLAKE2b-256, in hexadecimal."""
-    return hashlib.blake2b(data, digest_size=32).hexdigest()
+LEAVES = (1, 2, 3, 64, 127, 128, 129, 200)
 
 
 def blake2(family, size, message=b"", key=b"", salt=b"", persona=b""):
-    """The digest of this size."""
     return FAMILIES[family].function(message, digest_size=size, key=key, salt=salt, person=persona).digest()
 
 
-def transcript_text(family, size, message, key=b"", salt=b"", persona=b""):
-    """What `steps` prints."""
-    scalar, given = SCALAR[family], Input(message, key or None, salt, persona)
-    lines = [fields(scalar, "w", parameter_words(scalar, size, given)),
-             *(fields(scalar, "e", [], entry) for entry in entries(scalar, given))]
+def digest(data):
+    """BLAKE2b-256, in hexadecimal, of bytes or of several."""
+    return blake2("b", 32, data if isinstance(data, bytes) else b"".join(data)).hex()
+
+
+def transcript_text(family, size, message, *given):
+    """What `steps` prints, of a key, a salt and a persona."""
+    scalar, key = SCALAR[family], given[0] or None if given else None
+    taken = Input(message, key, *given[1:])
+    lines = [fields(scalar, "w", parameter_words(scalar, size, taken)),
+             *(fields(scalar, "e", [], entry) for entry in entries(scalar, taken))]
     return "".join(line + "\n" for line in lines).encode()
 
 
 def copies():
     """copies: the digest of the outputs for both pieces, for each pair of lengths in their order."""
     runs = [(kind, family, size, b"", b"", b"") for kind, (family, size) in KINDS.items()]
-    for name, family, size in (("Blake2bMac512", "b", 64), ("Blake2sMac256", "s", 32)):
-        for salt, persona in ((b"", b""), (b"salt", b"persona")):
-            runs += [(name, family, size, key, salt, persona) for key in (b"\x2a", b"")]
+    runs += [(*of, key, *texts) for of in (("Blake2bMac512", "b", 64), ("Blake2sMac256", "s", 32))
+             for texts in ((b"", b""), (b"salt", b"persona")) for key in (b"\x2a", b"")]
     for name, family, size, key, salt, persona in runs:
-        outputs = b"".join(blake2(family, size, ALPHABET[:first + second], key, salt, persona)
-                           for first in LENGTHS for second in LENGTHS)
-        print(f"  {name} key={key.hex()} salt={salt.decode()} persona={persona.decode()}: {digest(outputs)}")
+        outputs = (blake2(family, size, ALPHABET[:first + second], key, salt, persona)
+                   for first in LENGTHS for second in LENGTHS)
+        yield f"  {name} key={key.hex()} salt={salt.decode()} persona={persona.decode()}: {digest(outputs)}"
 
 
 def resets():
     """resets: the digest of the digests of the first piece and of the second, one after the other, for each
     pair of lengths in their order."""
-    for kind, (family, size) in KINDS.items():
-        digests = b"".join(blake2(family, size, piece) for first in LENGTHS for second in LENGTHS
-                           for piece in (ALPHABET[:first], ALPHABET[first:first + second]))
-        print(f"  {kind}: {digest(digests)}")
+    for kind, of in KINDS.items():
+        digests = (blake2(*of, piece) for first in LENGTHS for second in LENGTHS
+                   for piece in (ALPHABET[:first], ALPHABET[first:first + second]))
+        yield f"  {kind}: {digest(digests)}"
 
 
 def lengths():
     """lengths: the digest of the MACs' outputs over no message, at each length that is not refused."""
     for family, numbers in FAMILIES.items():
         parts = list(itertools.product((0, 1, numbers.key), (0, numbers.salt), (0, numbers.salt)))
-        outputs = b"".join(blake2(family, numbers.key, b"", ALPHABET[:key], ALPHABET[:salt], ALPHABET[:persona])
-                           for key, salt, persona in parts)
-        print(f"  {family}: {len(parts)} accepted, {digest(outputs)}")
+        outputs = (blake2(family, numbers.key, b"", *(ALPHABET[:length] for length in each)) for each in parts)
+        yield f"  {family}: {len(parts)} accepted, {digest(outputs)}"
 
 
 def replays():
     """replays: the digest of the digests of the 1,000 beginnings of 1 to 1,000 bytes."""
     for family, numbers in FAMILIES.items():
-        digests = b"".join(blake2(family, numbers.key, ALPHABET[:length]) for length in range(1, 1001))
-        print(f"  {family}: {digest(digests)}")
+        yield f"  {family}: {digest(blake2(family, numbers.key, ALPHABET[:length]) for length in range(1, 1001))}"
 
 
 def transcripts():
@@ -81,8 +78,8 @@ def transcripts():
     for family, scalar in SCALAR.items():
         for key in (b"", b"key"):
             found = entries(scalar, Input(ALPHABET[:5000], key or None))
-            data = b"".join(struct.pack("<QB", counter, final) + block for block, counter, final, _ in found)
-            print(f"  {family} key={key.decode()}: {len(found)} entries, {digest(data)}")
+            data = (struct.pack("<QB", counter, final) + block for block, counter, final, _ in found)
+            yield f"  {family} key={key.decode()}: {len(found)} entries, {digest(data)}"
 
 
 def large():
@@ -91,32 +88,31 @@ def large():
     except the last byte."""
     message = bytes(i % 251 for i in range(2**20 + 1))
     for kind in ("b512", "s256"):
-        family, size = KINDS[kind]
-        text = transcript_text(family, size, message)
-        print(f"  {kind}: {blake2(family, size, message).hex()}, {len(text)} bytes, {digest(text)}")
+        text = transcript_text(*KINDS[kind], message)
+        yield f"  {kind}: {blake2(*KINDS[kind], message).hex()}, {len(text)} bytes, {digest(text)}"
     for leaf in (1, 64, 1000, 4096, 20000, 2**20, 2**20 + 1, 2**26):
-        print(f"  {leaf}: {tree_root(message, leaf, 32).hex()}")
+        yield f"  {leaf}: {tree_root(message, leaf, 32).hex()}"
     for leaf, first, end in ((64, 7, "more"), (64, 7, "last"), (1000, 3, "last"), (2**18, 0, "more"),
                              (2**19, 1, "last")):
         digests = range_digests(message[:-1], leaf, first, end == "last")
-        lines = "".join(digests[i:i + 64].hex() + "\n" for i in range(0, len(digests), 64))
-        print(f"  {leaf} {first} {end}|{digest(lines.encode())}")
+        lines = (digests[i:i + 64].hex().encode() + b"\n" for i in range(0, len(digests), 64))
+        yield f"  {leaf} {first} {end}|{digest(lines)}"
 
 
 def texts():
     """`texts`: the digest of what each command prints over inputs of 4,090 to 4,100 and of 8,186 to 8,196 bytes:
     over that number of `a`, and for `script` over a line `u 0` of zeros and a line `f 0` with that length together."""
-    lengths_of_texts = [*range(4090, 4101), *range(8186, 8197)]
+    inputs = [b"a" * n for n in (*range(4090, 4101), *range(8186, 8197))]
+
+    def lines(digests):
+        return digest(each.hex().encode() + b"\n" for each in digests)
     for kind in ("b512", "s256"):
-        family, size = KINDS[kind]
-        sums = "".join(blake2(family, size, b"a" * n).hex() + "\n" for n in lengths_of_texts)
-        scripts = "".join(blake2(family, size, bytes((n - 8) // 2)).hex() + "\n" for n in lengths_of_texts)
-        steps = b"".join(transcript_text(family, size, b"a" * n) for n in lengths_of_texts)
-        for command, text in (("sum", sums.encode()), ("script", scripts.encode()), ("steps", steps)):
-            print(f"{command} {kind}|{digest(text)}")
+        of = KINDS[kind]
+        yield f"sum {kind}|{lines(blake2(*of, each) for each in inputs)}"
+        yield f"script {kind}|{lines(blake2(*of, bytes((len(each) - 8) // 2)) for each in inputs)}"
+        yield f"steps {kind}|{digest(transcript_text(*of, each) for each in inputs)}"
     for leaf in (1, 64, 4096):
-        roots = "".join(tree_root(b"a" * n, leaf, 64).hex() + "\n" for n in lengths_of_texts)
-        print(f"tree b512 {leaf}|{digest(roots.encode())}")
+        yield f"tree b512 {leaf}|{lines(tree_root(each, leaf, 64) for each in inputs)}"
 
 
 def options():
@@ -124,41 +120,17 @@ def options():
     prints over `abc`, under each choice of a key, a salt and a persona that are absent, of 1 byte or of
     the maximum length: 0, 1, 2 and so on."""
     for kind, (family, size) in KINDS.items():
-        numbers = FAMILIES[family]
-        sums, steps = b"", b""
+        numbers, sums, steps = FAMILIES[family], b"", b""
         for choice in itertools.product((0, 1, numbers.key), (0, 1, numbers.salt), (0, 1, numbers.salt)):
-            key, salt, persona = (ALPHABET[:length] for length in choice)
-            line = blake2(family, size, b"abc", key, salt, persona).hex() + "\n"
-            sums += 2 * line.encode()
-            steps += transcript_text(family, size, b"abc", key, salt, persona)
-        print(f"{kind}|{digest(sums)}|{digest(steps)}")
+            given = [ALPHABET[:length] for length in choice]
+            sums += 2 * (blake2(family, size, b"abc", *given).hex() + "\n").encode()
+            steps += transcript_text(family, size, b"abc", *given)
+        yield f"{kind}|{digest(sums)}|{digest(steps)}"
 
 
-def with_bit(number, bit):
-    """The number with this bit turned."""
-    return number ^ 1 << bit
-
-
-def changed_words(family, words, found):
-    """How many of the changes of one bit leave a reading: of the first 16 of word 0, and of words 4 to 7."""
-    def count(places, bits):
-        return sum(read(family, [*words[:i], with_bit(words[i], bit), *words[i + 1:]], found) is not None
-                   for i in places for bit in range(bits))
-    return count([0], 16), count(range(4, 8), family.w)
-
-
-def changed_entries(family, words, found):
-    """The same of each bit of the counters, of the flags and of the blocks."""
-    counters = flags = changed_blocks = 0
-    for place, (block, counter, final, last_node) in enumerate(found):
-        def is_read(*entry):
-            return read(family, words, [*found[:place], entry, *found[place + 1:]]) is not None
-        counters += sum(is_read(block, with_bit(counter, bit), final, last_node) for bit in range(64))
-        flags += is_read(block, counter, not final, last_node) + is_read(block, counter, final, not last_node)
-        number = int.from_bytes(block, "little")
-        changed_blocks += sum(is_read(with_bit(number, bit).to_bytes(len(block), "little"), counter, final, last_node)
-                              for bit in range(8 * len(block)))
-    return counters, flags, changed_blocks
+def bits_of(number, count):
+    """The number with each one of this many bits turned."""
+    return (number ^ 1 << bit for bit in range(count))
 
 
 def forged():
@@ -170,33 +142,41 @@ def forged():
                                            (b"\x01", b"abc", persona, length)):
             given = Input(b"\x2a" * length, key, salt, persona)
             words, found = parameter_words(family, family.digest, given), entries(family, given)
+
+            def of_words(places, count):
+                return sum(read(family, [*words[:i], word, *words[i + 1:]], found) is not None
+                           for i in places for word in bits_of(words[i], count))
+
+            def of_entries(changes):
+                return sum(read(family, words, [*found[:i], entry, *found[i + 1:]]) is not None
+                           for i, each in enumerate(found) for entry in changes(*each))
+            counters = of_entries(lambda block, counter, *flags: (
+                (block, changed, *flags) for changed in bits_of(counter, 64)))
+            flags = of_entries(lambda block, counter, final, last_node: (
+                (block, counter, not final, last_node), (block, counter, final, not last_node)))
+            blocks = of_entries(lambda block, *others: (
+                (changed.to_bytes(len(block), "little"), *others)
+                for changed in bits_of(int.from_bytes(block, "little"), 8 * len(block))))
             assert read(family, words, found) is not None
-            sizes, texts = changed_words(family, words, found)
-            counters, flags, changed_blocks = changed_entries(family, words, found)
-            print(f"  {name} {len(found)} entries: word 0 {sizes}, words 4 to 7 {texts}, "
-                  f"counters {counters}, flags {flags}, blocks {changed_blocks}")
-
-
-def tree_nodes(family):
-    """64 inputs of nodes of trees, in their order."""
-    for i in range(64):
-        place = Place(37 * i % 256, 1 + 11 * i % 255, 0x9e3779b1 * i % 2**32,
-                      0x9e3779b97f4a7c15 * i % 2**64 >> 64 - 8 * family.offset, 5 * i % 256, i % (family.key + 1))
-        salt, persona = ALPHABET[:i % (family.salt + 1)], ALPHABET[:2 * i % (family.salt + 1)]
-        yield Input(ALPHABET[:5 * i], None, salt, persona, place, i % 3 == 0)
+            yield (f"  {name} {len(found)} entries: word 0 {of_words([0], 16)}, words 4 to 7 "
+                   f"{of_words(range(4, 8), family.w)}, counters {counters}, flags {flags}, blocks {blocks}")
 
 
 def nodes():
-    """nodes: of each family, the digest of the longest outputs of its nodes, and that of their transcripts: of
+    """nodes: of each family, the digest of the longest outputs of its 64 nodes, and that of their transcripts: of
     each the words, and then of each entry the counter, the two flags and the block; numbers low byte first."""
     for name, family in SCALAR.items():
         outputs = transcripts_of = b""
-        for given in tree_nodes(family):
+        for i in range(64):
+            place = Place(37 * i % 256, 1 + 11 * i % 255, 0x9e3779b1 * i % 2**32,
+                          0x9e3779b97f4a7c15 * i % 2**64 >> 64 - 8 * family.offset, 5 * i % 256, i % (family.key + 1))
+            salt, persona = ALPHABET[:i % (family.salt + 1)], ALPHABET[:2 * i % (family.salt + 1)]
+            given = Input(ALPHABET[:5 * i], None, salt, persona, place, i % 3 == 0)
             outputs += FAMILIES[name].function(given.message, **hashlib_node(given)).digest()
             transcripts_of += bytes_of(family, parameter_words(family, family.digest, given))
             for block, *numbers in entries(family, given):
                 transcripts_of += struct.pack("<Q??", *numbers) + block
-        print(f"  {name}: {digest(outputs)} {digest(transcripts_of)}")
+        yield f"  {name}: {digest(outputs)} {digest(transcripts_of)}"
 
 
 def trees():
@@ -204,23 +184,22 @@ def trees():
     as one leaf of the maximum length, in 20 bytes; and the digest of the roots of 32 bytes under a salt and
     a persona, of messages around each number of leaves, for each length of a leaf."""
     for length in (0, 4, 5, 8, 9):
-        print(f"  {length}: {tree_root(b'abcdefghi'[:length], 4, 64).hex()}")
-    abc = tree_root(b"abc", 2**32 - 1, 20, salt=b"0123456789abcdef", person=b"fedcba9876543210")
-    print(f"  abc: {abc.hex()}")
-    for leaf in (1, 2, 3, 64, 127, 128, 129, 200):
-        roots = b"".join(tree_root(ALPHABET[:leaf * leaves + more], leaf, 32, **TEXTS)
-                         for leaves in (0, 1, 3, 4, 5, 8, 9) for more in (0, 1, leaf - 1))
-        print(f"  {leaf}: {digest(roots)}")
+        yield f"  {length}: {tree_root(b'abcdefghi'[:length], 4, 64).hex()}"
+    yield f"  abc: {tree_root(b'abc', 2**32 - 1, 20, salt=b'0123456789abcdef', person=b'fedcba9876543210').hex()}"
+    for leaf in LEAVES:
+        roots = (tree_root(ALPHABET[:leaf * leaves + more], leaf, 32, **TEXTS)
+                 for leaves in (0, 1, 3, 4, 5, 8, 9) for more in (0, 1, leaf - 1))
+        yield f"  {leaf}: {digest(roots)}"
 
 
 def ranges():
     """ranges: the digest of the joined digests of ranges of leaves under a salt and a persona, for each length of a
     leaf: from places 0, 7 and 2^40 on, of whole leaves in the midst of a message, and of its end."""
-    for leaf in (1, 2, 3, 64, 127, 128, 129, 200):
-        digests = b"".join(range_digests(ALPHABET[:leaf * leaves - less], leaf, first, ends, **TEXTS)
-                           for first in (0, 7, 2**40) for leaves in (1, 3, 4, 5, 8, 9)
-                           for ends, less in ((False, 0), (True, 0), (True, leaf // 2)))
-        print(f"  {leaf}: {digest(digests)}")
+    for leaf in LEAVES:
+        digests = (range_digests(ALPHABET[:leaf * leaves - less], leaf, first, ends, **TEXTS)
+                   for first in (0, 7, 2**40) for leaves in (1, 3, 4, 5, 8, 9)
+                   for ends, less in ((False, 0), (True, 0), (True, leaf // 2)))
+        yield f"  {leaf}: {digest(digests)}"
 
 
 TABLES = {table.__name__: table for table in (
@@ -228,18 +207,15 @@ TABLES = {table.__name__: table for table in (
 
 
 def main():
-    """Prints the named tables, or all."""
     parser = Parser(description=__doc__.split("\n\n")[0])
     parser.add_argument("names", nargs="*", metavar="NAME", help=" ".join(TABLES))
     names = parser.parse_args().names
-    for name in names:
-        if name not in TABLES:
-            parser.error(f"no table has the name {name!r}")
+    for name in set(names) - set(TABLES):
+        parser.error(f"no table has the name {name!r}")
     check(random.Random(7693))
     for name, table in TABLES.items():
         if not names or name in names:
-            print(table.__doc__)
-            table()
+            print(table.__doc__, *table(), sep="\n")
 
 
 if __name__ == "__main__":

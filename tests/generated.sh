@@ -6,11 +6,9 @@ source "$(dirname "$(readlink -f "$0")")/tap.sh"
 check "dist/ was made from these sources" "$top/tools/dist.sh" current
 needs python3
 check "the files of BLAKE2s are what tools/twins.py makes of those of BLAKE2b" "$top/tools/twins.py" --check
-# With the faster compression that the model of the conformance cases has.
-with_model() { PYTHONPATH=$top/tests/conformance:$top/tests python3 -c "import model, oracle, random, sys, vectors
-$1" "${@:2}"; }
-check "the model of the conformance cases has the digests of hashlib" with_model 'oracle.check(random.Random(7693))'
-check "tests/vectors.json has the digests of hashlib and of the model" with_model 'sys.exit(vectors.main())' --check
+check "the model of the conformance cases has the digests of hashlib" env PYTHONPATH="$top/tests" python3 -c \
+    'import oracle, random; oracle.check(random.Random(7693))'
+check "tests/vectors.json has the digests of hashlib and of the model" "$top/tests/vectors.py" --check
 others_are_as_the_page_says() {
     mkdir "$work/conforming" && "$top/tests/conformance/write.py" "$work/conforming" &&
         "$top/tests/conformance/others.py" --check "$work/conforming"
@@ -22,6 +20,7 @@ check_huge "the conformance cases over hashlib, libb2 and Go" others_are_as_the_
 needs python3
 check "choose.c, thunks.h, the exports and the crate for Rust have the functions of vulfsjor.h" \
     "$top/tools/exports.py" --check
+check "each place has the version of CHANGELOG.md" "$top/tools/version.py" --check
 check "the man pages are what tools/manual.py makes of their sources" "$top/tools/manual.py" --check
 functions_have_manuals() {
     diff <(functions_of_headers | sort) <(sed -n 's/^\.SS \(vulfsjor_\w*\)()$/\1/p' "$top"/c/man/*.3 | sort)

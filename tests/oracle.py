@@ -32,12 +32,10 @@ def range_digests(data, leaf_size, first=0, ends=True, **texts):
 
 
 def root_of_leaves(digests, leaf_size, digest_size=64, **texts):
-    """The root over the joined digests of all leaves."""
     return tree_node(digests, leaf_size, digest_size, node_depth=1, last_node=True, **texts)
 
 
 def tree_root(message, leaf_size, digest_size=64, **texts):
-    """The root of the message."""
     digests = range_digests(message, leaf_size, **texts)
     return root_of_leaves(digests, leaf_size, digest_size, **texts)
 

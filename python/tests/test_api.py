@@ -54,7 +54,7 @@ class KnownAnswers(unittest.TestCase):
                 continue
             self.assertEqual(found.hex(), case["digest"], case)
             met[case["kind"]] += 1
-        self.assertEqual(met, {"hash": 1744, "many": 60, "root": 207, "parallel": 234, "output": 264})
+        self.assertEqual(met, {"hash": 1226, "many": 11, "root": 15, "parallel": 96, "output": 96})
 
 
 class Many(Test):

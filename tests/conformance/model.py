@@ -9,49 +9,14 @@ import os
 import sys
 
 sys.path.insert(0, os.path.join(os.path.dirname(os.path.abspath(__file__)), ".."))
-import b2_model  # noqa: E402
-from b2_model import SEQUENTIAL, Input, Place, steps  # noqa: E402
+from b2_model import Input, output, unknown_length  # noqa: E402
 from oracle import SCALAR, parallel_by_hashlib, parallel_digest, range_digests, root_of_leaves, tree_root  # noqa: E402
 from common import FAMILIES  # noqa: E402
 
 HASHES = ("blake2b", "blake2s", "blake2bp", "blake2sp", "blake2xb", "blake2xs", "tree")
 NODE = {"fanout": "fanout", "depth": "depth", "leaf": "leaf_size", "offset": "node_offset", "node": "node_depth",
         "inner": "inner_size", "last": "last_node"}
-UNKNOWN = {"b": 2**32 - 1, "s": 2**16 - 1}  # the length of an output whose length is not known
-
-
-def unrolled_compress(family):
-    """b2_model.compress for a family, with a variable for each word and a statement for each operation: five times as
-    fast. The sums are reduced where a word is rotated, and at the end."""
-    full = (1 << family.w) - 1
-    lines = ["def compress(h, m, t0, t1, f0, f1):", f" {','.join(f'v{i}' for i in range(8))} = h"]
-    masks = ["0"] * 4 + ["t0", "t1", "f0", "f1"]
-    lines += [f" v{i + 8} = {family.iv[i]} ^ {masks[i]}" for i in range(8)]
-    for number in range(family.rounds):
-        s = b2_model.SIGMA[number % 10]
-        for i, (a, b, c, d) in enumerate(b2_model.MIXINGS):
-            for word, first, second in ((2 * i, *family.turns[:2]), (2 * i + 1, *family.turns[2:])):
-                lines += [f" v{a} = v{a} + v{b} + m[{s[word]}] & {full}", f" x = v{d} ^ v{a}",
-                          f" v{d} = x >> {first} | x << {family.w - first} & {full}", f" v{c} = v{c} + v{d} & {full}",
-                          f" x = v{b} ^ v{c}", f" v{b} = x >> {second} | x << {family.w - second} & {full}"]
-    lines.append(f" return [{','.join(f'h[{i}] ^ v{i} ^ v{i + 8}' for i in range(8))}]")
-    found = {}
-    exec("\n".join(lines), found)
-    return found["compress"]
-
-
-UNROLLED = {family: unrolled_compress(family) for family in SCALAR.values()}
-
-
-def compress(family, h, entry):
-    """F, as b2_model.compress."""
-    block, counter, final, last_node = entry
-    full = (1 << family.w) - 1
-    return UNROLLED[family](h, b2_model.words_of(family, block), counter & full, counter >> family.w,
-                            full * final, full * last_node)
-
-
-b2_model.compress, SLOW = compress, b2_model.compress
+UNKNOWN = {letter: unknown_length(family) for letter, family in SCALAR.items()}
 
 
 class Refused(Exception):
@@ -122,7 +87,6 @@ def read_given(name, words):
 
 @functools.lru_cache(100000)
 def digest(name, message, items, last):
-    """The digest of a hash of these arguments."""
     given = dict(items)
     longest = FAMILIES[family_of(name)].key
     size, texts = given.get("size", longest), {each: given[each] for each in ("salt", "person") if each in given}
@@ -153,7 +117,6 @@ class State:
         return digest(self.name, self.message, tuple(self.given.items()), self.last)
 
     def length(self):
-        """The bytes of the output."""
         letter = family_of(self.name)
         known = self.given.get("size", UNKNOWN[letter])
         return FAMILIES[letter].key << 32 if known == UNKNOWN[letter] else known
@@ -162,31 +125,11 @@ class State:
         return self.length() - (self.place or 0)
 
     def read(self, count):
-        """The next bytes of the output."""
         start, letter = self.place or 0, family_of(self.name)
         self.place = start + count
-        texts = {each: self.given[each] for each in ("key", "salt", "person") if each in self.given}
+        given = Input(self.message, *(self.given.get(each, b"") for each in ("key", "salt", "person")))
         length = self.given.get("size", UNKNOWN[letter])
-        return output_of(letter, self.message, length, self.place, **texts)[start:]
-
-
-@functools.lru_cache(100000)
-def xof_node_digest(letter, size, given):
-    """The digest of a node of BLAKE2X. hashlib has none of depth 0."""
-    return steps(SCALAR[letter], size, given)[1]
-
-
-def output_of(letter, message, length, end, key=b"", salt=b"", person=b""):
-    """The bytes of an output up to this place, of an output of this length (the BLAKE2X document, 2)."""
-    longest, texts = FAMILIES[letter].key, {"salt": salt, "persona": person}
-    place = SEQUENTIAL._replace(node_offset=length << 32)
-    root = xof_node_digest(letter, longest, Input(message, key or None, **texts, place=place))
-    blocks = []
-    for i in range(-(-end // longest)):
-        size = longest if length == UNKNOWN[letter] else min(longest, length - i * longest)
-        place = Place(0, 0, longest, (length << 32) + i, 0, longest)
-        blocks.append(xof_node_digest(letter, size, Input(root, **texts, place=place)))
-    return b"".join(blocks)[:end]
+        return output(SCALAR[letter], self.place, given._replace(key=given.key or None), xof_length=length)[start:]
 
 
 def yes_or_no(condition):
@@ -296,7 +239,7 @@ class Model:
             wrong = [*wrong, *(each for each in str(refused).split(",") if each not in wrong)]
         if wrong:
             raise Refused(",".join(wrong))
-        return output_of("b", self.some(context, "context"), given["size"], given["size"], key)
+        return output(SCALAR["b"], given["size"], Input(self.some(context, "context"), key))
 
     @staticmethod
     def equal(one, other):
