@@ -20,6 +20,7 @@ from model import read_bytes  # noqa: E402
 
 SKIPPED = {"blake2b": 1908, "blake2s": 1708}
 NAMES = {"key": "key", "salt": "salt", "person": "persona"}
+LETTERS = {"update": "u", "copy": "c", "reset": "r", "digest": "f", "verify": "f"}
 
 
 class Skip(Exception):
@@ -28,15 +29,12 @@ class Skip(Exception):
 
 def digits(word):
     data = read_bytes(word)
-    if data is None:
-        raise Skip("none")
-    if len(data) > 1000:
-        raise Skip("an argument that a system may refuse")
+    if data is None or len(data) > 1000:
+        raise Skip("an argument that is none, or that a system may refuse")
     return data.hex()
 
 
 def arguments(name, words):
-    """The KIND and the words after it."""
     family, given = name[6], dict(word.split("=", 1) for word in words)
     size = given.pop("size", str(FAMILIES[family].key))
     if f"{family}{size.isdigit() and 8 * int(size)}" not in KINDS or not set(given) <= set(NAMES):
@@ -45,42 +43,31 @@ def arguments(name, words):
 
 
 def run(path, words, message):
-    done = subprocess.run([path, *words], input=message, stdout=subprocess.PIPE,
-                          stderr=subprocess.DEVNULL)
+    done = subprocess.run([path, *words], input=message, stdout=subprocess.PIPE, stderr=subprocess.DEVNULL)
     return done.returncode, done.stdout.decode()
 
 
-def outcome_of_sum(path, words, message):
-    """What `hash` returns, or that a length is wrong."""
-    status, said = run(path, ["sum", *words], message)
-    return "!" if (status, said) == (2, "b2: wrong length\n") else f"= {said.strip()}" if not status else said
+def is_right_sum(path, words, message, outcome):
+    """Whether `sum` does what `hash` does, which may be that a length is wrong."""
+    wanted = (2, "b2: wrong length\n") if outcome.startswith("!") else (0, outcome.removeprefix("= ") + "\n")
+    return run(path, ["sum", *words], message) == wanted
 
 
 class Script:
-    """The lines of a script, and what it prints for them."""
+    """The lines of a script, and what it prints for them: a line, or whether it is one."""
 
     def __init__(self):
-        self.words, self.slots, self.count, self.ended = None, {}, 1, set()
-        self.lines, self.said, self.status = [], [], 0
-
-    def slot(self, name):
-        if name not in self.slots:
-            raise Skip("a state that never was")
-        return self.slots[name]
+        self.words, self.slots, self.count, self.lines, self.said, self.status = None, {}, 1, [], [], 0
 
     def new(self, name, hash_name, words):
         given = arguments(hash_name, words)
-        if self.words is not None:  # another state is a copy of the first, which is new and stays so
-            if given != self.words or len(self.lines) > self.count - 1:
-                raise Skip("other arguments")
-            self.lines.append("c 0")
-            self.slots[name], self.count = self.count, self.count + 1
-        else:
+        if self.words is None:
             self.words, self.slots[name] = given, 0
-
-    def refuse(self):
-        """The call of the last line is refused, and ends the script."""
-        self.status, self.said = 2, [f"b2: line {len(self.lines)}: no such slot"]
+            return
+        if given != self.words or len(self.lines) > self.count - 1:
+            raise Skip("other arguments")
+        self.lines.append("c 0")  # another state is a copy of the first, which is new and stays so
+        self.slots[name], self.count = self.count, self.count + 1
 
     def call(self, verb, words, outcome):
         """Adds a call. Returns whether the script goes on."""
@@ -88,24 +75,21 @@ class Script:
             if outcome:
                 raise Skip("a state that is refused")  # `hash` has it too
             self.new(words[0], words[1], words[2:])
+        if verb in ("new", "count"):
             return True
-        if verb == "count":
-            return True
-        is_other_refusal = outcome.startswith("! ") and outcome != "! state"
-        if verb not in ("update", "copy", "reset", "digest", "verify") or is_other_refusal:
+        if verb not in LETTERS or outcome.startswith("! ") and outcome != "! state" or words[0] not in self.slots:
             raise Skip(verb)
-        slot = self.slot(words[0])
-        self.lines.append({"update": lambda: f"u {slot} {digits(words[1]) or '-'}", "copy": lambda: f"c {slot}",
-                           "reset": lambda: f"r {slot}"}.get(verb, lambda: f"f {slot}")())
+        more = f" {digits(words[1]) or '-'}" if verb == "update" else ""
+        self.lines.append(f"{LETTERS[verb]} {self.slots[words[0]]}{more}")
         if outcome == "! state":
-            self.refuse()
+            self.status, self.said = 2, [(f"b2: line {len(self.lines)}: no such slot", True)]
             return False
         if verb == "copy":
             self.slots[words[1]], self.count = self.count, self.count + 1
         if verb == "digest":
-            self.said.append(outcome.removeprefix("= "))
+            self.said.append((outcome.removeprefix("= "), True))
         if verb == "verify":
-            self.said.append((outcome, digits(words[1])))
+            self.said.append((digits(words[1]), outcome == "= yes"))
         return True
 
     def is_right(self, path):
@@ -113,22 +97,19 @@ class Script:
         status, said = run(path, ["script", *self.words], "\n".join(self.lines).encode())
         lines = said.splitlines()
         return status == self.status and len(lines) == len(self.said) and all(
-            got == wanted if isinstance(wanted, str) else (got == wanted[1]) == (wanted[0] == "= yes")
-            for got, wanted in zip(lines, self.said))
+            (got == line) == is_this for got, (line, is_this) in zip(lines, self.said))
 
 
-def run_case(path, lines):
-    """Whether a case is right."""
+def is_right_case(path, lines):
     script = Script()
     for line in lines:
         call, outcome = (re.split(r" (?=[=!] )", line) + [""])[:2]
         verb, *words = call.split()
         if verb == "hash":
-            given = arguments(words[0], words[2:])
-            data = read_bytes(words[1])
+            given, data = arguments(words[0], words[2:]), read_bytes(words[1])
             if data is None:
                 raise Skip("none")
-            return outcome_of_sum(path, given, data) == ("!" if outcome.startswith("!") else outcome)
+            return is_right_sum(path, given, data, outcome)
         if not script.call(verb, words, outcome):
             break
     if not script.lines:
@@ -148,7 +129,7 @@ def main():
         for case in cases:
             title, *lines = filter(None, case.split("\n"))
             try:
-                if not run_case(chosen.program, lines):
+                if not is_right_case(chosen.program, lines):
                     wrong.append("\n".join([title, *(line[:150] for line in lines)]))
             except Skip:
                 skipped += 1

@@ -38,14 +38,16 @@ class Ended(Exception):
 
 
 def number(word):
-    """A number, as an argument."""
     if word in ("none", "unknown"):
         raise Absent(word)
     return int(word)
 
 
 class Driver:
-    """States that no call ends: they are forgotten."""
+    """States by their slots. No call ends them: they are forgotten."""
+
+    def __init__(self, name):
+        self.name, self.states = name, {}
 
     def wipe(self, slot):
         self.states[slot] = None
@@ -55,27 +57,27 @@ class Driver:
             raise Ended
         return self.states[slot]
 
+    def new(self, slot, _, **words):
+        self.states[slot] = None
+        self.states[slot] = self.made(words)
+
+    def digest(self, slot):
+        value = self.final(self.of(slot))
+        self.states[slot] = None
+        return value
+
 
 class Hashlib(Driver):
-    """BLAKE2b and BLAKE2s of hashlib."""
-
     hashes = ("blake2b", "blake2s")
 
-    def __init__(self, name):
-        self.function, self.states = getattr(hashlib, name), {}
-
-    def made(self, message, words):
+    def made(self, words, message=b""):
         names = {"size": "digest_size", **NODE}
         given = {names.get(word, word): read_bytes(value) if word in ("key", "salt", "person") else number(value)
                  for word, value in words.items()}
         try:
-            return self.function(message, **given)
+            return getattr(hashlib, self.name)(message, **given)
         except (ValueError, OverflowError, TypeError) as error:
             raise Refused from error
-
-    def new(self, slot, _, **words):
-        self.states[slot] = None
-        self.states[slot] = self.made(b"", words)
 
     def update(self, slot, message):
         try:
@@ -86,13 +88,11 @@ class Hashlib(Driver):
     def copy(self, slot, other):
         self.states[other] = self.of(slot).copy()
 
-    def digest(self, slot):
-        value = self.of(slot).digest()
-        self.states[slot] = None
-        return value
+    def final(self, state):
+        return state.digest()
 
     def hash(self, _, message, **words):
-        return self.made(read_bytes(message), words).digest()
+        return self.made(words, read_bytes(message)).digest()
 
 
 def new_state(data=b""):
@@ -104,29 +104,28 @@ def new_state(data=b""):
 
 
 class Libb2(Driver):
-    """The four sequential and parallel functions of libb2."""
+    """The four sequential and parallel functions of libb2. A state has its length of the digest with it."""
 
     hashes = ("blake2b", "blake2s", "blake2bp", "blake2sp")
     library = ctypes.util.find_library("b2") and ctypes.CDLL(ctypes.util.find_library("b2"))
 
     def __init__(self, name):
-        self.name, self.states, self.sizes = name, {}, {}
+        super().__init__(name)
         self.most, self.salt = (64, 16) if name[6] == "b" else (32, 8)
 
     def call(self, name, *given):
+        given = (ctypes.c_size_t(it) if isinstance(it, int) else it for it in given)
         if getattr(self.library, self.name + name)(*given):
             raise Refused
 
     @staticmethod
     def text(word):
-        """Bytes and their number."""
         data = read_bytes(word)
         if data is None:
             raise Absent("null pointers, at which it may end the program")
-        return data, ctypes.c_size_t(len(data))
+        return data, len(data)
 
-    def new(self, slot, _, **words):
-        self.states[slot] = None
+    def made(self, words):
         size, state = number(words.pop("size", str(self.most))), new_state()
         if not -1 < size < 1 << 64:
             raise Absent("no number of C")
@@ -136,10 +135,10 @@ class Libb2(Driver):
         elif words:
             raise Absent("a key with other parameters")
         elif key is None:
-            self.call("_init", state, ctypes.c_size_t(size))
+            self.call("_init", state, size)
         else:
-            self.call("_init_key", state, ctypes.c_size_t(size), *self.text(key))
-        self.states[slot], self.sizes[slot] = state, size
+            self.call("_init_key", state, size, *self.text(key))
+        return state, size
 
     def parameters(self, size, words):
         """A parameter block, which the caller makes."""
@@ -150,25 +149,22 @@ class Libb2(Driver):
         if "p" in self.name or named["last"] or any(text is None or len(text) > self.salt for text in texts.values()):
             raise Absent("no field of the parameter block")
         try:
-            fields = b"".join(named[name].to_bytes(width, "little") for name, width in widths.items())
-            block = bytes([size, 0]) + fields
+            block = bytes([size, 0]) + b"".join(
+                named[name].to_bytes(width, "little") for name, width in widths.items())
         except (OverflowError, ValueError) as error:
             raise Absent("no field of the parameter block") from error
-        block = block.ljust(2 * self.salt, b"\0")
-        return block + b"".join(text.ljust(self.salt, b"\0") for text in texts.values())
+        return block.ljust(2 * self.salt, b"\0") + b"".join(text.ljust(self.salt, b"\0") for text in texts.values())
 
     def update(self, slot, message):
-        self.call("_update", self.of(slot), *self.text(message))
+        self.call("_update", self.of(slot)[0], *self.text(message))
 
     def copy(self, slot, other):
-        self.states[other] = new_state(self.of(slot).raw)
-        self.sizes[other] = self.sizes[slot]
+        state, size = self.of(slot)
+        self.states[other] = new_state(state.raw), size
 
-    def digest(self, slot):
-        state, size = self.of(slot), self.sizes[slot]
-        out = ctypes.create_string_buffer(size)
-        self.call("_final", state, out, ctypes.c_size_t(size))
-        self.states[slot] = None
+    def final(self, made):
+        out = ctypes.create_string_buffer(made[1])
+        self.call("_final", made[0], out, made[1])
         return out.raw
 
     def hash(self, _, message, **words):
@@ -177,12 +173,11 @@ class Libb2(Driver):
             raise Absent("salts and tree parameters")
         out = ctypes.create_string_buffer(max(size, 1))
         (data, length), (key, key_length) = self.text(message), self.text(key)
-        self.call("", out, data, key or None, ctypes.c_size_t(size), length, key_length)
+        self.call("", out, data, key or None, size, length, key_length)
         return out.raw[:size]
 
 
 def outcome_text(driver, call):
-    """What a call returns, as it is written."""
     verb, *words = call.split()
     method = getattr(driver, verb, None)
     if method is None:
@@ -190,7 +185,7 @@ def outcome_text(driver, call):
     named = dict(word.split("=") for word in words if "=" in word)
     try:
         value = method(*(word for word in words if "=" not in word), **named)
-    except Refused:
+    except (Refused, Ended):
         return "!"
     return "" if value is None else f"= {value.hex() or '-'}"
 
@@ -205,14 +200,10 @@ def run_cases(make, path):
         driver = make()
         try:
             for line in lines:
-                call, *wanted = re.split(r" (?=[=!] )", line)
-                wanted = wanted[0] if wanted else ""
+                call, wanted = (re.split(r" (?=[=!] )", line) + [""])[:2]
                 if call.startswith(("count ", "left ")):
                     continue
-                try:
-                    got = outcome_text(driver, call)
-                except Ended:
-                    got = "!"
+                got = outcome_text(driver, call)
                 if got != ("!" if wanted.startswith("!") else wanted):
                     wrong[name.split(".")[1]] += 1
                     print(f"{name}: {line[:120]}\n  gives {got[:100]!r}", file=sys.stderr)

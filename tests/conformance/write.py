@@ -1,8 +1,7 @@
 #!/usr/bin/env python3
 """Writes the conformance cases of BLAKE2, a file for each hash (README.md says what is in them):
 
-    tests/conformance/write.py FOLDER           writes blake2b.txt to tree.txt
-    tests/conformance/write.py --check FOLDER   ends with status 1 if one of them is another
+    tests/conformance/write.py FOLDER [HASH..]      writes blake2b.txt to tree.txt
 
 Here are the calls only. What each has to return is added by model.py, from hashlib and an independent model.
 """
@@ -20,15 +19,12 @@ KEY, SALT, PERSON = 5000, 6000, 7000  # where keys, salts and personalizations b
 
 
 def words(**given):
-    """Arguments as they are written."""
     starts = {"key": KEY, "salt": SALT, "person": PERSON}
     return " ".join(f"{name}={starts[name]}:{starts[name] + value}" if name in starts and isinstance(value, int)
                     else f"{name}={value}" for name, value in given.items())
 
 
 class Writer:
-    """The lines of a file."""
-
     def __init__(self, name):
         self.name, self.limits = name, argument_limits(name)
         self.family = FAMILIES[family_of(name)]
@@ -40,7 +36,6 @@ class Writer:
         self.lines, self.model, self.names = [], None, {}
 
     def case(self, what, *calls):
-        """A case of these calls."""
         number = self.names[what] = self.names.get(what, 0) + 1
         self.lines += ["", f"case {self.name}.{what}.{number}"]
         self.model = Model()
@@ -72,9 +67,12 @@ class Writer:
         return given
 
     def node(self):
-        """Random tree parameters."""
         return {name: self.some(self.limits[name][1], self.limits[name][0])
                 for name in ("fanout", "depth", "leaf", "offset", "node", "inner", "last")}
+
+    def new(self, slot="a", **given):
+        """The call that makes a state."""
+        return f"new {slot} {self.name} {words(**given)}"
 
     def hash(self, what, length, start=0, **given):
         """A digest in one call, or an output of this size."""
@@ -83,7 +81,6 @@ class Writer:
         self.case(what, f"hash {self.name} {start}:{start + length} {words(**given)}")
 
     def end(self, slot):
-        """How a run ends."""
         if self.is_output:
             return f"read {slot} {self.dice.randint(1, 3 * self.longest)}"
         return f"digest {slot}"
@@ -113,15 +110,14 @@ def sizes(w):
         w.hash("size", w.dice.randint(0, 300), size, **w.arguments("key", size=size, **base))
     for name, most in (("key", w.longest), ("salt", w.salt), ("person", w.salt)):
         for length in range(1, most + 1) if name in w.limits else ():
-            w.hash(name, w.dice.choice([0, 1, w.block - 1, w.block, w.block + 1]), length,
-                   **base, **{"size": w.longest, name: length})
+            w.hash(name, w.dice.choice([0, 1, w.block - 1, w.block, w.block + 1]), length, **base,
+                   **{"size": w.longest, name: length})
     if "key" in w.limits:
         for length in (0, 1, w.block - 1, w.block, w.block + 1, 2 * w.block):
             w.hash("key", length, size=w.longest, key=w.longest)
 
 
 def random_hashes(w):
-    """Random arguments and messages."""
     for i in range(300 if w.has_nodes or w.is_tree else 80):
         length = w.dice.choice([w.dice.randint(0, 300), w.dice.randint(0, 9) * w.block + w.dice.randint(0, 2)])
         w.hash("random", length, i, **w.arguments())
@@ -138,9 +134,8 @@ def nodes(w):
         w.hash("node", w.dice.randint(0, 300), i, **w.arguments(**w.node()))
     for i in range(40 if w.has_nodes else 0):  # the flag is set and cleared at any time
         given, length, flag = w.arguments(**w.node()), w.dice.randint(0, 300), i % 2
-        w.case("flag", f"new a {w.name} {words(**given)}", f"last a {1 - flag}", f"update a 0:{length}",
-               f"last a {flag}",
-               "copy a b", "digest a", "last b 1", "reset b", f"update b 0:{length}", "digest b")
+        w.case("flag", w.new(**given), f"last a {1 - flag}", f"update a 0:{length}", f"last a {flag}", "copy a b",
+               "digest a", "last b 1", "reset b", f"update b 0:{length}", "digest b")
 
 
 def pieces(w):
@@ -149,11 +144,10 @@ def pieces(w):
         given = w.arguments()
         cuts = {max(0, b * w.block + more) for b in range(5) for more in (-1, 0, 1)}
         for cut in sorted(cut for cut in cuts | {length} if cut <= length):
-            w.case("cut", f"new a {w.name} {words(**given)}", f"update a 0:{cut}", f"count a",
-                   f"update a {cut}:{length}",
-                   f"count a", w.end("a"))
+            w.case("cut", w.new(**given), f"update a 0:{cut}", f"count a", f"update a {cut}:{length}", f"count a",
+                   w.end("a"))
     for i in range(120):
-        w.case("pieces", f"new a {w.name} {words(**w.arguments())}")
+        w.case("pieces", w.new(**w.arguments()))
         place, end = i, i + w.dice.randint(0, 6 * w.block)
         while place < end:
             step = w.dice.choice([0, 1, w.dice.randint(0, 20), w.block, w.dice.randint(0, 3 * w.block)])
@@ -170,17 +164,17 @@ def tags(w):
         return
     for size in (1, 16, w.longest):
         given = {**w.arguments(), "size": size}
-        w.case("tag", f"new a {w.name} {words(**given)}", "update a 3:90", "copy a b", "copy a c", "copy a d")
+        w.case("tag", w.new(**given), "update a 3:90", "copy a b", "copy a c", "copy a d")
         right = bytes.fromhex(w.call("digest a").split()[-1])
         w.call(f"verify b {right.hex()}")
         w.call(f"verify c {right.hex()}00")
         w.call(f"verify d {right[:-1].hex() or '-'}")
         for tag in [right[:i] + bytes([right[i] ^ 1 << i % 8]) + right[i + 1:] for i in range(size)] + \
                 [b"", right + right, bytes(size), right[1:] + right[:1] if size > 1 else b"1"]:
-            w.case("tag", f"new a {w.name} {words(**given)}", "update a 3:90", f"verify a {tag.hex() or '-'}",
-                   f"verify a {right.hex()}", "update a 0:1")
+            w.case("tag", w.new(**given), "update a 3:90", f"verify a {tag.hex() or '-'}", f"verify a {right.hex()}",
+                   "update a 0:1")
             w.case("tag", f"equal {right.hex()} {tag.hex() or '-'}")
-        w.case("tag", f"new a {w.name} {words(**given)}", "update a 3:90", "verify a none", f"verify a {right.hex()}")
+        w.case("tag", w.new(**given), "update a 3:90", "verify a none", f"verify a {right.hex()}")
     for start, end in ((0, 300000), (1, 300001), (256, 300256), (0, 129024), (0, 299999)):
         w.case("equal", f"equal 0:300000 {start}:{end}")
 
@@ -205,16 +199,16 @@ def refusals(w):
             if value != "none" and value in range(least, most + 1) and not (w.is_output and value == most):
                 continue
             given = words(**{**base, name: value})
-            w.case(f"refused-{name}", f"new a {w.name} {given}", "update a 0:1", "digest a" if not w.is_output else
-                   "read a 1", "wipe a")
+            w.case(f"refused-{name}", f"new a {w.name} {given}", "update a 0:1",
+                   "digest a" if not w.is_output else "read a 1", "wipe a")
             if not w.is_output or name != "size" or value != "unknown":
                 more = words(**{**base, **({"size": 9} if w.is_output else {}), name: value})
                 w.case(f"refused-{name}", f"hash {w.name} 0:3 {more}")
                 if w.name in ("blake2b", "blake2s") and name in ("size", "key", "salt", "person"):
                     w.case(f"refused-{name}", f"many {w.name} 0:3 4:7 {more}")
         for value in right:
-            w.case(f"taken-{name}", f"new a {w.name} {words(**{**base, name: value})}",
-                   *(["left a"] if w.is_output else []), "update a 0:1", w.end("a"))
+            w.case(f"taken-{name}", w.new(**{**base, name: value}), *(["left a"] if w.is_output else []),
+                   "update a 0:1", w.end("a"))
     names = [name for name in w.limits if name not in ("last", "fanout", "node")]
     for wrong in range(1, 2 ** len(names)):
         given = dict(base)
@@ -222,11 +216,11 @@ def refusals(w):
             if wrong >> i & 1 and not (name in ("leaf", "offset") and w.name == "blake2b"):
                 given[name] = w.limits[name][1] + 1 if name in ("key", "salt", "person", "offset", "inner") else 0
         if wrong & wrong - 1:
-            w.case("refused-several", f"new a {w.name} {words(**given)}")
+            w.case("refused-several", w.new(**given))
     w.case("refused-message", f"hash {w.name} none {words(**base, **({'size': 9} if w.is_output else {}))}")
     for i in range(3):
-        w.case("refused-message", f"new a {w.name} {words(**w.arguments())}", f"update a 0:{i * 70}", "update a none",
-               "update a -", f"update a 9:{9 + i}", w.end("a"))
+        w.case("refused-message", w.new(**w.arguments()), f"update a 0:{i * 70}", "update a none", "update a -",
+               f"update a 9:{9 + i}", w.end("a"))
 
 
 def ended(w):
@@ -237,9 +231,8 @@ def ended(w):
     calls += ["last a 1"] * w.has_nodes
     for end in ends:
         for call in calls:
-            w.case("ended", f"new a {w.name} {words(**w.arguments())}", f"update a 0:{w.dice.randint(0, 200)}", end,
-                   call,
-                   "wipe a", f"new a {w.name} {words(**w.arguments())}", "update a 0:5", w.end("a"))
+            w.case("ended", w.new(**w.arguments()), f"update a 0:{w.dice.randint(0, 200)}", end, call, "wipe a",
+                   w.new(**w.arguments()), "update a 0:5", w.end("a"))
 
 
 def resets(w):
@@ -247,22 +240,20 @@ def resets(w):
     for length in (0, 1, w.block - 1, w.block, w.block + 1, 3 * w.block + 1):
         for _ in range(4):
             given = {**w.arguments(), **(w.node() if w.has_nodes and length % 2 else {})}
-            w.case("reset", f"new a {w.name} {words(**given)}", f"update a 1:{1 + length}", "reset a", "count a",
-                   "copy a b", w.end("b"), "update a 0:70", "copy a c", w.end("c"), "reset a", "reset a",
-                   f"update a 0:{length}",
-                   w.end("a"))
+            w.case("reset", w.new(**given), f"update a 1:{1 + length}", "reset a", "count a", "copy a b", w.end("b"),
+                   "update a 0:70", "copy a c", w.end("c"), "reset a", "reset a", f"update a 0:{length}", w.end("a"))
 
 
 def walks(w):
     """Random calls of several states, with those that are refused among them."""
     for i in range(300):
-        w.case("walk", *(f"new {slot} {w.name} {words(**w.arguments())}" for slot in "abc"))
+        w.case("walk", *(w.new(slot, **w.arguments()) for slot in "abc"))
         is_plain = i % 3 > 0  # without the calls that some packages do not have
         for _ in range(12):
             slot, other, length = w.dice.choice("abc"), w.dice.choice("abcd"), w.dice.choice([0, 1, 60, 128, 200, 700])
             start = w.dice.randint(0, 300)
             calls = [f"update {slot} {start}:{start + length}"] * 5 + [f"copy {slot} {other}"] * (slot != other)
-            calls += [w.end(slot), f"count {slot}", f"new {slot} {w.name} {words(**w.arguments())}"]
+            calls += [w.end(slot), f"count {slot}", w.new(slot, **w.arguments())]
             calls += [] if is_plain else [f"reset {slot}", f"wipe {slot}"]
             if w.is_output:
                 calls += [f"read {slot} {w.dice.choice([0, 1, 31, 64, 65, 300])}"] * 3 + [f"left {slot}"]
@@ -296,17 +287,15 @@ def outputs(w):
         total = 600 if size == "unknown" else size
         for cut in sorted({0, 1, total // 3, total - 1, total}):
             given = {**w.arguments(), "size": size}
-            w.case("read", f"new a {w.name} {words(**given)}", "update a 0:70", "left a", f"read a {cut}", "left a",
-                   "copy a b", f"read a {total - cut}", "left a",
-                   *(["read a 1", "read a 0"] if size != "unknown" else []),
+            w.case("read", w.new(**given), "update a 0:70", "left a", f"read a {cut}", "left a", "copy a b",
+                   f"read a {total - cut}", "left a", *(["read a 1", "read a 0"] if size != "unknown" else []),
                    f"read b {total - cut}")
-            w.case("read", f"new a {w.name} {words(**given)}", "update a 0:70", f"read a {cut}", "update a 0:1",
-                   "update a -",
+            w.case("read", w.new(**given), "update a 0:70", f"read a {cut}", "update a 0:1", "update a -",
                    f"read a {total - cut + 1}" if size != "unknown" else "left a", f"read a {total - cut}")
-            w.case("read", f"new a {w.name} {words(**given)}", "update a 5:70", f"read a {cut}", "reset a", "left a",
-                   "count a", "update a 0:3", f"read a {total}")
+            w.case("read", w.new(**given), "update a 5:70", f"read a {cut}", "reset a", "left a", "count a",
+                   "update a 0:3", f"read a {total}")
     for i in range(60):
-        w.case("reads", f"new a {w.name} {words(**w.arguments())}", f"update a {i}:{3 * i}")
+        w.case("reads", w.new(**w.arguments()), f"update a {i}:{3 * i}")
         for _ in range(6):
             w.call(f"read a {w.dice.choice([0, 1, 2, 31, 32, 33, 63, 64, 65, 128, 200])}")
     most = UNKNOWN[family_of(w.name)]
@@ -362,8 +351,8 @@ def trees(w):
                 given = words(**w.arguments(leaf=leaf))
                 part = f"{before}:{before + count * leaf}"
                 w.case("next", f"new a tree {given}", f"update a 0:{before}", f"next a {skip} {part}",
-                       f"next a {skip} 0:{leaf + 1}", f"next a {skip} -", f"absorb a {part} 1:4",
-                       "count a", "digest a", "next a 0 0:1")
+                       f"next a {skip} 0:{leaf + 1}", f"next a {skip} -", f"absorb a {part} 1:4", "count a", "digest a",
+                       "next a 0 0:1")
     for skip in (2**56, 2**58 - 2, 2**58 - 1, 2**63, 2**64 - 1):
         w.case("next", "new a tree leaf=1", f"next a {skip} 0:1", f"next a {skip} 0:2", "update a 0:3", "digest a")
     w.case("next", "new a tree leaf=4", "absorb a 0:8 -", "absorb a - 0:3", "absorb a 3:7 0:1", "next a 0 none",
@@ -374,7 +363,6 @@ KINDS = (lengths, sizes, random_hashes, nodes, pieces, tags, refusals, ended, re
 
 
 def text_of(name):
-    """The text of a hash's file."""
     writer = Writer(name)
     for kind in KINDS:
         kind(writer)
@@ -383,25 +371,14 @@ def text_of(name):
 
 def main():
     parser = Parser(description=__doc__.split("\n\n")[0])
-    parser.add_argument("--check", action="store_true", help="compare the files with what would be written")
     parser.add_argument("folder")
     parser.add_argument("names", nargs="*", default=HASHES, help="the hashes, all of them by default")
     chosen = parser.parse_args()
-    status = 0
     with ProcessPoolExecutor() as pool:
-        texts = list(pool.map(text_of, chosen.names))
-    for name, text in zip(chosen.names, texts):
-        path = os.path.join(chosen.folder, f"{name}.txt")
-        if chosen.check:
-            with open(path) as file:
-                if file.read() != text:
-                    print(f"{path} is not what tests/conformance/write.py writes")
-                    status = 1
-        else:
-            with open(path, "w") as file:
+        for name, text in zip(chosen.names, pool.map(text_of, chosen.names)):
+            with open(os.path.join(chosen.folder, f"{name}.txt"), "w") as file:
                 file.write(text)
-    return status
 
 
 if __name__ == "__main__":
-    sys.exit(main())
+    main()
