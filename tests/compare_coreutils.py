@@ -1,11 +1,12 @@
 #!/usr/bin/env python3
 """Compares the program b2sum with coreutils' program of that name on command lines:
 
-- each option and each pair of options, with files, with a manifest, and with nothing, of which every second one without
+- each option and each pair of options, with files, with a manifest, and with nothing, of which every fourth one without
   VULFSJOR_TEST_HUGE;
 - each abbreviation of each long option;
 - some of them with standard input closed;
-- manifests with lines of many forms, and each length that `-l` may have;
+- manifests with lines of many forms, and each length that `-l` may have, without VULFSJOR_TEST_HUGE only some with
+  `--tag`;
 - random ones, over files with names of any bytes and manifests with damaged lines: RUNS of them for each program, by
   default 200, and 5,000 if VULFSJOR_TEST_HUGE is set.
 
@@ -41,17 +42,14 @@ NAMES = [
 # Names that cannot be opened or read: none such, a folder, a loop, a path through a file, a name that is too long.
 UNREADABLE = [b"missing", b"miss\ning", b"no such", b"dir/none", b"", b"a/b", b"dir", b"loop", b"dangling", b"n" * 256,
               b"/proc/self/mem", b"secret"]
-CHECKS = [b"--ignore-missing", b"--quiet", b"--status", b"--strict", b"-w", b"--warn", b"--ig", b"--qui"]
-SUMS = [b"--tag", b"-b", b"-t", b"-z", b"--zero", b"--binary", b"--text", b"--bin"]
-WRONG = [b"--foo", b"-x", b"-l", b"--length", b"--tag=x", b"--i=3", b"-lx", b"-l-8", b"-l+8", b"-l 8", b"--w",
-         b"-l99999999999999999999", b"-l9999999999999999999999999", b"--strict", b"--quiet", b"--status", b"-w",
-         b"--ignore-missing", b"-bz", b"-zt", b"-qq", b"--", b"-l''", b"-l\xff", b"--b", b"--check=x", b"---", b"-bx",
-         b"-l8x", b"-l0x8", b"-l18446744073709551616", b"-l 0", b"--length=", b"-cz", b"-wc", b"-l\n8", b"--\xff"]
-OPTIONS = [b"-b", b"-c", b"-t", b"-w", b"-z", b"-l8", b"-l512", b"-l520", b"-l7", b"-l0", b"--binary", b"--check",
-           b"--ignore-missing", b"--length=256", b"--quiet", b"--status", b"--strict", b"--tag", b"--text", b"--warn",
-           b"--zero", b"--", b"--nothing", b"-x"]
-LONG = [b"binary", b"check", b"ignore-missing", b"length=16", b"quiet", b"status", b"strict", b"tag", b"text", b"warn",
-        b"zero"]
+CHECKS = b"--ignore-missing --quiet --status --strict -w --warn --ig --qui".split()
+SUMS = b"--tag -b -t -z --zero --binary --text --bin".split()
+WRONG = [b"-l 8", b"-l 0", b"-l\n8", *rb"""--foo -x -l --length --tag=x --i=3 -lx -l-8 -l+8 --w -l99999999999999999999
+    -l9999999999999999999999999 --strict --quiet --status -w --ignore-missing -bz -zt -qq -- -l'' --b --check=x --- -bx
+    -l8x -l0x8 -l18446744073709551616 --length= -cz -wc""".split(), b"-l\xff", b"--\xff"]
+OPTIONS = b"""-b -c -t -w -z -l8 -l512 -l520 -l7 -l0 --binary --check --ignore-missing --length=256 --quiet --status
+    --strict --tag --text --warn --zero -- --nothing -x""".split()
+LONG = b"binary check ignore-missing length=16 quiet status strict tag text warn zero".split()
 # The abbreviations that our options --algorithm, --key-file, --personal, --progress, --salt, --show-digests and --tree
 # change.
 OURS = (b"a", b"k", b"p", b"s", b"t")
@@ -59,13 +57,11 @@ OURS = (b"a", b"k", b"p", b"s", b"t")
 
 def run_program(program, words, folder, data, user):
     """What the program prints to both streams, and its status. Without data standard input is closed."""
-    if isinstance(program, list):
-        done = subprocess.run([*program, *words], cwd=folder, input=data, timeout=60, stdout=subprocess.PIPE,
-                              stderr=subprocess.PIPE)
-        return done.stdout, done.stderr, done.returncode
-    done = subprocess.run([b"b2sum", *words], executable=program, cwd=folder, input=data, timeout=60, user=user,
-                          preexec_fn=(lambda: os.close(0)) if data is None else None,
-                          env={"LC_ALL": "C", "PATH": "/usr/bin:/bin"}, stdout=subprocess.PIPE, stderr=subprocess.PIPE)
+    first, more = program, {}
+    if not isinstance(program, list):
+        first, more = [b"b2sum"], {"executable": program, "user": user, "env": {"LC_ALL": "C", "PATH": "/usr/bin:/bin"},
+                                   "preexec_fn": (lambda: os.close(0)) if data is None else None}
+    done = subprocess.run([*first, *words], cwd=folder, input=data, timeout=60, capture_output=True, **more)
     return done.stdout, done.stderr, done.returncode
 
 
@@ -74,7 +70,13 @@ def difference_from_coreutils(program, words, folder, data=b"", user=None):
     quotes around nothing."""
     ours, theirs = (run_program(it, words, folder, data, user) for it in (program, b"/usr/bin/b2sum"))
     plain = (theirs[0], re.sub(rb"^(b2sum: )''(?=')", rb"\1", theirs[1], flags=re.MULTILINE), theirs[2])
-    return "" if ours in (theirs, plain) else f"{words}\n  ours   {ours}\n  theirs {theirs}\n"
+    return "" if ours in (theirs, plain) else f"{words} {data[:300] if data else data}\n  ours   {ours}\n" \
+                                              f"  theirs {theirs}\n"
+
+
+def write(folder, name, data):
+    with open(os.path.join(os.fsencode(folder), name), "wb") as file:
+        file.write(data)
 
 
 # ---- A folder of files.
@@ -90,12 +92,10 @@ def random_name(rng):
 def make_files(rng, folder):
     """Makes files with odd names, and what cannot be read. Returns the names of the files and their bytes."""
     names = rng.sample(NAMES, rng.randint(1, 5)) + [random_name(rng) for _ in range(rng.randint(0, 2))]
-    files = {}
-    for name in names:
-        size = rng.choice([0, 1, 3, 127, 128, 129, 255, 256, 257, 1000] + [65535, 65536, 65537] * (rng.random() < 0.1))
-        files[name] = rng.randbytes(size)
-        with open(os.path.join(folder, name), "wb") as file:
-            file.write(files[name])
+    sizes = [0, 1, 3, 127, 128, 129, 255, 256, 257, 1000] + [65535, 65536, 65537] * (rng.random() < 0.1)
+    files = {name: rng.randbytes(rng.choice(sizes)) for name in names}
+    for name, data in files.items():
+        write(folder, name, data)
     os.mkdir(os.path.join(folder, b"dir"))
     os.symlink(b"loop", os.path.join(folder, b"loop"))
     os.symlink(b"nothing", os.path.join(folder, b"dangling"))
@@ -124,38 +124,21 @@ def line_of(rng, name, data):
     return start + digits + rng.choice([b"  ", b" *"]) + escaped_name(name)
 
 
-def with_noise(rng, line):
-    """The line with a byte more, or one less, or a digit changed."""
-    at, kind = rng.randrange(len(line) + 1), rng.randrange(4)
-    if kind == 0:
-        return line[:at] + bytes([rng.choice(b" \\()=-*\tgAfF0z\r#")]) + line[at:]
-    if kind == 1:
-        return line[:at] + line[at + 1:]
-    if kind == 2:
-        return line[:at]
-    return line[:at] + bytes([rng.choice(b"0123456789abcdefABCDEF")]) + line[at + 1:]
-
-
 def damage_line(rng, line):
-    """The line with one of many damages."""
-    kind = rng.randrange(9)
-    if kind == 0:
-        return line.upper()
-    if kind == 1:
-        return rng.choice([b" ", b"\t", b"  \t", b"\\", b" \\", b"#"]) + line
-    if kind == 2:
-        return line + rng.choice([b"\r", b" ", b"\r\r", b"\\", b")", b"x"])
-    if kind == 3:
-        return line.replace(b"  ", rng.choice([b" ", b" *", b"\t", b"\t ", b"\t*", b"   "]), 1)
-    if kind == 4:
-        end = rng.choice([b") = ", b")=", b")  =\t", b") =", b")x= "])
-        return line.replace(b" (", rng.choice([b" (", b"("]), 1).replace(b") = ", end, 1)
-    if kind == 5:
-        return rng.choice([b"", b"#", b"\r", b" ", b"ab", b"ab ", b"ab  ", b"ab  x", b"nonsense", b"\\", line[2:]])
-    if kind == 6:
-        tags = [b"BLAKE2s", b"blake2b", b"BLAKE2b-512", b"BLAKE2b-8", b"BLAKE2b-", b"SHA256"]
-        return line.replace(b"BLAKE2b", rng.choice(tags), 1)
-    return with_noise(rng, line)
+    """The line with one of many damages, of which the last ones are at a place in it."""
+    at, one_of = rng.randrange(len(line) + 1), lambda *texts: rng.choice(texts)
+    return rng.choice([
+        lambda: line.upper(), lambda: one_of(b" ", b"\t", b"  \t", b"\\", b" \\", b"#") + line,
+        lambda: line + one_of(b"\r", b" ", b"\r\r", b"\\", b")", b"x"),
+        lambda: line.replace(b"  ", one_of(b" ", b" *", b"\t", b"\t ", b"\t*", b"   "), 1),
+        lambda: line.replace(b" (", one_of(b" (", b"("), 1).replace(
+            b") = ", one_of(b") = ", b")=", b")  =\t", b") =", b")x= "), 1),
+        lambda: one_of(b"", b"#", b"\r", b" ", b"ab", b"ab ", b"ab  ", b"ab  x", b"nonsense", b"\\", line[2:]),
+        lambda: line.replace(b"BLAKE2b", one_of(b"BLAKE2s", b"blake2b", b"BLAKE2b-512", b"BLAKE2b-8", b"BLAKE2b-",
+                                                b"SHA256"), 1),
+        lambda: line[:at] + bytes([rng.choice(b" \\()=-*\tgAfF0z\r#")]) + line[at:],
+        lambda: line[:at] + bytes([rng.choice(b"0123456789abcdefABCDEF")]) + line[at + 1:],
+        lambda: one_of(line[:at], line[:at] + line[at + 1:])])()
 
 
 def is_left_out(line):
@@ -183,21 +166,17 @@ def random_manifest(rng, files, is_only):
     no line has one byte before the name."""
     lines, share = [], rng.choice([0.0, 0.0, 0.1, 0.4])
     for _ in range(rng.randint(0, 9)):
-        name = rng.choice(list(files))
-        if rng.random() < 0.2:
-            name = rng.choice(UNREADABLE[:-2] + [b"-"])
+        name = rng.choice(UNREADABLE[:-2] + [b"-"] if rng.random() < 0.2 else list(files))
         line = line_of(rng, name, files.get(name, b""))
         line = damage_line(rng, line) if rng.random() < share else line
         lines.append(b"x" if is_left_out(line) or not is_only and has_one_blank(line) else line)
-    text = b"\n".join(lines)
-    end = rng.choice([b"\n", b"\n", b"\n", b"", b"\n\n", b"\r\n"])
-    return (text.replace(b"\n", b"\r\n") if rng.random() < 0.1 else text) + (end if lines else b"")
+    text = (b"\r\n" if rng.random() < 0.1 else b"\n").join(lines)
+    return text + (rng.choice([b"\n", b"\n", b"\n", b"", b"\n\n", b"\r\n"]) if lines else b"")
 
 
 # ---- Command lines.
 
 def to_check(rng, folder, files):
-    """The words of a check, and the input."""
     options = [rng.choice([b"-c", b"--check", b"--ch"])] + [it for it in CHECKS if rng.random() < 0.2]
     if rng.random() < 0.05:
         options.append(rng.choice([b"-z", b"--tag", b"-b", b"-t", b"-l0"]))
@@ -205,8 +184,7 @@ def to_check(rng, folder, files):
     reads_input = not count or rng.random() < 0.15
     for k in range(count):
         names.append(rng.choice([b"sums", b"my sums", b"s'ums", b"s\nums"]) + b"%d" % k)
-        with open(os.path.join(folder, names[-1]), "wb") as file:
-            file.write(random_manifest(rng, files, count + reads_input == 1))
+        write(folder, names[-1], random_manifest(rng, files, count + reads_input == 1))
     if reads_input:
         data = random_manifest(rng, files, not count)
         names += [b"-"] if names else []
@@ -216,20 +194,18 @@ def to_check(rng, folder, files):
 
 
 def to_sum(rng, files):
-    """The words of digests, and the input."""
     options = [it for it in SUMS if rng.random() < 0.15]
     if rng.random() < 0.5:
         bits = b"%d" % rng.choice([8 * rng.randint(0, 66), rng.randint(0, 600), 256])
         options += rng.choice([[b"-l", bits], [b"-l" + bits], [b"--length=" + bits], [b"--length", bits],
-            [b"--len=" + bits]])
-    names = [rng.choice(list(files)) for _ in range(rng.randint(0, 4))]
+                               [b"--len=" + bits]])
+    names = rng.choices(list(files), k=rng.randint(0, 4))
     names += [rng.choice(UNREADABLE)] if rng.random() < 0.2 else []
     names += [b"-"] if rng.random() < 0.15 else []
     return options, names, rng.randbytes(rng.choice([0, 5, 700] + [70000] * (rng.random() < 0.1)))
 
 
 def random_command(rng, folder, files):
-    """A command line, and the input."""
     options, names, data = to_check(rng, folder, files) if rng.random() < 0.55 else to_sum(rng, files)
     if rng.random() < 0.06:
         options.append(rng.choice([it for it in WRONG if not demands_length([*options, it])]))
@@ -243,17 +219,12 @@ def random_command(rng, folder, files):
 
 
 def random_run(program, seed):
-    """What differs in one random run."""
     rng = random.Random(seed)
-    folder = os.fsencode(tempfile.mkdtemp())
-    try:
-        files = make_files(rng, folder)
+    with tempfile.TemporaryDirectory() as folder:
+        files = make_files(rng, os.fsencode(folder))
         words, data = random_command(rng, folder, files)
-        user = 65534 if os.geteuid() == 0 else None
-        said = difference_from_coreutils(program, words, folder, data, user)
-        return said and f"seed {seed}: {said}"
-    finally:
-        shutil.rmtree(folder)
+        said = difference_from_coreutils(program, words, folder, data, 65534 if os.geteuid() == 0 else None)
+    return said and f"seed {seed}: {said}"
 
 
 def demands_length(words):
@@ -269,85 +240,77 @@ def fixed_runs():
     yield from ([one, two] for one in OPTIONS for two in OPTIONS if not demands_length([one, two]))
     yield from ([one, b"-c", two] for one in CHECKS for two in CHECKS)
     for option in LONG:
-        name, _, value = option.partition(b"=")
+        name, equals, value = option.partition(b"=")
         for end in range(1, len(name) + 1):
             if name[:end] not in OURS:
-                yield [b"--" + name[:end] + (b"=" + value if value else b"")]
+                yield [b"--" + name[:end] + equals + value]
                 yield [b"--" + name[:end] + b"=x", b"-c"]
 
 
-def test_options(program, pool, every=1):
-    """Each option, alone and in pairs, over two files, over a manifest, and over nothing."""
-    with tempfile.TemporaryDirectory() as folder:
-        with open(os.path.join(folder, "one"), "wb") as file:
-            file.write(b"abc")
-        lines = subprocess.run(["/usr/bin/b2sum", "one", "--tag", "one"], cwd=folder, stdout=subprocess.PIPE).stdout
-        lines += b"ab  none\nwrong line\n" + b"0" * 128 + b"  one\n"
-        with open(os.path.join(folder, "sums"), "wb") as file:
-            file.write(lines)
-        runs = [words + end for words in fixed_runs() for end in ([b"one", b"two"], [b"sums"], [])][::every]
-        said = list(pool.map(lambda words: difference_from_coreutils(program, words, folder, lines), runs))
-    tap.result(not any(said), f"{program}: {len(runs)} command lines of options and pairs of them",
-        "".join(said)[:4000])
+def option_runs(folder, every):
+    write(folder, b"one", b"abc")
+    lines = subprocess.run(["/usr/bin/b2sum", "one", "--tag", "one"], cwd=folder, stdout=subprocess.PIPE).stdout
+    lines += b"ab  none\nwrong line\n" + b"0" * 128 + b"  one\n"
+    write(folder, b"sums", lines)
+    return [(words + end, lines) for words in fixed_runs() for end in ([b"one", b"two"], [b"sums"], [])][::every]
 
 
-def test_closed(program, pool):
+def closed_runs(folder):
     """Command lines with standard input closed, so that the first file that is opened has its number."""
-    with tempfile.TemporaryDirectory() as folder:
-        with open(os.path.join(folder, "one"), "wb") as file:
-            file.write(b"abc")
-        digits = hashlib.blake2b(b"abc").hexdigest().encode()
-        for name, names in (("sums", (b"one", b"one")), ("input", (b"one", b"-", b"one")), ("more", (b"-", b"-"))):
-            with open(os.path.join(folder, name), "wb") as file:
-                file.write(b"".join(digits + b"  " + it + b"\n" for it in names))
-        runs = [[*options, *names] for options in ([], [b"-c"], [b"-c", b"--status"])
-                for names in ([], [b"-"], [b"one"], [b"one", b"-"], [b"-", b"one"], [b"-", b"-"], [b"none", b"-"],
-                              [b"sums"], [b"input"], [b"more"], [b"sums", b"input"], [b"input", b"sums"])]
-        said = list(pool.map(lambda words: difference_from_coreutils(program, words, folder, None), runs))
-    tap.result(not any(said), f"{program}: {len(runs)} command lines without standard input", "".join(said)[:4000])
+    digits = hashlib.blake2b(b"abc").hexdigest().encode()
+    write(folder, b"one", b"abc")
+    for name, names in ((b"sums", (b"one", b"one")), (b"input", (b"one", b"-", b"one")), (b"more", (b"-", b"-"))):
+        write(folder, name, b"".join(digits + b"  " + it + b"\n" for it in names))
+    return [([*options, *names], None) for options in ([], [b"-c"], [b"-c", b"--status"])
+            for names in ([], [b"-"], [b"one"], [b"one", b"-"], [b"-", b"one"], [b"-", b"-"], [b"none", b"-"],
+                          [b"sums"], [b"input"], [b"more"], [b"sums", b"input"], [b"input", b"sums"])]
+
+
+# Lines for a file `f` of the bytes abc, and what is almost one: HALF, WHOLE and such are digests, in digits.
+LINES = rb"""WHOLE|WHOLE |WHOLE  |WHOLE *|WHOLE f|WHOLE  f|WHOLE *f|WHOLE\tf|WHOLE\t f|WHOLE   f|WHOLE  f |WHOLE  f\r
+WHOLE  f\r\r|UPPER  f|HALF  f|HALF *f|ODD  f|LESS  f|WHOLE0  f|WHOLE00  f|0  f|00  f| HALF  f|\tHALF  f|\\HALF  f
+\\HALF  f\\n|\\HALF  f\\|\\HALF  \\\\f| \\HALF  f|#HALF  f||#| #|x|NONE  f|HALFf|HALF\n  f|HALF  ./f|HALF  -|HALF  none
+BLAKE2b (f) = WHOLE|BLAKE2b-256 (f) = HALF|BLAKE2b (f) = HALF|BLAKE2b-256 (f) = WHOLE|BLAKE2b-512 (f) = WHOLE
+BLAKE2b(f)= WHOLE|BLAKE2b (f)= WHOLE|BLAKE2b(f) = WHOLE|BLAKE2b   (f) = WHOLE|BLAKE2b (f)  =  WHOLE
+BLAKE2b (f)\t=\tWHOLE|BLAKE2b (f) WHOLE|BLAKE2b (f) =WHOLE|BLAKE2b (f = WHOLE|BLAKE2b f) = WHOLE|BLAKE2b () = WHOLE
+BLAKE2b (|BLAKE2b|BLAKE2b-|BLAKE2b-256|BLAKE2b-256 |BLAKE2b-256 (f)|BLAKE2b-256 (f) =
+BLAKE2b-0 (f) = |BLAKE2b-8 (f) = 6b|BLAKE2b-7 (f) = 6b|BLAKE2b-520 (f) = WHOLE00|BLAKE2b-4294967296 (f) = HALF
+BLAKE2b-99999999999999999999 (f) = HALF|BLAKE2b-256 (f) = HIGH|BLAKE2b-256 (f) = HALF |\\BLAKE2b-256 (f) = HALF
+\\BLAKE2b-256 (\\\\f) = HALF|blake2b (f) = WHOLE|BLAKE2s (f) = WHOLE|BLAKE2b (f) = x) = WHOLE|SHA512 (f) = WHOLE
+BLAKE2sp (f) = WHOLE"""
 
 
 def manifest_forms():
     """Manifests for a file `f` of the bytes abc: lines of each form, what is almost one, and mixtures of them."""
     half, whole = (hashlib.blake2b(b"abc", digest_size=size).hexdigest().encode() for size in (32, 64))
-    lines = [
-        whole, whole + b" ", whole + b"  ", whole + b" *", whole + b" f", whole + b"  f", whole + b" *f",
-        whole + b"\tf", whole + b"\t f", whole + b"   f", whole + b"  f ", whole + b"  f\r", whole + b"  f\r\r",
-        whole.upper() + b"  f", half + b"  f", half + b" *f", half[:-1] + b"  f", half[:-2] + b"  f", whole + b"0  f",
-        whole + b"00  f", b"0  f", b"00  f", b" " + half + b"  f", b"\t" + half + b"  f", b"\\" + half + b"  f",
-        b"\\" + half + b"  f\\n", b"\\" + half + b"  f\\", b"\\" + half + b"  \\\\f", b" \\" + half + b"  f",
-        b"#" + half + b"  f", b"", b"#", b" #", b"x", half.replace(b"a", b"g") + b"  f", half + b"f", half + b"\n  f",
-        half + b"  ./f", half + b"  -", half + b"  none", b"BLAKE2b (f) = " + whole, b"BLAKE2b-256 (f) = " + half,
-        b"BLAKE2b (f) = " + half, b"BLAKE2b-256 (f) = " + whole, b"BLAKE2b-512 (f) = " + whole,
-        b"BLAKE2b(f)= " + whole, b"BLAKE2b (f)= " + whole, b"BLAKE2b(f) = " + whole, b"BLAKE2b   (f) = " + whole,
-        b"BLAKE2b (f)  =  " + whole, b"BLAKE2b (f)\t=\t" + whole, b"BLAKE2b (f) " + whole, b"BLAKE2b (f) =" + whole,
-        b"BLAKE2b (f = " + whole, b"BLAKE2b f) = " + whole, b"BLAKE2b () = " + whole, b"BLAKE2b (", b"BLAKE2b",
-        b"BLAKE2b-", b"BLAKE2b-256", b"BLAKE2b-256 ", b"BLAKE2b-256 (f)", b"BLAKE2b-256 (f) =", b"BLAKE2b-0 (f) = ",
-        b"BLAKE2b-8 (f) = 6b", b"BLAKE2b-7 (f) = 6b", b"BLAKE2b-520 (f) = " + whole + b"00",
-        b"BLAKE2b-4294967296 (f) = " + half, b"BLAKE2b-99999999999999999999 (f) = " + half,
-        b"BLAKE2b-256 (f) = " + half.upper(), b"BLAKE2b-256 (f) = " + half + b" ", b"\\BLAKE2b-256 (f) = " + half,
-        b"\\BLAKE2b-256 (\\\\f) = " + half, b"blake2b (f) = " + whole, b"BLAKE2s (f) = " + whole,
-        b"BLAKE2b (f) = x) = " + whole, b"SHA512 (f) = " + whole, b"BLAKE2sp (f) = " + whole,
-    ]
+    digests = {b"HALF": half, b"WHOLE": whole, b"UPPER": whole.upper(), b"ODD": half[:-1], b"LESS": half[:-2],
+               b"HIGH": half.upper(), b"NONE": half.replace(b"a", b"g"), rb"\t": b"\t", rb"\r": b"\r", rb"\n": b"\n",
+               rb"\\": b"\\"}
+    pattern = b"|".join(map(re.escape, digests))
+    lines = [re.sub(pattern, lambda it: digests[it[0]], line) for line in re.split(rb"[|\n]", LINES)]
     yield from (line + b"\n" for line in lines)
     yield from (line + b"\n" + half + b"  f\n" + half + b" f\n" for line in lines)
     yield from (half + b" f\n" + line + b"\n" + half + b"  f\n" for line in lines)
     yield from (b"", b"\n", b"\n\n", b"\r\n", half + b"  f", half + b"  f\n\n" + whole + b"  f", b"#\n" * 3, b"x\n" * 3)
 
 
-def test_forms(program, pool, every=1):
-    """Manifests of many forms, and all lengths."""
+def form_runs(folder, by_windows, every):
+    """Manifests of many forms, and lengths."""
+    write(folder, b"f", b"abc")
+    runs = [([b"-c", *more], text) for text in manifest_forms() for more in ([], [b"-w", b"--strict"])]
+    runs += [([b"-l", b"%d" % bits, *more, b"f"], b"") for bits in range(0, 1025) for more in ([], [b"--tag"])
+             if bits % 56 == 0 or bits < 20 or bits % 8 == 0 and (HUGE or not more and bits < 530)]
+    if by_windows:  # a name of Windows ends in no blank
+        runs = [it for it in runs if not re.search(rb"f[ \r](\n|\))", it[1])][::every]
+    return runs
+
+
+def compare(program, pool, title, runs_in, *given):
+    """Compares the command lines, with their inputs, that a function makes for a folder."""
     with tempfile.TemporaryDirectory() as folder:
-        with open(os.path.join(folder, "f"), "wb") as file:
-            file.write(b"abc")
-        runs = [([b"-c", *more], text) for text in manifest_forms() for more in ([], [b"-w", b"--strict"])]
-        runs += [([b"-l", b"%d" % bits, *more, b"f"], b"") for bits in range(0, 1025) for more in ([], [b"--tag"])
-                 if bits % 8 == 0 or bits < 20]
-        if isinstance(program, list):  # a name of Windows ends in no blank
-            runs = [it for it in runs if not re.search(rb"f[ \r](\n|\))", it[1])][::every]
-        said = list(pool.map(
-            lambda run: difference_from_coreutils(program, run[0], folder, run[1]) and f"{run}: differs\n", runs))
-    tap.result(not any(said), f"{program}: {len(runs)} manifests and lengths", "".join(said)[:4000])
+        runs = runs_in(folder, *given)
+        said = list(pool.map(lambda run: difference_from_coreutils(program, run[0], folder, run[1]), runs))
+    tap.result(not any(said), f"{program}: {len(runs)} {title}", "".join(said)[:4000])
 
 
 def main():
@@ -364,17 +327,18 @@ def main():
         tap.result(True, "command lines compared with coreutils' b2sum", skipped="no b2sum of coreutils 9.1")
         tap.finish()
     pool = concurrent.futures.ThreadPoolExecutor(len(os.sched_getaffinity(0)))
+    options, forms = "command lines of options and pairs of them", "manifests and lengths"
     if given.by:
         for program in given.program:
-            test_options([given.by, program], pool, given.every)
-            test_forms([given.by, program], pool, given.every)
+            compare([given.by, program], pool, options, option_runs, given.every)
+            compare([given.by, program], pool, forms, form_runs, True, given.every)
         tap.finish()
     with programs(given.program) as built:
         for number, program in enumerate(built):
             if number == 0:
-                test_options(program, pool, 1 if HUGE else 2)
-                test_closed(program, pool)
-                test_forms(program, pool)
+                compare(program, pool, options, option_runs, 1 if HUGE else 4)
+                compare(program, pool, "command lines without standard input", closed_runs)
+                compare(program, pool, forms, form_runs, False, 1)
             runs = given.runs if number == 0 else given.runs // 10
             seeds = range(given.seed * 1000003, given.seed * 1000003 + runs)
             said = list(filter(None, pool.map(lambda seed: random_run(program, seed), seeds)))
