@@ -3,6 +3,7 @@
 
 usage: tests/page_numbers.py --write     writes the numbers into their places, as `make docs` does
 """
+import functools
 import re
 import sys
 
@@ -16,10 +17,83 @@ SPACE = r"\s+(?:(?://[/!]|//|\*|#) +)?"
 NUMBER = rf"([0-9](?:[0-9,.^]*[0-9])?(?: - [0-9]+)?(?:{SPACE}(?:bytes|[KMG]i?B))?)"
 
 
+FAMILY = functools.partial(Values, "blake2_simd", "Family")
+
+
 def family_numbers(crate, file, name):
-    """The numbers of BLAKE2b and BLAKE2s in a definition."""
     values = Values(crate, file, name)
     return [int(values[family]) for family in LANGUAGES]
+
+
+def family_rows():
+    """The rows of docs/SPECIFICATION.md that have the numbers of the families and the fields of the parameter block."""
+    for label, name in (("w, bits of a word", "word"), ("B, bytes of a block", "block_bytes"),
+                        ("K, bytes of the longest key", "key_bytes"),
+                        ("M, bytes of the longest digest", "output_bytes"),
+                        ("S, bytes of salt and of persona", "salt_bytes")):
+        yield f"| {label} | {{}} | {{}} |", *(FAMILY(name)[family].removeprefix("w") for family in LANGUAGES)
+    offsets, salts, reserved = (family_numbers("blake2_simd", "Family", name)
+                                for name in ("offset_bytes", "salt_bytes", "reserved_bytes"))
+    at = [0, 0]
+    for name, *lengths in (("digest length", 1, 1), ("key length", 1, 1), ("fanout", 1, 1), ("depth", 1, 1),
+                           ("leaf length", 4, 4), ("node offset", *offsets), ("node depth", 1, 1),
+                           ("inner length", 1, 1), ("reserved", *reserved), ("salt", *salts), ("persona", *salts)):
+        ends = [begin + length for begin, length in zip(at, lengths)]
+        cells = [f"{begin}..{end}" for begin, end in zip(at, ends) if begin < end]
+        yield f"| {name} | {{}} | {{}} |" if len(cells) == 2 else f"| {name} | {{}} | none |", *cells
+        at = ends
+
+
+def program_rows():
+    """Those that have the KINDs and the errors."""
+    for name, of_b, of_s in (("kind_of", "all except `xof`", "all except `tree`, `root` and `xof`"),
+                             ("compared_kind_of", "`witness`", "`witness`")):
+        cases = definition("b2_commands", "ArgumentTasks", name)
+        for word, family, length in re.findall(r'codes "(\w+)"\) then Ok \(blake2([bs])_of ([0-9]+)\)', cases):
+            yield f"| `{word}` | BLAKE2{family} | {{}} | {of_b if family == 'b' else of_s} |", length
+    texts, status, lines = (
+        Values("b2_commands", "Faults", name) for name in ("fault_text", "status_of", "line_number"))
+    for case, text in texts.items():
+        if case != "WriteFailed":
+            place = "line N: " if lines.get(case, "").startswith("Some") else ""
+            cause = find(r'"(.*)"', text, texts.name)
+            yield f"| `b2: {place}{cause}` | {{}} |", status[case]
+
+
+# Sentences there that have the numbers of a tree's nodes and the limits of the program: where a definition is, what it
+# has, and how the page writes that.
+DEFINED = (
+    ("blake2_tree/TreeRoot/tree_place", r"\bfanout = (\d+); depth = (\d+);.* inner_length = (\d+);", "{}",
+     "fanout {}, depth {}, leaf length L, inner length {}"),
+    ("blake2_tree/TreeRoot/root_over", r"node p (\d+) (\d+) true", "{}", "| root | N | {} | {} | on |"),
+    ("blake2_tree/TreeRoot/leaf_digests", r"digest blake2b (\d+) ", "{}", "| leaf i | {} | i |"),
+    ("blake2_tree/TreeRoot/leaf_input", r"node p i (\d+) ", "{}", "| i | {} | on only at the last leaf |"),
+    ("b2_commands/Tasks/IsTooLongFor", r"\(to_tree [^)]*\) input = 2 \^ (\d+) ≤", "2^{}",
+     "a message of fewer than {} bytes"),
+    ("b2_commands/Tasks/IsTooLongFor", r"\(to_tree [^)]*\) input = 2 \^ (\d+) ≤", "2^{}", "`tree` {} bytes or more"),
+    ("b2_commands/Tasks/IsTooLongBy", r"2 \^ (\d+) ≤ key_count", "2^{}", "with the key's block, of {} or more"),
+    ("b2_commands/Scripts/slot_value", r"number_value (\d+) digits", "{}",
+     "1 to {} decimal digits with no leading zero"),
+    ("b2_commands/ArgumentTasks/some_leaf", r"nat_lt n \(2 \^ (\d+)\)", "2^{} - 1", "a leaf length L of 1 to {}"),
+)
+
+
+def of_specification():
+    found = [*family_rows(), *program_rows()]
+    if len(found) != 34:
+        raise Unreadable(f"tests/page_numbers.py reads {len(found)} rows in the definitions where it wants 34")
+    for place, pattern, shown, form in DEFINED:
+        match = re.search(pattern, definition(*place.split("/")))
+        if not match:
+            raise Unreadable(f"{place}: nothing has the form {pattern!r}, which tests/page_numbers.py reads")
+        found.append((form, *map(shown.format, match.groups())))
+    found.append(("a decimal number of 1 to {}", longest_leaf()))
+    yield from (("docs/SPECIFICATION.md", *row) for row in found)
+
+
+def longest_leaf():
+    return 2 ** int(find(r"nat_lt n \(2 \^ ([0-9]+)\)", definition("b2_commands", "ArgumentTasks", "some_leaf"),
+                         "some_leaf")) - 1
 
 
 def of_threads():
@@ -69,8 +143,6 @@ def of_families():
     (out_b, out_s), (key_b, key_s), (salt_b, salt_s), (block_b, block_s) = (
         family_numbers("blake2_simd", "Family", name)
         for name in ("output_bytes", "key_bytes", "salt_bytes", "block_bytes"))
-    some_leaf = definition("b2_commands", "ArgumentTasks", "some_leaf")
-    leaf = int(find(r"nat_lt n \(2 \^ ([0-9]+)\)", some_leaf, "some_leaf"))
     peer = find(r'startswith\("b2sum \(GNU coreutils\) ([0-9.]+)', read("tests/compare_coreutils.py"),
                 "tests/compare_coreutils.py")
     longest = int(find(r"char path\[([0-9]+)\]", read("c/b2sum.c"), "c/b2sum.c")) - 1
@@ -79,7 +151,7 @@ def of_families():
             ("at most {} (BLAKE2s and BLAKE2sp: {}), the default", 8 * out_b, 8 * out_s),
             ("as the key: 1 to {} (BLAKE2s and BLAKE2sp: {})", key_b, key_s),
             ("up to {} bytes (BLAKE2s and BLAKE2sp: {})", salt_b, salt_s),
-            ("leaves of LEAF bytes, 1 to {}", 2 ** leaf - 1), ("counts as four of at most {}", f"{longest:,}")):
+            ("leaves of LEAF bytes, 1 to {}", longest_leaf()), ("counts as four of at most {}", f"{longest:,}")):
         yield "docs/B2SUM.md", form, *values
     leaves_b, leaves_s = family_numbers("blake2_parallel", "Parallel", "leaves")
     stripe = block_b * leaves_b
@@ -110,7 +182,6 @@ def of_families():
 
 
 def of_code():
-    """The rows of wiping, portable C, the tools that look at machine code, and versions."""
     cleared = [int(number) for path in paths("crates/blake2_ffi/src/**/*.rt")
                for number in re.findall(r"const \w+_BYTES: usize = ([0-9]+);", read(path))]
     yield "docs/WIPING.md", "rounded up: {} to {};", min(cleared), f"{max(cleared):,} bytes"
@@ -145,6 +216,7 @@ def of_code():
 
 def rows():
     """The rows of the table: a page, a sentence of it with {} for numbers, and the numbers."""
+    yield from of_specification()
     yield from of_threads()
     yield from of_families()
     yield from of_code()
@@ -181,7 +253,7 @@ RANGES = re.compile(r"\b[0-9]+ to (?:[0-9]+\^[0-9]+ - [0-9]+|[0-9]+)|\b[0-9]+\^[
 def lengths_of(kind):
     """The lengths of blake2b, blake2xs, tree and so on by their names, and the ranges and powers that it has."""
     family = "blake2s" if kind.rstrip("p").endswith("s") else "blake2b"
-    of = {name: int(Values("blake2_simd", "Family", name)[family])
+    of = {name: int(FAMILY(name)[family])
           for name in ("key_bytes", "salt_bytes", "output_bytes", "block_bytes")}
     pending = of["block_bytes"]
     if kind.endswith("p"):
@@ -210,7 +282,6 @@ def comments():
 
 
 def wrong_comments():
-    """What is wrong in them."""
     path, count = "c/include/vulfsjor.h", 0
     for kind, text in comments():
         lengths, ranges = lengths_of(kind)
@@ -236,7 +307,6 @@ def wrong_numbers():
 
 
 def write():
-    """Writes the numbers that are others."""
     texts = {}
     for page, form, *values in rows():
         text = texts.get(page, read(page))

@@ -15,7 +15,6 @@ def paths(pattern):
 
 
 def one_spaced(text):
-    """The text, with each run of spaces as one."""
     return " ".join(text.split())
 
 
@@ -34,7 +33,6 @@ def definitions(crate):
 
 
 def definition(crate, file, name):
-    """The text of a definition."""
     if (file, name) not in definitions(crate):
         raise Unreadable(f"crates/{crate}/specs/{file}.antt: tests/pages.py finds no definition {name}")
     return definitions(crate)[file, name]

@@ -9,7 +9,6 @@ def of_speeds():
 
 
 def first_screen():
-    """The numbers of README.md."""
     memory, b, s = map(measured, ("1 MiB in memory", "one BLAKE2b-512 digest", "one BLAKE2s-256 digest"))
     best, short_b, short_s = (newest(rows, "`vulfsjor`") for rows in (memory, b, s))
     avx2, old = (memory[f"ours: `vulfsjor`, x86-64-{level}"] for level in ("v3", "v2"))
@@ -98,28 +97,20 @@ def ratios_to(header, rows):
                     yield row[0], row[i], *(pair if unit == "GB/s" else reversed(pair))
 
 
+# The ratios of tables whose header names no candidate: their column, and the columns of the two that are compared.
+COMPARED = {"hash": ((4, 2, 3),), "call with 64 bytes": ((3, 1, 2),), "tree root of": ((3, 2, 1), (5, 4, 1)),
+            "in C": ((4, 2, 3), (6, 2, 5))}
+
+
 def ratios_by_row(header, rows):
-    """The same of a table whose header names no candidate: those of programs over files, of JavaScript and
-    of portable C."""
-    base = {}
-    for row in rows:
-        if header[0] == "read":
-            is_base = row[1] in ("`b2sum` of coreutils", "`b2sum --tree 65536`, 1 processor")
-            base.update({row[0]: row[2]} if is_base else {})
+    """The same of such a table, or of one of programs over files."""
+    base = {row[0]: row[2] for row in rows if row[1] in ("`b2sum` of coreutils", "`b2sum --tree 65536`, 1 processor")}
     for row in rows:
         if header[0] == "read":
             yield row[1], row[3], base[row[0]], row[2]
-        elif header[0] == "hash":
-            yield row[0], row[4], *(row[2:4] if row[2].endswith("GB/s") else row[3:1:-1])
-        elif header[0] == "call with 64 bytes":
-            yield row[0], row[3], row[2], row[1]
-        elif header[0] == "tree root of":
-            yield row[0], row[3], row[2], row[1]
-            yield row[0], row[5], row[4], row[1]
-        elif header[0] == "in C":
-            for ratio, other in ((row[4], row[3]), (row[6], row[5])):
-                if ratio:
-                    yield row[0], ratio, *((row[2], other) if other.endswith("MB/s") else (other, row[2]))
+        for i, one, other in COMPARED.get(header[0], ()):
+            if row[i]:
+                yield row[0], row[i], *((row[one], row[other]) if row[one].endswith("B/s") else (row[other], row[one]))
 
 
 def wrong_ratios():

@@ -11,14 +11,12 @@ import subprocess
 import sys
 
 import tap
-from common import TOP, Unreadable, read, version
+from common import TOP, Unreadable, read
 import reference
-from page_names import wrong_names
 from page_numbers import wrong_numbers
-from page_packages import wrong_in_packages
-from page_sources import LANGUAGES, Values, definition, find, one_spaced, paths
+from page_packages import check_platforms, check_systems, wrong_in_packages, wrong_names
+from page_sources import one_spaced, paths
 from page_speeds import wrong_ratios
-from page_systems import check_platforms, check_systems
 from read_sources import anchor, modules, words_of
 
 WORD = re.compile(r"`([^`]+)`")
@@ -28,7 +26,6 @@ OF_EACH_TYPE = ("IsReady", "IsReadyFor", "Took", "WentOn", "count", "future", "m
 
 
 def pages():
-    """The documents."""
     return paths("*.md") + paths("*/*.md") + paths("crates/*/*.md") + paths("tests/*/*.md")
 
 
@@ -122,108 +119,6 @@ def check_columns():
                     yield f"{path}:{number}: {len(line)} columns"
 
 
-def family_rows():
-    """The rows of docs/SPECIFICATION.md that have the numbers of the families."""
-    of = {name: Values("blake2_simd", "Family", name) for name in (
-        "word", "block_bytes", "key_bytes", "output_bytes", "salt_bytes")}
-
-    def family_row(label, name, shown=str):
-        return f"| {label} | " + " | ".join(shown(of[name][family]) for family in LANGUAGES) + " |"
-    yield family_row("w, bits of a word", "word", lambda width: width[1:])
-    yield family_row("B, bytes of a block", "block_bytes")
-    yield family_row("K, bytes of the longest key", "key_bytes")
-    yield family_row("M, bytes of the longest digest", "output_bytes")
-    yield family_row("S, bytes of salt and of persona", "salt_bytes")
-
-
-def field_rows():
-    """The beginnings of the rows that have the fields of the parameter block."""
-    of = {name: Values("blake2_simd", "Family", name) for name in ("offset_bytes", "salt_bytes", "reserved_bytes")}
-    places = {}
-    for family in LANGUAGES:
-        offset, salt, reserved = (int(of[name][family]) for name in ("offset_bytes", "salt_bytes", "reserved_bytes"))
-        at = 0
-        for name, length in (("digest length", 1), ("key length", 1), ("fanout", 1), ("depth", 1), ("leaf length", 4),
-                             ("node offset", offset), ("node depth", 1), ("inner length", 1), ("reserved", reserved),
-                             ("salt", salt), ("persona", salt)):
-            places.setdefault(name, []).append(f"{at}..{at + length}" if length else "none")
-            at += length
-    for name, (b, s) in places.items():
-        yield f"| {name} | {b} | {s} |"
-
-
-def program_rows():
-    """The rows that have the KINDs and the errors."""
-    for name, of_b, of_s in (("kind_of", "all except `xof`", "all except `tree`, `root` and `xof`"),
-                             ("compared_kind_of", "`witness`", "`witness`")):
-        cases = definition("b2_commands", "ArgumentTasks", name)
-        for word, family, size in re.findall(r'codes "(\w+)"\) then Ok \(blake2([bs])_of ([0-9]+)\)', cases):
-            yield f"| `{word}` | BLAKE2{family} | {size} | {of_b if family == 'b' else of_s} |"
-    texts, status, lines = (
-        Values("b2_commands", "Faults", name) for name in ("fault_text", "status_of", "line_number"))
-    for case, text in texts.items():
-        if case != "WriteFailed":
-            place = "line N: " if lines.get(case, "").startswith("Some") else ""
-            cause = find(r'"(.*)"', text, texts.name)
-            yield f"| `b2: {place}{cause}` | {status[case]} |"
-
-
-def node_words():
-    """Sentences that have the numbers of a tree's nodes and the limits of the program."""
-    def number_in_definition(crate, file, name, pattern):
-        return find(pattern, definition(crate, file, name), f"crates/{crate}/specs/{file}.antt, {name}")
-
-    def tree_number(name, pattern):
-        return number_in_definition("blake2_tree", "TreeRoot", name, pattern)
-
-    def command_number(file, name, pattern):
-        return number_in_definition("b2_commands", file, name, pattern)
-    fanout, depth, inner = (tree_number("tree_place", rf"\b{name} = ([0-9]+);")
-                            for name in ("fanout", "depth", "inner_length"))
-    yield f"fanout {fanout}, depth {depth}, leaf length L, inner length {inner}"
-    root = (tree_number("root_over", form) for form in (r"node p ([0-9]+) [0-9]+ true", r"node p [0-9]+ ([0-9]+) true"))
-    yield f"| root | N | {' | '.join(root)} | on |"
-    size = tree_number("leaf_digests", r"digest blake2b ([0-9]+) ")
-    depth = tree_number("leaf_input", r"node p i ([0-9]+) ")
-    yield f"| leaf i | {size} | i | {depth} | on only at the last leaf |"
-    limit = command_number("Tasks", "IsTooLongFor", r"\(to_tree [^)]*\) input = 2 \^ ([0-9]+) ≤")
-    yield f"a message of fewer than 2^{limit} bytes"
-    yield f"`tree` 2^{limit} bytes or more"
-    limit = command_number("Tasks", "IsTooLongBy", r"2 \^ ([0-9]+) ≤ key_count")
-    yield f"with the key's block, of 2^{limit} or more"
-    digits = command_number("Scripts", "slot_value", r"number_value ([0-9]+) digits")
-    yield f"1 to {digits} decimal digits with no leading zero"
-    leaf = command_number("ArgumentTasks", "some_leaf", r"nat_lt n \(2 \^ ([0-9]+)\)")
-    yield f"a decimal number of 1 to {2 ** int(leaf) - 1}"
-    yield f"a leaf length L of 1 to 2^{leaf} - 1"
-
-
-def check_specification():
-    """The numbers of docs/SPECIFICATION.md"""
-    page = " ".join(read("docs/SPECIFICATION.md").split())
-    groups = [list(rows()) for rows in (family_rows, field_rows, program_rows, node_words)]
-    for wanted, found in zip((5, 11, 18, 9), groups):
-        if len(found) != wanted:
-            yield f"tests/pages.py reads {len(found)} numbers in the definitions where it wants {wanted}: {found[:3]}.."
-    for shown in sum(groups, []):
-        if shown not in page:
-            yield f"SPECIFICATION: the definitions say {shown!r}"
-
-
-# Where the version is, by what is before it.
-VERSIONS = (("c/include/vulfsjor.h", r"VULFSJOR_VERSION \""), ("js/package.json", r"^ *\"version\": \""), (
-    "crates/b2sum_commands/src/program.rt", r"\bb2sum \(Vulfsjor\) "), *(
-    (path, r"^version = \"") for path in ("Cargo.toml", "rust-digest/Cargo.toml", "python/pyproject.toml")))
-
-
-def check_version():
-    """The version in each package"""
-    for path, before in VERSIONS:
-        found = re.search(before + r"([0-9]+\.[0-9]+\.[0-9]+)", read(path), re.MULTILINE)
-        if not found or found[1] != version():
-            yield f"{path}: version {found and found[1]}, and CHANGELOG.md has {version()}"
-
-
 def check_files():
     """The files and crates that the pages for contributors name"""
     for page in ("docs/MAP.md", "docs/REVIEW.md", "docs/PORTABLE.md", "CONTRIBUTING.md"):
@@ -288,7 +183,6 @@ def check_crates():
 
 
 def without_code(page):
-    """The text of a page without its fenced blocks."""
     return re.sub(r"^```.*?^```$", "", read(page), flags=re.MULTILINE | re.DOTALL)
 
 
@@ -377,10 +271,9 @@ def check_git():
 def main():
     if sys.argv[1:]:
         sys.exit("usage: tests/pages.py")
-    for check in (check_clauses, check_edits, check_must_fail, check_definitions, check_columns, check_specification,
-                  check_version, check_files, check_crates, check_links, check_quotes, wrong_ratios, wrong_numbers,
-                  wrong_names, wrong_in_packages, check_commands, check_comments, check_reference, check_systems,
-                  check_platforms, check_git):
+    for check in (check_clauses, check_edits, check_must_fail, check_definitions, check_columns, check_files,
+                  check_crates, check_links, check_quotes, wrong_ratios, wrong_numbers, wrong_names, wrong_in_packages,
+                  check_commands, check_comments, check_reference, check_systems, check_platforms, check_git):
         absent = check is check_git and not os.path.exists(os.path.join(TOP, ".git"))
         try:
             wrong = [] if absent else list(check())
