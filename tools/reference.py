@@ -13,14 +13,35 @@ import os
 import re
 import shutil
 import sys
+from html import escape
 from itertools import groupby, takewhile
 
-import reference_html
 from read_sources import TOP, Unreadable, anchor, exported, modules, read, words_of
 
 FOLDER = "docs/reference"
-NOTE = "[All crates and names](index.html)"
 IMPL = re.compile(r"impl(?:<.*?>)? (?:(.+) for )?(\w+)")
+STYLE = """body { max-width: 60em; margin: 2em auto; padding: 0 1em; font: 16px/1.5 system-ui, sans-serif; }
+pre { padding: 0.7em; overflow-x: auto; background: #8882; } code, pre { font-size: 0.9em; }
+p { white-space: pre-wrap; } input { width: 100%; font-size: 1.2em; } :root { color-scheme: light dark; }
+.names li { display: inline-block; width: 29em; overflow: hidden; } [hidden] { display: none !important; }"""
+# Shows the names that have the words of the field.
+SEARCH = """<p><input type="search" placeholder="search by name" autofocus></p><script>
+document.querySelector("input").oninput = ({ target }) => {
+  for (const item of document.querySelectorAll(".names li"))
+    item.hidden = !item.textContent.toLowerCase().includes(target.value.toLowerCase());
+};
+</script>"""
+
+
+def words(text):
+    """Words with their code."""
+    return re.sub(r"`([^`]+)`", r"<code>\1</code>", escape(text, quote=False))
+
+
+def html(title, *parts):
+    """A page of this title."""
+    return (f'<!DOCTYPE html>\n<html lang="en"><meta charset="utf-8"><title>{title}</title><style>{STYLE}</style>\n'
+            f"<h1>{title}</h1>\n" + "\n".join(parts) + "\n</html>\n")
 
 
 class Page:
@@ -28,21 +49,25 @@ class Page:
 
     def __init__(self, crate):
         self.crate, self.words = crate, list(words_of(crate))
-        self.lines, self.titles, self.names, self.wrong = [], [], [], []
+        self.parts, self.titles, self.names, self.wrong = [], [], [], []
         root = "main" if read(f"crates/{crate}/src/main.rt") else "lib"
         self.modules = list(modules(f"crates/{crate}/src/{root}.rt"))
         self.paths = paths(self.modules)
         self.add_modules()
         self.add_definitions()
 
-    def section(self, marks, title, *parts):
-        """Adds a section, with a blank line between its parts."""
+    def section(self, size, title, doc=(), source="", code=()):
+        """Adds a section: a heading, a comment, and a file of the sources or lines of code."""
         if anchor(title) in map(anchor, self.titles):
             self.wrong.append(f"crates/{self.crate}: two sections have the title {title}")
         self.titles.append(title)
-        self.lines += [f"{marks} {title}", ""]
-        for part in filter(None, parts):
-            self.lines += [*part, ""]
+        self.parts.append(f'<h{size} id="{anchor(title)}">{words(title)}</h{size}>')
+        if doc:
+            self.parts.append(f"<p>{words(chr(10).join(doc))}</p>")
+        if source:
+            self.parts.append(f'<p>Source: <a href="../../{source}">{source}</a></p>')
+        if code:
+            self.parts.append(f"<pre>{escape(chr(10).join(code))}</pre>")
 
     def entries(self, module):
         """The title, the items and the item to be documented of each section on this module."""
@@ -76,46 +101,28 @@ class Page:
             entries, used = list(self.entries(module)), module.re_exports()
             if entries or used:
                 path, doc = "::".join(module.path), module.doc if module.path else None
-                self.section("##", f"Module `{path}`" if path else "The crate's root", doc,
-                             source(module.file), used and ["```rust", *used, "```"])
+                self.section(2, f"Module `{path}`" if path else "The crate's root", doc, module.file, used)
             for title, items, documented in entries:
                 if documented:
                     self.names.append(("::".join(title.strip("`").split("::")[-2:]), title))
                     self.wrong += uncommented(module.file, documented)
                 lines = "\n\n".join("\n".join(item.shown()) for item in items).split("\n")
-                self.section("###", title, documented and documented.doc, ["```rust", *lines, "```"])
+                self.section(3, title, documented and documented.doc, code=lines)
 
     def add_definitions(self):
         """Adds the crate's definitions, file by file."""
         for file, words in groupby(self.words, lambda word: word.file):
             path, words = f"crates/{self.crate}/specs/{file}.antt", list(words)
             about = takewhile(lambda line: line.startswith("--"), read(path).splitlines())
-            self.section("##", f"Definitions of `{file}`", [line[3:] for line in about],
-                         source(path))
+            self.section(2, f"Definitions of `{file}`", [line[3:] for line in about], path)
             for word in words:
                 if word.is_public and not word.comment:
                     self.wrong.append(f"{path}: {word.name} has no comment")
-                self.section("###", word.title(), word.comment, ["```text", *word.lines, "```"])
+                self.section(3, word.title(), word.comment, code=word.lines)
 
-    def text(self, pages):
-        """The whole page, with links to the sections of all pages."""
-        contents = []
-        for title in self.titles:
-            link = f"[{title}](#{anchor(title)})"
-            if title.startswith(("Module ", "The ", "Definitions ")):
-                contents.append(f"- {link}")
-            else:
-                contents[-1] += f"{', ' if ': ' in contents[-1] else ': '}{link}"
-        lines = [f"# `{self.crate}`", "", NOTE, "", *self.modules[0].doc, "", "## Contents", "",
-                 *contents, "", *self.lines]
-        titles = [(title, "" if page is self else f"{page.crate}.html")
-                  for page in (self, *pages) for title in page.titles]
-        return linked("\n".join(lines), titles)
-
-
-def source(path):
-    """The line that leads to a file of the sources."""
-    return [f"Source: [`{re.split('/src/|/specs/', path)[1]}`](../../{path})"]
+    def text(self):
+        about = words("\n".join(self.modules[0].doc))
+        return html(self.crate, '<p><a href="index.html">All crates and names</a></p>', f"<p>{about}</p>", *self.parts)
 
 
 def paths(modules_of):
@@ -141,45 +148,23 @@ def uncommented(file, item):
             yield f"{file}:{item.number + i}: {line.strip()} has no doc comment"
 
 
-def linked(text, titles):
-    """The text with links for its brackets, such as [`Update`], to the first section so named."""
-    def link(match):
-        found = [f"[`{match[1]}`]({file}#{anchor(title)})" for title, file in titles
-                 if re.search(rf"(?:`|::){match[1]}`$", title)]
-        return found[0] if found else f"`{match[1]}`"
-    parts = re.split(r"^(```.*?^```)$", text, flags=re.DOTALL | re.MULTILINE)
-    for i in range(0, len(parts), 2):
-        prose = re.sub(r"^\[`.*`\]: .*\n|(?<=\])\(crate::[\w:]+\)", "", parts[i], flags=re.MULTILINE)
-        parts[i] = re.sub(r"\[`([\w:]+)`\](?!\()", link, prose)
-    return re.sub(r"\n{3,}", "\n\n", "".join(parts)).rstrip() + "\n"
-
-
 def index(pages):
-    """The page that leads to the crates."""
-    yield from ("# Reference", "",
-                "The public items of each crate with their contracts, and the definitions that these use.", "",
-                "| crate | contents | items | definitions |", "|---|---|---|---|")
-    for page in pages:
-        about = re.split(r"[.:] ", " ".join(page.modules[0].doc) + " ")[0]
-        yield f"| [`{page.crate}`]({page.crate}.html) | {about} | {len(page.names)} | {len(page.words)} |"
-
-
-def names_of(pages):
-    """Each item and each definition by its name, and where it is."""
-    found = [(name, title, page.crate) for page in pages
+    """The page that leads to the crates, and to each item and each definition by its name."""
+    crates = [f'<p><a href="{page.crate}.html">{page.crate}</a> ({len(page.names)} items, {len(page.words)} '
+              f'definitions): {words(re.split("[.:] ", " ".join(page.modules[0].doc) + " ")[0])}</p>' for page in pages]
+    named = [(name, title, page.crate) for page in pages
              for name, title in (*page.names, *((word.name, word.title()) for word in page.words))]
-    for name, title, crate in sorted(found, key=lambda it: it[0].split("::")[-1].lower()):
-        yield name, f"{crate}.html#{anchor(title)}"
+    items = [f'<li><a href="{crate}.html#{anchor(title)}">{escape(name)}</a> {crate}</li>'
+             for name, title, crate in sorted(named, key=lambda it: it[0].split("::")[-1].lower())]
+    return html("Reference", "<p>The public items of each crate with their contracts, and the definitions that these "
+                "use.</p>", *crates, SEARCH, '<ul class="names">', *items, "</ul>")
 
 
 def texts(pages):
-    """The files by their names."""
-    made = {f"{page.crate}.html": reference_html.page(page.text(pages), anchor) for page in pages}
-    return made | {"index.html": reference_html.page("\n".join(index(pages)), anchor, list(names_of(pages)))}
+    return {f"{page.crate}.html": page.text() for page in pages} | {"index.html": index(pages)}
 
 
 def pages():
-    """The pages of the crates."""
     crates = re.findall(r"^(\w+).*:", read("crates.txt"), re.MULTILINE)
     return [page for page in map(Page, crates) if page.titles]
 
