@@ -66,7 +66,6 @@ class Table:
 
 
 def fits(path, patterns):
-    """Whether one of these patterns is that of the path."""
     return any(fnmatchcase(path, "crates/" + pattern) for pattern in patterns)
 
 
@@ -79,7 +78,6 @@ def whole(old):
 
 @functools.cache
 def sources():
-    """The files of code, definitions and proofs."""
     return [f"{folder}/{name}"[len(TOP) + 1:] for crate in sorted(os.listdir(f"{TOP}/crates"))
             for part in ("src", "specs", "proofs") for folder, _, names in os.walk(f"{TOP}/crates/{crate}/{part}")
             for name in names if name.endswith((".rt", ".antt"))]
@@ -109,7 +107,6 @@ def wrong_attributes(made):
 
 
 def main(checks):
-    """Makes or compares the files."""
     table = Table()
     made = dict(table.made_files())
     wrong = sorted(path for path, text in made.items() if read(path) != text)
