@@ -28,16 +28,16 @@ TEXTS |= {f"{folder}/{name}.s": build for folder, build in (("x86_64", "x86"), (
 PROGRAM = LIBRARY | {"read", "write", "__write", "__sysv_signal", "__x86_get_cpuid_feature_leaf", "rattle_alloc",
                      "rattle_arg", "rattle_dealloc", "rattle_errno", "rattle_realloc", "rattle_set_errno"}
 SUMS = PROGRAM - {"read", "__sysv_signal"} | {f"b2sum_{it}" for it in ("open", "read", "close", "signal", "strerror")}
-FUNCTION = re.compile(r"\tvj_(?:function|cold|export|shared)\t([\w.]+)$")
+FUNCTION = re.compile(r"^\tvj_(?:function|cold|export|shared)\t([\w.]+)$", re.M)
 # A call of what is here, and one of what is not, by a macro.
-CALL = re.compile(r"\t(?:callq?|jmpq?|bl?|b)\t([A-Za-z_][\w.]*)$")
-OUTSIDE = re.compile(r"\tvj_(?:c_|system_)?(?:call|jump)\t([\w.]+)(?:, \w+)?$")
+CALL = re.compile(r"^\t(?:callq?|jmpq?|bl?|b)\t([A-Za-z_][\w.]*)$", re.M)
+OUTSIDE = re.compile(r"^\tvj_(?:c_|system_)?(?:call|jump)\t([\w.]+)(?:, \w+)?$", re.M)
 # A function of b2sum that C has, and the name of the proved one.
 OF_C = re.compile(r"b2sum\.\.(disk\.\.(?:hide_memory|show_progress)|hashes\.\.absorb_tree)[\w.]*")
 # The directives that all object formats have.
 DIRECTIVES = {".ascii", ".asciz", ".byte", ".long", ".p2align", ".quad", ".short", ".zero"}
 # What a preprocessor changes: lines of its own, comments, and names that GCC defines.
-PREPROCESSED = re.compile(r"^\s*#|//|/\*|\b(?:linux|unix|i386)\b")
+PREPROCESSED = re.compile(r"^\s*#|//|/\*|\b(?:linux|unix|i386)\b", re.M)
 VECTOR = re.compile(r"\b[vqdshb][0-9]+\b")
 UPPER = re.compile(r"%[xyz]mm(1[6-9]|2[0-9]|3[01])\b")
 CLEARS = re.compile(r"\tvpxord\t%xmm(\d+), %xmm\1, %xmm\1")
@@ -80,11 +80,9 @@ def check_text(name, text, end):
     lines = text.split("\n")
     code = functions_of_text(lines)
     exported = [line.split("\t")[2] for line in lines if line.startswith(("\tvj_export\t", "\tvj_shared\t"))]
-    called = {call[1] for line in lines if (call := CALL.match(line))}
-    outside = {call[1] for line in lines if (call := OUTSIDE.match(line))}
-    named = {word for line in lines if not FUNCTION.match(line) and not line.startswith("\tvj_end\t")
-             for word in re.findall(r"[A-Za-z_][\w.]*", line)}
-    labels = [line[:-1] for line in lines if re.fullmatch(r"\.L[^\t]*:", line)]
+    called, outside = set(CALL.findall(text)), set(OUTSIDE.findall(text))
+    named = set(re.findall(r"[A-Za-z_][\w.]*", re.sub(f"{FUNCTION.pattern}|\tvj_end\t.*", "", text, flags=re.M)))
+    labels = re.findall(r"(?m)^(\.L[^\t\n]*):$", text)
     words = {line.split("\t")[1] for line in lines if line.startswith("\t.")}
     yield "each function ends in the number of the code and the build", (
         code and all(it.endswith(f"_{end}") for it in code))
@@ -98,10 +96,9 @@ def check_text(name, text, end):
         hashing | {it for it in outside if OF_C.match(it)} | SUMS if "/b2sum" in name
         else hashing | PROGRAM if "/b2" in name else hashing | LIBRARY)
     yield "it has only directives that all systems have", words and words <= DIRECTIVES
-    yield "no preprocessor changes a line", not any(
-        PREPROCESSED.search(line) for line in lines[1:] if not line.startswith("\t.asci"))
-    yield "it uses no red zone and no x18", not any(map(RESERVED.search, lines)) and not any(
-        any(map(INDEXED.search, body)) and not any("call" in line.split("\t")[1] for line in body)
+    yield "no preprocessor changes a line", not PREPROCESSED.search(re.sub(r"(?m)\A.*|^\t\.asci.*", "", text))
+    yield "it uses no red zone and no x18", not RESERVED.search(text) and not any(
+        INDEXED.search("\n".join(body)) and not any("call" in line.split("\t")[1] for line in body)
         for body in code.values())
 
 
@@ -119,7 +116,7 @@ def check_hashing(name, text, build):
         yield "the programs can call the functions that hash", not chosen and sorted(shared) == [
             f"{it}_{CODE}_{build}" for it in hashing_of(name)]
         return
-    outside = {call[1] for line in lines if (call := OUTSIDE.match(line))}
+    outside = set(OUTSIDE.findall(text))
     hashing = {f"{it}_{CODE}_{build.replace('a64', 'arm')}" for it in hashing_of(name)}
     yield "it has no compression, and calls those of the library", hashing <= outside and not any(
         re.search(r"compress|hash_next|Lanes\.\.(outputs|update)", it) for it in functions_of_text(lines))

@@ -15,13 +15,11 @@ MOST = 16 << 10  # bytes, as docs/PORTABLE.md says
 
 
 def read(path):
-    """The text of a file."""
     with open(path, encoding="utf-8") as file:
         return file.read()
 
 
 def main():
-    """Prints the functions."""
     text = read(sys.argv[1])
     frames = {}  # of the function that is compiled for a call, such as NAME.constprop.0, too
     for name, size in re.findall(r":(\w+)(?:\.[\w.]+)?\t(\d+)\t", read(sys.argv[2])):
