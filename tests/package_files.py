@@ -12,24 +12,24 @@ import tap
 
 TOP = pathlib.Path(__file__).resolve().parent.parent
 PORTABLE = "amd64 arm64 armhf i386 ppc64el riscv64 s390x"
-# The fields of each package in debian/control.
+# The fields of each package in debian/control that are compared, of which those of several lines are one.
+FIELDS = r"(?:Section|Build-Depends|Rules-Requires-Root|Architecture|Multi-Arch|Build-Profiles|Pre-Depends|Depends): "
 CONTROL = {
-    "vulfsjor (source)": {
-        "Section": "libs",
-        "Build-Depends": "debhelper-compat (= 13), dh-sequence-python3 <!nopython>, python3-dev <!nopython>,",
-        "Rules-Requires-Root": "no"},
-    "libvulfsjor0": {
-        "Architecture": PORTABLE, "Multi-Arch": "same", "Pre-Depends": "${misc:Pre-Depends}",
-        "Depends": "${misc:Depends}, ${shlibs:Depends}"},
-    "libvulfsjor-dev": {
-        "Section": "libdevel", "Architecture": PORTABLE, "Multi-Arch": "same",
-        "Depends": "${misc:Depends}, libvulfsjor0 (= ${binary:Version})"},
-    "vulfsjor": {
-        "Section": "utils", "Architecture": "amd64 arm64", "Multi-Arch": "foreign",
-        "Depends": "${misc:Depends}, ${shlibs:Depends}"},
-    "python3-vulfsjor": {
-        "Section": "python", "Architecture": "amd64 arm64", "Build-Profiles": "<!nopython>",
-        "Depends": "python3 (>= 3.11), ${misc:Depends}, ${python3:Depends}, ${shlibs:Depends}"},
+    "Source: vulfsjor": [
+        "Section: libs", "Rules-Requires-Root: no",
+        "Build-Depends: debhelper-compat (= 13), dh-sequence-python3 <!nopython>, python3-dev <!nopython>,"],
+    "Package: libvulfsjor0": [
+        f"Architecture: {PORTABLE}", "Multi-Arch: same", "Pre-Depends: ${misc:Pre-Depends}",
+        "Depends: ${misc:Depends}, ${shlibs:Depends}"],
+    "Package: libvulfsjor-dev": [
+        "Section: libdevel", f"Architecture: {PORTABLE}", "Multi-Arch: same",
+        "Depends: ${misc:Depends}, libvulfsjor0 (= ${binary:Version})"],
+    "Package: vulfsjor": [
+        "Section: utils", "Architecture: amd64 arm64", "Multi-Arch: foreign",
+        "Depends: ${misc:Depends}, ${shlibs:Depends}"],
+    "Package: python3-vulfsjor": [
+        "Section: python", "Architecture: amd64 arm64", "Build-Profiles: <!nopython>",
+        "Depends: python3 (>= 3.11), ${misc:Depends}, ${python3:Depends}, ${shlibs:Depends}"],
 }
 # Lines, or parts of them, of the other files.
 LINES = {
@@ -84,23 +84,13 @@ def read_packaging(name):
     return (TOP / "packaging" / name).read_text(encoding="utf-8")
 
 
-def control_fields():
-    """The fields of each package, those of several lines as one, but no description."""
-    for paragraph in read_packaging("debian/control").split("\n\n"):
-        joined = re.sub(r"\n +", " ", paragraph)
-        fields = dict(line.split(": ", 1) for line in joined.strip().split("\n"))
-        yield fields.get("Package") or f"{fields['Source']} (source)", fields
-
-
 def wrong_fields():
-    found = dict(control_fields())
-    if list(found) != list(CONTROL):
-        yield f"the packages are {list(found)}"
-    for name, wanted in CONTROL.items():
-        for field in ("Section", "Architecture", "Multi-Arch", "Build-Profiles", "Build-Depends", "Depends",
-                      "Pre-Depends", "Rules-Requires-Root"):
-            if found.get(name, {}).get(field) != wanted.get(field):
-                yield f"{name}: {field} is {found.get(name, {}).get(field)}, and not {wanted.get(field)}"
+    found = [re.sub(r"\n +", " ", it).strip().split("\n") for it in read_packaging("debian/control").split("\n\n")]
+    fields = {name: [line for line in lines if re.match(FIELDS, line)] for name, *lines in found}
+    if list(fields) != list(CONTROL):
+        yield f"the packages are {list(fields)}"
+    yield from (f"{name} has {fields.get(name)}, and not {wanted}" for name, wanted in CONTROL.items()
+                if sorted(fields.get(name, [])) != sorted(wanted))
 
 
 def missing_lines():
