@@ -39,20 +39,14 @@ READMES_TOOLS = ("awk bash cat chmod cut diff dirname find grep mkdir mktemp mv 
                  "touch tr xargs cc as ld")
 
 
-def printed_by_comments(text):
-    """What the comments of an example say that it prints, or None if none of them does."""
-    lines = re.findall(r'(?:#|//|/\*) prints "(.*?)"', text)
-    return "\n".join(lines) if lines else None
-
-
-def examples(page):
+def examples(text):
     """The examples of a page: for each the line, the language, the text, and what it prints, or None."""
     found, last = [], None
-    text = page.read_text(encoding="utf-8")
     for block in re.finditer(r"^```(\w*)\n(.*?)^```$", text, re.M | re.S):
         language, inside = block[1], block[2]
         if language in TOOLS:
-            last = [text.count("\n", 0, block.start()) + 1, language, inside, printed_by_comments(inside)]
+            comments = re.findall(r'(?:#|//|/\*) prints "(.*?)"', inside)
+            last = [text.count("\n", 0, block.start()) + 1, language, inside, "\n".join(comments) or None]
             found.append(last)
         elif language == "text" and last:
             last[3] = inside
@@ -61,20 +55,29 @@ def examples(page):
 
 
 class Runner:
-    """Runs examples in a folder, against the installed library and the module for Python that are in other folders."""
+    """Runs the examples of a page in a folder, against the installed library and the module for Python."""
 
-    needs, dependencies = {}, '[dependencies]\nvulfsjor = { path = "PATH" }\n'
+    def __init__(self, name, text, work, repository):
+        self.name, self.repository, self.library = name, repository, work / "installed"
+        self.folder = self.place = pathlib.Path(tempfile.mkdtemp(dir=work))
+        self.environment = dict(os.environ, LC_ALL="C.UTF-8", CARGO_NET_OFFLINE="true",
+                                PYTHONPATH=str(work / "module"), CARGO_TARGET_DIR=str(work / "target"),
+                                **{} if HUGE else {"CFLAGS": "-O0"})
+        dependencies = "".join(re.findall(r"(?ms)^```toml\n(.*?)^```$", text))
+        self.dependencies = dependencies or '[dependencies]\nvulfsjor = { path = "PATH" }\n'
+        if name in WITH_DATA:
+            (self.folder / "data.bin").write_bytes(bytes(i % 251 for i in range(100_000)))
+        for each in ("b2", "b2sum", "c", "dist"):
+            (self.folder / each).symlink_to(repository / each)
+        # One user, whose shell starts at the top of the repository.
+        self.is_shell, self.start = name in ("docs/TUTORIAL.md", "docs/REVIEW.md"), self.environment["PATH"]
+        if self.is_shell:
+            self.environment["TMPDIR"] = str(self.folder)
 
-    def __init__(self, folder, repository, library, module, with_data=False):
-        self.folder = folder
-        self.repository = repository
-        self.library = library
-        self.environment = dict(os.environ, LC_ALL="C.UTF-8", CARGO_NET_OFFLINE="true", PYTHONPATH=str(module),
-                                CARGO_TARGET_DIR=str(folder.parent / "target"), **{} if HUGE else {"CFLAGS": "-O0"})
-        if with_data:
-            (folder / "data.bin").write_bytes(bytes(i % 251 for i in range(100_000)))
-        for name in ("b2", "b2sum", "c", "dist"):
-            (folder / name).symlink_to(repository / name)
+    def begin(self):
+        """Begins the page, once more with another shell."""
+        if self.is_shell:
+            self.place, self.environment["PATH"] = self.repository, self.start
 
     def with_folders(self, text):
         """A block with the folders that it names."""
@@ -88,8 +91,7 @@ class Runner:
             raise RuntimeError(f"{words[0]} ended with {done.returncode}: {done.stderr.strip()[-2000:]}")
         return done.stdout
 
-    def run_compiled(self, compiler, name, text, *words):
-        """Runs a program in C or C++."""
+    def run_c(self, text, compiler="cc", name="hello.c", words=("-std=c99", "-D_POSIX_C_SOURCE=200809L")):
         (self.folder / name).write_text(text)
         library = self.library / "lib"
         others = [library / "libvulfsjor-threads.a"] if "vulfsjor_threads.h" in text else []
@@ -98,11 +100,8 @@ class Runner:
                   f"-I{self.library / 'include'}", *others, library / "libvulfsjor.a", "-pthread", "-o", "example")
         return self.call("./example")
 
-    def run_c(self, text):
-        return self.run_compiled("cc", "hello.c", text, "-std=c99", "-D_POSIX_C_SOURCE=200809L")
-
     def run_cpp(self, text):
-        return self.run_compiled("c++", "hello.cpp", text)
+        return self.run_c(text, "c++", "hello.cpp", ())
 
     def run_cmake(self, text):
         (self.folder / "CMakeLists.txt").write_text(self.with_folders(text))
@@ -121,50 +120,33 @@ class Runner:
         return self.call(f"{self.environment['CARGO_TARGET_DIR']}/debug/example")
 
     def run_python(self, text):
-        return self.call("python3", "-c", text)
+        return self.call("python3", "-c", text, at=self.place)
 
     def run_sh(self, text):
-        return self.call("bash", "-euo", "pipefail", "-c", self.with_folders(text))
-
-
-class RunnerAtTop(Runner):
-    """Runs those in the shell at the top of the repository, with few tools."""
-
-    needs = {"sh": ("git",)}
-
-    def run_sh(self, text):
-        tools = self.folder / "bin"
-        tools.mkdir(exist_ok=True)
-        for tool in READMES_TOOLS.split():
-            (tools / tool).unlink(missing_ok=True)
-            (tools / tool).symlink_to(shutil.which(tool))
-        words = "env", "-i", f"PATH={tools}", f"HOME={self.folder}", "bash", "-euo", "pipefail", "-c", text
-        return self.call(*words, at=self.repository)
-
-
-class RunnerOfShell(Runner):
-    """Runs those in the shell and in Python as one user does, whose shell starts at the top of the repository."""
-
-    needs = {"sh": ("git",), "python": ("git",)}
-
-    def __init__(self, folder, repository, *others):
-        super().__init__(folder, repository, *others)
-        self.environment["TMPDIR"] = str(folder)
-        self.start = self.environment["PATH"]
-
-    def open_shell(self):
-        """Opens another shell."""
-        self.place, self.environment["PATH"] = self.repository, self.start
-
-    def run_sh(self, text):
+        words = "bash", "-euo", "pipefail", "-c"
+        if self.name == "README.md":  # with few tools
+            tools = self.folder / "bin"
+            tools.mkdir(exist_ok=True)
+            for tool in READMES_TOOLS.split():
+                (tools / tool).unlink(missing_ok=True)
+                (tools / tool).symlink_to(shutil.which(tool))
+            return self.call("env", "-i", f"PATH={tools}", f"HOME={self.folder}", *words, text, at=self.repository)
+        if not self.is_shell:
+            return self.call(*words, self.with_folders(text))
         state = self.folder / "state"
-        words = f"{text}\nprintf '%s\\n' \"$PWD\" \"$PATH\" >'{state}'"
-        printed = self.call("bash", "-euo", "pipefail", "-c", words, at=self.place)
+        printed = self.call(*words, f"{text}\nprintf '%s\\n' \"$PWD\" \"$PATH\" >'{state}'", at=self.place)
         self.place, self.environment["PATH"] = state.read_text().splitlines()
         return printed
 
-    def run_python(self, text):
-        return self.call("python3", "-c", text, at=self.place)
+    def error_of(self, language, text, wanted):
+        """Runs an example, and says what is wrong: it fails, or prints other than the page says."""
+        try:
+            printed = getattr(self, f"run_{language}")(text)
+        except (RuntimeError, subprocess.TimeoutExpired) as error:
+            return str(error)
+        if wanted is not None and not is_as_printed(printed, wanted):
+            return f"it prints\n{printed}and not\n{wanted}"
+        return ""
 
 
 def fresh_clone(work):
@@ -172,6 +154,7 @@ def fresh_clone(work):
     others if an attribute of git is missing; or the repository itself, without git."""
     if not shutil.which("git"):
         return TOP
+
     def call(*words):
         return subprocess.run(["git", *words], cwd=TOP, check=True, capture_output=True, text=True).stdout
     call("init", "-q", work / "origin")
@@ -186,14 +169,6 @@ def fresh_clone(work):
     return work / "clone"
 
 
-def left_in(repository):
-    """What git shows in a clone that nobody has changed."""
-    if repository == TOP:
-        return ""
-    return subprocess.run(["git", "-C", repository, "status", "--porcelain"], check=True, capture_output=True,
-                          text=True).stdout
-
-
 def is_as_printed(printed, wanted):
     """Whether the output is that of the page, whose lines may end with `...`."""
     lines, wanted_lines = printed.splitlines(), wanted.splitlines()
@@ -206,13 +181,14 @@ def succeeds(*words):
     return not subprocess.run(words, check=False, capture_output=True).returncode
 
 
-def what_is_missing(runner, language, text, module):
+def what_is_missing(runner, language, text, has_module):
     """What an example needs and is not here, or '': its tool, those that a block of the shell or of CMake calls, and
     for Python the built module."""
     called = {"cmake ": "cmake", "pkg-config": "pkg-config", "PkgConfig": "pkg-config", "tests/machine/": "objdump",
               ".py ": "python3"}
-    needed = [TOOLS[language], *runner.needs.get(language, ()),
-              *(tool for words, tool in called.items() if words in text)]
+    needed = [TOOLS[language], *(tool for words, tool in called.items() if words in text)]
+    if language == "sh" and runner.name == "README.md" or language in ("sh", "python") and runner.is_shell:
+        needed.append("git")
     missing = [tool for tool in needed if not shutil.which(tool)]
     if "<sodium.h>" in text and not succeeds("cc", "-E", "-include", "sodium.h", "-xc", os.devnull):
         missing.append("libsodium-dev")
@@ -221,71 +197,44 @@ def what_is_missing(runner, language, text, module):
         missing.append("python3-z3")
     if "dist/x86_64/" in text and os.uname().machine != "x86_64":
         missing.append("x86-64")
-    if language == "python" and not module:
+    if language == "python" and not has_module:
         missing.append("python with headers")
     return missing[0] if missing else ""
 
 
-def built_module(folder):
-    """Builds the module for Python in this folder, and returns whether it can be built here."""
-    done = subprocess.run(["python3", TOP / "python/tests/support.py", folder], capture_output=True, text=True,
-                          check=False)
-    if done.returncode not in (0, 77):
-        sys.exit(f"examples.py: building the module for Python failed: {done.stdout.strip()[-2000:]}")
-    return done.returncode == 0
-
-
-def main():
-    with tempfile.TemporaryDirectory() as work:
-        work = pathlib.Path(work)
-        module = bool(shutil.which("python3")) and built_module(work / "module")
-        library = work / "installed"
-        if os.environ.get("VULFSJOR_INSTALLED"):
-            # A copy: examples install into it, and other tests use the folder meanwhile.
-            shutil.copytree(os.environ["VULFSJOR_INSTALLED"], library, symlinks=True)
-        else:
-            subprocess.run([TOP / "c/install.sh", library], check=True, capture_output=True)
-        repository = fresh_clone(work)
-        for page in map(pathlib.Path, sys.argv[1:] or (TOP / page for page in PAGES)):
-            run_page(page, str(page.resolve().relative_to(TOP)), work, repository, library, module)
-    tap.finish()
-
-
-def run_page(page, name, work, repository, library, module):
-    """Runs the examples of a page, and in the full test again."""
-    kinds = {"README.md": RunnerAtTop, "docs/TUTORIAL.md": RunnerOfShell, "docs/REVIEW.md": RunnerOfShell}
-    kind = kinds.get(name, Runner)
-    folder = pathlib.Path(tempfile.mkdtemp(dir=work))
-    runner = kind(folder, repository, library, work / "module", name in WITH_DATA)
-    runner.dependencies = "".join(
-        re.findall(r"(?ms)^```toml\n(.*?)^```$", page.read_text(encoding="utf-8"))) or runner.dependencies
+def run_page(page, work, repository, has_module):
+    name, text = str(page.resolve().relative_to(TOP)), page.read_text(encoding="utf-8")
+    runner = Runner(name, text, work, repository)
     for again in ("", ", again") if HUGE else ("",):
-        if kind is RunnerOfShell:
-            runner.open_shell()
-        for line, language, text, wanted in examples(page):
-            test = f"{name}, line {line}{again}"
-            missing = what_is_missing(runner, language, text, module)
-            if missing:
-                tap.result(True, test, skipped=f"no {missing}")
-                continue
-            why = error_of(runner, language, text, wanted)
-            tap.result(not why, test, why)
-    left = left_in(repository)
+        runner.begin()
+        for line, language, block, wanted in examples(text):
+            missing = what_is_missing(runner, language, block, has_module)
+            why = "" if missing else runner.error_of(language, block, wanted)
+            tap.result(not why, f"{name}, line {line}{again}", why, missing and f"no {missing}")
+    left = "" if repository == TOP else subprocess.run(
+        ["git", "-C", repository, "status", "--porcelain"], check=True, capture_output=True, text=True).stdout
     tap.result(not left, f"{name} leaves nothing in the clone", left)
 
 
-def error_of(runner, language, text, wanted):
-    """Runs an example, and says what is wrong: it fails, or prints other than the page says."""
-    try:
-        printed = getattr(runner, f"run_{language}")(text)
-    except (RuntimeError, subprocess.TimeoutExpired) as error:
-        return str(error)
-    if wanted is not None and not is_as_printed(printed, wanted):
-        return f"it prints\n{printed}and not\n{wanted}"
-    return ""
-
-
-if not shutil.which("cc"):
-    tap.result(True, "the examples", skipped="no C compiler")
+def main():
+    if not shutil.which("cc"):
+        tap.result(True, "the examples", skipped="no C compiler")
+        tap.finish()
+    with tempfile.TemporaryDirectory() as work:
+        work = pathlib.Path(work)
+        built = subprocess.run(["python3", TOP / "python/tests/support.py", work / "module"], capture_output=True,
+                               text=True, check=False) if shutil.which("python3") else None
+        if built and built.returncode not in (0, 77):  # 77: it cannot be built here
+            sys.exit(f"examples.py: building the module for Python failed: {built.stdout.strip()[-2000:]}")
+        if os.environ.get("VULFSJOR_INSTALLED"):
+            # A copy: examples install into it, and other tests use the folder meanwhile.
+            shutil.copytree(os.environ["VULFSJOR_INSTALLED"], work / "installed", symlinks=True)
+        else:
+            subprocess.run([TOP / "c/install.sh", work / "installed"], check=True, capture_output=True)
+        repository = fresh_clone(work)
+        for page in map(pathlib.Path, sys.argv[1:] or (TOP / page for page in PAGES)):
+            run_page(page, work, repository, bool(built) and not built.returncode)
     tap.finish()
+
+
 main()
