@@ -31,12 +31,10 @@ KINDS = [
 
 
 def kind_of(path):
-    """The kind of a file."""
     return next((kind for kind, expression in KINDS if re.fullmatch(expression, path)), "other")
 
 
 def main():
-    """Prints the counts."""
     top = sys.argv[1] if len(sys.argv) > 1 else os.path.dirname(os.path.dirname(os.path.abspath(__file__)))
     listed = subprocess.run(["git", "-C", top, "ls-files"], capture_output=True, text=True, check=True)
     paths = listed.stdout.split("\n")

@@ -100,14 +100,8 @@ has_same_tools() { [ "$(said tools)" = "$(hash_of_tools)" ]; }
 
 # ---- building
 
-# Builds a file of dist/ in this folder, over the proved libraries. It is compiled for Linux, and
-# tools/object_formats.py makes it a text for every system.
-#
-# No file uses the red zone, which Windows overwrites, or x18, which macOS and Windows reserve.
-#
-# On aarch64 the compression of one message is compiled without vector registers, and that of
-# several with them: a NEON instruction takes two to four cycles there, and one message is a single
-# chain of them. aarch64_attributes.csv names the functions for LLVM.
+# Builds a file of dist/ in this folder, over the proved libraries. dist/README.md says which registers it leaves alone.
+# aarch64_attributes.csv names the functions without vector registers for LLVM.
 #
 # In the library the rounds of several messages have more than one caller, since it has BLAKE2bp and BLAKE2sp, and
 # LLVM would call them there instead of writing them out. parallel_attributes.csv says that writing
@@ -115,14 +109,8 @@ has_same_tools() { [ "$(said tools)" = "$(hash_of_tools)" ]; }
 # are compiled as without these two. The starts of BLAKE2sp, and on aarch64 of BLAKE2bp, are functions of their own:
 # written out into a call, they have pointers whose bounds are too hard for tests/machine.
 #
-# A name in a list of attributes that is not in the code makes clang print a line, and then the build
-# fails.
-#
-# Rattle has no x86-64-v4, so clang gets it after x86-64-v3 (make_v4_toolchain in toolchain.sh). x86_64_v2.sed,
-# x86_64_v4.sed and, for the files in C and in Rust, which are translated from one WebAssembly module without vectors,
-# scalar.sed edit the text of LLVM.
-#
-# The programs for x86-64 are compiled for x86-64-v2.
+# A name in a list of attributes that is not in the code makes clang print a line, and then the build fails.
+# x86_64_v2.sed, x86_64_v4.sed and, for the files in C and in Rust, scalar.sed edit the text of LLVM.
 build() {
     local to=$1/$2 file=$2 crate kind=(--crate-type staticlib) more=() room target cpu end
     local make=make_toolchain edit=

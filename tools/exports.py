@@ -23,16 +23,10 @@ NUMBERS = {"uint8_t": "u8", "uint32_t": "u32", "uint64_t": "u64", "int32_t": "i3
 # The structs of the header, by their names without vulfsjor_: the file of Rattle that has each, its name there, and its
 # name in Rust if its fields are there too.
 STRUCTS = {
-    "blake2b_state": ("crates/blake2_state/src/blake2b.rt", "State", None),
-    "blake2s_state": ("crates/blake2_state/src/blake2s.rt", "State", None),
-    "blake2bp_lanes": ("crates/blake2_parallel/src/lanes/blake2bp.rt", "Lanes", None),
-    "blake2bp_state": ("crates/blake2_parallel/src/blake2bp.rt", "State", None),
-    "blake2sp_lanes": ("crates/blake2_parallel/src/lanes/blake2sp.rt", "Lanes", None),
-    "blake2sp_state": ("crates/blake2_parallel/src/blake2sp.rt", "State", None),
-    "blake2xb_reader": ("crates/blake2_xof/src/reader/blake2xb.rt", "Reader", None),
-    "blake2xb_state": ("crates/blake2_xof/src/blake2xb.rt", "State", None),
-    "blake2xs_reader": ("crates/blake2_xof/src/reader/blake2xs.rt", "Reader", None),
-    "blake2xs_state": ("crates/blake2_xof/src/blake2xs.rt", "State", None),
+    **{f"{hash}_{type_.lower()}": (f"crates/blake2_{folder}/{hash}.rt", type_, None) for folder, type_, hashes in (
+        ("state/src", "State", ("blake2b", "blake2s")), ("parallel/src/lanes", "Lanes", ("blake2bp", "blake2sp")),
+        ("parallel/src", "State", ("blake2bp", "blake2sp")), ("xof/src/reader", "Reader", ("blake2xb", "blake2xs")),
+        ("xof/src", "State", ("blake2xb", "blake2xs"))) for hash in hashes},
     "tree_state": ("crates/blake2_state/src/tree.rt", "TreeState", None),
     "tree": ("crates/blake2_ffi/src/lib.rt", "NodeParameters", "Tree"),
     "message": ("crates/blake2_ffi/src/lib.rt", "Text", "Text"),
@@ -41,17 +35,15 @@ STRUCTS = {
     "part": ("crates/blake2_tree/src/thread_plan.rt", "Part", "Part"),
 }
 # What the types are called in the header, besides those.
-NAMES = {"NodeParameters": "tree", "Text": "message", "Tree": "tree", "TreeState": "tree_state",
-         "Blake2bState": "blake2b_state", "Blake2sState": "blake2s_state", "Blake2bpState": "blake2bp_state",
-         "Blake2spState": "blake2sp_state", "Blake2xbState": "blake2xb_state", "Blake2xsState": "blake2xs_state",
-         "Limits": "limits", "Plan": "plan", "Part": "part"}
+NAMES = {"NodeParameters": "tree", "Text": "message", "Tree": "tree", "TreeState": "tree_state", "Limits": "limits",
+         "Plan": "plan", "Part": "part",
+         **{f"Blake2{name}State": f"blake2{name}_state" for name in ("b", "s", "bp", "sp", "xb", "xs")}}
 # Names that differ: C's are those of the BLAKE2 document.
 SAME = {"persona": "personal", "persona_length": "personal_length", "messages_length": "count",
         "bytes_length": "length"}
 
 
 def without_comments(text):
-    """The text of a file of C or Rust without its comments."""
     return re.sub(r"/\*.*?\*/|//[^\n]*", "", text, flags=re.DOTALL)
 
 
@@ -88,7 +80,6 @@ def of_rust(words, state):
 
 
 def list_parts(text):
-    """The parts of a list between commas."""
     return [" ".join(part.split()) for part in text.split(",") if part.strip() not in ("", "void")]
 
 
@@ -110,7 +101,6 @@ def signature(head, state):
 
 
 def rattle_exports():
-    """The exports of Rattle."""
     for module in modules("crates/blake2_ffi/src/lib.rt"):
         state = state_of("::".join(module.path))
         for item in module.items:
@@ -236,7 +226,6 @@ def generated_lists():
 
 
 def main():
-    """Runs the program."""
     if sys.argv[1:] not in ([], ["--check"]):
         sys.exit("usage: tools/exports.py [--check]")
     wrong = [*differences_from_header(), *(f"{ABI}: the soname has to change, since this did: {line}"

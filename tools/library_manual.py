@@ -26,7 +26,6 @@ def escaped(text):
 
 
 def lines_of(comment):
-    """The lines of a comment without its marks."""
     return [re.sub(r"^ ?\* ?", "", line) for line in comment.strip().replace("this file", "vulfsjor.h").split("\n")]
 
 
@@ -67,7 +66,6 @@ def introduction(header):
 
 
 def page(name, found, date):
-    """The text of a man page over these functions."""
     names = [name, *(it for it in (f"vulfsjor_{each}" for each, *_ in found) if it != name)]
     headers = ["vulfsjor.h", *(["vulfsjor_threads.h"] if name.endswith("tree") else [])]
     made = [f'.\\" Made from {HEADERS[0]} by tools/manual.py.',
@@ -86,7 +84,6 @@ def page(name, found, date):
 
 
 def pages(date):
-    """The pages by their paths."""
     left = list(functions())
     texts = {}
     for name, (form, _) in PAGES.items():

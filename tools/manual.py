@@ -33,7 +33,6 @@ def inline(text):
 
 
 def block(part):
-    """A block of the page: code, a table, or a paragraph."""
     lines = part.splitlines()
     if part.startswith("    "):
         return "\n".join([".PP", ".EX", *(escaped(line[4:].replace("./b2", "b2")) for line in lines), ".EE"])

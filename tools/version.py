@@ -15,28 +15,25 @@ import sys
 
 TOP = pathlib.Path(__file__).resolve().parent.parent
 NUMBER = r"\d+\.\d+\.\d+"
-# Files, and what is before and after the version there. A part of it, or all in hexadecimal, has a form.
-WHOLE = "{0}.{1}.{2}"
+HEADER = "c/include/vulfsjor.h"
+# Files, what is before and after the version there, and the form of a part of it, or of all in hexadecimal.
 PLACES = (
-    ("c/include/vulfsjor.h", r'#define VULFSJOR_VERSION "', '"', WHOLE),
-    ("c/include/vulfsjor.h", "#define VULFSJOR_VERSION_MAJOR ", "\n", "{0}"),
-    ("c/include/vulfsjor.h", "#define VULFSJOR_VERSION_MINOR ", "\n", "{1}"),
-    ("c/include/vulfsjor.h", "#define VULFSJOR_VERSION_PATCH ", "\n", "{2}"),
-    ("c/include/vulfsjor.h", "#define VULFSJOR_VERSION_NUMBER ", "\n", "0x{0:02x}{1:02x}{2:02x}"),
-    ("README.md", r"\*\*Status:\*\*\s+", ";", WHOLE),
-    ("Cargo.toml", '\nversion = "', '"\n', WHOLE),
-    ("Cargo.lock", 'name = "vulfsjor"\nversion = "', '"\n', WHOLE),
-    ("rust-digest/Cargo.toml", '\nversion = "', '"\n', WHOLE),
-    ("rust-digest/Cargo.toml", '\nvulfsjor = { version = "', '"', WHOLE),
-    ("python/pyproject.toml", '\nversion = "', '"\n', WHOLE),
-    ("js/package.json", '\n  "version": "', '",\n', WHOLE),
-    ("packaging/debian/changelog", r"\Avulfsjor \(", "-1\\)", WHOLE),
-    ("packaging/vulfsjor.spec", "\nVersion: +", "\n", WHOLE),
-    ("docs/b2.1", r'\n\.TH B2 .*"Vulfsjor ', '"\n', WHOLE),
-    ("docs/b2sum.1", r'\n\.TH B2SUM .*"Vulfsjor ', '"\n', WHOLE),
-    *((f"c/man/{page.name}", r'\n\.TH .* 3 .*"Vulfsjor ', '"\n', WHOLE) for page in sorted(TOP.glob("c/man/*.3"))),
+    (HEADER, r'#define VULFSJOR_VERSION "', '"'), (HEADER, "#define VULFSJOR_VERSION_MAJOR ", "\n", "{0}"),
+    (HEADER, "#define VULFSJOR_VERSION_MINOR ", "\n", "{1}"), (HEADER, "#define VULFSJOR_VERSION_PATCH ", "\n", "{2}"),
+    (HEADER, "#define VULFSJOR_VERSION_NUMBER ", "\n", "0x{0:02x}{1:02x}{2:02x}"),
+    ("README.md", r"\*\*Status:\*\*\s+", ";"), ("Cargo.toml", '\nversion = "', '"\n'),
+    ("Cargo.lock", 'name = "vulfsjor"\nversion = "', '"\n'), ("rust-digest/Cargo.toml", '\nversion = "', '"\n'),
+    ("rust-digest/Cargo.toml", '\nvulfsjor = { version = "', '"'), ("python/pyproject.toml", '\nversion = "', '"\n'),
+    ("js/package.json", '\n  "version": "', '",\n'), ("packaging/debian/changelog", r"\Avulfsjor \(", "-1\\)"),
+    ("packaging/vulfsjor.spec", "\nVersion: +", "\n"),
+    *((str(page.relative_to(TOP)), r'\n\.TH .* [13] .*"Vulfsjor ', '"\n')
+      for pattern in ("docs/*.1", "c/man/*.3") for page in sorted(TOP.glob(pattern))),
 )
 PROGRAM = "crates/b2sum_commands/src/program.rt"
+
+
+def read(path):
+    return (TOP / path).read_text(encoding="utf-8")
 
 
 def refuse(why):
@@ -44,28 +41,23 @@ def refuse(why):
 
 
 def headings():
-    """The versions in CHANGELOG.md, the newest first."""
-    return re.findall(rf"(?m)^## ({NUMBER})\b", (TOP / "CHANGELOG.md").read_text(encoding="utf-8"))
+    return re.findall(rf"(?m)^## ({NUMBER})\b", read("CHANGELOG.md"))
 
 
-def found(path, before, after):
-    """What a place has, as a match."""
-    text = (TOP / path).read_text(encoding="utf-8")
-    matches = list(re.finditer(f"({before})([0-9a-fx.]+)({after})", text))
-    if len(matches) != 1:
-        refuse(f"{path} has {len(matches)} places with {before!r}")
-    return matches[0]
-
-
-def form_of(form, version):
-    return form.format(*map(int, version.split(".")))
+def places(version):
+    """The places: for each its file, what is there, as a match, and what this version would be there."""
+    for path, before, after, *form in PLACES:
+        matches = list(re.finditer(f"({before})([0-9a-fx.]+)({after})", read(path)))
+        if len(matches) != 1:
+            refuse(f"{path} has {len(matches)} places with {before!r}")
+        yield path, matches[0], "".join(form or ["{0}.{1}.{2}"]).format(*map(int, version.split(".")))
 
 
 def check():
     version = headings()[0]
-    said = [f"{path} has {match[2]}, and CHANGELOG.md has {version}" for path, before, after, form in PLACES
-            if (match := found(path, before, after))[2] != form_of(form, version)]
-    match = re.search(rf'b"b2sum \(Vulfsjor\) ({NUMBER})\\n"', (TOP / PROGRAM).read_text(encoding="utf-8"))
+    said = [f"{path} has {match[2]}, and CHANGELOG.md has {version}" for path, match, wanted in places(version)
+            if match[2] != wanted]
+    match = re.search(rf'b"b2sum \(Vulfsjor\) ({NUMBER})\\n"', read(PROGRAM))
     if not match or match[1] not in headings():
         said.append(f"CHANGELOG.md has no heading for the version {match and match[1]} in {PROGRAM}")
     if said:
@@ -73,14 +65,13 @@ def check():
 
 
 def write(version):
-    changes = (TOP / "CHANGELOG.md").read_text(encoding="utf-8")
     if version not in headings():
-        (TOP / "CHANGELOG.md").write_text(changes.replace("\n## ", f"\n## {version}\n\n## ", 1), encoding="utf-8")
+        text = read("CHANGELOG.md").replace("\n## ", f"\n## {version}\n\n## ", 1)
+        (TOP / "CHANGELOG.md").write_text(text, encoding="utf-8")
     elif version != headings()[0]:
         refuse(f"CHANGELOG.md has a newer version than {version}")
-    for path, before, after, form in PLACES:
-        match = found(path, before, after)
-        text = match.string[:match.start(2)] + form_of(form, version) + match.string[match.end(2):]
+    for path, match, wanted in places(version):
+        text = match.string[:match.start(2)] + wanted + match.string[match.end(2):]
         (TOP / path).write_text(text, encoding="utf-8")
     subprocess.run([TOP / "tools" / "manual.py"], check=True)
 
