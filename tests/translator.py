@@ -8,6 +8,7 @@ there are more functions, compilers and processors.
 Needs node and a C compiler. Other processors need their compiler and emulator, and Rust needs rustc. RUSTC may be
 several words, of a Rust that compiles for another processor, and RUSTC_RUNNER its emulator.
 """
+import functools
 import os
 import re
 import shutil
@@ -45,47 +46,35 @@ C_TYPES = {"i64": "uint64_t", "i32": "uint32_t"}
 HARNESS = """
 #include "vulfsjor.h"
 #include <stdio.h>
+static const uint64_t in[][2] = {%s};
 static void show(unsigned long long result, const unsigned char *buffer) {
     int i;
     printf("%%llx ", result);
     for (i = 0; i < 64; i++) printf("%%02x", buffer[i]);
     puts("");
 }
+#define RUN(call) for (i = 0; i < (int)(sizeof in / sizeof *in); i++) { \\
+    for (k = 0; k < 64; k++) buffer[k] = (unsigned char)(k * 37 + 11); \\
+    call; }
 int main(void) {
-    static const uint64_t in[][2] = {%s};
     unsigned char buffer[64];
     int i, k;
 %s    return 0;
 }
 """
-CALL = """    for (i = 0; i < %d; i++) {
-        for (k = 0; k < 64; k++) buffer[k] = (unsigned char)(k * 37 + 11);
-        %svulfsjor_ffi_t%d(buffer, in[i][0], in[i][1])%s;
-    }
-"""
 RUST = """
 #[path = "v.rs"]
 mod portable;
-fn show(result: u64, buffer: &[u8]) {
-    let bytes: String = buffer.iter().map(|byte| format!("{:02x}", byte)).collect();
-    println!("{:x} {}", result, bytes);
-}
-fn buffer() -> [u8; 64] {
-    let mut made = [0; 64];
-    for k in 0..64_usize {
-        made[k] = (k * 37 + 11) as u8;
+static IN: &[(u64, u64)] = &[%s];
+fn run(call: impl Fn(*mut u8, u64, u64) -> u64) {
+    for &(a, b) in IN {
+        let mut buffer: Vec<u8> = (0..64_usize).map(|k| (k * 37 + 11) as u8).collect();
+        let result = call(buffer.as_mut_ptr(), a, b);
+        println!("{:x} {}", result, buffer.iter().map(|byte| format!("{:02x}", byte)).collect::<String>());
     }
-    made
 }
 fn main() {
-    static IN: &[(u64, u64)] = &[%s];
 %s}
-"""
-RUST_CALL = """    for &(a, b) in IN {
-        let mut buffer = buffer();
-        let result = unsafe { portable::t%d(buffer.as_mut_ptr(), a, b) };
-        show(%s, &buffer);
-    }
 """
 SCRIPT = """
 import { readFileSync } from "fs";
@@ -117,13 +106,15 @@ class Case:
         self.folder = folder
         self.data, results, self.lines = functions.random_module(seed, count)
         self.header = header_of(results)
-        calls = [CALL % (len(INPUTS), "show(" if each else "", k, ", buffer)" if each else "; show(0, buffer)")
-                 for k, each in enumerate(results)]
         self.write("m.wasm", self.data)
         self.write("vulfsjor.h", self.header.encode())
+        call = "vulfsjor_ffi_t{}(buffer, in[i][0], in[i][1])".format
+        calls = (f"    RUN({f'show({call(k)}, buffer)' if each else f'{call(k)}; show(0, buffer)'})\n"
+                 for k, each in enumerate(results))
         self.write("main.c", (HARNESS % (", ".join(f"{{UINT64_C({a}), UINT64_C({b})}}" for a, b in INPUTS),
                                          "".join(calls))).encode())
-        calls = [RUST_CALL % (k, "result as u64" if each else "0") for k, each in enumerate(results)]
+        calls = (f"    run(|p, a, b| unsafe {{ portable::t{k}(p, a, b){' as u64' if each else '; 0'} }});\n"
+                 for k, each in enumerate(results))
         self.write("main.rs", (RUST % (", ".join(f"({a}, {b})" for a, b in INPUTS), "".join(calls))).encode())
         self.write("run.mjs", (SCRIPT % (", ".join("32" if each == ["i32"] else "64" for each in results), ", ".join(
             f"[{a}n, {b}n]" for a, b in INPUTS))).encode())
@@ -172,18 +163,11 @@ def what_is_missing(tool, *emulator):
 
 def test_targets(case, name):
     """The functions on each processor whose compiler is there."""
-    for target, (compiler, emulator) in {**TARGETS, **(MORE_TARGETS if HUGE else {})}.items():
-        missing = what_is_missing(compiler[0], *emulator)
-        if missing:
-            tap.result(True, f"{name}, {target}", skipped=missing)
-            continue
-        why = case.difference(case.run(compiler, emulator))
-        tap.result(not why, f"{name}, {target}", why)
-    if not shutil.which(RUSTC[0]):
-        tap.result(True, f"{name}, in Rust", skipped=f"no {RUSTC[0]}")
-        return
-    why = case.difference(case.run_in_rust())
-    tap.result(not why, f"{name}, in Rust", why)
+    targets = [(target, what_is_missing(compiler[0], *emulator), functools.partial(case.run, compiler, emulator))
+               for target, (compiler, emulator) in {**TARGETS, **(MORE_TARGETS if HUGE else {})}.items()]
+    for target, missing, run in (*targets, ("in Rust", what_is_missing(RUSTC[0]), case.run_in_rust)):
+        why = "" if missing else case.difference(run())
+        tap.result(not why, f"{name}, {target}", why, missing)
 
 
 # ---- what is refused
