@@ -75,17 +75,11 @@ edge_cases() {
 # thunks.h pass to the assembly on Windows and macOS. With both conventions of calls in one file the
 # compiler of MinGW fails above -O0.
 passes() {
-    cc -std=c99 $quick "${warnings[@]}" $(family_words "$1") -I"$include" -I"$libb2" "${@:2}" \
-        "$tests/passed_arguments.c" -o "$work/passed_arguments" &&
-        "$work/passed_arguments" >"$work/passed_$1"
+    python3 "$tests/passed_arguments.py" "$include" >"$work/passed_arguments.c" &&
+        cc -std=c99 "${warnings[@]}" -I"$include" "$@" "$work/passed_arguments.c" -o "$work/passed_arguments" &&
+        "$work/passed_arguments" >"$work/passed" && python3 "$tests/passed_arguments.py" "$include" said <"$work/passed"
 }
-passes_by_calls() { passes "$1" -O0 -DCHOOSE_ONE=passes '-DCHOOSE_FUNCTIONS="thunks.h"'; }
-
-# Whether passed_arguments.c has called each function of the library, with all families.
-all_are_passed() {
-    LC_ALL=C sort -u "$work"/passed_{b,s,bp,sp,xb,xs} |
-        diff - <(sed -n 's/^CALL("\(.*\)")$/\1/p' "$here/choose.c" | LC_ALL=C sort)
-}
+passes_by_thunks() { passes -O0 -I"$here" -DCHOOSE_ONE=passes '-DCHOOSE_FUNCTIONS="thunks.h"'; }
 
 # Buffers of more than 2^32 bytes. VULFSJOR_TEST_HUGE in the environment adds those that take long.
 long_buffers() {
@@ -233,6 +227,9 @@ test_languages() {
         check "$header in C++" header_compiles_as_cpp $header
     done
     check "link.cpp" cpp_links
+    needs python3
+    check "passed_arguments.py" passes $quick
+    check "passed_arguments.py, through thunks.h" passes_by_thunks
     needs clang++ gcc
     check "the headers under all warnings of clang" headers_warn_of_nothing
     needs gcc python3
@@ -261,14 +258,9 @@ test_languages() {
         check_once "edge_cases.c, blake2$family, with sanitizers" edge_cases "${sanitizers[@]}"
         needs
     done
-    for family in b s bp sp xb xs; do
-        check "passed_arguments.c, blake2$family" passes $family
-        check "passed_arguments.c, blake2$family, through thunks.h" passes_by_calls $family
-    done
     for family in b s; do
         check "huge.c, blake2$family" long_buffers $family
     done
-    check "passed_arguments.c calls each function" all_are_passed
     [ -n "${VULFSJOR_TEST_HUGE-}" ] || skip "huge.c, every call" "VULFSJOR_TEST_HUGE is not set"
     if has python3; then
         for hash in "${hashes[@]}"; do test_hash $hash; done

@@ -309,10 +309,7 @@ test_windows() {
         check_once_by_wine "libb2.c, blake2$family, for Windows" names_of_libb2 $family -DOWN_HEADER -I"$libb2" \
             "$prefix/lib/libvulfsjor-libb2.a"
     done
-    for family in b s bp sp xb xs; do
-        check_by_wine "passed_arguments.c, blake2$family, for Windows, through thunks.h" passes_by_calls $family
-    done
-    check "passed_arguments.c calls each function through thunks.h" all_are_passed
+    check_by_wine "passed_arguments.py, for Windows, through thunks.h" passes_by_thunks
     check_by_wine "tree_parts.c, for Windows" parts_with "$(turns 500)" -O2
     for build in $(some $(seq -f v%g 2 "$level")); do
         check_by_wine "only the build $build for Windows" one_build_for_windows $build
