@@ -1,4 +1,4 @@
-/* What test programs share: the counts of their checks. */
+/* What test programs share: the counts of their checks, and random numbers. */
 #include <stddef.h>
 #include <stdint.h>
 #include <stdio.h>
@@ -41,3 +41,10 @@ static int checks, fails;
 #else
 #define IN_STATE(x) ((uint64_t)(x))
 #endif
+
+/* A number below n, of a sequence that is always the same. */
+static inline uint64_t random_below(uint64_t n) {
+    static uint64_t seed = 88172645463325252u;
+    seed ^= seed << 13, seed ^= seed >> 7, seed ^= seed << 17;
+    return seed % n;
+}

@@ -5,8 +5,8 @@
  * Of every call it checks too: a refused call changes neither the state nor the output, a refused init and each end
  * leave zeros, nothing is written past an output, another length of an output is refused, a null state or output is
  * refused, _refused names the argument, the count grows by what was absorbed, all inits that have the arguments make
- * the same state, and a state without a key verifies nothing. A text is in an allocation of its
- * length, and so is a state, for sanitizers.
+ * the same state, a state without a key verifies nothing, and states of nodes have the digests of ranges. A text is in
+ * an allocation of its length, and so is a state, for sanitizers.
  *
  *   cc -std=c99 -I FOLDER/include conformance.c ARCHIVE -o conformance     for BLAKE2b; the others as in family.h
  *   cc the same with -DTEST_T                                              for the tree of two levels
@@ -81,9 +81,10 @@ static text text_of(const char *w) {
     unsigned long at = strtoul(w, &end, 10), to = *end == ':' ? strtoul(end + 1, NULL, 10) : at;
     text made = {NULL, 1};
     if (!strcmp(w, "none")) return made;
-    if (*end != ':') made = from_hex(w);
-    else made = (text){malloc(to - at ? to - at : 1), to - at};
-    for (size_t i = 0; at < to; i++, at++) made.bytes[i] = (uint8_t)(at + (at >> 8) + (at >> 16));
+    made.length = *end == ':' ? to - at : *w == '-' ? 0 : strlen(w) / 2;
+    made.bytes = malloc(made.length ? made.length : 1);
+    if (*end != ':') CHECK(!vulfsjor_hex2bin(made.bytes, made.length, w, 2 * made.length));
+    for (size_t i = 0; *end == ':' && at < to; i++, at++) made.bytes[i] = (uint8_t)(at + (at >> 8) + (at >> 16));
     if (!made.length && turn++ % 2) free(made.bytes), made.bytes = NULL;
     return made;
 }
@@ -285,14 +286,31 @@ static int leaves_in(uint8_t *out, size_t n, text t, const given *g) {
                                 TEXT(g->person), g->tree.leaf_length);
 }
 
+/* A leaf or a root by the state of its node, which an init has made with this status, is what the call for a range has
+ * written, if that is one node. A refused init leaves zeros. */
+static void compare_node(vulfsjor_blake2b_state node, int status, int is_refused, text t, const uint8_t *out,
+                         size_t n) {
+    static const vulfsjor_blake2b_state zeros;
+    uint8_t other[64];
+    CHECK(status == -is_refused && (!status || same(&node, &zeros, sizeof zeros)));
+    if (status || !out) return;
+    CHECK(!vulfsjor_blake2b_update(&node, TEXT(t)) && !vulfsjor_blake2b_final(&node, other, n) && same(other, out, n));
+}
+
 static void call_leaves(const given *g) {
     text t = secret_of(part[1]);
-    size_t n = 64 * (size_t)vulfsjor_tree_leaf_count(t.length, g->tree.leaf_length);
+    const uint64_t count = vulfsjor_tree_leaf_count(t.length, g->tree.leaf_length), first = strtoull(part[2], NULL, 10);
+    size_t n = 64 * (size_t)count;
     uint8_t *out = room_of(n);
+    vulfsjor_blake2b_state node;
     CHECK(leaves_in(NULL, n, t, g) == -1 && leaves_in(out, n + 1, t, g) == -1 && leaves_in(out, n + 64, t, g) == -1);
     CHECK(!n || (leaves_in(out, n - 1, t, g) == -1 && leaves_in(out, n - 64, t, g) == -1));
     CHECK(leaves_in(out, n, t, &no_salt) == -1 && leaves_in(out, n, t, &no_person) == -1);
-    gives_bytes(leaves_in(out, n, t, g), out, n);
+    int refused = leaves_in(out, n, t, g), status = vulfsjor_tree_init_leaf(memset(&node, 0x5a, sizeof node), first,
+        flag_of(*part[3] == '1'), TEXT(g->salt), TEXT(g->person), g->tree.leaf_length);
+    compare_node(node, status, *refused_argument(g) != 0, t, !refused && count == 1 ? out : NULL, 64);
+    CHECK(vulfsjor_tree_init_leaf(NULL, first, 0, NULL, 0, NULL, 0, 1) == -1);
+    gives_bytes(refused, out, n);
     free(t.bytes);
 }
 
@@ -304,9 +322,14 @@ static void call_top(const given *g) {
     text t = secret_of(part[1]);
     size_t n = g->size > 64 ? 0 : g->size;
     uint8_t *out = room_of(n);
+    vulfsjor_blake2b_state node;
     CHECK(top_in(NULL, t, g) == -1 && top_in(out, t, &no_salt) == -1 && top_in(out, t, &no_person) == -1);
     CHECK(top_in(out, (text){NULL, 64}, g) == -1);
-    gives_bytes(top_in(out, t, g), out, n);
+    int refused = top_in(out, t, g), status = vulfsjor_tree_init_root(memset(&node, 0x5a, sizeof node), g->size,
+        TEXT(g->salt), TEXT(g->person), g->tree.leaf_length);
+    compare_node(node, status, *refused_argument(g) != 0, t, refused ? NULL : out, n);
+    CHECK(vulfsjor_tree_init_root(NULL, 64, NULL, 0, NULL, 0, 1) == -1);
+    gives_bytes(refused, out, n);
     free(t.bytes);
 }
 

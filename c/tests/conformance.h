@@ -1,8 +1,8 @@
 /* What the hashes differ in for conformance.c: which functions have the arguments of a case. The words of family.h say
  * which hash it is, and TEST_T the tree of two levels. */
 #include <limits.h>
+#include <stdlib.h>
 #include "family.h"
-#include "texts.h"
 
 #ifdef TEST_T
 #define HASH "tree"
@@ -15,6 +15,12 @@
 #if !defined(TEST_T) && !defined(TEST_P) && !defined(TEST_X)
 #define TEST_NODES
 #endif
+
+/* Bytes in an allocation of exactly their length, so that a sanitizer sees a byte too far. */
+typedef struct text {
+    uint8_t *bytes;
+    size_t length;
+} text;
 
 /* The arguments of a hash. A text that is `none` is null and has one byte. */
 typedef struct given {

@@ -7,7 +7,9 @@
 #define _POSIX_C_SOURCE 200112L
 #include "check.h"
 #include "libb2_family.h"
-#include "texts.h"
+
+#include <stdlib.h>
+#include <string.h>
 
 #ifdef TEST_S
 enum { BLOCK = 64, LONGEST = 32, SIZE = 182, PARALLEL_SIZE = 2155 };
@@ -116,13 +118,13 @@ static void check_without_state(void) {
 /* A state in pieces, which may be copied between two of them, and no digest of another length. */
 static void check_in_pieces(void) {
     for (size_t i = 0; i < 60; i++) {
-        const size_t size = 1 + i % LONGEST, keys = i % 3 ? i % LONGEST : 0, length = random_number() % sizeof message;
+        const size_t size = 1 + i % LONGEST, keys = i % 3 ? i % LONGEST : 0, length = random_below(sizeof message);
         uint8_t wanted[LONGEST];
         X(_state) *S = malloc(sizeof *S), copy;
         memset(S, 0x5a, sizeof *S);
         CHECK((keys ? X(_init_key)(S, size, message + 7, keys) : X(_init)(S, size)) == 0 && S->outlen == size);
         for (size_t at = 0, n; at < length; at += n) {
-            n = random_number() % (random_number() % 2 ? 20 : 1500) + 1;
+            n = 1 + random_below(random_below(2) ? 20 : 1500);
             if (n > length - at) n = length - at;
             CHECK(X(_update)(S, message + at, n) == 0 && X(_update)(S, null_bytes(), 0) == 0);
             copy = *S;

@@ -47,6 +47,16 @@ static void check_refused_and_unchanged(state_t state) {
         check_refused_and_unchanged(state);                                     \
     } while (0)
 
+/* A state takes so many bytes more and no other, and a refused update changes nothing. */
+static void check_room(state_t state, size_t room) {
+    const state_t before = state;
+    CHECK(BLAKE(update)(&state, bytes, room + 1) == -1 && SAME(state, before));
+    CHECK(BLAKE(update)(&state, bytes, ~(size_t)0) == -1 && SAME(state, before));
+    if (room > sizeof bytes) return;
+    CHECK(BLAKE(update)(&state, bytes, room) == 0 && room_in(&state));
+    CHECK(BLAKE(update)(&state, bytes, 1) == -1 && BLAKE(update)(&state, bytes, 0) == 0);
+}
+
 #define PAST_32 ((uint64_t)1 << 32)
 #define MOST (~(uint64_t)0)
 
@@ -101,13 +111,12 @@ static void long_counts(void) {
         state_t state = with_leaves(leaves[i], closed), before = state;
         const size_t room = (size_t)(end_at - 1 - leaves[i] * closed);
         CHECK(vulfsjor_tree_count(&state) == leaves[i] * closed);
-        for (size_t more = 1; more <= 5; more++)
+        for (size_t more = 2; more <= 5; more++)
             CHECK(vulfsjor_tree_update(&state, bytes, room + more) == -1 && SAME(state, before));
-        CHECK(vulfsjor_tree_update(&state, bytes, ~(size_t)0) == -1 && SAME(state, before));
+        check_room(state, room);
         CHECK_64(vulfsjor_tree_update(&state, bytes, TWO_TO(63)) == -1 && SAME(state, before));
         CHECK(vulfsjor_tree_update_leaves(&state, bytes, 64, bytes, room) == -1 && SAME(state, before));
         CHECK(vulfsjor_tree_update(&state, bytes, room) == 0 && vulfsjor_tree_count(&state) == end_at - 1);
-        CHECK(vulfsjor_tree_update(&state, bytes, 1) == -1 && vulfsjor_tree_update(&state, bytes, 0) == 0);
         CHECK(vulfsjor_tree_final(&state, bytes + 1000, MAX) == 0);
     }
     state_t state = with_leaves(1000, PAST_32 + 7);
@@ -166,11 +175,8 @@ static void long_counts(void) {
     uint8_t out[3] = {1, 2, 3};
     CHECK(BLAKE(init_key)(&state, 9, bytes, MAX) == 0 && BLAKE(update)(&state, bytes, 1000) == 0);
     state.root.counter = IN_STATE(MOST - IN_STATE(state.root.pending_length) - 3);
-    before = state;
     CHECK(BLAKE(count)(&state) == MOST - 3 - BLOCK);
-    CHECK(BLAKE(update)(&state, bytes, 4) == -1 && SAME(state, before));
-    CHECK(BLAKE(update)(&state, bytes, ~(size_t)0) == -1 && SAME(state, before));
-    CHECK(BLAKE(update)(&state, bytes, 3) == 0 && BLAKE(update)(&state, bytes, 1) == -1);
+    check_room(state, 3);
     CHECK(BLAKE(init)(&state, (size_t)UNKNOWN) == 0 && BLAKE(left)(&state) == WHOLE && !BLAKE(squeeze)(&state, out, 1));
     state.reader.position = IN_STATE(WHOLE - 2);
     before = state, out[0] = 1;
@@ -180,13 +186,13 @@ static void long_counts(void) {
 }
 
 static void vary_state(state_t *state, int i) {
-    const uint64_t length = i % 4 == 1 ? UNKNOWN : random_number() % UNKNOWN;
+    const uint64_t length = i % 4 == 1 ? UNKNOWN : random_below(1 << 24) % UNKNOWN;
     state->root.output_size = IN_STATE(MAX);
-    state->root.pending_length = IN_STATE(random_number() % (BLOCK + 9));
-    state->root.start_length = IN_STATE(random_number() % (BLOCK + 9));
-    state->root.counter = IN_STATE(random_number());
+    state->root.pending_length = IN_STATE(random_below(1 << 24) % (BLOCK + 9));
+    state->root.start_length = IN_STATE(random_below(1 << 24) % (BLOCK + 9));
+    state->root.counter = IN_STATE(random_below(1 << 24));
     state->reader.xof_length = IN_STATE(length);
-    state->reader.position = IN_STATE(random_number() % (length + 2));
+    state->reader.position = IN_STATE(random_below(1 << 24) % (length + 2));
     state->reading = IN_STATE(i / 2 % 2);
 }
 
@@ -225,19 +231,14 @@ static void long_counts(void) {
         state = made;
         state.lanes.length = IN_STATE(STRIPE - 1);
         state.lanes.counter = IN_STATE(counter);
-        const state_t before = state;
         CHECK(BLAKE(count)(&state) == MOST - left - KEY_BLOCKS);
-        CHECK(BLAKE(update)(&state, bytes, left + 1) == -1 && SAME(state, before));
-        CHECK(BLAKE(update)(&state, bytes, ~(size_t)0) == -1 && SAME(state, before));
-        if (left > sizeof bytes) continue;
-        CHECK(BLAKE(update)(&state, bytes, left) == 0);
-        CHECK(BLAKE(update)(&state, bytes, 1) == -1 && BLAKE(update)(&state, bytes, 0) == 0);
+        check_room(state, (size_t)left);
     }
 }
 
 static void vary_state(state_t *state, int i) {
     uint64_t counter = IN_STATE(state->lanes.counter) / (2 * LEAVES);
-    if (i % 4 == 1) counter = MOST / LEAVES - random_number() % STRIPE;
+    if (i % 4 == 1) counter = MOST / LEAVES - random_below(1 << 24) % STRIPE;
     state->output_size = IN_STATE(IN_STATE(state->output_size) % (MAX + 6));
     state->lanes.length = IN_STATE(IN_STATE(state->lanes.length) % (HELD + 12));
     state->start_length = IN_STATE(IN_STATE(state->start_length) % (KEY_BLOCKS + 12));
@@ -270,10 +271,7 @@ static void long_counts(void) {
     for (uint64_t room = 0; room <= 2 * BLOCK; room++) {
         state = made;
         state.counter = IN_STATE(MOST - 3 - room); /* so that `room` bytes more are taken */
-        before = state;
-        CHECK(BLAKE(update)(&state, bytes, (size_t)room + 1) == -1 && SAME(state, before));
-        CHECK(BLAKE(update)(&state, bytes, (size_t)room) == 0 && BLAKE(digest_size)(&state) == MAX);
-        CHECK(BLAKE(update)(&state, bytes, 1) == -1 && BLAKE(update)(&state, bytes, 0) == 0);
+        check_room(state, (size_t)room);
     }
     /* Lengths that would wrap round: no byte of them is read. */
     before = state = made;
@@ -293,7 +291,7 @@ static void vary_state(state_t *state, int i) {
     state->output_size = IN_STATE(state->output_size % (MAX + 6));
     state->pending_length = IN_STATE(state->pending_length % (BLOCK + 12));
     state->start_length = IN_STATE(state->start_length % (BLOCK + 12));
-    if (i % 4 == 1) state->counter = IN_STATE(MOST - random_number() % (2 * BLOCK));
+    if (i % 4 == 1) state->counter = IN_STATE(MOST - random_below(1 << 24) % (2 * BLOCK));
 }
 #endif
 
@@ -303,10 +301,10 @@ static void random_states(void) {
     uint8_t out[6 * MAX];
     int taken = 0;
     for (int i = 0; i < 4000; i++) {
-        for (size_t j = 0; j < sizeof state; j++) ((uint8_t *)&state)[j] = (uint8_t)random_number();
+        for (size_t j = 0; j < sizeof state; j++) ((uint8_t *)&state)[j] = (uint8_t)random_below(1 << 24);
         if (i % 4) vary_state(&state, i);
         int updated = BLAKE(update)(&state, bytes, (size_t)i % (4 * BLOCK)), other = 0;
-        size_t room = room_in(&state) < sizeof out ? (size_t)room_in(&state) : random_number() % sizeof out;
+        size_t room = room_in(&state) < sizeof out ? (size_t)room_in(&state) : random_below(1 << 24) % sizeof out;
 #ifdef TEST_NODES
         other = BLAKE(set_last_node)(&state, i % 7);
 #endif

@@ -1,26 +1,401 @@
-/* The functions of vulfsjor_threads.h over a system that fails: memory that is refused, threads
- * that do not start, reads that are short, interrupted, or fail, files that grow or shrink
- * meanwhile, and a library that refuses. After each failure the answer, errno and the output are compared, and
- * nothing is left: no memory, no thread, no descriptor. Returns 0 if all is as it should be.
+/* The functions of vulfsjor_threads.h over a system that fails: memory that is refused, threads that do not start,
+ * reads that are short, interrupted, or fail, files that grow or shrink meanwhile, and a library that refuses. After each
+ * failure the answer, errno and the output are compared, nothing is left, neither memory nor a thread nor a descriptor,
+ * and signals and cancellation are as before. Returns 0 if all is as it should be.
  *
- *   cc -std=gnu99 -DLEAST_BYTES=1 -I FOLDER/include thread_faults.c threads.c ARCHIVE -pthread
- *       $(sed -n 's/^WRAP([^,]*, \([a-z0-9_]*\),.*$/-Wl,--wrap=\1/p' thread_calls.h)
- *       -o thread_faults
+ *   cc -std=gnu99 -DLEAST_BYTES=1 -I FOLDER/include thread_faults.c ARCHIVE -pthread -o thread_faults
  *   ./thread_faults FOLDER       makes its file in this folder
  *   cc the same without -DLEAST_BYTES=1       tests only what depends on that length */
 #define _GNU_SOURCE
 #include "vulfsjor_threads.h"
 #define LIMIT 180
-#include "time_limit.h"
+#define SAY_MORE() fprintf(stderr, "%s %d\n", fault.call, fault.at)
 #include "thread_calls.h"
 
-#include <sys/mman.h>
+/* What system.h includes, before some of it is replaced. */
+#include <malloc.h>
+#include <sched.h>
+#include <stdbool.h>
+#include <sys/prctl.h>
+#include <sys/resource.h>
+#include <sys/uio.h>
+#include <time.h>
+
+enum { BYTES = 40 << 20, FEW = 100000 };
+
+/* Whether threads.c starts a thread for each byte. */
+#ifdef LEAST_BYTES
+#define EACH_BYTE 1
+#else
+#define EACH_BYTE 0
+#endif
+
+/* ---- the calls of threads.c that can fail */
+
+/* A thread that is canceled within a call would lose what the call has, so it can't be until the call ends: whether it
+ * could. That is looked at in the caller's thread, wherever the system might cancel it. */
+static pthread_t caller;
+static int could_cancel;
+static void check_cancellation(void) {
+    int was;
+
+    if (!pthread_equal(pthread_self(), caller)) return;
+    pthread_setcancelstate(PTHREAD_CANCEL_DISABLE, &was);
+    could_cancel |= was != PTHREAD_CANCEL_DISABLE;
+}
+
+/* Which call fails: the one of this name that is counted `at`, once, with this errno. */
+static struct {
+    const char *call;
+    int at, error, counted;
+} fault = {"", 0, 0, 0};
+
+static int allocated, running, started; /* blocks and threads that are left; threads in all */
+
+static void atomic_add(int *counter, int n) { __atomic_fetch_add(counter, n, __ATOMIC_SEQ_CST); }
+static int atomic_value(int *counter) { return __atomic_load_n(counter, __ATOMIC_SEQ_CST); }
+
+/* Whether this call is the one that fails. */
+static int fails_now(const char *call) {
+    if (strcmp(call, fault.call) ||
+        __atomic_add_fetch(&fault.counted, 1, __ATOMIC_SEQ_CST) != fault.at)
+        return 0;
+    errno = fault.error;
+    return 1;
+}
+
+/* How reads differ from what is requested: at most `most` bytes each, an interruption before each,
+ * and another size of the file from call `resized_at` on, for which later calls wait. With `waits`
+ * the first read waits for a second one, and all others wait until a thread has no more to do. */
+static struct {
+    size_t most;
+    int interrupted, waits, resized_at;
+    off_t size;
+    int file, calls, resized, ended;
+    int least; /* the read of the first byte waits until there are as many reads; 0: it does not */
+    int others, waiting; /* and until so many threads wait for room; those that have waited */
+    int inherited; /* whether a program that is started meanwhile would have a file that was read */
+} reads;
+
+static void wait_for(int *counter, int n) {
+    while (atomic_value(counter) < n) usleep(100);
+}
+
+/* Whether this read is interrupted. */
+static int is_interrupted(int file) {
+    int call = __atomic_add_fetch(&reads.calls, 1, __ATOMIC_SEQ_CST);
+
+    check_cancellation();
+    if (!(fcntl(file, F_GETFD) & FD_CLOEXEC)) reads.inherited = 1;
+    if (call == reads.resized_at) {
+        if (ftruncate(reads.file, reads.size)) abort();
+        atomic_add(&reads.resized, 1);
+    }
+    if (reads.resized_at && call > reads.resized_at) wait_for(&reads.resized, 1);
+    if (reads.waits) wait_for(call == 1 ? &reads.calls : &reads.ended, call == 1 ? 2 : 1);
+    if (!reads.interrupted || call % 2 == 0) return 0;
+    errno = EINTR;
+    return 1;
+}
+
+/* How many bytes of each MiB of a long file were read; null: files are read, and not only noted. */
+static uint32_t *seen;
+enum { MIBS = (1 << 12) + 64 + 1 };
+
+static ssize_t note_read(size_t n, off_t from) {
+    const off_t end = from + (off_t)n;
+
+    for (off_t next; from < end; from = next) {
+        next = ((from >> 20) + 1) << 20;
+        if (next > end) next = end;
+        if (from >> 20 < MIBS)
+            __atomic_add_fetch(&seen[from >> 20], (uint32_t)(next - from), __ATOMIC_SEQ_CST);
+    }
+    return (ssize_t)n;
+}
+
+static ssize_t next_read(int file, void *to, size_t n) {
+    if (is_interrupted(file) || fails_now("read")) return -1;
+    return read(file, to, reads.most && n > reads.most ? reads.most : n);
+}
+
+static ssize_t read_at_place(int file, void *to, size_t n, off_t from) {
+    if (seen) return note_read(n, from);
+    if (reads.least && !from) { /* no more reads come, since all other threads wait then */
+        atomic_add(&reads.calls, 1);
+        wait_for(&reads.calls, reads.least);
+        wait_for(&reads.waiting, reads.others);
+        CHECK(atomic_value(&reads.calls) == reads.least);
+        return fails_now("first pread") ? -1 : pread(file, to, n, from);
+    }
+    if (is_interrupted(file) || fails_now("pread")) return -1;
+    return pread(file, to, reads.most && n > reads.most ? reads.most : n, from);
+}
+
+/* Leaves in memory are noted as those of a file are. */
+static size_t length;
+static int note_input(const uint8_t *input, size_t n) {
+    if (input >= message && input < message + length) note_read(n, input - message);
+    return 0;
+}
+
+/* The largest block since this was set to 0. */
+static size_t largest;
+
+static void *new_block(size_t n) {
+    void *block = fails_now("malloc") ? NULL : malloc(n);
+
+    check_cancellation();
+    if (n > __atomic_load_n(&largest, __ATOMIC_RELAXED))
+        __atomic_store_n(&largest, n, __ATOMIC_RELAXED);
+    if (block) atomic_add(&allocated, 1), memset(block, 0x5a, n); /* no digests of the call before */
+    return block;
+}
+
+static void free_block(void *block) {
+    if (block) atomic_add(&allocated, -1);
+    free(block);
+}
+
+/* Whether this thread blocks all signals except those of its own faults of memory, and SIGKILL and
+ * SIGSTOP, which none can block. */
+static int blocks_signals(void) {
+    sigset_t mask;
+    int number, is = !pthread_sigmask(SIG_BLOCK, NULL, &mask);
+
+    for (number = 1; is && number <= SIGRTMAX; number++)
+        if (number < 32 || number >= SIGRTMIN) /* those between are the C library's */
+            is = sigismember(&mask, number) == (number != SIGBUS && number != SIGSEGV &&
+                                                number != SIGKILL && number != SIGSTOP);
+    return is;
+}
+
+/* What threads.c has each thread do, which is one function for all. */
+static void *(*hash)(void *);
+static int wrong_masks;
+static void *hash_and_end(void *given) {
+    if (!blocks_signals()) atomic_add(&wrong_masks, 1);
+    void *answer = hash(given);
+
+    atomic_add(&reads.ended, 1);
+    return answer;
+}
+
+static int start_thread(pthread_t *t, void *(*function)(void *), void *given) {
+    int error;
+
+    if (!hash) hash = function; /* before the first thread, since all read it */
+    error = fails_now("pthread_create") ? fault.error : pthread_create(t, NULL, hash_and_end, given);
+    if (!error) atomic_add(&running, 1), atomic_add(&started, 1);
+    return error;
+}
+
+static int end_thread(pthread_t t) {
+    atomic_add(&reads.ended, 1); /* the caller's thread has no more to do */
+    atomic_add(&running, -1);
+    return pthread_join(t, NULL);
+}
+
+/* The processors that sysconf reports where sched_getaffinity fails; INT_MIN: it does not fail. */
+static int processors = INT_MIN;
+
+/* ---- threads.c over them. A name in parentheses is still the system's or the library's. */
+
+#define malloc(n) new_block(n)
+#define free(block) free_block(block)
+#define pthread_create(t, a, f, given) start_thread(t, f, given)
+#define pthread_join(t, x) end_thread(t)
+#define pthread_cond_wait(c, m) (atomic_add(&reads.waiting, 1), pthread_cond_wait(c, m))
+#define sched_getaffinity(p, n, set) (processors != INT_MIN ? -1 : sched_getaffinity(p, n, set))
+#define sysconf(name) (processors != INT_MIN ? processors : sysconf(name))
+#define openat(...) (check_cancellation(), openat(__VA_ARGS__))
+#define close(file) (check_cancellation(), close(file))
+#define pread(file, to, n, from) read_at_place(file, to, n, from)
+#define read(file, to, n) next_read(file, to, n)
+#define OR_FAILS(call, ...) (fails_now(#call) ? -1 : call(__VA_ARGS__))
+#define lseek(...) OR_FAILS(lseek, __VA_ARGS__)
+#define fstat(...) OR_FAILS(fstat, __VA_ARGS__)
+#define vulfsjor_tree_plan(...) OR_FAILS(vulfsjor_tree_plan, __VA_ARGS__)
+#define vulfsjor_tree_plan_update(...) OR_FAILS(vulfsjor_tree_plan_update, __VA_ARGS__)
+#define vulfsjor_tree_part(...) OR_FAILS(vulfsjor_tree_part, __VA_ARGS__)
+/* Where files are only noted, nothing is hashed. */
+#define OR_NOTES(noted, call, ...) (fails_now(#call) ? -1 : seen ? (noted) : call(__VA_ARGS__))
+#define vulfsjor_tree_root(...) OR_NOTES(0, vulfsjor_tree_root, __VA_ARGS__)
+#define vulfsjor_tree_update(...) OR_NOTES(0, vulfsjor_tree_update, __VA_ARGS__)
+#define vulfsjor_tree_update_leaves(...) OR_NOTES(0, vulfsjor_tree_update_leaves, __VA_ARGS__)
+#define vulfsjor_tree_final(...) OR_NOTES(0, vulfsjor_tree_final, __VA_ARGS__)
+#define vulfsjor_tree_init_root(...) OR_NOTES(0, vulfsjor_tree_init_root, __VA_ARGS__)
+#define vulfsjor_tree_init_leaf(...) OR_NOTES(0, vulfsjor_tree_init_leaf, __VA_ARGS__)
+#define vulfsjor_blake2b_update(...) OR_NOTES(0, vulfsjor_blake2b_update, __VA_ARGS__)
+#define vulfsjor_blake2b_final(...) OR_NOTES(0, vulfsjor_blake2b_final, __VA_ARGS__)
+#define vulfsjor_tree_leaves(o, on, f, e, i, in, ...) \
+    OR_NOTES(note_input(i, in), vulfsjor_tree_leaves, o, on, f, e, i, in, __VA_ARGS__)
+#define vulfsjor_tree_leaves_ahead(t, o, on, k, i, in) \
+    OR_NOTES(note_input(i, in), vulfsjor_tree_leaves_ahead, t, o, on, k, i, in)
+#include "../threads.c"
+#undef close
+
+static uint32_t leaf;
+static unsigned asked;
+
+static void plan_fault(const char *call, int at, int error) {
+    fault.call = call;
+    fault.at = at;
+    fault.error = error;
+    fault.counted = 0;
+    reads.calls = reads.resized = reads.ended = reads.waiting = 0;
+    started = 0;
+}
+
+/* Takes the file of this length, and the root that it has. */
+static void use_file(size_t n, uint32_t leaf_length, unsigned threads) {
+    plan_fault("", 0, 0);
+    length = n;
+    leaf = leaf_length;
+    asked = threads;
+    write_file(n);
+    CHECK(!(vulfsjor_tree_root)(wanted, 64, message, n, 0, 0, 0, 0, leaf));
+}
+
+static int by_file(void) { return vulfsjor_tree_root_file(root, 64, path, 0, 0, 0, 0, leaf, asked); }
+
+static int by_bytes(void) {
+    return vulfsjor_tree_root_threads(root, 64, message, length, 0, 0, 0, 0, leaf, asked);
+}
+
+/* Closes the file of a call, whose status and errno stay. */
+static int close_after(int file, int status) {
+    const int error = errno;
+
+    close(file);
+    errno = error;
+    return status;
+}
+
+/* A pipe that holds all of the message after these bytes. */
+static int pipe_after(size_t head) {
+    int ends[2];
+
+    if (pipe(ends) || fcntl(ends[1], F_SETPIPE_SZ, 1 << 20) < 0 ||
+        write(ends[1], message + head, length - head) != (ssize_t)(length - head))
+        exit(3);
+    close(ends[1]);
+    return ends[0];
+}
+
+static int by_pipe(void) {
+    const int file = pipe_after(0);
+
+    return close_after(file, vulfsjor_tree_root_fd(root, 64, file, 0, 0, 0, 0, leaf, asked));
+}
+
+/* What the calls of progress have reported: how often, the last number, and whether each was more
+ * than the one before and came in this thread. The call ends at the one of this number. */
+static struct {
+    int calls, last_call;
+    uint64_t count;
+    pthread_t thread;
+} reported;
+
+static int note_progress(void *context, uint64_t count) {
+    CHECK(context == &reported && count > reported.count &&
+          pthread_equal(pthread_self(), reported.thread));
+    reported.count = count;
+    return ++reported.calls == reported.last_call ? -7 : 0;
+}
+
+/* Absorbs the message after these bytes of it, from memory or from a file, into a state that a failure leaves as it
+ * was. */
+static int absorb_after(size_t head, int file) {
+    vulfsjor_tree_state state, before;
+    int status, error;
+
+    if (vulfsjor_tree_init(&state, 64, 0, 0, 0, 0, leaf) || (vulfsjor_tree_update)(&state, message, head)) exit(3);
+    before = state;
+    reported.calls = reported.count = 0;
+    reported.thread = pthread_self();
+    status = file < 0 ? vulfsjor_tree_update_threads(&state, message + head, length - head, asked)
+                      : vulfsjor_tree_update_fd(&state, file, asked, note_progress, &reported);
+    error = errno;
+    CHECK(!status || !memcmp(&state, &before, sizeof state));
+    CHECK(status || file < 0 || reads.resized_at || reported.count == length - head);
+    if (!status && (vulfsjor_tree_final)(&state, root, 64)) exit(3);
+    errno = error;
+    return status;
+}
+
+static int by_update(void) { return absorb_after(1000, -1); }
+
+/* The message after its first 1,000 bytes from the file, or all of it, or after them from a pipe. */
+static int by_file_after(size_t head) {
+    int file = open(path, O_RDONLY | O_CLOEXEC), status;
+
+    if (file < 0 || (lseek)(file, (off_t)head, SEEK_SET) < 0) exit(3);
+    status = absorb_after(head, file);
+    CHECK(status || reads.resized_at || (lseek)(file, 0, SEEK_CUR) == (off_t)length);
+    return close_after(file, status);
+}
+
+static int by_rest(void) { return by_file_after(1000); }
+static int by_all(void) { return by_file_after(0); }
+
+static int by_piped_rest(void) {
+    const int file = pipe_after(1000);
+
+    return close_after(file, absorb_after(1000, file));
+}
+
+/* Makes the call, after which no memory, thread or descriptor may be left, the root is there or is blank, and the
+ * thread is as it was: it has the same signals, and can be canceled or, by turns, not. */
+static int call_cleanly(int (*call)(void)) {
+    static int turn;
+    const int given = turn++ % 2 ? PTHREAD_CANCEL_ENABLE : PTHREAD_CANCEL_DISABLE;
+    int open = entry_count("/proc/self/fd"), status, error, now;
+    sigset_t before, after;
+
+    memcpy(root, blank, 64);
+    pthread_sigmask(SIG_BLOCK, NULL, &before);
+    pthread_setcancelstate(given, &now);
+    errno = reads.inherited = 0;
+    status = call();
+    error = errno;
+    pthread_setcancelstate(PTHREAD_CANCEL_DISABLE, &now);
+    pthread_sigmask(SIG_BLOCK, NULL, &after);
+    CHECK(now == given && !could_cancel);
+    for (int number = 1; number <= SIGRTMAX; number++)
+        CHECK(sigismember(&after, number) == sigismember(&before, number));
+    CHECK(call != by_file || !reads.inherited);
+    CHECK(!memcmp(root, status ? blank : wanted, 64));
+    CHECK(!atomic_value(&allocated) && !atomic_value(&running) && entry_count("/proc/self/fd") == open);
+    errno = error;
+    return status;
+}
+
+/* The same of a call that has to fail with this errno, or to succeed if `error` is 0. */
+static void expect_errno(int (*call)(void), int error) {
+    CHECK(call_cleanly(call) == (error ? -1 : 0) && (!error || errno == error));
+}
+
+/* Fails the first call of this name, then the second, until there is no such call. There has to be one. */
+static void each_call_fails(int (*call)(void), const char *name, int given, int error) {
+    int at = 0, hit = 1;
+
+    while (hit) {
+        int status;
+        plan_fault(name, ++at, given);
+        status = call_cleanly(call);
+        hit = fault.counted >= at;
+        CHECK(status == (hit && error ? -1 : 0) && (!status || errno == error));
+    }
+    CHECK(at > 1);
+    plan_fault("", 0, 0);
+}
 
 /* The file has another length from this read on. */
 static void resize_at_read(int at, size_t size, int error) {
-    int (*const calls[])(void) = {root_of_file, root_of_all};
+    int (*const calls[])(void) = {by_file, by_all};
 
-    for (size_t i = 0; i < sizeof calls / sizeof *calls; i++) {
+    for (size_t i = 0; i < COUNT_OF(calls); i++) {
         write_file(length);
         plan_fault("", 0, 0);
         reads.resized_at = at;
@@ -32,106 +407,80 @@ static void resize_at_read(int at, size_t size, int error) {
     }
 }
 
-static void memory_is_refused(void) {
+/* ---- the tests */
+
+/* What fails in these calls, each time that it is made. */
+static void everything_fails(void) {
+    static const struct {
+        const char *name;
+        int given, error;
+        int (*calls[7])(void);
+    } rows[] = {
+        {"malloc", 0, ENOMEM, {by_bytes, by_update, by_file, by_pipe, by_rest, by_piped_rest}},
+        {"pthread_create", EAGAIN, 0, {by_bytes, by_update, by_file, by_rest}}, /* those that run hash everything */
+        {"pread", ESTALE, ESTALE, {by_file, by_rest}},
+        {"read", ECONNRESET, ECONNRESET, {by_pipe, by_piped_rest}},
+        {"lseek", EOVERFLOW, EOVERFLOW, {by_file, by_rest}},
+        {"fstat", EOVERFLOW, EOVERFLOW, {by_file, by_rest}},
+        {"vulfsjor_tree_leaves", 0, EINVAL, {by_bytes, by_file}},
+        {"vulfsjor_tree_leaves_ahead", 0, EINVAL, {by_update, by_rest}},
+        {"vulfsjor_tree_init_root", 0, EINVAL, {by_bytes, by_file}},
+        {"vulfsjor_blake2b_update", 0, EINVAL, {by_bytes, by_file}},
+        {"vulfsjor_blake2b_final", 0, EINVAL, {by_bytes, by_file}},
+        {"vulfsjor_tree_plan", 0, EINVAL, {by_bytes}},
+        {"vulfsjor_tree_plan", 0, EFBIG, {by_file}},
+        {"vulfsjor_tree_plan_update", 0, EINVAL, {by_update}},
+        {"vulfsjor_tree_part", 0, EINVAL, {by_bytes, by_file, by_update, by_rest}},
+        {"vulfsjor_tree_update_leaves", 0, EINVAL, {by_update, by_rest}},
+        {"vulfsjor_tree_update", 0, EINVAL, {by_update}},
+        {"vulfsjor_tree_update", 0, EFBIG, {by_pipe, by_piped_rest}},
+        {"vulfsjor_tree_final", 0, EINVAL, {by_pipe}}};
+
     use_file(FEW, 4096, 4);
-    each_call_fails(root_of_bytes, "malloc", 0, ENOMEM, 1);
-    each_call_fails(root_of_updates, "malloc", 0, ENOMEM, 1);
-    plan_fault("malloc", 2, 0);
-    expect_errno(root_of_bytes, 0); /* one for digests, since the bytes are in memory */
-    CHECK(!is_hit());
-    each_call_fails(root_of_file, "malloc", 0, ENOMEM, 2); /* that, and a buffer or more */
-    each_call_fails(root_of_pipe, "malloc", 0, ENOMEM, 1);
-    each_call_fails(root_of_rest, "malloc", 0, ENOMEM, 3); /* and one for what one thread reads */
-    each_call_fails(root_of_piped_rest, "malloc", 0, ENOMEM, 1);
+    for (size_t i = 0; i < COUNT_OF(rows); i++)
+        for (int (*const *call)(void) = rows[i].calls; *call; call++)
+            each_call_fails(*call, rows[i].name, rows[i].given, rows[i].error);
     asked = 1;
-    plan_fault("malloc", 1, 0);
-    expect_errno(root_of_bytes, 0); /* one thread needs none */
-    expect_errno(root_of_updates, 0);
-    CHECK(!is_hit());
-    asked = 0;
+    each_call_fails(by_bytes, "vulfsjor_tree_root", 0, EINVAL);
+    each_call_fails(by_update, "vulfsjor_tree_update", 0, EINVAL);
+    use_file(BYTES, 17 << 20, 2);
+    each_call_fails(by_file, "vulfsjor_tree_init_leaf", 0, EINVAL);
+    each_call_fails(by_file, "vulfsjor_blake2b_final", 0, EINVAL);
+    each_call_fails(by_all, "vulfsjor_tree_init_leaf", 0, EINVAL);
 }
 
-/* Those that run hash everything. */
-static void threads_do_not_start(void) {
+/* One call fails, of which there are more, or which is not made: then `error` is 0. */
+static void one_fails(const char *name, int at, int given, int (*call)(void), int error) {
+    plan_fault(name, at, given);
+    expect_errno(call, error);
+    CHECK(error || fault.counted < at || started == at - 1);
+}
+
+static void some_fail(void) {
+    use_file(FEW, 4096, 4);
+    one_fails("malloc", 2, 0, by_bytes, 0); /* one for digests, since the bytes are in memory */
+    one_fails("vulfsjor_tree_plan_update", 1, 0, by_rest, EFBIG);
+    one_fails("vulfsjor_tree_plan_update", 2, 0, by_rest, EINVAL);
+    asked = 1;
+    one_fails("malloc", 1, 0, by_bytes, 0); /* one thread needs none */
+    one_fails("malloc", 1, 0, by_update, 0);
     use_file(FEW, 100, 8);
-    each_call_fails(root_of_bytes, "pthread_create", EAGAIN, 0, 7);
-    each_call_fails(root_of_file, "pthread_create", EPERM, 0, 7);
-    each_call_fails(root_of_updates, "pthread_create", EAGAIN, 0, 7);
-    each_call_fails(root_of_rest, "pthread_create", EAGAIN, 0, 7);
-    plan_fault("pthread_create", 1, EAGAIN);
-    expect_errno(root_of_bytes, 0);
-    CHECK(started == 0); /* after one that failed no other is tried */
-    plan_fault("pthread_create", 4, EAGAIN);
-    expect_errno(root_of_file, 0);
-    CHECK(started == 3);
-}
-
-static void library_refuses(void) {
-    use_file(FEW, 4096, 4);
-    each_call_fails(root_of_bytes, "vulfsjor_ffi_tree_leaves", 0, EINVAL, 4);
-    each_call_fails(root_of_bytes, "vulfsjor_ffi_tree_init_root", 0, EINVAL, 1);
-    each_call_fails(root_of_bytes, "vulfsjor_ffi_blake2b_update", 0, EINVAL, 4);
-    each_call_fails(root_of_bytes, "vulfsjor_ffi_blake2b_final", 0, EINVAL, 1);
-    each_call_fails(root_of_file, "vulfsjor_ffi_tree_leaves", 0, EINVAL, 4);
-    each_call_fails(root_of_file, "vulfsjor_ffi_tree_init_root", 0, EINVAL, 1);
-    each_call_fails(root_of_file, "vulfsjor_ffi_blake2b_update", 0, EINVAL, 4);
-    each_call_fails(root_of_bytes, "vulfsjor_ffi_tree_plan", 0, EINVAL, 1);
-    each_call_fails(root_of_file, "vulfsjor_ffi_tree_plan", 0, EFBIG, 1);
-    each_call_fails(root_of_updates, "vulfsjor_ffi_tree_plan_update", 0, EINVAL, 1);
-    each_call_fails(root_of_bytes, "vulfsjor_ffi_tree_part", 0, EINVAL, 4);
-    each_call_fails(root_of_updates, "vulfsjor_ffi_tree_leaves_ahead", 0, EINVAL, 4);
-    each_call_fails(root_of_updates, "vulfsjor_ffi_tree_update_leaves", 0, EINVAL, 1);
-    each_call_fails(root_of_updates, "vulfsjor_ffi_tree_update", 0, EINVAL, 1);
-    each_call_fails(root_of_pipe, "vulfsjor_ffi_tree_update", 0, EFBIG, 1);
-    each_call_fails(root_of_pipe, "vulfsjor_ffi_tree_final", 0, EINVAL, 1);
-    plan_fault("vulfsjor_ffi_tree_plan_update", 1, 0);
-    expect_errno(root_of_rest, EFBIG);
-    plan_fault("vulfsjor_ffi_tree_plan_update", 2, 0);
-    expect_errno(root_of_rest, EINVAL);
-    each_call_fails(root_of_rest, "vulfsjor_ffi_tree_part", 0, EINVAL, 4);
-    each_call_fails(root_of_rest, "vulfsjor_ffi_tree_leaves_ahead", 0, EINVAL, 4);
-    each_call_fails(root_of_rest, "vulfsjor_ffi_tree_update_leaves", 0, EINVAL, 2);
-    each_call_fails(root_of_piped_rest, "vulfsjor_ffi_tree_update", 0, EFBIG, 1);
-    asked = 1;
-    each_call_fails(root_of_bytes, "vulfsjor_ffi_tree_root", 0, EINVAL, 1);
-    each_call_fails(root_of_updates, "vulfsjor_ffi_tree_update", 0, EINVAL, 1);
+    one_fails("pthread_create", 1, EAGAIN, by_bytes, 0); /* after one that failed no other is tried */
+    one_fails("pthread_create", 4, EAGAIN, by_file, 0);
     use_file(BYTES, 17 << 20, 2);
-    each_call_fails(root_of_file, "vulfsjor_ffi_tree_init_leaf", 0, EINVAL, 2);
-    each_call_fails(root_of_file, "vulfsjor_ffi_blake2b_final", 0, EINVAL, 2);
-    each_call_fails(root_of_all, "vulfsjor_ffi_tree_init_leaf", 0, EINVAL, 2);
-    plan_fault("vulfsjor_ffi_blake2b_update", 20, 0);
-    expect_errno(root_of_file, EINVAL);
-}
-
-static void reads_fail(void) {
-    use_file(FEW, 4096, 4);
-    each_call_fails(root_of_file, "pread", ESTALE, ESTALE, 4);
-    each_call_fails(root_of_pipe, "read", ECONNRESET, ECONNRESET, 2);
-    each_call_fails(root_of_file, "lseek", EOVERFLOW, EOVERFLOW, 2);
-    each_call_fails(root_of_rest, "pread", ESTALE, ESTALE, 6);
-    each_call_fails(root_of_piped_rest, "read", ECONNRESET, ECONNRESET, 2);
-    each_call_fails(root_of_rest, "lseek", EOVERFLOW, EOVERFLOW, 2);
-#if __GLIBC_PREREQ(2, 33)
-    each_call_fails(root_of_file, "fstat", EOVERFLOW, EOVERFLOW, 1);
-    each_call_fails(root_of_rest, "fstat", EOVERFLOW, EOVERFLOW, 1);
-#endif
-    use_file(BYTES, 17 << 20, 2);
-    plan_fault("pread", 1, EIO);
-    expect_errno(root_of_file, EIO);
-    plan_fault("pread", 30, ENXIO);
-    expect_errno(root_of_file, ENXIO);
+    one_fails("vulfsjor_blake2b_update", 20, 0, by_file, EINVAL);
+    one_fails("pread", 1, EIO, by_file, EIO);
+    one_fails("pread", 30, ENXIO, by_file, ENXIO);
     /* The first error stays, and the other threads see it and stop after the read that each is
      * in. */
     use_file(BYTES, 65536, 4);
     reads.waits = 1;
-    plan_fault("pread", 1, ENXIO);
-    expect_errno(root_of_file, ENXIO);
+    one_fails("pread", 1, ENXIO, by_file, ENXIO);
     CHECK(reads.calls >= 2 && reads.calls <= 4);
-    plan_fault("pread", 1, ENXIO);
     reads.resized_at = 1;
     reads.file = open(path, O_RDWR);
     reads.size = 0;
-    expect_errno(root_of_file, ENXIO); /* where the others have EIO */
+    one_fails("pread", 1, ENXIO, by_file, ENXIO); /* where the others have EIO */
     close(reads.file);
     memset(&reads, 0, sizeof reads);
 }
@@ -141,16 +490,16 @@ static void reads_are_short(void) {
     for (reads.interrupted = 0; reads.interrupted < 2; reads.interrupted++)
         for (reads.most = 1; reads.most < 1 << 17; reads.most = reads.most * 5 + 3) {
             plan_fault("", 0, 0);
-            expect_errno(root_of_file, 0);
-            expect_errno(root_of_pipe, 0);
-            expect_errno(root_of_rest, 0);
-            expect_errno(root_of_piped_rest, 0);
+            expect_errno(by_file, 0);
+            expect_errno(by_pipe, 0);
+            expect_errno(by_rest, 0);
+            expect_errno(by_piped_rest, 0);
         }
     use_file(20 << 20, 17 << 20, 2);
     reads.interrupted = 1;
     reads.most = 300001;
-    expect_errno(root_of_file, 0);
-    expect_errno(root_of_rest, 0);
+    expect_errno(by_file, 0);
+    expect_errno(by_rest, 0);
     memset(&reads, 0, sizeof reads);
 }
 
@@ -160,9 +509,9 @@ static void threads_wait_for_the_first_part(void) {
     use_file(BYTES, 100, 4);
     reads.least = 8;
     reads.others = 3;
-    expect_errno(root_of_file, 0);
+    expect_errno(by_file, 0);
     plan_fault("first pread", 1, ENXIO);
-    expect_errno(root_of_file, ENXIO);
+    expect_errno(by_file, ENXIO);
     memset(&reads, 0, sizeof reads);
 }
 
@@ -182,10 +531,10 @@ static void files_change(void) {
 
 /* A function for progress ends a call at each of its calls, of which there are some. */
 static void progress_ends_calls(void) {
-    int (*const calls[])(void) = {root_of_rest, root_of_all, root_of_piped_rest};
+    int (*const calls[])(void) = {by_rest, by_all, by_piped_rest};
 
     use_file(FEW, 4096, 3);
-    for (size_t i = 0; i < sizeof calls / sizeof *calls; i++) {
+    for (size_t i = 0; i < COUNT_OF(calls); i++) {
         expect_errno(calls[i], 0);
         CHECK(reported.calls >= 1);
         for (int most = reported.calls, at = 1; at <= most; at++) {
@@ -197,25 +546,25 @@ static void progress_ends_calls(void) {
         reported.last_call = 0;
     }
     use_file(FEW, 4096, 1);
-    expect_errno(root_of_all, 0);
+    expect_errno(by_all, 0);
     CHECK(reported.calls >= 2);
     use_file((1 << 20) + 1000, 4096, 1);
-    expect_errno(root_of_piped_rest, 0);
+    expect_errno(by_piped_rest, 0);
     CHECK(reported.calls == 1); /* not again at the end of a stream of whole pieces */
     use_file(34 << 20, 17 << 20, 1); /* two leaves that are longer than a buffer */
-    expect_errno(root_of_all, 0);
+    expect_errno(by_all, 0);
     CHECK(reported.calls == 34);
     reported.last_call = 3;
-    CHECK(root_of_all() == -1 && errno == ECANCELED && reported.calls == 3);
+    CHECK(by_all() == -1 && errno == ECANCELED && reported.calls == 3);
     reported.last_call = 0;
 }
 
 /* ---- how many threads hash */
 
 static void expect_threads(int others) {
-    int (*const calls[])(void) = {root_of_bytes, root_of_file, root_of_updates, root_of_rest};
+    int (*const calls[])(void) = {by_bytes, by_file, by_update, by_rest};
 
-    for (size_t i = 0; i < sizeof calls / sizeof *calls; i++) {
+    for (size_t i = 0; i < COUNT_OF(calls); i++) {
         started = 0;
         expect_errno(calls[i], 0);
         CHECK(started == others);
@@ -230,13 +579,13 @@ static void numbers_of_threads(void) {
     use_file(FEW, 100, 5);
     expect_threads(4);
     use_file(FEW, FEW / 2, 5); /* two leaves */
-    expect_errno(root_of_bytes, 0);
+    expect_errno(by_bytes, 0);
     CHECK(started == 1);
     use_file(3001, 1000, 5); /* two leaves after one that is whole, and a byte */
-    expect_errno(root_of_updates, 0);
+    expect_errno(by_update, 0);
     CHECK(started == 1);
     started = 0;
-    expect_errno(root_of_rest, 0);
+    expect_errno(by_rest, 0);
     CHECK(started == 1);
     use_file(FEW, 100, 1);
     expect_threads(0);
@@ -255,7 +604,7 @@ static void more_processors_than_the_set_has(void) {
     static const int answers[][2] = {{3, 2}, {1, 0}, {0, 0}, {-1, 0}};
 
     use_file(FEW, 100, 0);
-    for (size_t i = 0; i < sizeof answers / sizeof *answers; i++) {
+    for (size_t i = 0; i < COUNT_OF(answers); i++) {
         processors = answers[i][0];
         expect_threads(answers[i][1]);
     }
@@ -270,20 +619,20 @@ static void least_bytes(void) {
     } rows[] = {{(1 << 18) - 1, 0}, {1 << 18, 0},       {(1 << 19) - 1, 0},
                 {1 << 19, 1},       {(1 << 20) - 1, 2}, {1 << 20, 3}};
 
-    for (size_t i = 0; i < sizeof rows / sizeof *rows; i++) {
+    for (size_t i = 0; i < COUNT_OF(rows); i++) {
         use_file(rows[i].length, 1000, 8);
-        expect_errno(root_of_bytes, 0);
+        expect_errno(by_bytes, 0);
         CHECK(started == rows[i].others);
         started = 0;
-        expect_errno(root_of_file, 0);
+        expect_errno(by_file, 0);
         CHECK(started == rows[i].others);
     }
     use_file((1 << 18) - 1, 1000, 8);
-    each_call_fails(root_of_file, "read", ENXIO, ENXIO, 1);
+    each_call_fails(by_file, "read", ENXIO, ENXIO);
     use_file(1 << 18, 1000, 8);
-    each_call_fails(root_of_file, "pread", ENXIO, ENXIO, 1);
+    each_call_fails(by_file, "pread", ENXIO, ENXIO);
     use_file((1 << 18) - 1, 1000, 8);
-    CHECK(!vulfsjor_tree_root(wanted, 64, message, 1 << 17, 0, 0, 0, 0, leaf));
+    CHECK(!(vulfsjor_tree_root)(wanted, 64, message, 1 << 17, 0, 0, 0, 0, leaf));
     resize_at_read(1, 1 << 17, 0);
 }
 
@@ -302,29 +651,29 @@ static void memory_is_as_said(void) {
                                      {4 * MIB, 16 * MIB}, {4 * MIB + 1, 4 * MIB + 1},
                                      {16 * MIB, 16 * MIB}, {16 * MIB + 1, MIB}};
 
-    for (size_t i = 0; i < sizeof messages / sizeof *messages; i++) {
+    for (size_t i = 0; i < COUNT_OF(messages); i++) {
         use_file(messages[i].length, (uint32_t)messages[i].leaf, 2);
         plan_fault("malloc", 0, 0);
         largest = 0;
-        expect_errno(root_of_bytes, 0);
+        expect_errno(by_bytes, 0);
         CHECK(largest == messages[i].digests && fault.counted == 1);
     }
     use_file(FEW * 6, 100, 2);
     largest = 0;
-    expect_errno(root_of_updates, 0);
+    expect_errno(by_update, 0);
     CHECK(largest == 64 * ((FEW * 6 - 1000) / 100 - 1)); /* all but the last leaf */
-    for (size_t i = 0; i < sizeof rows / sizeof *rows; i++) {
+    for (size_t i = 0; i < COUNT_OF(rows); i++) {
         use_file(BYTES, (uint32_t)rows[i][0], 2);
         largest = 0;
-        expect_errno(root_of_file, 0);
+        expect_errno(by_file, 0);
         CHECK(largest == rows[i][1]);
         largest = 0;
-        expect_errno(root_of_all, 0);
+        expect_errno(by_all, 0);
         CHECK(largest == rows[i][1]);
     }
     use_file(BYTES, 100, 2);
     largest = 0;
-    expect_errno(root_of_all, 0);
+    expect_errno(by_all, 0);
     CHECK(largest > 15 * MIB && largest <= 16 * MIB);
 }
 
@@ -337,7 +686,7 @@ static void long_bytes(void) {
     CHECK(message != MAP_FAILED);
     for (int is_update = 0; is_update < 2; is_update++) {
         memset(seen, 0, MIBS * sizeof *seen);
-        CHECK(!(is_update ? root_of_updates() : root_of_bytes()));
+        CHECK(!(is_update ? by_update() : by_bytes()));
         for (int i = is_update; i + 1 < MIBS - is_update; i++) CHECK(seen[i] == 1 << 20);
         CHECK(is_update || seen[MIBS - 1] == 1);
     }
@@ -349,15 +698,15 @@ static void long_bytes(void) {
 static void long_files(void) {
     static const uint32_t leaves[] = {4096,    65536,   1 << 22, 1 << 24, (1 << 24) + (1 << 20),
                                       1 << 26, 1u << 31};
-    int (*const calls[])(void) = {root_of_file, root_of_all};
+    int (*const calls[])(void) = {by_file, by_all};
     const size_t size = MIBS * sizeof *seen;
     int once;
 
     use_file(FEW, 65536, 3);
     length = ((size_t)(MIBS - 1) << 20) + 1;
-    CHECK(!truncate(path, (off_t)length) && (seen = __real_malloc(size)));
-    for (size_t i = 0; i < sizeof leaves / sizeof *leaves; i++)
-        for (size_t k = 0; k < sizeof calls / sizeof *calls; k++) {
+    CHECK(!truncate(path, (off_t)length) && (seen = (malloc)(size)));
+    for (size_t i = 0; i < COUNT_OF(leaves); i++)
+        for (size_t k = 0; k < COUNT_OF(calls); k++) {
             memset(seen, 0, size);
             leaf = leaves[i];
             largest = 0;
@@ -367,20 +716,17 @@ static void long_files(void) {
             CHECK(once == MIBS - 1 && seen[once] == 1);
         }
     long_bytes();
-    __real_free(seen);
+    (free)(seen);
     seen = NULL;
 }
 
 int main(int count, char **words) {
-    if (count < 2 || !(message = __real_malloc(BYTES))) return 2;
-    snprintf(path, sizeof path, "%s/message", words[1]);
-    memset(blank, 0xaa, sizeof blank);
-    for (size_t i = 0; i < BYTES; i++) message[i] = (unsigned char)(i * i >> 9 ^ i);
+    if (count < 2) return 2;
+    make_message(BYTES, words[1]);
+    caller = pthread_self();
     if (EACH_BYTE) {
-        RUN(memory_is_refused());
-        RUN(threads_do_not_start());
-        RUN(library_refuses());
-        RUN(reads_fail());
+        RUN(everything_fails());
+        RUN(some_fail());
         RUN(reads_are_short());
         RUN(threads_wait_for_the_first_part());
         RUN(files_change());
@@ -394,6 +740,6 @@ int main(int count, char **words) {
     }
     CHECK(!wrong_masks);
     unlink(path);
-    __real_free(message);
+    (free)(message);
     return fails ? 1 : 0;
 }

@@ -5,17 +5,11 @@ source "$(dirname "$(readlink -f "$0")")/common.sh"
 # A number of random turns: of those of the full test a twelfth.
 turns() { [ -n "${VULFSJOR_TEST_HUGE-}" ] && echo "$1" || echo $(($1 / 12)); }
 
-# The words of the linker by which the calls that thread_calls.h replaces go to it.
-replaced_calls() {
-    sed -n 's/^WRAP([^,]*, \([a-z0-9_]*\),.*$/-Wl,--wrap=\1/p' "$tests/thread_calls.h"
-}
-
 # Compiles a program from these files and words.
 compile_threads() {
     local program=$1
     shift
-    cc -std=gnu99 -g "${warnings[@]}" -U_FORTIFY_SOURCE -I"$include" -o "$program" "$@" "$archive" \
-        -pthread
+    cc -std=gnu99 -g "${warnings[@]}" -I"$include" -o "$program" "$@" "$archive" -pthread
 }
 
 # The edges of a tree in parts, and this many random messages.
@@ -40,8 +34,7 @@ threads_with() {
 
 # thread_faults.c with these words, and as many threads as in the library or as the words say.
 faults_with() {
-    compile_threads "$work/faults" "$@" "$tests/thread_faults.c" "$here/threads.c" \
-        $(replaced_calls) && "$work/faults" "$work/files"
+    compile_threads "$work/faults" "$@" "$tests/thread_faults.c" && "$work/faults" "$work/files"
 }
 
 # Both, with each number of threads.

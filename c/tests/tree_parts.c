@@ -1,6 +1,5 @@
-/* Tests what C has to hash a tree in parts beyond the calls of the conformance cases: counts of leaves, states of
- * leaves and roots, plans and their parts, next to vulfsjor_tree_root, what is refused of them, and each number of a
- * plan changed. Returns 0 if all is as it should be.
+/* Tests what C has to hash a tree in parts beyond the calls of the conformance cases: counts of leaves, plans and their
+ * parts, what is refused of them, and each number of a plan changed. Returns 0 if all is as it should be.
  *
  *   cc -std=c99 -Wall -Wextra -Wpedantic -Werror -I FOLDER/include tree_parts.c ARCHIVE -o tree_parts
  *   ./tree_parts [TURNS]        TURNS is how many random messages are planned, 20,000 without it */
@@ -9,24 +8,11 @@
 
 #include <stdlib.h>
 
-enum { MAX = 64, MOST_BYTES = 3000 };
 #define COUNT_OF(list) (sizeof(list) / sizeof *(list))
 #define SAME(a, b) (!memcmp(&(a), &(b), sizeof(a)))
 static const uint64_t top = (uint64_t)1 << 58; /* the end of the longest message */
 
-static uint8_t message[2 * MOST_BYTES], digests[64 * (MOST_BYTES + 1)];
-static size_t length;
-static uint32_t size;
-
-static uint64_t seed = 88172645463325252u;
-
-/* A number below n. */
-static uint64_t random_below(uint64_t n) {
-    seed ^= seed << 13;
-    seed ^= seed >> 7;
-    seed ^= seed << 17;
-    return seed % n;
-}
+static uint8_t message[1000];
 
 static void leaf_counts(void) {
     static const uint32_t sizes[] = {1, 2, 3, 64, 65536, 0x7fffffff, 0x80000000, UINT32_MAX};
@@ -42,50 +28,6 @@ static void leaf_counts(void) {
     }
     CHECK(!vulfsjor_tree_leaf_count(0, 0) && !vulfsjor_tree_leaf_count(5, 0));
     CHECK(!vulfsjor_tree_leaf_count(UINT64_MAX, 0));
-}
-
-/* ---- states of nodes */
-
-/* A leaf and a root by states of their nodes are those of the calls for ranges. */
-static void check_nodes(void) {
-    static const int lasts[] = {0, 1, 2, 256, -1};
-    uint8_t out[64], wanted[64];
-    vulfsjor_blake2b_state node;
-
-    CHECK(!vulfsjor_tree_init_leaf(&node, 5, 0, NULL, 0, NULL, 0, 9));
-    CHECK(!vulfsjor_tree_init_root(&node, 64, NULL, 0, NULL, 0, 9));
-    for (size_t i = 0; i < COUNT_OF(lasts); i++) {
-        CHECK(!vulfsjor_tree_init_leaf(&node, 5, lasts[i], "na", 2, "pers", 4, 9));
-        CHECK(!vulfsjor_blake2b_update(&node, message, 9) && !vulfsjor_blake2b_final(&node, out, 64));
-        CHECK(!vulfsjor_tree_leaves(wanted, 64, 5, lasts[i], message, 9, "na", 2, "pers", 4, 9) && SAME(out, wanted));
-    }
-    CHECK(!vulfsjor_tree_init_root(&node, 20, "na", 2, "pers", 4, 9));
-    CHECK(!vulfsjor_blake2b_update(&node, message, 128) && !vulfsjor_blake2b_final(&node, out, 20));
-    CHECK(!vulfsjor_tree_root_of_leaves(wanted, 20, message, 128, "na", 2, "pers", 4, 9) && !memcmp(out, wanted, 20));
-}
-
-/* Each argument of a node that is wrong, alone: a leaf and a root are then zero. */
-static void refused_nodes(void) {
-    static const struct {
-        size_t outlen, salted, named;
-        const void *salt, *personal;
-        uint32_t leaf;
-    } rows[] = {{64, 17, 0, message, NULL, 1}, {64, 1, 0, NULL, NULL, 1}, {64, 0, 17, NULL, message, 1},
-                {64, 0, 1, NULL, NULL, 1},     {64, 0, 0, NULL, NULL, 0}, {0, 0, 0, NULL, NULL, 1},
-                {65, 0, 0, NULL, NULL, 1}};
-    static const vulfsjor_blake2b_state zero;
-    vulfsjor_blake2b_state node;
-
-    for (size_t i = 0; i < COUNT_OF(rows); i++) {
-        memset(&node, 0xaa, sizeof node);
-        CHECK(vulfsjor_tree_init_root(&node, rows[i].outlen, rows[i].salt, rows[i].salted, rows[i].personal,
-                                      rows[i].named, rows[i].leaf) == -1 && SAME(node, zero));
-        memset(&node, 0xaa, sizeof node);
-        CHECK(i > 4 || (vulfsjor_tree_init_leaf(&node, 0, 0, rows[i].salt, rows[i].salted, rows[i].personal,
-                                                rows[i].named, rows[i].leaf) == -1 && SAME(node, zero)));
-    }
-    CHECK(vulfsjor_tree_init_leaf(NULL, 0, 0, 0, 0, 0, 0, 1) == -1);
-    CHECK(vulfsjor_tree_init_root(NULL, 64, 0, 0, 0, 0, 1) == -1);
 }
 
 /* ---- plans */
@@ -115,59 +57,45 @@ static int is_as_said(const vulfsjor_plan *p) {
            (!all || p->rest_length) && p->end < top && p->rest_length < top - p->end;
 }
 
-/* Hashes the parts of a plan, those at odd places first. The message begins at byte 3. */
-static void hash_by_plan(const vulfsjor_limits *limits) {
-    uint64_t asked = length / limits->least_bytes, count = vulfsjor_tree_leaf_count(length, size);
-    uint8_t root[MAX], wanted[MAX];
-    size_t outlen = 1 + random_below(MAX);
-    vulfsjor_plan plan;
+/* The parts of a plan are next to each other, from leaf 0 on, and so are their digests; the last ends the message if
+ * the plan does. */
+static void check_parts(const vulfsjor_plan *plan) {
+    uint64_t at = plan->start, digests = 0;
     vulfsjor_part part;
 
-    if (!asked) asked = 1;
-    if (asked > limits->threads) asked = limits->threads;
-    CHECK(!vulfsjor_tree_plan(&plan, 3, length, size, limits) && is_as_said(&plan));
-    CHECK(plan.digests_length == 64 * count && (plan.part_length <= limits->most_bytes || plan.part_length == size));
-    CHECK(plan.part_length % (4 * size) == 0 || 4 * size > limits->most_bytes || count < 4 * asked);
-    for (int even = 0; even < 2; even++)
-        for (uint64_t i = !even; i < plan.part_count; i += 2) {
-            CHECK(!vulfsjor_tree_part(&part, &plan, i));
-            CHECK(!vulfsjor_tree_leaves(digests + part.digests_start, part.digests_length, part.first, part.ends != 0,
-                                        message + (part.start - 3), part.length, "na", 2, "pers", 4, size));
-        }
-    CHECK(!vulfsjor_tree_root_of_leaves(root, outlen, digests, 64 * count, "na", 2, "pers", 4, size));
-    CHECK(!vulfsjor_tree_root(wanted, outlen, message, length, "na", 2, "pers", 4, size));
-    CHECK(!memcmp(root, wanted, outlen));
-}
-
-/* Absorbs the message in two pieces, the second by a plan. */
-static void update_by_plan(const vulfsjor_limits *limits) {
-    const size_t first = random_below(length + 1);
-    vulfsjor_tree_state state = tree_with(size, first);
-    uint8_t root[MAX], wanted[MAX];
-    vulfsjor_plan plan;
-    vulfsjor_part part;
-
-    CHECK(!vulfsjor_tree_plan_update(&plan, &state, length - first, limits) && is_as_said(&plan));
-    CHECK(!vulfsjor_tree_update(&state, message + first, plan.start));
-    for (uint64_t i = 0; i < plan.part_count; i++) {
-        CHECK(!vulfsjor_tree_part(&part, &plan, i));
-        CHECK(!vulfsjor_tree_leaves_ahead(&state, digests + part.digests_start, part.digests_length, part.first,
-                                          message + first + part.start, part.length));
+    CHECK(is_as_said(plan));
+    for (uint64_t i = 0; i < plan->part_count; i++) {
+        const int is_last = i + 1 == plan->part_count;
+        CHECK(!vulfsjor_tree_part(&part, plan, i));
+        CHECK(part.start == at && part.digests_start == digests && part.first == digests / 64);
+        CHECK(part.digests_length == 64 * vulfsjor_tree_leaf_count(part.length, (uint32_t)plan->leaf_length));
+        CHECK(part.ends == (is_last && plan->ends) && (is_last || part.length == plan->part_length));
+        at += part.length, digests += part.digests_length;
     }
-    CHECK(!vulfsjor_tree_update_leaves(&state, digests, plan.digests_length, message + first + plan.end,
-                                       plan.rest_length));
-    CHECK(vulfsjor_tree_count(&state) == length && !vulfsjor_tree_final(&state, root, 64));
-    CHECK(!vulfsjor_tree_root(wanted, 64, message, length, "na", 2, "pers", 4, size) && SAME(root, wanted));
+    CHECK(at == plan->end && digests == plan->digests_length);
 }
 
-static void random_messages(int turns) {
+/* Plans of random messages that begin at byte 3, and of updates of a state that has absorbed some bytes. */
+static void random_plans(int turns) {
     for (int turn = 0; turn < turns; turn++) {
-        size = (uint32_t)(1 + random_below(turn % 5 ? 300 : 5));
-        length = random_below(turn % 7 ? MOST_BYTES / 2 : 20);
-        for (size_t i = 0; i < length; i++) message[i] = (uint8_t)random_below(256);
-        vulfsjor_limits limits = {1 + random_below(9), 1 + random_below(99), random_below(999), random_below(2000)};
-        hash_by_plan(&limits);
-        update_by_plan(&limits);
+        const uint32_t size = (uint32_t)(1 + random_below(turn % 5 ? 300 : 5));
+        const uint64_t length = random_below(turn % 7 ? 1500 : 20), count = vulfsjor_tree_leaf_count(length, size);
+        const vulfsjor_limits limits = {1 + random_below(9), 1 + random_below(99), random_below(999),
+                                        random_below(2000)};
+        const size_t first = random_below(300), left = (size - first % size) % size;
+        vulfsjor_tree_state state = tree_with(size, first);
+        uint64_t asked = length / limits.least_bytes;
+        vulfsjor_plan plan;
+
+        if (!asked) asked = 1;
+        if (asked > limits.threads) asked = limits.threads;
+        CHECK(!vulfsjor_tree_plan(&plan, 3, length, size, &limits) && plan.start == 3 && plan.end == 3 + length);
+        CHECK(plan.digests_length == 64 * count && (plan.part_length <= limits.most_bytes || plan.part_length == size));
+        CHECK(plan.part_length % (4 * size) == 0 || 4 * size > limits.most_bytes || count < 4 * asked);
+        check_parts(&plan);
+        CHECK(!vulfsjor_tree_plan_update(&plan, &state, length, &limits) && plan.end + plan.rest_length == length);
+        CHECK(!plan.part_count || (plan.start == left && !plan.ends));
+        check_parts(&plan);
     }
 }
 
@@ -255,11 +183,9 @@ static void parts_in_fours(void) {
 int main(int count, char **words) {
     for (size_t i = 0; i < sizeof message; i++) message[i] = (uint8_t)(i % 251);
     leaf_counts();
-    check_nodes();
-    refused_nodes();
     refused_plans();
     changed_plans();
     parts_in_fours();
-    random_messages(count > 1 ? atoi(words[1]) : 20000);
+    random_plans(count > 1 ? atoi(words[1]) : 20000);
     return fails ? 1 : 0;
 }
