@@ -51,18 +51,12 @@ static_assert(is_value<blake2b> && is_value<blake2s>);
 static_assert(blake2b::block_length == 128 && blake2s::block_length == 64);
 static_assert(blake2b::max_digest_length == 64 && blake2s::max_digest_length == 32);
 
+/* What is no bytes; wrong_lines.cpp has others. */
 template <class T> constexpr bool is_bytes = std::is_convertible_v<T, bytes>;
-static_assert(!is_bytes<const char *> && is_bytes<const char (&)[4]> && is_bytes<std::string> &&
-              is_bytes<std::string_view> && is_bytes<unsigned char (&)[4]> &&
-              is_bytes<std::vector<char>> && is_bytes<const std::array<std::byte, 4> &>);
-static_assert(!is_bytes<char *> && is_bytes<std::array<char, 4> &> && !is_bytes<char (&)[4]> &&
-              !is_bytes<char (&&)[4]> && !is_bytes<const char (&&)[4]>);
+static_assert(!is_bytes<std::u16string> && !is_bytes<int (&)[4]> && !is_bytes<const void *> &&
+              !is_bytes<std::array<bool, 4>> && !is_bytes<std::vector<signed char>>);
 static_assert(std::is_aggregate_v<parameters> && std::is_nothrow_default_constructible_v<parameters> &&
               std::is_nothrow_copy_constructible_v<parameters> && !std::is_trivially_destructible_v<parameters>);
-static_assert(!is_bytes<std::nullptr_t> && !is_bytes<int> && !is_bytes<unsigned char *> &&
-              !is_bytes<std::vector<int>> && !is_bytes<std::u16string> &&
-              !is_bytes<int (&)[4]> && !is_bytes<std::vector<bool>> && !is_bytes<const void *> &&
-              !is_bytes<std::array<bool, 4>> && !is_bytes<std::vector<signed char>>);
 #ifdef __cpp_lib_span
 static_assert(is_bytes<std::span<const std::byte>> && is_bytes<std::span<unsigned char, 4>> &&
               !is_bytes<std::span<const int>>);
@@ -183,13 +177,8 @@ template <class H> void refuse(const parameters &given, const std::string &text)
 #endif
 }
 
-/* Lengths that 32 bits would take for others, keys of no bytes, and tree parameters that a hash has not. */
+/* Keys of no bytes, texts that are null or that no memory has, and tree parameters that a hash has not. */
 template <class H> void refusals() {
-    for (std::size_t length : {std::size_t(256 + 20), (std::size_t(1) << 32) + 20, ~std::size_t(0)}) {
-        parameters given;
-        given.digest_length = length;
-        refuse<H>(given, "outlen is out of range");
-    }
     for (bytes wrong : {bytes(), bytes(""), bytes(nullptr, 1), bytes(keys.data(), ~std::size_t(0))}) {
         parameters given, salted, personal;
         given.key = wrong;
@@ -200,50 +189,20 @@ template <class H> void refusals() {
     }
     parameters given;
     given.tree = vulfsjor_tree{0, 0, 1, 1, 0, 0}; /* no tree */
-    if constexpr (std::is_same_v<H, blake2b> || std::is_same_v<H, blake2s>) {
+    if constexpr (std::is_same_v<H, blake2b> || std::is_same_v<H, blake2s>)
         CHECK(H::create(given)->digest() == H().digest());
-        H last;
-        last.set_last_node(true);
-        CHECK(last.update("abc"));
-        const auto digest = last.digest();
-        last.reset(); /* which keeps it */
-        CHECK(last.update("abc") && last.digest() == digest);
-    } else refuse<H>(given, "this hash has no tree parameters");
-#ifdef __cpp_exceptions
-    try {
-        static_cast<void>(H::hash(bytes(nullptr, 1)));
-        CHECK(false);
-    } catch (const std::invalid_argument &error) {
-        CHECK(error.what() == std::string("vulfsjor: in is out of range"));
-    }
-#endif
-}
-
-/* Calls that fail, and change nothing. */
-template <class H> void failures() {
-    parameters keyed;
-    keyed.key = "key";
-    H hasher = *H::create(keyed);
-    CHECK(hasher.update("abc"));
-    const std::vector<std::uint8_t> wanted = hasher.digest();
-    CHECK(!hasher.update(nullptr, 1) && !hasher.update(wanted.data(), ~std::size_t(0) - 2) && hasher.count() == 3);
-    CHECK(!hasher.template digest<H::max_digest_length - 1>() && !hasher.template digest<H::max_digest_length + 1>());
-    const auto array = hasher.template digest<H::max_digest_length>();
-    CHECK(array && std::vector<std::uint8_t>(array->begin(), array->end()) == wanted);
-    CHECK(hasher.verify(wanted) && !hasher.verify(bytes()) && !hasher.verify("") && hasher.digest() == wanted);
-    CHECK(!hasher.verify(bytes(nullptr, H::max_digest_length)));
+    else refuse<H>(given, "this hash has no tree parameters");
+    H hasher;
+    CHECK(hasher.update("abc") && !hasher.update(keys.data(), ~std::size_t(0) - 2) && hasher.count() == 3);
 }
 
 /* A digest without a key is no tag: anybody can make it. */
 template <class H> void no_tags() {
-    H plain;
-    CHECK(plain.update("abc"));
     parameters given;
     given.personal = "a purpose";
     given.digest_length = 16;
-    for (const H &each : {plain, *H::create(given)}) {
+    for (const H &each : {H(), *H::create(given)}) {
         const auto digest = each.digest();
-        CHECK(!vulfsjor_memcmp(digest.data(), each.digest().data(), digest.size()));
 #ifdef __cpp_exceptions
         try {
             CHECK(!each.verify(digest) && false);
@@ -269,7 +228,6 @@ template <class H> void values() {
     const auto ab = copy.digest();
     H &self = copy;
     copy = self;
-    CHECK(copy.digest() == ab);
     copy = std::move(self);
     CHECK(copy.digest() == ab && copy.update("c") && copy.digest() != ab);
     second = moved;
@@ -291,27 +249,14 @@ template <class H> void wiped() {
     for (std::size_t i = 0; i < sizeof memory; i++) CHECK(left[i] == 0);
 }
 
-/* A count beyond 2^32, by a state whose counter is set. */
-template <class H, class S> void set_counter(H &hasher, S state, std::uint64_t counter) {
-    static_assert(sizeof(H) == sizeof(S) && std::is_standard_layout_v<H>);
-    unsigned char number[8]; /* which is little-endian in a state */
-    for (int i = 0; i < 8; i++) number[i] = static_cast<unsigned char>(counter >> 8 * i);
-    std::memcpy(&state, static_cast<const void *>(&hasher), sizeof state);
-    if constexpr (std::is_same_v<S, vulfsjor_blake2b_state> || std::is_same_v<S, vulfsjor_blake2s_state>)
-        std::memcpy(&state.counter, number, 8);
-    else std::memcpy(&state.lanes.counter, number, 8);
-    std::memcpy(static_cast<void *>(&hasher), &state, sizeof state);
-}
-
-template <class H> void counts() {
+/* A count beyond 2^32, by a state whose counter is set: that of so many leaves, at this place. */
+template <class H> void counts(std::size_t place, std::uint64_t leaves) {
     const std::uint64_t huge = (std::uint64_t(1) << 40) + 8 * H::block_length;
     H hasher;
     CHECK(hasher.update(bytes(keys.data(), 3)));
-    if constexpr (std::is_same_v<H, blake2b>) set_counter(hasher, vulfsjor_blake2b_state(), huge);
-    else if constexpr (std::is_same_v<H, blake2s>) set_counter(hasher, vulfsjor_blake2s_state(), huge);
-    else if constexpr (std::is_same_v<H, vulfsjor::blake2bp>)
-        set_counter(hasher, vulfsjor_blake2bp_state(), huge / 4);
-    else set_counter(hasher, vulfsjor_blake2sp_state(), huge / 8);
+    static_assert(std::is_standard_layout_v<H>);
+    for (unsigned i = 0; i < 8; i++) /* it is little-endian in a state */
+        reinterpret_cast<unsigned char *>(&hasher)[place + i] = static_cast<unsigned char>(huge / leaves >> 8 * i);
     CHECK(hasher.count() == huge + 3);
 }
 
@@ -373,9 +318,7 @@ template <class H> void family() {
     inputs<H>();
     copied_parameters<H>();
     refusals<H>();
-    failures<H>();
     no_tags<H>();
-    counts<H>();
     call_leaves_nothing<H>();
     values<H>();
     wiped<H>();
@@ -412,6 +355,10 @@ int main() {
     family<blake2s>();
     family<vulfsjor::blake2bp>();
     family<vulfsjor::blake2sp>();
+    counts<blake2b>(offsetof(vulfsjor_blake2b_state, counter), 1);
+    counts<blake2s>(offsetof(vulfsjor_blake2s_state, counter), 1);
+    counts<vulfsjor::blake2bp>(offsetof(vulfsjor_blake2bp_state, lanes.counter), 4);
+    counts<vulfsjor::blake2sp>(offsetof(vulfsjor_blake2sp_state, lanes.counter), 8);
     wiped_parameters();
     return fails ? 1 : 0;
 }

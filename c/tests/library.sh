@@ -10,13 +10,6 @@ run_hash() {
         LD_LIBRARY_PATH=$prefix/lib "$work/$name" "$conforming/$hash.txt"
 }
 
-# The header alone, in each language that it is for.
-headers_compile() {
-    printf '#include "%s"\nint main(void) { return 0; }\n' "$1" >"$work/header.c"
-    cc -std=c99 "${warnings[@]}" -I"$include" -I"$libb2" -c "$work/header.c" -o /dev/null &&
-        cc -std=gnu17 "${warnings[@]}" -I"$include" -I"$libb2" -c "$work/header.c" -o /dev/null
-}
-
 # In C++ by each compiler that is there, without casts and null pointers as only C has them.
 header_compiles_as_cpp() {
     local compiler
@@ -43,26 +36,6 @@ headers_warn_of_nothing() {
     done
     gcc -std=c99 "${warnings[@]}" -Wconversion -Wshadow -Wcast-qual -Wundef -Wswitch-enum -Wswitch-default \
         -I"$include" -I"$libb2" -fsyntax-only "$work/all.c"
-}
-
-# A program that ignores a status has a warning, except for the inits, which make later calls fail
-# too, reset and set_last_node.
-ignored_statuses_warn() {
-    python3 - "$include" >"$work/ignored.c" <<'END' &&
-import re, sys
-names = ("vulfsjor.h", "vulfsjor_threads.h")
-print(*(f"#include <{name}>" for name in names), "void ignore(void) {", sep="\n")
-for name, words in re.findall(r"\bint\s+(vulfsjor_\w+)\(([^)]*)\)",
-                              "".join(open(f"{sys.argv[1]}/{name}").read() for name in names)):
-    print(name + "(" + ", ".join("0" for word in words.split(",")) + ");")
-print("}")
-END
-        cc -I"$include" -c "$work/ignored.c" -o "$work/ignored.o" 2>"$work/ignored.log" &&
-        grep -o "[a-z0-9_]*.* declared with attribute .\?warn_unused_result" "$work/ignored.log" |
-        grep -o 'vulfsjor_[a-z0-9_]*' |
-        diff <(sed -nE '/_(init|reset|set_last_node)/!s/^(vulfsjor_.*)\(.*/\1/p' \
-            "$work/ignored.c") - &&
-        [ "$(grep -c '^vulfsjor' "$work/ignored.c")" -gt 30 ]
 }
 
 # edge_cases.c of the family, compiled with these words.
@@ -221,7 +194,6 @@ test_examples() {
 
 test_languages() {
     local header hash
-    for header in vulfsjor.h blake2.h; do check "$header in C" headers_compile $header; done
     needs c++
     for header in vulfsjor.h vulfsjor_threads.h blake2.h; do
         check "$header in C++" header_compiles_as_cpp $header
@@ -234,7 +206,7 @@ test_languages() {
     check "the headers under all warnings of clang" headers_warn_of_nothing
     needs gcc python3
     [ "$(gcc -dumpversion 2>/dev/null | cut -d. -f1)" -ge 11 ] 2>/dev/null || missing=${missing:-"gcc 11"}
-    check "memory that is shorter than its length" python3 "$tests/short_memory.py" gcc "$include"
+    check "warnings of short memory and of ignored statuses" python3 "$tests/warned_calls.py" gcc "$include"
     needs c++ python3
     # Each standard with exceptions and without, and each compiler with all of these.
     check "hasher.cpp in C++17" hasher_of_cpp c++ c++17 $quick
@@ -264,7 +236,6 @@ test_languages() {
     [ -n "${VULFSJOR_TEST_HUGE-}" ] || skip "huge.c, every call" "VULFSJOR_TEST_HUGE is not set"
     if has python3; then
         for hash in "${hashes[@]}"; do test_hash $hash; done
-        check "a status that is ignored" ignored_statuses_warn
         test_examples
     else
         skip "the test vectors and the examples" "no python3"
