@@ -115,27 +115,20 @@ static void check_without_state(void) {
     CHECK(X(_update)(&S, message, 1) == ROW(0, -1));
 }
 
-/* A state in pieces, which may be copied between two of them, and no digest of another length. */
+/* A digest in two pieces, and none of another length; the conformance cases have more pieces, and copies. */
 static void check_in_pieces(void) {
-    for (size_t i = 0; i < 60; i++) {
-        const size_t size = 1 + i % LONGEST, keys = i % 3 ? i % LONGEST : 0, length = random_below(sizeof message);
+    for (size_t size = 1; size <= LONGEST; size++) {
+        const size_t keys = size % 3 ? size : 0, length = 61 * size, first = random_below(length);
         uint8_t wanted[LONGEST];
-        X(_state) *S = malloc(sizeof *S), copy;
-        memset(S, 0x5a, sizeof *S);
-        CHECK((keys ? X(_init_key)(S, size, message + 7, keys) : X(_init)(S, size)) == 0 && S->outlen == size);
-        for (size_t at = 0, n; at < length; at += n) {
-            n = 1 + random_below(random_below(2) ? 20 : 1500);
-            if (n > length - at) n = length - at;
-            CHECK(X(_update)(S, message + at, n) == 0 && X(_update)(S, null_bytes(), 0) == 0);
-            copy = *S;
-            memset(S, 0x5a, sizeof *S);
-            *S = copy;
-        }
+        X(_state) S;
+        memset(&S, 0x5a, sizeof S);
+        CHECK((keys ? X(_init_key)(&S, size, message + 7, keys) : X(_init)(&S, size)) == 0 && S.outlen == size);
+        CHECK(X(_update)(&S, message, first) == 0 && X(_update)(&S, null_bytes(), 0) == 0);
+        CHECK(X(_update)(&S, message + first, length - first) == 0);
         memset(out, 0xaa, sizeof out);
-        CHECK(X(_final)(S, out, size - 1) == -1 && X(_final)(S, out, size + 1) == -1 && out[0] == 0xaa);
+        CHECK(X(_final)(&S, out, size - 1) == -1 && X(_final)(&S, out, size + 1) == -1 && out[0] == 0xaa);
         CHECK(BLAKE2(wanted, message, keys ? message + 7 : NULL, size, length, keys) == 0);
-        CHECK(X(_final)(S, out, size) == 0 && !memcmp(out, wanted, size) && out[size] == 0xaa && IS_WIPED(*S));
-        free(S);
+        CHECK(X(_final)(&S, out, size) == 0 && !memcmp(out, wanted, size) && out[size] == 0xaa && IS_WIPED(S));
     }
 }
 

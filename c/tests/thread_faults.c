@@ -1,7 +1,7 @@
 /* The functions of vulfsjor_threads.h over a system that fails: memory that is refused, threads that do not start,
- * reads that are short, interrupted, or fail, files that grow or shrink meanwhile, and a library that refuses. After each
- * failure the answer, errno and the output are compared, nothing is left, neither memory nor a thread nor a descriptor,
- * and signals and cancellation are as before. Returns 0 if all is as it should be.
+ * reads that are short, interrupted, or fail, files that grow or shrink meanwhile, and a library that refuses. After
+ * each failure the answer, errno and the output are compared, no memory, thread or descriptor is left, and signals and
+ * cancellation are as before. Returns 0 if all is as it should be.
  *
  *   cc -std=gnu99 -DLEAST_BYTES=1 -I FOLDER/include thread_faults.c ARCHIVE -pthread -o thread_faults
  *   ./thread_faults FOLDER       makes its file in this folder
@@ -244,7 +244,6 @@ static void plan_fault(const char *call, int at, int error) {
     fault.error = error;
     fault.counted = 0;
     reads.calls = reads.resized = reads.ended = reads.waiting = 0;
-    started = 0;
 }
 
 /* Takes the file of this length, and the root that it has. */
@@ -356,7 +355,8 @@ static int call_cleanly(int (*call)(void)) {
     memcpy(root, blank, 64);
     pthread_sigmask(SIG_BLOCK, NULL, &before);
     pthread_setcancelstate(given, &now);
-    errno = reads.inherited = 0;
+    errno = reads.inherited = started = 0;
+    largest = 0;
     status = call();
     error = errno;
     pthread_setcancelstate(PTHREAD_CANCEL_DISABLE, &now);
@@ -561,52 +561,41 @@ static void progress_ends_calls(void) {
 
 /* ---- how many threads hash */
 
-static void expect_threads(int others) {
-    int (*const calls[])(void) = {by_bytes, by_file, by_update, by_rest};
+/* Each of these calls starts so many threads. */
+static void expect_threads(int others, int (*call)(void), int (*second)(void)) {
+    expect_errno(call, 0);
+    CHECK(started == others);
+    expect_errno(second, 0);
+    CHECK(started == others);
+}
 
-    for (size_t i = 0; i < COUNT_OF(calls); i++) {
-        started = 0;
-        expect_errno(calls[i], 0);
-        CHECK(started == others);
-    }
+static void expect_of_file(size_t n, uint32_t leaf_length, unsigned threads, int others) {
+    use_file(n, leaf_length, threads);
+    expect_threads(others, by_bytes, by_file);
+    if (EACH_BYTE) expect_threads(others, by_update, by_rest);
 }
 
 static void numbers_of_threads(void) {
+    static const int answers[][2] = {{3, 2}, {1, 0}, {0, 0}, {-1, 0}};
     cpu_set_t all, few;
 
-    use_file(FEW, 1, 300);
-    expect_threads(255);
-    use_file(FEW, 100, 5);
-    expect_threads(4);
+    expect_of_file(FEW, 1, 300, 255);
+    expect_of_file(FEW, 100, 5, 4);
+    expect_of_file(FEW, 100, 1, 0);
     use_file(FEW, FEW / 2, 5); /* two leaves */
-    expect_errno(by_bytes, 0);
-    CHECK(started == 1);
+    expect_threads(1, by_bytes, by_file);
     use_file(3001, 1000, 5); /* two leaves after one that is whole, and a byte */
-    expect_errno(by_update, 0);
-    CHECK(started == 1);
-    started = 0;
-    expect_errno(by_rest, 0);
-    CHECK(started == 1);
-    use_file(FEW, 100, 1);
-    expect_threads(0);
-    use_file(FEW, 100, 0);
+    expect_threads(1, by_update, by_rest);
     CHECK(!sched_getaffinity(0, sizeof all, &all));
-    expect_threads(CPU_COUNT(&all) - 1);
+    expect_of_file(FEW, 100, 0, CPU_COUNT(&all) - 1);
     CPU_ZERO(&few);
     CPU_SET(sched_getcpu(), &few);
     CHECK(!sched_setaffinity(0, sizeof few, &few));
-    expect_threads(0);
+    expect_of_file(FEW, 100, 0, 0);
     CHECK(!sched_setaffinity(0, sizeof all, &all));
-}
-
-/* Where the set of processors has no room for all of them. */
-static void more_processors_than_the_set_has(void) {
-    static const int answers[][2] = {{3, 2}, {1, 0}, {0, 0}, {-1, 0}};
-
-    use_file(FEW, 100, 0);
-    for (size_t i = 0; i < COUNT_OF(answers); i++) {
+    for (size_t i = 0; i < COUNT_OF(answers); i++) { /* the set of processors has no room for all of them */
         processors = answers[i][0];
-        expect_threads(answers[i][1]);
+        expect_of_file(FEW, 100, 0, answers[i][1]);
     }
     processors = INT_MIN;
 }
@@ -619,14 +608,7 @@ static void least_bytes(void) {
     } rows[] = {{(1 << 18) - 1, 0}, {1 << 18, 0},       {(1 << 19) - 1, 0},
                 {1 << 19, 1},       {(1 << 20) - 1, 2}, {1 << 20, 3}};
 
-    for (size_t i = 0; i < COUNT_OF(rows); i++) {
-        use_file(rows[i].length, 1000, 8);
-        expect_errno(by_bytes, 0);
-        CHECK(started == rows[i].others);
-        started = 0;
-        expect_errno(by_file, 0);
-        CHECK(started == rows[i].others);
-    }
+    for (size_t i = 0; i < COUNT_OF(rows); i++) expect_of_file(rows[i].length, 1000, 8, rows[i].others);
     use_file((1 << 18) - 1, 1000, 8);
     each_call_fails(by_file, "read", ENXIO, ENXIO);
     use_file(1 << 18, 1000, 8);
@@ -649,30 +631,26 @@ static void memory_is_as_said(void) {
                     {2 * MIB, 4096, 2 * 16385},     {BYTES, 65536, 40 * 1025}};
     static const size_t rows[][2] = {{65536, MIB},        {MIB / 4, MIB},        {MIB, 4 * MIB},
                                      {4 * MIB, 16 * MIB}, {4 * MIB + 1, 4 * MIB + 1},
-                                     {16 * MIB, 16 * MIB}, {16 * MIB + 1, MIB}};
+                                     {16 * MIB, 16 * MIB}, {16 * MIB + 1, MIB},    {BYTES, MIB},
+                                     {UINT32_MAX, MIB}};
 
     for (size_t i = 0; i < COUNT_OF(messages); i++) {
         use_file(messages[i].length, (uint32_t)messages[i].leaf, 2);
         plan_fault("malloc", 0, 0);
-        largest = 0;
         expect_errno(by_bytes, 0);
         CHECK(largest == messages[i].digests && fault.counted == 1);
     }
     use_file(FEW * 6, 100, 2);
-    largest = 0;
     expect_errno(by_update, 0);
     CHECK(largest == 64 * ((FEW * 6 - 1000) / 100 - 1)); /* all but the last leaf */
     for (size_t i = 0; i < COUNT_OF(rows); i++) {
         use_file(BYTES, (uint32_t)rows[i][0], 2);
-        largest = 0;
         expect_errno(by_file, 0);
         CHECK(largest == rows[i][1]);
-        largest = 0;
         expect_errno(by_all, 0);
         CHECK(largest == rows[i][1]);
     }
     use_file(BYTES, 100, 2);
-    largest = 0;
     expect_errno(by_all, 0);
     CHECK(largest > 15 * MIB && largest <= 16 * MIB);
 }
@@ -732,7 +710,6 @@ int main(int count, char **words) {
         RUN(files_change());
         RUN(progress_ends_calls());
         RUN(numbers_of_threads());
-        RUN(more_processors_than_the_set_has());
     } else {
         RUN(least_bytes());
         RUN(memory_is_as_said());

@@ -5,7 +5,7 @@
  *
  *   cc -std=gnu99 -I FOLDER/include threads.c ARCHIVE-threads.a ARCHIVE.a -pthread -o threads
  *   ./threads FOLDER [TURNS]     makes its files in this folder; TURNS (400) are random messages.
- *                                With fewer than 60, fewer long leaves and updates are tried too
+ *                                With fewer than 60, fewer updates are tried too
  *
  * It is also run over threads.c compiled with -DLEAST_BYTES=1, so few bytes have many threads. */
 #define _GNU_SOURCE
@@ -96,37 +96,15 @@ static void random_roots(int turns) {
             compare_roots(length, 1 + random_below(64), leaf, threads);
             compare_rest(length, random_below(3) ? random_below(length + 1) : 0, leaf, threads);
         }
+        compare_roots(length, 64, leaf, UINT_MAX - (unsigned)turn);
     }
 }
 
-/* Lengths about those at which the cut changes, and numbers of threads at their limits. */
-static void roots_at_edges(void) {
-    static const size_t lengths[] = {0, 1, (1 << 18) - 1, 1 << 18, (1 << 18) + 1, (1 << 19) - 1,
-                                     1 << 19, (1 << 20) - 1, 1 << 20, (1 << 20) + 1, 5 << 20};
-    static const uint32_t leaves[] = {1 << 14, 1 << 16,       (1 << 18) - 1,
-                                      1 << 18, (1 << 18) + 1, 1 << 20};
-    static const unsigned threads[] = {1, 2, 3, 4, 257, UINT_MAX};
-
-    for (size_t i = 0; i < COUNT_OF(lengths); i++) {
-        write_file(lengths[i]);
-        for (size_t k = 0; k < COUNT_OF(leaves); k++)
-            compare_roots(lengths[i], 64, leaves[k], threads[(i + k) % 6]);
-        compare_rest(lengths[i], i % 3 ? lengths[i] / 3 : lengths[i], 1 << 16, threads[i % 6]);
-    }
-}
-
-/* Leaves of which a buffer has just room for four or for one, or no room: each of this many. */
-static void roots_of_long_leaves(size_t step) {
-    static const uint32_t leaves[] = {4 << 20, (4 << 20) + 1, 16 << 20, (16 << 20) + 1,
-                                      17 << 20,      BYTES,    UINT32_MAX};
-
+/* Leaves for which a buffer has no room; thread_faults.c has other lengths. */
+static void roots_of_long_leaves(void) {
     write_file(BYTES);
-    for (size_t i = 0; i < COUNT_OF(leaves); i += step) {
-        compare_roots(BYTES, 64, leaves[i], 3);
-        compare_rest(BYTES, i % 2 ? 777 : leaves[i] % BYTES, leaves[i], 3);
-    }
-    compare_roots(BYTES, 64, 17 << 20, 1);
-    compare_rest(BYTES, 0, 100, 3); /* more digests than are kept at a time */
+    compare_roots(BYTES, 64, 17 << 20, 3);
+    compare_rest(BYTES, 777, 17 << 20, 3);
 }
 
 /* ---- updates */
@@ -297,14 +275,17 @@ static void refused_arguments(void) {
                 {64, 1, 0, NULL, NULL, 4}, {64, 0, 17, NULL, blank, 4}, {64, 0, 1, NULL, NULL, 4},
                 {64, 0, 0, NULL, NULL, 0}};
     static const size_t lengths[] = {(size_t)1 << 58, ((size_t)1 << 58) - 6, SIZE_MAX, SIZE_MAX - 5};
-    int ends[2];
+    int ends[2], file;
 
     memset(&state, 0, sizeof state);
+    write_file(1 << 20);
+    CHECK((file = open(path, O_RDONLY)) >= 0);
     CHECK(!pipe(ends) && write(ends[1], "a", 1) == 1 && !close(ends[1]));
     for (size_t i = 0; i < COUNT_OF(rows); i++) {
 #define ROW rows[i].salt, rows[i].saltlen, rows[i].personal, rows[i].personallen, rows[i].leaf, 2
         REFUSED(EINVAL, vulfsjor_tree_root_threads(root, rows[i].outlen, message, 5, ROW));
         REFUSED(EINVAL, vulfsjor_tree_root_fd(root, rows[i].outlen, ends[0], ROW));
+        REFUSED(EINVAL, vulfsjor_tree_root_fd(root, rows[i].outlen, file, ROW));
         REFUSED(EINVAL, vulfsjor_tree_root_file(root, rows[i].outlen, other, ROW));
     }
     REFUSED(EINVAL, vulfsjor_tree_root_threads(NULL, 64, message, 5, 0, 0, 0, 0, 4, 2));
@@ -326,7 +307,7 @@ static void refused_arguments(void) {
     CHECK(!vulfsjor_tree_update_threads(&state, NULL, 0, 0) && vulfsjor_tree_count(&state) == 6);
     for (int more = 1; more >= 0; more--) /* a byte, and nothing */
         CHECK(!vulfsjor_tree_update_fd(&state, ends[0], 2, NULL, NULL) && vulfsjor_tree_count(&state) == 7);
-    close(ends[0]);
+    CHECK(!lseek(file, 0, SEEK_CUR) && !close(file) && !close(ends[0]));
 }
 
 /* Refuses the descriptor with this error, and closes it. */
@@ -406,8 +387,7 @@ int main(int count, char **words) {
     files = entry_count("/proc/self/fd");
     threads = entry_count("/proc/self/task"); /* a sanitizer has one more, from the first thread on */
     RUN(random_roots(turns));
-    RUN(roots_at_edges());
-    RUN(roots_of_long_leaves(turns < 60 ? 2 : 1));
+    RUN(roots_of_long_leaves());
     RUN(check_updates(turns < 60 ? 20 : 200));
     RUN(check_streams());
     RUN(descriptor_zero());
