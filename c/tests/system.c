@@ -240,13 +240,6 @@ static void try_affinity(void) {
     CHECK(SetProcessAffinityMask(GetCurrentProcess(), own & -own) && processor_count() == 1);
     CHECK(SetProcessAffinityMask(GetCurrentProcess(), own));
 }
-#else
-static void try_paths(void) {}
-static void try_sharing(void) {}
-static void try_far(void) {}
-static void try_affinity(void) {}
-static void try_text_mode(void) {}
-static void try_handles(void) {}
 #endif
 
 /* Threads that wait until all run at the same time. */
@@ -269,16 +262,12 @@ static void try_start(unsigned wanted_processors) {
 
 int main(int count, char **words) {
     static const unsigned threads[] = {0, 1, 2, 7};
-    uint64_t word = 88172645463325252u;
     int file;
 
 #ifdef _WIN32
     if (count == 3) return is_passed(atoi(words[2])) ? IS_PASSED : 0;
 #endif
-    for (int i = 0; i < BYTES; i++) {
-        word ^= word << 13, word ^= word >> 7, word ^= word << 17;
-        message[i] = (unsigned char)(i % 7 ? word : '\n');
-    }
+    for (int i = 0; i < BYTES; i++) message[i] = (unsigned char)(i % 7 ? random_below(256) : '\n');
 #ifdef _WIN32
     file = _wopen(L"caf\u00e9 \U0001f600", _O_WRONLY | _O_CREAT | _O_TRUNC | _O_BINARY, 0600);
 #else
@@ -290,12 +279,14 @@ int main(int count, char **words) {
                               LEAF));
     for (size_t i = 0; i < sizeof threads / sizeof *threads; i++) try_threads(threads[i]);
     try_errors();
+#ifdef _WIN32
     try_paths();
     try_sharing();
     try_far();
     try_affinity();
     try_text_mode();
     try_handles();
+#endif
     try_start(count == 2 ? (unsigned)atoi(words[1]) : 0);
     return fails != 0;
 }

@@ -3,7 +3,6 @@
  * status 1 and a line that names it. */
 #include "check.h"
 
-#include <dirent.h>
 #include <errno.h>
 #include <fcntl.h>
 #include <limits.h>
@@ -44,16 +43,6 @@ static void write_file(size_t length) {
     int file = open(path, O_WRONLY | O_CREAT | O_TRUNC, 0600);
 
     if (file < 0 || write(file, message, length) != (ssize_t)length || close(file)) exit(3);
-}
-
-/* How many entries a folder has; . and .. among them. */
-static int entry_count(const char *folder) {
-    DIR *all = opendir(folder);
-    int count = 0;
-
-    while (all && readdir(all)) count++;
-    if (all) closedir(all);
-    return count;
 }
 
 /* The message, of so many bytes, in the folder that is named. */
