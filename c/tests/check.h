@@ -2,6 +2,7 @@
 #include <stddef.h>
 #include <stdint.h>
 #include <stdio.h>
+#include <string.h>
 
 /* Tests pass null pointers and lengths of which the compiler knows that they are wrong. */
 #if defined(__GNUC__) && !defined(__clang__)
@@ -40,6 +41,17 @@ static int checks, fails;
 #define IN_STATE(x) __builtin_bswap64((uint64_t)(x))
 #else
 #define IN_STATE(x) ((uint64_t)(x))
+#endif
+
+#define COUNT_OF(list) (sizeof(list) / sizeof *(list))
+#define SAME(a, b) (!memcmp(&(a), &(b), sizeof(a)))
+
+#ifndef __cplusplus
+static inline int is_zero(const void *memory, size_t length) {
+    for (const uint8_t *bytes = memory; length; length--)
+        if (*bytes++) return 0;
+    return 1;
+}
 #endif
 
 /* A number below n, of a sequence that is always the same. */

@@ -9,12 +9,6 @@
 
 static uint8_t bytes[4 * BLOCK], key[MAX + 2];
 
-static int is_zero(const void *memory, size_t length) {
-    for (size_t i = 0; i < length; i++)
-        if (((const uint8_t *)memory)[i]) return 0;
-    return 1;
-}
-
 /* Whether all bytes from `from` on are as `fill_with_marks` left them. */
 static int is_untouched(const uint8_t *out, size_t from, size_t room) {
     for (size_t i = from; i < room; i++)
@@ -24,7 +18,6 @@ static int is_untouched(const uint8_t *out, size_t from, size_t room) {
 
 static uint8_t *fill_with_marks(void *out, size_t room) { return memset(out, 0xaa, room); }
 
-#define SAME(a, b) (!memcmp(&(a), &(b), sizeof(a)))
 #define REFUSED(call)                                                   \
     do {                                                                \
         memset(&state, 0x5a, sizeof state);                             \

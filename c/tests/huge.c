@@ -37,7 +37,6 @@
 
 #ifndef TEST_S
 #include <vulfsjor_threads.h>
-#include <pthread.h>
 #endif
 
 #define LEAF ((size_t)1 << 22)
@@ -230,28 +229,6 @@ static void check_files(int huge) {
     if (huge) CHECK(!vulfsjor_tree_root_file(out, 64, path, NO_TEXTS, 0) && has_digits(out, ROOT));
     close(file);
 }
-
-static void *write_message(void *given) {
-    int to = *(int *)given;
-
-    for (size_t at = 0; at < LENGTH;) {
-        ssize_t n = write(to, message + at, LENGTH - at);
-        if (n <= 0) break;
-        at += (size_t)n;
-    }
-    close(to);
-    return NULL;
-}
-
-static void check_stream(void) {
-    int ends[2];
-    pthread_t writer;
-
-    CHECK(!pipe(ends) && !pthread_create(&writer, NULL, write_message, &ends[1]));
-    CHECK(!vulfsjor_tree_root_fd(out, 64, ends[0], NO_TEXTS, 0) && has_digits(out, ROOT));
-    CHECK(!pthread_join(writer, NULL));
-    close(ends[0]);
-}
 #endif
 
 int main(void) {
@@ -270,7 +247,6 @@ int main(void) {
 #ifndef TEST_S
         check_tree();
         check_digests();
-        check_stream();
 #endif
     }
     fprintf(stderr, "%d checks, %d failures\n", checks, fails);

@@ -53,13 +53,7 @@ static int child_status(void) {
 
 static uint8_t *null_bytes(void) { return NULL; }
 static X(_state) *null_state(void) { return NULL; }
-static int is_zero(const void *bytes, size_t length) {
-    for (size_t i = 0; i < length; i++)
-        if (((const uint8_t *)bytes)[i]) return 0;
-    return 1;
-}
 #define IS_WIPED(S) ROW(!is_zero(&S, sizeof S), is_zero(&S, sizeof S))
-#define SAME(a, b) (!memcmp(&(a), &(b), sizeof(a)))
 
 static uint8_t out[256], message[4000];
 

@@ -7,8 +7,6 @@
 #include "check.h"
 #include "conformance.h"
 
-#define SAME(a, b) (!memcmp(&(a), &(b), sizeof(a)))
-
 static uint8_t bytes[2048];
 
 /* The calls refuse a state, and it stays as it is. */

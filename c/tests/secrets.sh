@@ -9,7 +9,7 @@ hasher_runs() {
 }
 
 # What memcheck has to report, so that a silent run means something.
-reports_leak() { valgrind -q "$work/secrets" "$1"; }
+reports_leaks() { valgrind -q "$work/secrets" leaks; }
 
 # Over each build that memcheck runs, or without VULFSJOR_TEST_HUGE over the newest, or over the library where it is for
 # one processor.
@@ -37,8 +37,7 @@ and ${counts[6]} of trees." <(tr '\n' ' ' <"$top/docs/WIPING.md")
                 "${library[@]}"
         done
     done
-    check "memcheck reports a branch by a key" reports_leak branch
-    check "memcheck reports an address by a key" reports_leak address
+    check "memcheck reports a branch and an address by a key" reports_leaks
     needs c++
     check "no branch by a byte of a tag in hasher.cpp" hasher_runs "${library[@]}"
 }

@@ -14,8 +14,6 @@
 #include <sys/stat.h>
 #include <unistd.h>
 
-#define COUNT_OF(list) (sizeof(list) / sizeof *(list))
-
 static const char *limited = "";
 
 static void end_hanging_test(int number) {

@@ -8,8 +8,6 @@
 
 #include <stdlib.h>
 
-#define COUNT_OF(list) (sizeof(list) / sizeof *(list))
-#define SAME(a, b) (!memcmp(&(a), &(b), sizeof(a)))
 static const uint64_t top = (uint64_t)1 << 58; /* the end of the longest message */
 
 static uint8_t message[1000];
