@@ -5,7 +5,7 @@
  *
  *   cc -std=gnu99 -I FOLDER/include huge.c ARCHIVE-threads.a ARCHIVE.a -pthread -o huge
  *   cc the same with -DTEST_S                the same for BLAKE2s, without the tree
- *   ./huge                                   calls that take seconds
+ *   ./huge                                   calls that take seconds, of BLAKE2b
  *   VULFSJOR_TEST_HUGE=1 ./huge              every call
  *
  * These lines print the digests below, in their order:
@@ -97,25 +97,6 @@ static void check_message(void) {
     CHECK(!ONE_CALL(out, MAX, message, LENGTH, NULL, 0) && has_digits(out, HASH));
     CHECK(!BLAKE(init)(&state, MAX) && !BLAKE(update)(&state, message, LENGTH) && BLAKE(count)(&state) == LENGTH);
     CHECK(!BLAKE(final)(&state, out, MAX) && has_digits(out, HASH));
-}
-
-/* Room for a digest that is longer than it, and a tag that starts with the right bytes and is longer: lengths that are
- * those of a digest, or of nothing, in 32 bits, and one that is not. */
-static void long_outputs(void) {
-    static const size_t lengths[] = {((size_t)1 << 32) + MAX, (size_t)1 << 32, LENGTH};
-    state_t state;
-
-    CHECK(!ONE_CALL(out, MAX, NULL, 0, "key", 3));
-    for (size_t i = 0; i < 3; i++) {
-        CHECK(!BLAKE(init_key)(&state, MAX, "key", 3) && BLAKE(final)(&state, other, lengths[i]) == -1);
-        CHECK(!BLAKE(final)(&state, other, MAX) && !memcmp(other, out, MAX) && !BLAKE(init_key)(&state, MAX, "key", 3));
-        CHECK(BLAKE(verify)(&state, other, lengths[i]) == -1 && !BLAKE(digest_size)(&state));
-#ifndef TEST_S
-        vulfsjor_tree_state tree;
-        CHECK(!vulfsjor_tree_init(&tree, 64, 0, 0, 0, 0, LEAF) && vulfsjor_tree_final(&tree, other, lengths[i]) == -1);
-        CHECK(vulfsjor_tree_digest_size(&tree) == 64);
-#endif
-    }
 }
 
 /* ---- several messages */
@@ -236,7 +217,6 @@ int main(void) {
 
     message = new_message();
     other = repeated_pages(LENGTH);
-    long_outputs();
 #ifndef TEST_S
     same_bytes();
     check_files(huge);
