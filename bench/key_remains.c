@@ -23,8 +23,7 @@ static int plain_tree(void) {
 static int call_verify(void) { return BLAKE(verify)(&state, tag, MAX); }
 
 static void start_plain(void) {
-    if (BLAKE(init)(&state, MAX)) fail("an init");
-    if (BLAKE(update)(&state, message, 1)) fail("an update");
+    CHECK(!BLAKE(init)(&state, MAX) && !BLAKE(update)(&state, message, 1));
 }
 
 static const struct {
@@ -40,10 +39,10 @@ static const struct {
     {"`.._many`, one message", call_many_one, nothing, 64},
     {"`.._many`, 4 messages", call_many_four, nothing, 64},
     {"`.._many`, 8 messages", call_many_lanes, nothing, 64},
-    {"the first `.._update`, of 64 bytes", call_update, start, 64},
-    {"the first `.._update`, of 1,000 bytes", call_update, start, 1000},
-    {"`.._final` of an empty message", call_final, start, 0},
-    {"`.._verify` of an empty message", call_verify, start, 0},
+    {"the first `.._update`, of 64 bytes", call_update, start_keyed, 64},
+    {"the first `.._update`, of 1,000 bytes", call_update, start_keyed, 1000},
+    {"`.._final` of an empty message", call_final, start_keyed, 0},
+    {"`.._verify` of an empty message", call_verify, start_keyed, 0},
     {"an update of one byte without a key", call_update, start_plain, 1},
 };
 
@@ -61,7 +60,7 @@ static int more_pieces(int most, int (*call)(void)) {
         int found;
 
         take_length(bytes);
-        found = pieces_after(nothing, call, "a call");
+        found = pieces_after(nothing, call);
         if (found > most) most = found;
     }
     return most;
@@ -80,12 +79,12 @@ int main(int count, char **words) {
 
         take_length(ROWS[row].length);
         ROWS[row].before();
-        if (counted(ROWS[row].call)) fail(ROWS[row].name);
+        CHECK(!counted(ROWS[row].call));
     } else {
         for (size_t row = 0; row < sizeof ROWS / sizeof *ROWS; row++) {
             take_length(ROWS[row].length);
             printf("%zu|%s|%d\n", row, ROWS[row].name,
-                   pieces_after(ROWS[row].before, ROWS[row].call, ROWS[row].name));
+                   pieces_after(ROWS[row].before, ROWS[row].call));
         }
     }
     return fails != 0;

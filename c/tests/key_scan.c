@@ -2,9 +2,9 @@
  * of it, in 64 KiB of the dead stack below the caller, and if the library chooses its build for
  * x86-64-v4 also in the vector registers zmm16 to zmm31, which that build clears. Prints for each
  * call how many were found, the largest number over messages of several lengths. A call that leaves
- * one fails. So does a state that is not zero, byte by byte, after final, verify, wipe and an init
- * that is refused, and a search that misses a copy which is put there for it to find. For BLAKE2X
- * it looks for the root hash and the first block of the output too. Returns 0 if none failed.
+ * one fails. So does a state that is not zero after final, verify, wipe and an init that is refused,
+ * and a search that misses a copy which is put there for it to find. For BLAKE2X it looks for the
+ * root hash and the first block of the output too. Returns 0 if none failed.
  *
  *   cc -std=gnu99 -O2 -Wl,-z,now -I FOLDER/include key_scan.c ARCHIVE -o key_scan
  *   cc the same with -DTEST_S       the same of BLAKE2s
@@ -14,10 +14,9 @@
  *
  * With -z now no call goes by the dynamic linker, which would save vector registers on the
  * stack. */
+#define SAY_MORE() fprintf(stderr, "  message of %zu bytes\n", length)
+#include "check.h"
 #include "family.h"
-
-#include <stdio.h>
-#include <string.h>
 
 #ifdef LIBB2_NAMES
 #include "libb2_family.h"
@@ -44,24 +43,16 @@ static size_t length;
 
 /* What was on the dead stack, and behind it what was in the registers zmm16 to zmm31, or zeros. */
 static uint8_t stack[DEPTH + 16 * 64];
-static int fails;
-
-static void report_failure(const char *name) {
-    printf("FAILED: %s, message of %zu bytes\n", name, length);
-    fails++;
-}
 
 /* ---- What goes before a call. */
 
 static void nothing(void) {}
 
-static void start_keyed(void) {
-    if (BLAKE(init_key)(&state, SIZE, key, MAX)) report_failure("an init");
-}
+static void start_keyed(void) { CHECK(!BLAKE(init_key)(&state, SIZE, key, MAX)); }
 
 static void start_and_take(void) {
     start_keyed();
-    if (BLAKE(update)(&state, message, length)) report_failure("an update");
+    CHECK(!BLAKE(update)(&state, message, length));
 }
 
 /* ---- The calls. Each returns 0 if its status is the expected one. */
@@ -91,17 +82,17 @@ CALL(call_wipe, (BLAKE(wipe)(&state), 0))
 #ifdef TEST_X
 static void start_and_read(void) {
     start_and_take();
-    if (BLAKE(squeeze)(&state, out, MAX)) report_failure("a squeeze");
+    CHECK(!BLAKE(squeeze)(&state, out, MAX));
 }
 
 static void start_and_read_part(void) {
     start_and_take();
-    if (BLAKE(squeeze)(&state, out, 7)) report_failure("a squeeze");
+    CHECK(!BLAKE(squeeze)(&state, out, 7));
 }
 
 static void start_read_and_reset(void) {
     start_and_read();
-    if (BLAKE(reset)(&state)) report_failure("a reset");
+    CHECK(!BLAKE(reset)(&state));
 }
 
 CALL(call_derive_key, BLAKE(derive_key)(out, SIZE, key, MAX, message, length))
@@ -239,19 +230,11 @@ static int pieces_on_stack(void) {
     return found;
 }
 
-static int pieces_after(void (*before)(void), int (*call)(void), const char *name) {
+static int pieces_after(void (*before)(void), int (*call)(void)) {
     before();
     fill_stack();
-    if (call_and_keep(call)) report_failure(name);
+    CHECK(!call_and_keep(call));
     return pieces_on_stack();
-}
-
-static int is_zero(const void *memory, size_t size) {
-    const uint8_t *bytes = memory;
-    uint8_t bits = 0;
-
-    for (size_t i = 0; i < size; i++) bits |= bytes[i];
-    return bits == 0;
 }
 
 /* ---- Copies to be found. */
@@ -271,31 +254,9 @@ static __attribute__((noinline)) int leave_a_copy(void) {
 static void finds_copies(void) {
     static const size_t places[] = {0, 1, 7, 4096, 32 * 1024, DEPTH - 257 - SECRETS};
 
-    for (size_t i = 0; i < sizeof places / sizeof *places; i++) {
-        for (copied = 0; copied <= SECRETS; copied++) {
-            int found;
-
-            place = places[i];
-            found = pieces_after(nothing, leave_a_copy, "a copy");
-            if (found != (int)(copied / PIECE)) {
-                printf("FAILED: a copy of %zu bytes, %zu below the frame: %d pieces found\n",
-                       copied, place, found);
-                fails++;
-            }
-        }
-    }
-}
-
-static void sees_bytes(void) {
-    for (size_t i = 0; i < sizeof state; i++) {
-        memset(&state, 0, sizeof state);
-        if (!is_zero(&state, sizeof state)) report_failure("zeros in the state");
-        ((uint8_t *)&state)[i] = 1;
-        if (is_zero(&state, sizeof state)) {
-            printf("FAILED: byte %zu of the state is not looked at\n", i);
-            fails++;
-        }
-    }
+    for (size_t i = 0; i < COUNT_OF(places); i++)
+        for (place = places[i], copied = 0; copied <= SECRETS; copied++)
+            CHECK(pieces_after(nothing, leave_a_copy) == (int)(copied / PIECE));
 }
 
 /* ---- All. */
@@ -363,13 +324,11 @@ static void take_secrets(void) {
     static const vulfsjor_tree root_place = {(uint64_t)SIZE << 32, 0, 1, 1, 0, 0};
     SEQUENTIAL(state) root;
 
-    if (SEQUENTIAL(init_tree)(&root, MAX, key, MAX, NULL, 0, NULL, 0, &root_place) ||
-        SEQUENTIAL(update)(&root, message, length) || SEQUENTIAL(final)(&root, key + MAX, MAX) ||
-        call_one_call())
-        report_failure("the secrets");
+    CHECK(!SEQUENTIAL(init_tree)(&root, MAX, key, MAX, NULL, 0, NULL, 0, &root_place));
+    CHECK(!SEQUENTIAL(update)(&root, message, length) && !SEQUENTIAL(final)(&root, key + MAX, MAX) && !call_one_call());
     memcpy(key + 2 * MAX, out, MAX);
     start_and_read();
-    if (memcmp(state.reader.root, key + MAX, MAX)) report_failure("another root hash");
+    CHECK(!memcmp(state.reader.root, key + MAX, MAX));
 }
 #endif
 
@@ -381,7 +340,7 @@ static void take_length(size_t bytes) {
 #endif
     for (size_t i = 0; i < LANES; i++) messages[i] = (vulfsjor_message){message, length};
     messages[LANES] = (vulfsjor_message){message, length / 2};
-    if (ONE_CALL(tag, MAX, message, length, key, MAX)) report_failure("a tag");
+    CHECK(!ONE_CALL(tag, MAX, message, length, key, MAX));
     memcpy(wrong, tag, MAX);
     wrong[MAX - 1] ^= 1;
 }
@@ -395,12 +354,8 @@ static __attribute__((noinline)) void finds_registers(void) {
     take_length(0);
     has_upper = &vulfsjor_ffi_level != NULL && vulfsjor_ffi_level == 4;
     memcpy(wide, key, MAX);
-    for (size_t i = 0; has_upper && i < 2; i++) {
-        if (pieces_after(nothing, set[i], "a copy in a register") != (MAX + MAX * (int)i) / PIECE) {
-            puts("FAILED: a copy in a register is not found");
-            fails++;
-        }
-    }
+    for (size_t i = 0; has_upper && i < 2; i++)
+        CHECK(pieces_after(nothing, set[i]) == (MAX + MAX * (int)i) / PIECE);
     if (has_upper) __asm__ volatile("vpxord %xmm16, %xmm16, %xmm16\nvpxord %xmm31, %xmm31, %xmm31");
 #endif
 }
@@ -409,22 +364,19 @@ static __attribute__((noinline)) void finds_registers(void) {
 static void try_call(size_t index) {
     static const size_t lengths[] = {0,   1,   BLOCK - 1, BLOCK, BLOCK + 1, 2 * BLOCK,
                                      384, 385, LONGEST};
-    const char *name = CALLED[index].name;
+    const int before = fails;
     int greatest = 0;
 
-    for (size_t i = 0; i < sizeof lengths / sizeof *lengths; i++) {
+    for (size_t i = 0; i < COUNT_OF(lengths); i++) {
         int found;
 
         take_length(lengths[i]);
-        found = pieces_after(CALLED[index].before, CALLED[index].call, name);
+        found = pieces_after(CALLED[index].before, CALLED[index].call);
         if (found > greatest) greatest = found;
-        if (CALLED[index].wipes && !is_zero(&state, sizeof state)) {
-            printf("FAILED: %s: the state is not zero, message of %zu bytes\n", name, length);
-            fails++;
-        }
+        CHECK(!CALLED[index].wipes || is_zero(&state, sizeof state));
     }
-    printf("%s: %s: %d pieces\n", greatest ? "FAILED" : "passed", name, greatest);
     fails += greatest > 0;
+    printf("%s: %s: %d pieces\n", fails > before ? "FAILED" : "passed", CALLED[index].name, greatest);
 }
 
 int main(void) {
@@ -434,7 +386,6 @@ int main(void) {
     take_length(0);
     finds_copies();
     finds_registers();
-    sees_bytes();
-    for (size_t i = 0; i < sizeof CALLED / sizeof *CALLED; i++) try_call(i);
+    for (size_t i = 0; i < COUNT_OF(CALLED); i++) try_call(i);
     return fails != 0;
 }
