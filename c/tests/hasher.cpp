@@ -1,6 +1,6 @@
 /* Tests what the conformance cases do not show of vulfsjor.hpp (conformance.cpp): what compiles, forms of bytes,
- * copies, moves, lengths that no memory has, texts of exceptions, counts past 2^32, and what is left of a key. Returns
- * 0 if all is as it should be.
+ * lengths that no memory has, texts of exceptions, counts past 2^32, and what is left of a key. Returns 0 if all is as
+ * it should be.
  *
  *   c++ -std=c++17 -I FOLDER/include hasher.cpp ARCHIVE -o hasher
  *   ./hasher                                  the same with -std=c++20, and with -fno-exceptions
@@ -214,27 +214,7 @@ template <class H> void no_tags() {
     }
 }
 
-/* ---- values */
-
-template <class H> void values() {
-    H first, second;
-    CHECK(first.update("a"));
-    const auto a = first.digest();
-    H copy(first), moved(std::move(first));
-    CHECK(copy.digest() == a && moved.digest() == a && first.digest() == a);
-    CHECK(copy.update("b") && copy.digest() != a && first.digest() == a && moved.digest() == a);
-    const auto ab = copy.digest();
-    H &self = copy;
-    copy = self;
-    copy = std::move(self);
-    CHECK(copy.digest() == ab && copy.update("c") && copy.digest() != ab);
-    second = moved;
-    CHECK(second.update("b") && second.digest() == ab && moved.digest() == a);
-    std::swap(second, moved);
-    CHECK(second.digest() == a && moved.digest() == ab);
-    std::optional<H> refused = H::create(parameters{0, {}, {}, {}, {}});
-    CHECK(!refused);
-}
+/* ---- what is left */
 
 /* The destructor leaves nothing of a state. */
 template <class H> void wiped() {
@@ -318,7 +298,6 @@ template <class H> void family() {
     refusals<H>();
     no_tags<H>();
     call_leaves_nothing<H>();
-    values<H>();
     wiped<H>();
 }
 

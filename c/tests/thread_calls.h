@@ -1,6 +1,4 @@
-/* What threads.c and thread_faults.c share: a message, a file that has its beginning, and a limit of time. RUN calls a
- * test, and one that has not ended after LIMIT seconds, with a sanitizer on a machine under load, ends the program with
- * status 1 and a line that names it. */
+/* What threads.c and thread_faults.c share: a message, and a file that has its beginning. */
 #include "check.h"
 
 #include <errno.h>
@@ -14,24 +12,8 @@
 #include <sys/stat.h>
 #include <unistd.h>
 
-static const char *limited = "";
-
-static void end_hanging_test(int number) {
-    char said[200];
-    int length = snprintf(said, sizeof said, "%s has not ended after %d s\n", limited, LIMIT);
-
-    (void)number;
-    _exit(write(STDERR_FILENO, said, (size_t)length) == length ? 1 : 2);
-}
-
-#define RUN(test)                          \
-    do {                                   \
-        limited = __FILE__ ": " #test;     \
-        signal(SIGALRM, end_hanging_test); \
-        alarm(LIMIT);                      \
-        test;                              \
-        alarm(0);                          \
-    } while (0)
+/* Makes a test. A test that hangs is ended by threads.sh, and is the last that this names. */
+#define RUN(test) (fprintf(stderr, "%s\n", #test), test)
 
 static unsigned char *message, root[64], wanted[64], blank[64];
 static char path[PATH_MAX];

@@ -8,7 +8,6 @@
  *   cc the same without -DLEAST_BYTES=1       tests only what depends on that length */
 #define _GNU_SOURCE
 #include "vulfsjor_threads.h"
-#define LIMIT 180
 #define SAY_MORE() fprintf(stderr, "%s %d\n", fault.call, fault.at)
 #include "thread_calls.h"
 

@@ -10,7 +10,6 @@
  * It is also run over threads.c compiled with -DLEAST_BYTES=1, so few bytes have many threads. */
 #define _GNU_SOURCE
 #include "vulfsjor_threads.h"
-#define LIMIT 600 /* of thousands of random messages */
 #define SAY_MORE() perror("errno")
 #include "thread_calls.h"
 

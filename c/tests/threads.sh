@@ -23,18 +23,18 @@ parts_with() {
 # threads.c with these words, over the installed archive.
 threads_installed() {
     compile_threads "$work/threads" -O2 "$tests/threads.c" "$prefix/lib/libvulfsjor-threads.a" &&
-        "$work/threads" "$work/files" "$(turns 200)"
+        timeout 1800 "$work/threads" "$work/files" "$(turns 200)"
 }
 
 # threads.c with these words, where each few bytes have a thread of their own.
 threads_with() {
     compile_threads "$work/threads" -DLEAST_BYTES=1 "$@" "$tests/threads.c" "$here/threads.c" &&
-        "$work/threads" "$work/files" "$(turns 60)"
+        timeout 1800 "$work/threads" "$work/files" "$(turns 60)"
 }
 
 # thread_faults.c with these words, and as many threads as in the library or as the words say.
 faults_with() {
-    compile_threads "$work/faults" "$@" "$tests/thread_faults.c" && "$work/faults" "$work/files"
+    compile_threads "$work/faults" "$@" "$tests/thread_faults.c" && timeout 1800 "$work/faults" "$work/files"
 }
 
 # Both, with each number of threads.
