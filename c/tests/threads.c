@@ -68,7 +68,7 @@ static void random_roots(int turns) {
     static const uint32_t most[] = {10, 2000, 70000, 3000000};
 
     for (int turn = 0; turn < turns; turn++) {
-        size_t length = turn < 40 ? (size_t)turn : random_below(turn % 3 ? 20000 : 6 << 20);
+        size_t length = turn % 3 == 2 ? random_below(6 << 20) : turn < 40 ? (size_t)turn : random_below(20000);
         uint32_t leaf = (uint32_t)(1 + random_below(most[turn % 4]));
         if (leaf < 100) length %= 50000;
         write_file(length);
