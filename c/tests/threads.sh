@@ -5,6 +5,9 @@ source "$(dirname "$(readlink -f "$0")")/common.sh"
 # A number of random turns: of those of the full test a twelfth.
 turns() { [ -n "${VULFSJOR_TEST_HUGE-}" ] && echo "$1" || echo $(($1 / 12)); }
 
+# The seconds after which a program hangs, also with a sanitizer on a machine under load.
+limit=$([ -n "${VULFSJOR_TEST_HUGE-}" ] && echo 3600 || echo 600)
+
 # Compiles a program from these files and words.
 compile_threads() {
     local program=$1
@@ -23,18 +26,18 @@ parts_with() {
 # threads.c with these words, over the installed archive.
 threads_installed() {
     compile_threads "$work/threads" -O2 "$tests/threads.c" "$prefix/lib/libvulfsjor-threads.a" &&
-        timeout 1800 "$work/threads" "$work/files" "$(turns 200)"
+        timeout $limit "$work/threads" "$work/files" "$(turns 200)"
 }
 
 # threads.c with these words, where each few bytes have a thread of their own.
 threads_with() {
     compile_threads "$work/threads" -DLEAST_BYTES=1 "$@" "$tests/threads.c" "$here/threads.c" &&
-        timeout 1800 "$work/threads" "$work/files" "$(turns 60)"
+        timeout $limit "$work/threads" "$work/files" "$(turns 60)"
 }
 
 # thread_faults.c with these words, and as many threads as in the library or as the words say.
 faults_with() {
-    compile_threads "$work/faults" "$@" "$tests/thread_faults.c" && timeout 1800 "$work/faults" "$work/files"
+    compile_threads "$work/faults" "$@" "$tests/thread_faults.c" && timeout $limit "$work/faults" "$work/files"
 }
 
 # Both, with each number of threads.
