@@ -20,7 +20,7 @@
 #define LEAST_BYTES (1 << 18)
 #endif
 
-enum { BYTES = 35 << 20 };
+enum { BYTES = 36 << 20 };
 
 static char other[PATH_MAX];
 static vulfsjor_tree_state state;
