@@ -1,4 +1,4 @@
-/* Tests what the conformance cases do not show of vulfsjor.hpp (conformance.cpp): what compiles, forms of bytes,
+/* Tests what the conformance cases do not show of vulfsjor.hpp (conformance.cpp): what compiles, forms of bytes, moves,
  * lengths that no memory has, texts of exceptions, counts past 2^32, and what is left of a key. Returns 0 if all is as
  * it should be.
  *
@@ -292,7 +292,22 @@ template <class H> void call_leaves_nothing() {
 template <class H> void call_leaves_nothing() {}
 #endif
 
+/* A hasher that is moved, swapped or assigned to itself stays what it was. */
+template <class H> void moved_hashers() {
+    H first, second;
+    CHECK(first.update("a"));
+    const auto a = first.digest();
+    H moved(std::move(first));
+    H &self = moved;
+    moved = self;
+    moved = std::move(self);
+    CHECK(moved.digest() == a && first.digest() == a);
+    std::swap(second, moved);
+    CHECK(second.digest() == a && moved.digest() == H().digest());
+}
+
 template <class H> void family() {
+    moved_hashers<H>();
     inputs<H>();
     copied_parameters<H>();
     refusals<H>();
