@@ -34,8 +34,9 @@ document.querySelector("input").oninput = ({ target }) => {
 
 
 def words(text):
-    """Words with their code."""
-    return re.sub(r"`([^`]+)`", r"<code>\1</code>", escape(text, quote=False))
+    """Words with their code, which is not a link."""
+    text = re.sub(r"\[(`[^`]+`)\](?:\([\w:]+\))?", r"\1", escape(text, quote=False))
+    return re.sub(r"`([^`]+)`", r"<code>\1</code>", text)
 
 
 def html(title, *parts):
