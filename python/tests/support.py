@@ -8,6 +8,7 @@ usage: support.py FOLDER      builds the package in FOLDER. Status 77: a tool is
 """
 import atexit
 import contextlib
+import ctypes
 import functools
 import importlib.util
 import os
@@ -94,6 +95,11 @@ def package():
             raise RuntimeError(f"building failed:\n{done.stdout}")
         os.environ["VULFSJOR_PACKAGE"] = folder
     return os.path.abspath(os.environ["VULFSJOR_PACKAGE"])
+
+
+def unread(length):
+    """A buffer that is longer than the memory, for calls that read no byte of it."""
+    return (ctypes.c_char * length).from_address(id(unread))
 
 
 def by_threads(count, work):

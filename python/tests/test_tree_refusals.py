@@ -5,6 +5,7 @@ import ctypes
 import unittest
 
 from common_trees import DATA, ROOT, TEXTS, Test
+from support import unread
 import vulfsjor
 
 NOT_BYTES = ((TypeError, "Strings must be encoded before hashing", "x" * 64),
@@ -36,8 +37,8 @@ class Parameters(Test):
             for kind, text, words in (
                     *((ValueError, LEAVES, {"leaf_size": size}) for size in (0, 2**32, *BEYOND)),
                     (TypeError, "leaf_size must be an integer", {"leaf_size": 1.0}),
-                    *((ValueError, f"maximum {name} length is 16 bytes", {name: bytes(length)})
-                      for name in TEXTS for length in (17, 1000)),
+                    *((ValueError, f"maximum {name} length is 16 bytes", {name: unread(length)})
+                      for name in TEXTS for length in (17, 1000, 2**32, 2**32 + 16)),
                     *((TypeError, "a bytes-like object is required, not 'str'", {name: "text"}) for name in TEXTS),
                     *((ValueError, SIZES, {"digest_size": size})
                       for size in (0, 65, 2**31, 2**32 + 1, -(2**32) + 5, *BEYOND) if has_size)):
@@ -69,10 +70,12 @@ class Parts(Test):
         leaves, whole = vulfsjor.tree_leaves, "data must be whole leaves, unless it ends the message"
         empty, flag = "data must not be empty, unless it is all of an empty message", "ends must be True or False"
         for kind, text, data, leaf_size, first, ends in (
-                (ValueError, whole, bytes(9), 10, 0, False), (ValueError, whole, bytes(11), 10, 0, False),
+                *((ValueError, whole, unread(length), 10, 0, False) for length in (9, 11, 2**32, 2**32 + 10)),
                 *((ValueError, empty, b"", 10, *where) for where in ((0, False), (1, True), (2**54, True))),
                 (ValueError, TOO_FAR, b"x", 1, 2**58 - 1, True), (ValueError, TOO_FAR, b"xy", 1, 2**58 - 2, True),
                 (ValueError, TOO_FAR, bytes(1024), 1024, 2**48 - 1, True),
+                (ValueError, TOO_FAR, unread(2**32 + 64), 1 << 31, 2**27 - 1, True),
+                (MemoryError, "", unread(2**57), 1, 0, True),
                 *((ValueError, f"first must be between 0 and {last}", b"x", leaf_size, first, True)
                   for leaf_size, last in ((1, 2**58 - 1), (1024, 2**48 - 1), (2**32 - 1, 2**26))
                   for first in (last + 1, *BEYOND)),
@@ -89,7 +92,8 @@ class Parts(Test):
 
     def test_digests(self):
         many = "digests must have 64 bytes for each leaf, and at least one leaf"
-        for kind, text, data in (*((ValueError, many, bytes(length)) for length in (0, 1, 63, 65)), *NOT_BYTES):
+        for kind, text, data in (*((ValueError, many, unread(length)) for length in (
+                0, 1, 63, 65, 2**32 + 1, 2**32 + 32, 2**32 + 63)), *NOT_BYTES):
             self.refuses(kind, text, vulfsjor.tree_root_of_leaves, data, 1)
 
     def test_counts(self):
@@ -113,13 +117,17 @@ class Hasher(Test):
             hasher = vulfsjor.TreeHasher(100)
             hasher.update(bytes(count))
             before, ahead, update = hasher.digest(), hasher.leaves_ahead, hasher.update_leaves
-            rows = [(ValueError, "data must be whole leaves, at least one", ahead, bytes(n)) for n in (0, 99, 101)]
-            rows += [(ValueError, "digests must have 64 bytes for each leaf", update, bytes(n), b"x") for n in (1, 65)]
-            rows += [(ValueError, "data must follow the digests, at least one byte of it", update, bytes(64), b"")]
+            rows = [(ValueError, "data must be whole leaves, at least one", ahead, unread(n))
+                    for n in (0, 99, 101, 2**32, 2**32 + 100)]
+            rows += [(ValueError, "digests must have 64 bytes for each leaf", update, unread(n), b"x")
+                     for n in (1, 65, 2**32 + 1, 2**32 + 63)]
+            rows += [(ValueError, "data must follow the digests, at least one byte of it", update, unread(n), b"")
+                     for n in (64, 2**32 + 64)]
             rows += [(kind, text, call, data) for kind, text, data in NOT_BYTES for call in (
                 hasher.update, ahead, lambda data: update(data, b"x"), lambda data: update(b"", data))]
             if count % 100:
-                rows += [(ValueError, BOUNDARY, ahead, bytes(100)), (ValueError, BOUNDARY, update, bytes(64), b"x")]
+                rows += [(ValueError, BOUNDARY, ahead, bytes(100)),
+                         *((ValueError, BOUNDARY, update, unread(n), b"x") for n in (64, 2**32 + 64))]
             else:
                 rows += [(ValueError, TOO_FAR, ahead, bytes(100), most),
                          (TypeError, "skip must be an integer", ahead, bytes(100), 1.0),
@@ -131,6 +139,7 @@ class Hasher(Test):
                 self.assertRaises(AttributeError, setattr, hasher, name, 1)
             update(b"", b"")
             self.assertEqual((hasher.digest(), hasher.count), (before, count))
+        self.refuses(MemoryError, "", vulfsjor.TreeHasher(1).leaves_ahead, unread(2**57))
 
     def test_inputs_end_before_2_to_the_58(self):
         for length in (5, 3000):
