@@ -57,7 +57,7 @@ SHARED = {
 
 # What its tests need besides.
 FOR_TESTS = {**{f"tests/{name}": f"tests/{name}" for name in (
-    "b2_model.py", "common.py", "oracle.py", "vectors.json", "vectors.py")},
+    "b2_model.py", "common.py", "oracle.py")},
     "tests/read_sources.py": "tools/read_sources.py"}
 
 # Clang warns of each option that means nothing for assembly. LTO loses the assembly of choose.c.

@@ -54,7 +54,7 @@ wheel() {
     esac
 }
 # The wheel for this machine and the source distribution, by pip alone, pass the tests that the second has, from there:
-# the wheel all, and what pip builds those next to hashlib and the known answers.
+# the wheel all, and what pip builds those next to hashlib and of what is left in memory.
 pip_packages() {
     local artifact tests python=$work/venv/bin/python package
     tar -tf "$folder/python/$name.tar.gz" | has_files sdist && tar -C "$work" -xf "$folder/python/$name.tar.gz" &&

@@ -76,8 +76,7 @@ FOLDERS = {
 }
 # What they have from other folders, or lack of these: by `exclude` in rust-digest/Cargo.toml.
 OTHERS = {"vulfsjor-digest.crate: vulfsjor-digest-VERSION/tests/": {"conformance.rs"},
-          "sdist: vulfsjor-VERSION/tests/": {"b2_model.py", "common.py", "oracle.py", "read_sources.py", "vectors.json",
-                                             "vectors.py"}}
+          "sdist: vulfsjor-VERSION/tests/": {"b2_model.py", "common.py", "oracle.py", "read_sources.py"}}
 
 
 def read_packaging(name):

@@ -1,8 +1,6 @@
 """Tests of what neither a list of calls nor a comparison with hashlib shows: iterables of messages, what is left of a
-key and of other memory, views that are let go, and modules. And the known answers, for a source distribution, which has
-not the conformance cases."""
+key and of other memory, views that are let go, and modules."""
 import array
-import collections
 import contextlib
 import ctypes
 import gc
@@ -18,9 +16,8 @@ import tracemalloc
 import unittest
 import weakref
 
-from support import Test, WITHOUT_GIL
+from support import Test, WITHOUT_GIL, unread
 from test_parallel import parallel
-import vectors
 import vulfsjor
 
 DICE = random.Random(1)
@@ -29,32 +26,6 @@ PLAIN = (("blake2b", vulfsjor.blake2b, hashlib.blake2b, vulfsjor.blake2b_many, 6
 FAMILIES = (*PLAIN, ("blake2bp", vulfsjor.blake2bp, parallel("b"), None, 64),
             ("blake2sp", vulfsjor.blake2sp, parallel("s"), None, 32))
 OUTPUTS = (("blake2xb", vulfsjor.blake2xb, 64), ("blake2xs", vulfsjor.blake2xs, 32))
-
-
-class KnownAnswers(unittest.TestCase):
-    """The cases of tests/vectors.json."""
-
-    def test_all(self):
-        met = collections.Counter()
-        for case in vectors.cases():
-            words = vectors.arguments(case)
-            if case["kind"] in ("hash", "parallel"):
-                make = getattr(vulfsjor, case["hash"] + "p" * (case["kind"] == "parallel"))
-                found = make(vectors.message(case), **words).digest()
-            elif case["kind"] == "many":
-                digests = getattr(vulfsjor, case["hash"] + "_many")(vectors.messages(case), **words)
-                found = vectors.hash_of(b"".join(digests))
-            elif case["kind"] == "root":
-                found = vulfsjor.tree_root(vectors.message(case), **words)
-            elif case["kind"] == "output":
-                words |= {"length": case["size"]} if case["is_known"] else {}
-                make = getattr(vulfsjor, f"blake2x{case['hash'][-1]}")
-                found = make(vectors.message(case), **words).digest(case["size"])
-            else:
-                continue
-            self.assertEqual(found.hex(), case["digest"], case)
-            met[case["kind"]] += 1
-        self.assertEqual(met, {"hash": 1226, "many": 11, "root": 15, "parallel": 96, "output": 96})
 
 
 class Many(Test):
@@ -133,9 +104,8 @@ def places_of(text):
     return found
 
 
-def deep(call, levels=60):
-    """What a call returns. Its frames in C are far below those of later calls, which would
-    otherwise overwrite them."""
+def deep(call, levels):
+    """Makes a call, whose frames in C are so far down that later calls which are less deep do not overwrite them."""
     return call() if levels == 0 else next(map(deep, [call], [levels - 1]))
 
 
@@ -164,54 +134,41 @@ class Secrets(unittest.TestCase):
         for _, make, _, _, longest in FAMILIES:
             self.assertRaises(TypeError, make, "text", key=bytes(range(longest)))
 
+    def leave_no_copy(self, secret, calls, *objects):
+        """After the calls the secret is only in these objects."""
+        for depth, call in zip(range(60 * len(calls), 0, -60), calls):
+            with contextlib.suppress(ValueError, OverflowError):
+                deep(call, depth)
+        found = places_of(secret)
+        spans = [range(id(each), id(each) + each.__sizeof__()) for each in objects]
+        for span in spans:
+            self.assertTrue(found.intersection(span))
+        found -= {place for span in spans for place in span}
+        self.assertEqual(len(found), 1)  # that of the bytes of the test
+
     @unittest.skipIf(WITHOUT_GIL, "without the GIL the memory is too large to search")
     def test_digests_leave_no_copy_of_a_state(self):
         for make, longest, size in (*((make, longest, ()) for _, make, _, _, longest in FAMILIES),
                                     *((make, longest, (0,)) for _, make, longest in OUTPUTS)):
             key = os.urandom(longest)
-            before = places_of(key)
             mac = make(b"message", key=key)
-            for call in (
-                lambda: mac.digest(*size),
-                lambda: mac.hexdigest(*size),
-                lambda: mac.copy().digest(*size),
-                *([lambda: mac.digest(99)] if size else [
-                    lambda: self.assertRaises(vulfsjor.InvalidTag, mac.verify, b"x"),
-                    lambda: mac.verify(mac.digest())]),
-            ):
-                deep(call)
-                new = places_of(key) - before
-                self.assertTrue(new)
-                self.assertEqual([place for place in new if not 0 <= place - id(mac) < mac.__sizeof__()], [])
-            del mac
-            self.assertEqual(places_of(key) - before, set())
+            tag = mac.digest(*size)
+            self.leave_no_copy(key, (
+                lambda: mac.digest(*size), lambda: mac.hexdigest(*size), lambda: mac.copy().digest(*size),
+                *([lambda: mac.digest(99)] if size else [lambda: mac.verify(b"x"), lambda: mac.verify(tag)])), mac)
 
     @unittest.skipIf(WITHOUT_GIL, "without the GIL the memory is too large to search")
     def test_trees_leave_no_copy_of_a_state(self):
         """Here of the bytes of a message that wait in it. A digest compresses them, which leaves them on the stack."""
         message = os.urandom(32)
-        before = places_of(message)
         ends, within = vulfsjor.TreeHasher(32), vulfsjor.TreeHasher(99)
-        for hasher in (ends, within):
-            hasher.update(message)
-        long = (ctypes.c_char * 2**58).from_address(id(self))  # no byte of it is read
+        ends.update(message), within.update(message)
         with tempfile.TemporaryFile() as file:
             os.truncate(file.fileno(), 1 << 19)
-            for call in (
-                lambda: ends.leaves_ahead(bytes(64)),
-                lambda: within.leaves_ahead(bytes(99)),
-                lambda: within.update_leaves(bytes(64), b"x"),
-                lambda: ends.update(long, threads=3),
-                lambda: ends._root_of_file("file", file.fileno(), 1 << 19, 2, None),
-            ):
-                with contextlib.suppress(ValueError, OverflowError):
-                    deep(call)
-                new = places_of(message) - before
-                self.assertTrue(new)
-                self.assertEqual([place for place in new if not any(
-                    0 <= place - id(each) < each.__sizeof__() for each in (ends, within))], [])
-        del call, hasher, ends, within
-        self.assertEqual(places_of(message) - before, set())
+            self.leave_no_copy(message, (
+                lambda: ends.leaves_ahead(bytes(64)), lambda: within.leaves_ahead(bytes(99)),
+                lambda: within.update_leaves(bytes(64), b"x"), lambda: ends.update(unread(2**58), threads=3),
+                lambda: ends._root_of_file("file", file.fileno(), 1 << 19, 2, None)), ends, within)
 
 
 class Counts(unittest.TestCase):
@@ -224,7 +181,7 @@ class Counts(unittest.TestCase):
                   (280, 128, 2**61 - 128), (144, 1664, 2**64 - 256), (80, 1664, 2**64 - 256))
         for (_, make, *_), (place, early, late) in zip((*FAMILIES, *OUTPUTS), counts, strict=True):
             size = (9,) * (make in (vulfsjor.blake2xb, vulfsjor.blake2xs))
-            for length in (300, 3000):
+            for length in (300, 3000, 2**32 + 5):
                 hasher = make()
                 count = ctypes.c_uint64.from_address(id(hasher) + object.__basicsize__ + place)
                 hasher.update(bytes(1700))
@@ -233,7 +190,7 @@ class Counts(unittest.TestCase):
                 hasher.update(bytes(100))
                 before = hasher.digest(*size)
                 with self.assertRaisesRegex(OverflowError, r"\A2\^64 bytes or more\Z"):
-                    hasher.update(bytes(length))
+                    hasher.update(unread(length))
                 self.assertEqual(hasher.digest(*size), before)
 
 

@@ -35,16 +35,8 @@ NO_ARM = cannot_compile("aarch64-linux-gnu-gcc")
 with open(os.path.join(TOP, "CHANGELOG.md"), encoding="utf-8") as PAGE:
     VERSION = re.search(r"^## ([0-9.]+)", PAGE.read(), re.MULTILINE)[1]
 ABOUT = f"vulfsjor-{VERSION}.dist-info"
-# The files that the package shares with the repository, by their names in a source distribution.
-SHARED = {"src/vulfsjor.h": "c/include/vulfsjor.h", "src/choose.c": "c/choose.c", "src/system.h": "c/system.h",
-          "src/threads.c": "c/threads.c", "src/vulfsjor_threads.h": "c/include/vulfsjor_threads.h",
-          "src/thunks.h": "c/thunks.h", "src/portable.c": "dist/c/vulfsjor.c", "src/MANIFEST": "dist/MANIFEST",
-          **{f"src/{name}": f"dist/{name}" for name in (
-              "aarch64/vulfsjor.s", *(f"x86_64/vulfsjor-v{level}.s" for level in (2, 3, 4)),
-              *(f"{processor}/{system}.inc" for processor in ("aarch64", "x86_64")
-                for system in ("coff", "elf", "macho")))}}
-FOR_TESTS = {"tests/read_sources.py": "tools/read_sources.py", **{f"tests/{name}": f"tests/{name}" for name in (
-    "b2_model.py", "common.py", "oracle.py", "vectors.json", "vectors.py")}}
+# Where the files of a source distribution come from.
+FOLDERS = ("c/include/", "c/", "dist/", "")
 # A compiler that writes to the file that it should make what a command prints.
 FAKE = """#!/bin/sh
 for word; do [ "$last" = -o ] && made=$word; last=$word; done
@@ -63,7 +55,7 @@ class Test(support.Test):
 
     def compares(self, folder, *prefix):
         """The package in a folder returns what hashlib does."""
-        self.succeeds(*prefix, sys.executable, "-m", "unittest", "test_against_hashlib", "test_api.KnownAnswers",
+        self.succeeds(*prefix, sys.executable, "-m", "unittest", "test_against_hashlib", "test_parallel",
                       cwd=HERE, env={**os.environ, "VULFSJOR_PACKAGE": folder})
 
 
@@ -333,30 +325,24 @@ class Build(Test):
         with tarfile.open(path) as file:
             self.assertEqual({(each.mode, each.uid, each.mtime) for each in file}, {(0o644, 0, 315532800)})
             file.extractall(self.folder)
-        own = {"README.md", "build_package.py", "pyproject.toml", "src/by_threads.c", "src/library.c",
-               "src/library.h", "src/trees.c", "src/xof.c",
-               *glob.glob("tests/*.py", root_dir=os.path.join(TOP, "python")),
-               *(f"vulfsjor/{name}" for name in PACKAGE if name != "_library.abi3.so")}
-        found = {os.path.relpath(os.path.join(place, name), folder)
-                 for place, _, names in os.walk(folder) for name in names}
-        shared = {**SHARED, **FOR_TESTS}
-        self.assertEqual(found, {"PKG-INFO", *own, *shared})
-        for name in own | set(shared):
-            source = os.path.join(TOP, shared.get(name, f"python/{name}"))
-            with open(os.path.join(folder, name), "rb") as ours, open(source, "rb") as theirs:
-                self.assertEqual(ours.read(), theirs.read(), name)
-        with open(os.path.join(folder, "PKG-INFO"), encoding="utf-8") as file:
-            self.assertIn(f"\nVersion: {VERSION}\n", file.read())
+        listed = pathlib.Path(TOP, "packaging", "files.txt").read_text(encoding="utf-8")
+        names = re.findall("^sdist: vulfsjor-VERSION/(.*)$", listed, re.MULTILINE)
+        self.assertEqual(sorted(str(path.relative_to(folder)) for path in pathlib.Path(folder).rglob("*")
+                                if path.is_file()), names)
         for name in ("c", "dist"):  # what is beside it
             shutil.copytree(os.path.join(TOP, name), os.path.join(self.folder, name))
-        for name, place in SHARED.items():
-            path = pathlib.Path(folder, name)
+        for name in set(names) - {"PKG-INFO"}:
+            path, base = pathlib.Path(folder, name), name.removeprefix("src/").replace("portable.c", "c/vulfsjor.c")
+            place = next(it for it in (f"python/{name}", *(f"{each}{base}" for each in FOLDERS), f"tools/{base[6:]}")
+                         if os.path.isfile(os.path.join(TOP, it)))
             text = path.read_bytes()
+            self.assertEqual(text, pathlib.Path(TOP, place).read_bytes(), name)
             if place.startswith("dist/") and name != "src/MANIFEST":
                 path.write_bytes(text + b"\n")
                 self.assertEqual(self.refused(folder), f"build_package.py: {place} is not as in dist/MANIFEST, "
                                  "so it is not what was tested")
                 path.write_bytes(text)
+        self.assertIn(f"\nVersion: {VERSION}\n", pathlib.Path(folder, "PKG-INFO").read_text(encoding="utf-8"))
         os.remove(os.path.join(folder, "src", "choose.c"))
         self.assertIn("build_package.py: src/choose.c is missing", self.refused(folder))
 

@@ -8,7 +8,6 @@ import unittest
 import _blake2
 from test_against_hashlib import edge_parameters, edges_of_objects, inputs, outcome
 import oracle
-import vectors
 import vulfsjor
 
 
@@ -41,7 +40,8 @@ class Arguments(unittest.TestCase):
         for name, plain, wanted, longest, _ in FAMILIES:
             tree = set(inspect.signature(getattr(vulfsjor, plain)).parameters).difference(
                 inspect.signature(getattr(vulfsjor, name)).parameters)
-            self.assertEqual(tree, set(vectors.NUMBERS))
+            self.assertEqual(tree, {"fanout", "depth", "leaf_size", "node_offset", "node_depth", "inner_size",
+                                    "last_node"})
             for words in edge_parameters(longest):
                 ours, theirs = (outcome(lambda: make(b"message", **words).digest())
                                 for make in (getattr(vulfsjor, name), getattr(_blake2, plain)))
