@@ -1,5 +1,4 @@
-"""Tests of the names of the package: its versions, numbers, signatures, stubs and examples."""
-import ast
+"""Tests of the names of the package: its versions, numbers, signatures and examples. test_types.py has its stubs."""
 import contextlib
 import doctest
 import inspect
@@ -88,54 +87,14 @@ class Words(unittest.TestCase):
 
     def test_all_is_documented(self):
         self.assertTrue(vulfsjor.__doc__)
+        self.assertEqual(set(vulfsjor.__all__), {
+            name for name, thing in vars(vulfsjor).items() if callable(thing) and name[0] != "_"})
         for name in vulfsjor.__all__:
             thing = getattr(vulfsjor, name)
             self.assertTrue(thing.__doc__)
             for member in dir(thing) if inspect.isclass(thing) else ():
                 if member.islower() and not member.startswith("_") and member not in dir(ValueError):
                     self.assertTrue(getattr(thing, member).__doc__, member)
-
-    def stub(self):
-        """The declarations in the stubs, as nodes of the syntax tree."""
-        path = os.path.join(os.path.dirname(vulfsjor.__file__), "_library.pyi")
-        with open(path) as file:
-            return ast.parse(file.read()).body
-
-    def test_the_stubs_declare_what_is_there(self):
-        declared = set()
-        for node in self.stub():
-            if isinstance(node, ast.ClassDef):
-                declared.add(node.name)
-                if node.name == "InvalidTag":
-                    continue
-                members = {part.target.id if isinstance(part, ast.AnnAssign) else part.name for part in node.body}
-                there = {name for name in dir(getattr(vulfsjor, node.name)) if not name.startswith("_")}
-                self.assertEqual(members - {"_root_of_file"}, there | {"__new__"})
-                for part in node.body:
-                    if isinstance(part, ast.FunctionDef) and not part.decorator_list:
-                        self.same_signature(part, getattr(vulfsjor._library, node.name), part.name)
-            elif isinstance(node, ast.FunctionDef):
-                declared.add(node.name)
-                self.same_signature(node, vulfsjor._library, node.name)
-            elif isinstance(node, ast.AnnAssign):
-                declared.add(node.target.id)
-        there = {name for name in dir(vulfsjor._library) if not name.startswith("_") or name == "__version__"}
-        self.assertEqual(declared, there)
-        self.assertEqual(set(vulfsjor.__all__) - declared, {"file_digest", "tree_root_file"})
-        self.assertEqual(set(vulfsjor.__all__), {
-            name for name, thing in vars(vulfsjor).items() if callable(thing) and name[0] != "_"})
-
-    def same_signature(self, node, owner, name):
-        """Compares the names, kinds and defaults of a function's arguments with the stub."""
-        theirs = inspect.signature(owner if name == "__new__" else getattr(owner, name)).parameters.values()
-        args, empty = node.args, inspect.Parameter.empty
-        plain = args.posonlyargs + args.args
-        defaults = [None] * (len(plain) - len(args.defaults)) + args.defaults + args.kw_defaults
-        mine = [(arg.arg, None if default is None else ast.literal_eval(default))
-                for arg, default in zip(plain + args.kwonlyargs, defaults)]
-        if plain[0].arg == "cls" or plain[0].arg == "self" and "self" not in [each.name for each in theirs]:
-            mine = mine[1:]
-        self.assertEqual(mine, [(each.name, None if each.default is empty else each.default) for each in theirs], name)
 
     def test_examples(self):
         failed, tried = doctest.testmod(vulfsjor, verbose=False)

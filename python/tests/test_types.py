@@ -4,11 +4,10 @@ import ast
 import functools  # noqa: F401  in an expression
 import io  # noqa: F401
 import os
-import re
 import unittest
 import warnings
 
-from support import FOLDER, Test, absent, long, run
+from support import FOLDER, Test, absent, run
 import vulfsjor
 
 STUB = os.path.join(FOLDER, "vulfsjor", "_library.pyi")
@@ -94,7 +93,7 @@ REFUSED = (
     "vulfsjor.TreeHasher(1, b'salt')", "vulfsjor.TreeHasher(1).update('text')",
     "vulfsjor.TreeHasher(1).update_leaves(b'', None)", "vulfsjor.TreeHasher(1).leaves_ahead('x')",
 )
-# Checks that are taken for values, and comparisons that are never true.
+# Checks that are taken for values, and comparisons that are never true, which only a type checker refuses.
 CHECKS = (
     "if mac.verify(b''): print()", "if not mac.verify(b''): print()", "assert mac.verify(b'')",
     "is_right: bool = mac.verify(b'')", "print(all([mac.verify(b'')]))", "if mac.verify: print()",
@@ -131,39 +130,15 @@ class Results(unittest.TestCase):
                 eval(expression)  # pylint: disable=eval-used
 
     def test_stub(self):
-        """The types that the stub declares are those of the two lists."""
+        """The types that the stub declares for arguments."""
         with open(STUB, encoding="utf-8") as file:
-            tree = ast.parse(file.read())
-        seen = set()
-        for owner in [tree, *(node for node in tree.body if isinstance(node, ast.ClassDef))]:
-            if isinstance(owner, ast.ClassDef):
-                is_final = [ast.unparse(each) for each in owner.decorator_list] == ["final"]
-                self.assertEqual(is_final, owner.name not in ("InvalidTag", "TreeHasher"), owner.name)
-                if is_final:
-                    with self.assertRaises(TypeError):
-                        type("Other", (getattr(vulfsjor, owner.name),), {})
-            for node in owner.body:
-                prefix = "vulfsjor" if hasattr(vulfsjor, getattr(node, "name", "")) else ("vulfsjor._library")
-                if isinstance(owner, ast.ClassDef):
-                    prefix = f"vulfsjor.{owner.name}"
-                if isinstance(node, ast.AnnAssign):
-                    self.assertEqual(ast.unparse(node.annotation).replace("ClassVar[int]", "int"),
-                                     "str" if node.target.id == "__version__" else "int")
-                if not isinstance(node, ast.FunctionDef):
-                    continue
-                for each in ast.walk(node.args):
-                    if isinstance(each, ast.arg) and each.arg not in ("self", "cls"):
-                        wanted = NAMED[each.arg]
-                        if (each.arg, node.name) == ("length", "__new__"):
-                            wanted += " | None"
-                        self.assertEqual(ast.unparse(each.annotation), wanted, node.name)
-                name = prefix if node.name == "__new__" else f"{prefix}.{node.name}"
-                returned = {kind for expression, kind in RESULTS.items()
-                            if re.sub(r"\((?:[^()]|\([^()]*\))*\)", "", expression) == name}
-                self.assertEqual({ast.unparse(node.returns)},
-                                 {kind.removeprefix("vulfsjor.") for kind in returned}, name)
-                seen.add(name)
-        self.assertGreater(len(seen), 25)
+            functions = [node for node in ast.walk(ast.parse(file.read())) if isinstance(node, ast.FunctionDef)]
+        self.assertGreater(len(functions), 60)
+        for node in functions:
+            for each in (*node.args.posonlyargs, *node.args.args, *node.args.kwonlyargs):
+                optional = " | None" if (each.arg, node.name) == ("length", "__new__") else ""
+                if each.arg not in ("self", "cls"):
+                    self.assertEqual(ast.unparse(each.annotation), NAMED[each.arg] + optional, node.name)
 
 
 @unittest.skipIf(absent(tools=["mypy", "stubtest"]), "no mypy and stubtest")
@@ -190,28 +165,21 @@ class Mypy(Test):
                                    PYTHONPATH=FOLDER),
                          ("Success: no issues found in 1 module", []))
 
-    @long
     def test_programs(self):
-        """A program's right and wrong lines. The package, which it imports, is checked too."""
-        lines = ["from typing import assert_type", "import functools, io, os", "import vulfsjor"]
-        lines += [f"{expression}\nassert_type(None, None)" if kind == "None"
-                  else f"assert_type({expression}, {kind})" for expression, kind in RESULTS.items()]
-        good = "\n".join(lines).splitlines()
-        path = self.write("program.py", "\n".join([*good, *REFUSED, ""]))
-        last, errors = self.said("mypy", "--strict", "--cache-dir=/dev/null",
-                                 "--disable-error-code=func-returns-value", path)
-        places = {error.partition(": error: ")[0] for error in errors if ": error: " in error}
-        wanted = {f"program.py:{len(good) + place}" for place in range(1, len(REFUSED) + 1)}
-        self.assertEqual(places, wanted, "\n".join([*errors, last]))
-
-    def test_checks(self):
-        """A check has no value, so mypy refuses each line that uses one."""
-        right = ["import vulfsjor", "mac = vulfsjor.blake2b_mac(b'k')", "mac.verify(b'')"]
-        path = self.write("checks.py", "\n".join([*right, *CHECKS, ""]))
+        """A program's right and wrong lines. What returns None has no value, so a line that uses it is wrong. The
+        package, which the program imports, is checked too."""
+        right = ["from typing import assert_type", "import functools, io, os", "import vulfsjor"]
+        right += [f"assert_type({expression}, {kind})" for expression, kind in RESULTS.items() if kind != "None"]
+        right.append("mac = vulfsjor.blake2b_mac(b'k')")
+        wrong = [f"print({expression})" for expression, kind in RESULTS.items() if kind == "None"]
+        wrong += [*REFUSED, *CHECKS, *(
+            f"class Sub_{name}(vulfsjor.{name}): pass" for name, thing in vars(vulfsjor).items()
+            if isinstance(thing, type) and name not in ("InvalidTag", "TreeHasher"))]
+        path = self.write("program.py", "\n".join([*right, *wrong, ""]))
         last, errors = self.said("mypy", "--strict", "--cache-dir=/dev/null", path)
-        places = [error.partition(": error: ")[0] for error in errors if ": error: " in error]
-        self.assertEqual(places, [f"checks.py:{len(right) + place}" for place in range(1, len(CHECKS) + 1)],
-                         "\n".join([*errors, last]))
+        places = {error.partition(": error: ")[0] for error in errors if ": error: " in error}
+        lines = range(len(right) + 1, len(right) + len(wrong) + 1)
+        self.assertEqual(places, {f"program.py:{line}" for line in lines}, "\n".join([*errors, last]))
 
 
 if __name__ == "__main__":
