@@ -1,6 +1,7 @@
 """Tests of objects that threads share, and of the GIL: other threads run during long calls. test_tree_threads.py has
 trees by several threads."""
 import contextlib
+import functools
 import io
 import sys
 import threading
@@ -13,6 +14,11 @@ import oracle
 import vulfsjor
 
 LONG = bytes(1 << 24)
+# What makes an object, the arguments of its digest, and the digest of a message.
+KINDS = (*((make, (), lambda data, theirs=theirs: theirs(data).digest()) for _, make, theirs, _, _ in FAMILIES),
+         *((make, (99,), lambda data, make=make: make(data).digest(99)) for _, make, _ in OUTPUTS),
+         (functools.partial(vulfsjor.TreeHasher, 1 << 12, digest_size=20), (),
+          lambda data: oracle.tree_root(data, 1 << 12, 20)))
 
 
 def accepts(mac, tag):
@@ -79,17 +85,14 @@ class Threads(unittest.TestCase):
     def test_others_wait_for_a_long_update(self):
         """A call of an object sees all of an update that is under way, at least once in a hundred
         tries: in a single try the update may not have started."""
-        for _, make, theirs, _, _ in FAMILIES:
-            wanted = theirs(LONG).digest()
-            for call in (lambda hasher: hasher.copy().digest() == wanted, lambda hasher: hasher.digest() == wanted):
+        for make, size, theirs in KINDS:
+            wanted = theirs(LONG)
+            for call in (lambda hasher: hasher.copy().digest(*size) == wanted,
+                         lambda hasher: hasher.digest(*size) == wanted):
                 self.assertTrue(any(self.is_met(call, make()) for _ in range(100)))
-            tag = make(LONG, key=b"key").digest()  # test_mac.py knows that it is right
+        for _, make, *_ in FAMILIES:
+            tag = make(LONG, key=b"key").digest()  # test_conformance.py knows that it is right
             self.assertTrue(any(self.is_met(lambda mac: accepts(mac, tag), make(key=b"key")) for _ in range(100)))
-        for _, make, _ in OUTPUTS:
-            wanted = make(LONG).digest(9)
-            for call in (lambda output: output.copy().digest(9) == wanted,
-                         lambda output: output.digest(9) == wanted):
-                self.assertTrue(any(self.is_met(call, make()) for _ in range(100)))
 
     def is_met(self, call, hasher):
         """The result of a call while another thread updates the object."""
@@ -107,7 +110,7 @@ class Threads(unittest.TestCase):
             self.assertEqual(self.turns_during(lambda: [hasher.update(short) for _ in range(3000)]), 0)
 
     def test_2048_bytes_are_long(self):
-        for make in (*(make for _, make, *_ in (*FAMILIES, *OUTPUTS)), lambda: vulfsjor.TreeHasher(4096)):
+        for make, *_ in KINDS:
             hasher, before, end = make(), self.turns, time.monotonic() + 20
             while self.turns == before and time.monotonic() < end:
                 hasher.update(bytes(2048))
@@ -132,7 +135,7 @@ class Shared(unittest.TestCase):
                 count += len(short)
             counts.append(count)
 
-        long = threading.Thread(target=lambda: [hasher.update(piece) for _ in range(24)])
+        long = threading.Thread(target=lambda: [hasher.update(piece) for _ in range(8)])
         others = [threading.Thread(target=work) for _ in range(2)]
         for thread in (long, *others):
             thread.start()
@@ -140,36 +143,26 @@ class Shared(unittest.TestCase):
         while any(thread.is_alive() for thread in others):
             call()
         self.assertEqual(len(counts), 2)
-        return (24 << 20) + sum(counts)
+        return (8 << 20) + sum(counts)
 
-    def test_hashes(self):
-        for _, make, theirs, _, longest in FAMILIES:
-            hasher = make()
+    def test_updates(self):
+        """A count meanwhile never becomes less."""
+        for make, size, wanted in KINDS:
+            hasher, seen = make(), []
 
             def call():
-                self.assertEqual((len(hasher.digest()), hasher.digest_size), (longest, longest))
+                seen.append((len(hasher.digest(*size)), getattr(hasher, "count", 0), getattr(hasher, "digest_size", 0)))
                 hasher.copy().update(b"x")
 
             length = self.shared(hasher, call)
-            self.assertEqual(hasher.digest(), theirs(bytes(length)).digest())
-
-    def test_outputs(self):
-        """The bytes are those of an object that absorbs them by itself; test_xof.py has these."""
-        for _, make, _ in OUTPUTS:
-            hasher = make()
-
-            def call():
-                self.assertEqual(len(hasher.digest(9)), 9)
-                hasher.copy().update(b"x")
-
-            length = self.shared(hasher, call)
-            self.assertEqual(hasher.digest(99), make(bytes(length)).digest(99))
+            self.assertEqual(hasher.digest(*size), wanted(bytes(length)))
+            self.assertEqual(seen, sorted(seen))
+            self.assertEqual({(length, given) for length, _, given in seen},
+                             {(len(hasher.digest(*size)), getattr(hasher, "digest_size", 0))})
 
     def test_few_bytes(self):
         """No thread has ever updated with many."""
-        for make, size, wanted in (
-                *((make, (), wanted) for _, make, wanted, _, _ in FAMILIES),
-                *((make, (99,), make) for _, make, _ in OUTPUTS)):
+        for make, size, wanted in KINDS:
             hasher, barrier = make(), threading.Barrier(4)
 
             def work():
@@ -178,15 +171,7 @@ class Shared(unittest.TestCase):
                     hasher.update(bytes(99))
 
             by_threads(4, work)
-            self.assertEqual(hasher.digest(*size), wanted(bytes(4 * 3000 * 99)).digest(*size))
-
-    def test_trees(self):
-        """A count meanwhile never becomes less."""
-        hasher, counts = vulfsjor.TreeHasher(1 << 12, digest_size=20), []
-        length = self.shared(hasher, lambda: counts.append((hasher.count, hasher.digest_size)))
-        self.assertEqual((hasher.count, {size for _, size in counts}), (length, {20}))
-        self.assertEqual(counts, sorted(counts))
-        self.assertEqual(hasher.digest(), oracle.tree_root(bytes(length), 1 << 12, 20))
+            self.assertEqual(hasher.digest(*size), wanted(bytes(4 * 3000 * 99)))
 
     def test_counts_of_whole_updates(self):
         hasher, counts, piece = vulfsjor.TreeHasher(64), set(), bytes(100_003)
