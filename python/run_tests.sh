@@ -37,9 +37,6 @@ build() {
 # The version of Python that an interpreter is, such as 3.11.
 version_of() { "$1" -c 'import sys; print("%d.%d" % sys.version_info[:2])'; }
 
-# The tests of a file in an interpreter, each with a line.
-run_file() { "$1" -m unittest discover -v -s "$tests" -p "$2.py"; }
-
 # The names of the tests that were skipped, and why. Where a test has a doc comment, its name is on
 # the line above.
 skipped_tests() {
@@ -55,20 +52,14 @@ case $? in
 esac
 last=$(version_of "${interpreters[-1]}")
 for each in "${interpreters[@]}"; do
-    other=$(version_of "$each")
-    [ "$other" != "$last" ] || other=
-    for file in "$tests"/test_*.py; do
-        name=$(basename "$file" .py)
-        case $name:$other,$each,${VULFSJOR_TEST_HUGE-} in
-            test_against_hashlib:3* | test_api:3* | test_conformance:3* | test_names:3* | test_parallel:3* | \
-                test_threads:3* | test_tree_*:3*) ;;
-            *,"${interpreters[-1]}",* | *,1) ;;
-            *) skip "$name in $each" "VULFSJOR_TEST_HUGE is not set" && continue ;;
-        esac
-        check "$name in $each" run_file "$each" "$name"
-        while IFS='|' read -r test why; do
-            skip "$name in $each: $test" "$why"
-        done < <(skipped_tests)
-    done
+    some=()
+    if [ "$each" != "${interpreters[-1]}" ] && [ -z "${VULFSJOR_TEST_HUGE-}" ]; then
+        [ "$(version_of "$each")" != "$last" ] || { skip "all tests in $each" "VULFSJOR_TEST_HUGE is not set"; continue; }
+        some=(-ktest_{against_hashlib,api,conformance,names,parallel,threads,tree_})
+    fi
+    check "the tests in $each" "$each" -m unittest discover -v -s "$tests" "${some[@]}"
+    while IFS='|' read -r test why; do
+        skip "$test in $each" "$why"
+    done < <(skipped_tests)
 done
 finish

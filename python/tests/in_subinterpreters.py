@@ -38,12 +38,6 @@ for threads in (1, 3 if sys.version_info >= (3, 13) else 1):
     tree = vulfsjor.TreeHasher(4096)
     tree.update(data, threads=threads)
     assert tree.digest() == vulfsjor.tree_root(data, 4096, threads=threads) == {ROOT!r}
-for wrong in ("text", None):
-    try:
-        vulfsjor.blake2b(wrong)
-    except TypeError:
-        continue
-    raise AssertionError
 try:
     vulfsjor.blake2b.name = 5
 except TypeError:
@@ -64,7 +58,7 @@ def run(each):
         failures.append(getattr(failed, "formatted", failed))
 
 
-for _ in range(3):
+for _ in range(2):
     created = [interpreters.create() for _ in range(3)]
     if sys.version_info >= (3, 13):
         threads = [threading.Thread(target=run, args=(each,)) for each in created]
