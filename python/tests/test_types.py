@@ -1,9 +1,11 @@
 """Tests of the types that the package declares: against its results, and by mypy (Debian's package
 mypy) where that is installed."""
-import ast
 import functools  # noqa: F401  in an expression
+import inspect
 import io  # noqa: F401
 import os
+import re
+import types
 import unittest
 import warnings
 
@@ -83,8 +85,10 @@ REFUSED = (
     "vulfsjor.file_digest(io.BytesIO(), 'blake2s_mac')", "vulfsjor.file_digest(io.BytesIO(), 5)",
     "vulfsjor.blake2xb('text')", "vulfsjor.blake2xb(digest_size=5)", "vulfsjor.blake2xs().digest()",
     "vulfsjor.derive_key('key', b'', 9)", "vulfsjor.derive_key(b'key', b'')",
-    "vulfsjor.blake2bp('text')", "vulfsjor.blake2bp(b'', fanout=1)",
-    "vulfsjor.blake2sp(key=1)", "vulfsjor.blake2sp(last_node=True)",
+    "vulfsjor.blake2bp('text')", "vulfsjor.blake2bp(None)", "vulfsjor.blake2bp(b'', b'key')",
+    "vulfsjor.blake2bp(b'', fanout=1)", "vulfsjor.blake2bp(key='text')", "vulfsjor.blake2bp(salt='text')",
+    "vulfsjor.blake2bp(person='text')", "vulfsjor.blake2bp(digest_size=1.5)", "vulfsjor.blake2bp(size=1)",
+    "vulfsjor.blake2sp(key=1)", "vulfsjor.blake2sp(last_node=True)", "vulfsjor.blake2sp().update('text')",
     "vulfsjor.blake2b_many([b'', 'text'])", "vulfsjor.blake2b_many(5)",
     "vulfsjor.blake2s_many([], 32)", "vulfsjor.tree_root(b'')", "vulfsjor.tree_root(b'', 1, 32)",
     "vulfsjor.tree_root(b'', 1, threads='2')", "vulfsjor.tree_root_file(1.5, 1)",
@@ -130,40 +134,40 @@ class Results(unittest.TestCase):
                 eval(expression)  # pylint: disable=eval-used
 
     def test_stub(self):
-        """The types that the stub declares for arguments."""
+        """The stub, which runs as a module, has the names, parameters and defaults of the module, and these types."""
         with open(STUB, encoding="utf-8") as file:
-            functions = [node for node in ast.walk(ast.parse(file.read())) if isinstance(node, ast.FunctionDef)]
-        self.assertGreater(len(functions), 60)
-        for node in functions:
-            for each in (*node.args.posonlyargs, *node.args.args, *node.args.kwonlyargs):
-                optional = " | None" if (each.arg, node.name) == ("length", "__new__") else ""
-                if each.arg not in ("self", "cls"):
-                    self.assertEqual(ast.unparse(each.annotation), NAMED[each.arg] + optional, node.name)
+            text = re.sub("^from _typeshed .*", "", file.read(), flags=re.MULTILINE)
+        stub, library = types.ModuleType("stub"), vulfsjor._library
+        exec(f"from __future__ import annotations\n{text}", vars(stub))  # pylint: disable=exec-used
+        things = {name for name, thing in vars(stub).items() if getattr(thing, "__module__", "") == "stub"}
+        self.assertEqual(things | set(stub.__annotations__),
+                         {"__version__", *(name for name in dir(library) if name[0] != "_")})
+        for name in things - {"InvalidTag"}:
+            ours, theirs = getattr(stub, name), getattr(library, name)
+            if not isinstance(theirs, type):
+                self.same_parameters(ours, theirs)
+                continue
+            members = {member for member in dir(theirs) if member[0] != "_"}
+            self.assertEqual({member for member in (*vars(ours), *getattr(ours, "__annotations__", ()))
+                              if member[0] != "_"}, members)
+            self.assertEqual(hasattr(ours, "__final__"), name != "TreeHasher", name)
+            self.same_parameters(ours.__new__, theirs)
+            for member in filter(lambda member: callable(getattr(theirs, member)), members):
+                self.same_parameters(getattr(ours, member), getattr(theirs, member))
+
+    def same_parameters(self, ours, theirs):
+        """The parameters of a function of the stub and of the module, and the types of the first."""
+        mine, wanted = ([(each.name, each.kind, each.default) for each in inspect.signature(it).parameters.values()
+                         if each.name not in ("self", "cls")] for it in (ours, theirs))
+        self.assertEqual(mine, wanted, ours)
+        for name, *_ in mine:
+            optional = " | None" if (name, ours.__name__) == ("length", "__new__") else ""
+            self.assertEqual(ours.__annotations__[name], NAMED[name] + optional, ours)
 
 
-@unittest.skipIf(absent(tools=["mypy", "stubtest"]), "no mypy and stubtest")
+@unittest.skipIf(absent(tools=["mypy"]), "no mypy")
 class Mypy(Test):
     """mypy, without its cache."""
-
-    def write(self, name, text):
-        path = os.path.join(self.folder, name)
-        with open(path, "w", encoding="utf-8") as file:
-            file.write(text)
-        return path
-
-    def said(self, *words, **environment):
-        """The last line of a program, and all others."""
-        done = run(*words, cwd=self.folder, env={**os.environ, "MYPYPATH": FOLDER, "PYTHONPATH": "", **environment})
-        *lines, last = done.stdout.splitlines() or [""]
-        return last, lines
-
-    def test_stub(self):
-        """The stub next to the module. The class of the classes is not declared."""
-        allowed = self.write("allowed", "vulfsjor._library.blake2x?[bs]p?(_mac)?\n")
-        self.assertEqual(self.said("stubtest", "vulfsjor._library", "--allowlist", allowed,
-                                   "--mypy-config-file", self.write("config", "[mypy]\n"),
-                                   PYTHONPATH=FOLDER),
-                         ("Success: no issues found in 1 module", []))
 
     def test_programs(self):
         """A program's right and wrong lines. What returns None has no value, so a line that uses it is wrong. The
@@ -175,11 +179,13 @@ class Mypy(Test):
         wrong += [*REFUSED, *CHECKS, *(
             f"class Sub_{name}(vulfsjor.{name}): pass" for name, thing in vars(vulfsjor).items()
             if isinstance(thing, type) and name not in ("InvalidTag", "TreeHasher"))]
-        path = self.write("program.py", "\n".join([*right, *wrong, ""]))
-        last, errors = self.said("mypy", "--strict", "--cache-dir=/dev/null", path)
-        places = {error.partition(": error: ")[0] for error in errors if ": error: " in error}
+        with open(os.path.join(self.folder, "program.py"), "w", encoding="utf-8") as file:
+            file.write("\n".join([*right, *wrong, ""]))
+        done = run("mypy", "--strict", "--cache-dir=/dev/null", "program.py", cwd=self.folder,
+                   env={**os.environ, "MYPYPATH": FOLDER, "PYTHONPATH": ""})
+        places = {error.partition(": error: ")[0] for error in done.stdout.splitlines() if ": error: " in error}
         lines = range(len(right) + 1, len(right) + len(wrong) + 1)
-        self.assertEqual(places, {f"program.py:{line}" for line in lines}, "\n".join([*errors, last]))
+        self.assertEqual(places, {f"program.py:{line}" for line in lines}, done.stdout)
 
 
 if __name__ == "__main__":
