@@ -281,11 +281,10 @@ class Views(unittest.TestCase):
         """Work that was done before needs no more memory, nor one reference more to a class."""
         kinds = [thing for module in (vulfsjor._library, vulfsjor) for thing in vars(module).values()
                  if isinstance(thing, type)]
-        work()
-        references = [sys.getrefcount(kind) for kind in kinds]
         tracemalloc.start()
         work()  # what the tracing itself and the first threads keep
         gc.collect()
+        references = [sys.getrefcount(kind) for kind in kinds]
         before = tracemalloc.get_traced_memory()[0]
         work()
         gc.collect()

@@ -85,26 +85,21 @@ class DaskTest(unittest.TestCase):
 
     @long
     def test_program(self):
+        """By one worker in its process."""
         message = self.write(200000)
-        for words, leaf in (((), 65536), (("--leaf", "777"), 777)):
-            status, out, _ = self.run_program(*words, "message")
-            self.assertEqual((status, out), (0, f"{tree_root(message, leaf, 64).hex()}  message\n"))
-        status, out, errors = self.run_program("absent")
-        self.assertEqual((status, out), (1, ""))
-        self.assertRegex(errors, "(?m)^dask_root.py: .*No such file or directory: '.*/absent'$")
-        for words in ((), ("--leaf", "0", "message"), ("--leaf", "4294967296", "message"), ("a", "b")):
-            status, out, errors = self.run_program(*words)
-            self.assertEqual((status, out), (2, ""), words)
-            self.assertIn("usage: ", errors)
-
-    def run_program(self, *words):
-        """The status, output and errors of the program, by one worker in this process."""
         code = "import functools, dask_root as d\n" \
             "d.LocalCluster = functools.partial(d.LocalCluster, n_workers=1, processes=False)\nd.main()"
-        done = subprocess.run([sys.executable, "-c", code, *words], cwd=os.path.dirname(self.path), text=True,
-                              env={**os.environ, "PYTHONPATH": os.pathsep.join([FOLDER, EXAMPLES])},
-                              capture_output=True, check=False)
-        return done.returncode, done.stdout, done.stderr
+        for words, status, out, errors in (
+                (["message"], 0, f"{tree_root(message, 65536, 64).hex()}  message\n", ""),
+                (["--leaf", "777", "message"], 0, f"{tree_root(message, 777, 64).hex()}  message\n", ""),
+                (["absent"], 1, "", "(?m)^dask_root.py: .*No such file or directory: '.*/absent'$"),
+                *((words, 2, "", "usage: ") for words in (
+                    [], ["--leaf", "0", "message"], ["--leaf", "4294967296", "message"], ["a", "b"]))):
+            done = subprocess.run([sys.executable, "-c", code, *words], cwd=os.path.dirname(self.path), text=True,
+                                  env={**os.environ, "PYTHONPATH": os.pathsep.join([FOLDER, EXAMPLES])},
+                                  capture_output=True, check=False)
+            self.assertEqual((done.returncode, done.stdout), (status, out), words)
+            self.assertRegex(done.stderr, errors)
 
 
 if __name__ == "__main__":

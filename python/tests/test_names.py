@@ -66,25 +66,6 @@ class Words(unittest.TestCase):
                 signature = inspect.signature(getattr(make, method))
                 self.assertEqual(signature, inspect.signature(getattr(theirs, method)))
 
-    def test_salt_and_person_are_keywords(self):
-        met = 0
-        for name in vulfsjor.__all__:
-            thing = getattr(vulfsjor, name)
-            if thing is vulfsjor.InvalidTag:
-                continue
-            parameters = inspect.signature(thing).parameters
-            self.assertFalse({"persona", "personal", "personalization"} & set(parameters))
-            self.assertEqual("person" in parameters, "salt" in parameters)
-            for parameter in ("salt", "person", "key", "digest_size"):
-                if parameter not in parameters:
-                    continue
-                comes_first = parameter == "key" and (name.endswith("_mac") or name == "derive_key")
-                self.assertIs(parameters[parameter].kind,
-                              inspect.Parameter.POSITIONAL_OR_KEYWORD if comes_first else
-                              inspect.Parameter.KEYWORD_ONLY, name)
-                met += 1
-        self.assertEqual(met, 61)
-
     def test_all_is_documented(self):
         self.assertTrue(vulfsjor.__doc__)
         self.assertEqual(set(vulfsjor.__all__), {

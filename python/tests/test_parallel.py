@@ -1,12 +1,12 @@
-"""Compares the exceptions of BLAKE2bp and BLAKE2sp with those of Python's own BLAKE2b and BLAKE2s. test_conformance.py
-has their digests, and test_api.py what all families share."""
+"""Compares the objects of BLAKE2bp and BLAKE2sp with those of Python's own BLAKE2b and BLAKE2s. test_conformance.py has
+their digests and the arguments that are refused, test_types.py those of a wrong type, and test_api.py what all families
+share."""
 import inspect
-import operator
 import types
 import unittest
 
 import _blake2
-from test_against_hashlib import edge_parameters, edges_of_objects, inputs, outcome
+from test_against_hashlib import edges_of_objects
 import oracle
 import vulfsjor
 
@@ -26,60 +26,19 @@ def parallel(name):
     return make
 
 
-FAMILIES = (("blake2bp", "blake2b", parallel("b"), 64, 128), ("blake2sp", "blake2s", parallel("s"), 32, 64))
-TEXTS = ("key", "salt", "person")
+FAMILIES = (("blake2bp", "blake2b", 64, 128), ("blake2sp", "blake2s", 32, 64))
 
 
-class Arguments(unittest.TestCase):
-    """What is refused, and how."""
-
-    def test_edges(self):
-        """Each argument by itself, at its edges, beyond them, and of other types, and pairs. Their
-        exceptions are those of the plain family, but they have no tree parameters."""
-        met = {"tree": 0, "refused": 0, "digest": 0}
-        for name, plain, wanted, longest, _ in FAMILIES:
-            tree = set(inspect.signature(getattr(vulfsjor, plain)).parameters).difference(
-                inspect.signature(getattr(vulfsjor, name)).parameters)
-            self.assertEqual(tree, {"fanout", "depth", "leaf_size", "node_offset", "node_depth", "inner_size",
-                                    "last_node"})
-            for words in edge_parameters(longest):
-                ours, theirs = (outcome(lambda: make(b"message", **words).digest())
-                                for make in (getattr(vulfsjor, name), getattr(_blake2, plain)))
-                if tree & set(words):
-                    self.assertEqual(ours[0], "TypeError", words)
-                    self.assertTrue(any(f"'{word}'" in ours[1] for word in tree & set(words)), ours)
-                    met["tree"] += 1
-                elif isinstance(theirs, tuple):
-                    self.assertEqual(ours, renamed(theirs, plain, name), words)
-                    met["refused"] += 1
-                else:
-                    words.pop("usedforsecurity", None)
-                    given = {word: bytes(value) if word in TEXTS else operator.index(value)
-                             for word, value in words.items()}
-                    self.assertEqual(ours, wanted(b"message", **given).digest(), words)
-                    met["digest"] += 1
-        self.assertGreater(met["tree"], 400)
-        self.assertGreater(met["refused"], 150)
-        self.assertGreater(met["digest"], 80)
-
-    def test_inputs(self):
-        for name, plain, wanted, _, _ in FAMILIES:
-            make = getattr(vulfsjor, name)
-            for data in inputs():
-                theirs = outcome(lambda: getattr(_blake2, plain)(data).digest())
-                made, kept = outcome(lambda: make(data).digest()), make(b"before")
-                updated = outcome(lambda: kept.update(data))
-                if isinstance(theirs, tuple):
-                    self.assertEqual((updated, made), (theirs, theirs), data)
-                    data = b""
-                else:
-                    self.assertEqual((updated, made), (None, wanted(bytes(data)).digest()), data)
-                self.assertEqual(kept.digest(), wanted(b"before" + bytes(data)).digest(), data)
+class Objects(unittest.TestCase):
+    """Next to those of the plain family."""
 
     def test_objects(self):
-        """Their fields and constants, and that they are neither changed, nor subclassed, nor
+        """Their parameters, fields and constants, and that they are neither changed, nor subclassed, nor
         pickled."""
-        for name, plain, _, longest, block in FAMILIES:
+        for name, plain, longest, block in FAMILIES:
+            mine, theirs = (set(inspect.signature(getattr(vulfsjor, each)).parameters) for each in (name, plain))
+            self.assertEqual(theirs - mine, {"fanout", "depth", "leaf_size", "node_offset", "node_depth", "inner_size",
+                                             "last_node"})
             for ours, theirs in zip(edges_of_objects(vulfsjor, name),
                                     edges_of_objects(_blake2, plain), strict=True):
                 self.assertEqual(ours, renamed(theirs, plain, name))

@@ -9,13 +9,15 @@ import time
 import unittest
 
 from support import WITHOUT_GIL, by_threads
-from test_api import FAMILIES, OUTPUTS
+from test_api import FAMILIES, OUTPUTS, PLAIN
 import oracle
 import vulfsjor
 
 LONG = bytes(1 << 24)
-# What makes an object, the arguments of its digest, and the digest of a message.
-KINDS = (*((make, (), lambda data, theirs=theirs: theirs(data).digest()) for _, make, theirs, _, _ in FAMILIES),
+# What makes an object, the arguments of its digest, and the digest of a message, for which test_conformance.py knows that
+# some objects are right.
+KINDS = (*((make, (), lambda data, theirs=theirs: theirs(data).digest()) for _, make, theirs, _, _ in PLAIN),
+         *((make, (), lambda data, make=make: make(data).digest()) for _, make, *_ in FAMILIES[2:]),
          *((make, (99,), lambda data, make=make: make(data).digest(99)) for _, make, _ in OUTPUTS),
          (functools.partial(vulfsjor.TreeHasher, 1 << 12, digest_size=20), (),
           lambda data: oracle.tree_root(data, 1 << 12, 20)))
@@ -135,7 +137,7 @@ class Shared(unittest.TestCase):
                 count += len(short)
             counts.append(count)
 
-        long = threading.Thread(target=lambda: [hasher.update(piece) for _ in range(8)])
+        long = threading.Thread(target=lambda: [hasher.update(piece) for _ in range(24)])
         others = [threading.Thread(target=work) for _ in range(2)]
         for thread in (long, *others):
             thread.start()
@@ -143,7 +145,7 @@ class Shared(unittest.TestCase):
         while any(thread.is_alive() for thread in others):
             call()
         self.assertEqual(len(counts), 2)
-        return (8 << 20) + sum(counts)
+        return (24 << 20) + sum(counts)
 
     def test_updates(self):
         """A count meanwhile never becomes less."""

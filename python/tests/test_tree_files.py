@@ -23,28 +23,23 @@ class Files(Test):
     """Files of all kinds."""
 
     def test_regular_files(self):
-        """From 256 KiB on a file is for threads."""
-        for length in (0, 1, 256 * KIB - 1, 256 * KIB, len(DATA)):
-            path = self.file(DATA[:length])
-            wanted = oracle.tree_root(DATA[:length], 5000, 20, **TEXTS)
-            for threads, name in ((0, path), (1, path.encode()), (2, pathlib.Path(path)), (4, path)):
+        """From 256 KiB on a file is for threads. Four leaves of 4 MiB are as many bytes as a buffer may have, and a
+        longer leaf is read in pieces. The progress is that of the caller's thread, in parts of 1 MiB by one thread."""
+        for length, leaf_size in (
+                (0, 5000), (1, 5000), (256 * KIB - 1, 5000), (256 * KIB, 5000), (len(DATA), 5000), (len(DATA), 1 << 14),
+                *((17 * MIB + 5, leaf_size) for leaf_size in (4 * MIB, 4 * MIB + 1, 16 * MIB + 1, 17 * MIB))):
+            data = (DATA * 2)[:length]
+            path, wanted = self.file(data), oracle.tree_root(data, leaf_size, 20, **TEXTS)
+            for threads, name in ((0, path), (1, path.encode()), (3, pathlib.Path(path))):
                 seen = []
-                found = vulfsjor.tree_root_file(name, 5000, digest_size=20, threads=threads, progress=seen.append,
-                                                **TEXTS)
-                self.assertEqual((found, seen[-1]), (wanted, length))
-                self.assertEqual(seen, sorted(set(seen)))
-
-    def test_long_leaves(self):
-        """Four leaves of 4 MiB are as many bytes as a buffer may have, and a longer leaf is read in pieces."""
-        data = bytearray(20 * MIB + 5)
-        for place in range(0, len(data), MIB // 2):
-            data[place] = place >> 19
-        path = self.file(data)
-        for leaf_size in (4 * MIB, 4 * MIB + 1, 16 * MIB + 1):
-            wanted = oracle.tree_root(data, leaf_size)
-            for threads in (1, 3):
-                found = vulfsjor.tree_root_file(path, leaf_size, threads=threads)
-                self.assertEqual(found, wanted, (leaf_size, threads))
+                found = vulfsjor.tree_root_file(name, leaf_size, digest_size=20, threads=threads, **TEXTS,
+                                                progress=lambda done: seen.append((threading.get_ident(), done)))
+                numbers = [done for _, done in seen]
+                self.assertEqual((found, numbers[-1]), (wanted, length))
+                self.assertEqual((numbers, {thread for thread, _ in seen}),
+                                 (sorted(set(numbers)), {threading.get_ident()}))
+                if threads == 1 and leaf_size in (1 << 14, 17 * MIB):
+                    self.assertEqual(numbers, [*range(MIB, length, MIB), length])
 
     def test_descriptors_keep_their_position(self):
         for data in (DATA, DATA[:1000]):
@@ -210,20 +205,6 @@ class Refusals(Test):
 
 class Progress(Test):
     """What the callback gets, and what it raises."""
-
-    def test_it_is_called_from_this_thread(self):
-        for threads in (1, 3):
-            seen = []
-            vulfsjor.tree_root_file(self.file(DATA), 1 << 14, threads=threads,
-                                    progress=lambda done: seen.append((threading.get_ident(), done)))
-            self.assertEqual({thread for thread, _ in seen}, {threading.get_ident()})
-            numbers = [done for _, done in seen]
-            self.assertEqual((numbers, numbers[-1]), (sorted(set(numbers)), len(DATA)))
-            if threads == 1:  # parts of 1 MiB
-                self.assertEqual(numbers, [*range(MIB, 10 * MIB, MIB), len(DATA)])
-        seen = []
-        vulfsjor.tree_root_file(self.file(length=18 * MIB), 17 * MIB, threads=1, progress=seen.append)
-        self.assertEqual(seen, [*range(MIB, 19 * MIB, MIB)])  # also within a leaf that no buffer holds
 
     def test_its_exception_stops_all(self):
         """A file that would take days."""
