@@ -133,7 +133,7 @@ check_huge "a comparison takes equal time" cargo_here test --test programs -- --
 needs cargo-clippy
 check_huge "clippy has nothing to say" cargo_here clippy --all-targets -- -D warnings -D clippy::must_use_candidate
 needs
-check_huge "each call with more than 4 GiB" cargo_here test --test huge -- --ignored
+check_huge "each call with more than 4 GiB" cargo_here test --test trees -- --ignored
 check_huge "the pages of cargo doc have no broken link" env RUSTDOCFLAGS="-D warnings" \
     cargo doc --no-deps --manifest-path "$top/Cargo.toml"
 check_debian "the crate vulfsjor-digest" digest=0.10 serde=1 hmac=0.12 hkdf=0.12 pbkdf2=0.11 -- \

@@ -6,7 +6,7 @@
 use std::collections::hash_map::DefaultHasher;
 use std::error::Error;
 use std::hash::{Hash, Hasher};
-use std::io::{self, Write};
+use std::io;
 use std::mem::{size_of, MaybeUninit};
 use vulfsjor::*;
 
@@ -131,28 +131,6 @@ macro_rules! family {
                 };
                 assert!(left(&copy) > 0);
             }
-
-            #[test]
-            fn nothing_is_left_of_a_key() {
-                let key: Vec<u8> = (1..=$max).collect();
-                let mac = || {
-                    let mut mac = $mac::new(&key).unwrap();
-                    mac.update(b"a secret message");
-                    mac
-                };
-                let [before, after] = bytes_around_drop(mac());
-                assert!(contains_bytes(&before, &key) && before.len() >= 200);
-                assert!(after.iter().all(|byte| *byte == 0));
-                let hasher = || Params::new().key(&key).$make().unwrap();
-                let [before, after] = bytes_around_drop(hasher());
-                assert!(contains_bytes(&before, &key) && after.iter().all(|byte| *byte == 0));
-                let mut hasher_of_text = $hasher::new();
-                hasher_of_text.update(b"a secret message");
-                let [before, after] = bytes_around_drop(hasher_of_text);
-                assert!(contains_bytes(&before, b"a secret message") && after.iter().all(|byte| *byte == 0));
-                let [_, after] = bytes_around_drop(hasher().clone());
-                assert!(after.iter().all(|byte| *byte == 0));
-            }
         }
     };
 }
@@ -266,11 +244,9 @@ macro_rules! ends_of_outputs {
         #[test]
         fn $test() {
             let mut reader = Params::new().output_size(9).$make().unwrap().finalize_xof();
-            reader.read(&mut [0; 5]).unwrap();
-            let mut last = [0xaa; 6];
-            assert_eq!(io::Read::read(&mut reader, &mut last).unwrap(), 4);
-            assert!(last[4..] == [0xaa; 2] && io::Read::read(&mut reader, &mut last).unwrap() == 0);
-            reader.read(&mut []).unwrap();
+            let mut out = [0xaa; 10];
+            assert_eq!(io::Read::read(&mut reader, &mut out).unwrap(), 9);
+            assert!(out[9] == 0xaa && io::Read::read(&mut reader, &mut out).unwrap() == 0);
             assert_eq!(reader.read(&mut [0]).unwrap_err().to_string(), "out.len() is 1, and must be 0");
             let refused = $hasher::derive_key(b"key", b"", &mut []).unwrap_err().to_string();
             assert_eq!(refused, concat!("out.len() is 0, and must be 1 to ", $most));
@@ -296,32 +272,46 @@ ends_of_outputs!(ends_of_outputs_of_blake2xb, Blake2xb, blake2xb, 4294967294u64,
 ends_of_outputs!(ends_of_outputs_of_blake2xs, Blake2xs, blake2xs, 65534, 32 << 32);
 
 #[test]
-fn nothing_is_left_of_a_tree() {
-    let mut hasher = TreeParams::new(1000).salt(b"salt of the tree").hasher().unwrap();
-    hasher.update([7; 2500]).flush().unwrap();
-    let [before, after] = bytes_around_drop(hasher);
-    assert!(contains_bytes(&before, b"salt of the tree") && before.len() >= 900);
-    assert!(after.iter().all(|byte| *byte == 0));
-}
-
-#[test]
-fn nothing_is_left_of_a_key_of_an_output() {
+fn nothing_is_left_of_a_key_or_a_message() {
     let key: Vec<u8> = (1..=32).collect();
-    let params = Params::new().key(&key);
-    let (b, s) = (params.blake2xb().unwrap(), params.blake2xs().unwrap());
-    for [before, after] in [
-        bytes_around_drop(b.finalize_xof()),
-        bytes_around_drop(s.finalize_xof()),
-        bytes_around_drop(b),
-        bytes_around_drop(s),
-    ] {
-        assert!(contains_bytes(&before, &key) && before.len() >= 200);
-        assert!(after.iter().all(|byte| *byte == 0));
+    let params = Params::new().key(&key).salt(b"salt");
+    let (xb, xs) = (params.blake2xb().unwrap(), params.blake2xs().unwrap());
+    let mut hasher = Blake2b::new();
+    hasher.update(&key);
+    let mut tree = TreeParams::new(1000).salt(b"salt").hasher().unwrap();
+    tree.update([7; 2400]).update(&key);
+    for (i, [before, after]) in [
+        bytes_around_drop(params.blake2b().unwrap()),
+        bytes_around_drop(params.blake2s().unwrap()),
+        bytes_around_drop(params.blake2bp().unwrap()),
+        bytes_around_drop(params.blake2sp().unwrap()),
+        bytes_around_drop(params.blake2b().unwrap().clone()),
+        bytes_around_drop(params.blake2s().unwrap().clone()),
+        bytes_around_drop(Blake2bMac::new(&key).unwrap()),
+        bytes_around_drop(Blake2sMac::new(&key).unwrap()),
+        bytes_around_drop(Blake2bpMac::new(&key).unwrap()),
+        bytes_around_drop(Blake2spMac::new(&key).unwrap()),
+        bytes_around_drop(xb.finalize_xof()),
+        bytes_around_drop(xs.finalize_xof()),
+        bytes_around_drop(xb),
+        bytes_around_drop(xs),
+        bytes_around_drop(hasher),
+        bytes_around_drop(tree),
+    ]
+    .into_iter()
+    .enumerate()
+    {
+        assert!(contains_bytes(&before, &key) && before.len() >= 200, "{i}");
+        assert!(after.iter().all(|byte| *byte == 0), "{i}");
     }
 }
 
 #[test]
 fn errors_and_defaults() {
+    let tags = [Blake2bMac::tag(b"", b"x"), Blake2sMac::tag(b"", b"x"), Blake2bpMac::tag(b"", b"x")];
+    for error in tags.map(Result::unwrap_err).into_iter().chain(Blake2spMac::tag(b"", b"x").err()) {
+        assert_eq!((error.argument(), error.value()), ("key.len()", 0));
+    }
     let shown = |error: &dyn Error| error.to_string();
     let error = Params::new().output_size(0).blake2b().unwrap_err();
     assert_eq!(shown(&error), "output_size is 0, and must be 1 to 64");

@@ -1,6 +1,10 @@
-//! The tree by threads, and what errors of trees say.
-#![cfg(feature = "std")]
+//! The tree by threads, what errors of trees say, and lengths beyond 2^32 bytes, compared with hashlib. What hashes
+//! such a message takes seconds, and is ignored: `VULFSJOR_TEST_HUGE=1 rust/run_tests.sh` runs it.
+#![cfg(all(feature = "std", unix))]
 use std::env;
+use std::fs::{self, File};
+use std::io::Write;
+use std::os::unix::fs::FileExt;
 use std::process::Command;
 use vulfsjor::*;
 
@@ -122,18 +126,6 @@ fn roots_by_threads_are_those_of_one() {
     }
 }
 
-#[test]
-fn updates_by_threads_mix_with_others() {
-    let message: Vec<u8> = (0..3_000_000).map(|i| (i % 251) as u8).collect();
-    let mut hasher = TreeParams::new(4096).hasher().unwrap();
-    hasher.update(&message[..4096]).update_threads(&message[4096..2_000_000], 3);
-    let mut other = hasher.clone();
-    hasher.update(&message[2_000_000..2_000_001]).update_threads(&message[2_000_001..], 2);
-    other.update_threads(&message[2_000_000..], 0);
-    let wanted = TreeParams::new(4096).root(&message);
-    assert_eq!([Ok(hasher.finalize()), Ok(other.finalize())], [wanted; 2]);
-}
-
 // Where the system starts no thread, since their stacks are too large for it, the caller's thread
 // does all. It is this test that runs again, in another process.
 #[test]
@@ -154,4 +146,206 @@ fn no_thread_can_be_started() {
     let mut hasher = params.hasher().unwrap();
     hasher.update_threads(&message, 4);
     assert_eq!(Ok(hasher.finalize()), wanted);
+}
+
+// The long message is zeros, except at five places around multiples of 2^31.
+const LENGTH: usize = (1 << 32) + 1000;
+const MARKS: [(usize, u8); 5] = [(0, 1), (1 << 31, 2), ((1 << 32) - 1, 3), (1 << 32, 4), (LENGTH - 1, 5)];
+
+// What hashlib computes of the message: the root with the persona `files`, and 64 bytes.
+const BLAKE2B: &str = "5129d8fb71987970f5af5ac48b4df817a8f7d599523ba3951ebeb7471dab9c0c\
+                       ffdfe8851097e30fcbd137b96d042d5115fd48bd48f6107f8824078685395586";
+const BLAKE2S: &str = "f0086540373fc864d4ee4c2840e3380208a054b0d6e775915955a7a8b418f657";
+const BLAKE2B_KEY: &str = "11b24d87f1affb26e0255928079f37268df36719d0782823960fc4103b00b134\
+                           72a78685fdc49139244742738fed035c94920f41c1afa043c3b6c29409b88df6";
+const BLAKE2S_KEY: &str = "638e8bcc626b3db9f89c5b92846bbaf208100e8bcda613925f2e73231db7794b";
+const ROOT: &str = "66383ab03278a4f5db6fb06c6f84d990ec10bd64668c2cff212e831b0084023b\
+                    249089f16e3e87f7cd8f8139ff7a2ce77488ef6f49318069a0594e42aa1a1b23";
+// The root over 2^26 + 1 digests with the marks below their end, for leaves of one byte; and that
+// of these leaves and one more, `x`.
+const ROOT_OF_DIGESTS: &str = "fbf7a9b23fa891b56efe885daca61486b5c9441c4f4518c067c0ee70bd193ac3\
+                               2e30fc6d19e9b54f902fe17501c2f2a0beb78c650f614758d210624f9bda86cd";
+const ROOT_OF_MORE: &str = "d791033fc05293273107205607be5920509f9d598bb91164f8ee70b3804f0a51\
+                            79f41ee27558c85411ff75ef48fd9953df442912328edb7850d3d7c3716ba944";
+
+// Zeros, which are one page of the system's where nobody writes them, with the marks below this length.
+fn marked(length: usize) -> Vec<u8> {
+    let mut bytes = vec![0; length];
+    for (place, mark) in MARKS.into_iter().filter(|(place, _)| *place < length) {
+        bytes[place] = mark;
+    }
+    bytes
+}
+
+fn params() -> TreeParams<'static> {
+    TreeParams::new(64 << 20).persona(b"files")
+}
+
+// A length whose low 32 bits would be accepted is refused, and named.
+#[test]
+fn lengths_that_would_be_right_without_their_high_bits() {
+    let long = vec![0; (1 << 32) + 8];
+    let (value, text) = ((1 << 32) + 8, &long[..]);
+    let of = |error: InvalidArgument| (error.argument(), error.value());
+    let new = Params::new;
+    for (params, name) in [
+        (new().key(text), "key.len()"),
+        (new().salt(text), "salt.len()"),
+        (new().persona(text), "persona.len()"),
+        (new().output_size((1 << 32) + 8), "output_size"),
+    ] {
+        let wanted = Some((name, value));
+        assert_eq!([params.blake2b().err(), params.blake2bp().err()].map(|error| error.map(of)), [wanted; 2]);
+        assert_eq!([params.blake2s().err(), params.blake2sp().err()].map(|error| error.map(of)), [wanted; 2]);
+        if name != "output_size" {
+            assert_eq!([params.blake2xb().err(), params.blake2xs().err()].map(|error| error.map(of)), [wanted; 2]);
+            assert_eq!(Blake2b::digest_many(&params, &[b"x"], &mut [[0; 32]]).map_err(of).err(), wanted);
+            assert_eq!(Blake2s::digest_many(&params, &[b"x"], &mut [[0; 32]]).map_err(of).err(), wanted);
+        }
+    }
+    assert_eq!(Blake2bMac::new(text).map_err(of).err(), Some(("key.len()", value)));
+    assert_eq!(Blake2sMac::tag(text, b"x").map_err(of), Err(("key.len()", value)));
+    let tree = TreeParams::new(1);
+    for (params, name) in [
+        (tree.salt(text), "salt.len()"),
+        (tree.persona(text), "persona.len()"),
+        (tree.output_size((1 << 32) + 8), "output_size"),
+    ] {
+        assert_eq!(params.hasher().map_err(of).err(), Some((name, value)));
+        for root in [params.root(b"x"), params.root_of_leaves(&[0; 64]), params.root_threads(b"x", 2)] {
+            assert_eq!(root.map_err(of), Err((name, value)));
+        }
+        if name != "output_size" {
+            assert_eq!(params.leaves(b"x", 0, true, &mut [0; 64]).map_err(of), Err((name, value)));
+        }
+    }
+}
+
+#[test]
+fn rooms_that_would_be_right_without_their_high_bits() {
+    let mut room = vec![0; (1 << 32) + 64];
+    let (one, two) = (TreeParams::new(1), TreeParams::new(2));
+    let mut hasher = one.hasher().unwrap();
+    let said = "digests.len() is 4294967360, and must be 64";
+    assert_eq!(one.leaves(b"x", 0, true, &mut room).unwrap_err().to_string(), said);
+    assert_eq!(hasher.leaves_ahead(0, b"x", &mut room).unwrap_err().to_string(), said);
+    let (leaves, digests) = (&room[..(1 << 32) + 1], &room[..(1 << 32) + 63]);
+    for (refused, said) in [
+        (two.leaves(leaves, 0, false, &mut [0; 64]), "bytes.len() is 4294967297, and must be a positive multiple of 2"),
+        (hasher.update_leaves(leaves, b"x").map(drop), "digests.len() is 4294967297, and must be a multiple of 64"),
+        (
+            one.root_of_leaves(digests).map(drop),
+            "digests.len() is 4294967359, and must be a positive multiple of 64",
+        ),
+    ] {
+        assert_eq!(refused.unwrap_err().to_string(), said);
+    }
+}
+
+#[test]
+fn bytes_that_would_be_equal_without_their_high_bits() {
+    let mut long = vec![0; (1 << 32) + 64];
+    let digest = Blake2b::digest(b"x");
+    long[..64].copy_from_slice(digest.as_bytes());
+    assert!(digest == long[..64] && digest != long[..] && long[..] != digest);
+    let tag = Blake2bMac::tag(b"key", b"x").unwrap();
+    long[..64].copy_from_slice(tag.as_bytes());
+    let mut mac = Blake2bMac::new(b"key").unwrap();
+    mac.update(b"x");
+    assert_eq!([mac.verify(&long[..64]), mac.verify(&long)], [Ok(()), Err(MacError)]);
+    let mac = Blake2sMac::new(b"key").unwrap();
+    long[..32].copy_from_slice(mac.finalize().as_bytes());
+    assert_eq!([mac.verify(&long[..32]), mac.verify(&long[..(1 << 32) + 32])], [Ok(()), Err(MacError)]);
+}
+
+macro_rules! long_messages {
+    ($test:ident, $hasher:ident, $mac:ident, $hash:ident, $max:literal, $digest:ident, $tag:ident) => {
+        #[test]
+        #[ignore = "more than 4 GiB, several times"]
+        fn $test() {
+            let message = marked(LENGTH);
+            let mut hasher = $hasher::new();
+            assert_eq!(hasher.write(&message).unwrap(), LENGTH);
+            assert_eq!(hasher.count(), LENGTH as u64);
+            let mut mac = $mac::new(b"key").unwrap();
+            let tag = mac.update(&message).finalize();
+            assert!(mac.verify(tag.as_bytes()).is_ok());
+            let mut digests = [[0; $max]; 2];
+            $hasher::digest_many(&Params::new(), &[b"x", &message[..]], &mut digests).unwrap();
+            let digests = [
+                $hasher::digest(&message),
+                Params::new().$hash(&message).unwrap(),
+                hasher.finalize(),
+                Digest::from(digests[1]),
+            ];
+            assert_eq!(digests.map(|digest| digest.to_string()), [$digest; 4]);
+            let tags = [tag, $mac::tag(b"key", &message).unwrap()];
+            assert_eq!(tags.map(|tag| tag.to_string()), [$tag; 2]);
+        }
+    };
+}
+long_messages!(long_messages_of_blake2b, Blake2b, Blake2bMac, blake2b_hash, 64, BLAKE2B, BLAKE2B_KEY);
+long_messages!(long_messages_of_blake2s, Blake2s, Blake2sMac, blake2s_hash, 32, BLAKE2S, BLAKE2S_KEY);
+
+#[test]
+#[ignore = "more than 4 GiB, several times"]
+fn long_trees() {
+    let (message, params) = (marked(LENGTH), params());
+    let absorbed = |absorb: &dyn Fn(&mut TreeHasher)| {
+        let mut hasher = params.hasher().unwrap();
+        absorb(&mut hasher);
+        assert_eq!(hasher.count(), LENGTH as u64);
+        hasher.finalize()
+    };
+    let mut digests = vec![0; 64 * 65];
+    params.leaves(&message, 0, true, &mut digests).unwrap();
+    let roots = [
+        params.root(&message).unwrap(),
+        params.root_threads(&message, 0).unwrap(),
+        params.root_of_leaves(&digests).unwrap(),
+        absorbed(&|hasher| hasher.write_all(&message).unwrap()),
+        absorbed(&|hasher| assert!(hasher.update_threads(&message, 4).count() > 0)),
+        // Whole leaves of 2^32 bytes, and the last bytes of the message.
+        absorbed(&|hasher| {
+            let mut next = vec![0; 64 * 64];
+            hasher.leaves_ahead(0, &message[..1 << 32], &mut next).unwrap();
+            hasher.update_leaves(&next, &message[1 << 32..]).unwrap().flush().unwrap();
+        }),
+        // An input of more than 2^32 bytes after no digests.
+        absorbed(&|hasher| hasher.update_leaves(b"", &message).unwrap().flush().unwrap()),
+    ];
+    assert_eq!(roots.map(|root| root.to_string()), [ROOT; 7]);
+}
+
+#[test]
+#[ignore = "4 GiB by all threads, and by one"]
+fn long_files() {
+    let path = format!("{}/huge-{}", env!("CARGO_TARGET_TMPDIR"), std::process::id());
+    let file = File::options().read(true).write(true).create_new(true).open(&path).unwrap();
+    file.set_len(LENGTH as u64).unwrap();
+    for (place, mark) in MARKS {
+        file.write_all_at(&[mark], place as u64).unwrap();
+    }
+    let roots = [0, 1].map(|threads| {
+        let mut last = 0;
+        let root = params().root_file_with_progress(&path, threads, |bytes| {
+            last = bytes;
+            Ok(())
+        });
+        (root.unwrap().to_string(), last)
+    });
+    assert_eq!(roots, [0, 1].map(|_| (ROOT.to_string(), LENGTH as u64)));
+    let mut hasher = Blake2b::new();
+    assert_eq!(hasher.update_reader(&file).unwrap().finalize().to_string(), BLAKE2B);
+    fs::remove_file(&path).unwrap();
+}
+
+#[test]
+#[ignore = "8 GiB by one thread"]
+fn more_than_2_to_the_26_digests() {
+    let (digests, params) = (marked((1 << 32) + 64), TreeParams::new(1).persona(b"files"));
+    assert_eq!(params.root_of_leaves(&digests).unwrap().to_string(), ROOT_OF_DIGESTS);
+    let mut hasher = params.hasher().unwrap();
+    assert_eq!(hasher.update_leaves(&digests, b"x").unwrap().count(), (1 << 26) + 2);
+    assert_eq!(hasher.finalize().to_string(), ROOT_OF_MORE);
 }
