@@ -2,6 +2,7 @@
 //! in each profile, next to another version of the crate and to the library for C, and on other
 //! processors.
 #![cfg(feature = "std")]
+use std::collections::BTreeSet;
 use std::path::{Path, PathBuf};
 use std::process::{Command, Output};
 use std::{env, fs};
@@ -17,11 +18,6 @@ const VERSION: &str = env!("CARGO_PKG_VERSION");
 fn some_builds<T>(builds: &[T]) -> &[T] {
     let all = env::var_os("VULFSJOR_TEST_HUGE").is_some();
     &builds[..if all { builds.len() } else { 1 }]
-}
-
-// The profile of a program that is built in one only.
-fn profile() -> &'static str {
-    some_builds(&["dev", "release"]).last().unwrap()
 }
 
 // A new folder for the test of this name.
@@ -83,6 +79,9 @@ impl Program {
     // Builds it in a profile, for the processor that RUSTFLAGS names if they do.
     fn build_for(&self, profile: &str, flags: &str) -> PathBuf {
         let mut cargo = cargo(&["build", "--profile", profile], &self.folder);
+        if !flags.is_empty() {
+            cargo.env("CARGO_PROFILE_RELEASE_OPT_LEVEL", "1"); // quicker, and enough to leave out what is never called
+        }
         output_of(cargo.env("RUSTFLAGS", flags));
         let built = target().join(profile.replace("dev", "debug")).join(&self.name);
         let copy = self.folder.join(profile);
@@ -92,12 +91,6 @@ impl Program {
 
     fn build(&self, profile: &str) -> PathBuf {
         self.build_for(profile, "")
-    }
-
-    fn prints(&self, profile: &str, wanted: &str) -> PathBuf {
-        let built = self.build(profile);
-        assert_eq!(output_of(&mut Command::new(&built)), wanted);
-        built
     }
 }
 
@@ -141,19 +134,6 @@ const BUILDS: &[&str] = &["v2", "v3", "v4"];
 #[cfg(target_arch = "aarch64")]
 const BUILDS: &[&str] = &["arm"];
 
-// A program contains of the assembly what it calls, and no name that another object could see. For
-// link-time optimization two_versions() shows it.
-#[test]
-fn a_program_holds_what_it_calls() {
-    let program = Program::new("holds", PRINT_ABC, &[TOP.as_ref()]);
-    for profile in some_builds(&["dev", "release"]) {
-        let built = program.prints(profile, ABC);
-        for build in BUILDS {
-            assert_eq!(functions_held(&built, VERSION, &code(), build), ["blake2b"], "{profile}");
-        }
-    }
-}
-
 // A library with its own panic handler and without an allocator, which links neither std nor alloc.
 #[test]
 fn a_library_without_std() {
@@ -193,55 +173,60 @@ fn one_build_if_the_target_has_its_features() {
     }
 }
 
-// The first call of a program, by its argument, on processors that qemu emulates: with AVX2, with
-// SSE4.2, and with neither, where it panics.
+// The first calls of a program, by its arguments, on processors that qemu emulates: with AVX2, with
+// SSE4.2, and with neither, where each panics.
 #[test]
 #[cfg(target_arch = "x86_64")]
 #[ignore = "needs qemu-x86_64"]
 fn the_first_call_on_other_processors() {
     let lines = r#"let (new, tree) = (a::Params::new(), a::TreeParams::new(1));
         let (key, mut digests) = (new.key(b"k"), [[0; 64]; 1]);
-        match std::env::args().nth(1).unwrap().as_str() {
-            "digest" => drop(a::Blake2b::digest(b"abc")),
-            "new" => drop(a::Blake2b::new()),
-            "new of blake2s" => drop(a::Blake2s::new()),
-            "mac" => drop(a::Blake2bMac::with_params(&key).unwrap()),
-            "tag" => drop(a::Blake2sMac::tag(b"k", b"abc").unwrap()),
-            "many" => a::Blake2b::digest_many(&new, &[b"abc"], &mut digests).unwrap(),
-            "none of many" => a::Blake2b::digest_many::<64>(&new, &[b""; 0], &mut []).unwrap(),
-            "tree" => drop(tree.hasher().unwrap()),
-            "root" => drop(tree.root(b"abc").unwrap()),
-            "threads" => drop(tree.root_threads(b"abc", 2).unwrap()),
-            "count" => drop(tree.leaf_count(1)),
-            "leaves" => tree.leaves(b"a", 0, true, &mut digests[0]).unwrap(),
-            "root of leaves" => drop(tree.root_of_leaves(&digests[0]).unwrap()),
-            _ => unreachable!(),
+        for call in std::env::args().skip(1) {
+            let call = std::panic::AssertUnwindSafe(|| match call.as_str() {
+                "digest" => drop(a::Blake2b::digest(b"abc")),
+                "new" => drop(a::Blake2b::new()),
+                "new of blake2s" => drop(a::Blake2s::new()),
+                "mac" => drop(a::Blake2bMac::with_params(&key).unwrap()),
+                "tag" => drop(a::Blake2sMac::tag(b"k", b"abc").unwrap()),
+                "many" => a::Blake2b::digest_many(&new, &[b"abc"], &mut digests).unwrap(),
+                "none of many" => a::Blake2b::digest_many::<64>(&new, &[b""; 0], &mut []).unwrap(),
+                "tree" => drop(tree.hasher().unwrap()),
+                "root" => drop(tree.root(b"abc").unwrap()),
+                "threads" => drop(tree.root_threads(b"abc", 2).unwrap()),
+                "count" => drop(tree.leaf_count(1)),
+                "leaves" => tree.leaves(b"a", 0, true, &mut digests[0]).unwrap(),
+                "root of leaves" => drop(tree.root_of_leaves(&digests[0]).unwrap()),
+                _ => unreachable!(),
+            });
+            println!("{}", if std::panic::catch_unwind(call).is_ok() { "returned" } else { "panicked" });
         }
         println!("{}", a::Blake2b::digest(b"abc"));"#;
     let program = Program::new("first_call", lines, &[TOP.as_ref()]).build("dev");
-    let on = |processor: &str, call: &str| {
+    let on = |processor: &str, calls: &[&str]| {
         let mut qemu = Command::new("qemu-x86_64");
-        qemu.args(["-cpu", processor]).arg(&program).arg(call).output().unwrap()
+        let Output { status, stdout, stderr } =
+            qemu.args(["-cpu", processor]).arg(&program).args(calls).output().unwrap();
+        (status.code(), String::from_utf8(stdout).unwrap(), String::from_utf8(stderr).unwrap())
     };
     let calls = lines.lines().filter_map(|line| line.trim().split_once("\" =>"));
     let calls: Vec<&str> = calls.map(|(call, _)| &call[1..]).collect();
-    assert_eq!(calls.len(), 13);
-    for call in calls {
-        let Output { status, stderr, .. } = on("core2duo", call);
-        assert_eq!(status.code(), Some(101), "{call}");
-        let said = String::from_utf8_lossy(&stderr).into_owned();
-        assert!(said.contains("this processor is below x86-64-v2, which vulfsjor needs"), "{said}");
-    }
+    let (status, said, errors) = on("core2duo", &calls);
+    assert_eq!((status, said), (Some(101), "panicked\n".repeat(13)));
+    let why = "this processor is below x86-64-v2, which vulfsjor needs";
+    assert_eq!(errors.matches(why).count(), 14, "{errors}");
     for processor in ["Haswell", "Nehalem"] {
         for call in ["digest", "tree"] {
-            assert_eq!(String::from_utf8(on(processor, call).stdout).unwrap(), ABC);
+            assert_eq!(on(processor, &[call]).1, format!("returned\n{ABC}"));
         }
     }
 }
 
-// The crate's package has what it needs and nothing else, and is built without a registry.
+// The crate's package has what it needs and nothing else, and is built without a registry, next to another
+// version of the crate in the same program, in each profile. The code of that is another too, and so is its
+// number in the names of its texts, as in those of dist/. The program contains of the assembly what it calls,
+// and no name that another object could see.
 #[test]
-fn the_package() {
+fn the_package_next_to_another_version() {
     let folder = folder("package");
     // Without a build of cargo's: one of what is in the package follows.
     let mut package = cargo(&["package", "--allow-dirty", "--no-verify"], TOP.as_ref());
@@ -249,60 +234,37 @@ fn the_package() {
     let file = target().join(format!("package/vulfsjor-{VERSION}.crate"));
     run("tar", &[&"-C", &folder, &"-xzf", &file]);
     let root = folder.join(format!("vulfsjor-{VERSION}"));
-    let files = |root: &Path, parts: &[&str]| {
-        let mut find = Command::new("find");
-        let found = output_of(find.args(parts).args(["-type", "f"]).current_dir(root));
-        let mut files: Vec<String> = found.lines().map(String::from).collect();
-        files.sort();
-        files
-    };
-    let mut wanted = files(TOP.as_ref(), &["rust/src"]);
-    let others = ["rust/README.md", "rust/examples/sum.rs", "dist/MANIFEST", "dist/rust/vulfsjor.rs"];
-    wanted.extend(others.map(String::from));
-    let x86_64 = ["vulfsjor-v2.s", "vulfsjor-v3.s", "vulfsjor-v4.s"];
-    for (processor, texts) in [("aarch64", &["vulfsjor.s"][..]), ("x86_64", &x86_64)] {
-        let names = ["coff.inc", "elf.inc", "macho.inc", "purge_macros.inc"].iter().chain(texts);
-        wanted.extend(names.map(|name| format!("dist/{processor}/{name}")));
-    }
-    wanted.sort();
-    assert_eq!(files(&root, &["rust", "dist"]), wanted);
-    Program::new("packaged", PRINT_ABC, &[&root]).prints(profile(), ABC);
-}
+    let listed = fs::read_to_string(Path::new(TOP).join("packaging/files.txt")).unwrap();
+    let listed = listed.lines().filter_map(|line| line.strip_prefix("vulfsjor.crate: vulfsjor-VERSION/"));
+    let mut find = Command::new("find");
+    let found = output_of(find.args(["-type", "f", "-printf", "%P\\n"]).current_dir(&root));
+    let in_folders = |file: &&str| file.contains('/');
+    let found: BTreeSet<_> = found.lines().filter(in_folders).collect();
+    assert_eq!(found, listed.filter(in_folders).collect());
 
-// Another version of the crate in the same program, in each profile. The code is another too, and so is
-// its number in the names of its texts, as in those of dist/.
-#[test]
-fn two_versions() {
-    let other = folder("other");
-    for part in ["Cargo.toml", "rust", "dist"] {
-        run("cp", &[&"-r", &Path::new(TOP).join(part), &other]);
-    }
-    let replace = |from: &str, to: &str, files: &[&str]| {
-        for file in files.iter().map(|file| other.join(file)) {
-            let text = fs::read_to_string(&file).unwrap();
-            assert!(text.contains(from));
-            fs::write(file, text.replace(from, to)).unwrap();
-        }
+    let (other, code) = (folder.join("other"), code());
+    run("cp", &[&"-r", &root, &other]);
+    let replace = |file: &str, from: &str, to: &str| {
+        let file = other.join(file);
+        let text = fs::read_to_string(&file).unwrap();
+        assert!(text.contains(from));
+        fs::write(file, text.replace(from, to)).unwrap();
     };
-    let version = |version: &str| format!("version = \"{version}\"");
-    replace(&version(VERSION), &version("99.8.7"), &["Cargo.toml"]);
-    let code = code();
-    replace(&format!("\"_{code}_\""), "\"_789_\"", &["rust/src/library.rs"]);
-    for build in ["v2", "v3", "v4", "arm"] {
-        let text = match build {
-            "arm" => "dist/aarch64/vulfsjor.s".into(),
-            _ => format!("dist/x86_64/vulfsjor-{build}.s"),
-        };
+    replace("Cargo.toml", &format!("version = \"{VERSION}\""), "version = \"99.8.7\"");
+    replace("rust/src/library.rs", &format!("\"_{code}_\""), "\"_789_\"");
+    for (text, build) in [("aarch64/vulfsjor", "arm"), ("x86_64/vulfsjor-v2", "v2"), ("x86_64/vulfsjor-v3", "v3"),
+        ("x86_64/vulfsjor-v4", "v4")]
+    {
         for before in ["_", ".L"] {
-            let name = |code: &str| format!("{before}{code}_{build}");
-            replace(&name(&code), &name("789"), &[&text]);
+            replace(&format!("dist/{text}.s"), &format!("{before}{code}_{build}"), &format!("{before}789_{build}"));
         }
     }
     let same = ["a", "b"].map(|name| format!("{name}::Blake2b::digest(b\"abc\").as_bytes()"));
     let lines = format!("{PRINT_ABC} assert_eq!({});", same.join(", "));
-    let program = Program::new("two_versions", &lines, &[TOP.as_ref(), &other]);
+    let program = Program::new("two_versions", &lines, &[&root, &other]);
     for profile in some_builds(&["dev", "release", "thin", "fat"]) {
-        let built = program.prints(profile, ABC);
+        let built = program.build(profile);
+        assert_eq!(output_of(&mut Command::new(&built)), ABC);
         for build in BUILDS {
             for (version, code) in [(VERSION, &code[..]), ("99.8.7", "789")] {
                 assert_eq!(functions_held(&built, version, code, build), ["blake2b"], "{profile}");
