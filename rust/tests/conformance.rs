@@ -376,20 +376,3 @@ fn cases() {
     let names = ["blake2b", "blake2s", "blake2bp", "blake2sp", "blake2xb", "blake2xs", "tree"];
     run(&Crate, &names, (53187, &[("equal", 25), ("reset", 83), ("verify", 107)]));
 }
-
-#[test]
-fn the_authors_vectors() {
-    for name in ["blake2xb", "blake2xs"] {
-        let Some(lines) = common::authors_lines(&name[7..]) else {
-            eprintln!("skipped: no golang-golang-x-crypto-dev");
-            return;
-        };
-        assert_eq!(lines.len(), 256);
-        for fields in lines {
-            let [key, message, wanted] = [1, 4, 5].map(|field| &fields[field]);
-            let call = format!("size={} key={key}", wanted.len() / 2);
-            let got = hash(name, &bytes(message).unwrap(), &Given::of(&call));
-            assert_eq!(got, Some(Ok(format!("= {wanted}"))));
-        }
-    }
-}

@@ -2,7 +2,7 @@
 use std::collections::{BTreeMap, HashMap};
 use std::fmt::Debug;
 use std::path::{Path, PathBuf};
-use std::process::{Command, Output};
+use std::process::Command;
 use std::{env, fs};
 use vulfsjor::{Params, Tree};
 
@@ -238,28 +238,13 @@ fn folder() -> PathBuf {
     folder
 }
 
-// What tests/vectors.py prints.
-fn vectors(arguments: [&str; 2]) -> Output {
-    let script = script("tests/vectors.py");
-    Command::new("python3").arg(script).args(arguments).output().expect("python3")
-}
-
 /// The fields of a family's lines of tests/vectors.json, as tests/vectors.py prints them, without
 /// their kind, which is this.
 pub fn lines(family: &str, kind: &str) -> Vec<Vec<String>> {
-    let output = vectors(["--lines", family]);
+    let mut print = Command::new("python3");
+    let output = print.arg(script("tests/vectors.py")).args(["--lines", family]).output().expect("python3");
     assert!(output.status.success(), "{output:?}");
-    fields_of(&String::from_utf8(output.stdout).unwrap(), kind)
-}
-
-/// The same of the authors' vectors of BLAKE2X, if they are on this machine.
-pub fn authors_lines(family: &str) -> Option<Vec<Vec<String>>> {
-    let output = vectors(["--authors", family]);
     let text = String::from_utf8(output.stdout).unwrap();
-    output.status.success().then(|| fields_of(&text, "x"))
-}
-
-fn fields_of(text: &str, kind: &str) -> Vec<Vec<String>> {
     let lines = text.lines().filter_map(|line| line.strip_prefix(kind)?.strip_prefix(' '));
     let fields: Vec<_> = lines.map(|line| line.split(' ').map(String::from).collect()).collect();
     assert!(fields.len() >= 3);
