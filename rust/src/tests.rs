@@ -9,6 +9,9 @@ use crate::library::{self, Blake2bState, Blake2bpState, Blake2sState, Blake2spSt
 use crate::library::{Blake2xbState, Blake2xsState, TreeState};
 use crate::*;
 
+// 2^32 on machines of 64 bits: no bytes, if it is cut to 32 bits.
+const LONG: usize = 1 << (usize::BITS / 2);
+
 // The text of the panic that a call ends with.
 fn panic_of<R>(call: impl FnOnce() -> R) -> String {
     let fault = catch_unwind(AssertUnwindSafe(call)).err().expect("a panic");
@@ -73,7 +76,10 @@ macro_rules! family {
                 assert_eq!(hasher.count(), u64::MAX);
                 let before = hasher.clone().finalize();
                 hasher.update(b"");
-                assert!(panic_of(|| hasher.update(b"x").count()).contains("an input of 2^64 bytes"));
+                for length in [1, LONG] {
+                    let update = || hasher.update(std::vec![0; length]).count();
+                    assert!(panic_of(update).contains("an input of 2^64 bytes"));
+                }
                 assert_eq!((hasher.count(), hasher.finalize()), (u64::MAX, before));
                 assert_ne!(before, $hasher::digest([7; $end - 1]));
             }
@@ -107,7 +113,10 @@ macro_rules! inputs_of_outputs_end_before_2_to_the_64 {
             let mut hasher = $hasher::new();
             hasher.state.0[$counter] = 0u64.wrapping_sub($block).to_le();
             hasher.update([7; $block - 1]);
-            assert!(panic_of(|| hasher.update(b"x").count()).contains("an input of 2^64 bytes"));
+            for length in [1, LONG] {
+                let update = || hasher.update(std::vec![0; length]).count();
+                assert!(panic_of(update).contains("an input of 2^64 bytes"));
+            }
             assert_eq!(hasher.count(), u64::MAX);
         }
     };
@@ -151,7 +160,11 @@ fn inputs_of_a_tree_end_before_2_to_the_58() {
     hasher.update([7; 1022]);
     assert_eq!(hasher.count(), (1 << 58) - 1);
     hasher.update(b"");
-    assert!(panic_of(|| hasher.update(b"x").count()).contains("an input of 2^58 bytes"));
+    for length in [1, LONG] {
+        assert!(panic_of(|| hasher.update(std::vec![0; length]).count()).contains("an input of 2^58 bytes"));
+        let said = format!("input.len() is {length}, and must be 0");
+        assert_eq!(hasher.update_leaves(b"", std::vec![0; length]).unwrap_err().to_string(), said);
+    }
     assert_eq!(hasher.count(), (1 << 58) - 1);
 }
 
@@ -266,36 +279,6 @@ mod threads {
             assert!(hashed.is_ok() && digest == wanted, "{length}");
             file.set_len(0).unwrap();
         }
-    }
-
-    // The parts in the order in which one thread hashes them: first leaf, bytes, digests, ends.
-    fn parts_of(length: usize, leaf_length: u32, threads: usize) -> Vec<(u64, usize, usize, u64)> {
-        let (bytes, parts) = (vec![0; length], Mutex::new(Vec::new()));
-        let plan = plan_of(length as u64, leaf_length, threads, u64::MAX);
-        let mut absorbed = Vec::new();
-        let hash = |part: &Part, bytes_of_part: &[u8], out: &mut [u8]| {
-            let start = bytes_of_part.as_ptr() as usize - bytes.as_ptr() as usize;
-            assert_eq!(start as u64, part.first * u64::from(leaf_length));
-            assert_eq!(out.len() as u64, part.digests_length);
-            out.fill(part.first as u8);
-            let part = (part.first, bytes_of_part.len(), out.len(), part.ends);
-            parts.lock().unwrap().push(part);
-        };
-        plan.hash_bytes(&bytes, hash, |digests| absorbed.extend_from_slice(digests));
-        assert_eq!(absorbed.len() as u64, plan.digests_length);
-        assert!(absorbed.windows(2).all(|two| two[0] <= two[1]));
-        let mut parts = parts.into_inner().unwrap();
-        parts.sort_unstable();
-        parts
-    }
-
-    #[test]
-    fn every_part_is_hashed() {
-        assert_eq!(parts_of(0, 64, 4), [(0, 0, 64, 1)]);
-        let leaf = 1 << 18;
-        let wanted = [(0, 1 << 20, 256, 0), (4, 1 << 20, 256, 0), (8, 5, 64, 1)];
-        assert_eq!(parts_of((8 << 18) + 5, leaf, 1), wanted);
-        assert_eq!(parts_of((8 << 18) + 5, leaf, 2), wanted);
     }
 
     // Each thread keeps its buffer, and a part is reported when it is hashed, not before.
@@ -555,71 +538,16 @@ mod choice {
         }
     }
 
-    // Each feature that a level requires is looked at. The functions for AVX2 of the C library need
-    // BMI1 and do not check it, so they are turned off.
+    // The test before this one clears each bit.
     #[test]
     #[ignore = "needs qemu-x86_64"]
     fn the_level_of_other_processors() {
-        let has_level = |level: &str, processor: &str| {
+        for (level, processor) in [("3", "Haswell"), ("2", "Nehalem"), ("2", "Haswell,-bmi2"), ("1", "core2duo")] {
             let mut qemu = Command::new("qemu-x86_64");
             qemu.args(["-cpu", processor]).arg(std::env::current_exe().unwrap());
-            qemu.args(["the_level_is_that", "--test-threads=1"]).env("VULFSJOR_LEVEL", level);
-            if processor.ends_with("-bmi1") {
-                qemu.env("GLIBC_TUNABLES", "glibc.cpu.hwcaps=-AVX2");
-            }
-            let output = qemu.output().unwrap();
-            let said = String::from_utf8_lossy(&output.stdout).into_owned();
-            assert!(output.status.success() && said.contains("1 passed"), "{processor}: {said}");
-        };
-        has_level("3", "Haswell");
-        has_level("2", "Nehalem");
-        has_level("1", "core2duo");
-        // The test before this one clears each bit.
-        let of_v2 = ["popcnt", "sse3", "ssse3", "cx16", "sse4.1", "sse4.2", "lahf-lm"];
-        let of_v3 = ["bmi1", "fma", "movbe", "xsave", "avx", "f16c", "avx2", "bmi2", "abm"];
-        let is_full = std::env::var_os("VULFSJOR_TEST_HUGE").is_some();
-        for (level, features) in [("1", &of_v2[..]), ("2", &of_v3)] {
-            for feature in &features[..if is_full { features.len() } else { 1 }] {
-                has_level(level, &format!("Haswell,-{feature}"));
-            }
-        }
-    }
-
-    #[test]
-    fn a_run_may_go_from_one_build_to_another() {
-        if level_of_processor() < 3 {
-            return;
-        }
-        let message = [7; 1000];
-        let wanted = Blake2b::digest(message);
-        let update = |build, state: &mut Blake2bState, part: &[u8]| {
-            let (part, length) = (part.as_ptr(), part.len());
-            // Safety: the length is that of the slice, and the processor runs these builds.
-            let status = unsafe {
-                match build {
-                    2 => library::v2::blake2b_update(state, part, length),
-                    3 => library::v3::blake2b_update(state, part, length),
-                    _ => library::v4::blake2b_update(state, part, length),
-                }
-            };
-            assert_eq!(status, 0);
-        };
-        for (first, newest) in (0..=128).map(|first| (first, level_of_processor())) {
-            let (mut hasher, mut digest) = (Blake2b::new(), [0; 64]);
-            let state = &mut hasher.state;
-            update(2, state, &message[..first]);
-            update(newest, state, &message[first..500]);
-            update(3, state, &message[500..]);
-            // Safety: as above.
-            let status = unsafe {
-                match (first % 2, newest) {
-                    (1, _) => library::v2::blake2b_final(state, digest.as_mut_ptr(), 64),
-                    (_, 3) => library::v3::blake2b_final(state, digest.as_mut_ptr(), 64),
-                    _ => library::v4::blake2b_final(state, digest.as_mut_ptr(), 64),
-                }
-            };
-            assert_eq!(status, 0);
-            assert_eq!(wanted, digest);
+            let output = qemu.args(["the_level_is_that", "--test-threads=1"]).env("VULFSJOR_LEVEL", level).output();
+            let said = String::from_utf8_lossy(&output.unwrap().stdout).into_owned();
+            assert!(said.contains("1 passed"), "{processor}: {said}");
         }
     }
 }

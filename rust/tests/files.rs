@@ -91,26 +91,14 @@ fn roots_of_files_and_of_memory() {
             hasher.update_threads(&bytes[length / 3..], threads);
             assert_eq!(hasher.finalize().to_hex(), wanted);
         }
-        assert_eq!(params.root_file(&file.0, 2).unwrap().to_hex(), wanted);
-        assert_eq!(params.root_threads(&bytes, 2).unwrap().to_hex(), wanted);
+        assert_eq!([0, 3].map(|n| params.root_threads(&bytes, n).unwrap().to_hex()), [wanted; 2]);
         assert_eq!(params.root(&bytes).unwrap().to_hex(), wanted);
+        let others = params.salt(b"salt").output_size(20);
+        let root = others.root(&bytes).unwrap();
+        assert_eq!([0, 3].map(|n| others.root_file(&file.0, n).unwrap()), [root; 2]);
         let mut hasher = params.hasher().unwrap();
         let reader = hasher.update_reader(File::open(&file.0).unwrap());
         assert_eq!(reader.unwrap().finalize().to_hex(), wanted);
-    }
-}
-
-#[test]
-fn all_parameters_are_those_of_the_root() {
-    for (leaf_length, length) in [(1000, 800_000), (17 << 20, 18 << 20)] {
-        let bytes = message_of(length);
-        let file = Temporary::with(&format!("parameters-{leaf_length}"), &bytes);
-        let params = tree_params(leaf_length).salt(b"salt").output_size(20);
-        for threads in [1, 2] {
-            let root = params.root_file(&file.0, threads).unwrap();
-            assert_eq!(root, params.root(&bytes).unwrap());
-            assert_ne!(root, params.salt(b"").root(&bytes).unwrap());
-        }
     }
 }
 

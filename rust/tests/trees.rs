@@ -1,6 +1,6 @@
 //! The tree by threads, what errors of trees say, and lengths beyond 2^32 bytes, compared with hashlib. What hashes
 //! such a message takes seconds, and is ignored: `VULFSJOR_TEST_HUGE=1 rust/run_tests.sh` runs it.
-#![cfg(all(feature = "std", unix))]
+#![cfg(all(feature = "std", unix, target_pointer_width = "64"))]
 use std::env;
 use std::fs::{self, File};
 use std::io::Write;
@@ -52,56 +52,52 @@ fn roots_of_leaves_are_refused() {
 #[test]
 fn errors_of_ranges() {
     let most = (1u64 << 58) - 1;
-    let of = |leaf, first, ends, length, room| {
+    for (leaf, first, ends, length, room, said) in [
+        (9, 0, false, 8, 64, "bytes.len() is 8, and must be a positive multiple of 9".into()),
+        (9, 0, false, 0, 64, "bytes.len() is 0, and must be a positive multiple of 9".into()),
+        (9, 0, true, 20, 65, "digests.len() is 65, and must be 192".into()),
+        (1, most, true, 1, 64, format!("first is {most}, and must be 0 to {}", most - 1)),
+        (1, most, true, 0, 64, format!("first is {most}, and must be 0 to {}", most - 1)),
+        (9, u64::MAX, true, 1, 64, format!("first is {}, and must be 0 to {}", u64::MAX, most / 9)),
+        (9, 1, true, 0, 64, format!("bytes.len() is 0, and must be 1 to {}", most - 9)),
+        (0, 1, true, 0, 64, "leaf_length is 0, and must be 1 to 4294967295".into()),
+    ] {
         let error = TreeParams::new(leaf).leaves(&vec![0; length], first, ends, &mut vec![0; room]);
-        error.unwrap_err().to_string()
-    };
-    let said = "bytes.len() is 8, and must be a positive multiple of 9";
-    assert_eq!(of(9, 0, false, 8, 64), said);
-    let said = "bytes.len() is 0, and must be a positive multiple of 9";
-    assert_eq!(of(9, 0, false, 0, 64), said);
-    let said = "digests.len() is 65, and must be 192";
-    assert_eq!(of(9, 0, true, 20, 65), said);
-    let said = format!("first is {most}, and must be 0 to {}", most - 1);
-    assert_eq!(of(1, most, true, 1, 64), said);
-    assert_eq!(of(1, most, true, 0, 64), said);
-    let said = format!("first is {}, and must be 0 to {}", u64::MAX, most / 9);
-    assert_eq!(of(9, u64::MAX, true, 1, 64), said);
-    let said = format!("bytes.len() is 0, and must be 1 to {}", most - 9);
-    assert_eq!(of(9, 1, true, 0, 64), said);
-    assert_eq!(of(0, 1, true, 0, 64), "leaf_length is 0, and must be 1 to 4294967295");
+        assert_eq!(error.unwrap_err().to_string(), said);
+    }
 }
 
+// Of a hasher at a leaf boundary, and of one within a leaf.
 #[test]
 fn errors_of_hashers() {
-    let mut hasher = TreeParams::new(100).hasher().unwrap();
-    let next = |hasher: &TreeHasher, skip, length, room| {
-        let error = hasher.leaves_ahead(skip, &vec![0; length], &mut vec![0; room]);
-        error.unwrap_err().to_string()
-    };
-    let update = |hasher: &mut TreeHasher, room, length| {
-        let error = hasher.update_leaves(&vec![0; room], vec![0; length]);
-        error.unwrap_err().to_string()
-    };
-    for length in [0, 1, 101] {
-        let said = format!("leaves.len() is {length}, and must be a positive multiple of 100");
-        assert_eq!(next(&hasher, 0, length, 64), said);
-    }
-    assert_eq!(next(&hasher, 0, 200, 64), "digests.len() is 64, and must be 128");
     let most = ((1u64 << 58) - 1) / 100 - 2;
-    let said = format!("skip is {}, and must be 0 to {most}", most + 1);
-    assert_eq!(next(&hasher, most + 1, 200, 128), said);
-    assert!(hasher.leaves_ahead(most, &[0; 200], &mut [0; 128]).is_ok());
-    let said = "digests.len() is 65, and must be a multiple of 64";
-    assert_eq!(update(&mut hasher, 65, 1), said);
-    let said = format!("input.len() is 0, and must be 1 to {}", (1u64 << 58) - 1 - 200);
-    assert_eq!(update(&mut hasher, 128, 0), said);
-    assert_eq!(hasher.update_leaves(b"", b"").unwrap().count(), 0);
-    hasher.update([0; 101]);
-    assert_eq!(hasher.update_leaves(b"", b"").unwrap().count(), 101);
-    let said = "count() is 101, and must be a multiple of 100";
-    assert_eq!(next(&hasher, 0, 100, 64), said);
-    assert_eq!(update(&mut hasher, 64, 1), said);
+    let hasher = |length| {
+        let mut hasher = TreeParams::new(100).hasher().unwrap();
+        hasher.update(vec![0; length]);
+        hasher
+    };
+    let within: String = "count() is 101, and must be a multiple of 100".into();
+    for (count, skip, length, room, said) in [
+        (0, 0, 0, 64, "leaves.len() is 0, and must be a positive multiple of 100".into()),
+        (0, 0, 1, 64, "leaves.len() is 1, and must be a positive multiple of 100".into()),
+        (0, 0, 101, 64, "leaves.len() is 101, and must be a positive multiple of 100".into()),
+        (0, 0, 200, 64, "digests.len() is 64, and must be 128".into()),
+        (0, most + 1, 200, 128, format!("skip is {}, and must be 0 to {most}", most + 1)),
+        (101, 0, 100, 64, within.clone()),
+    ] {
+        let error = hasher(count).leaves_ahead(skip, &vec![0; length], &mut vec![0; room]);
+        assert_eq!(error.unwrap_err().to_string(), said);
+    }
+    assert!(hasher(0).leaves_ahead(most, &[0; 200], &mut [0; 128]).is_ok());
+    for (count, room, length, said) in [
+        (0, 65, 1, "digests.len() is 65, and must be a multiple of 64".into()),
+        (0, 128, 0, format!("input.len() is 0, and must be 1 to {}", (1u64 << 58) - 1 - 200)),
+        (101, 64, 1, within),
+    ] {
+        let error = hasher(count).update_leaves(&vec![0; room], vec![0; length]).map(drop);
+        assert_eq!(error.unwrap_err().to_string(), said);
+        assert_eq!(hasher(count).update_leaves(b"", b"").unwrap().count(), count as u64);
+    }
 }
 
 #[test]
