@@ -113,11 +113,16 @@ class Secrets(unittest.TestCase):
     """What is left of a key."""
 
     def test_a_dead_object_has_no_byte_of_its_state(self):
+        def tree(message, key):
+            hasher = vulfsjor.TreeHasher(99)
+            hasher.update(key)
+            return hasher
+
         states = {"blake2b": 424, "blake2s": 232, "blake2bp": 1632, "blake2sp": 1600,
-                  "blake2xb": 544, "blake2xs": 304}
+                  "blake2xb": 544, "blake2xs": 304, "tree": 912}
         for name, make, longest, fields in (
                 *((name, make, longest, 24) for name, make, _, _, longest in FAMILIES),
-                *((*each, 16) for each in OUTPUTS)):
+                *((*each, 16) for each in OUTPUTS), ("tree", tree, 32, 16)):
             key = bytes(range(1, longest + 1))
             mac = make(b"message", key=key)
             address, size, head = id(mac), mac.__sizeof__(), object.__basicsize__ + fields

@@ -11,7 +11,6 @@ import os
 import pathlib
 import platform
 import re
-import resource
 import runpy
 import shutil
 import struct
@@ -293,23 +292,6 @@ class Build(Test):
                     self.assertEqual(file.read(f"{ABOUT}/{name}"), other.read())
         self.assertTrue(os.path.exists(os.path.join(folder, "vulfsjor", "_library.abi3.so")))
 
-    def pip(self, word, *more, **environment):
-        self.succeeds(sys.executable, "-m", "pip", "--disable-pip-version-check", word,
-                      "--no-index", *more, cwd=self.folder, env={**os.environ, **environment})
-
-    @staticmethod
-    def time_of(act):
-        """The processor time meanwhile, with that of the programs that are run."""
-        used = lambda: sum(sum(resource.getrusage(who)[:2]) for who in (resource.RUSAGE_SELF, resource.RUSAGE_CHILDREN))
-        before = used()
-        act()
-        return used() - before
-
-    def is_installed(self, folder):
-        names = set(os.listdir(os.path.join(folder, "vulfsjor")))
-        self.assertEqual(names - {"__pycache__"}, PACKAGE)
-        self.compares(folder)
-
     def test_source_distribution(self):
         """It has what it needs and nothing else, and its own files are what it uses. In another
         folder and at another time it is the same."""
@@ -350,8 +332,8 @@ class Build(Test):
     @unittest.skipIf(absent("pip"), absent("pip"))
     def test_wheels_are_the_same(self):
         """From a clone, whose old copies are not used and which stays as it is, and by pip from a
-        source distribution. The wheel is installed, and compared with hashlib."""
-        folder, installed = self.copied("a clone"), os.path.join(self.folder, "installed")
+        source distribution."""
+        folder = self.copied("a clone")
         for name in ("src/vulfsjor.h", "src/choose.c", "src/thunks.h", "vulfsjor/_library.abi3.so"):
             with open(os.path.join(folder, name), "w", encoding="utf-8") as file:
                 file.write("#error old\n")
@@ -366,18 +348,15 @@ class Build(Test):
         with open(wheel, "rb") as file:
             first = file.read()
         os.remove(wheel)
-        source = self.made("sdist")
-        self.pip("wheel", source, CFLAGS="-g")
+        self.succeeds(sys.executable, "-m", "pip", "--disable-pip-version-check", "wheel", "--no-index",
+                      self.made("sdist"), cwd=self.folder, env={**os.environ, "CFLAGS": "-g"})
         with open(wheel, "rb") as file:
             self.assertEqual(file.read(), first)
-        self.pip("install", "--target", installed, wheel)
-        self.is_installed(installed)
 
     @long
     @unittest.skipIf(absent("ensurepip"), absent("ensurepip"))
     def test_pip_installs_the_folder(self):
-        """As the README says, in a new clone without a network, and in less than five times the
-        processor time of a build without pip."""
+        """As the README says, in a new clone without a network. What is installed is compared with hashlib."""
         with open(os.path.join(self.copied("a clone"), "README.md"), encoding="utf-8") as file:
             said = re.search("virtual environment:\\n((?:\\n    .*)+)\\n\\n", file.read())[1]
         first, last = said.strip().split("\n    ")
@@ -386,9 +365,10 @@ class Build(Test):
         named = dict(cwd=os.path.join(self.folder, "a clone"), env={
             **os.environ, "PATH": f"{self.folder}:{os.environ['PATH']}", "PIP_NO_INDEX": "1"})
         self.succeeds("sh", "-ec", first, **named)
-        build = self.time_of(lambda: self.made())
-        self.assertLess(self.time_of(lambda: self.succeeds("sh", "-ec", last, **named)), 5 * build)
-        self.is_installed(*glob.glob(f"{self.folder}/a clone/venv/lib/python*/site-packages"))
+        self.succeeds("sh", "-ec", last, **named)
+        installed, = glob.glob(f"{self.folder}/a clone/venv/lib/python*/site-packages")
+        self.assertEqual(set(os.listdir(os.path.join(installed, "vulfsjor"))) - {"__pycache__"}, PACKAGE)
+        self.compares(installed)
 
     @unittest.skipIf(NO_ARM, NO_ARM)
     def test_module_for_arm(self):

@@ -37,16 +37,31 @@ class Slow(unittest.TestCase):
     def test_trees(self):
         """Of the mapping and of a file."""
         for leaf_size, threads in ((4 * MIB, 3), (64 * MIB, 1)):
-            wanted = oracle.tree_root(memoryview(self.data), leaf_size, person=b"person")
-            self.assertEqual(vulfsjor.tree_root(self.data, leaf_size, threads=threads, person=b"person"), wanted)
+            view, texts = memoryview(self.data), {"person": b"person"}
+            wanted, whole = oracle.tree_root(view, leaf_size, **texts), view[:LENGTH // leaf_size * leaf_size]
+            self.assertEqual(vulfsjor.tree_root(view, leaf_size, threads=threads, **texts), wanted)
+            digests = vulfsjor.tree_leaves(view, leaf_size, first=0, ends=True, **texts)
+            self.assertEqual(vulfsjor.tree_root_of_leaves(digests, leaf_size, **texts), wanted)
+            hasher = vulfsjor.TreeHasher(leaf_size, **texts)
+            hasher.update_leaves(hasher.leaves_ahead(whole), view[len(whole):])
+            self.assertEqual((hasher.digest(), hasher.count), (wanted, LENGTH))
             with tempfile.NamedTemporaryFile() as file:
                 os.truncate(file.fileno(), LENGTH)
                 for mark in MARKS:
-                    os.pwrite(file.fileno(), self.data[mark:mark + 1], mark)
+                    os.pwrite(file.fileno(), self.data[mark:mark + 64], mark)
                 seen = []
                 self.assertEqual(vulfsjor.tree_root_file(
-                    file.name, leaf_size, threads=threads, progress=seen.append, person=b"person"), wanted)
+                    file.name, leaf_size, threads=threads, progress=seen.append, **texts), wanted)
                 self.assertEqual((seen[-1], seen), (LENGTH, sorted(set(seen))))
+
+    def test_digests(self):
+        """2^26 of them, and one: 4 GiB."""
+        digests = memoryview(self.data)[:2**32 + 64]
+        digests[-64:] = oracle.range_digests(bytes(7), 7, 2**26, True)
+        wanted, hasher = oracle.root_of_leaves(digests, 7), vulfsjor.TreeHasher(7)
+        self.assertEqual(vulfsjor.tree_root_of_leaves(digests, 7), wanted)
+        hasher.update_leaves(digests[:-64], bytes(7))
+        self.assertEqual((hasher.digest(), hasher.count), (wanted, 7 * 2**26 + 7))
 
 
 if __name__ == "__main__":

@@ -1,5 +1,4 @@
-"""Tests of what the calls of a tree refuse, with the texts, and of what is left of a dead hasher. test_conformance.py
-has what they return."""
+"""Tests of what the calls of a tree refuse, with the texts. test_conformance.py has what they return."""
 import contextlib
 import ctypes
 import unittest
@@ -138,6 +137,13 @@ class Hasher(Test):
             for name in ("digest_size", "leaf_size", "count", "other"):
                 self.assertRaises(AttributeError, setattr, hasher, name, 1)
             update(b"", b"")
+            for threads in (1, 3):
+                self.refuses(OverflowError, "2^58 bytes or more", hasher.update, unread(2**58), threads=threads)
+                self.refuses(OverflowError, "2^58 bytes or more", vulfsjor.tree_root, unread(2**58), 1 << 31,
+                             threads=threads)
+            for words in ({"threads": "1"}, {"other": 1}):
+                self.assertRaises(TypeError, hasher.update, DATA, **words)
+            self.assertRaises(TypeError, hasher.update, DATA, 3)
             self.assertEqual((hasher.digest(), hasher.count), (before, count))
         self.refuses(MemoryError, "", vulfsjor.TreeHasher(1).leaves_ahead, unread(2**57))
 
@@ -156,19 +162,6 @@ class Hasher(Test):
             before = hasher.digest()
             self.refuses(OverflowError, "2^58 bytes or more", hasher.update, bytes(length))
             self.assertEqual(hasher.digest(), before)
-
-    def test_a_dead_hasher_is_wiped(self):
-        salt = b"0123456789abcdef"
-        hasher = vulfsjor.TreeHasher(10, salt=salt)
-        hasher.update(b"a message")
-        address, size = id(hasher), hasher.__sizeof__()
-        alive, dead = (ctypes.create_string_buffer(size) for _ in range(2))
-        ctypes.memmove(alive, address, size)
-        del hasher
-        ctypes.memmove(dead, address, size)
-        self.assertIn(salt, alive.raw)
-        self.assertEqual(alive.raw.count(b"a message"), 1)
-        self.assertFalse(salt in dead.raw or b"a message" in dead.raw)
 
     def test_views_are_let_go(self):
         """Those of calls that the conformance cases do not make."""

@@ -9,7 +9,7 @@ import threading
 import time
 import unittest
 
-from support import by_threads, unread
+from support import by_threads
 from common_trees import DATA, MIB, TEXTS, Test, have_ended, other_threads
 import oracle
 import vulfsjor
@@ -96,19 +96,6 @@ class Threads(Test):
 
 class Updates(Test):
     """Updates by threads."""
-
-    def test_what_is_refused(self):
-        """It changes nothing."""
-        hasher = vulfsjor.TreeHasher(1 << 14)
-        hasher.update(DATA[:5])
-        self.refuses(ValueError, "threads must be 0 or more", hasher.update, DATA, threads=-1)
-        for words in ({"threads": 1.0}, {"threads": None}, {"threads": "1"}, {"other": 1}):
-            self.assertRaises(TypeError, hasher.update, DATA, **words)
-        self.assertRaises(TypeError, hasher.update, DATA, 3)
-        for threads in (1, 3):
-            for call in (hasher.update, lambda data, threads: vulfsjor.tree_root(data, 1 << 31, threads=threads)):
-                self.refuses(OverflowError, "2^58 bytes or more", call, unread(2**58), threads=threads)
-        self.assertEqual((hasher.digest(), hasher.count), (oracle.tree_root(DATA[:5], 1 << 14), 5))
 
     def test_no_update_is_lost(self):
         """Each update by threads is absorbed or refused."""

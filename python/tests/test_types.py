@@ -83,7 +83,8 @@ REFUSED = (
     "vulfsjor.file_digest(io.BytesIO(), vulfsjor.blake2xb, digest_size=5)",
     "vulfsjor.file_digest(io.BytesIO(), 'blake2s', length=5)",
     "vulfsjor.file_digest(io.BytesIO(), 'blake2s_mac')", "vulfsjor.file_digest(io.BytesIO(), 5)",
-    "vulfsjor.blake2xb('text')", "vulfsjor.blake2xb(digest_size=5)", "vulfsjor.blake2xs().digest()",
+    *(f"vulfsjor.blake2x{family}{wrong}" for family in "bs" for wrong in (
+        "('text')", "(1)", "(key='text')", "(digest_size=5)", "().digest()", "().update('text')")),
     "vulfsjor.derive_key('key', b'', 9)", "vulfsjor.derive_key(b'key', b'')",
     "vulfsjor.blake2bp('text')", "vulfsjor.blake2bp(None)", "vulfsjor.blake2bp(b'', b'key')",
     "vulfsjor.blake2bp(b'', fanout=1)", "vulfsjor.blake2bp(key='text')", "vulfsjor.blake2bp(salt='text')",

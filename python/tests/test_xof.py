@@ -40,9 +40,7 @@ class Outputs(Test):
                         self.refuses(ValueError, f"length must be between 0 and {left}", call, wrong)
             for call in (lambda: make(length=1.0), lambda: make().digest(1.0), lambda: make().hexdigest("1")):
                 self.refuses(TypeError, "length must be an integer", call)
-            for call in (make().digest, lambda: make(b"", digest_size=5), lambda: make(b"", 5),
-                         *(lambda wrong=wrong: make(wrong) for wrong in ("text", [b""], 1)),
-                         lambda: make().update("text"), lambda: type("Sub", (make,), {})):
+            for call in (lambda: make(b"", 5), lambda: make([b""]), lambda: type("Sub", (make,), {})):
                 self.assertRaises(TypeError, call)
             with self.assertRaisesRegex(TypeError, "immutable type"):
                 make.name = "other"
