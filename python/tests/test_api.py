@@ -31,12 +31,6 @@ OUTPUTS = (("blake2xb", vulfsjor.blake2xb, 64), ("blake2xs", vulfsjor.blake2xs, 
 class Many(Test):
     """Several messages in one call."""
 
-    def test_any_iterable_of_any_buffers(self):
-        for _, _, theirs, many, _ in PLAIN:
-            wanted = [theirs(b"ab").digest()] * 3
-            self.assertEqual(many((b"ab", bytearray(b"ab"), memoryview(b"xabx")[1:3])), wanted)
-            self.assertEqual(many(b"ab" for _ in range(3)), wanted)
-
     def test_refusals(self):
         for _, _, _, many, longest in PLAIN:
             for words in (*({"digest_size": size} for size in (0, longest + 1, -1, 2**32 + 1, 2**70, -(2**70))),

@@ -195,9 +195,8 @@ WRONG = {
 class Programs(unittest.TestCase):
     """Programs that accept a message."""
 
-    def test_right_ones(self):
-        for make in (lambda: vulfsjor.blake2b(BODY, key=KEY, digest_size=32), mac_of_body):
-            self.assertIsNone(make().verify(TAG))
+    def test_a_right_one(self):
+        self.assertIsNone(mac_of_body().verify(TAG))
 
     def test_wrong_ones(self):
         for name, check in WRONG.items():

@@ -1,7 +1,5 @@
 """Tests of trees by threads, which c/threads.c has: data in memory and updates, how many threads there are, and signals
 meanwhile. c/tests tests its faults."""
-import array
-import ctypes
 import os
 import signal
 import sys
@@ -35,23 +33,6 @@ class Threads(Test):
                         for piece in (data[:cut], bytearray(data[cut:]), b""):
                             self.assertIsNone(hasher.update(piece, threads=threads))
                         self.assertEqual((hasher.digest(), hasher.count), (wanted, length))
-
-    def test_any_buffer(self):
-        short = DATA[:3 * MIB]
-        wanted = oracle.tree_root(short, 4096)
-        shaped = ((ctypes.c_char * MIB) * 3).from_buffer_copy(short)
-        for data in (bytearray(short), memoryview(DATA)[:3 * MIB], memoryview(array.array("d", short)),
-                     (ctypes.c_uint16.__ctype_be__ * (3 * MIB // 2)).from_buffer_copy(short),
-                     memoryview(short).cast("B", (3, MIB))):
-            self.assertEqual(vulfsjor.tree_root(data, 4096, threads=3), wanted)
-        for threads in (1, 3):
-            for kind, text, data in (
-                    (BufferError, "Buffer must be single dimension", shaped),
-                    (TypeError, "Strings must be encoded before hashing", "x"),
-                    (TypeError, "object supporting the buffer API required", 5),
-                    (BufferError, "memoryview: underlying buffer is not C-contiguous", memoryview(DATA)[::2])):
-                self.refuses(kind, text, vulfsjor.tree_root, data, 4096, threads=threads)
-                self.refuses(kind, text, vulfsjor.TreeHasher(4096).update, data, threads=threads)
 
     def most_threads(self, call, wanted):
         """The most threads, with the caller's, of some calls, until there are as many as wanted."""

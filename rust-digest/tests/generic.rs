@@ -8,7 +8,8 @@ use digest::consts::{U16, U32, U64};
 use digest::crypto_common::{AlgorithmName, BlockSizeUser, KeySizeUser};
 use digest::generic_array::GenericArray;
 use digest::{
-    Digest, DynDigest, ExtendableOutput, KeyInit, Mac, Output, OutputSizeUser, Update, VariableOutput, XofReader,
+    Digest, DynDigest, ExtendableOutput, ExtendableOutputReset, KeyInit, Mac, Output, OutputSizeUser, VariableOutput,
+    XofReader,
 };
 #[cfg(feature = "std")]
 use std::io::{self, Write};
@@ -161,9 +162,8 @@ fn outputs_are_streams() {
     assert_eq!((output, Read::read(&mut reader, &mut [0]).unwrap()), (wanted.to_vec(), 0));
     let mut hasher = Blake2xs::default();
     assert_eq!(hasher.write(b"abc").unwrap(), 3);
-    let mut other = Blake2xs::default();
-    Update::update(&mut other, b"abc");
-    assert_eq!(hasher.finalize_boxed(50), other.finalize_boxed(50));
+    let _reader = hasher.finalize_xof_reset();
+    assert_eq!(hasher.finalize_boxed(50), Blake2xs::default().finalize_boxed(50));
 }
 
 #[test]
