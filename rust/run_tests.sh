@@ -15,8 +15,6 @@ export CARGO_TARGET_DIR=$work/target CARGO_NET_OFFLINE=true
 # What only later builds or a debugger would use.
 export CARGO_INCREMENTAL=0 CARGO_PROFILE_DEV_DEBUG=0
 short=(--lib --test bindings --test conformance)
-all=(--tests)
-[ -n "${VULFSJOR_TEST_HUGE-}" ] || all=("${short[@]}" --test={files,manifest,programs,trees})
 # On processors that are emulated, and of builds that this one would not choose, a part of the conformance cases.
 some_cases=$([ -n "${VULFSJOR_TEST_HUGE-}" ] || echo VULFSJOR_SHARE=6)
 
@@ -102,7 +100,7 @@ for hash in (blake2b(b"hello world"), blake2s(b"hello world"), ten, blake2s(blak
 for tool in cargo cc python3; do
     has $tool || { skip "the crates for Rust" "no $tool"; finish; }
 done
-check "the crate vulfsjor" cargo_here test "${all[@]}" || finish
+check "the crate vulfsjor" cargo_here test --tests || finish
 check_huge "the examples in the documentation of vulfsjor" cargo_here test --doc
 check_huge "the crate vulfsjor in a shared library of Rust" cargo_here test --test programs -- --ignored shared_library
 check_huge "the crate vulfsjor, optimized" cargo_here test --release "${short[@]}"
