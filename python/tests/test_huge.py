@@ -1,5 +1,5 @@
-"""Tests that hash more than 2^32 bytes, which take seconds and need VULFSJOR_TEST_HUGE=1. The data is a mapping whose pages
-are one page of zeros until they are written, or a sparse file. What is refused at such lengths needs no time:
+"""Tests that hash more than 2^32 bytes, which take seconds and need VULFSJOR_TEST_HUGE=1. The data is a mapping whose
+pages are one page of zeros until they are written, or a sparse file. What is refused at such lengths needs no time:
 test_mac.py and test_tree_refusals.py have it."""
 import hashlib
 import mmap

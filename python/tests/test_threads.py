@@ -14,8 +14,8 @@ import oracle
 import vulfsjor
 
 LONG = bytes(1 << 24)
-# What makes an object, the arguments of its digest, and the digest of a message, for which test_conformance.py knows that
-# some objects are right.
+# What makes an object, the arguments of its digest, and the digest of a message, for which test_conformance.py knows
+# that some objects are right.
 KINDS = (*((make, (), lambda data, theirs=theirs: theirs(data).digest()) for _, make, theirs, _, _ in PLAIN),
          *((make, (), lambda data, make=make: make(data).digest()) for _, make, *_ in FAMILIES[2:]),
          *((make, (99,), lambda data, make=make: make(data).digest(99)) for _, make, _ in OUTPUTS),

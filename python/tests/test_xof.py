@@ -1,5 +1,5 @@
-"""BLAKE2Xb, BLAKE2Xs and derived keys: the texts of what is refused. test_conformance.py has values, and test_threads.py
-threads."""
+"""BLAKE2Xb, BLAKE2Xs and derived keys: the texts of what is refused. test_conformance.py has values, and
+test_threads.py threads."""
 import unittest
 
 from support import Test, unread
