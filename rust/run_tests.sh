@@ -12,8 +12,8 @@
 set -u
 source "$(dirname "$(readlink -f "$0")")/../tests/tap.sh"
 export CARGO_TARGET_DIR=$work/target CARGO_NET_OFFLINE=true
-# What only later builds or a debugger would use.
-export CARGO_INCREMENTAL=0 CARGO_PROFILE_DEV_DEBUG=0
+# Without what only later builds or a debugger would use, and in one unit: two thirds of the time that several take.
+export CARGO_INCREMENTAL=0 CARGO_PROFILE_DEV_DEBUG=0 CARGO_PROFILE_DEV_CODEGEN_UNITS=1
 short=(--lib --test bindings --test conformance)
 # On processors that are emulated, and of builds that this one would not choose, a part of the conformance cases.
 some_cases=$([ -n "${VULFSJOR_TEST_HUGE-}" ] || echo VULFSJOR_SHARE=6)

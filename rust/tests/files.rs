@@ -127,8 +127,8 @@ fn progress_stops_the_call() {
     }
 }
 
-// Both sizes of leaf: of a part, and of a leaf that is read in pieces. A file that shrinks is long,
-// so that its end is not read before that.
+// Both sizes of leaf: of a part, and of a leaf that is read in pieces. A file that loses its last byte
+// is long, so that its end is not read before that.
 #[test]
 fn files_that_change_meanwhile() {
     let bytes = message_of(18 * MIB);
@@ -140,7 +140,7 @@ fn files_that_change_meanwhile() {
             tree_params(leaf_length).root_file_with_progress(&file.0, 2, set)
         };
         assert_eq!(change(36 << 20).unwrap(), tree_params(leaf_length).root(&bytes).unwrap());
-        for shorter in [(1 << 29) - 1, 0] {
+        for shorter in [if leaf_length < 17 << 20 { (1 << 29) - 1 } else { 1 << 24 }, 0] {
             opened.set_len(1 << 29).unwrap();
             assert_eq!(change(shorter).unwrap_err().kind(), ErrorKind::UnexpectedEof);
         }

@@ -28,8 +28,9 @@ fn folder(name: &str) -> PathBuf {
     folder
 }
 
+// That of this test, which has the crate.
 fn target() -> PathBuf {
-    Path::new(env!("CARGO_TARGET_TMPDIR")).join("programs/target")
+    Path::new(env!("CARGO_TARGET_TMPDIR")).parent().unwrap().into()
 }
 
 fn cargo(words: &[&str], folder: &Path) -> Command {
