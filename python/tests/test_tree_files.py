@@ -187,7 +187,7 @@ class Refusals(Test):
 
     def test_changed_arguments(self):
         """What the callback changes comes too late."""
-        length = 16 * MIB
+        length = 48 * MIB
         path = self.file(length=length)
         for threads in (1, 3):
             words = {name: bytearray(text) for name, text in TEXTS.items()}

@@ -140,8 +140,8 @@ fn files_that_change_meanwhile() {
             tree_params(leaf_length).root_file_with_progress(&file.0, 2, set)
         };
         assert_eq!(change(36 << 20).unwrap(), tree_params(leaf_length).root(&bytes).unwrap());
-        for shorter in [if leaf_length < 17 << 20 { (1 << 29) - 1 } else { 1 << 24 }, 0] {
-            opened.set_len(1 << 29).unwrap();
+        for shorter in [if leaf_length < 17 << 20 { (1 << 30) - 1 } else { 1 << 24 }, 0] {
+            opened.set_len(1 << 30).unwrap();
             assert_eq!(change(shorter).unwrap_err().kind(), ErrorKind::UnexpectedEof);
         }
     }
