@@ -441,5 +441,13 @@ class Time(Test):
         self.assertGreater(min(least), 1000)
 
 
+class CPython(Test):
+    """CPython's own tests."""
+
+    @unittest.skipIf(absent("test.test_hashlib"), "no test.test_hashlib")
+    def test_hashlib_of_cpython(self):
+        self.succeeds(sys.executable, os.path.join(HERE, "cpython.py"), FOLDER)
+
+
 if __name__ == "__main__":
     unittest.main()
