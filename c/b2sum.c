@@ -2,7 +2,7 @@
  * --tree, what --progress shows, how it keeps keys from others, and how it ends. The assembly file
  * calls b2sum_open, b2sum_read and b2sum_signal instead of open, read and signal of the C library,
  * and the functions here instead of its own absorb_tree, hide_memory and show_progress. None of
- * this is proved. tests/b2sum.c tests each function.
+ * this is proved. tests/b2sum.c and ../tests/b2sum_system.py test it.
  *
  * ABSORB_TREE, HIDE_MEMORY and SHOW_PROGRESS are the names of these functions in the assembly file,
  * such as b2sum..disk..hide_memory_1_x86. */

@@ -1,87 +1,148 @@
-/* A library to preload into b2sum: some calls of one function of the system fail.
+/* A library to preload into b2sum: some calls of one function of the system fail, or the memory that the process can
+ * write is searched for a key at one of them.
  *
- *   FAULT_CALL   readv, pread, openat, write, close, malloc or realloc
- *   FAULT_AT     the number of the call that fails, from 1
+ *   FAULT_CALL   readv, pread, openat, write, close, malloc, realloc, pthread_create, or posix_fadvise that says of a
+ *                whole file that it is read from its start to its end
+ *   FAULT_AT     the number of the first call that fails, from 1
  *   FAULT_LAST   the number of the last one that does
  *   FAULT_ERROR  its errno; 0: it reads or writes one byte; -1: it returns 0, as at the end
- *   FAULT_HIT    a file that is made if a call fails */
+ *   FAULT_OUT    a file that is made if a call fails
+ *   FAULT_KEY    the digits of the bytes of the key, each of them exclusive or 0xFF. Then no call fails, and the file
+ *                gets three numbers: of the pieces of 8 bytes of the key that were found, of PR_GET_DUMPABLE, and of
+ *                the bytes that a core file may have (0 or 1: more)
+ *
+ * Nothing here holds a piece of the key as it is. It has to be linked with -z now: where a function is looked up at its
+ * first call, the dynamic linker saves the vector registers on the stack, and with them pieces of the key, which then
+ * are counted though the program has not left them. */
 #define _GNU_SOURCE
+#include <dlfcn.h>
 #include <errno.h>
 #include <fcntl.h>
+#include <pthread.h>
+#include <stdio.h>
 #include <stdlib.h>
 #include <string.h>
+#include <sys/prctl.h>
+#include <sys/resource.h>
 #include <sys/syscall.h>
 #include <sys/uio.h>
 #include <unistd.h>
 
 void *__libc_malloc(size_t size), *__libc_realloc(void *place, size_t size);
 
+enum { PIECE = 8, MOST = 64 };
+
 static long number_variable(const char *name) {
     const char *text = getenv(name);
     return text ? atol(text) : 0;
 }
 
+/* How many pieces of the key, of which each byte is given by its complement, are in these bytes, at any place. It
+ * compares byte by byte, since a word that is equal could be left on the stack here. */
+static unsigned long found_in(const unsigned char *from, const unsigned char *to, const unsigned char *others,
+                              size_t length) {
+    unsigned long found = 0;
+
+    for (; to - from >= PIECE; from++)
+        for (size_t i = 0; i < length; i += PIECE) {
+            size_t same = 0;
+            while (same < PIECE && (from[same] ^ others[i + same]) == 0xFF) same++;
+            found += same == PIECE;
+        }
+    return found;
+}
+
+static unsigned long found_in_all(const char *digits) {
+    static unsigned char others[MOST];
+    static char maps[1 << 16];
+    const int file = (int)syscall(SYS_openat, AT_FDCWD, "/proc/self/maps", O_RDONLY);
+    unsigned long found = 0, from, to;
+    size_t length = 0;
+    char mode[5];
+    long count;
+
+    for (; *digits; digits += 2) sscanf(digits, "%2hhx", &others[length++]);
+    for (size_t at = 0; (count = syscall(SYS_read, file, maps + at, sizeof maps - 1 - at)) > 0; at += (size_t)count) {
+    }
+    syscall(SYS_close, file);
+    for (const char *line = maps; line && *line; line = strchr(line, '\n'), line += !!line)
+        if (sscanf(line, "%lx-%lx %4s", &from, &to, mode) == 3 && !strncmp(mode, "rw", 2))
+            found += found_in((const unsigned char *)from, (const unsigned char *)to, others, length);
+    return found;
+}
+
 /* Whether this call is one of those that fail. */
 static int is_hit(const char *call) {
     static long calls;
-    const char *wanted = getenv("FAULT_CALL");
+    const char *wanted = getenv("FAULT_CALL"), *key = getenv("FAULT_KEY");
+    struct rlimit core;
+    char line[100];
     long count;
+    int file;
 
     if (!wanted || strcmp(call, wanted)) return 0;
     count = __atomic_add_fetch(&calls, 1, __ATOMIC_RELAXED);
     if (count < number_variable("FAULT_AT") || count > number_variable("FAULT_LAST")) return 0;
-    syscall(SYS_openat, AT_FDCWD, getenv("FAULT_HIT"), O_CREAT | O_WRONLY, 0600);
-    return 1;
+    file = (int)syscall(SYS_openat, AT_FDCWD, getenv("FAULT_OUT"), O_CREAT | O_WRONLY, 0600);
+    if (key) {
+        getrlimit(RLIMIT_CORE, &core);
+        count = sprintf(line, "%lu %d %d\n", found_in_all(key), prctl(PR_GET_DUMPABLE), core.rlim_max != 0);
+        syscall(SYS_write, file, line, count);
+    }
+    syscall(SYS_close, file);
+    errno = (int)number_variable("FAULT_ERROR");
+    return !key;
 }
 
-static long fail_with_error(void) {
-    errno = (int)number_variable("FAULT_ERROR");
-    return -1;
+/* Whether this call fails, or returns 0; or else how many bytes it reads or writes at most. */
+static int ends(const char *call, size_t *size, long *result) {
+    const long error = number_variable("FAULT_ERROR");
+
+    if (!is_hit(call)) return 0;
+    if (!error && *size > 1) *size = 1;
+    *result = error < 0 ? 0 : -1;
+    return error != 0;
 }
 
 ssize_t readv(int file, const struct iovec *room, int count) {
     struct iovec first = *room;
+    long result;
 
-    if (is_hit("readv")) {
-        if (number_variable("FAULT_ERROR") < 0) return 0;
-        if (number_variable("FAULT_ERROR")) return fail_with_error();
-        if (first.iov_len > 1) first.iov_len = 1;
-    }
-    return syscall(SYS_readv, file, &first, count);
+    return ends("readv", &first.iov_len, &result) ? result : syscall(SYS_readv, file, &first, count);
 }
 
 ssize_t pread(int file, void *bytes, size_t size, off_t from) {
-    if (is_hit("pread")) {
-        if (number_variable("FAULT_ERROR") < 0) return 0;
-        if (number_variable("FAULT_ERROR")) return fail_with_error();
-        if (size > 1) size = 1;
-    }
-    return syscall(SYS_pread64, file, bytes, size, from);
-}
+    long result;
 
-int openat(int folder, const char *name, int flags, ...) {
-    if (is_hit("openat")) return (int)fail_with_error();
-    return (int)syscall(SYS_openat, folder, name, flags, 0);
+    return ends("pread", &size, &result) ? result : syscall(SYS_pread64, file, bytes, size, from);
 }
 
 ssize_t write(int file, const void *bytes, size_t size) {
-    if (is_hit("write")) {
-        if (number_variable("FAULT_ERROR") < 0) return 0;
-        if (number_variable("FAULT_ERROR")) return fail_with_error();
-        if (size > 1) size = 1;
-    }
-    return syscall(SYS_write, file, bytes, size);
-}
+    long result;
 
-int close(int file) {
-    if (is_hit("close")) return (int)fail_with_error();
-    return (int)syscall(SYS_close, file);
+    return ends("write", &size, &result) ? result : syscall(SYS_write, file, bytes, size);
 }
 
 ssize_t __write(int file, const void *bytes, size_t size) { return write(file, bytes, size); }
 
+int openat(int folder, const char *name, int flags, ...) {
+    return is_hit("openat") ? -1 : (int)syscall(SYS_openat, folder, name, flags, 0);
+}
+
+int close(int file) { return is_hit("close") ? -1 : (int)syscall(SYS_close, file); }
+
 void *malloc(size_t size) { return is_hit("malloc") ? NULL : __libc_malloc(size); }
 
-void *realloc(void *place, size_t size) {
-    return is_hit("realloc") ? NULL : __libc_realloc(place, size);
+void *realloc(void *place, size_t size) { return is_hit("realloc") ? NULL : __libc_realloc(place, size); }
+
+int posix_fadvise(int file, off_t from, off_t length, int advice) {
+    (void)file;
+    if (!from && !length && advice == POSIX_FADV_SEQUENTIAL) is_hit("posix_fadvise");
+    return EINVAL;
+}
+
+int pthread_create(pthread_t *thread, const pthread_attr_t *how, void *(*function)(void *), void *given) {
+    int (*create)(pthread_t *, const pthread_attr_t *, void *(*)(void *), void *) = dlsym(RTLD_NEXT, "pthread_create");
+
+    return is_hit("pthread_create") ? EAGAIN : create(thread, how, function, given);
 }

@@ -1,9 +1,10 @@
-"""What the tests of b2sum share: the programs that they run, runs of them over files, and the lines that these have to
+"""What the tests of b2sum and b2 share: the programs that they run, runs of them over files, and the lines that these have to
 print. Not a program."""
 import contextlib
 import functools
 import hashlib
 import os
+import resource
 import shutil
 import subprocess
 import sys
@@ -13,23 +14,23 @@ import tap
 from common import TOP
 from oracle import parallel_digest, tree_root
 
-ASSEMBLE = 'source "$0/tests/tap.sh" && trap "" EXIT && rmdir "$work" && work=$1 && assemble_all b2sum'
+ASSEMBLE = 'source "$0/tests/tap.sh" && trap "" EXIT && rmdir "$work" && work=$1 && assemble_all "$2"'
 FILES = {"a": b"", "b": b"abc", "with\nline": b"x" * 1000, "caf\udcff": bytes(range(256)) * 5}
 
 
 @contextlib.contextmanager
-def programs(given):
+def programs(given, name="b2sum"):
     """The programs at these paths or, if there are none, those of dist/ that this processor runs, assembled in a folder
     that each user can read."""
     folder = tempfile.mkdtemp()
     os.chmod(folder, 0o755)
     try:
         if not given and not shutil.which("cc"):
-            tap.result(True, "the program b2sum of dist/", skipped="no C compiler cc")
+            tap.result(True, f"the program {name} of dist/", skipped="no C compiler cc")
         elif not given:
-            done = subprocess.run(["bash", "-c", ASSEMBLE, TOP, folder], stdout=subprocess.PIPE,
+            done = subprocess.run(["bash", "-c", ASSEMBLE, TOP, folder, name], stdout=subprocess.PIPE,
                 stderr=subprocess.STDOUT)
-            tap.result(done.returncode == 0, "the program b2sum in dist/ is assembled", done.stdout.decode())
+            tap.result(done.returncode == 0, f"the program {name} in dist/ is assembled", done.stdout.decode())
             given = sorted(it.path for it in os.scandir(folder) if it.is_file() and os.access(it.path, os.X_OK))
         yield [os.path.abspath(program) for program in given]
     finally:
@@ -72,6 +73,18 @@ class Runs:
         self.count += 1
         if got != wanted:
             self.wrong.append(f"{words}\n  wanted {wanted}\n  got    {got}")
+
+    def run_within(self, kib, words, data=b""):
+        """A run in this many KiB of address space."""
+        return self.run(words, data, preexec_fn=lambda: resource.setrlimit(resource.RLIMIT_AS, (kib << 10,) * 2))
+
+    def least_room(self, words, wanted):
+        """The fewest KiB, up to 16 more, in which a run ends like this."""
+        low, high = 0, 1 << 16
+        while high - low > 16:
+            middle = (low + high) // 2
+            low, high = (low, middle) if self.run_within(middle, words) == wanted else (middle, high)
+        return high
 
     def holds(self, words, condition, got=""):
         """A condition of a run."""
@@ -140,13 +153,12 @@ def root_line(name, data, leaf, bits=512, **texts):
 
 def run_tests(tests, others=(), faulty=()):
     """Runs tests of the programs that the command line names, or of those of dist/: all of them for the first program,
-    and the others for the rest. The faulty ones need the libraries FAULTS and SCANS, which are built first."""
+    and the others for the rest. The faulty ones need the library FAULTS, which is built first."""
     work = tempfile.mkdtemp()
-    os.environ["FAULTS"], os.environ["SCANS"] = (os.path.join(work, it) for it in ("faults.so", "scans.so"))
-    has_faults = not faulty or shutil.which("cc") and all(subprocess.run(
-        ["cc", "-shared", "-fPIC", "-O1", "-Wl,-z,now", os.path.join(TOP, "tests", source), "-o", os.environ[it]],
-        stdout=subprocess.DEVNULL).returncode == 0 for it, source in (
-            ("FAULTS", "b2sum_faults.c"), ("SCANS", "b2sum_key.c")))
+    os.environ["FAULTS"] = os.path.join(work, "faults.so")
+    has_faults = not faulty or shutil.which("cc") and subprocess.run(
+        ["cc", "-shared", "-fPIC", "-O1", "-Wl,-z,now", os.path.join(TOP, "tests", "b2sum_faults.c"), "-ldl", "-o",
+         os.environ["FAULTS"]], stdout=subprocess.DEVNULL).returncode == 0
     with programs(sys.argv[1:]) as built:
         for number, program in enumerate(built):
             for test in others if number else tests:

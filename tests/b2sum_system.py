@@ -14,7 +14,6 @@ import hashlib
 import itertools
 import os
 import random
-import resource
 import select
 import signal
 import socket
@@ -55,17 +54,10 @@ class Marked:
 def scan_memory(runs, words, key, call, at):
     """What a run has in its memory at a call: the number of pieces of the key, whether the process can be dumped, and
     whether it can leave a core file; or nothing if there is no such call."""
-    out = runs.path("scan")
-    got = runs.run(words, b"abc", env={
-        "LD_PRELOAD": os.environ["SCANS"], "SCAN_KEY": bytes(255 - byte for byte in key).hex(), "SCAN_CALL": call,
-        "SCAN_AT": str(at), "SCAN_OUT": out})
-    runs.holds([*words, call, at], got[1:] == (b"", 0), got)
-    if not os.path.exists(out):
-        return None
-    with open(out, encoding="ascii") as file:
-        found = tuple(map(int, file.read().split()))
-    os.remove(out)
-    return found
+    digits = bytes(255 - byte for byte in key).hex()
+    got = run_with_fault(runs, words, b"abc", call, at, at, 0, key=digits)
+    runs.holds([*words, call, at], not got or got[0][1:] == (b"", 0), got)
+    return got and tuple(map(int, got[1].split()))
 
 
 def test_secrets(runs):
@@ -128,7 +120,8 @@ def test_system(runs):
             runs.wants(["-c", name], "", f"{name}: {said}",
                        1)
     runs.wants(["link", "dir/../b"], line("link", b"abc") + line("dir/../b", b"abc"))
-    runs.wants(["/dev/null"], line("/dev/null", b""))
+    for name in ("/dev/null", "/" * 4086 + "/dev/null"):
+        runs.wants([name], line(name, b""))
     runs.wants(["/dev/stdin", "/dev/fd/0"], line("/dev/stdin", b"abc") + line("/dev/fd/0", b""), data=b"abc")
     with open("/proc/version", "rb") as file:  # whose length is 0 for the system
         data = file.read()
@@ -162,6 +155,21 @@ def test_changes(runs):
             if (error, last) != (errno.EINTR, 1 << 30):  # no call would end
                 got = run_with_fault(runs, ["--tree", "65536", "data"], b"", "pread", at, last, error)
                 runs.holds(["threads", at, last, error], got in (wanted, None) and (got or at > 1), got)
+    # Threads read from 512 KiB on, from the position of the file, which goes back if they fail.
+    for start in (len(data) - (1 << 19), len(data) - (1 << 19) + 1):
+        with open(runs.path("data"), "rb") as file:
+            file.seek(start)
+            got = run_with_fault(runs, ["--tree", "65536"], None, "pread", 1, 1 << 30, errno.EIO, stdin=file.fileno())
+        large = root_line("-", data[start:], 65536).encode()
+        runs.holds(["from", start], got == ((large, b"", 0) if len(data) - start == 1 << 19 else None), got)
+    for count in (1, 2, 5):
+        got = [run_with_fault(runs, ["--tree", "65536", "--threads", str(count), "data"], b"", "pthread_create", at, at,
+                              0) for at in (count - 1, count)]
+        runs.holds(["threads", count], got == [wanted if count > 1 else None, None], got)
+    for call in ("openat", "readv"):
+        got = run_with_fault(runs, ["b"], b"", call, 1, 3, errno.EINTR)
+        runs.holds(["interrupted", call], got == (line("b", b"abc").encode(), b"", 0), got)
+    runs.holds("a file that is read ahead", run_with_fault(runs, ["b"], b"", "posix_fadvise", 1, 1, 0))
     runs.ends("files that end early, and threads whose reads fail")
 
 
@@ -262,11 +270,14 @@ def test_closing(runs):
     for at, wanted in ((1, (whole, late, 1)), (2, (whole, quota, 1)), (3, (whole, b"", 1)), (4, None)):
         got = run_with_fault(runs, ["b"], b"", "close", at, at, errno.EDQUOT)
         runs.holds(["close", at], got == wanted, got)
+    got = run_with_fault(runs, [], b"abc", "close", 1, 1, errno.EDQUOT)
+    runs.holds("standard input", got == (line("-", b"abc").encode(), late.replace(b"close error", b"standard input"), 1),
+               got)
     got = run_with_fault(runs, ["b"], b"", "close", 2, 3, errno.EBADF)
     runs.holds("closing what is closed", got == (whole, b"", 0), got)
-    for path in "sums", "/usr/bin/sums":
+    for path, name in (("sums", b"sums"), ("/usr/bin/sums", b"sums"), ("sums/", b"b2sum"), ("", b"b2sum")):
         got = run_with_fault(runs, ["b"], b"", "close", 2, 2, errno.EDQUOT, path)
-        runs.holds([path, "close"], got == (whole, quota.replace(b"b2sum", b"sums"), 1), got)
+        runs.holds([path, "close"], got == (whole, quota.replace(b"b2sum", name), 1), got)
     runs.ends("outputs whose closing fails")
 
 
@@ -316,48 +327,43 @@ def test_large(runs):
 
 # ---- Memory.
 
-def run_within(runs, kib, words, data=b""):
-    """A run in this many KiB of address space."""
-    return runs.run(words, data, preexec_fn=lambda: resource.setrlimit(resource.RLIMIT_AS, (kib << 10,) * 2))
-
-
 def test_memory(runs):
     """A fixed amount for digests, and for a check up to twice the longest line. With less, it says so."""
-    low, high = 0, 1 << 16
-    while high - low > 16:
-        middle = (low + high) // 2
-        low, high = (low, middle) if run_within(runs, middle, ["a"])[2] == 0 else (middle, high)
+    high = runs.least_room(["a"], (line("a", b"").encode(), b"", 0))
     with open(runs.path("large"), "wb") as file:
         file.truncate(64 << 20)
-    got = run_within(runs, high + 64, ["large"])
+    got = runs.run_within(high + 64, ["large"])
     runs.holds("64 MiB", got == (os.fsencode(line("large", bytes(64 << 20))), b"", 0), got)
     manifest = os.fsencode("# comment\n" * 400000 + line("b", b"abc"))
-    got = run_within(runs, high + 192, ["-c"], manifest)
+    got = runs.run_within(high + 192, ["-c"], manifest)
     runs.holds("a manifest of 4 MB", got == (b"b: OK\n", b"", 0), got)
-    got = run_within(runs, high + 192, ["-c"], b"y\n" * (1 << 20))
+    got = runs.run_within(high + 192, ["-c"], b"y\n" * (1 << 20))
     runs.holds("lines of yes",
                got == (b"", b"b2sum: 'standard input': no properly formatted checksum lines found\n", 1),
                got)
     manifest = os.fsencode("#" * (1 << 22) + "\n" + line("b", b"abc"))
-    got = run_within(runs, high + 192 + 2 * len(manifest) // 1024, ["-c"], manifest)
+    got = runs.run_within(high + 192 + 2 * len(manifest) // 1024, ["-c"], manifest)
     runs.holds("a line of 4 MiB", got == (b"b: OK\n", b"", 0), got)
-    got = run_within(runs, high + len(manifest) // 1024, ["-c"], manifest)
+    got = runs.run_within(high + len(manifest) // 1024, ["-c"], manifest)
     runs.holds("with less", got == (b"", b"b2sum: memory exhausted\n", 1), got)
     runs.ends("memory")
 
 
 # ---- Faults.
 
-def run_with_fault(runs, words, data, call, at, last, error, called="b2sum"):
-    """A run in which these calls of a function fail, or nothing if it makes no such call."""
-    hit = runs.path("hit")
-    got = runs.run(words, data, called, env={
-        "LC_ALL": "C", "LD_PRELOAD": os.environ["FAULTS"], "FAULT_CALL": call, "FAULT_AT": str(at),
-        "FAULT_LAST": str(last), "FAULT_ERROR": str(error), "FAULT_HIT": hit})
-    if not os.path.exists(hit):
+def run_with_fault(runs, words, data, call, at, last, error, called="b2sum", key="", **more):
+    """A run in which these calls of a function fail, or nothing if it makes no such call; with a key to look for, and
+    what is said of that."""
+    out = runs.path("out")
+    variables = {"LC_ALL": "C", "LD_PRELOAD": os.environ["FAULTS"], "FAULT_CALL": call, "FAULT_AT": str(at),
+                 "FAULT_LAST": str(last), "FAULT_ERROR": str(error), "FAULT_OUT": out}
+    got = runs.run(words, data, called, env={**variables, **({"FAULT_KEY": key} if key else {})}, **more)
+    if not os.path.exists(out):
         return None
-    os.remove(hit)
-    return got
+    with open(out, encoding="ascii") as file:
+        said = file.read()
+    os.remove(out)
+    return (got, said) if key else got
 
 
 def check_faults(runs, words, data, good, call, error):
