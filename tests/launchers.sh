@@ -1,7 +1,7 @@
 #!/usr/bin/env bash
 # Checks when and of what the scripts `b2` and `b2sum` build a program, in a small separate
 # repository and with a compiler that notes its arguments and makes a script. Then checks the
-# completions. tests/b2_program.sh and tests/compare_coreutils.py run the real programs.
+# completions. tests/b2_program.py and tests/compare_coreutils.py run the real programs.
 set -u
 source "$(dirname "$(readlink -f "$0")")/tap.sh"
 shown=("$work/output" "$work/errors")
