@@ -300,7 +300,9 @@ def test_progress(runs):
         runs.holds(words, got == wanted + b"end", got)
         os.close(terminal)
         os.close(end)
-    runs.wants(["--progress", "b"], line("b", b"abc"))
+    writer = subprocess.Popen(["sh", "-c", "exec >slow; printf ab; sleep 0.7; printf c"], cwd=runs.folder)
+    runs.wants(["--progress", "slow"], line("slow", b"abc"))  # to no terminal
+    stop_process(writer)
     runs.ends("progress")
 
 

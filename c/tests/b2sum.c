@@ -30,6 +30,15 @@ static void record_free(void *place) {
 
 static void *malloc_or_fail(size_t size) { return has_no_memory ? NULL : malloc(size); }
 
+/* How often opening a file is interrupted. */
+static int interrupts;
+
+static int open_or_fail(const char *path) {
+    errno = EINTR;
+    return interrupts-- > 0 ? -1 : open_path(path);
+}
+
+#define open_path(path) open_or_fail(path)
 #define milliseconds() time_now
 #define write record_write
 #define free record_free
@@ -109,6 +118,24 @@ static void check_threads(void) {
 
 /* ---- Names, messages, and secrets. */
 
+/* Only the characters for bytes from 0x80 on become these bytes. */
+static void check_names(void) {
+    static const char *const names[][2] = {
+        {"a\xf4\x8f\xbe\x80\xf4\x8f\xbf\xbf\xf4\x8f\xbf\x80", "a\x80\xff\xc0"},
+        {"\xf4\x8f\xbd\xbf", "\xf4\x8f\xbd\xbf"},
+        {"\xf4\x8e\xbe\x80", "\xf4\x8e\xbe\x80"},
+        {"\xf3\x8f\xbe\x80", "\xf3\x8f\xbe\x80"},
+        {"\xf4\x8f\xbe\xc0", "\xf4\x8f\xbe\xc0"},
+        {"\xf4\x8f\xbe", "\xf4\x8f\xbe"},
+        {"\xf4", "\xf4"}};
+    char name[20];
+
+    for (size_t i = 0; i < sizeof names / sizeof *names; i++) {
+        decode_name(strcpy(name, names[i][0]));
+        CHECK(!strcmp(name, names[i][1]));
+    }
+}
+
 /* A name that has no room is refused before it is copied, and a message is cut to its room. Of the errors of closing
  * files the first is kept. */
 static void check_room(void) {
@@ -117,7 +144,8 @@ static void check_room(void) {
     memset(name, '/', 4096);
     CHECK(b2sum_open(name, 0) == -1 && errno == ENAMETOOLONG);
     name[4095] = 0;
-    CHECK(b2sum_open(name, 0) > 2);
+    interrupts = 3;
+    CHECK(b2sum_open(name, 0) > 2 && interrupts == -1);
     CHECK(b2sum_strerror(EISDIR, text, 15) == 0 && !strcmp(text, "Is a directory"));
     CHECK(b2sum_strerror(EISDIR, text, 6) == 0 && !memcmp(text, "Is a \0irectory", 15));
     close_error = EIO;
@@ -192,6 +220,7 @@ int main(void) {
     check_progress();
     check_length();
     check_threads();
+    check_names();
     check_room();
     check_memory();
     check_stack();

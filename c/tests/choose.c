@@ -2,10 +2,8 @@
  * level is chosen and which arguments are passed. choosing.sh compiles this file without
  * PROCESSOR and with it.
  *
- *   choose           prints `begun`, and then the level that is chosen on this processor, 2 to 4:
- *                    by the first call and by a later one. If there is only the first line, the
- *                    first call has ended the program
- *   choose compiler  also prints the level that the compiler's own test of the processor finds
+ * It prints `begun`, and then the level that is chosen on this processor, 2 to 4: by the first call
+ * and by a later one. If there is only the first line, the first call has ended the program.
  *
  * With PROCESSOR the processor is made up (fake_cpuid.h), and each bit that a level needs is
  * cleared separately. */
@@ -101,41 +99,35 @@ static void refuses_processor(void) {
     close(ends[0]);
 }
 
+#define BIT(n) (1u << (n))
+
 int main(void) {
-    static const unsigned v2_first[] = {0, 9, 13, 19, 20, 23}, v3_first[] = {12, 22, 27, 28, 29},
-                          v3_seventh[] = {3, 5, 8}, v4_seventh[] = {16, 17, 28, 30, 31};
-    const struct made_up all = {0xd, 0x80000008u, 0x38d83201u, 0xd0030128u, 0x21, 0xe7};
-    size_t i;
+    static const struct made_up all = {0xd, 0x80000008u, 0x38d83201u, 0xd0030128u, 0x21, 0xe7};
+    /* Each bit that a level needs, and the level without it. */
+    static const struct {
+        unsigned *leaf, bits;
+        int level;
+    } needed[] = {{&made_up.first, BIT(0) | BIT(9) | BIT(13) | BIT(19) | BIT(20) | BIT(23), 0},
+                  {&made_up.first, BIT(12) | BIT(22) | BIT(27) | BIT(28) | BIT(29), 2},
+                  {&made_up.seventh, BIT(3) | BIT(5) | BIT(8), 2},
+                  {&made_up.seventh, BIT(16) | BIT(17) | BIT(28) | BIT(30) | BIT(31), 3},
+                  {&made_up.extended, BIT(0), 0},
+                  {&made_up.extended, BIT(5), 2}};
 
     made_up = all;
     CHECK(level_by_call() == 4);
     check_arguments(4);
-    for (i = 0; i < sizeof v2_first / sizeof *v2_first; i++) {
-        made_up = all;
-        made_up.first &= ~(1u << v2_first[i]);
-        CHECK(level_by_call() == 0);
-    }
-    for (i = 0; i < sizeof v3_first / sizeof *v3_first; i++) {
-        made_up = all;
-        made_up.first &= ~(1u << v3_first[i]);
-        CHECK(level_by_call() == 2);
-    }
-    for (i = 0; i < sizeof v3_seventh / sizeof *v3_seventh; i++) {
-        made_up = all;
-        made_up.seventh &= ~(1u << v3_seventh[i]);
-        CHECK(level_by_call() == 2);
-    }
-    for (i = 0; i < sizeof v4_seventh / sizeof *v4_seventh; i++) {
-        made_up = all;
-        made_up.seventh &= ~(1u << v4_seventh[i]);
-        CHECK(level_by_call() == 3);
-    }
-    check_arguments(3);
+    for (size_t i = 0; i < sizeof needed / sizeof *needed; i++)
+        for (unsigned bit = 0; bit < 32; bit++) {
+            if (!(needed[i].bits & BIT(bit))) continue;
+            made_up = all;
+            *needed[i].leaf &= ~BIT(bit);
+            CHECK(level_by_call() == needed[i].level);
+        }
     made_up = all;
-    made_up.extended = 0x20; /* no LAHF */
-    CHECK(level_by_call() == 0);
-    made_up.extended = 1; /* no LZCNT */
-    CHECK(level_by_call() == 2);
+    made_up.seventh &= ~BIT(16);
+    CHECK(level_by_call() == 3);
+    check_arguments(3);
     for (unsigned saved = 0; saved < 512; saved++) {
         made_up = all;
         made_up.saved = saved;
@@ -163,7 +155,7 @@ int main(void) {
     return fails != 0;
 }
 #else
-int main(int count, char **words) {
+int main(void) {
     int first, later;
 
     puts("begun");
@@ -172,17 +164,6 @@ int main(int count, char **words) {
     later = probe();
     check_arguments(first);
     printf("%d %d\n", first, later);
-#ifdef COMPILER_KNOWS
-    if (count > 1 && !strcmp(words[1], "compiler")) {
-        __builtin_cpu_init();
-        printf("%d\n", __builtin_cpu_supports("x86-64-v4")   ? 4
-                       : __builtin_cpu_supports("x86-64-v3") ? 3
-                       : __builtin_cpu_supports("x86-64-v2") ? 2
-                                                             : 0);
-    }
-#else
-    (void)count, (void)words;
-#endif
     return fails != 0;
 }
 #endif

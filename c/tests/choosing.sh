@@ -116,13 +116,6 @@ thunks_choose() {
             -Wl,-z,noexecstack -o "$work/thunks" && "$work/thunks"
 }
 
-# The compiler's own test of a processor, where it has one.
-compiler_knows() {
-    echo 'int main(void) {
-        return __builtin_cpu_supports("x86-64-v4") && __builtin_cpu_supports("x86-64-v2"); }' |
-        cc -x c -o /dev/null - 2>/dev/null && echo -DCOMPILER_KNOWS
-}
-
 # The library joined by another compiler, and what it makes of choose.c.
 check_compiler() {
     CC=$1 "$here/make_libraries.sh" "$work/by_$1" "${texts[@]}" &&
@@ -132,23 +125,18 @@ check_compiler() {
             "$work/by_$1/libvulfsjor.a" -o "$work/first_calls_by" -pthread && "$work/first_calls_by"
 }
 
-# What the choice says on this processor or an emulated one: the level, 2 to 4, or 0 for an end with
-# a line. Where the compiler knows the levels, it has to say the same.
+# What the choice says on this processor or an emulated one: the level, 2 to 4, by the first call and by a later one, or
+# 0 for an end with a line.
 chooses_level() {
-    local wanted=$1 lines
-    shift
-    "$@" "$work/choose" compiler >"$work/said" 2>"$work/error"
+    "${@:2}" "$work/choose" >"$work/said" 2>"$work/error"
     local status=$?
     cat "$work/said" "$work/error"
-    grep -qx begun "$work/said" || return 1
-    if [ "$wanted" = 0 ]; then
-        [ $status -eq 134 ] && [ "$(wc -l <"$work/said")" -eq 1 ] &&
+    if [ "$1" = 0 ]; then
+        [ $status -eq 134 ] && [ "$(<"$work/said")" = begun ] &&
             [ "$(grep -cxF 'vulfsjor: this processor is below x86-64-v2, which the library needs' \
                 "$work/error")" -eq 1 ]
     else
-        [ $status -eq 0 ] && [ "$(sed -n 2p "$work/said")" = "$wanted $wanted" ] || return 1
-        lines=$(sed -n '3,$p' "$work/said")
-        [ -z "$lines" ] || [ "$lines" = "$wanted" ]
+        [ $status -eq 0 ] && [ "$(<"$work/said")" = "begun"$'\n'"$1 $1" ]
     fi
 }
 
@@ -167,31 +155,25 @@ example_runs_on() {
     fi
 }
 
-# Emulated processors: what is sold, and one with each of the features that a level asks for taken
+# Emulated processors of a level: what is sold, and one with each of the features that the next level asks for taken
 # away. qemu emulates none with AVX-512.
 emulated_processors() {
-    local names level=$1
-    case $level in
-        0) names="qemu64 core2duo Penryn Opteron_G3"
-           for feature in pni ssse3 cx16 sse4.1 sse4.2 popcnt lahf-lm; do
-               names+=" Haswell,-$feature"
-           done ;;
-        2) names="Nehalem SandyBridge IvyBridge Denverton Opteron_G5"
-           for feature in fma movbe xsave avx f16c bmi1 avx2 bmi2 abm; do
-               names+=" Haswell,-$feature"
-           done ;;
-        3) names="Haswell Broadwell Skylake-Server EPYC max" ;;
+    case $1 in
+        0) printf '%s\n' qemu64 core2duo Penryn Opteron_G3 Haswell,-{pni,ssse3,cx16,sse4.1,sse4.2,popcnt,lahf-lm} ;;
+        2) printf '%s\n' Nehalem SandyBridge IvyBridge Denverton Opteron_G5 \
+            Haswell,-{fma,movbe,xsave,avx,f16c,bmi1,avx2,bmi2,abm} ;;
+        3) printf '%s\n' Haswell Broadwell Skylake-Server EPYC max ;;
     esac
-    echo "$names"
 }
 
+# The choice, and the example of the README, linked statically, on each of them.
 test_emulated() {
     local level name
     if ! has qemu-x86_64; then
         skip "the choice on emulated processors" "no qemu-x86_64"
         return
     fi
-    if ! compile_choose choose -O2 -static $(compiler_knows) 2>"$work/log"; then
+    if ! compile_choose choose -O2 -static 2>"$work/log"; then
         skip "the choice on emulated processors" "cc links no static program"
         return
     fi
@@ -201,16 +183,14 @@ test_emulated() {
         for name in $(some $(emulated_processors $level)); do
             if qemu-x86_64 -cpu help | grep -qw "${name%%,*}"; then
                 check "the choice on $name" chooses_level $level qemu-x86_64 -cpu "$name"
+                needs python3
+                check "the example on $name" example_runs_on $level "$name"
+                needs
             else
                 skip "the choice on $name" "qemu-x86_64 has no such processor"
             fi
         done
     done
-    needs python3
-    check "the example on a processor below x86-64-v2" example_runs_on 0 core2duo
-    check "the example on a processor of x86-64-v2" example_runs_on 2 Nehalem
-    check "the example on a processor of x86-64-v3" example_runs_on 3 Haswell
-    needs
 }
 
 # A test program for a hash over one build or alternating ones, compiled once for all of them: NAME BUILD HASH
@@ -283,7 +263,7 @@ test_cost() {
         skip "what the choice costs" "no valgrind"
         return
     fi
-    check "choose.c for valgrind" compile_choose choose -O2 $(compiler_knows) &&
+    check "choose.c for valgrind" compile_choose choose -O2 &&
         check "repeat_call.c" compile_repeat_call || return
     for task in $(some 0 1 4 7 10 11); do
         check "what dispatch costs, task $task" costs_little $task
@@ -316,7 +296,7 @@ test_choosing() {
     needs clang
     check "the library joined by clang" check_compiler clang
     needs
-    check "choose.c" compile_choose choose -O2 $(compiler_knows) &&
+    check "choose.c" compile_choose choose -O2 &&
         check "the choice on this processor" chooses_level "$level" env
     test_builds
     test_emulated

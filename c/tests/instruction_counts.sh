@@ -21,48 +21,29 @@ counts() {
     find "$work" -name 'count.*' -exec sed -n 's/^totals: //p' {} +
 }
 
-# Checks that all calls take as many instructions, and that there are two for each place.
-check_same() {
-    local function=$1 length=$2 name=$3
-    if ! counts "$function" "$length" >"$work/counts"; then
-        fail "$name" "$work/log"
-    elif [ "$(wc -l <"$work/counts")" -ne $((2 * length)) ] ||
-        [ "$(sort -u "$work/counts" | wc -l)" -ne 1 ]; then
-        sort -n "$work/counts" | sed -n '1p;$p' | tr '\n' ' ' >"$work/log"
-        fail "$name: $(wc -l <"$work/counts") calls, of this and this many instructions" "$work/log"
-    else
-        pass "$name: $(head -n 1 "$work/counts") instructions with the call, wherever they differ"
-    fi
-}
-
 # The count of the one call of a function.
 count_of() {
     local count
     count=$(counts "$@") && [[ $count =~ ^[1-9][0-9]*$ ]] && echo "$count"
 }
 
-# Checks that a function takes at most this many hundredths of an instruction for each of its bytes.
-check_bytes() {
-    local function=$1 length=$2 most=$3 name=$4 count
-    if ! count=$(count_of "$function" "$length"); then
-        fail "$name" "$work/log"
-    elif [ $((100 * count)) -gt $((most * length)) ]; then
-        fail "$name: $count instructions, more than $most for 100 bytes"
-    else
-        pass "$name: $count instructions, at most $most for 100 bytes"
-    fi
+# Whether all calls take the same number of instructions, two calls for each place: FUNCTION LENGTH
+takes_the_same() {
+    counts "$@" >"$work/counts" && sort "$work/counts" | uniq -c &&
+        [ "$(wc -l <"$work/counts")" -eq $((2 * $2)) ] && [ "$(sort -u "$work/counts" | wc -l)" -eq 1 ]
 }
 
-# Checks that a function takes at most this many hundredths of the instructions that another takes.
-check_share() {
-    local function=$1 other=$2 count=$3 most=$4 name=$5 at_once in_turn
-    if ! at_once=$(count_of "$function" "$count") || ! in_turn=$(count_of "$other" "$count"); then
-        fail "$name" "$work/log"
-    elif [ $((100 * at_once)) -gt $((most * in_turn)) ]; then
-        fail "$name: $at_once instructions, and $in_turn one by one: more than $most of 100"
-    else
-        pass "$name: $at_once instructions, and $in_turn one by one: at most $most of 100"
-    fi
+# Whether a function takes at most this many hundredths of an instruction for each of its bytes: FUNCTION LENGTH MOST
+takes_at_most() {
+    local count
+    count=$(count_of "$1" "$2") && echo "$count instructions" && [ $((100 * count)) -le $(($3 * $2)) ]
+}
+
+# Whether it takes at most this many hundredths of the instructions of another: FUNCTION OTHER COUNT MOST
+takes_a_share() {
+    local count other
+    count=$(count_of "$1" "$3") && other=$(count_of "$2" "$3") && echo "$count instructions, and $other one by one" &&
+        [ $((100 * count)) -le $(($4 * other)) ]
 }
 
 # The build that runs here, by the name of its function in a count. Where the library holds one
@@ -79,29 +60,20 @@ build_here() {
 }
 
 check_at_once() {
-    local name="four leaves at once" count
+    local count
     # Five and nine leaves: a state closes its first leaf alone, and takes four only where a byte
     # follows them.
-    check_share hash_leaves_at_once hash_leaves_in_turn 5 85 \
-        "$name: an update of five leaves and a byte"
-    check_share hash_leaves_at_once hash_leaves_in_turn 9 80 \
-        "$name: an update of nine leaves and a byte"
+    check "an update of five leaves and a byte" takes_a_share hash_leaves_{at_once,in_turn} 5 85
+    check "an update of nine leaves and a byte" takes_a_share hash_leaves_{at_once,in_turn} 9 80
     # One call for the whole input has its first four leaves at once too, with nothing behind them.
-    check_bytes hash_root $((4 * 65536)) 450 "$name: vulfsjor_ffi_tree_root of four leaves"
-    check_bytes hash_root $((5 * 65536 + 1)) 450 \
-        "$name: vulfsjor_ffi_tree_root of five leaves and a byte"
-    for count in 4 8; do
-        check_share hash_many_blake2b hash_each_blake2b $count 80 \
-            "vulfsjor_ffi_blake2b_many of $count messages"
-    done
-    for count in 8 16; do
-        check_share hash_many_blake2s hash_each_blake2s $count 60 \
-            "vulfsjor_ffi_blake2s_many of $count messages"
-    done
+    check "the root of four leaves" takes_at_most hash_root $((4 * 65536)) 450
+    check "the root of five leaves and a byte" takes_at_most hash_root $((5 * 65536 + 1)) 450
+    for count in 4 8; do check "blake2b_many, $count messages" takes_a_share hash_{many,each}_blake2b $count 80; done
+    for count in 8 16; do check "blake2s_many, $count messages" takes_a_share hash_{many,each}_blake2s $count 60; done
 }
 
 test_instruction_counts() {
-    local length
+    local each length
     if ! has valgrind; then
         skip "the counts of instructions" "no valgrind"
         return
@@ -112,14 +84,10 @@ test_instruction_counts() {
     fi
     check "instruction_counts.c" cc -O0 -I"$include" -o "$work/calls" "$tests/instruction_counts.c" "$archive" \
         -Wl,-z,now || return
-    for length in $(some 33 1 8 15 16 17 31 32 63 64 65 200); do
-        check_same compare_memcmp "$length" "vulfsjor_ffi_memcmp of $length bytes"
-    done
-    for length in $(some 64 1 16 20 32 48); do
-        check_same compare_blake2b "$length" "vulfsjor_ffi_blake2b_verify of $length bytes"
-    done
-    for length in $(some 32 1 8 16 20 28); do
-        check_same compare_blake2s "$length" "vulfsjor_ffi_blake2s_verify of $length bytes"
+    for each in memcmp:"33 1 8 15 16 17 31 32 63 64 65 200" blake2b:"64 1 16 20 32 48" blake2s:"32 1 8 16 20 28"; do
+        for length in $(some ${each#*:}); do
+            check "comparisons of $length bytes, ${each%%:*}" takes_the_same "compare_${each%%:*}" "$length"
+        done
     done
     case $(build_here) in
         x86-64-v3) check_at_once ;;

@@ -32,40 +32,6 @@ check_by_wine() {
 check_once_by_wine() { checking=check_once check_by_wine "$@"; }
 check_huge_by_wine() { checking=check_huge check_by_wine "$@"; }
 
-# A stand-in for wine, which fails as wine does, or prints what a program may print. It counts its
-# runs.
-write_stand_in() {
-    printf '%s\n' '#!/bin/bash' "echo >>'$work/runs'" 'cat; echo output' "$1" >"$work/stand_in" &&
-        chmod +x "$work/stand_in" && rm -f "$work/runs" "$work/log_of_stand_in"
-}
-# What it says and its status, over an input, and after how many runs: BODY STATUS RUNS ERRORS LINES
-stand_in_ends() {
-    local status
-    write_stand_in "$1" || return 1
-    echo input | WINE=$work/stand_in WINE_LOG=$work/log_of_stand_in "$by_wine" program \
-        >"$work/said" 2>"$work/errors"
-    status=$?
-    touch "$work/log_of_stand_in"
-    [ "$(paste -sd , "$work/said"),$status" = "input,output,$2" ] &&
-        [ "$(wc -l <"$work/runs")" -eq "$3" ] && [ "$(<"$work/errors")" = "$4" ] &&
-        [ "$(wc -l <"$work/log_of_stand_in")" -eq "$5" ]
-}
-runs_again() {
-    local client="wine client error:0: recvmsg: Connection reset by peer" of="wineserver: no socket"
-    local first="err:virtual:virtual_alloc_first_teb wine: failed to map the shared user data"
-    stand_in_ends 'exit 0' 0 1 "" 0 && stand_in_ends 'exit 1' 1 1 "" 0 &&
-        stand_in_ends 'echo wrong >&2; exit 1' 1 1 wrong 0 &&
-        stand_in_ends "echo '$client' >&2; exit 0" 0 1 "$client" 0 &&
-        stand_in_ends "echo '$client' >&2; echo wrong >&2; exit 1" 1 1 "$client"$'\nwrong' 0 &&
-        stand_in_ends "[ \$(wc -l <'$work/runs') -lt 2 ] || exit 3; echo '$client' >&2; exit 1" \
-            3 2 "" 1 &&
-        stand_in_ends "[ \$(wc -l <'$work/runs') -lt 3 ] || exit 0; echo '$of' >&2; exit 1" \
-            0 3 "" 2 &&
-        stand_in_ends "[ \$(wc -l <'$work/runs') -lt 2 ] || exit 0; echo '$first' >&2; exit 1" \
-            0 2 "" 1 &&
-        stand_in_ends "echo '$of' >&2; exit 9" 9 3 "$of" 3
-}
-
 # A script that runs a program for Windows. Lines of C end in a newline only, if it is to do so:
 # SCRIPT [FILTER]
 write_script() {
@@ -288,7 +254,6 @@ test_windows() {
     prefix=$work/prefix include=$work/prefix/include libb2=$work/prefix/include/vulfsjor-libb2
     archive=$prefix/lib/libvulfsjor.a shared=$prefix/lib/libvulfsjor.dll.a
     export WINEPATH=$prefix/bin
-    check "a program that wine itself ends is run again, and no other" runs_again
     check_by_wine "a server of wine" start_wine || return
     export CFLAGS=$quick # of the libraries that are made here
     check "install.sh with CC=$mingw" env "CC=$mingw" "$here/install.sh" --from "$dist" "$prefix" ||
