@@ -71,40 +71,26 @@ dll_is_right() {
         ! grep 'DLL Name' "$work/dll" | grep -v 'KERNEL32\|msvcrt\|ucrt'
 }
 
-# A library of only one build, without the choice.
+# A hash with this object of choose.c in the place of the archive's: with only one build, or one that goes from one build
+# to the others.
+hash_by_choice() { run_hash conformance "$1" "$work/$2.o" "$archive"; }
 one_build_for_windows() {
-    local folder=$work/only_$1
-    CC=$mingw "$here/install.sh" --cpu "x86-64-$1" --from "$dist" "$folder" &&
-        ! nm "$folder/lib/libvulfsjor.a" | grep -q "vulfsjor_ffi_level" &&
-        archive=$folder/lib/libvulfsjor.a && run_hash conformance blake2b "$archive"
+    choose_build "-DCHOOSE_ONE=$1" "only_$1" && ! nm "$work/only_$1.o" | grep -q vulfsjor_ffi_level &&
+        hash_by_choice blake2b "only_$1"
 }
 
-# Over a library for tests that goes from one build to the others, which the first family makes.
-all_builds_for_windows() {
-    [ -e "$work/both" ] || CC=$mingw "$here/make_libraries.sh" --test "$(seq -s '' 2 "$level")" "$work/both" \
-        "$dist"/x86_64/vulfsjor-v[234].s || return 1
-    archive=$work/both/libvulfsjor.a && run_hash conformance "$1" "$archive"
-}
-
-# The example of c/README.md over a library that has a trap in each function of one build, with
-# these arguments for make_libraries.sh.
+# The example of c/README.md with a trap in each function of one build, and these objects: BUILD OBJECT..
 example_with_traps() {
-    local trapped=$1 texts=() build
-    for build in v2 v3 v4; do
-        texts+=("$dist/x86_64/vulfsjor-$build.s")
-        [ $build != "$trapped" ] || {
-            sed '/^\tvj_export\t/a\\tud2' "${texts[-1]}" >"$work/trapped.s" &&
-                texts[-1]=$work/trapped.s
-        }
-    done
-    block_of c/README.md c >"$work/hello.c"
-    CC=$mingw "$here/make_libraries.sh" "${@:2}" "$work/traps" "${texts[@]}" && cc -O2 -I"$include" \
-        "$work/hello.c" "$work/traps/libvulfsjor.a" -o "$work/hello" &&
+    sed '/^\tvj_export\t/a\\tud2' "$dist/x86_64/vulfsjor-$1.s" >"$work/trapped.s" &&
+        block_of c/README.md c >"$work/hello.c" &&
+        "$mingw" -c "$(with_macros "$work/trapped.s")" -o "$work/trapped.o" &&
+        cc -O2 -I"$include" "$work/hello.c" "$work/trapped.o" "${@:2}" "$archive" -o "$work/hello" &&
         "$work/hello" >"$work/said" && diff "$work/said" <(wanted_of_readme)
 }
 chooses_the_build() {
     example_with_traps v2 && ! example_with_traps "v$level"
 }
+chooses_older() { choose_build -DCHOOSE_TEST=2 older && example_with_traps v3 "$work/older.o"; }
 
 # CMake, with the static library and with the shared one, as a part of a project.
 project_for_windows() {
@@ -138,11 +124,9 @@ short_lengths() {
 
 # The program with this build of the library.
 program_with_build() {
-    local text=$dist/x86_64/b2.s object=$work/b2_text.o
-    [ -e "$object" ] || "$mingw" -c "$(with_macros "$text" "$dist"/x86_64/vulfsjor-v[234].s)" \
-        -o "$object" || return
+    local text=$dist/x86_64/b2.s
     "$mingw" -O2 -municode "${warnings[@]}" "-DMAIN=$(main_of "$text")" "-DCHOOSE_TEST=${1#v}" \
-        "-I$here/include" "$here"/{b2,choose}.c "$object" -o "$work/b2_one.exe" &&
+        "-I$here/include" "$here"/{b2,choose}.c "$(with_macros "$text")" "$archive" -o "$work/b2_one.exe" &&
         write_script "$work/b2_one" && [ "$(printf abc | "$work/b2_one" sum s256)" = \
             "$(printf abc | python3 -c 'import hashlib, sys
 print(hashlib.blake2s(sys.stdin.buffer.read()).hexdigest())')" ]
@@ -260,13 +244,14 @@ test_windows() {
         return
     check "what is installed for Windows" installs
     check "the DLL" dll_is_right
+    check "the choice between all builds" choose_build "-DCHOOSE_TEST=$(seq -s '' 2 "$level")" both
     for hash in "${kinds[@]}"; do
         check_by_wine "conformance.c, $hash, for Windows" run_hash conformance $hash "$archive"
         check_huge_by_wine "made_states.c, $hash, for Windows" run_hash made_states $hash "$archive"
         check=check_huge_by_wine
         [ $hash != blake2b ] || check=check_by_wine
         $check "conformance.c, $hash, for Windows, with the DLL" run_hash conformance $hash "$shared"
-        $check "conformance.c, $hash, from one build to the others" all_builds_for_windows $hash
+        $check "conformance.c, $hash, from one build to the others" hash_by_choice $hash both
     done
     for family in b s; do
         check_by_wine "edge_cases.c, blake2$family, for Windows" edge_cases
@@ -281,7 +266,7 @@ test_windows() {
         check_by_wine "b2.exe with the build $build" program_with_build $build
     done
     check_by_wine "the build that this processor supports is chosen" chooses_the_build
-    check_huge_by_wine "an older build is chosen if it is asked for" example_with_traps v3 --test 2
+    check_huge_by_wine "an older build is chosen if it is asked for" chooses_older
     check_by_wine "b2.exe next to the specification" \
         program_for_windows "$([ -n "${VULFSJOR_TEST_HUGE-}" ] && echo 40 || echo 10)"
     check_by_wine "b2_windows.c" short_lengths
