@@ -5,16 +5,20 @@ source "$(dirname "$(readlink -f "$0")")/common.sh"
 # With one build for x86-64, and with what is compiled of C optimized as in other tests.
 one=()
 ! chooses || one=(--cpu x86-64-v2)
-install_into() { CFLAGS=$quick "$here/install.sh" "${cpu[@]}" "${one[@]}" --from "$dist" "$@"; }
-
-# The same, made once for all of these installations, where another archive was.
+# The same, made once for all of these installations, where another archive was: by a compiler of several words, which
+# notes them, and makes no position-independent programs by default.
 install_one() {
     if [ ! -e "$work/built/kind" ]; then
-        mkdir -p "$work/built" && ar rc "$work/built/libvulfsjor.a" "$empty" &&
-            touch "$work/built/libvulfsjor.so.0.0.9" && install_into --build "$work/built" || return
+        write_noted ccache env && mkdir -p "$work/built" && ar rc "$work/built/libvulfsjor.a" "$empty" &&
+            touch "$work/built/libvulfsjor.so.0.0.9" &&
+            PATH=$work:$PATH CC="ccache cc -fno-pie" CFLAGS=$quick "$here/install.sh" "${cpu[@]}" "${one[@]}" \
+                --from "$dist" --build "$work/built" || return
     fi
     "$here/install.sh" --built "$work/built" "$@"
 }
+
+# Writes a compiler or an archiver that notes its words: NAME COMMAND
+write_noted() { printf '#!/bin/sh\necho "$*" >>"$0.calls"\nexec %s "$@"\n' "$2" >"$work/$1" && chmod +x "$work/$1"; }
 
 # All files and links below a folder, by their paths in it.
 files_below() { (cd "$1" && find . -type f -o -type l | sed 's/^\.\///' | LC_ALL=C sort); }
@@ -161,9 +165,10 @@ vendored_by_hand() {
     sed -n 's/^    \(\(cp\|rm\) .*YOURS.*\)/\1/p' "$here/README.md" >copy.sh
     [ "$(wc -l <copy.sh)" -eq 2 ] && sh -e copy.sh && cd YOURS && [ ! -e x86_64/b2-v2.s ] &&
         rm ../c ../dist || return 1
+    cc -c vulfsjor.S || return 1
     for words in -O0 "-O2 -static" "-O2 -fPIC -shared"; do
         # shellcheck disable=SC2086
-        cc $words "${warnings[@]}" -std=gnu99 -I. hello.c choose.c vulfsjor.S -o program || return 1
+        cc $words "${warnings[@]}" -std=gnu99 -I. hello.c choose.c vulfsjor.o -o program || return 1
         [[ $words == *-shared ]] || ./program || return 1
     done
     [ "$(nm -D --defined-only program | awk 'NF == 3 { print $3 }' | grep -c vulfsjor)" -eq 0 ]
@@ -242,17 +247,26 @@ $shared_is_on
 $find 0.1 REQUIRED)" vulfsjor::vulfsjor vulfsjor::threads && needs_shared
 }
 
-# `cmake --install`, which installs the same files as the Makefile. The package for CMake may be moved
-# within the installation, and has the static library and the shared one.
+# `cmake --install`, which installs the same files as the Makefile, by the same scripts: a stand-in for bash notes their
+# words and variables, and has what they would build. The package for CMake may be moved within the installation, and has
+# the static library and the shared one.
 installed_by_cmake() {
-    local folder=$work/by\ cmake find
-    write_noted noted cc &&
-        cmake -S "$here" -B "$folder.build" -DCMAKE_INSTALL_LIBDIR=lib -DCMAKE_C_COMPILER="$work/noted" \
-            -DCMAKE_C_FLAGS=-DASKED &&
-        cmake --build "$folder.build" && grep -q -e '-DASKED .*/choose\.o$' "$work/noted.calls" &&
+    local folder=$work/by\ cmake find made=$work/by\ cmake.build/made cc
+    cc=$(command -v cc) && install_one "$work/as it is" && cat >"$work/noted_bash" <<END || return 1
+#!$BASH
+[ "\$2" = --build ] || exec "$BASH" "\$@"
+echo "\$CC|\$CFLAGS|\$LDFLAGS|\$*" >>"$work/noted_bash.calls"
+case \$3 in */lib) cp -R "$work/built" "\$3" ;; *) cp "$empty" "\$3" ;; esac
+END
+    chmod +x "$work/noted_bash" &&
+        cmake -S "$here" -B "$folder.build" -DCMAKE_INSTALL_LIBDIR=lib -DCMAKE_C_COMPILER="$cc" \
+            -DCMAKE_C_FLAGS=-DASKED -DCMAKE_BUILD_TYPE=Debug -DCMAKE_SHARED_LINKER_FLAGS=-L/asked \
+            -DVULFSJOR_BASH="$work/noted_bash" &&
+        cmake --build "$folder.build" && diff "$work/noted_bash.calls" <(printf "$cc|-DASKED -g|-L/asked|%s\n" \
+            "$here/../b2"{,sum}" --build $made/b2"{,sum} "$here/../c/install.sh --build $made/lib" | sed 2,3d) &&
         cmake --install "$folder.build" --prefix "$folder" &&
         files_below "$folder" | diff <(files_of_all) - &&
-        diff -r "$prefix/lib" "$folder/lib" && diff -r "$prefix/include" "$folder/include" &&
+        diff -r "$work/as it is/lib" "$folder/lib" && diff -r "$prefix/include" "$folder/include" &&
         mv "$folder/lib/cmake/vulfsjor" "$folder/share/" &&
         cmake -S "$here" -B "$folder.build" -DCMAKE_INSTALL_{BIN,INCLUDE,MAN}DIR=other &&
         cmake --install "$folder.build" --prefix "$folder.other" && files_below "$folder.other" |
@@ -277,29 +291,6 @@ portable_by_cmake() {
 find_package(vulfsjor $(version) EXACT REQUIRED)" vulfsjor::vulfsjor vulfsjor::threads && needs_nothing
 }
 
-# The modules for pkg-config in CMake and in meson.
-modules_by_cmake() {
-    project_by_cmake "set(ENV{PKG_CONFIG_PATH} \"$prefix/lib/pkgconfig\")
-find_package(PkgConfig REQUIRED)
-pkg_check_modules(shared REQUIRED IMPORTED_TARGET vulfsjor)
-pkg_check_modules(threads REQUIRED IMPORTED_TARGET vulfsjor-threads)" PkgConfig::shared PkgConfig::threads &&
-        [ "$(cat "$work/needed")" = libvulfsjor.so.0 ]
-}
-modules_by_meson() {
-    local folder=$work/meson
-    mkdir "$folder" && write_program "$folder/program.c" && write_threads "$folder/threads.c" &&
-        cat >"$folder/meson.build" <<'END' || return 1
-project('project', 'c')
-static = dependency('vulfsjor-static', version : '>=0.1')
-executable('static', 'program.c', dependencies : static)
-executable('shared', 'program.c', dependencies : dependency('vulfsjor'))
-executable('threads', 'threads.c', dependencies : dependency('vulfsjor-threads'))
-END
-    PKG_CONFIG_PATH=$prefix/lib/pkgconfig meson setup "$folder/build" "$folder" &&
-        meson compile -C "$folder/build" && "$folder/build/static" && "$folder/build/threads" &&
-        LD_LIBRARY_PATH=$prefix/lib "$folder/build/shared"
-}
-
 # What pkg-config prints for each module, from the folder of its file: MODULE FOLDER INCLUDES ROOM
 # LIBRARIES.
 words_are_these() {
@@ -317,14 +308,11 @@ libb2 vulfsjor-libb2/pkgconfig ../../../include/vulfsjor-libb2 ../../vulfsjor-li
 END
 }
 
-# Compilers of several words; and one that makes no position-independent programs by default, whose
-# libraries become a part of a shared library all the same.
+# What the compiler of several words has compiled, which becomes a part of a shared library.
 compilers_of_words() {
     local folder=$work/words
-    mkdir -p "$folder/bin" && printf '#!/bin/sh\necho "$*" >>"%s/calls"\nexec "$@"\n' "$folder" \
-        >"$folder/bin/ccache" && chmod +x "$folder/bin/ccache" &&
-        PATH=$folder/bin:$PATH CC="ccache cc -fno-pie" install_into "$folder" && program_works "$folder/lib" &&
-        [ "$(grep -c -- ' -c ' "$folder/calls")" -ge 5 ] && ! grep -v '^cc -fno-pie ' "$folder/calls" &&
+    install_one "$folder" && program_works "$folder/lib" &&
+        [ "$(grep -c -- ' -c ' "$work/ccache.calls")" -ge 5 ] && ! grep -v '^cc -fno-pie ' "$work/ccache.calls" &&
         cc -shared -Wl,-z,defs -Wl,-z,text -Wl,--whole-archive "$folder/lib"/libvulfsjor-{libb2,threads}.a \
             -Wl,--no-whole-archive -pthread -o "$folder/shared.so"
 }
@@ -355,9 +343,6 @@ make_here() {
     make -C "$top" built="$work/made" CC="$work/noted_cc" AR="env $work/noted_ar" CPPFLAGS=-DASKED=1 \
         CFLAGS="$made_flags" LDFLAGS="$made_links" "$@"
 }
-
-# Writes a compiler or an archiver that notes its words: NAME COMMAND
-write_noted() { printf '#!/bin/sh\necho "$*" >>"$0.calls"\nexec %s "$@"\n' "$2" >"$work/$1" && chmod +x "$work/$1"; }
 
 # All files of an installation of programs and library, with this before their names: PREFIX
 files_of_all() {
@@ -496,44 +481,22 @@ END
     done
 }
 
-# What CMake need not find out of the compiler if it only configures.
-known=(-D{CMAKE_{C,ASM}_COMPILER_WORKS,CMAKE_HAVE_LIBC_PTHREAD,VULFSJOR_HAS_fcf_protection_full}=ON
-    -DVULFSJOR_HAS_mbranch_protection_bti=OFF)
-
-# Has CMake configure the library for a system and a processor, and prints the name of its text.
-# Nothing is compiled.
-choose_by_cmake() {
-    local build
-    build=$(mktemp -d "$work/chosen.XXXX") &&
-        cmake -S "$here" -B "$build" -DCMAKE_SYSTEM_NAME="$1" -DCMAKE_SYSTEM_PROCESSOR="$2" \
-            -DCMAKE_TRY_COMPILE_TARGET_TYPE=STATIC_LIBRARY "${known[@]}" "${@:3}" >"$work/configured" 2>&1 ||
-        { cat "$work/configured" && return 1; }
-    # It has a rule for the assembly of C too.
-    grep -hoE 'dist/[a-z0-9_-]*/?vulfsjor[v0-9-]*\.[sSc]' "$build/CMakeFiles/vulfsjor.dir/build.make" |
-        LC_ALL=C sort -u |
-        sed '/^dist\/c\/vulfsjor\.s$/d'
-}
-
-# What CMake chooses for each system and name of a processor: portable C where there is no assembly,
-# or if it is asked for.
+# What CMakeLists.txt chooses, by its own lines, for each system, processor, size of pointers and variable that is on:
+# portable C where there is no assembly, or if it is asked for.
 chosen_by_cmake() {
-    local name
-    # Without VULFSJOR_TEST_HUGE each name and each system once.
-    local chosen=({Linux,Darwin,Windows,FreeBSD}" "{x86_64,AMD64,amd64,aarch64,arm64,ARM64})
-    local portable=("Linux riscv64" "Haiku x86_64" "Linux x86_64 -DVULFSJOR_PORTABLE=ON")
-    if [ -n "${VULFSJOR_TEST_HUGE-}" ]; then
-        portable+=("Linux aarch64_be" "Linux armv7l")
-    else
-        chosen=("Linux x86_64" "Windows AMD64" "FreeBSD amd64" "Linux aarch64" "Darwin arm64" "Windows ARM64")
-    fi
-    for name in "${chosen[@]}"; do
-        choose_by_cmake $name | diff <(echo dist/vulfsjor.S) - || return 1
-    done
-    for name in "${portable[@]}"; do
-        choose_by_cmake $name | diff <(echo dist/c/vulfsjor.c) - || return 1
-    done
-    ! is_x86 ||
-        choose_by_cmake Linux x86_64 -DCMAKE_C_FLAGS=-m32 | diff <(echo dist/c/vulfsjor.c) -
+    local assembly=({Linux,Darwin,Windows,Android,FreeBSD,NetBSD,OpenBSD,DragonFly},{x86_64,AMD64,amd64,aarch64,arm64,ARM64},8,ON)
+    local portable=(Linux,{riscv64,aarch64_be},8,ON Linux,{x86_64,armv7l},4,ON Haiku,x86_64,8,ON SunOS,aarch64,8,ON
+        Linux,x86_64,8,VULFSJOR_PORTABLE Windows,AMD64,8,MSVC)
+    {
+        echo "foreach(case ${assembly[*]} ${portable[*]})"
+        printf '%s\n' 'string(REPLACE "," ";" words ${case})' 'list(GET words 0 CMAKE_SYSTEM_NAME)' \
+            'list(GET words 1 CMAKE_SYSTEM_PROCESSOR)' 'list(GET words 2 CMAKE_SIZEOF_VOID_P)' 'list(GET words 3 name)' \
+            'set(${name} 1)'
+        sed -n '/^set(processors /,/^endforeach/p' "$here/CMakeLists.txt"
+        printf '%s\n' 'unset(${name})' 'message("${case} ${code}")' 'endforeach()'
+    } >"$work/choose.cmake"
+    cmake -P "$work/choose.cmake" 2>&1 | diff - <(printf '%s choose.c;/vulfsjor.S\n' "${assembly[@]}" &&
+        printf '%s /c/vulfsjor.c\n' "${portable[@]}")
 }
 
 write_program() {
@@ -559,8 +522,9 @@ END
 # Without a word the library comes from dist/, where that was made from these sources. Else nothing is installed.
 comes_from() {
     local tree=$work/tree
-    make_stand_in "$tree" && CFLAGS=$quick "$tree/c/install.sh" "${one[@]}" "$tree/made" &&
-        program_works "$tree/made/lib" && [ "$(cat "$tree/calls")" = current ] && touch "$tree/refuse" || return 1
+    compiler_for && make_stand_in "$tree" && CC="$work/for $(cc -dumpmachine)" "$tree/c/install.sh" "$tree/made" &&
+        [ -e "$tree/made/lib/libvulfsjor.so" ] && grep 'vulfsjor-v3\.s' "$work/compiled" &&
+        [ "$(cat "$tree/calls")" = current ] && touch "$tree/refuse" || return 1
     refuses 1 stale "$tree/c/install.sh" "$tree/not_made" &&
         [ ! -e "$tree/not_made" ]
 }
@@ -574,31 +538,33 @@ refuses() {
         { echo "status or words of: $*"; cat "$work/said"; return 1; }
 }
 
-# A compiler for the machine that is its first word: the one here, which notes its other words and which texts
-# end its assembly, and optimizes nothing. With the file `noting` it fails then, unless it only preprocesses.
+# A compiler for the machine that is its first word, which notes its other words and which texts end its assembly, and
+# only writes an empty object; or, with the file `real`, is the one here, and optimizes nothing.
 compiler_for() {
-    cat >"$work/for" <<END && chmod +x "$work/for"
-#!/bin/sh
+    rm -f "$work/compiled" "$work/real" && cc -c "$empty" -o "$work/empty.o" &&
+        cat >"$work/for" <<END && chmod +x "$work/for"
+#!/bin/bash
 [ "\$2" != -dumpmachine ] || { echo "\$1"; exit; }
 shift
 echo "\$*" >>"$work/compiled"
-case " \$* " in *" -E "*) exec cc "\$@" ;; esac
+case " \$* " in *" -E "* | *" -print-prog-name="*) exec cc "\$@" ;; esac
+[ ! -e "$work/real" ] || exec cc "\$@" -O0
 for file; do
     case \${file##*/} in *_*) continue ;; *.s) ;; *) continue ;; esac
     for text in "$dist"/*/vulfsjor*.s; do
         tail -c "\$(wc -c <"\$text")" "\$file" | cmp -s - "\$text" && echo "\$text " >>"$work/compiled"
     done
 done
-[ ! -e "$work/noting" ] || exit 1
-exec cc "\$@" -O0
+while [ "\$1" != -o ]; do shift; done
+cp "$work/empty.o" "\$2"
 END
 }
 
-# The texts that install.sh takes for a machine, whose compiler is the one here.
+# The texts that install.sh takes for a machine, whose compiler is that one.
 texts_for() {
     rm -f "$work/compiled"
-    CC="$work/for $1" "$here/install.sh" --from "$dist" "${@:2}" "$work/for_$1" 2>"$work/said"
-    grep -ohE 'dist/[^ ]*/vulfsjor[v0-9-]*\.[sc] ' "$work/compiled" | sort -u | sed 's|.*dist/||;s/ $//'
+    CC="$work/for $1" "$here/install.sh" --from "$dist" "${@:2}" "$work/for_$1" &&
+        grep -ohE 'dist/[^ ]*/vulfsjor[v0-9-]*\.[sc] ' "$work/compiled" | sort -u | sed 's|.*dist/||;s/ $//'
 }
 
 # A folder of the loader: the programs that link the library start, or a line says what is to be done. A stand-in for
@@ -632,32 +598,29 @@ is_portable() {
 # with ELF have the assembly for Linux.
 machines_without_assembly() {
     local machine
-    compiler_for || return 1
+    compiler_for && touch "$work/real" || return 1
     texts_for riscv64-linux-gnu | diff <(echo c/vulfsjor.c) - && is_portable riscv64-linux-gnu &&
-        [ "$(grep -c -e -Wl,-z,defs "$work/compiled")" -eq 1 ] && touch "$work/noting" || return 1
+        [ "$(grep -c -e -Wl,-z,defs "$work/compiled")" -eq 1 ] && rm "$work/real" || return 1
     texts_for x86_64-pc-linux-gnu --portable | diff <(echo c/vulfsjor.c) - || return 1
     for machine in x86_64-linux-gnux32 aarch64-linux-gnu_ilp32 aarch64_be-linux-gnu i386-unknown-haiku; do
         texts_for $machine | diff <(echo c/vulfsjor.c) - || return 1
     done
-    # Of the three texts the first, since the compiler fails at it.
     ! is_x86 ||
         for machine in x86_64-unknown-{openbsd,freebsd14.0,dragonfly6.4} x86_64-{linux-android,w64-windows-gnu}; do
-        texts_for $machine | diff <(echo x86_64/vulfsjor-v2.s) - || return 1
+        texts_for $machine | diff <(printf 'x86_64/vulfsjor-v%s.s\n' 2 3 4) - || return 1
     done
-    rm "$work/noting"
 }
 
 # What the preprocessor says of the machine, by -m32; a compiler that does not name its machine; and one with a
 # sanitizer, whose functions are not in the library.
 odd_compilers() {
-    compiler_for && touch "$work/noting" || return 1
+    compiler_for || return 1
     ! is_x86 || CFLAGS=-m32 texts_for x86_64-linux-gnu | diff <(echo c/vulfsjor.c) - || return 1
-    rm "$work/noting" && printf '#!/bin/sh\nexit 1\n' >"$work/silent" && chmod +x "$work/silent" &&
+    printf '#!/bin/sh\nexit 1\n' >"$work/silent" && chmod +x "$work/silent" &&
         refuses 1 "silent does not know -dumpmachine: use GCC or Clang" env CC="$work/silent" "$here/install.sh" \
             --from "$dist" "$work/no" &&
-        [ ! -e "$work/no" ] || return 1
-    rm -f "$work/compiled" && CFLAGS=-fsanitize=address CC="$work/for $(cc -dumpmachine)" "$here/install.sh" \
-        "${one[@]}" --from "$dist" "$work/odd" && ! grep -e -Wl,-z,defs "$work/compiled"
+        [ ! -e "$work/no" ] && CFLAGS=-fsanitize=address texts_for "$(cc -dumpmachine)" &&
+        ! grep -e -Wl,-z,defs "$work/compiled"
 }
 
 # The package for CMake is for the size of a pointer of what is installed.
@@ -680,16 +643,11 @@ size_of_pointers() {
 # CMake optimizes portable C for speed, whatever the type of build and the flags are: the last option counts. So does
 # install.sh.
 optimized() {
-    local type wanted build
-    compiler_for && rm -f "$work/compiled" && touch "$work/noting" || return 1
-    ! CFLAGS=-O0 CC="$work/for riscv64-linux-gnu" "$here/install.sh" --from "$dist" "$work/no" &&
-        grep 'vulfsjor\.c ' "$work/compiled" | grep -v -e '-E ' | grep -o -e '-O.' |
-        diff - <(printf '%s\n' -O2 -O0 -O2) &&
-        rm "$work/noting" || return 1
+    local type wanted build=$work/type
+    compiler_for && CFLAGS=-O0 texts_for riscv64-linux-gnu && grep 'vulfsjor\.c ' "$work/compiled" | grep -o -e '-O.' |
+        diff - <(printf '%s\n' -O2 -O0 -O2{,} -O0 -O2) || return 1
     ! has cmake || while IFS=: read -r type wanted; do
-        build=$work/type$type
-        cmake -S "$here" -B "$build" "${known[@]}" -DVULFSJOR_PORTABLE=ON -DCMAKE_BUILD_TYPE="$type" \
-            -DCMAKE_C_FLAGS=-O0 &&
+        cmake -S "$here" -B "$build" -DVULFSJOR_PORTABLE=ON -DCMAKE_BUILD_TYPE="$type" -DCMAKE_C_FLAGS=-O0 &&
             grep -o -e '-O.' "$build/CMakeFiles/vulfsjor.dir/flags.make" | tail -1 | diff - <(echo "$wanted") ||
             return 1
     done <<'END'
@@ -758,10 +716,6 @@ test_installing() {
     check "a program of one call is small" small_programs
     needs pkg-config
     check "the words of pkg-config" words_are_these
-    needs pkg-config cmake
-    check "the modules of pkg-config in CMake" modules_by_cmake
-    needs pkg-config meson
-    check "the modules of pkg-config in meson" modules_by_meson
 }
 
 part test_installing
