@@ -2,6 +2,7 @@
 # Tests the scripts on a Linux without GNU's tools, with those of BusyBox, bash, a C compiler and
 # its binutils alone on the PATH; and what they build over the C library musl.
 source "$(dirname "$(readlink -f "$0")")/../c/tests/common.sh"
+. "$tests/installing.sh"
 tools=$work/tools
 repository=$work/repository
 
@@ -38,23 +39,12 @@ installs() {
 
 # `make install`, under a mask that keeps files from others, which is not that of what is installed.
 make_installs() {
-    (umask 077 && alone CFLAGS="$quick" make -s install "prefix=$work/a prefix") &&
-        [ "$(cd "$work/a prefix/share/man/man3" && cat vulfsjor_blake2b_init.3)" = ".so man3/vulfsjor_blake2b.3" ] &&
-        diff <(cd "$work/a prefix" && find . ! -type d | sed 's|^./||;/man3/d' | LC_ALL=C sort) <({
-            printf 'bin/%s\n' b2 b2sum
-            printf 'share/man/man1/%s.1\n' b2 b2sum
-            printf 'share/bash-completion/completions/%s\n' b2 b2sum
-            printf 'share/zsh/site-functions/_%s\n' b2 b2sum
-            printf 'share/fish/vendor_completions.d/%s.fish\n' b2 b2sum
-            cd "$prefix" && find . ! -type d | sed 's|^./||'
-        } | LC_ALL=C sort) &&
-        cmp "$work/a prefix/share/man/man1/b2.1" "$top/docs/b2.1" &&
-        [ "$("$work/a prefix/bin/b2" sum b512 <"$work/abc")  $work/abc" = \
-            "$(sums_by_hashlib "$work/abc")" ] &&
-        [ -z "$(find "$work/a prefix" \( -type d -o -type f \) ! -perm -o=r)" ] &&
-        "$work/a prefix/bin/b2sum" "$work/abc" | diff - <(sums_by_hashlib "$work/abc") &&
-        alone make -s uninstall "prefix=$work/a prefix" &&
-        [ -z "$(find "$work/a prefix" ! -type d)" ]
+    local place=$work/a\ prefix
+    (umask 077 && alone CFLAGS="$quick" make -s install "prefix=$place") && files_below "$place" | diff <(files_of_all) - &&
+        [ -z "$(find "$place" \( -type d -o -type f \) ! -perm -o=r)" ] && are_copies "$place" &&
+        [ "$(cat "$place/share/man/man3/vulfsjor_blake2b_init.3")" = ".so man3/vulfsjor_blake2b.3" ] &&
+        "$place/bin/b2sum" "$work/abc" | diff - <(sums_by_hashlib "$work/abc") &&
+        alone make -s uninstall "prefix=$place" && [ -z "$(find "$place" ! -type d)" ]
 }
 
 # Without one of the tools nothing is built or installed, its name is printed, and dist/ is not
@@ -90,22 +80,15 @@ fails_to_compare() {
     done
 }
 
-# An archive has all its parts, or is not made: with a stand-in for awk that loses them all, or those of one text.
+# An archive has all its parts, or is not made: with a stand-in for awk that loses those of one text.
 has_all_parts() {
-    local lost text=$top/dist/x86_64/vulfsjor-v2.s
+    local lost
     mv "$tools/awk" "$work/awk" || return 1
-    for lost in none choose.c split.awk; do
-        rm -rf "$work/parts" && printf '#!%s\ncase "$*" in *%s*) ;; *) exec "%s/awk" "$@" ;; esac\n' "$BASH" "$lost" \
-            "$work" >"$tools/awk" && chmod +x "$tools/awk" || return 1
-        if [ $lost = none ]; then
-            alone CFLAGS="$quick" c/make_libraries.sh "$work/parts" "$text" &&
-                nm -g --defined-only "$work/parts/libvulfsjor.a" |
-                sed -n 's/.* T \(vulfsjor_ffi_[a-z0-9_]*[a-z]\)$/\1/p' | LC_ALL=C sort |
-                diff - <(sed -n 's/^CALL("\(.*\)")$/\1/p' "$here/choose.c" | LC_ALL=C sort) || return 1
-        else
-            ! alone CFLAGS="$quick" c/make_libraries.sh "$work/parts" "$text" 2>"$work/errors" &&
-                [ ! -e "$work/parts" ] && grep "parts are not there" "$work/errors" || return 1
-        fi
+    for lost in choose.c split.awk; do
+        printf '#!%s\ncase "$*" in *%s*) ;; *) exec "%s/awk" "$@" ;; esac\n' "$BASH" "$lost" "$work" >"$tools/awk" &&
+            chmod +x "$tools/awk" &&
+            ! alone CFLAGS="$quick" c/make_libraries.sh "$work/parts" "$top/dist/x86_64/vulfsjor-v2.s" 2>"$work/errors" &&
+            [ ! -e "$work/parts" ] && grep "parts are not there" "$work/errors" || return 1
     done
     mv "$work/awk" "$tools/awk"
 }

@@ -293,23 +293,6 @@ bash_words() {
         [ "$(grep -cxE '#compdef b2sum|_arguments -s \\' "$top/completions/_b2sum")" -eq 2 ]
 }
 
-# tests/processor.sh: what it makes of the features in a file such as /proc/cpuinfo.
-is_processor() {
-    echo "flags : fpu ${*:2}" >"$work/cpuinfo"
-    [ "$("$top/tests/processor.sh" "$work/cpuinfo")" = "$1" ]
-}
-finds_levels() {
-    local flag v3="avx avx2 bmi1 bmi2 f16c fma abm movbe xsave" all
-    all="$v3 avx512f avx512bw avx512cd avx512dq avx512vl"
-    is_processor x86-64-v4 "$all" && is_processor x86-64-v3 "$v3" || return
-    for flag in $all; do
-        is_processor "$([[ " $v3 " == *" $flag "* ]] && echo x86-64-v2 || echo x86-64-v3)" \
-            "$(tr ' ' '\n' <<<"$all" | grep -vx "$flag" | tr '\n' ' ')" || return
-    done
-}
-needs
-if [ "$machine" = x86_64 ]; then check "the level of a processor, by its features" finds_levels; fi
-
 cd "$top" && for shell in bash zsh fish; do
     needs $shell
     check "what $shell completes" offers $shell

@@ -1,59 +1,41 @@
-/* Calls each function of ../b2.c, which has the main, with malloc, realloc and free that count and
- * can refuse:
+/* Tests each function of ../b2.c, which has the main and is included, with malloc, realloc and free
+ * that count and can refuse. programs.sh has the commands:
  *
- *   cc -DMAIN=checks -Wl,--wrap=malloc,--wrap=realloc,--wrap=free b2.c tests/b2.c -o program
  *   program one "two words" ""
  *
- * It prints each check that does not hold, and its status is 7 if all hold. */
-#include <errno.h>
+ * The status is 7 if all checks hold. */
+#include "check.h"
+
 #include <stdbool.h>
-#include <stdint.h>
-#include <stdio.h>
 #include <stdlib.h>
-#include <string.h>
-#include <sys/types.h>
-#include <unistd.h>
-
-struct allocation {
-    bool is_there;
-    void *place;
-};
-ssize_t rattle_arg(size_t i, char *bytes, size_t size);
-int rattle_errno(void);
-void rattle_set_errno(int error);
-struct allocation rattle_alloc(size_t size, size_t alignment);
-struct allocation rattle_realloc(void *place, size_t kept, size_t size, size_t alignment);
-void rattle_dealloc(void *place);
-
-static int fails;
-#define CHECK(condition)                                            \
-    do {                                                            \
-        if (!(condition)) {                                         \
-            fails++;                                                \
-            printf("b2.c:%d: not %s\n", __LINE__, #condition); \
-        }                                                           \
-    } while (0)
 
 /* The last size that was requested from the C library, the number of calls of free, the last
  * pointer that was freed, and whether allocations fail. */
 static size_t asked, freed;
 static void *last_freed;
 static bool refuses;
-void *__real_malloc(size_t size), *__real_realloc(void *place, size_t size);
-void __real_free(void *place);
-void *__wrap_malloc(size_t size) {
+
+static void *note_malloc(size_t size) {
     asked = size;
-    return refuses ? NULL : __real_malloc(size);
+    return refuses ? NULL : malloc(size);
 }
-void *__wrap_realloc(void *place, size_t size) {
+
+static void *note_realloc(void *place, size_t size) {
     asked = size;
-    return refuses ? NULL : __real_realloc(place, size);
+    return refuses ? NULL : realloc(place, size);
 }
-void __wrap_free(void *place) {
+
+static void note_free(void *place) {
     freed++;
     last_freed = place;
-    __real_free(place);
+    free(place);
 }
+
+#define malloc note_malloc
+#define realloc note_realloc
+#define free note_free
+#define MAIN check_all
+#include "../b2.c"
 
 static void check_argument(size_t i, const char *wanted) {
     const size_t length = strlen(wanted);
@@ -125,8 +107,6 @@ static void check_memory(void) {
 }
 
 #ifndef __GLIBC__
-ssize_t __write(int file, const void *bytes, size_t size);
-
 /* The name that glibc has for write. */
 static void check_write(void) {
     char said[4] = "####";
@@ -141,16 +121,11 @@ static void check_write(void) {
 static void check_write(void) {}
 #endif
 
-#ifdef HAS_LEAVES
-struct leaf {
-    unsigned reported[4], active[4];
-};
-const struct leaf *__x86_get_cpuid_feature_leaf(unsigned number);
-#endif
-
 #ifdef PROCESSOR
-/* The leaves of a processor that is made up. */
-void make_up(unsigned first, unsigned seventh, unsigned extended, unsigned saved);
+/* The leaves of a processor that is made up (fake_cpuid.h). */
+static void make_up(unsigned first, unsigned seventh, unsigned extended, unsigned saved) {
+    made_up = (struct made_up){7, 0x80000008u, first, seventh, extended, saved};
+}
 
 static bool is_leaf(unsigned number, unsigned at, unsigned reported, unsigned active) {
     const struct leaf *leaf = __x86_get_cpuid_feature_leaf(number);
@@ -176,7 +151,7 @@ static void check_leaves(void) {
     make_up(all, all, all, 6);
     for (unsigned at = 0; at < 4; at++) CHECK(is_leaf(3, at, 0, 0) && is_leaf(~0u, at, 0, 0));
 }
-#elif defined(HAS_LEAVES)
+#elif defined(__x86_64__) && !HAS_LEAVES
 /* Those of this processor, for which the compiler has a test too. */
 static void check_leaves(void) {
     CHECK(!(__x86_get_cpuid_feature_leaf(0)->active[2] >> 12 & 1) ==
@@ -188,7 +163,7 @@ static void check_leaves(void) {
 static void check_leaves(void) {}
 #endif
 
-int checks(void) {
+int check_all(void) {
     check_arguments();
     check_errno();
     check_memory();

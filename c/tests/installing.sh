@@ -1,6 +1,6 @@
 #!/usr/bin/env bash
 # Tests what c/install.sh puts where.
-source "$(dirname "$(readlink -f "$0")")/common.sh"
+source "$(dirname "$(readlink -f "${BASH_SOURCE[0]}")")/common.sh"
 
 # With one build for x86-64, and with what is compiled of C optimized as in other tests.
 one=()

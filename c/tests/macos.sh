@@ -11,11 +11,7 @@ lipo=$(command -v llvm-lipo || command -v llvm-lipo-14)
 
 # What the library and the programs need of the C library of macOS.
 write_sdk() {
-    local names=(memcpy memmove memset memcmp strlen strcpy strrchr strerror abort write read readv pread openat
-        close dup fstat lseek isatty malloc realloc free malloc_size signal setrlimit sysconf clock_gettime
-        snprintf dprintf pthread_create pthread_join pthread_sigmask pthread_setcancelstate
-        pthread_mutex_lock pthread_mutex_unlock pthread_cond_wait pthread_cond_broadcast
-        __error bzero __bzero __stack_chk_fail __stack_chk_guard)
+    local names
     mkdir -p "$sdk"/usr/{include/{sys,malloc},lib}
     printf '%s\n' '#include <stddef.h>' 'void abort(void);' 'void *malloc(size_t);' \
         'void *realloc(void *, size_t);' 'void free(void *);' >"$sdk/usr/include/stdlib.h"
@@ -74,10 +70,11 @@ write_sdk() {
         '#define sigfillset(set) (*(set) = ~0u, 0)' '#define sigdelset(set, n) (*(set) &= ~(1u << ((n) - 1)), 0)' \
         'enum { SIG_SETMASK = 3, SIGBUS = 10, SIGSEGV };' >"$sdk/usr/include/signal.h"
     sed -i '1i #pragma once' "$sdk"/usr/include/{,sys/,malloc/}*.h
+    names=$(grep -hv '^#' "$sdk"/usr/include/{,sys/,malloc/}*.h | grep -oE '\w+\(' | tr -d '(')
     printf '%s\n' '--- !tapi-tbd' 'tbd-version: 4' 'targets: [ x86_64-macos, arm64-macos ]' \
         "install-name: '/usr/lib/libSystem.B.dylib'" 'exports:' \
         '  - targets: [ x86_64-macos, arm64-macos ]' \
-        "    symbols: [ $(printf '_%s, ' "${names[@]}")dyld_stub_binder ]" '...' \
+        "    symbols: [ $(printf '_%s, ' $names {,__}bzero __stack_chk_{fail,guard})dyld_stub_binder ]" '...' \
         >"$sdk/usr/lib/libSystem.tbd"
 }
 

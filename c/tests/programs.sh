@@ -3,11 +3,11 @@
 # tests/b2_program.py and tests/compare_coreutils.py.
 source "$(dirname "$(readlink -f "$0")")/common.sh"
 
-# ../b2.c over tests in the place of a text of dist/, with these arguments for the compiler.
+# The tests that include ../b2.c, with these arguments for the compiler.
 functions_of_program() {
-    cc -O2 -g "${warnings[@]}" -DMAIN=checks -Wl,--wrap=malloc,--wrap=realloc,--wrap=free \
-        "$here/b2.c" "$tests/b2.c" -DCHOOSE_ONE=v2 -o "$work/program" "$@" || return
-    timeout 60 "$work/program" one "two words" "" || [ $? -eq 7 ]
+    cc -O0 -g "${warnings[@]}" "$tests/b2.c" -DCHOOSE_ONE=v2 -o "$work/program" "$@" || return
+    timeout 60 "$work/program" one "two words" ""
+    [ $? -eq 7 ]
 }
 
 # The tests that include ../b2sum.c.
@@ -25,15 +25,6 @@ b2sum_replaces_nothing() {
     assemble "$text" "$work/b2sum" -rdynamic && nm -D --defined-only "$work/b2sum" >"$work/names" &&
         grep -q ' T main$' "$work/names" &&
         ! grep -E ' (open|read|signal|__sysv_signal|b2sum_.*)$' "$work/names"
-}
-
-# The C of the program where the C library tells nothing of the processor, which is made up.
-leaves_of_program() {
-    printf '%s\n' '#include <stdlib.h>' '#include <fake_cpuid.h>' \
-        'void make_up(unsigned first, unsigned seventh, unsigned extended, unsigned saved) {' \
-        '    made_up = (struct made_up){7, 0x80000008u, first, seventh, extended, saved};' '}' \
-        >"$work/made_up.h"
-    functions_of_program -DHAS_LEAVES=0 -DPROCESSOR='"made_up.h"' -I"$work" -I"$tests"
 }
 
 # Whether ../b2.c has the function that only new versions of glibc have, exactly if this one has it
@@ -68,7 +59,8 @@ test_program() {
     check "b2sum replaces no function of the C library" b2sum_replaces_nothing
     needs
     is_x86 || missing="the processor is not x86-64"
-    check "what it says of processors that are made up" leaves_of_program
+    check "what it says of processors that are made up" functions_of_program -DHAS_LEAVES=0 \
+        -DPROCESSOR='"fake_cpuid.h"' "-I$tests"
     check "what it says of this processor" functions_of_program -DHAS_LEAVES=0
     check "who says it" leaves_are_there_once
     needs musl-gcc python3
