@@ -67,24 +67,28 @@ WRONG = {
 # ---- Digests.
 
 def test_lengths(runs):
-    for family, longest in (("b", 512), ("s", 256)):
-        for bits in range(8, longest + 1, 8):
-            words = ["-a", f"blake2{family}", "-l", str(bits)]
-            runs.wants([*words, "-"], line("-", b"some bytes", bits, family), data=b"some bytes")
-            tagged = lines(bits=bits, family=family, tag=True)
-            runs.wants([*words, "--tag", *FILES], tagged)
-            oks = "".join(map(check_line, FILES))
-            runs.wants(["-a", f"blake2{family}", "-c"], oks, data=os.fsencode(tagged))
-            runs.wants(["-a", f"blake2{family}", "-c"], oks, data=os.fsencode(lines(bits=bits, family=family)))
+    """Each length of each hash, printed and checked, and files around the sizes of blocks, stripes and reads. Short
+    files of BLAKE2bp and BLAKE2sp are known from a model."""
+    for family, longest in (("b", 512), ("s", 256), ("bp", 512), ("sp", 256)):
+        words = ["-a", f"blake2{family}"]
+        for bits in range(8, longest + 1, 8) if len(family) == 1 else (8, 128, longest - 8, longest):
+            of_length = [*words, "-l", str(bits)]
+            runs.wants([*of_length, "-"], line("-", b"some bytes", bits, family), data=b"some bytes")
+            for more in ["--tag"], []:
+                said = lines(bits=bits, family=family, tag=bool(more))
+                runs.wants([*of_length, *more, *FILES], said)
+                runs.wants([*words, "-c"], "".join(map(check_line, FILES)), data=os.fsencode(said))
+        for size in (511, 512, 513, 1536, 4095, 4096, 4097, 65535, 65536, 65537, 200000, 1000000):
+            data = random.Random(size).randbytes(size)
+            found = parallel_by_hashlib(family[0], data) if "p" in family else digest(family, data, longest // 8)
+            runs.write("sized", data)
+            runs.wants([*words, "sized"], f"{found.hex()}  sized\n")
+            runs.wants([*words, "-"], f"{found.hex()}  -\n", data=data)
     runs.wants([*FILES], lines())
     runs.wants(["-b", "b"], line("b", b"abc", mark="*"))
     runs.wants(["-z", "with\nline", "a"], "".join(
         f"{hashlib.blake2b(FILES[name]).hexdigest()}  {name}\0" for name in ("with\nline", "a")))
-    for size in (4095, 4096, 4097, 65535, 65536, 65537, 131072, 1000000):
-        runs.write("sized", bytes(size))
-        runs.wants(["sized"], line("sized", bytes(size)))
-        runs.wants([], line("-", bytes(size)), data=bytes(size))
-    runs.ends("each length of both algorithms, printed and checked")
+    runs.ends("each length of all hashes, printed and checked")
 
 
 def test_names(runs):
@@ -137,40 +141,6 @@ def test_parameters(runs):
     for name in ("blake2x", "blake2", "blake2bpp", "BLAKE2bp", ""):
         runs.wants(["-a", name, "b"], "", f"invalid algorithm: '{name}'", 1, Try=1)
     runs.ends("keys, salts, personalizations, and what is refused of them")
-
-
-def test_personal_text(runs):
-    """A personalization of the bytes of a text, which counts as those bytes in digits do: the last one counts. The
-    random runs have other texts."""
-    for text in ("-c", "a=b", "=", "0" * 16, "\u00e9" * 8, "\udcff" * 16):
-        said = line("b", b"abc", tag=True, person=os.fsencode(text))
-        for words in (["--personal-text", text], ["--personal-text=" + text],
-                      ["--personal-text", "other", "--personal-text", text]):
-            runs.wants(["--tag", *words, "b"], said)
-            runs.wants(["-c", *words], "b: OK\n", data=os.fsencode(said))
-    runs.wants(["-c", "--personal-text", "x"], "b: OK\n", unmet_messages("no --personal"), 1,
-               (line("b", b"abc", person=b"x") + line("a", b"", tag=True)).encode())
-    runs.wants(["-c"], "", unmet_messages("--personal"), 1, line("b", b"abc", tag=True, person=b"x").encode())
-    runs.ends("personalizations by text")
-
-
-def test_parallel(runs):
-    """BLAKE2bp and BLAKE2sp: short files by a model, and longer ones by hashlib."""
-    for family, longest, stripe in (("bp", 512, 512), ("sp", 256, 512)):
-        words = ["-a", f"blake2{family}"]
-        for bits in (8, 128, longest - 8, longest):
-            runs.wants([*words, "-l", str(bits), *FILES], lines(bits=bits, family=family))
-            runs.wants([*words, "-l", str(bits), "--tag", "b"], line("b", b"abc", bits, family, tag=True))
-            for tag in (True, False):
-                runs.wants([*words, "-c"], "b: OK\n", data=line("b", b"abc", bits, family, tag=tag).encode())
-        for size in (stripe - 1, stripe, stripe + 1, 3 * stripe, 65535, 65536, 65537, 200000):
-            data = random.Random(size).randbytes(size)
-            runs.write("data", data)
-            wanted = parallel_by_hashlib(family[0], data).hex()
-            runs.wants([*words, "data"], f"{wanted}  data\n")
-            runs.wants([*words, "-"], f"{wanted}  -\n", data=data)
-            runs.wants(["-c", "--strict"], "data: OK\n", data=f"BLAKE2{family} (data) = {wanted}\n".encode())
-    runs.ends("BLAKE2bp and BLAKE2sp")
 
 
 NEEDED = {"key": "--key-file", "salt": "--salt", "person": "--personal"}
@@ -242,9 +212,10 @@ def test_needs(runs):
     runs.wants(["-c", *words["salt"]], "", unmet_messages("--tree 65536"), 1, tree.encode())
     runs.wants(["-c", *words["salt"], "--tree", "4"], "", unmet_messages("--tree 65536"), 1, tree.encode())
     runs.wants(["-c", *words["salt"], "--tree", "65536"], "b: OK\n", data=tree.encode())
-    for salted in (["--salt", "00"], ["--personal", "00"]):
-        runs.wants(["-c", *salted], "b: OK\n", unmet_messages("no " + salted[0]), 1,
-                   (line("b", b"abc") + line("a", b"", tag=True)).encode())
+    for option, value, given in (("--salt", "00", {}), ("--personal", "00", {}),
+                                 ("--personal-text", "x", {"person": b"x"})):
+        runs.wants(["-c", option, value], "b: OK\n", unmet_messages("no " + option.removesuffix("-text")), 1,
+                   (line("b", b"abc", **given) + line("a", b"", tag=True)).encode())
     for text in ("-keyx", "-salt-key", "-personal-salt", "-key-key", "-Key", "-key-", "key", " -key"):
         runs.wants(["-c", *words["key"]], "", NO_LINE, 1, line("b", b"abc", 512, tag=True, key=values["key"]).replace(
             "-key", text).encode())
@@ -449,8 +420,9 @@ def random_hash(rng):
         words += ["--salt", given["salt"].hex()]
     if rng.random() < 0.6:
         given["person"] = person = bytes(rng.randint(1, 255) for _ in range(rng.randint(1, most)))
-        words += rng.choice([["--personal", person.hex()], ["--personal-text", os.fsdecode(person)],
-                             ["--personal-text=" + os.fsdecode(person)]])
+        text = os.fsdecode(person)
+        words += rng.choice([["--personal", person.hex()], ["--personal-text", text], ["--personal-text=" + text],
+                             ["--personal-text", "other", "--personal-text", text]])  # the last one counts
     return words, family, given
 
 
@@ -584,7 +556,7 @@ def test_differences(runs):
     runs.ends("the differences from coreutils")
 
 
-COMPUTING = (test_lengths, test_parameters, test_parallel, test_demanded_lengths, test_shapes, test_trees)
-TESTS = (*COMPUTING, test_personal_text, test_random, test_needs, test_macs, test_manifest_macs, test_tags, test_names,
+COMPUTING = (test_lengths, test_parameters, test_demanded_lengths, test_shapes, test_trees)
+TESTS = (*COMPUTING, test_random, test_needs, test_macs, test_manifest_macs, test_tags, test_names,
          test_differences, test_key_input)
 run_tests(TESTS, COMPUTING if HUGE else ())

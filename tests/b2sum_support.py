@@ -105,6 +105,7 @@ def escaped(name):
     return name
 
 
+@functools.cache
 def digest(family, data, size, **parameters):
     """The digest of a family, such as "b" of BLAKE2b and "bp" of BLAKE2bp."""
     if family in ("bp", "sp"):

@@ -103,9 +103,8 @@ made_up_processors() {
 
 # The functions of thunks.h over stand-ins for the builds.
 thunks_choose() {
-    local functions code build
-    functions=$(sed -n 's/^CALL("\(.*\)")$/\1/p' "$here/choose.c")
-    code=$(sed -n 's/^#define CODE "\(.*\)"$/\1/p' "$here/choose.c")
+    local functions build code
+    code=$(code_number) functions=$(sed -n 's/^CALL("\(.*\)")$/\1/p' "$here/choose.c")
     printf 'NAME(%s)\n' $functions >"$work/calls.h" &&
         for build in 2 3 4; do
             printf ".globl %s_${code}_v$build\n%s_${code}_v$build:\n" \
@@ -116,13 +115,11 @@ thunks_choose() {
             -Wl,-z,noexecstack -o "$work/thunks" && "$work/thunks"
 }
 
-# The library joined by another compiler, and what it makes of choose.c.
-check_compiler() {
-    CC=$1 "$here/make_libraries.sh" "$work/by_$1" "${texts[@]}" &&
-        "$1" -std=gnu99 "${warnings[@]}" -O1 -DPROCESSOR -I"$work" -I"$include" -I"$tests" \
-            -o "$work/made_up_by" "$tests/choose.c" &&
-        "$work/made_up_by" && "$1" -std=c99 -I"$include" "$tests/first_calls.c" \
-            "$work/by_$1/libvulfsjor.a" -o "$work/first_calls_by" -pthread && "$work/first_calls_by"
+# What clang makes of choose.c.
+chooses_by_clang() {
+    cc() { clang "$@"; }
+    made_up_processors 1 && choose_build -Wall by_clang && cc -std=c99 -I"$include" "$tests/first_calls.c" \
+        "$work/by_clang.o" "$archive" -o "$work/first_calls" -pthread && "$work/first_calls"
 }
 
 # What the choice says on this processor or an emulated one: the level, 2 to 4, by the first call and by a later one, or
@@ -294,7 +291,7 @@ test_choosing() {
     check "made-up processors, optimized" made_up_processors 2
     check "made-up processors, by the functions for Windows and macOS" thunks_choose
     needs clang
-    check "the library joined by clang" check_compiler clang
+    check "choose.c by clang" chooses_by_clang
     needs
     check "choose.c" compile_choose choose -O2 &&
         check "the choice on this processor" chooses_level "$level" env

@@ -485,7 +485,7 @@ END
 # portable C where there is no assembly, or if it is asked for.
 chosen_by_cmake() {
     local assembly=({Linux,Darwin,Windows,Android,FreeBSD,NetBSD,OpenBSD,DragonFly},{x86_64,AMD64,amd64,aarch64,arm64,ARM64},8,ON)
-    local portable=(Linux,{riscv64,aarch64_be},8,ON Linux,{x86_64,armv7l},4,ON Haiku,x86_64,8,ON SunOS,aarch64,8,ON
+    local portable=(Linux,{riscv64,aarch64_be,not_arm64},8,ON Linux,{x86_64,armv7l},4,ON Haiku,x86_64,8,ON SunOS,aarch64,8,ON
         Linux,x86_64,8,VULFSJOR_PORTABLE Windows,AMD64,8,MSVC)
     {
         echo "foreach(case ${assembly[*]} ${portable[*]})"
