@@ -171,22 +171,25 @@ check "if out is a file it is in the cache too" builds "$work/third/vulfsjor$rep
 run XDG_CACHE_HOME= HOME= "$repository/b2" sum
 check "nothing is written elsewhere in the clone" says "b2: $repository/out cannot be written"
 
-# The completions: what each shell offers for a line.
+# The completions: what bash and fish offer for a line of a program, bash after the options of compopt, and zsh for one
+# of b2: PROGRAM WORDS..
 by_bash() {
-    bash --norc -c 'source completions/b2.bash; compopt() { [ "$*" = "-o nospace" ]; }
-        COMP_WORDS=("$@") COMP_CWORD=$(($# - 1)); _b2; printf "%s\n" "${COMPREPLY[@]}"' - "$@"
+    bash --norc -c 'source "$0/completions/$1.bash"; compopt() { echo "$*"; }
+        COMP_WORDS=("$@") COMP_CWORD=$(($# - 1)); _$1; printf "%s\n" "${COMPREPLY[@]}"' "$top" "$@"
+}
+by_fish() {
+    fish --no-config -c 'source "$argv[1]/completions/$argv[2].fish"; complete -C "$argv[2..]"' "$top" "$@" | cut -f 1
 }
 by_zsh() {
     zsh -fc 'compadd() { [[ $1 != -- ]] || shift; print -rl -- ${@:#-S} }; words=("$@") CURRENT=$#
         complete_b2() { source completions/_b2 }; complete_b2' - "$@" | grep -e "^${!#}."
 }
-by_fish() { fish --no-config -c 'source completions/b2.fish; complete -C "$argv"' -- "$@"; }
 offers() {
     local shell=$1 line words
     while IFS=: read -r line words; do
         read -ra line <<<"$line"
         [ "${line[-1]}" != . ] || line[-1]=""
-        diff <(by_$shell "${line[@]}" | sed '/^$/d' | sort) \
+        diff <(by_$shell "${line[@]}" | sed '/^$/d;/^-o nospace$/d' | sort) \
             <(printf '%s\n' $words | sed '/^$/d' | sort) || return
     done <<'END'
 b2 .:sum script steps witness tree leaves root xof derive --help --version
@@ -217,27 +220,17 @@ b2 steps b512 k:key=
 b2 other .:
 END
 }
-# The completions of b2sum: what bash and fish offer for the last word of a line, in bash after the
-# options of compopt, and what zsh gets for each word.
-sums_by_bash() {
-    bash --norc -c 'source "$0/completions/b2sum.bash"; compopt() { printf "%s\n" "$@"; }
-        COMP_WORDS=("$@") COMP_CWORD=$(($# - 1)); _b2sum
-        printf "%s\n" "${COMPREPLY[@]}"' "$top" "$@"
-}
-sums_by_fish() {
-    fish --no-config -c 'source "$argv[1]/completions/b2sum.fish"; complete -C "$argv[2..]"' \
-        "$top" "$@" | cut -f 1
-}
+# What zsh gets for each word of b2sum.
 sums_by_zsh() {
     zsh -fc '_arguments() { print -rl -- "$@" }; source "$0"' "$top/completions/_b2sum"
 }
 # The options that a shell offers: bash only long ones.
 options_by() {
     case $1 in
-        bash) sums_by_bash b2sum -- ;;
+        bash) by_bash b2sum -- ;;
         zsh) sums_by_zsh |
             sed -nE 's/^(\((-.) (--[a-z-]+)\)(\2|\3)|(--[a-z-]+))=?\[[^]]*\].*/\4\5/p' ;;
-        fish) sums_by_fish b2sum - ;;
+        fish) by_fish b2sum - ;;
     esac | sort
 }
 # Whether they are those of the manual.
@@ -249,8 +242,8 @@ offers_options() {
 value_by() {
     local spec equals="="
     case $1 in
-        bash) sums_by_bash b2sum "$2" "" ;;
-        fish) sums_by_fish "b2sum $2 " ;;
+        bash) by_bash b2sum "$2" "" ;;
+        fish) by_fish b2sum "$2 " ;;
         zsh)
             [[ $2 == --* ]] || equals=
             spec=$(sums_by_zsh | sed -nE "s/^(\(.*\))?$2$equals\[[^]]*\]//p")
@@ -263,8 +256,9 @@ offers_values() {
     local option values
     mkdir -p "$work/folder" && cd "$work/folder" && touch file &&
         while IFS=: read -r option values; do
-            [ "$1,$values" != bash,file ] || values="-o filenames file"
-            diff <(value_by "$1" "$option") <(printf '%s\n' $values | sed '/^$/d') || return
+            values=${values// /$'\n'}
+            [ "$1,$values" != bash,file ] || values=$'-o filenames\nfile'
+            diff <(value_by "$1" "$option") <(sed '/^$/d' <<<"$values") || return
         done <<'END'
 -a:blake2b blake2s blake2bp blake2sp
 --algorithm:blake2b blake2s blake2bp blake2sp
@@ -281,13 +275,13 @@ END
 }
 # Lines that bash cuts into words at =, and the commands whose completions these are.
 bash_words() {
-    diff <(sums_by_bash b2sum --algorithm = blake2bp && sums_by_bash b2sum --tree = &&
-        sums_by_bash b2sum a --z) <(printf '%s\n' blake2bp 65536 --zero) &&
-        diff <(sums_by_bash b2sum --algorithm = blake2s -l 5 && sums_by_bash b2sum -a blake2sp -l 3 &&
-            sums_by_bash b2sum -ablake2s -l 25 && sums_by_bash b2sum -a blake2bp --length = 5) \
+    diff <(by_bash b2sum --algorithm = blake2bp && by_bash b2sum --tree = &&
+        by_bash b2sum a --z) <(printf '%s\n' blake2bp 65536 --zero) &&
+        diff <(by_bash b2sum --algorithm = blake2s -l 5 && by_bash b2sum -a blake2sp -l 3 &&
+            by_bash b2sum -ablake2s -l 25 && by_bash b2sum -a blake2bp --length = 5) \
             <(printf '%s\n' "" "" 256 512) &&
         cd "$work/folder" && touch "a file" &&
-        [ "$(sums_by_bash b2sum "a f" | tail -n 1)" = "a file" ] &&
+        [ "$(by_bash b2sum "a f" | tail -n 1)" = "a file" ] &&
         bash --norc -c 'for name; do source "$0/completions/$name.bash"; done; complete -p "$@"' "$top" b2 b2sum |
         diff - <(printf 'complete -F _%s\n' 'b2 b2' 'b2sum b2sum') &&
         [ "$(grep -cxE '#compdef b2sum|_arguments -s \\' "$top/completions/_b2sum")" -eq 2 ]

@@ -9,6 +9,23 @@
 #include <stdbool.h>
 #include <stdlib.h>
 
+#ifdef _WIN32
+#include <io.h>
+
+/* _read and _write of Windows, whose lengths have 32 bits, note their arguments. */
+static int asked_file, returned;
+static const void *asked_bytes;
+static unsigned asked_length;
+
+static int record_call(int file, const void *bytes, unsigned size) {
+    asked_file = file, asked_bytes = bytes, asked_length = size;
+    return returned;
+}
+
+#define _read record_call
+#define _write record_call
+#endif
+
 /* The last size that was requested from the C library, the number of calls of free, the last
  * pointer that was freed, and whether allocations fail. */
 static size_t asked, freed;
@@ -106,9 +123,26 @@ static void check_memory(void) {
     CHECK(last_freed == more.place);
 }
 
-#ifndef __GLIBC__
+#ifdef _WIN32
+/* What is there instead of read and write asks for at most 2^30 bytes, and returns what it gets. */
+static void check_streams(void) {
+    const size_t most = 1u << 30, sizes[] = {0, 1, most - 1, most, most + 1, (size_t)1 << 32, SIZE_MAX};
+    static char bytes[1];
+
+    for (size_t i = 0; i < sizeof sizes / sizeof *sizes; i++)
+        for (returned = -1; returned < 2; returned++) {
+            const unsigned wanted = (unsigned)(sizes[i] < most ? sizes[i] : most);
+
+            CHECK(b2_read(7, bytes, sizes[i]) == returned && asked_file == 7);
+            CHECK(asked_bytes == bytes && asked_length == wanted);
+            asked_bytes = NULL, asked_length = 9;
+            CHECK(b2_write(8, bytes, sizes[i]) == returned && asked_file == 8);
+            CHECK(asked_bytes == bytes && asked_length == wanted);
+        }
+}
+#elif !defined(__GLIBC__)
 /* The name that glibc has for write. */
-static void check_write(void) {
+static void check_streams(void) {
     char said[4] = "####";
     int ends[2];
 
@@ -118,7 +152,7 @@ static void check_write(void) {
     CHECK(__write(ends[0], "a", 1) == -1 && errno == EBADF);
 }
 #else
-static void check_write(void) {}
+static void check_streams(void) {}
 #endif
 
 #ifdef PROCESSOR
@@ -163,11 +197,11 @@ static void check_leaves(void) {
 static void check_leaves(void) {}
 #endif
 
-int check_all(void) {
+OF_TEXT int check_all(void) {
     check_arguments();
     check_errno();
     check_memory();
-    check_write();
+    check_streams();
     check_leaves();
     return fails ? 1 : 7;
 }

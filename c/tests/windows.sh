@@ -116,10 +116,12 @@ program_for_windows() {
         [ "$("$work/b2" sum b512 <"$work/binary")" = "$(b2sum <"$work/binary" | cut -c-128)" ]
 }
 
-# What b2.c has instead of read and write.
-short_lengths() {
-    "$mingw" -municode -O2 "${warnings[@]}" -DCHOOSE_ONE -DMAIN=check_all "$tests/b2_windows.c" \
-        -o "$work/b2_windows.exe" && { "$by_wine" "$work/b2_windows.exe"; [ $? -eq 7 ]; }
+# The functions of b2.c.
+functions_of_program() {
+    "$mingw" -municode -O2 "${warnings[@]}" -Wno-array-bounds -DCHOOSE_ONE "$tests/b2.c" \
+        -o "$work/functions.exe" || return
+    "$by_wine" "$work/functions.exe" one "two words" ""
+    [ $? -eq 7 ]
 }
 
 # The program with this build of the library.
@@ -269,7 +271,7 @@ test_windows() {
     check_huge_by_wine "an older build is chosen if it is asked for" chooses_older
     check_by_wine "b2.exe next to the specification" \
         program_for_windows "$([ -n "${VULFSJOR_TEST_HUGE-}" ] && echo 40 || echo 10)"
-    check_by_wine "b2_windows.c" short_lengths
+    check_by_wine "b2.c" functions_of_program
     check_by_wine "trees by threads on Windows" threads_for_windows
     if check "b2sum.exe" build_sums; then
         check_by_wine "b2sum.exe over files" sums_of_files
