@@ -90,8 +90,8 @@ def test_streams(runs):
             runs.holds([words, "no output"], got[2] == 1 and (noted or not got[1]), got)
     for got in (runs.run(["sum"], stderr=full), runs.run(["sum"], stderr=None, preexec_fn=lambda: os.close(2))):
         runs.holds("no standard error", got == (WRONG[1], b"", 2), got)
-    for words in ([b"\xff"], [b"sum", b"b512", b"key=\xc3("], [b"sum", *b"b512 key=01 5 6 7 8".split(), b"\xed\xa0\x80"]):
-        wants(runs, words, 1, b"b2: no memory\n")
+    for words in (b"\xff", b"sum b512 key=\xc3(", b"sum b512 key=01 5 6 7 8 \xed\xa0\x80"):
+        wants(runs, words.split(), 1, b"b2: no memory\n")
     os.close(full)
     runs.ends("streams that are closed, full or a folder, and bytes that are no text")
 
@@ -122,7 +122,8 @@ def test_memory(runs):
             (64, "sum b512", large, hashlib.blake2b(large).hexdigest() + "\n"),
             (64, "sum s256 key=0102", large, hashlib.blake2s(large, key=b"\1\2").hexdigest() + "\n"),
             (128, "tree b512 4294967295", data, tree[(1 << 32) - 1]), (128, "tree b512 4194304", data, tree[1 << 22]),
-            (17 * 64 + 64, "tree b512 65536", data, tree[65536]), (13312 + 64, "tree b512 1048576", data, tree[1 << 20]),
+            (17 * 64 + 64, "tree b512 65536", data, tree[65536]),
+            (13312 + 64, "tree b512 1048576", data, tree[1 << 20]),
             (16384 + 64, "tree b512 3355443", data, tree[3355443]), (8192, "tree b512 3355443", data, ""),
             # The input, and 64 bytes for each leaf. The input is read into a list, which doubles as it grows.
             (6 << 10, "leaves 65536 9 last", small, digest_lines(range_digests(small, 65536, 9))),

@@ -1,5 +1,5 @@
-"""What the tests of b2sum and b2 share: the programs that they run, runs of them over files, and the lines that these have to
-print. Not a program."""
+"""What the tests of b2sum and b2 share: the programs that they run, runs of them over files, and the lines that these
+have to print. Not a program."""
 import contextlib
 import functools
 import hashlib

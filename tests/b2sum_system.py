@@ -271,8 +271,8 @@ def test_closing(runs):
         got = run_with_fault(runs, ["b"], b"", "close", at, at, errno.EDQUOT)
         runs.holds(["close", at], got == wanted, got)
     got = run_with_fault(runs, [], b"abc", "close", 1, 1, errno.EDQUOT)
-    runs.holds("standard input", got == (line("-", b"abc").encode(), late.replace(b"close error", b"standard input"), 1),
-               got)
+    late = late.replace(b"close error", b"standard input")
+    runs.holds("standard input", got == (line("-", b"abc").encode(), late, 1), got)
     got = run_with_fault(runs, ["b"], b"", "close", 2, 3, errno.EBADF)
     runs.holds("closing what is closed", got == (whole, b"", 0), got)
     for path, name in (("sums", b"sums"), ("/usr/bin/sums", b"sums"), ("sums/", b"b2sum"), ("", b"b2sum")):

@@ -40,7 +40,8 @@ installs() {
 # `make install`, under a mask that keeps files from others, which is not that of what is installed.
 make_installs() {
     local place=$work/a\ prefix
-    (umask 077 && alone CFLAGS="$quick" make -s install "prefix=$place") && files_below "$place" | diff <(files_of_all) - &&
+    (umask 077 && alone CFLAGS="$quick" make -s install "prefix=$place") &&
+        files_below "$place" | diff <(files_of_all) - &&
         [ -z "$(find "$place" \( -type d -o -type f \) ! -perm -o=r)" ] && are_copies "$place" &&
         [ "$(cat "$place/share/man/man3/vulfsjor_blake2b_init.3")" = ".so man3/vulfsjor_blake2b.3" ] &&
         "$place/bin/b2sum" "$work/abc" | diff - <(sums_by_hashlib "$work/abc") &&
@@ -87,8 +88,8 @@ has_all_parts() {
     for lost in choose.c split.awk; do
         printf '#!%s\ncase "$*" in *%s*) ;; *) exec "%s/awk" "$@" ;; esac\n' "$BASH" "$lost" "$work" >"$tools/awk" &&
             chmod +x "$tools/awk" &&
-            ! alone CFLAGS="$quick" c/make_libraries.sh "$work/parts" "$top/dist/x86_64/vulfsjor-v2.s" 2>"$work/errors" &&
-            [ ! -e "$work/parts" ] && grep "parts are not there" "$work/errors" || return 1
+            ! alone CFLAGS="$quick" c/make_libraries.sh "$work/parts" "$top/dist/x86_64/vulfsjor-v2.s" \
+                2>"$work/errors" && [ ! -e "$work/parts" ] && grep "parts are not there" "$work/errors" || return 1
     done
     mv "$work/awk" "$tools/awk"
 }

@@ -10,18 +10,9 @@ with open(program) as file:
 blake2b = space["blake2b"]
 
 
-def refuses(error, *arguments, **named):
-    """The call raises this and nothing else."""
-    try:
-        blake2b(*arguments, **named)
-    except error:
-        return
-    raise SystemExit(f"{arguments} {named} should raise {error.__name__}")
-
-
 def is_right(message, size=64, key=b""):
     """The digest is that of hashlib."""
-    wanted = hashlib.blake2b(message, digest_size=size, key=key).digest()
+    wanted = hashlib.blake2b(bytes(message), digest_size=size, key=key).digest()
     if blake2b(message, size, key) != wanted or blake2b(message, size=size, key=key) != wanted:
         raise SystemExit(f"another digest of {message!r} in {size} bytes under {key!r}")
 
@@ -31,7 +22,11 @@ for error, arguments in (
         (TypeError, ([1, 2],)), (TypeError, (b"abc", 64, None)),
         (ValueError, (b"abc", 0)), (ValueError, (b"abc", 65)), (ValueError, (b"abc", -1)),
         (ValueError, (b"abc", 64, bytes(65)))):
-    refuses(error, *arguments)
+    try:
+        blake2b(*arguments)
+    except error:
+        continue
+    raise SystemExit(f"{arguments} should raise {error.__name__}")
 
 data = bytes(range(256)) * 3
 for size in range(1, 65):
@@ -40,10 +35,6 @@ for length in (0, 1, 127, 128, 129, 255, 256, 257, 700):
     is_right(data[:length])
 for wrap in (bytes, bytearray, memoryview, lambda b: memoryview(bytearray(b)), lambda b: array.array("B", b)):
     is_right(wrap(b"abc"), key=wrap(b"key"))
-# A view of every second byte, and one of wider items, are the bytes that bytes() has of them.
-if blake2b(memoryview(data)[::2]) != hashlib.blake2b(data[::2]).digest():
-    raise SystemExit("another digest of a view with gaps")
-if blake2b(array.array("I", range(9))) != hashlib.blake2b(bytes(array.array("I", range(9)))).digest():
-    raise SystemExit("another digest of an array of numbers")
-if blake2b(b"\0abc") == blake2b(b"\0axy"):
-    raise SystemExit("bytes behind a zero do not count")
+# A view of every second byte, and one of wider items.
+is_right(memoryview(data)[::2])
+is_right(array.array("I", range(9)))

@@ -248,8 +248,8 @@ $find 0.1 REQUIRED)" vulfsjor::vulfsjor vulfsjor::threads && needs_shared
 }
 
 # `cmake --install`, which installs the same files as the Makefile, by the same scripts: a stand-in for bash notes their
-# words and variables, and has what they would build. The package for CMake may be moved within the installation, and has
-# the static library and the shared one.
+# words and variables, and has what they would build. The package for CMake may be moved within the installation, and
+# has the static library and the shared one.
 installed_by_cmake() {
     local folder=$work/by\ cmake find made=$work/by\ cmake.build/made cc
     cc=$(command -v cc) && install_one "$work/as it is" && cat >"$work/noted_bash" <<END || return 1
@@ -484,18 +484,18 @@ END
 # What CMakeLists.txt chooses, by its own lines, for each system, processor, size of pointers and variable that is on:
 # portable C where there is no assembly, or if it is asked for.
 chosen_by_cmake() {
-    local assembly=({Linux,Darwin,Windows,Android,FreeBSD,NetBSD,OpenBSD,DragonFly},{x86_64,AMD64,amd64,aarch64,arm64,ARM64},8,ON)
-    local portable=(Linux,{riscv64,aarch64_be,not_arm64},8,ON Linux,{x86_64,armv7l},4,ON Haiku,x86_64,8,ON SunOS,aarch64,8,ON
-        Linux,x86_64,8,VULFSJOR_PORTABLE Windows,AMD64,8,MSVC)
+    local texts=({Linux,Android,Darwin,Windows,{Free,Net,Open}BSD,DragonFly},{x86_64,{amd,AMD,arm,ARM}64,aarch64},8,ON)
+    local portable=(Linux,{riscv64,aarch64_be,not_arm64},8,ON Linux,{x86_64,armv7l},4,ON Haiku,x86_64,8,ON
+        SunOS,aarch64,8,ON Linux,x86_64,8,VULFSJOR_PORTABLE Windows,AMD64,8,MSVC)
     {
-        echo "foreach(case ${assembly[*]} ${portable[*]})"
+        echo "foreach(case ${texts[*]} ${portable[*]})"
         printf '%s\n' 'string(REPLACE "," ";" words ${case})' 'list(GET words 0 CMAKE_SYSTEM_NAME)' \
-            'list(GET words 1 CMAKE_SYSTEM_PROCESSOR)' 'list(GET words 2 CMAKE_SIZEOF_VOID_P)' 'list(GET words 3 name)' \
-            'set(${name} 1)'
+            'list(GET words 1 CMAKE_SYSTEM_PROCESSOR)' 'list(GET words 2 CMAKE_SIZEOF_VOID_P)' \
+            'list(GET words 3 name)' 'set(${name} 1)'
         sed -n '/^set(processors /,/^endforeach/p' "$here/CMakeLists.txt"
         printf '%s\n' 'unset(${name})' 'message("${case} ${code}")' 'endforeach()'
     } >"$work/choose.cmake"
-    cmake -P "$work/choose.cmake" 2>&1 | diff - <(printf '%s choose.c;/vulfsjor.S\n' "${assembly[@]}" &&
+    cmake -P "$work/choose.cmake" 2>&1 | diff - <(printf '%s choose.c;/vulfsjor.S\n' "${texts[@]}" &&
         printf '%s /c/vulfsjor.c\n' "${portable[@]}")
 }
 

@@ -57,13 +57,6 @@ wiped_by_install() {
 # A test program of a hash of the conformance cases: NAME HASH
 hash_there() { run_there "$1" $(hash_words "$2") "$tests/$1.c" -- "$conforming/$2.txt"; }
 
-edge_cases_there() { run_there edge_cases $(family_words "$1") "$tests/edge_cases.c" --; }
-
-# libb2's names, which copy states of libb2.
-libb2_there() { run_there libb2 $(family_words "$1") -DOWN_HEADER "-I$here/include/libb2" "$tests/libb2.c" --; }
-
-tree_parts_there() { run_there tree_parts "$tests/tree_parts.c" -- "$1"; }
-
 # The digests of files, as b2sum prints them, and roots of trees.
 files_there() {
     local sizes=(0 1 127 128 129 4096 1000000) size names=()
@@ -89,10 +82,12 @@ test_there() {
         $check "made_states.c, $hash, for $processor" hash_there made_states $hash
     done
     for family in $families; do
-        check "edge_cases.c, blake2$family, for $processor" edge_cases_there $family
-        check "libb2.c, blake2$family, for $processor" libb2_there $family
+        check "edge_cases.c, blake2$family, for $processor" run_there edge_cases \
+            $(family_words "$family") "$tests/edge_cases.c" --
+        check "libb2.c, blake2$family, for $processor" run_there libb2 $(family_words "$family") \
+            -DOWN_HEADER "-I$here/include/libb2" "$tests/libb2.c" -- # which copies states of libb2
     done
-    check "tree_parts.c, for $processor" tree_parts_there $turns
+    check "tree_parts.c, for $processor" run_there tree_parts "$tests/tree_parts.c" -- $turns
     check "the stack that is wiped, for $processor" stack_there
     check "files, for $processor" files_there
     check_huge "what install.sh makes with -O0 wipes, for $processor" wiped_by_install

@@ -71,8 +71,8 @@ dll_is_right() {
         ! grep 'DLL Name' "$work/dll" | grep -v 'KERNEL32\|msvcrt\|ucrt'
 }
 
-# A hash with this object of choose.c in the place of the archive's: with only one build, or one that goes from one build
-# to the others.
+# A hash with this object of choose.c in the place of the archive's: with only one build, or one that goes from one
+# build to the others.
 hash_by_choice() { run_hash conformance "$1" "$work/$2.o" "$archive"; }
 one_build_for_windows() {
     choose_build "-DCHOOSE_ONE=$1" "only_$1" && ! nm "$work/only_$1.o" | grep -q vulfsjor_ffi_level &&
