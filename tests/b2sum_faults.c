@@ -1,8 +1,8 @@
 /* A library to preload into b2sum: some calls of one function of the system fail, or the memory that the process can
  * write is searched for a key at one of them.
  *
- *   FAULT_CALL   readv, pread, openat, write, close, malloc, realloc, pthread_create, or posix_fadvise that says of a
- *                whole file that it is read from its start to its end
+ *   FAULT_CALL   readv, pread, openat, write, close, malloc, realloc, or posix_fadvise that says of a whole file that it
+ *                is read from its start to its end
  *   FAULT_AT     the number of the first call that fails, from 1
  *   FAULT_LAST   the number of the last one that does
  *   FAULT_ERROR  its errno; 0: it reads or writes one byte; -1: it returns 0, as at the end
@@ -15,10 +15,8 @@
  * first call, the dynamic linker saves the vector registers on the stack, and with them pieces of the key, which then
  * are counted though the program has not left them. */
 #define _GNU_SOURCE
-#include <dlfcn.h>
 #include <errno.h>
 #include <fcntl.h>
-#include <pthread.h>
 #include <stdio.h>
 #include <stdlib.h>
 #include <string.h>
@@ -139,10 +137,4 @@ int posix_fadvise(int file, off_t from, off_t length, int advice) {
     (void)file;
     if (!from && !length && advice == POSIX_FADV_SEQUENTIAL) is_hit("posix_fadvise");
     return EINVAL;
-}
-
-int pthread_create(pthread_t *thread, const pthread_attr_t *how, void *(*function)(void *), void *given) {
-    int (*create)(pthread_t *, const pthread_attr_t *, void *(*)(void *), void *) = dlsym(RTLD_NEXT, "pthread_create");
-
-    return is_hit("pthread_create") ? EAGAIN : create(thread, how, function, given);
 }

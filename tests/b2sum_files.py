@@ -134,6 +134,7 @@ def test_parameters(runs):
     runs.write("key0", b"")
     for words, said in (("--key-file key65", "key65: a key has 1 to 64 bytes"),
             ("--key-file key0", "key0: a key has 1 to 64 bytes"),
+            ("--key-file /dev/null", "/dev/null: a key has 1 to 64 bytes"),
                         ("-a blake2s --key-file key", "key: a key of BLAKE2s or BLAKE2sp has 1 to 32 bytes"),
                         ("--key-file none", f"none: {os.strerror(errno.ENOENT)}"),
                         ("--key-file .", f".: {os.strerror(errno.EISDIR)}")):

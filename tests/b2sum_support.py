@@ -158,7 +158,7 @@ def run_tests(tests, others=(), faulty=()):
     work = tempfile.mkdtemp()
     os.environ["FAULTS"] = os.path.join(work, "faults.so")
     has_faults = not faulty or shutil.which("cc") and subprocess.run(
-        ["cc", "-shared", "-fPIC", "-O1", "-Wl,-z,now", os.path.join(TOP, "tests", "b2sum_faults.c"), "-ldl", "-o",
+        ["cc", "-shared", "-fPIC", "-O1", "-Wl,-z,now", os.path.join(TOP, "tests", "b2sum_faults.c"), "-o",
          os.environ["FAULTS"]], stdout=subprocess.DEVNULL).returncode == 0
     with programs(sys.argv[1:]) as built:
         for number, program in enumerate(built):

@@ -162,10 +162,6 @@ def test_changes(runs):
             got = run_with_fault(runs, ["--tree", "65536"], None, "pread", 1, 1 << 30, errno.EIO, stdin=file.fileno())
         large = root_line("-", data[start:], 65536).encode()
         runs.holds(["from", start], got == ((large, b"", 0) if len(data) - start == 1 << 19 else None), got)
-    for count in (1, 2, 5):
-        got = [run_with_fault(runs, ["--tree", "65536", "--threads", str(count), "data"], b"", "pthread_create", at, at,
-                              0) for at in (count - 1, count)]
-        runs.holds(["threads", count], got == [wanted if count > 1 else None, None], got)
     for call in ("openat", "readv"):
         got = run_with_fault(runs, ["b"], b"", call, 1, 3, errno.EINTR)
         runs.holds(["interrupted", call], got == (line("b", b"abc").encode(), b"", 0), got)

@@ -5,6 +5,9 @@
 set -u
 source "$(dirname "$(readlink -f "$0")")/tap.sh"
 [ -n "${VULFSJOR_TEST_HUGE-}" ] || export CFLAGS=-O0
+# The libraries that are made here have one build.
+one=()
+[ "$(uname -m)" != x86_64 ] || one=(--cpu x86-64-v2)
 for tool in git cc make xz python3 b2sum; do has $tool || { skip "releases" "no $tool"; finish; }; done
 
 # Runs a command that has to fail and say this: LINE COMMAND..
@@ -76,7 +79,7 @@ other_version() {
     printf '#!/bin/sh\necho "rt was called" >&2; exit 1\n' >"$work/rt" && chmod +x "$work/rt"
     PATH=$work:$PATH
     tools/version.py $next && tools/version.py --check && tools/dist.sh current && tools/exports.py --check &&
-        c/install.sh "$work/installed" &&
+        c/install.sh "${one[@]}" "$work/installed" &&
         printf '%s\n' '#include <vulfsjor.h>' "int main(void) { return vulfsjor_version() != 0x000163; }" \
             >"$work/a.c" &&
         cc "$work/a.c" -I"$work/installed/include" "$work/installed/lib/libvulfsjor.so" -o "$work/a" &&
@@ -114,7 +117,7 @@ interface() {
     local at=vulfsjor_ffi_tree_part
     cd "$work/other" && git checkout -q -f HEAD && sed -i "0,/^## /s/^## .*/## 0.2.0/" CHANGELOG.md &&
         tools/exports.py --check && sed -i "/ $at(/d" c/abi.txt && tools/exports.py &&
-        grep -q "^VULFSJOR_0\.2 int32_t $at(" c/abi.txt && c/install.sh "$work/later" &&
+        grep -q "^VULFSJOR_0\.2 int32_t $at(" c/abi.txt && c/install.sh "${one[@]}" "$work/later" &&
         nm -D "$work/later/lib/libvulfsjor.so" | grep -q " $at@@VULFSJOR_0\.2$" &&
         echo "int $at(void); int main(int n, char **v) { return n > 1 && $at() && v; }" >"$work/b.c" &&
         cc "$work/b.c" "$work/later/lib/libvulfsjor.so" -o "$work/b" && LD_LIBRARY_PATH=$work/later/lib "$work/b" ||

@@ -5,6 +5,7 @@
 #include "../system.h"
 
 #include "check.h"
+#include "vulfsjor_threads.h"
 
 /* The time, in milliseconds, and what was written to standard error since the last look. */
 static uint64_t time_now;
@@ -38,6 +39,14 @@ static int open_or_fail(const char *path) {
     return interrupts-- > 0 ? -1 : open_path(path);
 }
 
+/* Threads that count 5 MiB, move the position of the file, and fail. */
+static int fail_by_threads(vulfsjor_tree_state *state, int file, unsigned threads, vulfsjor_progress progress,
+                           void *context) {
+    CHECK(state && threads == 3 && progress(context, (uint64_t)5 << 20) == 0 && lseek(file, 1, SEEK_CUR) > 0);
+    return -1;
+}
+
+#define vulfsjor_tree_update_fd fail_by_threads
 #define open_path(path) open_or_fail(path)
 #define milliseconds() time_now
 #define write record_write
@@ -114,6 +123,20 @@ static void check_threads(void) {
     time_now = 7700;
     CHECK(report_by_threads(&before, (uint64_t)5 << 20) == 0 && !strcmp(written, "\r-: 3145733 MiB\033[K"));
     written[0] = 0;
+}
+
+/* After threads that fail, position and count are as before. */
+static void check_failure(void) {
+    static vulfsjor_tree_state state;
+    const int file = fileno(tmpfile());
+
+    CHECK(!ftruncate(file, LEAST_BYTES + 7) && lseek(file, 7, SEEK_SET) == 7);
+    begin_at(8000, 99, "other");
+    shown.count = 7;
+    is_shown = true;
+    absorb_large_file(file, 3, &state);
+    is_shown = false;
+    CHECK(lseek(file, 0, SEEK_CUR) == 7 && shown.file == file && shown.count == 0);
 }
 
 /* ---- Names, messages, and secrets. */
@@ -220,6 +243,7 @@ int main(void) {
     check_progress();
     check_length();
     check_threads();
+    check_failure();
     check_names();
     check_room();
     check_memory();

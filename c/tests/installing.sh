@@ -623,9 +623,10 @@ odd_compilers() {
         ! grep -e -Wl,-z,defs "$work/compiled"
 }
 
-# The package for CMake is for the size of a pointer of what is installed.
+# The package for CMake is for the size of a pointer of what is installed, and a later version would be for requests of
+# its minor version.
 size_of_pointers() {
-    local size other
+    local size other request
     for size in 4 8; do
         rm -rf "$work/built$size" && install_one "$work/size" && cp -R "$work/built" "$work/built$size" &&
             sed -i "3s/.*/$size/" "$work/built$size/kind" && "$here/install.sh" --built "$work/built$size" \
@@ -637,6 +638,13 @@ size_of_pointers() {
             [ "$(cmake -P "$work/size.cmake" 2>&1)" = "unsuitable: $([ $size = $other ] || echo TRUE)" ] || return 1
         done
     done
+    sed "s/$(version)/0.3.5/" "$work/size8/lib/cmake/vulfsjor/vulfsjor-config-version.cmake" >"$work/later.cmake" &&
+        for request in 0.3 0.3.5 0.3.6 0.2 1.3; do
+        printf 'set(PACKAGE_FIND_VERSION%s)\n' " $request" "_MAJOR ${request%%.*}" "_MINOR $(cut -d . -f 2 <<<$request)"
+        printf '%s\n' "include(\"$work/later.cmake\")" "message(\"$request \${PACKAGE_VERSION_COMPATIBLE}\")" \
+            'unset(PACKAGE_VERSION_COMPATIBLE)'
+    done >"$work/requests.cmake" && cmake -P "$work/requests.cmake" 2>&1 |
+        diff - <(printf '%s\n' "0.3 TRUE" "0.3.5 TRUE" "0.3.6 " "0.2 " "1.3 ") || return 1
     grep -x "$(echo __SIZEOF_POINTER__ | cc -E -P -)" "$work/built/kind"
 }
 

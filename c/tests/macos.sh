@@ -110,21 +110,21 @@ is_universal() {
         llvm-nm --arch=arm64 "$1" | grep -q ' T _vulfsjor_ffi_blake2b_.*_arm$'
 }
 
-# One command makes it, and so does CMake. If one of the processors has no text, CMake compiles
-# portable C for all. lipo is LLVM's.
+# CMake makes it, or else one command. If one of the processors has no text, CMake compiles portable C for
+# all. lipo is LLVM's.
 makes_universal() {
-    local build=$work/universal
-    mkdir -p "$build/bin" && ln -sf "$lipo" "$build/bin/lipo" && export PATH=$build/bin:$PATH &&
-        "$work/arm64" -arch arm64 -arch x86_64 -c "$dist/vulfsjor.S" -o "$build/both.o" &&
-        is_universal "$build/both.o" || return 1
-    has cmake || return 0
-    cmake -S "$here" -B "$build" -DCMAKE_SYSTEM_NAME=Darwin -DCMAKE_SYSTEM_PROCESSOR=arm64 \
-        -DCMAKE_C_COMPILER="$work/arm64" -DCMAKE_OSX_ARCHITECTURES="arm64;x86_64" \
-        -DCMAKE_OSX_SYSROOT="$sdk" -DCMAKE_TRY_COMPILE_TARGET_TYPE=STATIC_LIBRARY &&
+    local build=$work/universal words
+    mkdir -p "$build/bin" && ln -sf "$lipo" "$build/bin/lipo" && export PATH=$build/bin:$PATH || return 1
+    if ! has cmake; then
+        "$work/arm64" -arch arm64 -arch x86_64 -c "$dist/vulfsjor.S" -o "$build/both.o" && is_universal "$build/both.o"
+        return
+    fi
+    words=(-DCMAKE_SYSTEM_NAME=Darwin -DCMAKE_C_COMPILER="$work/arm64" -DCMAKE_OSX_SYSROOT="$sdk"
+        -DCMAKE_TRY_COMPILE_TARGET_TYPE=STATIC_LIBRARY)
+    cmake -S "$here" -B "$build" "${words[@]}" -DCMAKE_SYSTEM_PROCESSOR=arm64 \
+        -DCMAKE_OSX_ARCHITECTURES="arm64;x86_64" &&
         cmake --build "$build" && is_universal "$(find "$build" -name vulfsjor.S.o)" &&
-        cmake -S "$here" -B "$build/other" -DCMAKE_SYSTEM_NAME=Darwin \
-            -DCMAKE_C_COMPILER="$work/arm64" -DCMAKE_OSX_ARCHITECTURES="arm64;i386" \
-            -DCMAKE_OSX_SYSROOT="$sdk" -DCMAKE_TRY_COMPILE_TARGET_TYPE=STATIC_LIBRARY &&
+        cmake -S "$here" -B "$build/other" "${words[@]}" -DCMAKE_OSX_ARCHITECTURES="arm64;i386" &&
         grep -q "dist/c/vulfsjor\.c" "$build/other/CMakeFiles/vulfsjor.dir/build.make" &&
         ! grep -q "vulfsjor\.S" "$build/other/CMakeFiles/vulfsjor.dir/build.make"
 }

@@ -13,8 +13,8 @@ functions_of_program() {
 # The tests that include ../b2sum.c.
 functions_of_b2sum() {
     cc -O2 -g "${warnings[@]}" -D{ABSORB_TREE=absorb,PROVED_TREE=proved}.tree -DHIDE_MEMORY=hide.memory \
-        -DSHOW_PROGRESS=show.progress -I"$include" "$tests/b2sum.c" "$prefix/lib/libvulfsjor-threads.a" "$archive" \
-        -pthread -o "$work/sums" "$@" && timeout 60 "$work/sums"
+        -DSHOW_PROGRESS=show.progress -I"$include" "$tests/b2sum.c" "$archive" -o "$work/sums" "$@" &&
+        timeout 60 "$work/sums"
 }
 
 # Whether b2sum has no function that the rest of its process would get instead of one of the C
