@@ -265,6 +265,7 @@ offers_values() {
 -l:128 160 224 256 384 512
 --length:128 160 224 256 384 512
 --tree:65536
+--threads:
 --personal:
 --personal-text:
 --salt:

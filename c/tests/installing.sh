@@ -398,10 +398,11 @@ variables_of_make() {
         make_here uninstall DESTDIR="$root" prefix=/p exec_prefix=/e && [ -z "$(files_below "$root")" ]
 }
 
-# Each of these is built again if what it is made of has changed.
+# Each of these is built again if what it is made of has changed, or what the compiler gets.
 built_again() {
     local line
     make_here -q all || return 1
+    for line in b2 b2sum lib/kind; do ! make_here -q CFLAGS=-O3 "$work/made/$line" || return 1; done
     for line in tools/launcher.sh:b2 c/{choose.c,system.h,vulfsjor.map,include/vulfsjor.h,make_libraries.sh}:lib/kind \
         c/{libb2/libb2.c,include/libb2/blake2.h}:lib/kind dist/{MANIFEST,macros.h,x86_64/{elf.inc,b2sum.s}}:b2sum; do
         ! make_here -q -W "${line%:*}" "$work/made/${line#*:}" || { echo "$line" && return 1; }
