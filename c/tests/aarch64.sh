@@ -4,6 +4,7 @@ source "$(dirname "$(readlink -f "$0")")/common.sh"
 . "$tests/library.sh"
 . "$tests/threads.sh"
 . "$tests/installing.sh"
+. "$tests/choosing.sh"
 arm=aarch64-linux-gnu-gcc
 
 # That compiler in the place of cc. What it links is run by a script of its name; an object stays one.
@@ -18,12 +19,6 @@ cc() {
         printf '#!/bin/sh\nexec qemu-aarch64 -L "%s" "%s" "$@"\n' "$libraries" "$program.aarch64" \
             >"$program" &&
         chmod +x "$program"
-}
-
-first_calls_for_arm() {
-    cc -std=c99 -O2 "${warnings[@]}" -I"$include" "$tests/first_calls.c" "$1" -o "$work/first_calls" \
-        -pthread &&
-        LD_LIBRARY_PATH=$prefix/lib "$work/first_calls"
 }
 
 # Branch protection: each object is marked, so a program is without a demand, and a linker that demands
@@ -63,7 +58,7 @@ sums_for_arm() {
 }
 
 test_aarch64() {
-    local library hash
+    local hash
     if ! has_compiler "$arm" || ! has qemu-aarch64 || ! has python3; then
         skip "the library for aarch64" "no $arm with a C library, no qemu-aarch64 or no python3"
         return
@@ -85,10 +80,7 @@ test_aarch64() {
     for family in bp sp xb xs; do
         check "key_scan.c, blake2$family, for aarch64" scan_for_keys
     done
-    for library in "$archive" "$shared"; do
-        check "calls of a constructor and of threads, for aarch64, ${library##*.}" first_calls_for_arm \
-            "$library"
-    done
+    check "calls of a constructor and of threads, for aarch64" first_calls
     check "hidden names, for aarch64" names_are_hidden "$archive" "$include" "$arm"
     check "branch protection, for aarch64" protected_by_bti
     check "marks of the programs, for aarch64" programs_are_marked

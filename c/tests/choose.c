@@ -33,28 +33,22 @@ static number weighted_sum(PARAMETERS) {
            31 * k + 37 * l + 41 * m + 43 * n + 47 * o + 53 * p;
 }
 #define GIVEN a, b, c, d, e, f, g, h, i, j, k, l, m, n, o, p
-number probe_arguments_v2(PARAMETERS) __asm__(IN_BUILD("probe_arguments", "v2"));
-number probe_arguments_v3(PARAMETERS) __asm__(IN_BUILD("probe_arguments", "v3"));
-number probe_arguments_v4(PARAMETERS) __asm__(IN_BUILD("probe_arguments", "v4"));
-__attribute__((noinline)) number probe_arguments_v2(PARAMETERS) { return weighted_sum(GIVEN) + 2; }
-__attribute__((noinline)) number probe_arguments_v3(PARAMETERS) { return weighted_sum(GIVEN) + 3; }
-__attribute__((noinline)) number probe_arguments_v4(PARAMETERS) { return weighted_sum(GIVEN) + 4; }
 number probe_arguments(PARAMETERS);
 
 /* Whether the stack is as a function may take it to be: 8 beyond a multiple of 16. */
 static int is_aligned(void *frame) { return (uintptr_t)frame % 16 == 0; }
-int probe_v2(void) __asm__(IN_BUILD("probe", "v2"));
-int probe_v3(void) __asm__(IN_BUILD("probe", "v3"));
-int probe_v4(void) __asm__(IN_BUILD("probe", "v4"));
-__attribute__((noinline)) int probe_v2(void) {
-    return is_aligned(__builtin_frame_address(0)) ? 2 : -2;
-}
-__attribute__((noinline)) int probe_v3(void) {
-    return is_aligned(__builtin_frame_address(0)) ? 3 : -3;
-}
-__attribute__((noinline)) int probe_v4(void) {
-    return is_aligned(__builtin_frame_address(0)) ? 4 : -4;
-}
+#define BUILD(level)                                                                                 \
+    number probe_arguments_v##level(PARAMETERS) __asm__(IN_BUILD("probe_arguments", "v" #level));    \
+    __attribute__((noinline)) number probe_arguments_v##level(PARAMETERS) {                          \
+        return weighted_sum(GIVEN) + level;                                                          \
+    }                                                                                                \
+    int probe_v##level(void) __asm__(IN_BUILD("probe", "v" #level));                                 \
+    __attribute__((noinline)) int probe_v##level(void) {                                             \
+        return is_aligned(__builtin_frame_address(0)) ? level : -level;                              \
+    }
+BUILD(2)
+BUILD(3)
+BUILD(4)
 int probe(void);
 
 /* The arguments arrive, by a call that asks and by one that does not. */
