@@ -291,6 +291,15 @@ portable_by_cmake() {
 find_package(vulfsjor $(version) EXACT REQUIRED)" vulfsjor::vulfsjor vulfsjor::threads && needs_nothing
 }
 
+# The modules for pkg-config in CMake, which looks for the files that the words name, as meson does.
+modules_by_cmake() {
+    project_by_cmake "set(ENV{PKG_CONFIG_PATH} \"$prefix/lib/pkgconfig\")
+find_package(PkgConfig REQUIRED)
+pkg_check_modules(shared REQUIRED IMPORTED_TARGET vulfsjor)
+pkg_check_modules(threads REQUIRED IMPORTED_TARGET vulfsjor-threads)" PkgConfig::shared PkgConfig::threads &&
+        [ "$(cat "$work/needed")" = libvulfsjor.so.0 ]
+}
+
 # What pkg-config prints for each module, from the folder of its file: MODULE FOLDER INCLUDES ROOM
 # LIBRARIES.
 words_are_these() {
@@ -725,6 +734,8 @@ test_installing() {
     check "a program of one call is small" small_programs
     needs pkg-config
     check "the words of pkg-config" words_are_these
+    needs pkg-config cmake
+    check "the modules of pkg-config in CMake" modules_by_cmake
 }
 
 part test_installing
