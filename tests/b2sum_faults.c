@@ -1,8 +1,8 @@
 /* A library to preload into b2sum: some calls of one function of the system fail, or the memory that the process can
  * write is searched for a key at one of them.
  *
- *   FAULT_CALL   readv, pread, openat, write, close, malloc, realloc, or posix_fadvise that says of a whole file that it
- *                is read from its start to its end
+ *   FAULT_CALL   readv, pread, openat, write, close, malloc, realloc, or posix_fadvise that says of a whole file that
+ *                it is read from its start to its end
  *   FAULT_AT     the number of the first call that fails, from 1
  *   FAULT_LAST   the number of the last one that does
  *   FAULT_ERROR  its errno; 0: it reads or writes one byte; -1: it returns 0, as at the end
