@@ -532,8 +532,9 @@ END
 # Without a word the library comes from dist/, where that was made from these sources. Else nothing is installed.
 comes_from() {
     local tree=$work/tree
-    compiler_for && make_stand_in "$tree" && CC="$work/for $(cc -dumpmachine)" "$tree/c/install.sh" "$tree/made" &&
-        [ -e "$tree/made/lib/libvulfsjor.so" ] && grep 'vulfsjor-v3\.s' "$work/compiled" &&
+    compiler_for && make_stand_in "$tree" && CC="$work/for $(cc -dumpmachine)" \
+        "$tree/c/install.sh" --portable "$tree/made" && [ -e "$tree/made/lib/libvulfsjor.so" ] &&
+        grep -F "$tree/dist/c/vulfsjor.c" "$work/compiled" &&
         [ "$(cat "$tree/calls")" = current ] && touch "$tree/refuse" || return 1
     refuses 1 stale "$tree/c/install.sh" "$tree/not_made" &&
         [ ! -e "$tree/not_made" ]
@@ -549,9 +550,10 @@ refuses() {
 }
 
 # A compiler for the machine that is its first word, which notes its other words and which texts end its assembly, and
-# only writes an empty object; or, with the file `real`, is the one here, and optimizes nothing.
+# only writes an empty object; or, with the file `real`, is the one here, and optimizes nothing. With the file `noting`
+# it fails at C, which comes after the texts.
 compiler_for() {
-    rm -f "$work/compiled" "$work/real" && cc -c "$empty" -o "$work/empty.o" &&
+    rm -f "$work"/{compiled,real,noting} && cc -c "$empty" -o "$work/empty.o" &&
         cat >"$work/for" <<END && chmod +x "$work/for"
 #!/bin/bash
 [ "\$2" != -dumpmachine ] || { echo "\$1"; exit; }
@@ -565,6 +567,7 @@ for file; do
         tail -c "\$(wc -c <"\$text")" "\$file" | cmp -s - "\$text" && echo "\$text " >>"$work/compiled"
     done
 done
+[ ! -e "$work/noting" ] || case " \$* " in *".c "*) exit 1 ;; esac
 while [ "\$1" != -o ]; do shift; done
 cp "$work/empty.o" "\$2"
 END
@@ -573,8 +576,8 @@ END
 # The texts that install.sh takes for a machine, whose compiler is that one.
 texts_for() {
     rm -f "$work/compiled"
-    CC="$work/for $1" "$here/install.sh" --from "$dist" "${@:2}" "$work/for_$1" &&
-        grep -ohE 'dist/[^ ]*/vulfsjor[v0-9-]*\.[sc] ' "$work/compiled" | sort -u | sed 's|.*dist/||;s/ $//'
+    CC="$work/for $1" "$here/install.sh" --from "$dist" "${@:2}" "$work/for_$1" 2>"$work/said"
+    grep -ohE 'dist/[^ ]*/vulfsjor[v0-9-]*\.[sc] ' "$work/compiled" | sort -u | sed 's|.*dist/||;s/ $//'
 }
 
 # A folder of the loader: the programs that link the library start, or a line says what is to be done. A stand-in for
@@ -610,7 +613,7 @@ machines_without_assembly() {
     local machine
     compiler_for && touch "$work/real" || return 1
     texts_for riscv64-linux-gnu | diff <(echo c/vulfsjor.c) - && is_portable riscv64-linux-gnu &&
-        [ "$(grep -c -e -Wl,-z,defs "$work/compiled")" -eq 1 ] && rm "$work/real" || return 1
+        [ "$(grep -c -e -Wl,-z,defs "$work/compiled")" -eq 1 ] && rm "$work/real" && touch "$work/noting" || return 1
     texts_for x86_64-pc-linux-gnu --portable | diff <(echo c/vulfsjor.c) - || return 1
     for machine in x86_64-linux-gnux32 aarch64-linux-gnu_ilp32 aarch64_be-linux-gnu i386-unknown-haiku; do
         texts_for $machine | diff <(echo c/vulfsjor.c) - || return 1
@@ -629,8 +632,8 @@ odd_compilers() {
     printf '#!/bin/sh\nexit 1\n' >"$work/silent" && chmod +x "$work/silent" &&
         refuses 1 "silent does not know -dumpmachine: use GCC or Clang" env CC="$work/silent" "$here/install.sh" \
             --from "$dist" "$work/no" &&
-        [ ! -e "$work/no" ] && CFLAGS=-fsanitize=address texts_for "$(cc -dumpmachine)" &&
-        ! grep -e -Wl,-z,defs "$work/compiled"
+        [ ! -e "$work/no" ] && CFLAGS=-fsanitize=address texts_for "$(cc -dumpmachine)" --portable &&
+        grep -e -shared "$work/compiled" && ! grep -e -Wl,-z,defs "$work/compiled"
 }
 
 # The package for CMake is for the size of a pointer of what is installed, and a later version would be for requests of
