@@ -1,24 +1,23 @@
-// The package in Chromium and Firefox, on the page's thread and in a worker, and in JavaScriptCore,
-// the engine of Safari; each where it is installed.
+// The package in Chromium and Firefox, on the page's thread and in a worker, and in JavaScriptCore, the engine of
+// Safari; each where it is installed.
 import assert from "node:assert/strict";
 import { spawn, spawnSync } from "node:child_process";
 import { readFileSync, writeFileSync } from "node:fs";
-import { createServer } from "node:http";
-import { extname, join } from "node:path";
+import { join } from "node:path";
 import test from "node:test";
+import { setTimeout as sleep } from "node:timers/promises";
 import { fileURLToPath } from "node:url";
-import { endBrowser } from "./chromium.mjs";
+import { endBrowser, openChromium, serve } from "./chromium.mjs";
 import { casesOf, hasCommand, HUGE, newFolder } from "./common.mjs";
 import { HASHES } from "./conformance_driver.mjs";
 
 const top = fileURLToPath(new URL("..", import.meta.url));
-const TYPES = { ".js": "text/javascript", ".mjs": "text/javascript", ".json": "application/json", "": "text/html" };
 const CHECK = `const [vulfsjor, { tryCases }, texts] = await Promise.all([import("/index.js"),
   import("/tests/conformance_driver.mjs"), fetch("/cases.json").then((answer) => answer.json())]);
   const answer = texts.map((text) => tryCases(vulfsjor, text));`;
 // Hashes a tree by workers of the browser: whole ones, some that do not exist, and some that throw
 // after they have started.
-const THREADS = `const message = Uint8Array.from({ length: 9_000_001 }, (_, i) => i ^ (i >> 8));
+const THREADS = `const message = Uint8Array.from({ length: 5_000_001 }, (_, i) => i ^ (i >> 8));
   const onFallback = (cause) => threads.push(String(cause));
   const byThreads = () =>
     vulfsjor.treeRootStream(new Blob([message]), { leafLength: 65536, threads: 3, onFallback })
@@ -27,9 +26,7 @@ const THREADS = `const message = Uint8Array.from({ length: 9_000_001 }, (_, i) =
   threads.push(await byThreads());
   const { Worker: Whole } = globalThis;
   for (const script of ["/none.js", "/throws.js"]) {
-    globalThis.Worker = class extends Whole {
-      constructor() { super(script, { type: "module" }); }
-    };
+    globalThis.Worker = class extends Whole { constructor() { super(script, { type: "module" }); } };
     threads.push(await byThreads());
   }
   globalThis.Worker = Whole;
@@ -73,7 +70,7 @@ try {
 </script>`;
 
 // Some of the conformance cases.
-const CASES = HASHES.map((hash) => casesOf(hash, HUGE ? 4 : 40));
+const CASES = HASHES.map((hash) => casesOf(hash, HUGE ? 4 : 80));
 const COUNT = CASES.map((text) => text.match(/^case /gm).length);
 
 // Asserts that all cases were tried, and that most have not ended early.
@@ -83,59 +80,36 @@ function assertCases(answer) {
   for (const { cases, skipped } of answer) assert.ok(skipped < cases / 4, `${skipped} of ${cases}`);
 }
 
-// Serves the package, opens the page in a browser, and returns what the page sends back.
-async function answerOf(command, wordsOf) {
-  const folder = newFolder();
-  let answered;
-  const answer = new Promise((resolve) => (answered = resolve));
-  const server = createServer((request, response) => {
-    const { pathname } = new URL(request.url, "http://localhost");
-    if (pathname === "/done") {
-      let text = "";
-      request.on("data", (chunk) => (text += chunk)).on("end", () => answered(JSON.parse(text)));
-      return response.end();
-    }
+// How each browser opens a page, if there is one. Returns a function that closes it.
+const BROWSERS = {
+  async chromium(url) {
+    const chromium = await openChromium();
+    return (await chromium?.open(url))?.close;
+  },
+  async "firefox-esr"(url) {
+    if (!hasCommand("firefox-esr")) return undefined;
+    const folder = newFolder();
+    const words = ["--headless", "--no-remote", "--profile", folder, url];
+    const child = spawn("firefox-esr", words, { stdio: "ignore", detached: true });
+    return () => endBrowser(child, folder);
+  },
+};
+for (const [name, open] of Object.entries(BROWSERS)) {
+  test(`conformance cases, streams, pipes and a tree by workers in ${name}`, async (t) => {
+    let answered;
+    const answer = new Promise((resolve) => (answered = resolve));
     const files = {
-      "/": PAGE,
-      "/cases.json": JSON.stringify(CASES),
-      "/worker.js": `${CHECK}\npostMessage(answer);`,
+      "/": PAGE, "/cases.json": JSON.stringify(CASES), "/worker.js": `${CHECK}\npostMessage(answer);`,
       "/throws.js": "postMessage('ready'); onmessage = () => { throw new Error('no reason'); };",
     };
-    try {
-      const body = files[pathname] ?? readFileSync(join(top, pathname));
-      response.setHeader("content-type", TYPES[pathname === "/" ? "" : extname(pathname)]);
-      response.end(body);
-    } catch {
-      response.statusCode = 404;
-      response.end();
-    }
-  });
-  await new Promise((resolve) => server.listen(0, "127.0.0.1", resolve));
-  const child = spawn(
-    command, wordsOf(folder, `http://127.0.0.1:${server.address().port}/`),
-    { stdio: "ignore", detached: true });
-  const timer = setTimeout(() => answered({ fault: "no answer within ten minutes" }), 600_000);
-  try {
-    return await answer;
-  } finally {
-    clearTimeout(timer);
-    await endBrowser(child, folder);
-    server.closeAllConnections();
-    server.close();
-  }
-}
-
-const BROWSERS = {
-  chromium: (folder, url) => [
-    "--headless=new", "--no-sandbox", "--disable-gpu", `--user-data-dir=${folder}`,
-    "--remote-debugging-port=0", url,
-  ],
-  "firefox-esr": (folder, url) => ["--headless", "--no-remote", "--profile", folder, url],
-};
-for (const [command, wordsOf] of Object.entries(BROWSERS)) {
-  test(`conformance cases, streams, pipes and a tree by workers in ${command}`, async (t) => {
-    if (!hasCommand(command)) return t.skip(`no ${command}`);
-    const { fault, page, worker, threads, piped, streams } = await answerOf(command, wordsOf);
+    const close = await open(await serve(t, async (path, request) => {
+      if (path !== "/done") return files[path] ?? readFileSync(join(top, path));
+      answered(JSON.parse(Buffer.concat(await request.toArray())));
+    }));
+    if (close === undefined) return t.skip(`no ${name}`);
+    t.after(close);
+    const late = sleep(600_000, { fault: "no answer within ten minutes" }, { ref: false });
+    const { fault, page, worker, threads, piped, streams } = await Promise.race([answer, late]);
     assert.equal(fault, undefined);
     const [root, byThreads, cause, byOne, failed, ...more] = threads;
     assert.deepEqual([byThreads, cause, byOne, more], [root, "Error: it could not be started", root, []]);

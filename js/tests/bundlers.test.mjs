@@ -1,14 +1,13 @@
-// Bundles of the package, and workers in them: in node and in Chromium, under policies that forbid
-// some ways to start a worker.
+// Bundles of the package, and workers in them: in node and in Chromium, under policies that forbid some ways to start a
+// worker.
 import assert from "node:assert/strict";
 import { execFile } from "node:child_process";
 import { cpSync, readFileSync, writeFileSync } from "node:fs";
-import { createServer } from "node:http";
-import { basename, dirname, extname, join } from "node:path";
-import test, { before } from "node:test";
+import { basename, dirname, join } from "node:path";
+import test from "node:test";
 import { fileURLToPath } from "node:url";
 import { promisify } from "node:util";
-import { startChromium } from "./chromium.mjs";
+import { openChromium, serve } from "./chromium.mjs";
 import { hasCommand, newFolder } from "./common.mjs";
 
 const top = fileURLToPath(new URL("..", import.meta.url));
@@ -30,14 +29,13 @@ const PROGRAM = `import { hex, treeRootStream } from "vulfsjor";
 const folder = newFolder();
 const pathOf = (name) => join(folder, name);
 
-before(() => {
-  for (const file of ["package.json", "index.js", "src"]) {
-    cpSync(join(top, file), pathOf(`node_modules/vulfsjor/${file}`), { recursive: true });
-  }
-  writeFileSync(pathOf("app.mjs"), PROGRAM);
-  // for bundlers that resolve no names without a plugin
-  writeFileSync(pathOf("path.mjs"), PROGRAM.replace('"vulfsjor"', '"./node_modules/vulfsjor/index.js"'));
-});
+for (const file of ["package.json", "index.js", "src"]) {
+  cpSync(join(top, file), pathOf(`node_modules/vulfsjor/${file}`), { recursive: true });
+}
+// The same program by a path, for bundlers that resolve no names without a plugin.
+const byPath = (program) => program.replace('"vulfsjor"', '"./node_modules/vulfsjor/index.js"');
+writeFileSync(pathOf("app.mjs"), PROGRAM);
+writeFileSync(pathOf("path.mjs"), byPath(PROGRAM));
 
 const run = promisify(execFile);
 // Bundles, and asserts that the bundler had no remark.
@@ -55,9 +53,12 @@ const BUNDLERS = {
     format === "esm" ? "es" : format, "--file", file),
 };
 
+// A test that is skipped if there is no bundler of this name.
+const testOf = (command, name, work) => test(name, (t) =>
+  (hasCommand(command) ? work(t) : t.skip(`no ${command}`)));
+
 for (const [command, write] of Object.entries(BUNDLERS)) {
-  test(`bundles of ${command} start their workers in node`, async (t) => {
-    if (!hasCommand(command)) return t.skip(`no ${command}`);
+  testOf(command, `bundles of ${command} start their workers in node`, async () => {
     await Promise.all(["esm", "iife", "cjs"].map(async (format) => {
       const file = `${command}-${format}/app.${format === "esm" ? "mjs" : "cjs"}`;
       await write(format, file);
@@ -75,24 +76,25 @@ const DIGESTS = { blake2b: "99,144,98,72", blake2s: "223,113,1,211" };
 const MOST = 40_000;
 const MOST_LONG = 80_000;
 
-// How each bundler makes a small bundle: a command, its words, and the most bytes of the bundle. The
-// defaults of esbuild and webpack, and rollup with the plugin that finds packages, read in
-// package.json that the files have no side effects.
+// How each bundler makes a small bundle: a command, its words, and the most bytes of the bundle. The defaults of
+// esbuild and webpack, and rollup with the plugin that finds packages, read in package.json that the files have no
+// side effects. Rollup without it is given a path.
 const SMALL = [
   ["esbuild", (from, to) => [from, "--bundle", "--minify", "--format=esm", "--log-level=warning",
     `--outfile=${to}`], MOST],
   ["rollup", (from, to) =>
     ["--plugin", "node-resolve", from, "--silent", "--format", "es", "--file", to], MOST_LONG],
+  ["rollup", (from, to) => [from, "--silent", "--format", "es", "--file", to], MOST_LONG, byPath],
   ["webpack", (from, to) => ["--mode", "production", "--entry", `./${from}`, "--output-path",
     dirname(pathOf(to)), "--output-filename", basename(to), "--stats", "errors-warnings"], MOST],
 ];
 
-for (const [command, wordsOf, most] of SMALL) {
-  test(`a bundle by ${command} has only the hash that its program imports`, async (t) => {
-    if (!hasCommand(command)) return t.skip(`no ${command}`);
+for (const [command, wordsOf, most, form] of SMALL) {
+  const how = form === undefined ? command : `${command} without a plugin`;
+  testOf(command, `a bundle by ${how} has only the hash that its program imports`, async (t) => {
     for (const [name, wanted] of Object.entries(DIGESTS)) {
       const [from, to] = [`${name}.mjs`, `${command}-${name}/app.mjs`];
-      writeFileSync(pathOf(from), oneHash(name));
+      writeFileSync(pathOf(from), form?.(oneHash(name)) ?? oneHash(name));
       try {
         await bundle(command, ...wordsOf(from, to));
       } catch (fault) {
@@ -108,8 +110,7 @@ for (const [command, wordsOf, most] of SMALL) {
   });
 }
 
-test("other programs get what they import, too", async (t) => {
-  if (!hasCommand("esbuild")) return t.skip("no esbuild");
+testOf("esbuild", "other programs get what they import, too", async () => {
   const sizeOf = async (names) => {
     writeFileSync(pathOf("names.mjs"), `import { ${names} } from "vulfsjor"; console.log(${names});`);
     await bundle("esbuild", "names.mjs", "--bundle", "--minify", "--format=esm",
@@ -127,59 +128,29 @@ test("other programs get what they import, too", async (t) => {
   assert.ok(await sizeOf("treeRoot") > 300_000); // the module with all functions
 });
 
-test("plain rollup, by a path, leaves out the modules too", async (t) => {
-  if (!hasCommand("rollup")) return t.skip("no rollup");
-  writeFileSync(pathOf("plain.mjs"),
-    oneHash("blake2b").replace('"vulfsjor"', '"./node_modules/vulfsjor/index.js"'));
-  await bundle("rollup", "plain.mjs", "--silent", "--format", "es", "--file", "plain-rollup/app.mjs");
-  const { stdout } = await run(process.execPath, [pathOf("plain-rollup/app.mjs")]);
-  assert.equal(stdout, `${DIGESTS.blake2b}\n`);
-  assert.ok(readFileSync(pathOf("plain-rollup/app.mjs")).length <= MOST_LONG);
-});
-
-const TYPES = { "": "text/html", ".js": "text/javascript", ".mjs": "text/javascript" };
 const PAGES = {
-  module: '<script type="module" src="app.mjs"></script>',
-  script: '<body><script src="app.js"></script>',
+  module: '<script type="module" src="app.mjs"></script>', script: '<body><script src="app.js"></script>',
 };
 
-// Serves folders of bundles: /NAME/PAGE/POLICY/ is the page over the folder NAME, under the policy
-// with this source of workers, or with no policy.
-async function serveFolders(t) {
-  const server = createServer(({ url }, response) => {
-    const [, name, page, policy, ...places] = decodeURIComponent(url).split("/");
-    const file = places.join("/");
-    try {
-      const body = file === "" ? PAGES[page] : readFileSync(pathOf(`${name}/${file}`));
-      response.setHeader("content-type", TYPES[extname(file)]);
-      if (policy !== "none given") {
-        response.setHeader("content-security-policy",
-          `default-src 'none'; script-src 'self' 'wasm-unsafe-eval'; worker-src ${policy}`);
-      }
-      response.end(body);
-    } catch {
-      response.writeHead(404).end();
-    }
-  });
-  await new Promise((resolve) => server.listen(0, "127.0.0.1", resolve));
-  t.after(() => {
-    server.closeAllConnections();
-    server.close();
-  });
-  return `http://127.0.0.1:${server.address().port}`;
-}
-
-// Opens pages, and asserts that each has the root, and the cause for which no worker was started.
+// Opens pages: /NAME/PAGE/POLICY/ is the page over the bundles in the folder NAME, under the policy with this source of
+// workers, or with no policy. Asserts that each has the root, and the cause for which no worker was started.
 async function assertPages(t, pages) {
-  const chromium = await startChromium().catch((fault) => {
-    if (fault.code !== "ENOENT") throw fault;
-  });
+  const chromium = await openChromium();
   if (chromium === undefined) return t.skip("no chromium");
-  t.after(() => chromium.close());
-  const address = await serveFolders(t);
+  const address = await serve(t, (path, request, response) => {
+    const [, name, page, policy, ...places] = path.split("/");
+    const file = places.join("/");
+    const body = file === "" ? PAGES[page] : readFileSync(pathOf(`${name}/${file}`));
+    if (policy !== "none given") {
+      response.setHeader("content-security-policy",
+        `default-src 'none'; script-src 'self' 'wasm-unsafe-eval'; worker-src ${policy}`);
+    }
+    return body;
+  });
   for (const [name, page, policy, cause] of pages) {
-    const { until } = await chromium.open(`${address}/${name}/${page}/${policy}/`);
+    const { until, close } = await chromium.open(`${address}/${name}/${page}/${policy}/`);
     const [root, ...causes] = JSON.parse(await until("document.body.textContent.trim()", 60));
+    await close();
     const where = `${name} ${page} ${policy}`;
     assert.equal(root, WANTED, where);
     assert.equal(causes.length, cause === undefined ? 0 : 1, `${where}: ${causes}`);
@@ -189,8 +160,7 @@ async function assertPages(t, pages) {
 
 const NO_WORKER = /^Error: it could not be started$/;
 
-test("workers start in Chromium with esbuild and without, or one thread hashes", async (t) => {
-  if (!hasCommand("esbuild")) return t.skip("no esbuild");
+testOf("esbuild", "workers start in Chromium with esbuild and without, or one thread hashes", async (t) => {
   const build = BUNDLERS.esbuild;
   await Promise.all([
     build("esm", "alone/app.mjs"), build("iife", "alone/app.js"), build("esm", "beside/app.mjs"),
@@ -212,8 +182,7 @@ test("workers start in Chromium with esbuild and without, or one thread hashes",
 });
 
 // The module makes a bundle larger than webpack recommends.
-test("webpack finds the file of the worker", async (t) => {
-  if (!hasCommand("webpack")) return t.skip("no webpack");
+testOf("webpack", "webpack finds the file of the worker", async (t) => {
   await bundle("webpack", "--mode", "production", "--entry", "./app.mjs", "--output-path",
     "webpack", "--output-filename", "app.js", "--stats", "errors-warnings", "--no-performance");
   await assertPages(t, [

@@ -1,9 +1,12 @@
-// A small client of Chromium's debugging protocol, over two pipes; each message ends with a zero
-// byte.
+// A small client of Chromium's debugging protocol, over two pipes; each message ends with a zero byte. The tests of a
+// process share one Chromium.
 import { spawn } from "node:child_process";
+import { once } from "node:events";
 import { mkdtempSync, rmSync } from "node:fs";
+import { createServer } from "node:http";
 import { tmpdir } from "node:os";
-import { join } from "node:path";
+import { extname, join } from "node:path";
+import { after } from "node:test";
 import { setTimeout as sleep } from "node:timers/promises";
 
 const WORDS = [
@@ -11,8 +14,10 @@ const WORDS = [
   "--disable-dev-shm-usage", "--disable-background-networking",
 ];
 
-/** Kills all processes of the group that a browser leads, then removes its folder. A process that
- * was killed while it made a file can still put it there: then the folder is removed again. */
+/**
+ * Kills all processes of the group that a browser leads, then removes its folder. A process that was killed while it
+ * made a file can still put it there: then the folder is removed again.
+ */
 export async function endBrowser(browser, folder) {
   const exited = new Promise((resolve) => browser.on("exit", resolve));
   try {
@@ -31,14 +36,13 @@ export async function endBrowser(browser, folder) {
   }
 }
 
-/** Starts Chromium. Rejects if there is none. */
-export async function startChromium(command = process.env.CHROMIUM ?? "chromium", more = []) {
+// Starts Chromium. Rejects if there is none.
+async function startChromium() {
   const profile = mkdtempSync(join(tmpdir(), "vulfsjor-chromium-"));
-  const child = spawn(command, [...WORDS, ...more, `--user-data-dir=${profile}`],
+  const child = spawn(process.env.CHROMIUM ?? "chromium", [...WORDS, `--user-data-dir=${profile}`],
     { stdio: ["ignore", "ignore", "ignore", "pipe", "pipe"], detached: true });
   const [, , , input, output] = child.stdio;
-  const exited = new Promise((resolve) => child.on("exit", resolve));
-  await new Promise((resolve, reject) => child.on("spawn", resolve).on("error", reject));
+  await once(child, "spawn");
   const answers = new Map();
   const listeners = new Set();
   let text = "";
@@ -84,18 +88,16 @@ export async function startChromium(command = process.env.CHROMIUM ?? "chromium"
     await call("Emulation.setDeviceMetricsOverride", { width, height: 900, deviceScaleFactor: 1, mobile: false });
     await call("Page.navigate", { url });
     const evaluate = async (expression) => {
-      const { result, exceptionDetails } = await call(
+      const { result, exceptionDetails: thrown } = await call(
         "Runtime.evaluate", { expression, awaitPromise: true, returnByValue: true });
-      if (exceptionDetails) {
-        throw new Error(exceptionDetails.exception?.description ?? exceptionDetails.text);
-      }
+      if (thrown) throw new Error(thrown.exception?.description ?? thrown.text);
       return result.value;
     };
     const until = async (expression, seconds = 120) => {
       for (const end = Date.now() + 1000 * seconds; Date.now() < end; ) {
         const value = await evaluate(expression).catch(() => undefined);
         if (value) return value;
-        await new Promise((resolve) => setTimeout(resolve, 50));
+        await sleep(50);
       }
       throw new Error(`the page never had ${expression}; its errors are: ${faults}`);
     };
@@ -104,13 +106,46 @@ export async function startChromium(command = process.env.CHROMIUM ?? "chromium"
         "Runtime.evaluate", { expression: `document.querySelector(${JSON.stringify(selector)})` });
       await call("DOM.setFileInputFiles", { files, objectId: result.objectId });
     };
-    return { call, evaluate, until, setFiles, faults, requests };
+    const close = () => send("Target.closeTarget", { targetId });
+    return { call, evaluate, until, setFiles, close, faults, requests };
   }
 
   async function close() {
     await send("Browser.close").catch(() => {});
-    await exited;
     await endBrowser(child, profile);
   }
-  return { open, close, version: (await send("Browser.getVersion")).product };
+  return { open, close };
+}
+
+let shared;
+after(async () => (await shared)?.close());
+
+/** The Chromium of this process, or undefined if there is none. */
+export function openChromium() {
+  shared ??= startChromium().catch((fault) => {
+    if (fault.code !== "ENOENT") throw fault;
+  });
+  return shared;
+}
+
+const TYPES = { "": "text/html", ".js": "text/javascript", ".mjs": "text/javascript", ".json": "application/json" };
+
+/** Serves what bodyOf returns for the path of a request, during a test. Returns the address. */
+export async function serve(t, bodyOf) {
+  const server = createServer(async (request, response) => {
+    const path = decodeURIComponent(request.url);
+    try {
+      const body = await bodyOf(path, request, response);
+      response.setHeader("content-type", TYPES[extname(path)]);
+      response.end(body);
+    } catch {
+      response.writeHead(404).end();
+    }
+  });
+  await new Promise((resolve) => server.listen(0, "127.0.0.1", resolve));
+  t.after(() => {
+    server.closeAllConnections();
+    server.close();
+  });
+  return `http://127.0.0.1:${server.address().port}`;
 }

@@ -5,26 +5,14 @@ import { mkdtempSync, readFileSync, rmSync } from "node:fs";
 import { tmpdir } from "node:os";
 import { join } from "node:path";
 import { fileURLToPath } from "node:url";
-import { memories } from "../src/engine.js";
+import { SLAB, memories } from "../src/engine.js";
 
 /** Whether this is the full test, and the options of a test that only it has. */
 export const HUGE = Boolean(process.env.VULFSJOR_TEST_HUGE);
 export const LONG = { skip: HUGE ? false : "VULFSJOR_TEST_HUGE is not set" };
 
-export const bytesOf = (text) => Uint8Array.from(Buffer.from(text, "hex"));
 export const hexOf = (bytes) =>
   Buffer.from(bytes.buffer, bytes.byteOffset, bytes.length).toString("hex");
-
-/** The sequence of RFC 7693, appendix E. */
-export function sequence(length, seed) {
-  let a = Math.imul(0xdead4bad, seed) >>> 0;
-  let b = 1;
-  return Uint8Array.from({ length }, () => {
-    const t = (a + b) >>> 0;
-    [a, b] = [b, t];
-    return t >>> 24;
-  });
-}
 
 let zeros = Buffer.alloc(0);
 
@@ -46,11 +34,43 @@ export function assertClean(what = "after a call") {
   }
 }
 
+/** The result of some work during which an object has other properties. It may be a promise. */
+export function withOthers(object, others, work) {
+  const before = Object.keys(others).map((name) => [name, Object.getOwnPropertyDescriptor(object, name)]);
+  const restore = () => before.forEach(([name, descriptor]) =>
+    (descriptor ? Object.defineProperty(object, name, descriptor) : delete object[name]));
+  for (const [name, value] of Object.entries(others)) {
+    Object.defineProperty(object, name, { value, configurable: true, writable: true });
+  }
+  let isLater = false;
+  try {
+    const result = work();
+    isLater = result instanceof Promise;
+    return isLater ? result.finally(restore) : result;
+  } finally {
+    if (!isLater) restore();
+  }
+}
+
+/** The result of some work. Notes the states that it writes. The call of set or fill with this number throws. */
+export function noteStates(states, work, number = -1) {
+  let count = 0;
+  const noting = (builtIn) => function (...words) {
+    if (this.buffer.byteLength === SLAB) states.add(this);
+    if (count++ === number) throw new RangeError("no stack is left");
+    return Reflect.apply(builtIn, this, words);
+  };
+  const { fill, set } = Uint8Array.prototype;
+  return withOthers(Uint8Array.prototype, { fill: noting(fill), set: noting(set) }, work);
+}
+
+const folders = [];
+process.on("exit", () => folders.forEach((folder) => rmSync(folder, { recursive: true, force: true })));
+
 /** A folder that is removed when the process ends. */
 export function newFolder() {
-  const folder = mkdtempSync(join(tmpdir(), "vulfsjor-"));
-  process.on("exit", () => rmSync(folder, { recursive: true, force: true }));
-  return folder;
+  folders.push(mkdtempSync(join(tmpdir(), "vulfsjor-")));
+  return folders.at(-1);
 }
 
 let written = process.env.VULFSJOR_CONFORMANCE;

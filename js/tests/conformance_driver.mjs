@@ -13,8 +13,9 @@ const NAMES = {
 const REASONS = {
   ...NAMES, size: /digestLength|outputLength|: length must/, message: /message/, digests: /digests/, tag: /tag/,
   first: /first|below byte 2\^58/, left: /are left|: length must/, context: /context/,
-  state: /has ended|was wiped|already being read/,
+  state: /has ended, by digest, hex, verify, wipe or a failed call$|was wiped, or a call failed$|already being read$/,
 };
+const NO_KEY = /: this hash has no key, so that anybody can make the tag; compare digests with equal\(\)$/;
 // Calls that the package does not have: a case ends there.
 const ABSENT = /^(last|next|absorb) /;
 
@@ -104,7 +105,7 @@ class Driver {
   }
 
   of(slot) {
-    if (this.objects[slot] === undefined) throw new TypeError("no object: it was wiped");
+    if (this.objects[slot] === undefined) throw new TypeError("no object: it was wiped, or a call failed");
     return this.objects[slot];
   }
 
@@ -138,7 +139,7 @@ class Driver {
       return "yes";
     } catch (error) {
       if (error instanceof this.vulfsjor.InvalidTagError) return "no";
-      if (this.isKeyed[slot] || !/has no key/.test(error.message)) throw error;
+      if (this.isKeyed[slot] || !(error instanceof TypeError && NO_KEY.test(error.message))) throw error;
       return this.equal([hexOf(hash.digest()), tag]);
     }
   }

@@ -7,32 +7,31 @@ import { fileURLToPath } from "node:url";
 import { HUGE } from "./common.mjs";
 
 const program = fileURLToPath(new URL("keep_key.mjs", import.meta.url));
+const MOST = 2 ** 22;
 
-// How often any 8 bytes of the key, at a multiple of 8 of it, stand in what the process may write.
+// How often any 8 bytes of the key, at a multiple of 8 of it, are in what the process may write.
 function countPieces(pid, key) {
-  const pieces = [];
-  for (let at = 0; at < key.length; at += 8) pieces.push(key.subarray(at, at + 8));
+  const pieces = Array.from({ length: key.length / 8 }, (_, i) => key.subarray(8 * i, 8 * i + 8));
   const file = openSync(`/proc/${pid}/mem`);
-  const buffer = Buffer.alloc(2 ** 22);
+  const buffer = Buffer.alloc(MOST);
+  const countIn = (seen, piece) => {
+    let count = 0;
+    for (let at = seen.indexOf(piece); at >= 0; at = seen.indexOf(piece, at + 1)) count++;
+    return count;
+  };
   let count = 0;
-  for (const line of readFileSync(`/proc/${pid}/maps`, "latin1").split("\n")) {
-    const [, from, to, name] = /^(\w+)-(\w+) rw.. \S+ \S+ \S+\s*(.*)$/.exec(line) ?? [];
-    if (from === undefined || name === "[vvar]") continue;
-    for (let at = BigInt(`0x${from}`), end = BigInt(`0x${to}`); at < end; ) {
-      let length;
+  for (const [, from, to, name] of readFileSync(`/proc/${pid}/maps`, "latin1")
+    .matchAll(/^(\w+)-(\w+) rw.. \S+ \S+ \S+ *(.*)$/gm)) {
+    if (name === "[vvar]") continue;
+    for (let at = BigInt(`0x${from}`), end = BigInt(`0x${to}`), length; at < end; at += BigInt(length)) {
       try {
-        length = readSync(file, buffer, 0, Number(end - at < 2n ** 22n ? end - at : 2n ** 22n), at);
+        length = readSync(file, buffer, 0, Math.min(Number(end - at), MOST), at);
       } catch {
         break; // no memory behind it
       }
       if (length === 0) break;
       const seen = buffer.subarray(0, length);
-      for (const piece of pieces) {
-        for (let place = seen.indexOf(piece); place >= 0; place = seen.indexOf(piece, place + 1)) {
-          count++;
-        }
-      }
-      at += BigInt(length);
+      for (const piece of pieces) count += countIn(seen, piece);
     }
   }
   closeSync(file);
@@ -71,10 +70,8 @@ test("pieces of a key in the memory of the process", async (t) => {
   try {
     found = await piecesAfter("a key that is not forgotten");
   } catch (fault) {
-    if (fault.code === "EACCES" || fault.code === "EPERM") {
-      return t.skip("the memory of a child cannot be read");
-    }
-    throw fault;
+    if (!/^(EACCES|EPERM)$/.test(fault.code)) throw fault;
+    return t.skip("the memory of a child cannot be read");
   }
   assert.ok(found >= 8, `${found} pieces of a key that is there`);
   for (const form of FORMS) {

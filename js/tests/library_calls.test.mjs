@@ -1,47 +1,56 @@
-// The calls of the library that each function makes: how many messages or bytes each has, on which
-// speed depends, and what happens if one is refused.
+// The calls of the library that each function makes: how many messages or bytes each has, on which speed depends, and
+// what happens if one is refused.
 import assert from "node:assert/strict";
 import test from "node:test";
+import {
+  Blake2b, Blake2bp, Blake2s, Blake2sp, Blake2xb, TreeHash, blake2b, blake2bMany, blake2bp, blake2s, blake2sMany,
+  blake2sp, equal, treeLeaves, treeRoot, treeRootOfLeaves,
+} from "../index.js";
+import { BLAKE2B } from "../src/blake2b.js";
+import { BLAKE2S } from "../src/blake2s.js";
+import * as engine from "../src/engine.js";
+import { Hasher } from "../src/hashers.js";
+import { partOfPlan, planOf } from "../src/leaves.js";
+import * as whole from "../src/whole_module.js";
+import { assertClean, assertZeros, withOthers } from "./common.mjs";
 
-// Instances whose functions note their name and the arguments that say how much they are given.
 const calls = [];
 const passed = {}; // all arguments of the last call of a function
 let refused; // the name of a function that refuses
 let refusedIn; // the memory of the last that did
 const { Instance } = WebAssembly;
+const { WAITING } = engine;
 // The place of the argument that says how much a function is given.
 const placeOf = (name) => ({ memcmp: 1, tree_leaves: 5, tree_root_of_leaves: 3 })[name] ??
   (/_update$/.test(name) ? 2 : /_many$/.test(name) ? 4 : /^blake2[bs]p?$/.test(name) ? 3 : undefined);
 const PLANS = /tree_(plan|part)$/; // not noted
-WebAssembly.Instance = class {
+
+// Instances whose functions note their name and the argument that says how much they are given.
+class Noting {
   constructor(...words) {
     const { exports } = new Instance(...words);
-    this.exports = Object.fromEntries(
-      Object.entries(exports).map(([name, value]) => {
-        if (typeof value !== "function" || PLANS.test(name)) return [name, value];
-        return [name, (...given) => {
-          const called = name.replace("vulfsjor_ffi_", "");
-          const amount = given[placeOf(called)] ?? "";
-          calls.push(`${called} ${amount}`.trim());
-          passed[called] = given;
-          if (called !== refused) return value(...given);
-          refusedIn = exports.memory.buffer;
-          return -1;
-        }];
-      }));
+    this.exports = Object.fromEntries(Object.entries(exports).map(([name, value]) => {
+      if (typeof value !== "function" || PLANS.test(name)) return [name, value];
+      return [name, (...given) => {
+        const called = name.replace("vulfsjor_ffi_", "");
+        calls.push(`${called} ${given[placeOf(called)] ?? ""}`.trim());
+        passed[called] = given;
+        if (called !== refused) return value(...given);
+        refusedIn = exports.memory.buffer;
+        return -1;
+      }];
+    }));
   }
-};
-const {
-  Blake2b, Blake2bp, Blake2s, Blake2sp, Blake2xb, TreeHash, blake2b, blake2bMany, blake2bp,
-  blake2s, blake2sMany, blake2sp, equal, treeLeaves, treeRoot, treeRootOfLeaves,
-} = await import("../index.js");
-const engine = await import("../src/engine.js");
-const { BLAKE2B } = await import("../src/blake2b.js");
-const { Hasher } = await import("../src/hashers.js");
-const { partOfPlan, planOf } = await import("../src/leaves.js");
-const whole = await import("../src/whole_module.js");
-const { assertClean, assertZeros } = await import("./common.mjs");
-const { WAITING } = engine;
+}
+
+// A test of modules that are new, and of which nothing is left.
+const testCalls = (name, work) => test(name, (t) => {
+  const renew = () => [BLAKE2B, BLAKE2S, whole.TREE].forEach(({ module }) =>
+    Object.assign(module, { current: undefined, initial: Object.create(null) }));
+  t.after(renew);
+  renew();
+  return withOthers(WebAssembly, { Instance: Noting }, work);
+});
 
 const PIECE = 65536;
 const WINDOW = 8 * 65536 - 8192;
@@ -51,6 +60,16 @@ const part = (length) => message.subarray(0, length);
 const updates = (name, length) => [
   ...Array(Math.floor(length / PIECE)).fill(`${name}_update ${PIECE}`), `${name}_update ${length % PIECE}`];
 
+// Some work in which a function of the library refuses.
+function whileRefused(name, work) {
+  refused = name;
+  try {
+    work();
+  } finally {
+    refused = undefined;
+  }
+}
+
 // Asserts the calls of some work.
 function assertCalls(work, ...wanted) {
   calls.length = 0;
@@ -58,7 +77,7 @@ function assertCalls(work, ...wanted) {
   assert.deepEqual(calls, wanted);
 }
 
-test("a message is one call, or updates by pieces", () => {
+testCalls("a message is one call, or updates by pieces", () => {
   assertCalls(() => blake2b(part(PIECE)), `blake2b ${PIECE}`);
   assertCalls(() => blake2s(part(3), { key: part(1) }), "blake2s 3");
   assertCalls(() => blake2s(part(PIECE + 1)),
@@ -74,13 +93,13 @@ test("a message is one call, or updates by pieces", () => {
     "blake2sp_init_salt_personal", "blake2sp_update 3", "blake2sp_final");
 });
 
-test("a tree takes the whole window at a time", () => {
+testCalls("a tree takes the whole window at a time", () => {
   assertCalls(() => treeRoot(part(WINDOW), { leafLength: 5 }), "tree_init", `tree_update ${WINDOW}`, "tree_final");
   assertCalls(() => treeRoot(part(WINDOW + 1), { leafLength: 5 }),
     "tree_init", `tree_update ${WINDOW}`, "tree_update 1", "tree_final");
 });
 
-test("several messages are passed in whole groups that fill window and records", () => {
+testCalls("several messages are passed in whole groups that fill window and records", () => {
   const several = (count, length) => Array.from({ length: count }, () => part(length));
   assertCalls(() => blake2bMany(several(200, 10)),...[64, 64, 64, 8].map((count) => `blake2b_many ${count}`));
   assertCalls(() => blake2sMany(several(65, 0)), "blake2s_many 64", "blake2s_many 1");
@@ -92,7 +111,7 @@ test("several messages are passed in whole groups that fill window and records",
     "blake2b_init_salt_personal", ...updates("blake2b", WINDOW + 1), "blake2b_final", "blake2b_many 1");
 });
 
-test("leaves are passed as many as fit into the window with their digests", () => {
+testCalls("leaves are passed as many as fit into the window with their digests", () => {
   const leaves = (length, leafLength) =>
     treeLeaves(part(length), { leafLength, first: 0, ends: true });
   const most = Math.floor(WINDOW / (100 + 64) / 4) * 4 * 100; // whole groups
@@ -105,7 +124,7 @@ test("leaves are passed as many as fit into the window with their digests", () =
   assertCalls(() => root(WINDOW + 64), "tree_init_root", ...updates("blake2b", WINDOW + 64), "blake2b_final");
 });
 
-test("equal compares halves of the window", () => {
+testCalls("equal compares halves of the window", () => {
   const both = (length) => equal(part(length), message.slice(0, length));
   assertCalls(() => both(0));
   assertCalls(() => both(WINDOW / 2), `memcmp ${WINDOW / 2}`);
@@ -121,7 +140,7 @@ test("equal compares halves of the window", () => {
   assert.equal(both(WINDOW + 1), true);
 });
 
-test("short updates wait, and make no call", () => {
+testCalls("short updates wait, and make no call", () => {
   const hash = new Blake2b();
   assertCalls(() => hash.update(part(WAITING - 1)).update(part(0)).update(part(1)));
   assertCalls(() => hash.copy().update(part(1)), `blake2b_update ${WAITING + 1}`);
@@ -139,7 +158,7 @@ test("short updates wait, and make no call", () => {
     "blake2xb_init_salt_personal", "blake2xb_update 3", "blake2xb_update 4");
 });
 
-test("what waits is never refused, and what may be refused does not wait", () => {
+testCalls("what waits is never refused, and what may be refused does not wait", () => {
   // all families refuse messages of 2^58 bytes and more
   assert.equal(BLAKE2B.certainBelow, 2 ** 53);
   for (const kind of Object.values(whole)) {
@@ -151,79 +170,49 @@ test("what waits is never refused, and what may be refused does not wait", () =>
   assertCalls(() => run.update(part(600)), "blake2b_update 1090");
   assertCalls(() => run.update(part(1)), "blake2b_update 1"); // now each is a call
   assertCalls(() => run.update(part(0)), "blake2b_update 0");
-  refused = "blake2b_update";
-  assert.throws(() => run.update(part(1)),
-    { name: "RangeError", message: "Blake2b.update: the message is too long" });
-  assert.throws(() => run.copy().update(part(1)), { name: "RangeError" });
-  refused = undefined;
+  for (const each of [run, run.copy()]) {
+    whileRefused("blake2b_update", () => assert.throws(() => each.update(part(1)),
+      { name: "RangeError", message: "Blake2b.update: the message is too long" }));
+  }
   assertCalls(() => run.copy().digest(), "blake2b_final");
   assert.equal(run.copy().hex(), new Blake2b().update(part(2601)).hex());
   assertCalls(() => run.reset().update(part(1)), "blake2b_reset");
 });
 
-test("what the library refuses is an error, and the memory is given up", () => {
+testCalls("what the library refuses is an error, and the memory is given up", () => {
   const tree = { leafLength: 5 };
   const some = part(3);
   for (const [name, work, message = "vulfsjor: the library refused a call"] of [
-    ["blake2b", () => blake2b(some)],
+    ["blake2b", () => blake2b(some)], ["blake2bp", () => blake2bp(some)],
     ["blake2s_init_salt_personal", () => new Blake2s({ salt: some })],
-    ["blake2bp_init_salt_personal", () => new Blake2bp()],
+    ["blake2bp_init_salt_personal", () => new Blake2bp()], ["blake2sp_init_salt_personal", () => new Blake2sp()],
     ["blake2b_init_tree", () => blake2b(some, { tree: {} })],
     ["blake2b_set_last_node", () => blake2b(some, { tree: { lastNode: true } })],
-    ["blake2b_final", () => new Blake2b().digest()],
-    ["blake2s_reset", () => new Blake2s().reset()],
-    ["blake2b_many", () => blake2bMany([some])],
-    ["tree_init", () => new TreeHash(tree)],
+    ["blake2b_final", () => new Blake2b().digest()], ["blake2bp_final", () => new Blake2bp().digest()],
+    ["blake2s_reset", () => new Blake2s().reset()], ["blake2sp_reset", () => new Blake2sp().reset()],
+    ["blake2b_many", () => blake2bMany([some])], ["tree_init", () => new TreeHash(tree)],
     ["tree_final", () => new TreeHash(tree).verify(new Uint8Array(64))],
-    ["tree_final", () => new TreeHash(tree).digest()],
+    ["tree_final", () => new TreeHash(tree).digest()], ["blake2xb_squeeze", () => new Blake2xb().read(1)],
     ["tree_leaves", () => treeLeaves(some, { ...tree, first: 0, ends: true })],
     ["tree_root_of_leaves", () => treeRootOfLeaves(part(64), tree)],
     ["tree_init_root", () => treeRootOfLeaves(part(WINDOW + 64), tree)],
-    ["blake2bp", () => blake2bp(some)],
-    ["blake2sp_init_salt_personal", () => new Blake2sp()],
-    ["blake2bp_final", () => new Blake2bp().digest()],
-    ["blake2sp_reset", () => new Blake2sp().reset()],
     ["blake2sp_update", () => blake2sp(part(PIECE + 1)), "vulfsjor: the message is too long"],
     ["blake2b_update", () => blake2b(part(PIECE + 1)), "vulfsjor: the message is too long"],
   ]) {
-    refused = name;
     refusedIn = undefined;
-    assert.throws(work, { name: "Error", message }, name);
-    refused = undefined;
+    whileRefused(name, () => assert.throws(work, { name: "Error", message }, name));
     assertZeros(new Uint8Array(refusedIn), name);
     assert.ok(engine.memories().every(({ buffer }) => buffer !== refusedIn), name);
   }
 });
 
-test("an output ends with a call that fails, so that none of it is left out", () => {
-  const output = new Blake2xb();
-  refused = "blake2xb_squeeze";
-  assert.throws(() => output.read(1), { message: "vulfsjor: the library refused a call" });
-  refused = undefined;
-  const ended = { message: "Blake2xb.read: this output was wiped, or a call failed" };
-  assert.throws(() => output.read(1), ended);
-  // an update that throws: its message may be absorbed or not
-  const other = new Blake2xb();
-  const { set } = Uint8Array.prototype;
-  Uint8Array.prototype.set = () => { throw new RangeError("no stack is left"); };
-  try {
-    assert.throws(() => other.update(part(3)), /no stack is left/);
-  } finally {
-    Uint8Array.prototype.set = set;
-  }
-  assert.throws(() => other.read(1), ended);
-  assert.throws(() => other.update(part(3)), /was wiped, or a call failed/);
-});
-
-test("an update that is too long changes nothing", () => {
+testCalls("an update that is too long changes nothing", () => {
   for (const Hasher of [Blake2b, Blake2bp, Blake2sp]) {
     const wanted = new Hasher().update(part(3)).hex();
     for (const length of [WAITING - 2, PIECE + 1, 2 * PIECE]) {
       const run = new Hasher().update(part(3));
-      refused = `${Hasher.name.toLowerCase()}_update`;
-      assert.throws(() => run.update(part(length)),
-        { name: "RangeError", message: `${Hasher.name}.update: the message is too long` });
-      refused = undefined;
+      whileRefused(`${Hasher.name.toLowerCase()}_update`, () => assert.throws(() => run.update(part(length)),
+        { name: "RangeError", message: `${Hasher.name}.update: the message is too long` }));
       assertClean();
       assert.equal(run.hex(), wanted);
     }
@@ -254,7 +243,7 @@ test("an update that is too long changes nothing", () => {
   }
 });
 
-test("states have the library's sizes", () => {
+testCalls("states have the library's sizes", () => {
   const { exports } = new Instance(whole.moduleOf(), {});
   const sizeOf = (name) => Number(exports[`vulfsjor_ffi_${name}_state_size`]());
   const kinds = Object.values(whole).filter(({ stateLength }) => stateLength !== undefined);
@@ -262,30 +251,7 @@ test("states have the library's sizes", () => {
   for (const { name, stateLength } of kinds) assert.equal(stateLength, sizeOf(name), name);
 });
 
-test("digest and verify set the state to zero, and what was absorbed or reset waits no longer", () => {
-  const options = { digestLength: 32, key: part(5), salt: part(0), personalization: part(0) };
-  for (const kind of [BLAKE2B, whole.BLAKE2BP, whole.BLAKE2SP]) {
-    const waits = (state) => state.subarray(kind.stateLength);
-    const all = (state) => state;
-    for (const [left, waiting, work] of [
-      ...[0, 9, WAITING].flatMap((waiting) => [
-        [all, waiting, (state) => engine.final(kind, state, waiting, 32)],
-        [all, waiting, (state) => engine.verify(kind, state, waiting, 32, part(32))],
-      ]),
-      [waits, WAITING, (state) => assert.equal(engine.update(kind, state, WAITING, part(1)), true)],
-      [waits, WAITING, (state) => assert.equal(engine.update(kind, state, WAITING, part(2 * PIECE)), true)],
-      [waits, WAITING, (state) => engine.reset(kind, state)],
-    ]) {
-      const state = engine.begin(kind, options);
-      state.fill(7, kind.stateLength, kind.stateLength + waiting);
-      work(state);
-      assertZeros(left(state), `${kind.name} ${work}`);
-      assertClean();
-    }
-  }
-});
-
-test("plans of ranges leave nothing in the memory", () => {
+testCalls("plans of ranges leave nothing in the memory", () => {
   const plan = planOf(10_000, 7, 100, 1000);
   assert.ok(plan.count > 1);
   assertClean("planOf");
@@ -293,26 +259,20 @@ test("plans of ranges leave nothing in the memory", () => {
   assertClean("partOfPlan");
 });
 
-test("a memory that could not be wiped is wiped before the next call", () => {
+testCalls("a memory that could not be wiped is wiped before the next call", () => {
   const key = new Uint8Array(9).fill(7);
   blake2b(key);
   const { bytes } = BLAKE2B.module.current;
-  const { fill } = Uint8Array.prototype;
-  Uint8Array.prototype.fill = () => { throw new RangeError("no stack is left"); };
-  refused = "blake2b";
-  try {
-    assert.throws(() => blake2b(key, { key }), /no stack is left/);
-  } finally {
-    Uint8Array.prototype.fill = fill;
-    refused = undefined;
-  }
+  const fill = () => { throw new RangeError("no stack is left"); };
+  withOthers(Uint8Array.prototype, { fill }, () => whileRefused("blake2b", () =>
+    assert.throws(() => blake2b(key, { key }), /no stack is left/)));
   assert.ok(bytes.includes(7));
   blake2b(key);
   assert.notEqual(BLAKE2B.module.current.bytes, bytes);
-  assert.ok(bytes.every((byte) => byte === 0));
+  assertZeros(bytes, "the memory of before");
 });
 
-test("the places of state and arguments do not overlap", () => {
+testCalls("the places of state and arguments do not overlap", () => {
   new Blake2b({ key: part(64), salt: part(16), personalization: part(16), tree: {} })
     .update(part(WAITING + 1)).digest();
   assert.throws(() => new Blake2b({ key: part(64) }).verify(part(64)), { name: "InvalidTagError" });

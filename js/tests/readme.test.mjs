@@ -1,11 +1,10 @@
-// The pages: each example prints what the comments after its lines say, and the numbers are those
-// of the code.
+// The pages: each example prints what the comments after its lines say, and names and numbers are those of the code.
 import assert from "node:assert/strict";
 import { readFileSync } from "node:fs";
 import test from "node:test";
-import { fileURLToPath } from "node:url";
+import { format } from "node:util";
 import { callRow, hashRow, rootRow } from "../../bench/javascript.mjs";
-import { blake2b } from "../index.js";
+import * as vulfsjor from "../index.js";
 import { BLAKE2B } from "../src/blake2b.js";
 import { BLAKE2S } from "../src/blake2s.js";
 import { SLAB, WAITING, memories } from "../src/engine.js";
@@ -13,24 +12,27 @@ import { LEAF_DIGEST } from "../src/leaves.js";
 import { MOST_THREADS } from "../src/platform.js";
 import { LONGEST_LEAF } from "../src/threads.js";
 import { BLAKE2BP, BLAKE2SP, TREE } from "../src/whole_module.js";
-import { printedBy } from "./common.mjs";
+import { INDEX, withOthers } from "./common.mjs";
 
-const cwd = fileURLToPath(new URL("..", import.meta.url));
 const read = (path) => readFileSync(new URL(path, import.meta.url), "utf8");
 
 for (const [page, count] of [["js/README.md", 7], ["README.md", 1]]) {
-  test(`each example of ${page} runs alone`, () => {
+  test(`each example of ${page} runs alone`, async () => {
     const blocks = [...read(`../../${page}`).matchAll(/```js\n([^`]*)```/g)];
     assert.equal(blocks.length, count);
     for (const [, block] of blocks) {
       const wanted = [...block.matchAll(/; \/\/ (.*)$/gm)].map(([, line]) => line);
       assert.ok(wanted.length > 0, block);
-      assert.deepEqual(printedBy(block, { cwd }).trim().split("\n"), wanted);
+      const printed = [];
+      const program = encodeURIComponent(block.replace('"vulfsjor"', INDEX));
+      await withOthers(console, { log: (...words) => printed.push(format(...words)) }, () =>
+        import(`data:text/javascript,${program}`));
+      assert.deepEqual(printed, wanted);
     }
   });
 }
 
-test("the numbers in index.d.ts and README.md are those of the code", () => {
+test("the names and numbers in index.d.ts and README.md are those of the code", () => {
   const [b, s] = [BLAKE2B, BLAKE2S];
   const power = (max) => `2^${max.toString(2).length}`;
   const numeral = { 4: "Four", 8: "Eight" };
@@ -39,7 +41,9 @@ test("the numbers in index.d.ts and README.md are those of the code", () => {
       assert.equal(parallel[what], plain[what]);
     }
   }
-  blake2b(new Uint8Array(0)); // so that there is a memory
+  vulfsjor.blake2b(new Uint8Array(0)); // so that there is a memory
+  const declared = read("../index.d.ts").matchAll(/^export (?:class|function) (\w+)/gm);
+  assert.deepEqual(Object.keys(vulfsjor).sort(), [...declared].map(([, name]) => name).sort());
   const types = read("../index.d.ts").replace(/\s+(\* )?/g, " ");
   const page = read("../README.md").replace(/\s+/g, " ");
   for (const [text, part, count] of [

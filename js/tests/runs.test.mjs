@@ -1,117 +1,105 @@
-// What ends a run, the texts of what is refused then, and what stays in memory. The digests of pieces,
-// copies and resets are in conformance.test.mjs.
+// What ends a run, the texts of what is refused then, and what stays in memory. The digests of pieces, copies and
+// resets are in conformance.test.mjs.
 import assert from "node:assert/strict";
 import { createHash } from "node:crypto";
 import test from "node:test";
+import { inspect } from "node:util";
 import v8 from "node:v8";
 import vm from "node:vm";
-import {
-  Blake2b, Blake2bp, Blake2s, Blake2sp, Blake2xb, InvalidTagError, TreeHash, blake2b, blake2bMany,
-  blake2bp, equal, load, treeRoot, utf8,
-} from "../index.js";
+import * as vulfsjor from "../index.js";
 import { BLAKE2B } from "../src/blake2b.js";
 import { SLAB, memories } from "../src/engine.js";
 import { BLAKE2XB } from "../src/whole_module.js";
-import { assertClean, assertZeros, HUGE, hexOf, INDEX, printedBy } from "./common.mjs";
+import { assertClean, assertZeros, hexOf, INDEX, noteStates, printedBy, withOthers } from "./common.mjs";
 
+const {
+  Blake2b, Blake2bp, Blake2s, Blake2sp, Blake2xb, Blake2xs, InvalidTagError, TreeHash, blake2b, blake2bMany, blake2bp,
+  deriveKey, equal, hex, load, treeRoot, utf8,
+} = vulfsjor;
 const M = utf8("message");
-const KEY = new Uint8Array(32).fill(0xa5);
+const KEY = new Uint8Array(32).fill(7);
+const LONG = new Uint8Array(3000); // which does not wait
+const DISPOSE = Symbol.dispose ?? Symbol.for("Symbol.dispose");
 const HASHERS = [
   [Blake2b, {}], [Blake2b, { key: KEY, salt: M, personalization: M, digestLength: 20 }],
-  [Blake2s, {}], [Blake2s, { key: KEY, tree: { lastNode: true, fanout: 2, depth: 2 } }],
-  [Blake2bp, {}], [Blake2bp, { key: KEY, salt: M, personalization: M, digestLength: 20 }],
-  [Blake2sp, {}], [Blake2sp, { key: KEY, salt: M, personalization: M }],
-  [TreeHash, { leafLength: 5, salt: M }],
+  [Blake2s, { key: KEY, tree: { lastNode: true, fanout: 2, depth: 2 } }], [Blake2bp, { digestLength: 20 }],
+  [Blake2sp, { key: KEY, salt: M, personalization: M }], [TreeHash, { leafLength: 5, salt: M }],
 ];
-const isSmall = (Hasher) => Hasher === Blake2s || Hasher === Blake2sp;
+const OUTPUTS = [[Blake2xb, { key: KEY }], [Blake2xs, {}]];
+const isSmall = (Hash) => /2x?s/.test(Hash.name);
 
 test("a run that has ended refuses all but wipe", () => {
-  for (const [Hasher, options] of HASHERS) {
-    const ends = [
-      (run) => run.digest(), (run) => run.hex(), (run) => run.wipe(),
-      (run) => run[Symbol.dispose ?? Symbol.for("Symbol.dispose")](),
-    ];
-    if ("key" in options || Hasher === TreeHash) {
-      ends.push((run) => assert.throws(() => run.verify(new Uint8Array(1)), InvalidTagError));
-    }
-    for (const end of ends) {
-      const run = new Hasher(options).update(M);
-      end(run);
-      for (const [call, ...words] of [["update", M], ["digest"], ["hex"], ["verify", M], ["copy"], ["reset"]]) {
-        assert.throws(() => run[call](...words), {
-          name: "TypeError",
-          message: `${Hasher.name}.${call}: this hash has ended, by digest, hex, verify, wipe or a failed call`,
-        });
+  for (const [Hash, options] of [...HASHERS, ...OUTPUTS]) {
+    const isOutput = "read" in Hash.prototype;
+    for (const end of ["wipe", DISPOSE, ...(isOutput ? [] : ["hex", "digest"])]) {
+      const run = new Hash(options).update(M);
+      run[end]();
+      for (const [call, ...words] of [["update", M], ["copy"],
+        ...(isOutput ? [["read", 1]] : [["digest"], ["hex"], ["verify", M], ["reset"]])]) {
+        assert.throws(() => run[call](...words), { name: "TypeError", message: `${Hash.name}.${call}: this ` + (isOutput
+          ? "output was wiped, or a call failed" : "hash has ended, by digest, hex, verify, wipe or a failed call") });
       }
       run.wipe();
-      assert.equal(run.digestLength, options.digestLength ?? (isSmall(Hasher) ? 32 : 64));
-      assert.equal(run.blockLength, isSmall(Hasher) ? 64 : 128);
+      assert.equal(run.blockLength, isSmall(Hash) ? 64 : 128);
+      if (isOutput) assert.throws(() => run.left, { message: /: this output was wiped, or a call failed$/ });
+      else assert.equal(run.digestLength, options.digestLength ?? (isSmall(Hash) ? 32 : 64));
     }
   }
 });
 
-test("a refused call leaves the run as it was", () => {
-  for (const [Hasher, options] of HASHERS) {
-    const run = new Hasher(options).update(M);
-    for (const [call, ...words] of [["update", "text"], ["update", M, M], ["digest", "hex"], ["verify", "text"]]) {
-      assert.throws(() => run[call](...words), TypeError);
+test("a check whose result is dropped stops the program, and is not true", () => {
+  for (const [Hash, options] of HASHERS.filter(([, options]) => options.key || options.leafLength)) {
+    const accept = (body, tag) => {
+      new Hash(options).update(body).verify(tag);
+      return body;
+    };
+    const tag = new Hash(options).update(M).digest();
+    assert.equal(accept(M, tag), M);
+    assert.equal(new Hash(options).update(M).verify(tag), undefined);
+    for (const wrong of [tag.subarray(0, 16), new Uint8Array(0), KEY]) {
+      assert.throws(() => accept(M, wrong), InvalidTagError);
     }
-    assert.equal(run.hex(), new Hasher(options).update(M).hex());
+    const message = `${Hash.name}.verify: the tag is wrong`;
+    assert.throws(() => accept(KEY, tag), { name: "InvalidTagError", message });
+    for (const wrong of [undefined, hex(tag)]) assert.throws(() => accept(M, wrong), TypeError);
   }
 });
 
-test("nothing is left in the library's memory after a call, however long its message is", () => {
-  for (const [Hasher, options] of HASHERS.filter((_, i) => i % 2 > 0 || i > 7)) {
-    const run = new Hasher(options);
+test("nothing is left in the library's memory after a call, however long its message or output is", () => {
+  for (const [Hash, options] of [...HASHERS, ...OUTPUTS]) {
+    const run = new Hash(options);
     for (const length of [513, 65537, 600000]) {
       run.update(new Uint8Array(length).fill(0x5a));
       assertClean(`update of ${length}`);
-      run.copy().digest();
-      assertClean("digest");
-      assert.throws(() => run.copy().verify(M), InvalidTagError);
-      assertClean("verify");
+      const copy = run.copy();
+      if ("read" in run) {
+        const whole = copy.copy().read(130_000);
+        assertClean("read");
+        assert.equal(hex(Buffer.concat([65537, 64463].map((count) => copy.read(count)))), hex(whole));
+        assert.equal(copy.left, (Hash === Blake2xb ? 2n ** 38n : 2n ** 37n) - 130_000n);
+      } else {
+        copy.digest();
+        assertClean("digest");
+        if (options.key || options.leafLength) assert.throws(() => run.copy().verify(M), InvalidTagError);
+      }
+      assertClean(Hash.name);
     }
-    run.reset();
+    run.reset?.();
     assertClean("reset");
   }
-});
-
-test("a subclass keeps its class in a copy", () => {
-  class Mine extends Blake2b {
-    constructor() {
-      super({ digestLength: 16 });
-    }
-  }
-  const copy = new Mine().update(M).copy();
-  assert.ok(copy instanceof Mine);
-  assert.equal(copy.hex(), new Blake2b({ digestLength: 16 }).update(M).hex());
-});
-
-test("the memory does not grow with messages or with runs", () => {
-  const sizes = () => new Set(memories().map((bytes) => bytes.length));
-  const before = sizes();
-  const runs = Array.from({ length: 3000 }, () => new Blake2b({ key: KEY }).update(M));
-  blake2b(new Uint8Array(2 ** 22));
-  treeRoot(new Uint8Array(2 ** 22), { leafLength: 2 ** 20 });
-  blake2bMany(Array.from({ length: 1000 }, () => new Uint8Array(3000)));
-  assert.deepEqual(sizes(), before);
-  assert.equal(new Set(runs.map((run) => run.hex())).size, 1);
-  assertClean();
 });
 
 test("a method without its object says so", () => {
   const hash = new Blake2b({ key: KEY });
   const output = new Blake2xb({ key: KEY });
-  const dispose = Symbol.dispose ?? Symbol.for("Symbol.dispose");
   for (const [what, object, methods, getters] of [
     ["hash", hash, ["update", "digest", "hex", "verify", "copy", "reset", "wipe"], ["digestLength", "blockLength"]],
     ["output", output, ["update", "read", "copy", "wipe"], ["left", "blockLength"]],
   ]) {
     const { prototype } = Object.getPrototypeOf(object.constructor);
-    const getterOf = (name) => Object.getOwnPropertyDescriptor(prototype, name).get;
     for (const [name, call] of [
-      ...methods.map((name) => [name, object[name]]), ["wipe", object[dispose]],
-      ...getters.map((name) => [name, getterOf(name)]),
+      ...methods.map((name) => [name, object[name]]), ["wipe", object[DISPOSE]],
+      ...getters.map((name) => [name, Object.getOwnPropertyDescriptor(prototype, name).get]),
     ]) {
       for (const other of [undefined, null, 5, "hash", {}, M, what === "hash" ? output : hash]) {
         assert.throws(() => Reflect.apply(call, other, [M]), {
@@ -119,55 +107,54 @@ test("a method without its object says so", () => {
         });
       }
     }
-    object.wipe();
   }
 });
 
-// Fills the stack of JavaScript, and calls at each depth on the way back, until some calls in a row
-// have found enough of it left. Returns how many did not.
-function callOnFullStack(call) {
-  let refused = 0;
-  let passed = 0;
-  const dive = () => {
-    try {
-      dive();
-    } catch {
-      // full
+test("what shows or copies a hash has neither its key nor its calls", () => {
+  for (const [Hash, options] of [...HASHERS, ...OUTPUTS].filter(([, options]) => options.key)) {
+    const lost = "read" in Hash.prototype ? "read" : "verify";
+    const hash = new Hash(options).update(M);
+    assert.deepEqual(Reflect.ownKeys(hash), []);
+    assert.equal(JSON.stringify(hash), "{}");
+    assert.doesNotMatch(inspect(hash, { showHidden: true, depth: 9, getters: true }), /7, 7|0707/);
+    assert.equal(String(hash), "[object Object]");
+    for (const copy of [{ ...hash }, structuredClone(hash)]) assert.equal(copy[lost], undefined);
+    const likeIt = Object.assign(Object.create(Hash.prototype), hash);
+    for (const copy of [likeIt, Object.create(hash), new Proxy(hash, {})]) {
+      assert.throws(() => copy[lost](M), /called without its (hash|output)/);
     }
-    if (passed >= 3) return;
-    try {
-      call();
-      passed++;
-    } catch (fault) {
-      assert.ok(fault instanceof RangeError, String(fault));
-      refused++;
-      passed = 0;
-      throw fault;
+    for (const wrong of [KEY, [...KEY], hex(KEY), { key: [...KEY] }, { key: hex(KEY) }, { salt: KEY }]) {
+      assert.throws(() => new Hash(wrong), ({ message }) => !/7, ?7|0707/.test(message));
     }
-  };
-  // frames before it shift the places where calls are cut
-  const shift = (count) => (count === 0 ? dive() : shift(count - 1));
-  for (let count = 0; count < (HUGE ? 16 : 2); count++) {
-    passed = 0;
-    shift(count);
   }
-  return refused;
-}
+});
 
 test("a stack that is full ends a call, and not the library", () => {
   const wanted = createHash("blake2b512").update(M).digest("hex");
-  const long = new Uint8Array(100000);
-  const calls = [
-    () => blake2b(M), () => new Blake2b({ key: KEY }).update(M).digest(), () => equal(M, M),
-    () => treeRoot(long, { leafLength: 999 }), () => blake2bMany([M, M, M, M, long]),
-    () => blake2bp(M), () => new Blake2sp({ key: KEY }).update(long).digest(),
-  ];
   const seen = new Set();
-  for (const call of calls) {
-    assert.ok(callOnFullStack(() => {
+  for (const call of [
+    () => blake2b(M), () => new Blake2b({ key: KEY }).update(M).digest(), () => equal(M, M),
+    () => treeRoot(LONG, { leafLength: 99 }), () => blake2bMany([M, M, M, M, LONG]),
+    () => blake2bp(M), () => new Blake2sp({ key: KEY }).update(LONG).digest(),
+  ]) {
+    // calls at each depth of a full stack on the way back, until three have found enough of it left
+    let [refused, passed] = [0, 0];
+    const dive = () => {
+      try {
+        dive();
+      } catch (fault) {
+        if (!(fault instanceof RangeError)) throw fault;
+        refused++;
+      }
+      if (passed >= 3) return;
       memories().forEach((bytes) => seen.add(bytes));
       call();
-    }) > 10);
+      passed++;
+    };
+    // frames before it shift the places where calls are cut, until enough memories were given up
+    const shift = (count) => (count === 0 ? dive() : shift(count - 1));
+    for (let count = 0; count < (seen.size > 3 ? 1 : 16); count++, passed = 0) shift(count);
+    assert.ok(refused > 10, `${refused}`);
     assert.equal(hexOf(blake2b(M)), wanted);
     assertClean();
   }
@@ -176,66 +163,23 @@ test("a stack that is full ends a call, and not the library", () => {
   for (const bytes of seen) assertZeros(bytes, "a memory that was given up");
 });
 
-test("a run that failed on a full stack returns no digest, or that of before", () => {
-  const long = new Uint8Array(3000); // which does not wait
-  const begun = () => new Blake2b({ key: KEY }).update(M);
-  const before = begun().hex();
-  const after = begun().update(long).hex();
-  const ready = Array.from({ length: 5000 }, begun);
-  const done = [];
-  const failed = [];
-  callOnFullStack(() => {
-    const mine = ready.pop();
-    try {
-      mine.update(long);
-    } catch (fault) {
-      failed.push(mine);
-      throw fault;
-    }
-    done.push(mine);
-  });
-  let ended = 0;
-  for (const each of failed) {
-    try {
-      assert.equal(each.copy().hex(), before);
-    } catch (fault) {
-      assert.equal(
-        fault.message,
-        "Blake2b.copy: this hash has ended, by digest, hex, verify, wipe or a failed call");
-      ended++;
-    }
-  }
-  assert.ok(done.length > 0 && ended > 0, `${ended} of ${failed.length} ended, ${done.length} done`);
-});
-
-// Runs some work in which the call of fill or set with this number throws, and notes the states that
-// they touch. Returns whether it has thrown.
-function failAt(number, states, work) {
-  const { fill, set } = Uint8Array.prototype;
-  let count = 0;
-  const failing = (builtIn) => function (...words) {
-    if (this.buffer.byteLength === SLAB) states.add(this);
-    if (count++ === number) throw new RangeError("no stack is left");
-    return Reflect.apply(builtIn, this, words);
-  };
-  Object.assign(Uint8Array.prototype, { fill: failing(fill), set: failing(set) });
+// Whether some work fails in which the call of fill or set with this number throws.
+function failsAt(number, states, work) {
   try {
-    work();
+    noteStates(states, work, number);
     return false;
   } catch (fault) {
     if (fault.message === "no stack is left") return true;
     throw fault;
-  } finally {
-    Object.assign(Uint8Array.prototype, { fill, set });
   }
 }
 
+const isState = (bytes) => bytes.some((byte) => byte !== 0);
+
 test("a call that fails anywhere ends its object, and wipe reaches what it has left", () => {
-  const key = KEY;
-  const long = new Uint8Array(3000);
-  const hash = () => new Blake2b({ key }).update(M);
-  const tree = () => new TreeHash({ leafLength: 5 }).update(long).update(M);
-  const output = () => new Blake2xb({ key }).update(M);
+  const hash = () => new Blake2b({ key: KEY }).update(M);
+  const tree = () => new TreeHash({ leafLength: 5 }).update(LONG).update(M);
+  const output = () => new Blake2xb({ key: KEY }).update(M);
   const verify = (run) => {
     try {
       run.verify(new Uint8Array(64));
@@ -243,47 +187,57 @@ test("a call that fails anywhere ends its object, and wipe reaches what it has l
       if (!(fault instanceof InvalidTagError)) throw fault;
     }
   };
-  for (const [make, work, least] of [
-    [hash, (run) => run.update(long), 4], [hash, (run) => run.reset(), 4],
-    [hash, (run) => run.digest(), 4], [hash, (run) => run.hex(), 4], [hash, verify, 4],
-    [tree, (run) => run.update(long), 4], [tree, (run) => run.reset(), 4], [tree, verify, 4],
-    [output, (run) => run.update(M), 4], [output, (run) => run.read(9), 4],
+  for (const [make, work] of [
+    [hash, (run) => run.update(LONG)], [hash, (run) => run.reset()], [hash, (run) => run.digest()],
+    [hash, (run) => run.hex()], [hash, verify], [tree, (run) => run.update(LONG)], [tree, (run) => run.reset()],
+    [tree, verify], [output, (run) => run.update(M)], [output, (run) => run.read(9)],
   ]) {
     let count = 0;
     for (let hasFailed = true; hasFailed; count++) {
       const states = new Set();
-      let run;
-      failAt(-1, states, () => { run = make(); });
-      hasFailed = failAt(count, states, () => work(run));
+      const run = noteStates(states, make);
+      hasFailed = failsAt(count, states, () => work(run));
       if (hasFailed) {
-        assert.throws(() => run.copy(), /has ended, by|was wiped, or a call failed/, String(work));
+        for (const call of ["copy", "update"]) {
+          assert.throws(() => run[call](M), /too many|has ended, by|was wiped, or a call failed/, String(work));
+        }
       }
-      run.wipe();
-      const isState = (bytes) => bytes.some((byte) => byte !== 0);
+      const isOpen = !hasFailed && /update|reset|read/.test(work);
+      if (isOpen && make === hash) { // what was absorbed or reset waits no longer
+        assertZeros([...states][0].subarray(BLAKE2B.stateLength), "what waits");
+      }
+      if (isOpen || hasFailed) run.wipe(); // which the ends of a hash do themselves
       if (make !== tree) assert.equal([...states].filter(isState).length, 0, `${work} ${count}`);
       blake2bp(M); // the memory is wiped before the next call at the latest
       blake2b(M);
       assertClean();
     }
-    assert.ok(count >= least, `${count} calls of fill and set by ${work}`);
+    assert.ok(count >= 4, `${count} calls of fill and set by ${work}`);
   }
+  for (const end of ["wipe", DISPOSE]) {
+    const states = new Set();
+    const run = noteStates(states, () => output().copy().copy());
+    assert.equal([...states].filter(isState).length, 3);
+    noteStates(states, () => run[end]());
+    assert.equal([...states].filter(isState).length, 2);
+  }
+  const states = new Set();
+  noteStates(states, () => deriveKey(KEY, M, 64));
+  assert.deepEqual([states.size, [...states].filter(isState)], [1, []]);
 });
 
 test("a copy or a short update that fails leaves its hash as it was, and nothing behind", () => {
-  const short = (run) => run.update(M);
   class Strange extends Blake2b {}
-  const strange = (constructor) => {
-    const run = new Strange({ key: KEY }).update(M);
-    return Object.defineProperty(run, "constructor", { value: constructor });
-  };
+  const strange = (constructor) =>
+    Object.defineProperty(new Strange({ key: KEY }).update(M), "constructor", { value: constructor });
+  assert.ok(strange(Strange).copy() instanceof Strange);
   const wanted = new Blake2b({ key: KEY }).update(M).hex();
-  for (const work of [short, (run) => run.copy()]) {
+  for (const work of [(run) => run.update(M), (run) => run.copy()]) {
     for (const run of [new Blake2b({ key: KEY }).update(M), strange(Strange)]) {
-      assert.ok(failAt(0, new Set(), () => work(run)));
+      assert.ok(failsAt(0, new Set(), () => work(run)));
       assert.equal(run.hex(), wanted);
     }
   }
-  const isState = (bytes) => bytes.some((byte) => byte !== 0);
   // classes that are none, or that end the hash in between
   for (const [other, message] of [
     [5, /constructor/], [() => {}, /constructor/],
@@ -291,21 +245,23 @@ test("a copy or a short update that fails leaves its hash as it was, and nothing
   ]) {
     const run = strange(other);
     const states = new Set();
-    failAt(-1, states, () => assert.throws(() => run.copy(), { message }));
+    noteStates(states, () => assert.throws(() => run.copy(), { message }));
     assert.deepEqual([...states].filter(isState), []);
     assert.equal(run.hex(), wanted);
   }
-  const ended = strange(new Proxy(Strange, { get(...words) { ended.wipe(); return Reflect.get(...words); } }));
-  assert.throws(() => ended.copy(), /^TypeError: Blake2b.copy: this hash has ended/);
   const output = new Blake2xb({ key: KEY }).update(M);
-  assert.ok(failAt(0, new Set(), () => output.copy()));
-  const same = new Blake2xb({ key: KEY }).update(M).read(9);
-  assert.deepEqual(output.copy().read(9), same);
-  class Mine extends Blake2xb {}
-  const mine = new Mine({ key: KEY });
-  Object.defineProperty(mine, "constructor", { value:
-    new Proxy(Mine, { get(...words) { mine.wipe(); return Reflect.get(...words); } }) });
-  assert.throws(() => mine.copy(), /^TypeError: Blake2xb.copy: this output was wiped/);
+  assert.ok(failsAt(0, new Set(), () => output.copy()));
+  assert.deepEqual(output.copy().read(9), new Blake2xb({ key: KEY }).update(M).read(9));
+  for (const Hash of [Blake2b, Blake2xb]) {
+    class Mine extends Hash {}
+    const mine = new Mine({ key: KEY });
+    const get = (...words) => {
+      mine.wipe();
+      return Reflect.get(...words);
+    };
+    Object.defineProperty(mine, "constructor", { value: new Proxy(Mine, { get }) });
+    assert.throws(() => mine.copy(), /^TypeError: Blake2x?b.copy: this (hash has ended|output was wiped)/);
+  }
 });
 
 test("the state of a run under a key is wiped when its object goes", async () => {
@@ -314,9 +270,9 @@ test("the state of a run under a key is wiped when its object goes", async () =>
   const { fill } = Uint8Array.prototype;
   const wiped = [];
   const lengths = [BLAKE2B, BLAKE2XB].map(({ stateLength, room }) => stateLength + room);
-  Uint8Array.prototype.fill = function (...words) {
+  const noting = function (...words) {
     if (lengths.includes(this.length)) {
-      wiped.push(this.some((byte) => byte !== 0));
+      wiped.push(isState(this));
       assert.deepEqual(words, [0]);
     }
     return Reflect.apply(fill, this, words);
@@ -327,7 +283,7 @@ test("the state of a run under a key is wiped when its object goes", async () =>
       await new Promise((resolve) => setTimeout(resolve, 10));
     }
   };
-  try {
+  await withOthers(Uint8Array.prototype, { fill: noting }, async () => {
     await collectUntil((i) => i === 10); // those of the tests before
     wiped.length = 0;
     (() => {
@@ -338,11 +294,9 @@ test("the state of a run under a key is wiped when its object goes", async () =>
       }
     })();
     await collectUntil(() => wiped.length >= 200);
-  } finally {
-    Uint8Array.prototype.fill = fill;
-  }
-  assert.ok(wiped.filter(Boolean).length >= 190, `${wiped.length} states were wiped`);
-  assert.ok(wiped.length <= 200, `${wiped.length} states were wiped`);
+  });
+  const count = wiped.filter(Boolean).length;
+  assert.ok(count >= 190 && wiped.length <= 200, `${count} of ${wiped.length} states were wiped`);
 });
 
 test("load compiles ahead, and again", async () => {

@@ -1,108 +1,150 @@
-// The root of a tree by workers. The digests of leaves are in conformance.test.mjs, and what fails in
-// worker_faults.test.mjs.
+// The root of a tree by workers of node, and of browsers, in the place of which stands a class; and what happens if a
+// worker fails or a call is stopped. The digests of leaves are in conformance.test.mjs.
 import assert from "node:assert/strict";
-import { open, truncate } from "node:fs/promises";
+import { randomBytes } from "node:crypto";
+import { EventEmitter } from "node:events";
+import { open, truncate, writeFile } from "node:fs/promises";
 import os from "node:os";
-import test from "node:test";
+import { join } from "node:path";
+import test, { after } from "node:test";
+import { setTimeout as sleep } from "node:timers/promises";
 import v8 from "node:v8";
 import vm from "node:vm";
 import workerThreads from "node:worker_threads";
-import { blake2b, blake2bStream, hex, treeLeaves, treeRootOfLeaves, treeRootStream, utf8 } from "../index.js";
+import { blake2b, blake2bStream, hex, treeLeaves, treeRoot, treeRootOfLeaves, treeRootStream, utf8 } from "../index.js";
 import { processorCount } from "../src/platform.js";
-import { INDEX, printedBy } from "./common.mjs";
-import {
-  MESSAGE, RANGE, Ready, SALT, byThreads, counted, ended, fileOf, inPieces, openMessage, rootOf, withWorkers,
-} from "./worker_support.mjs";
+import { digestsOf } from "../src/ranges.js";
+import { INDEX, newFolder, printedBy, withOthers } from "./common.mjs";
 
-// The root of a blob of the message by workers of this class.
-const rootBy = (Class, options = { leafLength: 65536 }) =>
-  withWorkers(Class, () => byThreads(new Blob([MESSAGE]), options));
+const MESSAGE = new Uint8Array(randomBytes(9_000_001));
+const SALT = utf8("a salt");
+const RANGE = 4 * 1024 * 1024;
+const LEAF = { leafLength: 65536 };
+const ROOT = hex(treeRoot(MESSAGE, LEAF));
+const fault = new Error("enough");
 
-test("the root by threads is that of one", async () => {
-  for (const [length, leafLength] of [
-    [0, 5], [RANGE, 65536], [RANGE + 1, 65536], [9_000_001, 100_003], [9_000_001, 3_000_000],
-    [9_000_001, 2 ** 32 - 1],
-  ]) {
+const blob = () => new Blob([MESSAGE]);
+const byThreads = async (source, options) =>
+  hex(await treeRootStream(source, { threads: 3, onFallback(cause) { throw cause; }, ...LEAF, ...options }));
+async function* inPieces(message) {
+  for (let at = 0; at < message.length; at += 777_777) yield message.subarray(at, at + 777_777);
+}
+
+// Runs the work with another class instead of node's Worker.
+const withWorkers = (Class, work) => withOthers(workerThreads, { Worker: Class }, work);
+
+// Runs the work as a browser would, whose Worker is this class, on a number of processors.
+const inBrowser = (Worker, hardwareConcurrency, work) =>
+  withOthers(process, { getBuiltinModule: () => undefined }, () =>
+    withOthers(globalThis, { Worker, navigator: { hardwareConcurrency } }, work));
+
+// Waits until workers have exited. One that is left is an error, and ends the process at the end.
+const ended = (begun) => Promise.race([Promise.all(begun), new Promise((_, reject) =>
+  setTimeout(reject, 20_000, new Error("a worker is left")).unref())]);
+after(() => setTimeout(() => process.exit(1), 20_000).unref());
+
+// Workers of node that note in a list when they have exited.
+const counted = (begun = [], make = (...words) => words) => class extends workerThreads.Worker {
+  constructor(...words) {
+    super(...make(...words));
+    begun.push(new Promise((resolve) => this.on("exit", resolve)));
+  }
+};
+
+// The same, which run this program instead.
+const running = (program, begun) => counted(begun, () => [program, { eval: true }]);
+
+// A worker of node that has started, and only does what postMessage of a class of it does.
+class Ready extends EventEmitter {
+  constructor() {
+    super();
+    setImmediate(() => this.emit("message", "ready"));
+  }
+  terminate() {}
+}
+
+// A worker of a browser that starts, unless it is told to fail, and then does what work() does.
+class Fake {
+  static made = [];
+  static failing = () => undefined;
+  constructor(url, options) {
+    this.url = String(url);
+    Fake.made.push([this.url, options]);
+    const fault = Fake.failing(String(url));
+    if (fault instanceof Error) throw fault;
+    setImmediate(() => (fault ? this.onerror(fault) : this.onmessage({ data: "ready" })));
+  }
+  async postMessage({ settings, range, blob, message, module }) {
+    assert.ok(module instanceof WebAssembly.Module);
+    const bytes = message ?? new Uint8Array(await blob.arrayBuffer());
+    this.onmessage({ data: treeLeaves(bytes, { ...settings, ...range }) });
+  }
+  terminate() { Fake.made.push("stopped"); }
+}
+
+// A file of node that has this many bytes, or says so.
+const fileOf = (size, more) => ({ fd: 3, stat: async () => ({ isFile: () => true, size }), ...more });
+
+// A file of the message that is open in node, and its path and its folder.
+async function openMessage(t) {
+  const folder = newFolder();
+  const path = join(folder, "message");
+  await writeFile(path, MESSAGE);
+  const file = await open(path, "r+");
+  t.after(() => file.close());
+  return { folder, path, file };
+}
+
+test("the root by threads is that of one, by as many workers as there are ranges, which are stopped", async () => {
+  for (const [i, [length, leafLength, threads, ranges]] of [
+    [0, 5, 3, [0]], [RANGE, 65536, 3, [RANGE]], [RANGE + 1, 65536, 2, [1, RANGE]],
+    [9_000_001, 65536, 200, [611_393, RANGE, RANGE]], [9_000_001, 1000, 2, [616_001, 4_192_000, 4_192_000]],
+    [9_000_001, 100_003, 2, [999_761, 4_000_120, 4_000_120]],
+    [9_000_001, 5_000_000, 3, [4_000_001, 5_000_000]], // a range is a leaf that is longer
+    [9_000_001, 2 ** 26, 3, [9_000_001]], [9_000_001, 2 ** 26 + 1, 3, []], [9_000_001, 2 ** 32 - 1, 3, []],
+    [9_000_001, 65536, 1, []], [9_000_001, 65536, undefined, []],
+  ].entries()) {
     const message = MESSAGE.subarray(0, length);
     const options = { leafLength, salt: SALT, personalization: utf8("p"), digestLength: 40 };
-    const wanted = rootOf(message, options);
-    assert.equal(await byThreads(new Blob([message]), options), wanted, `${length} ${leafLength}`);
-    assert.equal(await byThreads(inPieces(message, 777_777), { ...options, threads: 2 }), wanted);
-  }
-  assert.equal(
-    await byThreads(new Blob([MESSAGE]).stream(), { leafLength: 65536 }),
-    rootOf(MESSAGE, { leafLength: 65536 }));
-});
-
-test("salt and personalization are taken at the call", async () => {
-  const labels = { salt: SALT.slice(), personalization: SALT.slice() };
-  const promise = byThreads(new Blob([MESSAGE]), { leafLength: 65536, ...labels });
-  labels.salt.fill(0);
-  labels.personalization.fill(0);
-  assert.equal(await promise, rootOf(MESSAGE, { leafLength: 65536, salt: SALT, personalization: SALT }));
-});
-
-test("as many workers as there are ranges start, and all of them are stopped", async () => {
-  const wanted = [[undefined, 0], [1, 0], [2, 2], [200, 3], [3, 0, 2 ** 26 + 1], [3, 1, 2 ** 26]];
-  for (const [threads, count, leafLength = 65536] of wanted) {
-    const begun = [];
-    await rootBy(counted(begun), { leafLength, threads });
-    assert.equal(begun.length, count);
+    const [begun, counts] = [[], []];
+    const onProgress = (...both) => counts.push(both);
+    const source = [() => new Blob([message]), inPieces, () => new Blob([message]).stream()][i % 3](message);
+    const root = await withWorkers(counted(begun), () => byThreads(source, { ...options, threads, onProgress }));
+    assert.equal(root, hex(treeRoot(message, options)), `${length} ${leafLength}`);
+    assert.equal(begun.length, Math.min(ranges.length, threads ?? 1));
     await ended(begun);
+    if (ranges.length === 0) continue;
+    assert.deepEqual(counts.at(-1), [length, i % 3 === 0 ? length : undefined]);
+    assert.deepEqual(counts.map(([at], i) => at - (counts[i - 1]?.[0] ?? 0)).sort((a, b) => a - b), ranges);
   }
 });
 
-test("workers use the module that is compiled here", async () => {
+test("workers use the module that is compiled here, and ranges and digests are transferred", async () => {
   const worker = new URL("../src/vulfsjor_worker.js", import.meta.url).href;
   const program = `globalThis.atob = () => { throw new Error("decoded again"); };
     import("${worker}");`;
-  const Class = counted([], () => [program, { eval: true }]);
-  assert.equal(await rootBy(Class), rootOf(MESSAGE, { leafLength: 65536 }));
-});
-
-test("ranges and digests are transferred, not copied", async () => {
   const lengths = [];
-  const Class = class extends workerThreads.Worker {
+  const Class = class extends running(program) {
     postMessage(job, ...more) {
       super.postMessage(job, ...more);
       lengths.push(job.message.length);
     }
   };
-  await rootBy(Class);
+  assert.equal(await withWorkers(Class, () => byThreads(blob())), ROOT);
   assert.deepEqual(lengths, [0, 0, 0]);
 });
 
-test("a worker reads bytes, a file or a blob, and what fails there is its error", async (t) => {
-  const sent = [];
-  const { setTimeout: before } = globalThis;
+test("a range is read where it is, past 4 GiB too", async (t) => {
   const { file } = await openMessage(t);
-  t.after(() => {
-    delete globalThis.postMessage;
-    globalThis.setTimeout = before;
-  });
-  globalThis.postMessage = (...words) => sent.push(words);
-  await import("../src/vulfsjor_worker.js");
-  const { onmessage } = globalThis;
-  delete globalThis.onmessage;
-  assert.deepEqual(sent.splice(0), [["ready"]]);
-  const settings = { leafLength: 100, salt: SALT, personalization: new Uint8Array(0) };
-  const range = { first: 5n, ends: true };
   const message = MESSAGE.slice(700, 1700);
-  const digests = treeLeaves(message, { leafLength: 100, first: 5, ends: true, salt: SALT });
-  const far = 2 ** 32 + 7; // past 4 GiB of a file that is almost all hole
+  const far = 2 ** 32 + 7; // of a file that is almost all hole
   await file.write(message, 0, message.length, far);
-  for (const source of [
-    { message }, { blob: new Blob([message]) }, { file: { fd: file.fd, at: 700, length: 1000 } },
-    { file: { fd: file.fd, at: far, length: 1000 } },
-  ]) {
-    onmessage({ data: { settings, range, ...source } });
-    while (sent.length === 0) await new Promise((resolve) => setImmediate(resolve));
-    assert.deepEqual(sent.splice(0), [[digests, [digests.buffer]]]);
+  const settings = { leafLength: 100, salt: SALT, personalization: SALT };
+  const digests = treeLeaves(message, { ...settings, first: 5, ends: true });
+  for (const source of [{ message }, { blob: new Blob([message]) }, ...[700, far].map((at) =>
+    ({ file: { fd: file.fd, at, length: 1000 } }))]) {
+    assert.deepEqual(await digestsOf({ settings, range: { first: 5n, ends: true }, ...source }), digests);
   }
-  const fault = new Error("unreadable");
-  const thrown = new Promise((resolve) => (globalThis.setTimeout = resolve));
-  onmessage({ data: { settings, range, blob: { arrayBuffer: () => Promise.reject(fault) } } });
-  assert.throws(await thrown, fault);
 });
 
 test("workers read an open file of node", async (t) => {
@@ -115,66 +157,63 @@ test("workers read an open file of node", async (t) => {
     }
   };
   await file.read(new Uint8Array(7)); // its position does not matter
-  for (const [length, ...forms] of [
-    [9_000_001, [65536, 3], [100_003, 2], [3_000_000, 3], [65536, 1]], [2 * RANGE, [65536, 3]], [RANGE + 1, [100_003, 2]],
-    [RANGE, [65536, 3]], [1, [65536, 3], [65536, 1]], [0, [65536, 3], [65536, 1]],
+  for (const [length, leafLength, threads] of [
+    [9_000_001, 100_003, 2], [9_000_001, 3_000_000, 3], [9_000_001, 65536, 1], [2 * RANGE, 65536, 2],
+    [1, 65536, 3], [1, 65536, 1], [0, 65536, 3], [0, 65536, 1],
   ]) {
     await truncate(path, length);
     const message = MESSAGE.subarray(0, length);
-    for (const [leafLength, threads] of forms) {
-      const options = { leafLength, threads, salt: SALT, digestLength: 40 };
-      const counts = [];
-      jobs.length = 0;
-      const root = await withWorkers(Class, () => byThreads(file, {
-        ...options, onProgress: (...words) => counts.push(words),
-      }));
-      assert.equal(root, rootOf(message, { leafLength, salt: SALT, digestLength: 40 }));
-      assert.deepEqual(counts.at(-1) ?? [0, 0], [length, length]);
-      const range = 4 * leafLength * Math.max(1, Math.floor(RANGE / leafLength / 4));
-      const ranges = threads === 1 ? 0 : Math.max(1, Math.ceil(length / range));
-      jobs.sort((a, b) => a.file.at - b.file.at); // a worker is given its first when it has started
-      assert.deepEqual(
-        jobs.map(({ file: { fd, at, length: part }, message: bytes }) => [fd, at, part, bytes]),
-        Array.from({ length: ranges }, (_, i) =>
-          [file.fd, i * range, Math.min(range, length - i * range), undefined]));
-    }
+    const options = { leafLength, salt: SALT, digestLength: 40 };
+    const counts = [];
+    jobs.length = 0;
+    const onProgress = (...words) => counts.push(words);
+    const root = await withWorkers(Class, () => byThreads(file, { ...options, threads, onProgress }));
+    assert.equal(root, hex(treeRoot(message, options)));
+    assert.deepEqual(counts.at(-1) ?? [0, 0], [length, length]);
+    const range = 4 * leafLength * Math.max(1, Math.floor(RANGE / leafLength / 4));
+    const ranges = threads === 1 ? 0 : Math.max(1, Math.ceil(length / range));
+    jobs.sort((a, b) => a.file.at - b.file.at); // a worker is given its first when it has started
+    assert.deepEqual(
+      jobs.map(({ file: { fd, at, length: part }, message: bytes }) => [fd, at, part, bytes]),
+      Array.from({ length: ranges }, (_, i) => [file.fd, i * range, Math.min(range, length - i * range), undefined]));
     assert.deepEqual(await blake2bStream(file), blake2b(message));
   }
 });
 
-const AHEAD = "two ranges for each worker are ahead of the first, and the root has all in order";
-for (const [leafLength, leaves, ranges] of [[65536, 64, 40], [16, 65536, 8]]) test(AHEAD, async () => {
-  const count = 3;
-  const digestsOf = (i) => new Uint8Array(64 * leaves).fill(i);
-  v8.setFlagsFromString("--expose-gc");
-  const collect = vm.runInNewContext("gc");
-  const made = []; // references to the digests
-  let kept = true;
-  let sent = 0;
-  const Class = class extends Ready {
-    async postMessage({ file, range }) {
-      const i = Number(range.first) / leaves;
-      assert.equal(file.length, leafLength * leaves);
-      sent++;
-      while (i === 0 && sent < 2 * count) await new Promise((resolve) => setTimeout(resolve, 1));
-      await new Promise((resolve) => setTimeout(resolve, i === 0 ? 20 : (7 * i) % 4));
-      if (i === 0) assert.equal(sent, 2 * count);
-      for (let left = 50; i === ranges - 1 && kept && left > 0; left--) {
-        collect();
-        kept = made[0].deref() !== undefined; // which itself keeps it until the next turn
-        await new Promise((resolve) => setTimeout(resolve, 1));
+for (const [leafLength, leaves, ranges] of [[65536, 64, 40], [16, 65536, 8]]) {
+  test(`two ranges for each worker are ahead of the first, of ${leaves} leaves, and all are in order`, async () => {
+    const count = 3;
+    const resultOf = (i) => new Uint8Array(64 * leaves).fill(i);
+    v8.setFlagsFromString("--expose-gc");
+    const collect = vm.runInNewContext("gc");
+    const made = []; // references to the digests
+    let kept = true;
+    let sent = 0;
+    const Class = class extends Ready {
+      async postMessage({ file, range }) {
+        const i = Number(range.first) / leaves;
+        assert.equal(file.length, leafLength * leaves);
+        sent++;
+        while (i === 0 && sent < 2 * count) await sleep(1);
+        await sleep(i === 0 ? 20 : (7 * i) % 4);
+        if (i === 0) assert.equal(sent, 2 * count);
+        for (let left = 50; i === ranges - 1 && kept && left > 0; left--) {
+          collect();
+          kept = made[0].deref() !== undefined; // which itself keeps it until the next turn
+          await sleep(1);
+        }
+        const digests = resultOf(i);
+        made[i] = new WeakRef(digests);
+        this.emit("message", digests);
       }
-      const digests = digestsOf(i);
-      made[i] = new WeakRef(digests);
-      this.emit("message", digests);
-    }
-  };
-  const file = fileOf(ranges * leaves * leafLength);
-  const root = await withWorkers(Class, () => byThreads(file, { leafLength, threads: count }));
-  const all = Buffer.concat(Array.from({ length: ranges }, (_, i) => digestsOf(i)));
-  assert.equal(root, hex(treeRootOfLeaves(all, { leafLength })));
-  assert.equal(kept, false); // once the root has them
-});
+    };
+    const file = fileOf(ranges * leaves * leafLength);
+    const root = await withWorkers(Class, () => byThreads(file, { leafLength, threads: count }));
+    const all = Buffer.concat(Array.from({ length: ranges }, (_, i) => resultOf(i)));
+    assert.equal(root, hex(treeRootOfLeaves(all, { leafLength })));
+    assert.equal(kept, false); // once the root has them
+  });
+}
 
 test("past 4 GiB each part of a file is read where it is", async () => {
   const size = 2 ** 32 + 3 * RANGE + 5;
@@ -188,7 +227,7 @@ test("past 4 GiB each part of a file is read where it is", async () => {
     }
   };
   const handle = fileOf(size);
-  await withWorkers(Class, () => byThreads(handle, { leafLength: 65536 }));
+  await withWorkers(Class, () => byThreads(handle));
   const whole = Math.floor(size / RANGE);
   assert.deepEqual(jobs.sort((a, b) => a[0] - b[0]), Array.from({ length: whole + 1 }, (_, i) => [
     i * RANGE, i < whole ? RANGE : 5, BigInt(i * RANGE) / 65536n, i === whole]));
@@ -211,31 +250,15 @@ test("past 4 GiB each part of a file is read where it is", async () => {
   assert.deepEqual(counts, [RANGE, RANGE + 10, RANGE + 15]);
 });
 
-test("a file that is read in short pieces has the same digest", async (t) => {
-  const { file } = await openMessage(t);
-  const short = {
-    fd: file.fd,
-    stat: () => file.stat(),
-    read: (bytes, offset, length, at) => file.read(bytes, offset, Math.min(length, 1_000_000), at),
-  };
-  const counts = [];
-  const onProgress = (...both) => counts.push(both);
-  assert.deepEqual(await blake2bStream(short, { onProgress }), blake2b(MESSAGE));
-  assert.deepEqual(counts, Array.from({ length: 10 }, (_, i) =>
-    [Math.min((i + 1) * 1_000_000, 9_000_001), 9_000_001]));
-});
-
 test("a file that ends early, is closed or is a folder is refused", async (t) => {
   const { folder, file } = await openMessage(t);
-  const size = MESSAGE.length + 5;
   const same = { fd: file.fd, read: (...words) => file.read(...words) };
-  const longer = fileOf(size, same);
-  const end = `the file ends at byte ${MESSAGE.length}`;
-  const rejects = (source, threads, error) => assert.rejects(
-    treeRootStream(source, { leafLength: 65536, threads }), error);
-  await rejects(longer, 3, { message: `treeRootStream: a worker failed: ${end}` });
-  await rejects(longer, 1, { message: `treeRootStream: ${end}` });
+  const longer = fileOf(MESSAGE.length + 5, same);
   const silent = fileOf(0, same); // as in /proc
+  const end = `the file ends at byte ${MESSAGE.length}`;
+  const rejects = (source, threads, error) => assert.rejects(treeRootStream(source, { ...LEAF, threads }), error);
+  await rejects(longer, 2, { message: `treeRootStream: a worker failed: ${end}` });
+  await rejects(longer, 1, { message: `treeRootStream: ${end}` });
   for (const threads of [1, 3]) {
     await rejects(silent, threads, { name: "TypeError", message: /has bytes and the length 0/ });
     const other = await open(folder);
@@ -244,37 +267,23 @@ test("a file that ends early, is closed or is a folder is refused", async (t) =>
     await other.close();
     await rejects(other, threads, { code: "EBADF" });
   }
-  const signal = AbortSignal.abort(new Error("stopped"));
-  await assert.rejects(treeRootStream(file, { leafLength: 65536, threads: 3, signal }), { message: "stopped" });
+  await assert.rejects(byThreads(file, { signal: AbortSignal.abort(fault) }), fault);
 });
 
-test("threads 0 means all processors, and 256 at most", async (t) => {
-  const { availableParallelism } = os;
-  t.after(() => (os.availableParallelism = availableParallelism));
+test("threads 0 means all processors, and 256 at most, or one if nobody says how many there are", async () => {
+  const onProcessors = (count, work) => withOthers(os, { availableParallelism: () => count }, work);
   for (const [processors, count] of [[1, 0], [2, 2]]) {
-    os.availableParallelism = () => processors;
     const begun = [];
-    const root = await rootBy(counted(begun), { leafLength: 65536, threads: 0 });
-    assert.equal(root, rootOf(MESSAGE, { leafLength: 65536 }));
+    const call = () => withWorkers(counted(begun), () => byThreads(blob(), { threads: 0 }));
+    assert.equal(await onProcessors(processors, call), ROOT);
     assert.equal(begun.length, count);
   }
-  for (const [processors, count] of [[255, 255], [256, 256], [257, 256]]) {
-    os.availableParallelism = () => processors;
-    assert.equal(processorCount(), count);
+  for (const processors of [255, 256, 257]) {
+    assert.equal(onProcessors(processors, processorCount), Math.min(processors, 256));
   }
-});
-
-test("progress counts what the workers have hashed", async () => {
-  const countsOf = async (message, leafLength) => {
-    const counts = [];
-    await byThreads(new Blob([message]), { leafLength, onProgress: (...both) => counts.push(both) });
-    assert.deepEqual(counts.at(-1), [message.length, message.length]);
-    return counts.map(([count], i) => count - (counts[i - 1]?.[0] ?? 0)).sort((a, b) => a - b);
-  };
-  assert.deepEqual(await countsOf(MESSAGE, 65536), [611_393, RANGE, RANGE]);
-  assert.deepEqual(await countsOf(MESSAGE, 1000), [616_001, 4_192_000, 4_192_000]);
-  assert.deepEqual(await countsOf(MESSAGE, 5_000_000), [4_000_001, 5_000_000]); // a range of a leaf that is longer
-  assert.deepEqual(await countsOf(new Uint8Array(0), 1), [0]);
+  for (const [processors, count] of [[3, 3], [300, 256], [undefined, 1]]) {
+    assert.equal(inBrowser(undefined, processors, processorCount), count);
+  }
 });
 
 test("a process ends after a call by threads", () => {
@@ -282,4 +291,205 @@ test("a process ends after a call by threads", () => {
     const root = await treeRootStream(new Blob(["abc"]), { leafLength: 2, threads: 4 });
     console.log(hex(root).slice(0, 8));`, { timeout: 60000 });
   assert.equal(printed, "19fc31bb\n"); // hashlib's
+});
+
+test("in a browser, workers read slices of a blob", async () => {
+  const ranges = [];
+  const Class = class extends Fake {
+    postMessage(job, transferred) {
+      assert.deepEqual([job.message, transferred], [undefined, []]);
+      ranges.push([Number(job.range.first), job.blob.size]);
+      super.postMessage(job);
+    }
+  };
+  for (const length of [MESSAGE.length, RANGE, 0]) {
+    const message = MESSAGE.subarray(0, length);
+    const root = await inBrowser(Class, 4, () => byThreads(new Blob([message]), { threads: 2 }));
+    assert.equal(root, hex(treeRoot(message, LEAF)));
+  }
+  assert.deepEqual(ranges.sort((a, b) => a[0] - b[0] || a[1] - b[1]), [
+    [0, 0], [0, RANGE], [0, RANGE], [64, RANGE], [128, MESSAGE.length - 2 * RANGE],
+  ]);
+});
+
+test("what a worker of node or of a browser reports is an error of the call", async () => {
+  const OfNode = class extends Ready {
+    constructor(program, words) {
+      super();
+      assert.match(program, /^"use strict";/);
+      assert.deepEqual(words, { eval: true, execArgv: [] });
+    }
+    postMessage() { setImmediate(() => this.emit("messageerror", new Error("cannot be read"))); }
+  };
+  await assert.rejects(withWorkers(OfNode, () => byThreads(blob())),
+    { message: "treeRootStream: a worker failed: cannot be read" });
+  for (const [event, value, message] of [
+    ["messageerror", {}, "its result could not be read"],
+    ["error", {}, "it could not be started"], ["error", { message: "no" }, "no"],
+  ]) {
+    const Class = class extends Fake {
+      postMessage() { setImmediate(() => this[`on${event}`](value)); }
+    };
+    Fake.made.length = 0;
+    await assert.rejects(inBrowser(Class, 4, () => byThreads(blob(), { threads: 2 })),
+      { message: `treeRootStream: a worker failed: ${message}` });
+    assert.deepEqual(Fake.made.splice(2), ["stopped", "stopped"]);
+  }
+});
+
+test("where a text cannot be started a file is, or else the calling thread hashes", async (t) => {
+  t.after(() => (Fake.failing = () => undefined));
+  const released = [];
+  const { revokeObjectURL } = URL;
+  const release = (url) => {
+    released.push(url);
+    revokeObjectURL(url);
+  };
+  const file = [new URL("../src/vulfsjor_worker.js", import.meta.url).href, { type: "module" }];
+  const thrown = new Error("refused");
+  const isText = (url) => url.startsWith("blob:");
+  const held = []; // the addresses of texts that workers still hold when they work
+  const Class = class extends Fake {
+    postMessage(job) {
+      if (isText(this.url) && !released.includes(this.url)) held.push(this.url);
+      return super.postMessage(job);
+    }
+  };
+  for (const [failing, cause, made] of [
+    [() => undefined, undefined, ["text", "stopped"]],
+    [(url) => isText(url) && {}, undefined, ["text", "stopped", "file", "stopped"]],
+    [(url) => (isText(url) ? thrown : undefined), undefined, ["text", "file", "stopped"]],
+    [(url) => (isText(url) ? thrown : { message: "no file" }), "no file", ["text", "file", "stopped"]],
+    [(url) => (isText(url) ? {} : thrown), "refused", ["text", "stopped", "file"]],
+    [() => ({}), "it could not be started", ["text", "stopped", "file", "stopped"]],
+  ]) {
+    Fake.failing = failing;
+    for (const source of [blob(), inPieces(MESSAGE)]) {
+      Fake.made.length = 0;
+      released.length = 0;
+      const [causes, counts] = [[], []];
+      const options = { threads: 2, onFallback: (...words) => causes.push(words), onProgress: (at) => counts.push(at) };
+      const root = await withOthers(URL, { revokeObjectURL: release }, () =>
+        inBrowser(Class, 4, () => byThreads(source, options)));
+      assert.equal(root, ROOT);
+      // of the two workers only the first calls onFallback, and each is started once
+      assert.deepEqual(causes.map(([fault, ...more]) => [fault.message, ...more]),
+        cause === undefined ? [] : [[cause]]);
+      assert.deepEqual(Fake.made.map((entry) =>
+        (entry === "stopped" ? entry : isText(entry[0]) ? "text" : "file")).sort(), [...made, ...made].sort());
+      assert.deepEqual(Fake.made.filter(([url]) => url === file[0]), Array(2 * made.includes("file")).fill(file));
+      assert.equal(new Set(released).size, 2);
+      assert.deepEqual(held, []);
+      assert.deepEqual([counts.length, counts.at(-1)], [3, MESSAGE.length]);
+    }
+  }
+});
+
+test("on the calling thread an abort comes through between ranges, and nothing is counted after it", async (t) => {
+  Fake.failing = () => fault;
+  t.after(() => (Fake.failing = () => undefined));
+  const call = (source, more) => inBrowser(Fake, 4, () => byThreads(source, { threads: 2, onFallback() {}, ...more }));
+  const control = new AbortController();
+  const long = (async function* () { for (let i = 0; i < 9; i++) yield MESSAGE; })();
+  const onProgress = () => setTimeout(() => control.abort(fault));
+  await withOthers(globalThis, { setImmediate: undefined }, () => // a browser has none
+    assert.rejects(call(long, { signal: control.signal, onProgress }), fault));
+  // whatever was being read then
+  const [late, counts] = [new AbortController(), []];
+  const slow = new Blob([MESSAGE]);
+  slow.slice = (from, to) => ({
+    async arrayBuffer() {
+      late.abort(fault);
+      await sleep(1);
+      return new ArrayBuffer(to - from);
+    },
+  });
+  await assert.rejects(call(slow, { signal: late.signal, onProgress: (count) => counts.push(count) }), fault);
+  await sleep(20);
+  assert.deepEqual(counts, []);
+});
+
+// A source without end, which notes the reason when it is canceled.
+function endlessSource() {
+  const source = { isLetGo: false };
+  source.stream = new ReadableStream({
+    pull: (controller) => controller.enqueue(new Uint8Array(1_000_000)),
+    cancel(reason) { source.isLetGo = reason ?? true; },
+  });
+  return source;
+}
+
+test("an abort, or progress that throws, ends it and stops the workers", async () => {
+  for (const act of ["abort", "throw"]) {
+    const [control, source, begun] = [new AbortController(), endlessSource(), []];
+    let count = 0;
+    const onProgress = () => {
+      if (++count < 3) return;
+      if (act === "throw") throw fault;
+      control.abort(fault);
+    };
+    const options = { threads: 2, onProgress, signal: control.signal };
+    await assert.rejects(withWorkers(counted(begun), () => byThreads(source.stream, options)), fault);
+    assert.deepEqual([source.isLetGo, source.stream.locked, count, begun.length], [fault, false, 3, 2]);
+    await ended(begun);
+  }
+  const begun = [];
+  const call = () => byThreads(endlessSource().stream, { leafLength: 1, signal: AbortSignal.abort(fault) });
+  await assert.rejects(withWorkers(counted(begun), call), fault);
+  assert.equal(begun.length, 0);
+});
+
+test("a worker that fails is an error, and nothing hangs", async () => {
+  const started = (act) => `const { parentPort } = require("node:worker_threads");
+    parentPort.once("message", () => { ${act} });
+    parentPort.postMessage("ready");`;
+  for (const [act, cause, source] of [
+    ['throw new Error("nothing here")', "nothing here", endlessSource().stream],
+    ['throw "a thing"', "a thing", blob()], ["process.exit(3)", "it exited with code 3", new Blob([])],
+    ["process.exit(0)", "it exited with code 0", endlessSource().stream],
+  ]) {
+    const begun = [];
+    await assert.rejects(withWorkers(running(started(act), begun), () => byThreads(source, { threads: 2 })),
+      { name: "Error", message: `treeRootStream: a worker failed: ${cause}` });
+    await ended(begun);
+  }
+  // one of several, and a source that stalls
+  let number = 0;
+  const second = counted([], (...words) => (++number === 2 ? [started("process.exit(3)"), { eval: true }] : words));
+  const stalled = (async function* () {
+    yield MESSAGE;
+    await new Promise(() => setTimeout(() => {}, 1e6).unref());
+  })();
+  await assert.rejects(withWorkers(second, () => byThreads(stalled, { threads: 2 })),
+    { message: "treeRootStream: a worker failed: it exited with code 3" });
+});
+
+test("in node, too, the calling thread hashes what no worker can be started for", async (t) => {
+  const { file } = await openMessage(t);
+  const begun = [];
+  let number = 0;
+  const refusing = class { constructor() { throw new Error("no room"); } };
+  for (const [Class, source, cause] of [
+    [running('throw new Error("nothing here")', begun), file, "nothing here"],
+    [running("process.exit(3)", begun), blob(), "it exited with code 3"],
+    [running("", begun), inPieces(MESSAGE), "it exited with code 0"], [refusing, file, "no room"],
+    [refusing, inPieces(MESSAGE), "no room"],
+    // only one of two
+    [counted(begun, (...words) => (++number % 2 === 0 ? ["process.exit(3)", { eval: true }] : words)), file,
+      "it exited with code 3"],
+  ]) {
+    const causes = [];
+    const onFallback = (fault) => causes.push(fault.message);
+    assert.equal(await withWorkers(Class, () => byThreads(source, { threads: 2, onFallback })), ROOT);
+    assert.deepEqual(causes, [cause]);
+  }
+  await ended(begun);
+  // without a function to call, and with one that throws
+  const call = (source, more) =>
+    withWorkers(refusing, () => byThreads(source, { threads: 2, onFallback() {}, ...more }));
+  assert.equal(await call(file, { onFallback: undefined }), ROOT);
+  await assert.rejects(call(file, { onFallback() { throw fault; } }), fault);
+  // the file's errors are those of the call
+  await assert.rejects(call(fileOf(MESSAGE.length + 5, { fd: file.fd })),
+    { message: `the file ends at byte ${MESSAGE.length}` });
 });

@@ -13,28 +13,22 @@ const copy: Blake2s = new Blake2s().copy();
 const isSame: boolean = equal(digest, fromHex(hex(digest)));
 try {
   const nothing: void = copy.verify(utf8(text));
-  console.log(nothing);
+  console.log(nothing, isSame, new Blake2b()[Symbol.dispose]);
 } catch (fault) {
   if (fault instanceof InvalidTagError) console.log(fault.name, fault.message);
 }
-const roots: Uint8Array[] = [treeRoot(digest, { leafLength: 5 }), new TreeHash({ leafLength: 5 }).digest()];
 const ofEach: ManyOptions = { key: digest };
-const many: Uint8Array[] = blake2bMany(new Set<Bytes>([digest, new SharedArrayBuffer(3)]), ofEach);
 const parallel: ParallelOptions = { key: digest, salt: digest, personalization: digest };
-const others: Uint8Array[] = [
+const all = async (file: Blob, signal: AbortSignal): Promise<Uint8Array[]> => [
+  treeRoot(digest, { leafLength: 5 }), new TreeHash({ leafLength: 5 }).digest(),
+  ...blake2bMany(new Set<Bytes>([digest, new SharedArrayBuffer(3)]), ofEach),
   blake2bp(digest), blake2sp(digest, parallel), new Blake2sp(parallel).update(digest).digest(),
+  await blake2bStream(file, { key: digest, signal, onProgress: (bytes, total) => console.log(bytes, total ?? 0) }),
+  await blake2bStream(file.stream()), await blake2bpStream(file, parallel), await blake2spStream(file, { signal }),
+  await treeRootStream(file, { leafLength: 65536, threads: 4, onFallback: (reason) => { throw reason; } }),
+  treeRootOfLeaves(treeLeaves(digest, { leafLength: 5, first: 0n, ends: true }), { leafLength: 5 }),
 ];
-async function all(file: Blob, signal: AbortSignal): Promise<Uint8Array[]> {
-  await load();
-  return [
-    await blake2bStream(file, { key: digest, signal, onProgress: (bytes, total) => console.log(bytes, total ?? 0) }),
-    await blake2bStream(file.stream()),
-    await blake2bpStream(file, parallel), await blake2spStream(file, { signal }),
-    await treeRootStream(file, { leafLength: 65536, threads: 4, onFallback: (reason) => { throw reason; } }),
-    treeRootOfLeaves(treeLeaves(digest, { leafLength: 5, first: 0n, ends: true }), { leafLength: 5 }),
-  ];
-}
-console.log(isSame, roots, many, others, all, new Blake2b()[Symbol.dispose]);
+load().then(() => all);
 
 // outputs of any length
 const output = new Blake2xb({ outputLength: 9, key: digest }).update(digest).copy();
@@ -42,7 +36,7 @@ const left: bigint = output.left;
 const read: Uint8Array[] = [output.read(5), new Blake2xs().read(9), deriveKey(digest, digest, 32)];
 console.log(left, read, output[Symbol.dispose]());
 
-// a subclass stays one, and lengths are those of the options
+// a subclass stays one
 class Counted extends Blake2b {
   count = 0;
 }
@@ -51,22 +45,17 @@ new Counted().update(digest).copy().reset().count++;
 // what is undefined is not given
 const no = undefined;
 const none = { digestLength: no, salt: no, personalization: no };
-blake2b(digest, { ...none, tree: no });
 const node = { fanout: no, depth: no, leafLength: no, nodeOffset: no, nodeDepth: no, innerLength: no, lastNode: no };
-blake2b(digest, { tree: node });
+for (const tree of [no, node]) blake2b(digest, { ...none, tree });
 new Blake2xb({ outputLength: no, salt: no, personalization: no });
 treeLeaves(digest, { leafLength: 5, first: 0, ends: true, salt: no, personalization: no });
 treeRootStream(new Blob([]), { leafLength: 5, ...none, threads: no, onFallback: no, onProgress: no, signal: no });
 
 // sources: pieces, a file of node, one whose numbers are bigints, and a stream and a file of a browser
-blake2bStream([digest, new ArrayBuffer(3)]);
-blake2sStream((function* () { yield digest; })());
-blake2sStream(new Set([digest]));
-declare const handle: FileHandleLike;
+declare const handle: FileHandleLike, fetched: Response, file: File, strings: ReadableStream<string>;
 declare const big: { fd: number; stat(): Promise<{ isFile(): boolean; size: bigint }>; read: FileHandleLike["read"] };
-treeRootStream(handle, { leafLength: 65536, threads: 0 });
-blake2bStream(big);
-declare const fetched: Response, file: File, strings: ReadableStream<string>;
+for (const source of [[digest, new ArrayBuffer(3)], new Set([digest]), handle, big]) blake2bStream(source);
+blake2sStream((function* () { yield digest; })());
 if (fetched.body) blake2bStream(fetched.body, { signal: new AbortController().signal });
 blake2bStream(file.stream());
 
