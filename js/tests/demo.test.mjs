@@ -95,42 +95,6 @@ onPage("files are hashed and shown", {}, async (page) => {
   assert.deepEqual(page.requests.filter((url) => !url.startsWith("blob:") && url !== PAGE), []);
 });
 
-onPage("an expected digest is compared with all digests", {}, async (page) => {
-  const { compare } = page;
-  assert.equal(await compare("0".repeat(64)), "No file has been hashed yet. 0");
-  await page.hash(["one byte", "empty.txt"]);
-  const [{ digests }, other] = await page.evaluate(CARDS);
-  const digest = digests["BLAKE2s-256"];
-  const equal = "Equal to the BLAKE2s-256 of empty.txt. 1";
-  const unequal = "Not equal to any of the 8 digests below. 0";
-  const changed = (c) => (c === "0" ? "1" : "0");
-  const not = (length) =>
-    `This is not a digest of 128 to 512 bits in hexadecimal (${length} characters). 0`;
-  for (const [text, verdict] of [
-    [digest, equal],
-    [` ${digest.toUpperCase().slice(0, 32)}\n${digest.slice(32)} `, equal],
-    [digest.replace(/.{8}/g, "$& "), equal],
-    [`BLAKE2s-256 (empty.txt) = ${digest}`, equal],
-    [`${digests["BLAKE2b-512"]} *empty.txt`, "Equal to the BLAKE2b-512 of empty.txt. 1"],
-    [other.digests["tree root"], "Equal to the tree root of one byte. 1"],
-    [digest.replace(/^./, changed), unequal],
-    [digest.replace(/.$/, changed), unequal],
-    [`${digest}0  empty.txt`, not(76)],
-    [digest.slice(1), not(63)], [digest.slice(0, 30), not(30)],
-    [`${digests["BLAKE2b-512"]}00`, not(130)],
-    ["g".repeat(64), not(64)],
-    ["", "Paste a digest, or lines of b2sum, to compare. 0"],
-  ]) {
-    assert.equal(await compare(text), verdict, text);
-  }
-  await page.hash(["empty.txt"], 3);
-  assert.equal(await compare(digest),
-    "Equal to the BLAKE2s-256 of empty.txt and to the BLAKE2s-256 of empty.txt. 2");
-  assert.equal(await page.evaluate(CLASS), "good");
-  await compare(digest.slice(1));
-  assert.equal(await page.evaluate(CLASS), "bad");
-});
-
 // By hashlib, of one byte "o" and of none. Lines as b2sum writes them, and in other usual forms.
 const MANIFEST = `# made by hand
 4ccbe3a80f8112da36171794db81f2d5  one byte
@@ -147,49 +111,68 @@ const VERDICT = "document.getElementById('verdict').textContent";
 const LINES =
   "[...document.querySelectorAll('#lines li')].map((line) => line.innerText.split('\\n'))";
 
-onPage("a manifest has a verdict for each file, with digests of all lengths", {}, async (page) => {
-  assert.equal(await page.compare(MANIFEST), "8 digests: 8 no such file below. 0");
-  await sleep(PAUSE);
+
+onPage("expected digests and manifests are compared, with digests of all lengths", {}, async (page) => {
+  const { compare } = page;
+  assert.equal(await compare("0".repeat(64)), "No file has been hashed yet. 0");
+  assert.equal(await compare(MANIFEST), "8 digests: 8 no such file below. 0");
+  await compare("");
   await page.hash(["one byte", "empty.txt"]);
-  await page.until(`${VERDICT} === "8 digests: 8 OK."`, 20);
-  assert.equal(await page.evaluate(CLASS), "good");
-  const names = ["one byte", "a/folder/one byte", "empty.txt", "empty.txt", "one byte",
-    "./empty.txt", "one byte", "empty.txt"];
-  assert.deepEqual(await page.evaluate(LINES), names.map((name) => [name, "OK"]));
+  const [{ digests }, other] = await page.evaluate(CARDS);
+  const digest = digests["BLAKE2s-256"];
+  const equal = "Equal to the BLAKE2s-256 of empty.txt. 1";
+  const unequal = "Not equal to any of the 8 digests below. 0";
+  const changed = (c) => (c === "0" ? "1" : "0");
+  const not = (length) => `This is not a digest of 128 to 512 bits in hexadecimal (${length} characters). 0`;
+  for (const [text, verdict, shown = "good"] of [
+    [digest, equal], [` ${digest.toUpperCase().slice(0, 32)}\n${digest.slice(32)} `, equal],
+    [digest.replace(/.{8}/g, "$& "), equal], [`BLAKE2s-256 (empty.txt) = ${digest}`, equal],
+    [`${digests["BLAKE2b-512"]} *empty.txt`, "Equal to the BLAKE2b-512 of empty.txt. 1"],
+    [other.digests["tree root"], "Equal to the tree root of one byte. 1"],
+    [digest.replace(/^./, changed), unequal, "bad"], [digest.replace(/.$/, changed), unequal, "bad"],
+    [`${digest}0  empty.txt`, not(76), "bad"], [digest.slice(1), not(63), "bad"],
+    [digest.slice(0, 30), not(30), "bad"], [`${digests["BLAKE2b-512"]}00`, not(130), "bad"],
+    ["g".repeat(64), not(64), "bad"], ["", "Paste a digest, or lines of b2sum, to compare. 0", "quiet"],
+  ]) {
+    assert.equal(await compare(text), verdict, text);
+    assert.equal(await page.evaluate(CLASS), shown, text);
+  }
+  const expect = async (text, verdict, shown, lines) => {
+    await compare(text);
+    await page.until(`${VERDICT} === ${JSON.stringify(verdict)}`, 20);
+    assert.deepEqual(await page.evaluate(LINES), lines, text);
+    assert.equal(await page.evaluate(CLASS), shown, text);
+  };
+  const names = ["one byte", "a/folder/one byte", "empty.txt", "empty.txt", "one byte", "./empty.txt", "one byte",
+    "empty.txt"];
+  const right = names.map((name) => [name, "OK"]);
+  await expect(MANIFEST, "8 digests: 8 OK.", "good", right);
   const cards = await page.evaluate(CARDS);
   assert.deepEqual(cards.map(({ digests }) => Object.keys(digests)), [
     [...KINDS, "BLAKE2b-224", "BLAKE2b-384", "tree root"],
     [...KINDS, "BLAKE2b-128", "BLAKE2s-128", "BLAKE2b-160", "BLAKE2s-160", "tree root, 256 bits"],
   ].map((kinds) => [...new Set(kinds)]));
-  const small = "[...document.querySelectorAll('small')].map((e) => e.textContent)";
-  assert.deepEqual(await page.evaluate(small),
+  assert.deepEqual(await page.evaluate("[...document.querySelectorAll('small')].map((e) => e.textContent)"),
     ["leaves of 64 KiB", "leaves of 1,000 bytes", "leaves of 64 KiB", "leaves of 4 KiB"]);
   // each line with another digit, the last one of its digest or the first
   const lines = MANIFEST.trim().split("\n").slice(1);
   for (const [i, line] of lines.entries()) {
-    const changed = [...lines];
-    changed[i] = line.replace(/(?<![0-9a-f])[0-9a-f](?=[0-9a-f]{20})/i, (c) => (c === "0" ? "1" : "0"));
-    assert.notEqual(changed[i], line);
-    await page.compare(changed.join("\n"));
-    await page.until(`${VERDICT} === "8 digests: 1 FAILED, 7 OK."`, 20);
-    assert.deepEqual((await page.evaluate(LINES))[0], [names[i], "FAILED"]);
-    assert.equal(await page.evaluate(CLASS), "bad");
+    const one = line.replace(/(?<![0-9a-f])[0-9a-f](?=[0-9a-f]{20})/i, changed);
+    assert.notEqual(one, line);
+    await expect(lines.map((each) => (each === line ? one : each)).join("\n"), "8 digests: 1 FAILED, 7 OK.", "bad",
+      [[names[i], "FAILED"], ...right.filter((_, j) => j !== i)]);
   }
   // of another length, which is computed after a pause
-  const other = "0".repeat(42);
-  assert.equal(await page.compare(`${other}  one byte\n${other}  empty.txt`),
-    "2 digests: 2 still being computed. 0");
-  await page.until(`${VERDICT} === "2 digests: 2 FAILED."`, 20);
-});
-
-onPage("what is in a manifest and is not here, or is no line of one, is said", LONG, async (page) => {
-  await page.hash(["one byte", "empty.txt"]);
+  const none = "0".repeat(42);
+  const both = `${none}  one byte\n${none}  empty.txt`;
+  assert.equal(await compare(both), "2 digests: 2 still being computed. 0");
+  await expect(both, "2 digests: 2 FAILED.", "bad", [["one byte", "FAILED"], ["empty.txt", "FAILED"]]);
   const b256 = "dedab4ca710107c66d0f9bad9aef7f52f9958e724198fb9981b77e3fb6ae4e56"; // of one byte
   const nothing = "836cc68931c2e4e3e838602eca1902591d216837bafddfe6f0c8cb07"; // of none
-  const other = b256.replace(/6$/, "7");
+  const wrong = b256.replace(/6$/, "7");
   for (const [text, verdict, ...lines] of [
     // two files of one name, of which one is here
-    [`${b256}  a/one byte\n${other}  b/one byte`, "2 digests: 1 no such file below, 1 OK.",
+    [`${b256}  a/one byte\n${wrong}  b/one byte`, "2 digests: 1 no such file below, 1 OK.",
       ["b/one byte", "no such file below"], ["a/one byte", "OK"]],
     // another file has the digest
     [`${b256}  other\n${b256}  one byte`, "2 digests: 1 no such file below, 1 OK.",
@@ -206,29 +189,52 @@ onPage("what is in a manifest and is not here, or is no line of one, is said", L
     [`\\${b256}  a\\nb\\\\c\\rd\n${b256}`, "2 digests: 1 no such file below, 1 OK.",
       ["a b\\c d", "no such file below"], [b256, "OK"]],
     // lines of b2sum -z
-    [`${b256}  one byte\0${other}  one byte\0`, "2 digests: 1 FAILED, 1 OK.",
+    [`${b256}  one byte\0${wrong}  one byte\0`, "2 digests: 1 FAILED, 1 OK.",
       ["one byte", "FAILED"], ["one byte", "OK"]],
     [`${nothing}\n${"0".repeat(56)}`, "2 digests: 1 FAILED, 1 OK.", ["0".repeat(56), "FAILED"], [nothing, "OK"]],
+    // no more lines are shown than can be read
+    [`${b256}  name\n`.repeat(1000), "1,000 digests: 1,000 no such file below.",
+      ...Array(200).fill(["name", "no such file below"]), ["and 800 more"]],
   ]) {
-    await page.compare(text);
-    await page.until(`${VERDICT} === ${JSON.stringify(verdict)}`, 20);
-    assert.deepEqual(await page.evaluate(LINES), lines, text);
-    assert.equal(await page.evaluate(CLASS), verdict.includes("FAILED") ? "bad" : "quiet", text);
+    await expect(text, verdict, verdict.includes("FAILED") ? "bad" : "quiet", lines);
   }
-  // no more lines are shown than can be read
-  await page.compare(`${b256}  name\n`.repeat(1000));
-  assert.equal(await page.evaluate(VERDICT), "1,000 digests: 1,000 no such file below.");
-  assert.deepEqual((await page.evaluate(LINES)).slice(199), [["name", "no such file below"], ["and 800 more"]]);
   // a digest alone is computed for each file, after a pause: the second is typed within the first one's
-  await Promise.all(["0".repeat(40), "b0b2850a0db21cea059541b48650649f"].map(page.compare));
-  await page.until(`${VERDICT} === "Equal to the BLAKE2s-128 of one byte."`, 20);
+  await Promise.all(["0".repeat(44), "e7cdb90916d4857b45c686f53bcdb999b9"].map(compare));
+  await page.until(`${VERDICT} === "Equal to the BLAKE2s-136 of one byte."`, 20);
   await sleep(PAUSE);
-  assert.equal((await page.evaluate(CARDS)).some(({ digests }) => "BLAKE2b-160" in digests), false);
+  assert.equal((await page.evaluate(CARDS)).some(({ digests }) => "BLAKE2b-176" in digests), false);
+  // what is expected is computed of a file that is chosen later, too
+  await compare(MANIFEST);
+  await page.hash(["empty.txt"], 3);
+  await page.until(`${CARDS}[0].digests["BLAKE2b-224"] === "${nothing}"`, 20);
+  assert.equal(await compare(digest),
+    "Equal to the BLAKE2s-256 of empty.txt and to the BLAKE2s-256 of empty.txt. 2");
 });
 
-onPage("a digest is copied, also if the page may not write to the clipboard", LONG, async (page) => {
-  await page.hash(["one byte"]);
+onPage("what is chosen is computed, of files that are dropped too, and is copied", LONG, async (page) => {
+  const isOver = () => page.evaluate("document.getElementById('drop').matches('.over')");
+  const isUnchosen = () => page.evaluate("!document.getElementById('choose').hidden");
+  await page.evaluate(`{
+    for (const box of document.querySelectorAll("[name=kind]")) box.checked = false;
+    document.getElementById("leaf").value = "4096";
+  }`);
+  const name = "käse & <b>.bin";
+  await page.choose(name);
+  assert.equal(await isUnchosen(), true);
+  for (const kind of ["tree root", "BLAKE2s-256"]) {
+    await page.evaluate(`document.querySelector('[value="${kind}"]').checked = true`);
+  }
+  const data = { items: [], files: [pathOf(name)], dragOperationsMask: 1 };
+  for (const type of ["dragEnter", "dragOver", "drop"]) {
+    assert.equal(await isOver(), type !== "dragEnter");
+    await page.call("Input.dispatchDragEvent", { type, x: 300, y: 300, data });
+  }
+  assert.equal(await isOver(), false);
+  await page.until("document.querySelectorAll('[data-state=done]').length === 1");
   const [{ digests }] = await page.evaluate(CARDS);
+  const { "BLAKE2b-512": _, ...wanted } = wantedOf(name, 4096);
+  assert.deepEqual(digests, wanted);
+  assert.equal(await isUnchosen(), false);
   await page.evaluate(`{
     window.copied = [];
     navigator.clipboard.writeText = async (text) => copied.push(text);
@@ -239,31 +245,10 @@ onPage("a digest is copied, also if the page may not write to the clipboard", LO
     button.click();
     new Promise((resolve) => setTimeout(() => resolve(button.textContent), 50));
   }`);
-  assert.equal(await click(2), "Copied");
-  await page.evaluate("navigator.clipboard.writeText = () => Promise.reject(new Error())");
-  assert.equal(await click(3), "Copied");
-  assert.deepEqual(await page.evaluate("copied"), [digests["BLAKE2s-256"], `copy ${digests["tree root"]}`]);
-});
-
-onPage("what is chosen is computed, of files that are dropped too, and no more", LONG, async (page) => {
-  await page.evaluate(`{
-    for (const box of document.querySelectorAll("[name=kind]")) box.checked = false;
-    document.getElementById("leaf").value = "4096";
-  }`);
-  const name = "käse & <b>.bin";
-  await page.choose(name);
-  assert.equal(await page.evaluate("document.getElementById('choose').hidden"), false);
-  await page.evaluate("document.querySelector('[value=\"tree root\"]').checked = true");
-  const data = { items: [], files: [pathOf(name)], dragOperationsMask: 1 };
-  for (const type of ["dragEnter", "dragOver", "drop"]) {
-    assert.equal(await page.evaluate("document.getElementById('drop').matches('.over')"), type !== "dragEnter");
-    await page.call("Input.dispatchDragEvent", { type, x: 300, y: 300, data });
-  }
-  assert.equal(await page.evaluate("document.getElementById('drop').matches('.over')"), false);
-  await page.until("document.querySelectorAll('[data-state=done]').length === 1");
-  const [{ digests }] = await page.evaluate(CARDS);
-  assert.deepEqual(digests, { "tree root": wantedOf(name, 4096)["tree root"] });
-  assert.equal(await page.evaluate("document.getElementById('choose').hidden"), true);
+  assert.equal(await click(0), "Copied");
+  await page.evaluate("navigator.clipboard.writeText = () => Promise.reject(new Error())"); // the page may not
+  assert.equal(await click(1), "Copied");
+  assert.deepEqual(await page.evaluate("copied"), [wanted["BLAKE2s-256"], `copy ${wanted["tree root"]}`]);
 });
 
 onPage("files are stopped while hashed or waiting, and a changed one is reported", {}, async (page) => {
