@@ -69,28 +69,23 @@ const noKey = "key must not be undefined; for a hash without a key leave the opt
 const MISSPELLED = ["dkLen", "outlen", "person", "personal", "Key", "digest_size", "length", "fanout", "tree"];
 
 const WORD = 2 ** 32 - 1;
-// The bounds of numbers, and of lengths of bytes, that options have.
+// The least number, and the least length of bytes, that options have.
 const NUMBERS = { digestLength: 1, outputLength: 1, leafLength: 1 };
 const LENGTHS = { key: 1, salt: 0, personalization: 0 };
-const labels = (most) => ({ salt: most, personalization: most });
-const ofTree = { digestLength: 64, ...labels(16) };
-// The calls with options: name, call, the options with the most of each, and options that have to be there.
+const keyed = (most, short) => ({ digestLength: most, key: most, salt: short, personalization: short });
+const output = (outputLength, key, short) => ({ outputLength, key, salt: short, personalization: short });
+const tree = { leafLength: WORD, digestLength: 64, salt: 16, personalization: 16 };
+// The calls with options: a class, or a function and what comes before them; the options with the most of each; and
+// options that have to be there.
+const LEAF = { leafLength: 5 };
 const WITH_OPTIONS = [
-  ...[["2b", 64, 16, { tree: 0 }], ["2s", 32, 8, { tree: 0 }], ["2bp", 64, 16], ["2sp", 32, 8]]
-    .flatMap(([name, most, short, more]) => {
-      const known = { digestLength: most, key: most, ...labels(short), ...more };
-      return [[`blake${name}`, (o) => vulfsjor[`blake${name}`](M, o), known],
-        [`new Blake${name}`, (o) => new vulfsjor[`Blake${name}`](o), known]];
-    }),
-  ["blake2bMany", (o) => vulfsjor.blake2bMany([M], o), { digestLength: 64, key: 64, ...labels(16) }],
-  ["blake2sMany", (o) => vulfsjor.blake2sMany([], o), { digestLength: 32, key: 32, ...labels(8) }],
-  ["new Blake2xb", (o) => new Blake2xb(o), { outputLength: 2 ** 32 - 2, key: 64, ...labels(16) }],
-  ["new Blake2xs", (o) => new vulfsjor.Blake2xs(o), { outputLength: 2 ** 16 - 2, key: 32, ...labels(8) }],
-  ["treeRoot", (o) => treeRoot(M, o), { leafLength: WORD, ...ofTree }],
-  ["new TreeHash", (o) => new TreeHash(o), { leafLength: WORD, ...ofTree }],
-  ["treeRootOfLeaves", (o) => treeRootOfLeaves(bytes(64), o), { leafLength: WORD, ...ofTree }],
-  ["treeLeaves", (o) => treeLeaves(M, o), { leafLength: WORD, first: 0, ends: 0, ...labels(16) },
-    { leafLength: 5, first: 0, ends: true }],
+  ...[["2b", { ...keyed(64, 16), tree: 0 }], ["2s", { ...keyed(32, 8), tree: 0 }], ["2bp", keyed(64, 16)],
+    ["2sp", keyed(32, 8)]].flatMap(([name, known]) => [[`blake${name}`, M, known], [`new Blake${name}`, null, known]]),
+  ["blake2bMany", [M], keyed(64, 16)], ["blake2sMany", [], keyed(32, 8)],
+  ["new Blake2xb", null, output(2 ** 32 - 2, 64, 16)], ["new Blake2xs", null, output(2 ** 16 - 2, 32, 8)],
+  ["treeRoot", M, tree, LEAF], ["new TreeHash", null, tree, LEAF], ["treeRootOfLeaves", bytes(64), tree, LEAF],
+  ["treeLeaves", M, { leafLength: WORD, first: 0, ends: 0, salt: 16, personalization: 16 },
+    { ...LEAF, first: 0, ends: true }],
 ];
 
 // Refuses numbers out of these bounds, and what is no number.
@@ -112,8 +107,15 @@ function refusesOthers(call, what, isOption = false) {
   }
 }
 
-for (const [caller, call, known, given = known.leafLength ? { leafLength: 5 } : {}] of WITH_OPTIONS) {
-  testRefusals(`${caller}: each option, unknown ones, and what is no options`, () => {
+for (const [caller, message, known, given = {}] of WITH_OPTIONS) {
+  testRefusals(`${caller}: each option, unknown ones, what is no options, and one argument more`, () => {
+    const isClass = caller.startsWith("new ");
+    const call = (...words) => (isClass
+      ? Reflect.construct(vulfsjor[caller.slice(4)], words) : vulfsjor[caller](message, ...words));
+    for (const more of [undefined, 32]) {
+      refuses(() => call(given, more), TypeError, `${caller}: ${isClass ? tooMany(2, 1) : tooMany(3, 2)}`);
+    }
+    if (isClass) assert.throws(() => vulfsjor[caller.slice(4)](given), TypeError);
     const names = Object.keys(known);
     for (const name of names) {
       const one = (value) => call({ ...given, [name]: value });
@@ -171,15 +173,14 @@ for (const [name, most, offset] of [["blake2b", 64, 2n ** 64n - 1n], ["blake2s",
 }
 
 testRefusals("what is not bytes is refused, wherever bytes are expected", () => {
-  const leaves = { leafLength: 1 };
   for (const [caller, what, call] of [
     ...["blake2b", "blake2s", "blake2bp", "blake2sp"].map((name) => [name, "message", vulfsjor[name]]),
     ...["Blake2b", "Blake2s", "Blake2bp", "Blake2sp", "Blake2xb", "Blake2xs"].map((name) =>
       [`${name}.update`, "message", (value) => new vulfsjor[name]().update(value)]),
-    ["TreeHash.update", "message", (value) => new TreeHash(leaves).update(value)],
+    ["TreeHash.update", "message", (value) => new TreeHash(LEAF).update(value)],
     ["Blake2s.verify", "tag", (value) => new Blake2s().verify(value)],
     ["Blake2bp.verify", "tag", (value) => new Blake2bp({ key: M }).verify(value)],
-    ["treeRoot", "message", (value) => treeRoot(value, leaves)],
+    ["treeRoot", "message", (value) => treeRoot(value, LEAF)],
     ["blake2bMany", "message 1", (value) => vulfsjor.blake2bMany([M, value])],
     ["treeLeaves", "message", (value) => treeLeaves(value, {})],
     ["treeRootOfLeaves", "digests", (value) => treeRootOfLeaves(value, {})],
@@ -291,35 +292,27 @@ testRefusals("several messages", () => {
 });
 
 testRefusals("one argument more is refused, except by five calls that ignore it", async () => {
-  const tree = { leafLength: 5 };
-  for (const name of ["blake2b", "blake2s", "blake2bp", "blake2sp", "treeRoot", "treeLeaves", "treeRootOfLeaves",
-    "equal", "blake2bMany", "blake2sMany", "deriveKey"]) {
-    const words = { equal: [M, M], deriveKey: [M, M, 9] }[name] ??
-      [/Many$/.test(name) ? [] : M, /^tree/.test(name) ? tree : {}];
-    for (const more of [undefined, 32]) {
-      refuses(() => vulfsjor[name](...words, more), TypeError,
-        `${name}: ${tooMany(words.length + 1, words.length)}`);
-    }
-  }
-  for (const Hash of [Blake2b, Blake2s, Blake2bp, Blake2sp, TreeHash, Blake2xb, vulfsjor.Blake2xs]) {
-    const run = new Hash(Hash === TreeHash ? tree : {});
-    assert.throws(() => Hash({}), TypeError);
-    refuses(() => new Hash(tree, 1), TypeError, `new ${Hash.name}: ${tooMany(2, 1)}`);
-    const isOutput = "read" in run;
-    for (const [name, ...words] of [
-      ["update", M], ["copy"], ...(isOutput ? [["read", 9]] : [["hex"], ["verify", M], ["reset"]]),
-    ]) {
+  refuses(() => equal(M, M, undefined), TypeError, `equal: ${tooMany(3, 2)}`);
+  refuses(() => deriveKey(M, M, 9, undefined), TypeError, `deriveKey: ${tooMany(4, 3)}`);
+  for (const [Hash, ...calls] of [
+    ...[Blake2b, Blake2s, Blake2bp, Blake2sp, TreeHash].map((Hash) => [Hash, ["hex"], ["verify", M], ["reset"]]),
+    ...[Blake2xb, vulfsjor.Blake2xs].map((Hash) => [Hash, ["read", 9]]),
+  ]) {
+    const run = new Hash(Hash === TreeHash ? LEAF : {}).update(M);
+    const before = run.copy();
+    for (const [name, ...words] of [["update", M], ["copy"], ...calls]) {
       refuses(() => run[name](...words, undefined), TypeError,
         `${Hash.name}.${name}: ${tooMany(words.length + 1, words.length)}`);
     }
-    if (!isOutput) {
+    if (run.digest) {
       refuses(() => run.digest("hex"), TypeError,
         `${Hash.name}.digest: too many arguments, 1 instead of at most 0; use hex() for hexadecimal digits`);
+      assert.equal(run.copy().hex(), before.hex());
     }
     assert.equal(run.wipe(1), undefined);
   }
   for (const name of Object.keys(vulfsjor).filter((name) => name.endsWith("Stream"))) {
-    await assert.rejects(vulfsjor[name](new Blob(), tree, 1),
+    await assert.rejects(vulfsjor[name](new Blob(), LEAF, 1),
       { name: "TypeError", message: `${name}: ${tooMany(3, 2)}` });
   }
   assert.equal(hex(M, 1), "616263");
@@ -334,7 +327,7 @@ test("streams reject what calls refuse", async () => {
     assert.rejects(stream(given, options), { name, message: `${stream.name}: ${message}` });
   for (const stream of Object.values(vulfsjor).filter(({ name }) => name.endsWith("Stream"))) {
     const one = stream.name.replace("Stream", "");
-    const options = one === "treeRoot" ? { leafLength: 5 } : {};
+    const options = one === "treeRoot" ? LEAF : {};
     for (const [given, said] of [
       [M, `an instance of Uint8Array; use ${one}()`], [M.buffer, `an instance of ArrayBuffer; use ${one}()`],
       [new Response("abc"), "an instance of Response; pass its body"], [new Response(), "an instance of Response"],
@@ -347,7 +340,6 @@ test("streams reject what calls refuse", async () => {
       await rejects(stream, new Blob(), options, noKey);
     }
   }
-  const tree = { leafLength: 5 };
   for (const [stream, options, message, name] of [
     [blake2bStream, { dkLen: 3 }, `unknown property "dkLen" of options; ${known}, tree, onProgress, signal`],
     ...[blake2bpStream, blake2spStream].map((stream) =>
@@ -355,9 +347,9 @@ test("streams reject what calls refuse", async () => {
     [treeRootStream, undefined, "leafLength must be given"],
     [blake2bStream, { threads: 2 }, `unknown property "threads" of options; ${known}, tree, onProgress, signal`],
     [blake2bStream, { onProgress: 5 }, "onProgress must be a function, not a number"],
-    [treeRootStream, { ...tree, onFallback: true }, "onFallback must be a function, not a boolean"],
-    [treeRootStream, { ...tree, threads: "4" }, "threads must be a number, not a string"],
-    ...[257, 1.5, -1, NaN].map((threads) => [treeRootStream, { ...tree, threads },
+    [treeRootStream, { ...LEAF, onFallback: true }, "onFallback must be a function, not a boolean"],
+    [treeRootStream, { ...LEAF, threads: "4" }, "threads must be a number, not a string"],
+    ...[257, 1.5, -1, NaN].map((threads) => [treeRootStream, { ...LEAF, threads },
       `threads must be an integer from 0 to 256, not ${threads}`, "RangeError"]),
     ...[[{}, "an object"], [null, "null"], [new AbortController(), "an instance of AbortController"],
       [{ aborted: false }, "an object"], [new EventTarget(), "an instance of EventTarget"],
