@@ -102,8 +102,7 @@ function refusesNumbers(call, what, least, most) {
 function refusesOthers(call, what, isOption = false) {
   for (const [value, said] of NO_BYTES) {
     if (isOption && value === undefined) continue; // an option that is not given
-    refuses(() => call(value), TypeError,
-      `${what} must be a Uint8Array, another view or an ArrayBuffer, not ${said}`);
+    refuses(() => call(value), TypeError, `${what} must be a Uint8Array, another view or an ArrayBuffer, not ${said}`);
   }
 }
 

@@ -148,6 +148,6 @@ test("conformance cases in jsc, the engine of Safari", (t) => {
   writeFileSync(join(folder, "cases.json"), JSON.stringify(CASES));
   const { stdout, stderr } = spawnSync(
     "jsc", ["-m", join(folder, "main.mjs")], { encoding: "utf8", maxBuffer: 2 ** 28 });
-  assert.match(stdout, /^\{/, stderr);
+  assert.match(stdout, /^\[/, stderr);
   assertCases(JSON.parse(stdout));
 });

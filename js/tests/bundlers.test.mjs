@@ -54,8 +54,7 @@ const BUNDLERS = {
 };
 
 // A test that is skipped if there is no bundler of this name.
-const testOf = (command, name, work) => test(name, (t) =>
-  (hasCommand(command) ? work(t) : t.skip(`no ${command}`)));
+const testOf = (command, name, work) => test(name, (t) => (hasCommand(command) ? work(t) : t.skip(`no ${command}`)));
 
 for (const [command, write] of Object.entries(BUNDLERS)) {
   testOf(command, `bundles of ${command} start their workers in node`, async () => {

@@ -11,8 +11,7 @@ import { SLAB, memories } from "../src/engine.js";
 export const HUGE = Boolean(process.env.VULFSJOR_TEST_HUGE);
 export const LONG = { skip: HUGE ? false : "VULFSJOR_TEST_HUGE is not set" };
 
-export const hexOf = (bytes) =>
-  Buffer.from(bytes.buffer, bytes.byteOffset, bytes.length).toString("hex");
+export const hexOf = (bytes) => Buffer.from(bytes.buffer, bytes.byteOffset, bytes.length).toString("hex");
 
 let zeros = Buffer.alloc(0);
 

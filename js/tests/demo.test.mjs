@@ -86,8 +86,7 @@ onPage("files are hashed and shown", {}, async (page) => {
     assert.match(shown, /^done in \d+(\.\d\d)? s$/);
   }
   // hashlib.blake2b(digest_size=32) of nothing
-  assert.equal(cards.at(-1).digests["BLAKE2b-256"],
-    "0e5751c026e543b2e8ab2eb06099daa1d1e5df47778f7787faab45cdf12fe3a8");
+  assert.equal(cards.at(-1).digests["BLAKE2b-256"], "0e5751c026e543b2e8ab2eb06099daa1d1e5df47778f7787faab45cdf12fe3a8");
   assert.match(await page.textOf("said"), /^video\.mp4: done in /);
   assert.equal(await page.evaluate("document.querySelectorAll('progress, .top button').length"), 0);
   // the same file can be chosen again
@@ -108,8 +107,7 @@ BLAKE2b-tree-1000 (empty.txt) = 186d406ce35b5df41038733cd84cf4f66c208bc02ad778bc
 `;
 const PAUSE = 500; // longer than one in typing
 const VERDICT = "document.getElementById('verdict').textContent";
-const LINES =
-  "[...document.querySelectorAll('#lines li')].map((line) => line.innerText.split('\\n'))";
+const LINES = "[...document.querySelectorAll('#lines li')].map((line) => line.innerText.split('\\n'))";
 
 
 onPage("expected digests and manifests are compared, with digests of all lengths", {}, async (page) => {
@@ -207,8 +205,7 @@ onPage("expected digests and manifests are compared, with digests of all lengths
   await compare(MANIFEST);
   await page.hash(["empty.txt"], 3);
   await page.until(`${CARDS}[0].digests["BLAKE2b-224"] === "${nothing}"`, 20);
-  assert.equal(await compare(digest),
-    "Equal to the BLAKE2s-256 of empty.txt and to the BLAKE2s-256 of empty.txt. 2");
+  assert.equal(await compare(digest), "Equal to the BLAKE2s-256 of empty.txt and to the BLAKE2s-256 of empty.txt. 2");
 });
 
 onPage("what is chosen is computed, of files that are dropped too, and is copied", LONG, async (page) => {

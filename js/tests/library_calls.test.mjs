@@ -112,8 +112,7 @@ testCalls("several messages are passed in whole groups that fill window and reco
 });
 
 testCalls("leaves are passed as many as fit into the window with their digests", () => {
-  const leaves = (length, leafLength) =>
-    treeLeaves(part(length), { leafLength, first: 0, ends: true });
+  const leaves = (length, leafLength) => treeLeaves(part(length), { leafLength, first: 0, ends: true });
   const most = Math.floor(WINDOW / (100 + 64) / 4) * 4 * 100; // whole groups
   assertCalls(() => leaves(2 * most + 1, 100), `tree_leaves ${most}`, `tree_leaves ${most}`, "tree_leaves 1");
   assertCalls(() => leaves(WINDOW - 64, WINDOW - 64), `tree_leaves ${WINDOW - 64}`);

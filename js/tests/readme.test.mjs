@@ -74,9 +74,7 @@ test("the names and numbers in index.d.ts and README.md are those of the code", 
 
 test("bench/javascript.mjs divides our speed by the other one", () => {
   assert.equal(hashRow("hash", 64, [2, 3]), "| hash | 64 | 2000 ns | 3000 ns | 1.50 |\n");
-  assert.equal(
-    hashRow("hash", 65536, [64, 128]), "| hash | 65536 | 1.02 GB/s | 0.51 GB/s | 2.00 |\n");
+  assert.equal(hashRow("hash", 65536, [64, 128]), "| hash | 65536 | 1.02 GB/s | 0.51 GB/s | 2.00 |\n");
   assert.equal(callRow("call", [0.2, 0.3]), "| call | 200 ns | 300 ns | 1.50 |\n");
-  assert.equal(
-    rootRow(1, [2, 1, 4]), "| 1 MiB | 0.52 GB/s | 1.05 GB/s | 2.00 | 0.26 GB/s | 0.50 |\n");
+  assert.equal(rootRow(1, [2, 1, 4]), "| 1 MiB | 0.52 GB/s | 1.05 GB/s | 2.00 | 0.26 GB/s | 0.50 |\n");
 });

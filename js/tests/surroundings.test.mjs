@@ -14,8 +14,7 @@ const WANTED = createHash("blake2b512").update("abc").digest("hex");
 const bytes = (length) => new Uint8Array(length).fill(7);
 
 test("bytes of other realms, of subclasses, and of objects that lie about themselves", () => {
-  const foreign = vm.runInNewContext(
-    "({ u: Uint8Array.of(97, 98, 99), b: Uint8Array.of(97, 98, 99).buffer, o: {} })");
+  const foreign = vm.runInNewContext("({ u: Uint8Array.of(97, 98, 99), b: Uint8Array.of(97, 98, 99).buffer, o: {} })");
   class Liar extends Uint8Array {
     get length() { return 1; }
     get byteLength() { return 2; }
