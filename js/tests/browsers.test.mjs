@@ -6,12 +6,10 @@ import { readFileSync, writeFileSync } from "node:fs";
 import { join } from "node:path";
 import test from "node:test";
 import { setTimeout as sleep } from "node:timers/promises";
-import { fileURLToPath } from "node:url";
-import { endBrowser, openChromium, serve } from "./chromium.mjs";
-import { casesOf, hasCommand, HUGE, newFolder } from "./common.mjs";
+import { endBrowser, openChromium } from "./chromium.mjs";
+import { casesOf, hasCommand, HUGE, newFolder, serve, top } from "./common.mjs";
 import { HASHES } from "./conformance_driver.mjs";
 
-const top = fileURLToPath(new URL("..", import.meta.url));
 const CHECK = `const [vulfsjor, { tryCases }, texts] = await Promise.all([import("/index.js"),
   import("/tests/conformance_driver.mjs"), fetch("/cases.json").then((answer) => answer.json())]);
   const answer = texts.map((text) => tryCases(vulfsjor, text));`;

@@ -5,12 +5,10 @@ import { createHash } from "node:crypto";
 import { cpSync, mkdirSync, readFileSync, statSync, writeFileSync } from "node:fs";
 import { join } from "node:path";
 import test from "node:test";
-import { fileURLToPath } from "node:url";
 import vm from "node:vm";
 import { bundle, shorten } from "../tools/bundle.mjs";
-import { newFolder } from "./common.mjs";
+import { newFolder, top } from "./common.mjs";
 
-const here = (path) => fileURLToPath(new URL(path, import.meta.url));
 const sha256 = (bytes, encoding) => createHash("sha256").update(bytes).digest(encoding);
 const CALLS = ["", "_final", "_init_salt_personal", "_init_tree", "_reset", "_set_last_node", "_update", "_verify"];
 // The functions that the modules of one hash export.
@@ -26,13 +24,13 @@ const MODULE = Uint8Array.of(0, 97, 115, 109, 1, 0, 0, 0, 1, 4, 1, 0x60, 0, 0, 3
 
 test("the files of modules in src/ are what tools/build.mjs makes, and those of one hash have only that", async () => {
   // As a command, as `make dist` runs it.
-  execFileSync(here("../tools/build.mjs"), ["--check"]);
+  execFileSync(join(top, "tools/build.mjs"), ["--check"]);
   for (const [name, calls] of Object.entries(NAMES)) {
     const module = new WebAssembly.Module((await import(`../src/wasm_${name}.js`)).decode());
     assert.deepEqual(WebAssembly.Module.exports(module).map((each) => each.name).sort(),
       ["__heap_base", "memory", ...calls].sort());
     assert.deepEqual(WebAssembly.Module.imports(module), []);
-    assert.ok(statSync(here(`../src/wasm_${name}.js`)).size < 30_000);
+    assert.ok(statSync(join(top, `src/wasm_${name}.js`)).size < 30_000);
   }
 });
 
@@ -41,7 +39,7 @@ function makeCopy() {
   const folder = newFolder();
   const file = (path) => join(folder, path);
   for (const part of ["src", "tools", "demo", "index.js", "package.json"]) {
-    cpSync(here(`../${part}`), file(`js/${part}`), { recursive: true });
+    cpSync(join(top, part), file(`js/${part}`), { recursive: true });
   }
   mkdirSync(file("dist/wasm"), { recursive: true });
   writeFileSync(file("dist/wasm/vulfsjor.wasm"), MODULE);
@@ -65,7 +63,7 @@ test("tools/build.mjs writes and compares the modules, and writes the page", () 
   assert.deepEqual(build("--check"),
     [1, made.map((path) => `build: ${path} is not what this script makes\n`).join("")]);
   assert.deepEqual(textsOf(), before.map((text) => `${text} `));
-  const { scripts, version } = JSON.parse(readFileSync(here("../package.json"), "utf8"));
+  const { scripts, version } = JSON.parse(readFileSync(join(top, "package.json"), "utf8"));
   for (const name of ["build", "page"]) execFileSync("sh", ["-c", scripts[name]], { cwd: file("js") });
   assert.deepEqual(textsOf(), before);
   for (const words of [["--page"], ["--pages", "x"]]) {

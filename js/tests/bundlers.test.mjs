@@ -5,12 +5,10 @@ import { execFile } from "node:child_process";
 import { cpSync, readFileSync, writeFileSync } from "node:fs";
 import { basename, dirname, join } from "node:path";
 import test from "node:test";
-import { fileURLToPath } from "node:url";
 import { promisify } from "node:util";
-import { openChromium, serve } from "./chromium.mjs";
-import { hasCommand, newFolder } from "./common.mjs";
+import { openChromium } from "./chromium.mjs";
+import { hasCommand, newFolder, serve, top } from "./common.mjs";
 
-const top = fileURLToPath(new URL("..", import.meta.url));
 const WORKER = "node_modules/vulfsjor/src/vulfsjor_worker.js";
 // A message of two ranges, and its root by hashlib.
 const MESSAGE = "new Uint8Array(5_000_000).map((_, i) => i ^ (i >> 8))";

@@ -3,9 +3,8 @@
 import { spawn } from "node:child_process";
 import { once } from "node:events";
 import { mkdtempSync, rmSync } from "node:fs";
-import { createServer } from "node:http";
 import { tmpdir } from "node:os";
-import { extname, join } from "node:path";
+import { join } from "node:path";
 import { after } from "node:test";
 import { setTimeout as sleep } from "node:timers/promises";
 
@@ -126,26 +125,4 @@ export function openChromium() {
     if (fault.code !== "ENOENT") throw fault;
   });
   return shared;
-}
-
-const TYPES = { "": "text/html", ".js": "text/javascript", ".mjs": "text/javascript", ".json": "application/json" };
-
-/** Serves what bodyOf returns for the path of a request, during a test. Returns the address. */
-export async function serve(t, bodyOf) {
-  const server = createServer(async (request, response) => {
-    const path = decodeURIComponent(request.url);
-    try {
-      const body = await bodyOf(path, request, response);
-      response.setHeader("content-type", TYPES[extname(path)]);
-      response.end(body);
-    } catch {
-      response.writeHead(404).end();
-    }
-  });
-  await new Promise((resolve) => server.listen(0, "127.0.0.1", resolve));
-  t.after(() => {
-    server.closeAllConnections();
-    server.close();
-  });
-  return `http://127.0.0.1:${server.address().port}`;
 }

@@ -2,14 +2,18 @@
 import assert from "node:assert/strict";
 import { execFileSync, spawnSync } from "node:child_process";
 import { mkdtempSync, readFileSync, rmSync } from "node:fs";
+import { createServer } from "node:http";
 import { tmpdir } from "node:os";
-import { join } from "node:path";
+import { extname, join } from "node:path";
 import { fileURLToPath } from "node:url";
 import { SLAB, memories } from "../src/engine.js";
 
 /** Whether this is the full test, and the options of a test that only it has. */
 export const HUGE = Boolean(process.env.VULFSJOR_TEST_HUGE);
 export const LONG = { skip: HUGE ? false : "VULFSJOR_TEST_HUGE is not set" };
+
+/** The folder of the package. */
+export const top = fileURLToPath(new URL("..", import.meta.url));
 
 export const hexOf = (bytes) => Buffer.from(bytes.buffer, bytes.byteOffset, bytes.length).toString("hex");
 
@@ -78,7 +82,7 @@ let written = process.env.VULFSJOR_CONFORMANCE;
 export function casesOf(hash, each = 1) {
   if (!written) {
     written = newFolder();
-    execFileSync("python3", [fileURLToPath(new URL("../../tests/conformance/write.py", import.meta.url)), written]);
+    execFileSync("python3", [join(top, "../tests/conformance/write.py"), written]);
   }
   const text = readFileSync(join(written, `${hash}.txt`), "ascii");
   return each === 1 ? text : text.split("\n\n").filter((_, i) => i % each === 1).join("\n\n");
@@ -92,3 +96,25 @@ export const printedBy = (program, options) => execFileSync(
 
 /** The address of the package, as a word of such a program. */
 export const INDEX = JSON.stringify(new URL("../index.js", import.meta.url).href);
+
+const TYPES = { "": "text/html", ".js": "text/javascript", ".mjs": "text/javascript", ".json": "application/json" };
+
+/** Serves what bodyOf returns for the path of a request, during a test. Returns the address. */
+export async function serve(t, bodyOf) {
+  const server = createServer(async (request, response) => {
+    const path = decodeURIComponent(request.url);
+    try {
+      const body = await bodyOf(path, request, response);
+      response.setHeader("content-type", TYPES[extname(path)]);
+      response.end(body);
+    } catch {
+      response.writeHead(404).end();
+    }
+  });
+  await new Promise((resolve) => server.listen(0, "127.0.0.1", resolve));
+  t.after(() => {
+    server.closeAllConnections();
+    server.close();
+  });
+  return `http://127.0.0.1:${server.address().port}`;
+}

@@ -2,10 +2,10 @@
 // left in the library's memory, and some cases over the module that the proved source compiles to.
 import assert from "node:assert/strict";
 import { execFileSync } from "node:child_process";
+import { join } from "node:path";
 import test from "node:test";
-import { fileURLToPath } from "node:url";
 import * as vulfsjor from "../index.js";
-import { assertClean, casesOf, HUGE } from "./common.mjs";
+import { assertClean, casesOf, HUGE, top } from "./common.mjs";
 import { HASHES, tryCases } from "./conformance_driver.mjs";
 
 // How many cases end at a call that the package does not have.
@@ -25,7 +25,7 @@ const EACH = HUGE ? 1 : 16;
 
 test(`each ${EACH}th case over a memory with 64-bit addresses, which dist/wasm has`, () => {
   const flags = Number(process.versions.node.split(".")[0]) < 24 ? ["--experimental-wasm-memory64"] : [];
-  const program = fileURLToPath(new URL("wide_memory.mjs", import.meta.url));
+  const program = join(top, "tests/wide_memory.mjs");
   const text = execFileSync(process.execPath, [...flags, program, EACH], { encoding: "utf8" });
   const { cases, wrong } = JSON.parse(text);
   assert.deepEqual(wrong, []);

@@ -6,16 +6,15 @@ import { readFileSync, truncateSync, writeFileSync } from "node:fs";
 import { join } from "node:path";
 import test from "node:test";
 import { setTimeout as sleep } from "node:timers/promises";
-import { fileURLToPath, pathToFileURL } from "node:url";
+import { pathToFileURL } from "node:url";
 import { hex, treeRoot } from "../index.js";
-import { openChromium, serve } from "./chromium.mjs";
-import { LONG, newFolder } from "./common.mjs";
+import { openChromium } from "./chromium.mjs";
+import { LONG, newFolder, serve, top } from "./common.mjs";
 
 const folder = newFolder();
 const pathOf = (name) => join(folder, name);
 const PAGE = pathToFileURL(pathOf("index.html")).href;
-execFileSync(process.execPath,
-  [fileURLToPath(new URL("../tools/build.mjs", import.meta.url)), "--page", pathOf("index.html")]);
+execFileSync(process.execPath, [join(top, "tools/build.mjs"), "--page", pathOf("index.html")]);
 const FILES = { "empty.txt": 0, "one byte": 1, "käse & <b>.bin": 70_001, "video.mp4": 5_000_000 };
 for (const [name, size] of Object.entries(FILES)) writeFileSync(pathOf(name), Buffer.alloc(size, name));
 const KINDS = ["BLAKE2b-512", "BLAKE2b-256", "BLAKE2s-256", "tree root"];

@@ -2,11 +2,11 @@
 import assert from "node:assert/strict";
 import { spawn } from "node:child_process";
 import { closeSync, openSync, readFileSync, readSync } from "node:fs";
+import { join } from "node:path";
 import test from "node:test";
-import { fileURLToPath } from "node:url";
-import { HUGE } from "./common.mjs";
+import { HUGE, top } from "./common.mjs";
 
-const program = fileURLToPath(new URL("keep_key.mjs", import.meta.url));
+const program = join(top, "tests/keep_key.mjs");
 const MOST = 2 ** 22;
 
 // How often any 8 bytes of the key, at a multiple of 8 of it, are in what the process may write.

@@ -4,11 +4,8 @@ import { execFileSync, spawnSync } from "node:child_process";
 import { cpSync, mkdirSync, readFileSync, readdirSync, rmSync, writeFileSync } from "node:fs";
 import { join } from "node:path";
 import test from "node:test";
-import { fileURLToPath } from "node:url";
 import { gzipSync } from "node:zlib";
-import { hasCommand, newFolder } from "./common.mjs";
-
-const top = fileURLToPath(new URL("..", import.meta.url));
+import { hasCommand, newFolder, top } from "./common.mjs";
 
 test("npm packs what programs need, and installs it by the command of the pages, as a copy", (t) => {
   if (!hasCommand("npm")) return t.skip("no npm");

@@ -4,7 +4,6 @@ import { createHash, randomBytes } from "node:crypto";
 import { getEventListeners, once } from "node:events";
 import { createReadStream, openAsBlob, writeFileSync } from "node:fs";
 import { open } from "node:fs/promises";
-import { createServer } from "node:http";
 import { join } from "node:path";
 import { createInterface } from "node:readline";
 import { PassThrough, Readable } from "node:stream";
@@ -14,7 +13,7 @@ import {
   blake2b, blake2bStream, blake2bp, blake2bpStream, blake2s, blake2sStream, blake2sp, blake2spStream, treeRoot,
   treeRootStream, utf8,
 } from "../index.js";
-import { hexOf, newFolder, noteStates, withOthers } from "./common.mjs";
+import { hexOf, newFolder, noteStates, serve, withOthers } from "./common.mjs";
 
 const SLICE = 4_194_304;
 const MESSAGE = new Uint8Array(randomBytes(4_300_000)); // two slices of a blob
@@ -206,26 +205,15 @@ test("key and salt are those of the call, and a stream under a key that fails le
   for (const state of states) assert.ok(state.every((byte) => byte === 0));
 });
 
-// Serves one request, and returns what the handler does with it.
-async function answerOf(handler, body) {
-  let answered;
-  const answer = new Promise((resolve) => (answered = resolve));
-  answer.catch(() => {}); // until it is returned
-  const server = createServer((request, response) => {
-    answered(handler(request).finally(() => response.end()));
-  });
-  server.listen(0, "127.0.0.1");
-  await once(server, "listening");
-  try {
-    await fetch(`http://127.0.0.1:${server.address().port}/`, { method: "POST", body }).then((each) => each.text());
-    return await answer;
-  } finally {
-    server.closeAllConnections();
-    server.close();
-  }
+// What a handler does with an upload.
+async function answerOf(t, handler) {
+  let answer;
+  const url = await serve(t, (path, request) => (answer = handler(request)).then(() => "", () => ""));
+  await fetch(url, { method: "POST", body: BODY }).then((response) => response.text());
+  return answer;
 }
 
-test("an upload that a parser has read is refused", async () => {
+test("an upload that a parser has read is refused", async (t) => {
   for (const parse of [
     async (request) => { for await (const chunk of request) request.body = chunk; },
     async (request) => { // by events, as older parsers do it
@@ -233,9 +221,9 @@ test("an upload that a parser has read is refused", async () => {
       await once(request, "end");
     },
   ]) {
-    await assert.rejects(answerOf((request) => parse(request).then(() => blake2bStream(request)), BODY), READ);
+    await assert.rejects(answerOf(t, (request) => parse(request).then(() => blake2bStream(request))), READ);
   }
-  assert.deepEqual(await answerOf((request) => blake2bStream(request), BODY), blake2b(BODY));
+  assert.deepEqual(await answerOf(t, (request) => blake2bStream(request)), blake2b(BODY));
 });
 
 test("the rest of a stream is not its digest", async () => {
