@@ -293,25 +293,6 @@ test("a process ends after a call by threads", () => {
   assert.equal(printed, "19fc31bb\n"); // hashlib's
 });
 
-test("in a browser, workers read slices of a blob", async () => {
-  const ranges = [];
-  const Class = class extends Fake {
-    postMessage(job, transferred) {
-      assert.deepEqual([job.message, transferred], [undefined, []]);
-      ranges.push([Number(job.range.first), job.blob.size]);
-      super.postMessage(job);
-    }
-  };
-  for (const length of [MESSAGE.length, RANGE, 0]) {
-    const message = MESSAGE.subarray(0, length);
-    const root = await inBrowser(Class, 4, () => byThreads(new Blob([message]), { threads: 2 }));
-    assert.equal(root, hex(treeRoot(message, LEAF)));
-  }
-  assert.deepEqual(ranges.sort((a, b) => a[0] - b[0] || a[1] - b[1]), [
-    [0, 0], [0, RANGE], [0, RANGE], [64, RANGE], [128, MESSAGE.length - 2 * RANGE],
-  ]);
-});
-
 test("what a worker of node or of a browser reports is an error of the call", async () => {
   const OfNode = class extends Ready {
     constructor(program, words) {
@@ -337,7 +318,7 @@ test("what a worker of node or of a browser reports is an error of the call", as
   }
 });
 
-test("where a text cannot be started a file is, or else the calling thread hashes", async (t) => {
+test("where a text cannot be started a file is, or else the calling thread hashes; blobs are read there", async (t) => {
   t.after(() => (Fake.failing = () => undefined));
   const released = [];
   const { revokeObjectURL } = URL;
@@ -349,8 +330,10 @@ test("where a text cannot be started a file is, or else the calling thread hashe
   const thrown = new Error("refused");
   const isText = (url) => url.startsWith("blob:");
   const held = []; // the addresses of texts that workers still hold when they work
+  const jobs = [];
   const Class = class extends Fake {
-    postMessage(job) {
+    postMessage(job, transferred) {
+      jobs.push([job.blob?.size ?? job.message.length, transferred.length]);
       if (isText(this.url) && !released.includes(this.url)) held.push(this.url);
       return super.postMessage(job);
     }
@@ -365,8 +348,7 @@ test("where a text cannot be started a file is, or else the calling thread hashe
   ]) {
     Fake.failing = failing;
     for (const source of [blob(), inPieces(MESSAGE)]) {
-      Fake.made.length = 0;
-      released.length = 0;
+      Fake.made.length = jobs.length = released.length = 0;
       const [causes, counts] = [[], []];
       const options = { threads: 2, onFallback: (...words) => causes.push(words), onProgress: (at) => counts.push(at) };
       const root = await withOthers(URL, { revokeObjectURL: release }, () =>
@@ -380,6 +362,8 @@ test("where a text cannot be started a file is, or else the calling thread hashe
       assert.deepEqual(Fake.made.filter(([url]) => url === file[0]), Array(2 * made.includes("file")).fill(file));
       assert.equal(new Set(released).size, 2);
       assert.deepEqual(held, []);
+      assert.deepEqual(jobs.sort((a, b) => a[0] - b[0]), cause ? [] : [MESSAGE.length - 2 * RANGE, RANGE, RANGE]
+        .map((length) => [length, source instanceof Blob ? 0 : 1])); // slices of a blob, or bytes
       assert.deepEqual([counts.length, counts.at(-1)], [3, MESSAGE.length]);
     }
   }
