@@ -114,9 +114,10 @@ test("what fails on either side fails on the other, and ends the hash", async ()
   // the other side is canceled, at once or on the way: the source hears of it
   for (const count of [0, 1]) {
     const hash = new Blake2b();
-    let heard;
+    let [heard, left] = [undefined, 50];
     const source = new ReadableStream({
-      pull: (controller) => controller.enqueue(MESSAGE), cancel(reason) { heard = reason; },
+      pull: (controller) => (left-- > 0 ? controller.enqueue(MESSAGE) : controller.close()),
+      cancel(reason) { heard = reason; },
     });
     const reader = source.pipeThrough(hashTransform(hash)).getReader();
     for (let i = 0; i < count; i++) await reader.read();
