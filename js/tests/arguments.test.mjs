@@ -126,7 +126,7 @@ for (const [caller, message, known, given = {}] of WITH_OPTIONS) {
           `${caller}: ${name} must have ${LENGTHS[name]} to ${known[name]} bytes, not ${count}`);
       }
     }
-    for (const name of [...MISSPELLED, ...["key", "digestLength"]].filter((name) => !names.includes(name))) {
+    for (const name of [...MISSPELLED, "key", "digestLength"].filter((name) => !names.includes(name))) {
       const hidden = Object.defineProperty({}, name, { value: 3 });
       for (const options of [hidden, { [name]: undefined }, { [name]: {} }]) {
         refuses(() => call(options), TypeError,
