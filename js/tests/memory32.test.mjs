@@ -1,5 +1,5 @@
-// The rewriting of a module for a 32-bit memory. conformance.test.mjs tries the modules of the package and dist/wasm,
-// and build.test.mjs compares them.
+// The rewriting of a module for a 32-bit memory. conformance.test.mjs shows that the modules of the package, which have
+// hundreds of stores, copies and fills, run as that of dist/wasm does, and build.test.mjs compares them.
 import assert from "node:assert/strict";
 import test from "node:test";
 import { lower } from "../tools/memory32.mjs";
@@ -57,26 +57,6 @@ test("each access to the memory is lowered to a valid one", () => {
   lowers(...Array(3).fill([0x02, 0x40]).flat(), 0x41, 0, 0x0e, 1, 0, 2, 0x36, 0, 8, 11, 11, 11);
   lowers(0x41, 0, 0x04, 0x40, 0x0f, 0x05, 0x01, 0x0b, ...ADDRESS, 0x22, 0, 0x21, 0, 0x00);
   lowers(...ADDRESS, ...ADDRESS, 0x41, 0, 0x1b, 0x29, 3, 8, 0x50, DROP, 0x0c, 0);
-});
-
-test("a lowered module runs as it did", () => {
-  // a second function of the type would need another section: this one stores, copies and fills
-  const body = [
-    ...ADDRESS, 0x42, 0x88, 0x7f, 0x37, 3, 8, // memory[p + 8..] = -120
-    ...ADDRESS, 0x42, 8, 0x7c, ...ADDRESS, 0x42, 8, 0x7c, 0x29, 3, 0, 0x37, 3, 8, // and at p + 16
-    ...ADDRESS, ...ADDRESS, 0x42, 8, 0x7c, 0x42, 2, 0xfc, 10, 0, 0, // copies 2 bytes to p
-    ...ADDRESS, 0x42, 4, 0x7c, 0x41, 9, 0x42, 3, 0xfc, 11, 0, // fills 3 bytes at p + 4 with 9
-  ];
-  const bytes = [...lower(moduleOf(...body))];
-  const code = bytes.indexOf(10, 24); // exports stand before the code
-  const exports = [7, 9, 2, 1, 102, 0, 0, 1, 109, 2, 0]; // f and m
-  bytes.splice(code, 0, ...exports);
-  const { f, m } = new WebAssembly.Instance(new WebAssembly.Module(Uint8Array.from(bytes))).exports;
-  f(1000n);
-  assert.deepEqual([...new Uint8Array(m.buffer, 1000, 24)], [
-    0x88, 0xff, 0, 0, 9, 9, 9, 0,
-    0x88, 0xff, 0xff, 0xff, 0xff, 0xff, 0xff, 0xff, 0x88, 0xff, 0xff, 0xff, 0xff, 0xff, 0xff, 0xff,
-  ]);
 });
 
 const range = (first, last) => Array.from({ length: last - first + 1 }, (_, i) => first + i);
