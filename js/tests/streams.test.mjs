@@ -193,10 +193,12 @@ test("key and salt are those of the call, and a stream under a key that fails le
   const key = KEY.slice();
   const salt = KEY.slice();
   const tags = [new Blob([MESSAGE]), handle].map((source) => blake2bStream(source, { key }));
-  const roots = [1, 2].map((threads) => treeRootStream(handle, { ...options, salt, threads }));
+  const roots = [1, 2].map((threads) =>
+    treeRootStream(handle, { ...options, salt, personalization: salt, threads }));
   key.fill(0);
   salt.fill(0);
-  const [tag, root] = [blake2b(MESSAGE, { key: KEY }), treeRoot(MESSAGE, { ...options, salt: KEY })];
+  const tag = blake2b(MESSAGE, { key: KEY });
+  const root = treeRoot(MESSAGE, { ...options, salt: KEY, personalization: KEY });
   assert.deepEqual(await Promise.all([...tags, ...roots]), [tag, tag, root, root]);
   const states = new Set();
   const call = async () => blake2bStream([MESSAGE.subarray(0, 9), "text"], { key: KEY });

@@ -194,7 +194,7 @@ for (const [leafLength, leaves, ranges] of [[65536, 64, 40], [16, 65536, 8]]) {
         const i = Number(range.first) / leaves;
         assert.equal(file.length, leafLength * leaves);
         sent++;
-        while (i === 0 && sent < 2 * count) await sleep(1);
+        for (let left = 2000; i === 0 && sent < 2 * count && left > 0; left--) await sleep(1);
         await sleep(i === 0 ? 20 : (7 * i) % 4);
         if (i === 0) assert.equal(sent, 2 * count);
         for (let left = 50; i === ranges - 1 && kept && left > 0; left--) {
