@@ -134,6 +134,27 @@ test("workers use the module that is compiled here, and ranges and digests are t
   assert.deepEqual(lengths, [0, 0, 0]);
 });
 
+test("a worker transfers its digests, and throws what fails there", async () => {
+  const sent = [];
+  let thrown;
+  const settings = { leafLength: 100, salt: SALT, personalization: SALT };
+  const range = { first: 5n, ends: true };
+  const message = MESSAGE.slice(700, 1700);
+  await withOthers(globalThis, { postMessage: (...words) => sent.push(words), onmessage: undefined }, async () => {
+    await import("../src/vulfsjor_worker.js");
+    const { onmessage } = globalThis;
+    onmessage({ data: { settings, range, message } });
+    for (let left = 1000; sent.length < 2 && left > 0; left--) await sleep(1);
+    await withOthers(globalThis, { setTimeout: (work) => (thrown = work) }, async () => {
+      onmessage({ data: { settings, range, blob: { arrayBuffer: () => Promise.reject(fault) } } });
+      await new Promise((resolve) => setImmediate(resolve));
+    });
+  });
+  const digests = treeLeaves(message, { ...settings, first: 5, ends: true });
+  assert.deepEqual(sent, [["ready"], [digests, [digests.buffer]]]);
+  assert.throws(thrown, fault);
+});
+
 test("a range is read where it is, past 4 GiB too", async (t) => {
   const { file } = await openMessage(t);
   const message = MESSAGE.slice(700, 1700);
@@ -393,11 +414,12 @@ test("on the calling thread an abort comes through between ranges, and nothing i
   assert.deepEqual(counts, []);
 });
 
-// A source without end, which notes the reason when it is canceled.
+// A source that is longer than a call reads before it is stopped, and notes the reason when it is canceled.
 function endlessSource() {
   const source = { isLetGo: false };
+  let left = 100;
   source.stream = new ReadableStream({
-    pull: (controller) => controller.enqueue(new Uint8Array(1_000_000)),
+    pull: (controller) => (left-- > 0 ? controller.enqueue(new Uint8Array(1_000_000)) : controller.close()),
     cancel(reason) { source.isLetGo = reason ?? true; },
   });
   return source;
