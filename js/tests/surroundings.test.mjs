@@ -5,7 +5,7 @@ import { createHash } from "node:crypto";
 import test from "node:test";
 import vm from "node:vm";
 import {
-  Blake2b, blake2b, blake2bMany, blake2bStream, blake2s, blake2sMany, blake2sStream, blake2sp, treeRoot, utf8,
+  Blake2b, blake2b, blake2bMany, blake2bStream, blake2s, blake2sMany, blake2sStream, blake2sp, hex, treeRoot, utf8,
 } from "../index.js";
 import { assertClean, hexOf, INDEX, printedBy } from "./common.mjs";
 
@@ -27,6 +27,7 @@ test("bytes of other realms, of subclasses, and of objects that lie about themse
     blake2b(foreign.u), blake2b(foreign.b, foreign.o), blake2b(Liar.of(97, 98, 99)),
     new Blake2b().update(Liar.of(97, 98)).update(Liar.of(99)).digest(),
   ].map(hexOf), Array(4).fill(WANTED));
+  assert.equal(hex(Liar.of(97, 98, 99)), "616263");
   assert.deepEqual(blake2b(new Uint16Array([0x6261])), blake2b(utf8("ab")));
   assert.deepEqual(blake2b(new Float64Array(2)), blake2b(new Uint8Array(16)));
 });
