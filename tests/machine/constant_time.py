@@ -5,7 +5,7 @@ from __future__ import annotations
 
 import heapq
 import re
-from typing import Any, Callable, Iterator, TYPE_CHECKING
+from typing import Any, Iterator, TYPE_CHECKING
 
 import functions
 import program as programs
@@ -145,6 +145,56 @@ def entry(machine: Any, text: Any, low: int, size: int) -> list:
     return [pair[(low + k) % 16] for k in range(size)]
 
 
+class Walk:
+    """The code of a function that is followed: the state at each place, and where all paths meet."""
+
+    def __init__(self, analysis: Any, name: str, machine: Any, path: str) -> None:
+        self.name, self.path, self.cpu = name, path, analysis.cpu
+        self.code, self.starts, self.first = analysis.code(name)
+        self.entry = self.cpu(machine).at_entry()
+        self.states: dict = {}
+        self.visits: dict = {}
+        self.waiting: list = []
+        self.end: Any = None
+        self.loops: dict = {}          # the head of a loop -> its last address
+        for i in self.code.values():
+            if i.target is not None and i.target <= i.address:
+                self.loops[i.target] = max(i.address, self.loops.get(i.target, 0))
+
+    def arrive(self, pc: int, m: Any, origin: int) -> None:
+        """A path that comes to a place from another one."""
+        if pc <= origin:
+            m.rounds = rounds_at(m, pc, origin)
+        if pc in self.loops:
+            m.undecided = frozenset(p for p in m.undecided if not pc <= p <= self.loops[pc])
+        key = pc, m.rounds
+        self.visits[key] = self.visits.get(key, 0) + 1
+        if self.visits[key] > 100:
+            raise CannotShow("no invariant of a loop is found")
+        if key not in self.states:
+            self.states[key] = m.copy()
+        elif not self.states[key].join(m, "%s.%x%s." % (self.path, pc, in_round(m)), self.visits[key],
+                                       pc in self.loops and m.longest > m.block):
+            return
+        if key not in self.waiting:
+            heapq.heappush(self.waiting, key)
+
+    def check(self, m: Any, first: int = 0) -> None:
+        """What a return must find. The return address is the first of it."""
+        now = self.cpu(m).at_entry()
+        for k, what in enumerate(("return address", "stack pointer", "registers")):
+            if k >= first and now[k] != self.entry[k]:
+                raise IsWrong("the caller's %s: not as at the entry of %s" % (what, self.name))
+
+    def finish(self, m: Any, first: int = 0) -> None:
+        self.check(m, first)
+        m.forget_below()
+        if self.end is None:
+            self.end = m
+        else:
+            self.end.join(m, self.path + ".end.", 0)
+
+
 class Analysis:
     """Follows calls through the functions of a file."""
 
@@ -171,71 +221,29 @@ class Analysis:
 
     def run(self, name: str, machine: Any, path: str) -> Any:
         """The state after a call of a function, where all paths meet."""
-        code, starts, first = self.code(name)
-        states: dict = {}
-        visits: dict = {}
-        waiting: list = []
-        ends: list = []
         machine.rounds, machine.undecided, machine.bounds = (), frozenset(), frozenset()
-        entry = self.cpu(machine).at_entry()
-        loops: dict = {}                     # the head of a loop -> its last address
-        for i in code.values():
-            if i.target is not None and i.target <= i.address:
-                loops[i.target] = max(i.address, loops.get(i.target, 0))
-
-        def arrive(pc: int, m: Any, origin: int) -> None:
-            if pc <= origin:
-                m.rounds = rounds_at(m, pc, origin)
-            if pc in loops:
-                m.undecided = frozenset(p for p in m.undecided if not pc <= p <= loops[pc])
-            key = pc, m.rounds
-            visits[key] = visits.get(key, 0) + 1
-            if visits[key] > 100:
-                raise CannotShow("no invariant of a loop is found")
-            if key not in states:
-                states[key] = m.copy()
-            elif not states[key].join(m, "%s.%x%s." % (path, pc, in_round(m)), visits[key],
-                                      pc in loops and m.longest > m.block):
-                return
-            if key not in waiting:
-                heapq.heappush(waiting, key)
-
-        def check(m: Any, first: int = 0) -> None:
-            now = self.cpu(m).at_entry()
-            for k, what in enumerate(("return address", "stack pointer", "registers")):
-                if k >= first and now[k] != entry[k]:
-                    raise IsWrong("the caller's %s: not as at the entry of %s" % (what, name))
-
-        def finish(m: Any, first: int = 0) -> None:
-            check(m, first)
-            m.forget_below()
-            if ends:
-                ends[0].join(m, path + ".end.", 0)
-            else:
-                ends.append(m)
-
-        arrive(first, machine, first - 1)
-        while waiting:
-            key = heapq.heappop(waiting)
-            m, pc = states[key].copy(), key[0]
+        walk = Walk(self, name, machine, path)
+        walk.arrive(walk.first, machine, walk.first - 1)
+        while walk.waiting:
+            key = heapq.heappop(walk.waiting)
+            m, pc = walk.states[key].copy(), key[0]
             while pc is not None:
-                if pc not in code:
+                if pc not in walk.code:
                     raise IsWrong("%s goes on behind its end" % name)
-                i = self.at = code[pc]
+                i = self.at = walk.code[pc]
                 m.where = "%s/%x%s." % (path, pc, in_round(m))
                 self.reached.add(pc)
-                pc = self.follow(name, m, i, path, arrive, check, finish)
-                if pc in starts:
-                    arrive(pc, m, i.address)
+                pc = self.follow(walk, m, i)
+                if pc in walk.starts:
+                    walk.arrive(pc, m, i.address)
                     break
-        if not ends:
+        if walk.end is None:
             raise CannotShow("%s does not return" % name)
-        return ends[0]
+        return walk.end
 
-    def follow(self, name: str, m: Any, i: Any, path: str, arrive: Callable, check: Callable,
-               finish: Callable) -> int | None:
+    def follow(self, walk: Walk, m: Any, i: Any) -> int | None:
         """Executes an instruction. Returns the address of the next, if it is the only one."""
-        code, cpu = self.codes[name][0], self.cpu(m)
+        cpu, path = self.cpu(m), walk.path
         if i.is_call:
             link = cpu.enter()
             self.call(m, i, path)
@@ -243,17 +251,21 @@ class Analysis:
             m.forget_below()
             return i.next
         if i.is_return:
-            finish(m)
-            return None
-        if i.is_trap:                  # the program stops here
-            return None
-        if i.target is None:
+            walk.finish(m)
+        elif i.target is None and not i.is_trap:               # at a trap, the program stops
             top = m.stack_pointer()
             cpu.step(i)
             if m.stack_pointer() is not top:
                 m.forget_below()
             return i.next
-        if not i.is_jump and m.flags == ("secret",) and name.endswith(ANSWERS) and all(
+        elif not i.is_trap:
+            self.branch(walk, m, i)
+        return None
+
+    def branch(self, walk: Walk, m: Any, i: Any) -> None:
+        """A branch or a jump, which may be a call in place of a return."""
+        cpu, code = self.cpu(m), walk.code
+        if not i.is_jump and m.flags == ("secret",) and walk.name.endswith(ANSWERS) and all(
                 cpu.only_returns(code, pc) for pc in (i.target, i.next)):
             m.flags = ("other",) + (m.new(64, "answer"),) * 3
         ways = [(m, True)] if i.is_jump else list(m.outcomes(cpu.condition(i)))
@@ -262,16 +274,15 @@ class Analysis:
                 n.undecided = m.undecided | {i.address}
             pc = i.target if jumps else i.next
             if pc in code:
-                arrive(pc, n, i.address)
-            else:                      # a call in place of a return
-                check(n)
-                self.call(n, i, path)
-                finish(n, 1)
-        return None
+                walk.arrive(pc, n, i.address)
+            else:
+                walk.check(n)
+                self.call(n, i, walk.path)
+                walk.finish(n, 1)
 
     def call(self, m: Any, i: Any, path: str) -> None:
         """A call of another function, whose return address is in its place."""
-        name = self.target(i)
+        name = self.program.target(i, OF_C)
         arguments = [self.cpu(m).argument(k) for k in range(5)]
         if name in OF_C:
             to, source, length = arguments[:3]
@@ -285,10 +296,6 @@ class Analysis:
             self.enter(m, name, i, path)
             return
         self.cpu(m).clobber()
-
-    def target(self, i: Any) -> str:
-        """The function that a call goes to, by its name without version."""
-        return self.program.target(i, OF_C)
 
     def enter(self, m: Any, name: str, i: Any, path: str) -> None:
         """A call of a function whose code is followed."""
