@@ -15,7 +15,6 @@ from typing import Any, Callable, Iterator
 
 import program as programs
 import call_specification as S
-import constant_time
 import facts
 import path_values
 import rfc7693 as R
@@ -74,11 +73,16 @@ class Setup:
         """Where an argument is: not at 0."""
         return self.number(name + " address", 1, 1 << 63)
 
-    def pass_struct(self, name: str, data: list) -> None:
-        """A pointer to bytes that are only read."""
+    def secrets(self, name: str, size: int, w: int) -> list:
+        """The bytes of words of w bits."""
+        return [b for k in range(8 * size // w) for b in T.split(T.var(w, "%s.%d" % (name, k), T.SECRET))]
+
+    def pass_struct(self, name: str, data: list, writable: bool = False) -> Any:
+        """A pointer to some bytes. Returns where they are."""
         address = self.address(name)
-        self.regions[address] = Cells(0, len(data), lambda k: data[k], False)
+        self.regions[address] = Cells(0, len(data), lambda k: data[k], writable)
         self.arguments.append(address)
+        return address
 
     def pass_buffer(self, name: str, length: Any, taint: int = T.SECRET, writable: bool = False) -> Buffer:
         """A pointer to a buffer, and its length."""
@@ -95,14 +99,10 @@ class Setup:
             old, w = getattr(self.wiped, name), self.kind.w if name in ("chain", "first") else 8
             given = fields.get(name, FREE)
             values[name] = given if isinstance(given, T.Term) else self.number(
-                name, *given) if isinstance(old, int) else [
-                b for k in range(8 * len(old) // w) for b in T.split(
-                    T.var(w, "%s.%d" % (name, k), T.SECRET))]
+                name, *given) if isinstance(old, int) else self.secrets(name, len(old), w)
         self.state = self.wiped.but(**values)
         self.cells = self.bytes_of(self.state)
-        self.state_at = self.address("state")
-        self.regions[self.state_at] = Cells(0, len(self.cells), lambda k: self.cells[k])
-        self.arguments.append(self.state_at)
+        self.state_at = self.pass_struct("state", self.cells, True)
         return self.state
 
     @staticmethod
@@ -221,11 +221,9 @@ class Cases:
 
     def show(self, export: str) -> tuple:
         """Shows all cases of an exported function. Returns how many there are, and the paths."""
-        cases = paths = 0
-        for case in getattr(self, export.lstrip("_") or "one_shot")():
-            cases += 1
-            paths += self.show_case(self.prefix + export, case)
-        return cases, paths
+        found = [self.show_case(self.prefix + export, case)
+                 for case in getattr(self, export.lstrip("_") or "one_shot")()]
+        return sum(paths > 0 for paths in found), sum(found)
 
     def show_case(self, name: str, case: Callable) -> int:
         """A case, at each alignment of the stack that makes a difference."""
@@ -262,6 +260,13 @@ class Cases:
         hold(setup, S.is_ready(self.kind, s))
         return s
 
+    def each(self, make: Callable, *choices: tuple) -> Iterator:
+        """The cases of a function for ready states, one for each of some choices."""
+        for choice in choices:
+            def case(setup: Setup, choice: tuple = choice) -> Callable:
+                return make(setup, *choice)
+            yield titled("ready, %s" % (choice,), case)
+
     def unready(self, rest: Callable, result: T.Term | int = REFUSED) -> Iterator:
         """The cases of a state that is not ready: each condition fails in one, below or above."""
         for k in range(len(S.is_ready(self.kind, S.zeros(self.kind)))):
@@ -272,8 +277,7 @@ class Cases:
                     if not fail(setup, S.is_ready(self.kind, s)[k], side):
                         return None
                     return lambda a: (result, s, [])
-                case.__doc__ = "not ready: condition %d, side %d" % (k, side)
-                yield case
+                yield titled("not ready: condition %d, side %d" % (k, side), case)
 
     # Messages.
 
@@ -301,24 +305,34 @@ class Cases:
             found.append(lambda setup: many(setup, lambda s: T.const(64, 0)))
         return found
 
+    def add_absorbing(self, setup: Setup, **fields: tuple) -> S.State:
+        """A state that absorbs bytes."""
+        return self.add_ready(setup, **fields)
+
+    def keys_read(self, s: Any) -> tuple:
+        """When an update reads a key."""
+        return (s.counter, s.start_length),
+
+    def over(self, s: Any, after: S.State) -> S.State:
+        """The state after an update."""
+        return after
+
     def update(self) -> Iterator:
-        kind = self.kind
         for pending in self.pending:
             for amount in self.amounts(pending):
                 def case(setup: Setup) -> Callable:
-                    s = self.add_ready(setup, pending_length=(pending, pending))
-                    setup.reads_key = (s.counter, s.start_length),
+                    s = self.add_absorbing(setup, pending_length=(pending, pending))
+                    setup.reads_key = self.keys_read(s)
                     s = s.but(pending_length=pending)
                     n, absorb = amount(setup)
                     data = self.message(setup, n)
                     hold(setup, S.is_counted(s.counter, pending, n))
-                    return lambda a: (0, absorb(a, s, data), [])
-                case.__doc__ = "%d pending" % pending
-                yield case
+                    return lambda a: (0, self.over(s, absorb(a, s, data)), [])
+                yield titled("%d pending" % pending, case)
 
         def refused(setup: Setup) -> Callable:
             """the count reaches 2^64"""
-            s = self.add_ready(setup)
+            s = self.add_absorbing(setup)
             n = setup.number("n")
             self.message(setup, n)
             fail(setup, S.is_counted(s.counter, s.pending_length, n)[0], 1)
@@ -356,8 +370,7 @@ class Cases:
                 self.out(setup, room)
                 fail(setup, S.is_length(s.output_size, room)[0], side)
                 return lambda a: (REFUSED, s, [])
-            refused.__doc__ = name
-            yield refused
+            yield titled(name, refused)
         yield from self.unready(lambda setup: self.out(setup, setup.number("room")))
 
     def verify(self) -> Iterator:
@@ -379,8 +392,7 @@ class Cases:
                             return 0 if m.compared_bytes[1] else REFUSED
                         return result, S.zeros(kind), []
                     return expected
-                case.__doc__ = "%d bytes, last node %d" % (size, node[0])
-                yield case
+                yield titled("%d bytes, last node %d" % (size, node[0]), case)
         for side in (0, 1):
             for node in ((0, 0), (1, MOST)):
                 def other(setup: Setup) -> Callable:
@@ -408,22 +420,19 @@ class Cases:
                 setup.reads_key = (0, given[2]),
                 hold(setup, conditions)
                 return lambda a: (0, init(a, kind, *given), [])
-            accepted.__doc__ = "accepted, key %s" % has_key
-            yield accepted
-        yield from self.refused(lambda setup: (setup.pass_state(), read(setup, FREE)[1])[1])
+            yield titled("accepted, key %s" % has_key, accepted)
+        yield from self.refused(lambda setup: (setup.pass_state(), read(setup, FREE)[1])[1], self.wiped)
 
-    def refused(self, read: Callable) -> Iterator:
-        """The cases in which a condition fails. The state is then zero."""
-        kind = self.kind
+    def refused(self, read: Callable, state: Any = None) -> Iterator:
+        """The cases in which a condition fails, below or above its bounds. A state is then zero."""
         for k in range(8):
             for side in (0, 1):
                 def case(setup: Setup) -> Callable | None:
                     conditions = read(setup)
                     if k >= len(conditions) or not fail(setup, conditions[k], side):
                         return None
-                    return lambda a: (REFUSED, self.wiped, [])
-                case.__doc__ = "refused: condition %d, side %d" % (k, side)
-                yield case
+                    return lambda a: (REFUSED, state, [])
+                yield titled("refused: condition %d, side %d" % (k, side), case)
 
     def lengths(self, setup: Setup, key: tuple, others: bool = True) -> tuple:
         """The arguments of an init, but for the state: what the specification needs."""
@@ -446,17 +455,13 @@ class Cases:
         yield from self.made(self.lengths)
 
     def init_tree(self) -> Iterator:
-        """Tree parameters are numbers of the arguments, or those of a struct."""
+        """Tree parameters are those of a struct."""
         kind = self.kind
-        is_struct = constant_time.EXPORTS["_init_tree"][-1] != constant_time.NUMBER
 
         def read(setup: Any, key: Any) -> Any:
             given, conditions = self.lengths(setup, key)
             tree = {name: setup.variable(name, 8 * size) for name, size in S.TREE_FIELDS}
-            if is_struct:
-                setup.pass_struct("tree", [b for t in tree.values() for b in T.split(t)])
-            for name in () if is_struct else S.TREE:
-                setup.arguments.append(wide(tree[name]))
+            setup.pass_struct("tree", [b for t in tree.values() for b in T.split(t)])
             conditions = conditions + S.admits_tree(kind, *[tree[name] for name in (
                 "depth", "node_offset", "inner_length")])
             return given + [[T.word(T.split(tree[name]) + [0] * (8 - tree[name].w // 8))
@@ -477,7 +482,7 @@ class Cases:
             hold(setup, conditions)
             return lambda a: (0, S.init_param(a, kind, [block(k) for k in range(n)]), [])
         yield accepted
-        yield from self.refused(lambda setup: read(setup, T.const(64, n))[1])
+        yield from self.refused(lambda setup: read(setup, T.const(64, n))[1], self.wiped)
         for low_, high in ((0, n - 1), (n + 1, MOST)):
             def other(setup: Setup) -> Callable:
                 """another length"""
@@ -506,28 +511,30 @@ class Cases:
                     hold(setup, conditions + S.is_counted(pending, n))
                     return lambda a: (0, None, S.one_shot(
                         a, kind, size, key, keyed, lambda s: absorb(a, s, data), out))
-                accepted.__doc__ = "accepted, key %s" % has_key
-                yield accepted
-        for k in range(3):
-            for side in (0, 1):
-                def refused(setup: Setup) -> Callable | None:
-                    n = setup.number("n")
-                    _, _, _, _, keyed, conditions = arguments(setup, n, (1, MOST) if k == 2 else FREE)
-                    conditions = conditions + S.is_counted(block, n)
-                    if not fail(setup, conditions[k], side):
-                        return None
-                    return lambda a: (REFUSED, None, [])
-                refused.__doc__ = "refused: condition %d, side %d" % (k, side)
-                yield refused
+                yield titled("accepted, key %s" % has_key, accepted)
+        yield from self.refused(lambda setup: arguments(setup, setup.number("n"), FREE)[-1])
+
+        def counted(setup: Setup) -> list:
+            n = setup.number("n")
+            arguments(setup, n, (1, MOST))
+            return S.is_counted(block, n)
+        yield from self.refused(counted)
 
     # The rest.
 
-    def reset(self) -> Iterator:
+    def of_state(self, expected: Callable, result: T.Term | int = REFUSED) -> Iterator:
+        """The cases of a function whose argument is a state."""
         def case(setup: Setup) -> Callable:
             s = self.add_ready(setup)
-            return lambda a: (0, S.reset(s), [])
+            return lambda a: expected(s)
         yield case
-        yield from self.unready(lambda setup: None)
+        yield from self.unready(lambda setup: None, result)
+
+    def reset(self) -> Iterator:
+        return self.of_state(lambda s: (0, S.reset(s), []))
+
+    def digest_size(self) -> Iterator:
+        return self.of_state(lambda s: (s.output_size, s, []), T.const(64, 0))
 
     def set_last_node(self) -> Iterator:
         for low_, high in ((0, 0), (1, (1 << 32) - 1)):
@@ -546,26 +553,24 @@ class Cases:
             return lambda a: (None, self.wiped, [])
         yield case
 
-    def digest_size(self) -> Iterator:
-        def case(setup: Setup) -> Callable:
-            s = self.add_ready(setup)
-            return lambda a: (s.output_size, s, [])
-        yield case
-        yield from self.unready(lambda setup: None, T.const(64, 0))
-
     def count(self) -> Iterator:
-        for low_, high in ((0, MOST), (-MOST, -1)):
-            def case(setup: Setup) -> Callable:
-                s = self.add_ready(setup)
-                setup.bound((s.counter, s.pending_length, (-1, s.start_length)), low_, high)
-                return lambda a: (a.word(S.count(a, s)), s, [])
-            yield case
+        def case(setup: Setup, low: int, high: int, *is_known: bool) -> Callable:
+            s = self.add_ready(setup, *is_known)
+            setup.bound((s.counter, s.pending_length, (-1, s.start_length)), low, high)
+            return lambda a: (a.word(S.count(a, s)), s, [])
+        yield from self.each(case, (0, MOST), (-MOST, -1))
         yield from self.unready(lambda setup: None, T.const(64, 0))
 
     def state_size(self) -> Iterator:
         def case(setup: Setup) -> Callable:
             return lambda a: (T.const(64, len(Setup.bytes_of(self.wiped))), None, [])
         yield case
+
+
+def titled(title: str, case: Callable) -> Callable:
+    """A case with a title."""
+    case.__doc__ = title
+    return case
 
 
 def wide(t: T.Term) -> T.Term:

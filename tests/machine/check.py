@@ -5,12 +5,12 @@ and the BLAKE2X document say; and that no branch and no address of a whole call 
 status is 1 if something failed. docs/MACHINE.md says what is shown and how to read the output.
 
     tests/machine/check.py            the proofs: of one message in all files; of several messages, one function of each
-                                      kind, and of each whole call some cases, in one file; some rules of terms, and
-                                      instructions on the processor
+                                      kind, and of each whole call some cases, in one file; some rules of terms,
+                                      instructions on the processor, and changes that must be refused
     tests/machine/check.py --long     also several messages and all cases of whole calls in all files, except those of
                                       BLAKE2X, all of which are shown in one; all rules and more runs of each
-                                      instruction, whole functions against hashlib, the types of the tool, and the
-                                      changes that must be refused; the same as VULFSJOR_TEST_HUGE=1
+                                      instruction, the types of the tool, and all changes that must be refused; the
+                                      same as VULFSJOR_TEST_HUGE=1
     tests/machine/check.py --forms    writes forms.txt, after a change of the files or the models
     tests/machine/check.py FILE..     only the proofs of these files, by their paths from the root, with all cases
 
@@ -22,18 +22,18 @@ skipped.
 from __future__ import annotations
 
 import gc
+import glob
 import multiprocessing
 import os
 import platform
 import shutil
 import subprocess
 import sys
-from typing import Any, Callable, Iterator
+from typing import Any, Callable, Iterator, NamedTuple
 
 import call_cases
-import check_contracts
+import changes
 import check_decisions
-import check_digests
 import check_instructions
 import check_ranges
 import check_specification
@@ -44,10 +44,8 @@ import facts
 import families
 import forms
 import functions
-import mutations
 import planted
 import program as programs
-import random_changes
 import scrub_stack
 import terms as T
 
@@ -55,16 +53,20 @@ HUGE = "VULFSJOR_TEST_HUGE"
 HERE = os.path.dirname(os.path.abspath(__file__))
 FAMILIES = {"blake2b": "BLAKE2b", "blake2s": "BLAKE2s"}
 FORMS = {compression.EachCall: " with a counter each", compression.StripesCall: " in stripes"}
+# The files that must be read; how many exported functions each library has of which whole calls are shown; and how
+# many changes mutations.txt has.
+READ, EXPORTS, CHANGES = ("dist/*/vulfsjor*.s", "dist/*/*.wasm", "js/src/wasm*.js"), 50, 232
 # The families of exported functions, by the parts in which calls are followed.
 FOLLOWED = {"BLAKE2b": ("blake2b",), "BLAKE2s": ("blake2s", "memcmp", "wipe"), "BLAKE2bp": ("blake2bp",),
             "BLAKE2sp": ("blake2sp",), "BLAKE2X": ("blake2xb", "blake2xs"), "trees": ("tree",)}
 # What there is without --long: one message in all files; one function of several messages of each kind in one of
-# these; each family of calls in one of the first two, but of BLAKE2Xs, which is written as BLAKE2Xb, only secrets;
-# the tests of the models there; rules of one width; and nothing that takes as long as all others.
+# these; each family of calls in one of the first two, but of BLAKE2Xs, which is written as BLAKE2Xb, only secrets,
+# and its number of cases; the tests of the models there; rules of one width; and nothing that takes as long as all
+# others.
 SHORT = V3, ARM, JS = "dist/x86_64/vulfsjor-v3.s", "dist/aarch64/vulfsjor.s", "js/src/wasm.js"
 SHORT_MANY = {functions.MANY_B: V3, functions.EACH_S: ARM, functions.STRIPES_B: JS}
 SHORT_FOLLOWED = {part: SHORT[k % 2] for k, part in enumerate(FOLLOWED)}
-SHORT_WRITTEN = {"blake2b": ARM, "blake2s": V3, "blake2xb": V3, "": V3}
+SHORT_WRITTEN = {"blake2b": (ARM, 102), "blake2s": (V3, 103), "blake2xb": (V3, 98), "": (V3, 4)}
 SHORT_INSTRUCTIONS = {(path, "F") for path in SHORT} | {(ARM, "T"), (V3, "W")}
 # Where --long shows all cases of BLAKE2X. In other files it shows some, and follows secrets.
 ALL_OF_X = V3
@@ -75,6 +77,17 @@ LONG_CALLS = ("vulfsjor_ffi_tree_root", "vulfsjor_ffi_tree_update_leaves")
 USERS = {"F": "that compress", "T": "in which secrets are followed", "W": "that calls execute over variables"}
 ROUNDS = {"F": (3, 12), "T": (1, 6), "W": (2, 8)}
 SOLVER = None if facts.z3 else "python3-z3"
+
+
+class Job(NamedTuple):
+    """A check. What it returns is said, or is a verdict and why; a refusal fails."""
+
+    title: str
+    gone: str | None                   # what is missing for it
+    show: Callable
+
+
+ALL: list[Job] = []
 
 
 def is_long() -> bool:
@@ -99,43 +112,38 @@ def not_runnable(path: str) -> str | None:
         return needed.upper() if kind == "x86_64" and needed not in f.read() else None
 
 
-# The jobs. Each returns a title, what is missing for it, and the check: what that returns is said, or is a verdict and
-# why; a refusal fails.
+# The proofs of a file, which its tools can read.
 
-def prove(path: str, entry: tuple) -> tuple:
-    """F of one function of a file."""
-    name, kind, lanes = entry
+def prove(path: str, name: str, kind: Any, lanes: int) -> Job:
+    """F of one function."""
     count = ("%d messages" % lanes if lanes > 1 else "one message") + FORMS.get(compression.call_of(name), "")
 
     def show() -> str:
         runner, seconds = compression.show(programs.read(path), functions.in_file(path, name), kind, lanes)
         return ("%d instructions, %d executed on %d paths, %d branches and %d addresses without a secret, %.1f s" % (
             len(runner.code), runner.count, runner.paths, runner.branches, runner.addresses, seconds))
-    return "%s: F of %s, %s" % (path, FAMILIES[kind.name], count), missing(path), show
+    return Job("%s: F of %s, %s" % (path, FAMILIES[kind.name], count), None, show)
 
 
 def search(path: str) -> tuple:
-    def show() -> tuple:
-        found = ", ".join(functions.unlisted(programs.read(path)))
-        why = "%s: rotates words as G does: add it to FILES in tests/machine/functions.py"
-        return ("not ok", why % found) if found else ("ok", "")
-    return "%s: no other function has a copy of the rounds" % path, missing(path), show
+    found = ", ".join(functions.unlisted(programs.read(path)))
+    why = "%s: rotates words as G does: add it to FILES in tests/machine/functions.py"
+    return ("not ok", why % found) if found else ("ok", "")
 
 
 def look(path: str) -> tuple:
-    title = "%s: nothing that runs or is read is writable, and each exported function is known"
-    return title % path, missing(path), lambda: mutations.look(programs.read(path))
+    changes.look(programs.read(path))
+    count = len(families.names(programs.read(path)))
+    return ("ok", "") if count == EXPORTS else ("not ok", "whole calls of %d functions are shown" % count)
 
 
-def scrub(path: str) -> tuple:
-    def show() -> str:
-        found = functions.scrubs(programs.read(path))
-        if not found:
-            raise T.CannotShow("there is no such function: see functions.py")
-        for name, count in found.items():
-            scrub_stack.show(programs.read(path), name, count)
-        return "of %s bytes" % ", ".join(map(str, sorted(found.values())))
-    return "%s: scrub_stack overwrites its bytes" % path, missing(path), show
+def scrub(path: str) -> str:
+    found = functions.scrubs(programs.read(path))
+    if not found:
+        raise T.CannotShow("there is no such function: see functions.py")
+    for name, count in found.items():
+        scrub_stack.show(programs.read(path), name, count)
+    return "of %s bytes" % ", ".join(map(str, sorted(found.values())))
 
 
 def is_whole(path: str, entry: tuple) -> bool:
@@ -146,44 +154,91 @@ def is_whole(path: str, entry: tuple) -> bool:
     return not SOLVER and is_shown and name in families.names(programs.read(path))
 
 
-def followed(path: str, family: str) -> list:
-    """The functions of a family whose calls are followed: those that are not shown whole."""
+def follow(path: str, part: str) -> Job | None:
+    """That whole calls of some families do not depend on secrets, of functions that are not shown whole."""
     left_out = () if is_long() else LONG_CALLS
-    return [e for e in constant_time.exports(programs.read(path)) if e[2] in FOLLOWED[family]
-            and e[0] not in left_out and not is_whole(path, e)]
+    entries = [e for e in constant_time.exports(programs.read(path)) if e[2] in FOLLOWED[part]
+               and e[0] not in left_out and not is_whole(path, e)]
 
-
-def follow(path: str, family: str) -> tuple:
-    """That whole calls of a family's functions do not depend on secrets."""
     def show() -> str:
-        found = [constant_time.follow(programs.read(path), entry) for entry in followed(path, family)]
+        found = [constant_time.follow(programs.read(path), entry) for entry in entries]
         reached = [f.reached for f in found if f is not None]
         return "%d functions, which reach %d instructions besides those that compress" % (
             len(reached), len(set().union(*reached)))
-    title = "%s: no branch and no address of a call depends on a secret: %s" % (path, family)
-    return title, missing(path), show
+    title = "%s: no branch and no address of a call depends on a secret: %s" % (path, part)
+    return Job(title, None, show) if entries else None
 
 
-def write_and_return(path: str, family: str, exports: list, *numbers: Any) -> tuple:
-    """That whole calls of some functions of a family write and return what they must."""
-    def show() -> str:
+def write_and_return(path: str, family: str, exports: list, numbers: tuple = (), wanted: int | None = None) -> Job:
+    """That whole calls of some functions of a family write and return what they must, in all cases."""
+    def show() -> tuple:
         names = exports or families.exports(programs.read(path), family)
         cases = families.cases(programs.read(path), family, *numbers)
-        return "%d cases, %d paths" % tuple(map(sum, zip(*[cases.show(export) for export in names])))
-    title = "%s: what calls of %s write and return: %s" % (
-        path, families.TITLES[family], " ".join(e.lstrip("_") or "in one" for e in exports) or "all")
-    return title, missing(path) or SOLVER, show
+        count, paths = map(sum, zip(*[cases.show(export) for export in names]))
+        return "ok" if wanted in (None, count) else "not ok", "%d cases, %d paths" % (count, paths)
+    return Job("%s: what calls of %s write and return: %s" % (
+        path, families.TITLES[family], " ".join(e.lstrip("_") or "in one" for e in exports) or "all"), SOLVER, show)
 
 
-def instructions(path: str, user: str) -> tuple:
+def parts_of_calls(path: str, is_short: bool, has_all: bool) -> Iterator[Job]:
+    """What whole calls of a file write and return: all cases in parts, or some."""
+    for family in families.TITLES:
+        if is_short:
+            short, count = SHORT_WRITTEN.get(family, ("", 0))
+            if path == short:
+                yield write_and_return(path, family, [], families.some(family), count)
+        elif "x" in family and path != ALL_OF_X and not has_all or not family:
+            yield write_and_return(path, family, [], families.some(family))
+        else:
+            exports = families.exports(programs.read(path), family)
+            pending = range(call_cases.KINDS[family].block + 1)
+            yield from (write_and_return(path, family, ["_update"], (pending[k::4],)) for k in range(4))
+            yield from (write_and_return(path, family, [e]) for e in exports if e in LONG_EXPORTS)
+            yield write_and_return(path, family, [e for e in exports if e not in LONG_EXPORTS + ("_update",)])
+
+
+def can_read(path: str, is_library: bool) -> bool:
+    """Whether a file and its exported functions are known, which is read once for all jobs."""
+    try:
+        program = programs.read(path)
+        return not is_library or bool(list(constant_time.exports(program)))
+    except (T.Refused, programs.NotAssembled):
+        return False
+
+
+def proofs(path: str, has_all: bool) -> Iterator[Job]:
+    """The jobs that show the claims for a file; with all cases, if that is asked for."""
+    is_short, gone = not has_all and not is_long(), missing(path)
+    is_library = "/vulfsjor" in path and functions.architecture(path) != "wasm"
+    yield Job("%s: no other function has a copy of the rounds" % path, gone, lambda: search(path))
+    if is_library:
+        yield Job("%s: nothing that runs or is read is writable, and each exported function is known" % path, gone,
+                  lambda: look(path))
+    if gone or not can_read(path, is_library):
+        return
+    if is_library:
+        for part in FOLLOWED if path not in constant_time.NOT_FOLLOWED else ():
+            job = follow(path, part) if not is_short or path == SHORT_FOLLOWED[part] else None
+            yield from [job] if job else []
+        if not is_short or path in SHORT:
+            yield Job("%s: scrub_stack overwrites its bytes" % path, None, lambda: scrub(path))
+            yield from parts_of_calls(path, is_short, has_all)
+    for entry in functions.FILES[path]:
+        if not is_short or entry[2] == 1 or path == SHORT_MANY.get(entry):
+            yield prove(path, *entry)
+
+
+# The tests of the tool.
+
+def instructions(path: str, user: str) -> Job:
     """The model of the instructions of a file that are executed for a user of forms.txt."""
     rounds, is_wasm = ROUNDS[user][is_long()], functions.architecture(path) == "wasm"
     title = "%s: the model of instructions %s agrees with the processor" % (path, USERS[user])
-    return title, not_runnable(path), lambda: check_wasm_instructions.check(path, rounds) if is_wasm else (
-        check_instructions.check(path, user, rounds)[:2])
+    return Job(title, not_runnable(path), lambda: check_wasm_instructions.check(path, rounds) if is_wasm else (
+        check_instructions.check(path, user, rounds)[:2]))
 
 
-def table_of_forms(kind: str) -> tuple:
+def table_of_forms(kind: str) -> Job:
     """That each form of the table is one of a shipped file, whose tests run it."""
     paths = [p for p in functions.FILES if functions.architecture(p) == kind]
 
@@ -192,132 +247,78 @@ def table_of_forms(kind: str) -> tuple:
                 for name in check_instructions.executed(program, user) for text in program.texts(name)}
         extra = sorted(f for f in forms.known() if f[0] == kind and f not in used)
         return "not ok" if extra else "ok", " ".join(extra[0]) if extra else ""
-    return "each form of an instruction for %s is run" % kind, next(filter(None, map(missing, paths)), None), show
+    return Job("each form of an instruction for %s is run" % kind, next(filter(None, map(missing, paths)), None), show)
 
 
-def whole(path: str) -> tuple:
-    title = "%s: whole functions in the model agree with hashlib" % path
-    return title, missing(path), lambda: check_digests.check(path, 5)
-
-
-def specification() -> tuple:
-    return "the specification of whole calls agrees with hashlib", None, lambda: check_specification.check(
-        400 if is_long() else 10)
-
-
-def contracts() -> tuple:
-    path = check_contracts.PATH
-    gone = missing(path) or not_runnable(path) or (None if platform.machine() == "x86_64" else "x86-64")
-    return "the specification of whole calls agrees with the library", gone, lambda: check_contracts.check(
-        300 if is_long() else 12)
-
-
-def numbers_in_ranges() -> tuple:
-    return "the ranges of words that are followed have their numbers", None, lambda: check_ranges.check(
-        2000 if is_long() else 100)
-
-
-def numbers_decided(seed: int) -> tuple:
-    return "comparisons of whole calls are decided right", SOLVER, lambda: check_decisions.check(
-        seed, 25000 if is_long() else 500)
+def all_files() -> tuple:
+    """That no file is left out."""
+    found = {os.path.relpath(p, programs.ROOT) for each in READ for p in glob.glob(os.path.join(programs.ROOT, each))}
+    left_out = sorted(found ^ set(functions.FILES))
+    return "not ok" if left_out else "ok", " ".join(left_out)
 
 
 def rules(width: int) -> tuple:
-    def show() -> tuple:
-        import check_terms             # which needs z3
-        return check_terms.check(width, is_long())
-    return "the rules of terms at %d bits" % width, SOLVER, show
+    import check_terms                 # which needs z3
+    return check_terms.check(width, is_long())
 
 
 def types() -> tuple:
     """The type hints of the tool, and what mypy infers from them."""
-    files = sorted(os.path.join(HERE, name) for name in os.listdir(HERE) if name.endswith(".py"))
-
-    def show() -> tuple:
-        run = subprocess.run(["mypy", "--disallow-untyped-defs", "--check-untyped-defs", "--ignore-missing-imports",
-                              "--cache-dir=" + os.devnull] + files, stdout=subprocess.PIPE, text=True)
-        return "not ok" if run.returncode else "ok", run.stdout.strip().split("\n")[-1]
-    return "the types of tests/machine", None if shutil.which("mypy") else "mypy", show
+    files = sorted(glob.glob(os.path.join(HERE, "*.py")))
+    run = subprocess.run(["mypy", "--disallow-untyped-defs", "--check-untyped-defs", "--ignore-missing-imports",
+                          "--cache-dir=" + os.devnull] + files, stdout=subprocess.PIPE, text=True)
+    return "not ok" if run.returncode else "ok", run.stdout.strip().split("\n")[-1]
 
 
-def refuse(*line: str) -> tuple:
-    """A line of mutations.txt."""
-    title, show = mutations.refuse(*line)
-    return title, missing(mutations.SHORT[line[0]]) or SOLVER, show
+def runs_instructions(path: str, user: str) -> bool:
+    """Whether the tests of instructions run those of a file for a user of forms.txt."""
+    if not is_long() or user == "F":
+        return is_long() or (path, user) in SHORT_INSTRUCTIONS
+    return path in changes.FILES.values() and functions.architecture(path) != "wasm" and (
+        user == "W" or path not in constant_time.NOT_FOLLOWED)
 
 
-def random_change(path: str, entry: tuple) -> tuple:
-    return "%s: random changes of %s are refused" % (path, entry[0]), missing(path), lambda: random_changes.check(
-        path, entry)
-
-
-def branch(path: str, k: int) -> tuple:
-    title = "%s: branches on argument %d of each exported function are refused" % (path, k)
-    return title, missing(path) or SOLVER, lambda: random_changes.check_branches(path, k)
-
-
-def wrong_line(k: int) -> tuple:
-    """A wrong line of the tool, which its tests must notice."""
-    change = planted.ALL[k]
-    gone = not_runnable(planted.ARM) or not_runnable(planted.V3) or SOLVER
-    return "the tool's tests see %s" % change.title, gone, change.show
-
-
-def proofs(paths: list, has_all: bool) -> Iterator:
-    """The jobs that show the claims for some files; with all cases, if that is asked for."""
-    is_short = not has_all and not is_long()
-    libraries = [p for p in paths if "/vulfsjor" in p and functions.architecture(p) != "wasm"]
-    for path in [p for p in libraries if p not in constant_time.NOT_FOLLOWED]:
-        yield from ((follow, (path, part)) for part in reversed(FOLLOWED) if missing(path) or (
-            not is_short or path == SHORT_FOLLOWED[part]) and followed(path, part))
-    for path in paths:
-        yield from ((prove, (path, entry)) for entry in reversed(functions.FILES[path])
-                    if not is_short or entry[2] == 1 or path == SHORT_MANY.get(entry))
-        yield search, (path,)
-    for path in libraries:
-        yield look, (path,)
-        if not is_short or path in SHORT:
-            yield scrub, (path,)
-            yield from ((write_and_return, part) for part in parts_of_calls(path, is_short, has_all))
-
-
-def parts_of_calls(path: str, is_short: bool, has_all: bool) -> Iterator:
-    """The arguments of write_and_return for a file: all cases in parts, or some."""
-    for family in families.TITLES:
-        if is_short or "x" in family and path != ALL_OF_X and not has_all or not family:
-            if not is_short or path == SHORT_WRITTEN.get(family):
-                yield (path, family, []) + families.some(family)
-            continue
-        exports = [] if missing(path) else families.exports(programs.read(path), family)
-        pending = list(range(call_cases.KINDS[family].block + 1))
-        yield from ((path, family, ["_update"], pending[k::4], None) for k in range(4))
-        yield from ((path, family, [e], None, None) for e in exports if e in LONG_EXPORTS)
-        yield path, family, [e for e in exports if e not in LONG_EXPORTS + ("_update",)], None, None
-
-
-def tests_of_the_tool() -> Iterator:
+def tests_of_the_tool() -> Iterator[Job]:
     """The jobs that test the tool itself."""
-    yield from ((rules, (width,)) for width in (64, 32, 16, 8) if width == 8 or is_long())
-    yield from ((numbers_decided, (seed,)) for seed in range(4 if is_long() else 1))
-    yield from ((wrong_line, (k,)) for k, change in enumerate(planted.ALL) if is_long() or not change.is_long)
-    yield from ((instructions, (path, user)) for path in functions.FILES for user in USERS if is_long() and (
-        user == "F" or path in mutations.SHORT.values() and functions.architecture(path) != "wasm" and (
-            user == "W" or path not in constant_time.NOT_FOLLOWED)) or (path, user) in SHORT_INSTRUCTIONS)
-    yield from ((f, ()) for f in (specification, contracts, numbers_in_ranges))
-    yield from ((table_of_forms, (kind,)) for kind in ("x86_64", "aarch64"))
+    few = lambda n, m: n if is_long() else m
+    native = not_runnable(check_specification.PATH) or (None if platform.machine() == "x86_64" else "x86-64")
+    assembly = not_runnable(planted.ARM) or not_runnable(planted.V3) or native or SOLVER
+    for width in few((64, 32, 16, 8), (8,)):
+        yield Job("the rules of terms at %d bits" % width, SOLVER, lambda width=width: rules(width))
+    for seed in range(few(4, 1)):
+        yield Job("comparisons of whole calls are decided right", SOLVER, lambda seed=seed: check_decisions.check(
+            seed, few(25000, 500)))
+    for change in planted.ALL:
+        if is_long() or not change.is_long:
+            yield Job("the tool's tests see %s" % change.title, assembly, change.show)
+    yield from (instructions(path, user) for path in functions.FILES for user in USERS if runs_instructions(path, user))
+    yield Job("the specification of whole calls agrees with hashlib", None, lambda: check_specification.check(
+        few(400, 10)))
+    yield Job("the specification of whole calls agrees with the library", native or SOLVER,
+              lambda: check_specification.compare(few(10, 1)))
+    yield Job("the ranges of words that are followed have their numbers", None, lambda: check_ranges.check(
+        few(2000, 100)))
+    yield from map(table_of_forms, ("x86_64", "aarch64"))
+    yield Job("no file is left out", None, all_files)
+    yield Job("each line of mutations.txt can be applied", None, lambda: changes.check_table(CHANGES))
+    for row in changes.table():
+        if is_long() or row.is_first:
+            yield Job(row.title(), missing(row.path()) or SOLVER, row.check)
+    for path, entries in functions.FILES.items():
+        for entry in entries if is_long() else {ARM: (functions.ONE_S,)}.get(path, ()):
+            yield Job("%s: random changes of %s are refused" % (path, entry[0]), missing(path),
+                      lambda path=path, entry=entry: changes.check_random(path, entry))
     if is_long():
-        yield from ((whole, (path,)) for path in functions.FILES)
-        yield types, ()
-        yield from ((random_change, (path, entry)) for path, entries in functions.FILES.items() for entry in entries)
-        yield from ((branch, (path, k)) for path in mutations.SHORT.values() if functions.architecture(path) != "wasm"
-                    for k in range(6))
-        yield from ((refuse, line) for line in mutations.table())
+        yield Job("the types of tests/machine", None if shutil.which("mypy") else "mypy", types)
+        for path, k in [(p, k) for p in changes.FILES.values() if functions.architecture(p) != "wasm"
+                        for k in range(6)]:
+            yield Job("%s: branches on argument %d of each exported function are refused" % (path, k),
+                      missing(path) or SOLVER, lambda path=path, k=k: changes.check_branches(path, k))
 
 
-def run(job: tuple) -> tuple:
+def run(job: Job) -> tuple:
     """The verdict of a job, its title, and why. What no one has foreseen is a failure too."""
-    f, arguments = job
-    title, gone, show = f(*arguments)
+    title, gone, show = job
     if gone:
         return "skip", title, "no " + gone
     gc.disable()                       # terms have no cycles, and looking for some takes long
@@ -330,6 +331,10 @@ def run(job: tuple) -> tuple:
     finally:
         gc.collect()
     return (found[0], title, found[1]) if isinstance(found, tuple) else ("ok", title, found)
+
+
+def run_number(k: int) -> tuple:
+    return run(ALL[k])
 
 
 def report(results: Any) -> bool:
@@ -358,7 +363,7 @@ def write_forms() -> int:
                 verdict, why, run_forms = check_instructions.check(path, user, 4)
                 found.update(run_forms)
                 return verdict, why
-            verdict, _, why = run((lambda: (path, not_runnable(path), show), ()))
+            verdict, _, why = run(Job(path, not_runnable(path), show))
             if verdict != "ok":
                 print("check.py: %s: %s" % (path, why), file=sys.stderr)
                 return 1
@@ -383,13 +388,10 @@ def main(arguments: list) -> int:
         print("check.py: there is no list of functions for %s" % unknown[0], file=sys.stderr)
         return 2
     facts.run_with_z3(__file__, given)
-    jobs = list(proofs(arguments or list(functions.FILES), bool(arguments)))
-    if not arguments:
-        jobs = [*tests_of_the_tool(), *jobs]
-    for path in arguments or functions.FILES:      # which all jobs share; what is wrong with one, its jobs say
-        run((lambda: (path, missing(path), lambda: str(programs.read(path))), ()))
-    with multiprocessing.Pool() as pool:
-        return 0 if report(pool.imap(run, jobs, chunksize=1)) else 1
+    shown = [job for path in arguments or functions.FILES for job in proofs(path, bool(arguments))]
+    ALL.extend(shown if arguments else [*shown, *tests_of_the_tool()])
+    with multiprocessing.get_context("fork").Pool() as pool:
+        return 0 if report(pool.imap(run_number, range(len(ALL)), chunksize=1)) else 1
 
 
 if __name__ == "__main__":

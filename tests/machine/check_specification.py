@@ -1,156 +1,315 @@
-"""Executes call_specification.py over numbers, and compares digests with hashlib: random parameters, and messages
-that are absorbed in random pieces."""
+"""Tests the specification of whole calls over numbers. Its digests must be those of hashlib. And for made-up numbers
+in each case of call_cases.py and xof_cases.py, most of them near a bound, the compiled library must return and write
+what is specified: by the source's proofs, it keeps the contracts of crates/blake2_ffi."""
 
 from __future__ import annotations
 
+import ctypes
 import hashlib
+import os
 import random
-from typing import Any
+import subprocess
+import tempfile
+from types import SimpleNamespace
+from typing import Any, Callable, cast
 
+import call_cases
 import call_specification as S
+import families
+import macros
+import program as programs
 import rfc7693 as R
 import terms as T
+import xof_specification as X
+from call_cases import MOST, REFUSED
+
+PATH = "dist/x86_64/vulfsjor-v2.s"     # which each of these processors runs
+LONGEST = 512                          # bytes of an argument that is made
+SPARE = 8                              # bytes around each argument, which no call may change
+TRIES = 10000                          # numbers that are made up until a case has some
+
+
+def value(n: Any) -> int:
+    """A number, which may be a term that is one."""
+    return n.args if isinstance(n, T.Term) else n
+
+
+class Unlucky(Exception):
+    """The numbers that were made up are not those of the case, or too large."""
 
 
 class Numbers:
     """The operations of call_specification.py over numbers."""
 
-    def number(self, n: Any, size: int) -> Any:
-        return list(n.to_bytes(size, "little"))
+    def word(self, n: Any) -> Any:
+        return value(n)
 
-    def from_bytes(self, data: list) -> Any:
+    def number(self, n: Any, size: int) -> list:
+        return list(value(n).to_bytes(size, "little"))
+
+    def from_bytes(self, data: list) -> int:
         return int.from_bytes(bytes(data), "little")
 
-    def below(self, j: int, n: Any, x: Any, y: Any) -> Any:
-        return x if j < n else y
+    def below(self, j: int, n: Any, x: int, y: int) -> int:
+        return x if j < value(n) else y
 
-    def plus(self, a: Any, b: Any) -> Any:
-        return a + b
+    def plus(self, a: Any, b: Any) -> int:
+        return value(a) + value(b)
 
-    def times(self, m: Any, k: int) -> Any:
-        return m * k
+    def minus(self, a: Any, b: Any) -> int:
+        return value(a) - value(b)
 
-    def difference(self, a: Any, b: Any) -> Any:
-        return max(a - b, 0)
+    def times(self, m: int, k: Any) -> int:
+        return m * value(k)
 
-    def minus(self, a: Any, b: Any) -> Any:
-        return a - b
+    def difference(self, a: Any, b: Any) -> int:
+        return max(self.minus(a, b), 0)
 
     def least(self, most: int, n: int) -> int:
         return min(most, n)
 
-    def xor(self, data: list, other: Any) -> Any:
+    def xor(self, data: Any, other: list) -> list:
         return [x ^ y for x, y in zip(data, other)]
 
-    def is_zero(self, n: Any) -> Any:
-        return n == 0
+    def is_zero(self, n: Any) -> bool:
+        return value(n) == 0
 
-    def is_on(self, n: Any) -> Any:
-        return int(n != 0)
+    def is_on(self, n: Any) -> int:
+        return int(value(n) != 0)
 
-    def are_equal(self, x: Any, y: Any) -> Any:
-        return int(list(x) == list(y))
+    def are_equal(self, x: list, y: list) -> int:
+        return int(x == y)
 
-    def compress(self, kind: Any, chain: Any, block: Any, count: int, last: Any, node: Any) -> Any:
+    def compress(self, kind: R.Kind, chain: list, block: list, count: Any, last: int, node: int) -> list:
         T.reset()                      # what is left are numbers
-        words = lambda data: [T.const(kind.w, int.from_bytes(bytes(
-            data[k:k + kind.bytes]), "little")) for k in range(0, len(data), kind.bytes)]
-        ones = (1 << kind.w) - 1
-        found = R.F(kind, words(chain), words(block), T.const(kind.w, count),
-                    T.const(kind.w, count >> kind.w), T.const(kind.w, last * ones),
-                    T.const(kind.w, node * ones))
-        return [b for t in found for b in T.split(t)]
+        words = lambda data: [T.const(kind.w, self.from_bytes(data[k:k + kind.bytes]))
+                              for k in range(0, len(data), kind.bytes)]
+        ones, count = (1 << kind.w) - 1, value(count)
+        numbers = (T.const(kind.w, n) for n in (count, count >> kind.w, last * ones, node * ones))
+        return [b for t in R.F(kind, words(chain), words(block), *numbers) for b in T.split(t)]
 
-    def compress_all(self, kind: Any, chain: Any, data: Any, start: Any, k: Any, count: Any) -> Any:
-        for i in range(k):
-            at = start + kind.block * i
-            block = [data(at + j) for j in range(kind.block)]
-            chain = self.compress(kind, chain, block, count + kind.block * (i + 1), 0, 0)
+    def compress_all(self, kind: R.Kind, chain: list, data: Callable, start: int, k: Any, count: Any) -> list:
+        if value(k) > LONGEST:
+            raise Unlucky
+        for i in range(value(k)):
+            block = [data(start + kind.block * i + j) for j in range(kind.block)]
+            chain = self.compress(kind, chain, block, value(count) + kind.block * (i + 1), 0, 0)
         return chain
 
 
-def reader(data: Any) -> Any:
-    """The bytes of a buffer, and 0 where a specification does not use what it reads."""
-    return lambda j: data[j] if j < len(data) else 0
+A: Any = Numbers()
 
 
-def absorb(a: Any, kind: Any, s: Any, data: Any) -> Any:
-    """The update that the length of the data calls for."""
-    n, size, pending = len(data), kind.block, s.pending_length
-    if pending + n <= size:
-        return S.update_few(a, kind, s, reader(data), n)
-    fill = size - pending if pending else 0
-    k = (n - fill - 1) // size
-    return S.update_many(a, kind, s, reader(data), k, n - fill - size * k)
+class Memory:
+    """Bytes of an argument, with others around them. Those behind the end are 0, where a specification does not use
+    what it reads."""
+
+    def __init__(self, data: bytes, spare: bytes = bytes(SPARE)) -> None:
+        self.data, self.spare = data, spare
+
+    def __call__(self, j: int) -> int:
+        return self.data[j] if j < len(self.data) else 0
+
+    def initial(self, j: int) -> T.Byte:
+        return T.const(8, self(j)), 0
+
+    def pointer(self) -> ctypes.c_void_p:
+        self.buffer = ctypes.create_string_buffer(self.spare + self.data + self.spare, len(self.data) + 2 * SPARE)
+        return ctypes.c_void_p(ctypes.addressof(self.buffer) + SPARE)
+
+    def has(self, data: bytes) -> bool:
+        """Whether a call has left these bytes, and those around."""
+        return self.buffer.raw == self.spare + data + self.spare
 
 
-def lengths(rng: Any, kind: Any) -> Any:
+# The digests.
+
+def lengths(rng: random.Random, kind: R.Kind) -> int:
     """A length near a multiple of the block's."""
     return max(0, rng.choice((0, 1, 2, 3)) * kind.block + rng.choice((-1, 0, 1, rng.randrange(64))))
 
 
-def holds(conditions: Any) -> Any:
-    total = lambda numbers: sum(n[0] * n[1] if isinstance(n, tuple) else n for n in numbers)
-    return all(low <= total(numbers) <= high for numbers, low, high in conditions)
+def absorbed(kind: R.Kind, s: Any, data: bytes) -> Any:
+    """The state after the update that the length of the data calls for."""
+    n, size, pending, buffer = len(data), kind.block, value(s.pending_length), cast(Any, Memory(data))
+    if pending + n <= size:
+        return S.update_few(A, kind, s, buffer, n)
+    fill = size - pending if pending else 0
+    k: Any = (n - fill - 1) // size
+    rest: Any = n - fill - size * k
+    return S.update_many(A, kind, s, buffer, k, rest)
 
 
-def one(a: Any, kind: Any, rng: Any) -> Any:
-    """What differs in one run with random parameters, or None."""
+def digests(rng: random.Random, kind: R.Kind) -> tuple:
+    """The digest of a message that is absorbed in random pieces, under random parameters, and that of hashlib."""
     key, salt, persona = (rng.randbytes(rng.choice((0, rng.randrange(n + 1), n)))
                           for n in (kind.w, kind.w // 4, kind.w // 4))
     size, node = rng.randrange(1, kind.w + 1), rng.randrange(2)
     tree = [rng.randrange(256), rng.randrange(1, 256), rng.getrandbits(32),
-            rng.getrandbits(64 if kind.w == 64 else 48), rng.randrange(256),
-            rng.randrange(kind.w + 1)]
-    if rng.randrange(2):
-        tree, node = list(S.SEQUENTIAL), 0
-    text = rng.randbytes(lengths(rng, kind))
+            rng.getrandbits(64 if kind.w == 64 else 48), rng.randrange(256), rng.randrange(kind.w + 1)]
+    texts: Any = [x for text in (key, salt, persona) for x in (Memory(text), len(text))]
+    s, message = S.init_tree(A, kind, size, *(texts + [tree])), b""
+    for _ in range(rng.randrange(4)):
+        piece = rng.randbytes(lengths(rng, kind))
+        s, message = absorbed(kind, s, piece), message + piece
     names = ("fanout", "depth", "leaf_size", "node_offset", "node_depth", "inner_size")
-    state = lambda data: getattr(hashlib, kind.name)(
-        data, digest_size=size, key=key, salt=salt, person=persona, last_node=bool(node),
-        **dict(zip(names, tree)))
-    if not holds(S.admits(kind, size, len(key), len(salt), len(persona)) +
-                 S.admits_tree(kind, tree[1], tree[3], tree[5])):
-        return "arguments that hashlib accepts are refused"
-    s = S.init_tree(a, kind, size, reader(key), len(key), reader(salt), len(salt),
-                    reader(persona), len(persona), tree)
-    start, at = s, 0
-    while at < len(text):
-        n = lengths(rng, kind) or 1
-        s = absorb(a, kind, s, text[at:at + n])
-        at += n
-        if not holds(S.is_ready(kind, s)) or S.count(a, s) != min(at, len(text)):
-            return "the state or its count after %d bytes" % at
-    s, wanted = S.set_last_node(s, node), state(text).digest()
-    out = S.final(a, kind, s, reader(bytes(80)))[0]
-    if bytes(out[:size]) != wanted or any(out[size:]):
-        return "the digest of %d bytes" % len(text)
-    if not S.verify(a, kind, s, reader(wanted)) or S.verify(a, kind, s, reader(bytes([wanted[0] ^ 1]) + wanted[1:])):
-        return "the comparison with a tag"
-    again = S.final(a, kind, S.reset(s), reader(bytes(80)))[0]
-    if bytes(again[:size]) != state(b"").digest():
-        return "the digest after a reset"
-    block = bytes(S.parameter_block(a, kind, size, len(key), tree, list(salt.ljust(
-        kind.w // 4, b"\0")), list(persona.ljust(kind.w // 4, b"\0"))))
-    if S.init_param(a, kind, list(block)).chain != start.chain:
-        return "the state of a parameter block"
-    return None if tree != list(S.SEQUENTIAL) else plain(a, kind, size, key, text)
+    wanted = getattr(hashlib, kind.name)(message, digest_size=size, key=key, salt=salt, person=persona,
+                                         last_node=bool(node), **dict(zip(names, tree)))
+    return bytes(S.digest(A, kind, S.set_last_node(s, bool(node)))[:size]), wanted.digest()
 
 
-def plain(a: Any, kind: Any, size: int, key: Any, text: str) -> Any:
-    """The same for the call in one."""
-    wanted = getattr(hashlib, kind.name)(text, digest_size=size, key=key).digest()
-    out = S.one_shot(a, kind, size, reader(key), len(key), lambda s: absorb(a, kind, s, text), reader(bytes(80)))
-    return None if bytes(out[:size]) == wanted else "the digest of a call in one"
+def check(count: int) -> tuple:
+    """Whether the specification agrees with hashlib: a verdict, and what was tried."""
+    rng = random.Random(5)
+    for kind in [R.BLAKE2B, R.BLAKE2S] * count:
+        T.reset()
+        found, wanted = digests(rng, kind)
+        if found != wanted:
+            return "not ok", "%s: the digest is not that of hashlib" % kind.name
+    return "ok", "%d digests" % (2 * count)
 
 
-def check(count: int) -> Any:
-    """Whether the specification agrees with hashlib: a verdict, and what differs."""
-    rng, a = random.Random(5), Numbers()
-    for kind in (R.BLAKE2B, R.BLAKE2S):
-        for _ in range(count):
-            T.reset()
-            why = one(a, kind, rng)
-            if why:
-                return "not ok", "%s: %s" % (kind.name, why)
-    return "ok", "%d runs" % (2 * count)
+# The library.
+
+class Made(call_cases.Setup):
+    """A call with numbers for its variables."""
+
+    def __init__(self, rng: random.Random, cases: Any) -> None:
+        super().__init__(cases.calls, cases.kind, (16, 0), cases.wiped)
+        self.rng, self.is_long = rng, False
+        self.memories: dict = {}
+
+    def variable(self, name: str, w: int = 64) -> T.Term:
+        return T.const(w, value(self.number(name, 0, (1 << w) - 1)))
+
+    def number(self, name: str, low: int = 0, high: int = MOST) -> T.Term:
+        """A number near a bound, or that of a short length."""
+        rng, kind = self.rng, self.kind
+        bounds = (0, low, high, kind.w // 4, kind.w, kind.block, X.unknown(kind), kind.w << 32, 1 << 48, MOST)
+        short = rng.randrange(rng.choice((kind.w // 4, kind.w, 3 * kind.block)))
+        n = rng.choice((rng.choice(bounds) + rng.choice((-1, 0, 1)), short))
+        return T.const(64, max(low, min(high, n)))
+
+    def secrets(self, name: str, size: int, w: int) -> list:
+        return list(self.rng.randbytes(size))
+
+    def bound(self, numbers: tuple, low: int, high: int) -> bool:
+        total = sum(n[0] * value(n[1]) if isinstance(n, tuple) else value(n) for n in numbers)
+        if not low <= total <= high:
+            raise Unlucky
+        return True
+
+    def pass_struct(self, name: str, data: list, writable: bool = False) -> Any:
+        memory = self.memories[name] = Memory(bytes(data), self.rng.randbytes(SPARE))
+        self.arguments.append(memory)
+        return memory
+
+    def pass_buffer(self, name: str, length: Any, taint: int = T.SECRET, writable: bool = False) -> Any:
+        """A buffer that is too long to be made is that of a call that is refused."""
+        self.is_long |= value(length) > LONGEST
+        memory = self.pass_struct(name, list(self.rng.randbytes(min(value(length), LONGEST))))
+        self.arguments.append(T.const(64, value(length)))
+        return memory
+
+    def make_tag(self) -> None:
+        """Lets a tag be right, or have one wrong bit."""
+        tag = self.memories.get("tag")
+        if tag and len(tag.data) == value(self.state.output_size):
+            data = bytearray(S.digest(A, self.kind, self.state)[:len(tag.data)])
+            data[self.rng.randrange(len(data))] ^= self.rng.choice((0, 0, 1, 128))
+            tag.data = bytes(data)
+
+    def call(self, f: Any) -> int:
+        """What the library returns."""
+        words = [x.pointer() if isinstance(x, Memory) else ctypes.c_uint64(int.from_bytes(bytes(
+            b if isinstance(b, int) else self.rng.randrange(256) for b in T.split(x)), "little"))
+            for x in self.arguments]
+        return f(*words)
+
+    def differs(self, f: Any, expected: Callable) -> str | None:
+        """What the library does otherwise than the specification says."""
+        result, state, out = expected(A)
+        if self.is_long and result is not REFUSED:
+            raise Unlucky
+        found = self.call(f)
+        if callable(result):           # what a comparison returns
+            is_same = int(found == 0)
+            result = result(SimpleNamespace(compared_bytes=(is_same, is_same)))
+        if result is not None and found != value(result):
+            return "it returns %d, not %d" % (found, value(result))
+        wanted = {name: memory.data for name, memory in self.memories.items()}
+        if state is not None:
+            wanted["state"] = bytes(self.bytes_of(state))
+        if "out" in wanted:
+            data = bytes(out(None) if callable(out) else out)[:len(wanted["out"])]
+            wanted["out"] = data + wanted["out"][len(data):]
+        return next((name for name, memory in self.memories.items() if not memory.has(wanted[name])), None)
+
+
+def read(setup: Made, n: T.Term, is_known: bool, state: Callable, position: T.Term) -> Callable:
+    """The bytes of a read, in place of those that reads.py compares."""
+    def data(_: Any) -> bytes:
+        blocks, w = X.stream(A, setup.kind, state(A), is_known), setup.kind.w
+        first, start = divmod(value(position), w)
+        return bytes([b for i in range(first, first + (start + value(n) - 1) // w + 1)
+                      for b in blocks(i)][start:start + value(n)])
+    return data
+
+
+def library(folder: str) -> Any:
+    """The text as a library whose functions can be called by their names."""
+    s, so = (os.path.join(folder, "a" + suffix) for suffix in (".s", ".so"))
+    with open(os.path.join(programs.ROOT, PATH)) as f:
+        text = macros.expanded(f.read(), "x86_64")
+    with open(s, "w") as f:
+        f.write("\n".join(line for line in text.split("\n") if not line.startswith("\t.hidden")))
+    subprocess.run(programs.TOOLS["x86_64"][0] + ["-shared", "-o", so, s], check=True)
+    return ctypes.CDLL(so)
+
+
+def is_possible(cases: Any, case: Callable) -> bool:
+    """Whether a case has any numbers."""
+    T.reset()
+    return case(call_cases.Setup(cases.calls, cases.kind, (16, 0), cases.wiped)) is not None
+
+
+def compare_case(rng: random.Random, cases: Any, case: Callable, f: Any) -> str | None:
+    """What differs for numbers of a case, or None. The case may have none."""
+    for k in range(TRIES):
+        T.reset()
+        if k == TRIES // 50 and not is_possible(cases, case):
+            return None
+        setup = Made(rng, cases)
+        try:
+            expected = case(setup)
+            if expected is None:
+                return None
+            setup.make_tag()
+            return setup.differs(f, expected)
+        except Unlucky:
+            pass
+        except T.Refused as e:
+            return str(e)
+    return "no numbers are found"
+
+
+def compare(count: int) -> tuple:
+    """Whether the specification agrees with the library, for so many numbers in each case: a verdict, and what was
+    tried."""
+    rng, total = random.Random(11), 0
+    program = programs.read(PATH)
+    with tempfile.TemporaryDirectory() as folder:
+        lib = library(folder)
+        for family in filter(None, families.TITLES):
+            cases = families.cases(program, family, families.some(family)[0], families.some(family)[1] or None)
+            cases.reads = read
+            for end in families.exports(program, family):
+                f = getattr(lib, "vulfsjor_ffi_%s%s_1_v2" % (family, end))
+                f.restype = ctypes.c_uint64 if end in ("_count", "_left", "_digest_size", "_state_size") else (
+                    ctypes.c_uint32)
+                for case in getattr(cases, end.lstrip("_") or "one_shot")():
+                    total += count
+                    why = next(filter(None, (compare_case(rng, cases, case, f) for _ in range(count))), None)
+                    if why:
+                        return "not ok", "vulfsjor_ffi_%s%s, case %s: %s" % (family, end, case.__doc__, why)
+    return "ok", "%d calls" % total

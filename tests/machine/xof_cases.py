@@ -11,7 +11,7 @@ import program as programs
 import reads
 import terms as T
 import xof_specification as X
-from call_cases import FREE, MOST, REFUSED, Setup, fail, hold
+from call_cases import FREE, MOST, REFUSED, Setup, fail, hold, titled
 from symbolic import Buffer
 from terms import CannotShow
 from whole_calls import Calls, Terms
@@ -65,24 +65,11 @@ class Cases(C.Cases):
                     given, failing = why(s)[k]
                     hold(setup, given)
                     return (lambda a: (result, s, [])) if fail(setup, failing, side) else None
-                case.__doc__ = "not ready: condition %d, side %d" % (k, side)
-                yield case
+                yield titled("not ready: condition %d, side %d" % (k, side), case)
 
     def each(self, make: Callable, *choices: tuple) -> Iterator:
-        """The cases of a function, with a length that is known or not, and each of some choices."""
-        for pair in [(is_known, choice) for is_known in (True, False) for choice in choices or ((),)]:
-            def case(setup: Setup, pair: tuple = pair) -> Callable:
-                return make(setup, pair[0], *pair[1])
-            case.__doc__ = "ready, known length %s, %s" % pair
-            yield case
-
-    def count(self) -> Iterator:
-        def case(setup: Setup, is_known: bool, low: int, high: int) -> Callable:
-            s = self.add_ready(setup, is_known)
-            setup.bound((s.counter, s.pending_length, (-1, s.start_length)), low, high)
-            return lambda a: (a.word(S.count(a, s)), s, [])
-        yield from self.each(case, (0, MOST), (-MOST, -1))
-        yield from self.unready(lambda setup: None, T.const(64, 0))
+        """With a length that is known, and with one that is not."""
+        return super().each(make, *[choice + (is_known,) for is_known in (True, False) for choice in choices or ((),)])
 
     def left(self) -> Iterator:
         def case(setup: Setup, is_known: bool) -> Callable:
@@ -102,37 +89,26 @@ class Cases(C.Cases):
 
     # Messages.
 
+    def add_absorbing(self, setup: Setup, **fields: tuple) -> Any:
+        """The length does not matter, because nothing was read."""
+        return self.add_ready(setup, None, position=NOT_ON, reading=NOT_ON, xof_length=(1, X.unknown(self.kind)),
+                              **fields)
+
+    def keys_read(self, s: Any) -> tuple:
+        return (s.counter, T.const(64, 1)), (0, s.start_length)
+
+    def over(self, s: Any, after: S.State) -> S.State:
+        return X.over(s, after)
+
     def update(self) -> Iterator:
-        # The length does not matter, because nothing was read.
-        start = {"position": NOT_ON, "reading": NOT_ON, "xof_length": (1, X.unknown(self.kind))}
-        for pending in self.pending:
-            for amount in self.amounts(pending):
-                def case(setup: Setup) -> Callable:
-                    s = self.add_ready(setup, None, pending_length=(pending, pending), **start)
-                    setup.reads_key = (s.counter, T.const(64, 1)), (0, s.start_length)
-                    s = s.but(pending_length=pending)
-                    n, absorb = amount(setup)
-                    data = self.message(setup, n)
-                    hold(setup, S.is_counted(s.counter, pending, n))
-                    return lambda a: (0, X.over(s, absorb(a, s, data)), [])
-                case.__doc__ = "%d pending" % pending
-                yield case
-        for name in ("position", "reading"):
+        yield from super().update()
+        for k in range(2):
             def reading(setup: Setup, is_known: bool) -> Callable:
-                s = self.add_ready(setup, is_known, **{name: ON})
+                s = self.add_ready(setup, is_known)
                 self.message(setup, setup.number("n"))
+                fail(setup, X.is_absorbing(s)[k], 1)
                 return lambda a: (REFUSED, s, [])
             yield from self.each(reading)
-
-        def much(setup: Setup) -> Callable:
-            """the count reaches 2^64"""
-            s = self.add_ready(setup, None, **start)
-            n = setup.number("n")
-            self.message(setup, n)
-            fail(setup, S.is_counted(s.counter, s.pending_length, n)[0], 1)
-            return lambda a: (REFUSED, s, [])
-        yield much
-        yield from self.unready(lambda setup: self.message(setup, setup.number("n")))
 
     # Outputs.
 
@@ -148,7 +124,7 @@ class Cases(C.Cases):
     def squeeze(self) -> Iterator:
         kind = self.kind
 
-        def case(setup: Setup, is_known: bool, reading: tuple, node: tuple) -> Callable:
+        def case(setup: Setup, reading: tuple, node: tuple, is_known: bool) -> Callable:
             place = setup.variable("place in a block", 8)
             setup.bound((place,), 0, kind.w - 1)
             position = T.add(64, (kind.w, setup.number("block", 0, MOST // kind.w)), (1, reads.of_byte(place)))
@@ -204,19 +180,18 @@ class Cases(C.Cases):
                     state = lambda a: X.one_shot(a, kind, size, key, keyed, lambda s: absorb(a, s, data))
                     out = self.reads(setup, size, True, state, T.const(64, 0))
                     return lambda a: (0, None, out)
-                accepted.__doc__ = "accepted, key %s" % has_key
-                yield accepted
-        for k in range(4 if derives else 3):
-            for side in (0, 1):
-                def refused(setup: Setup) -> Callable | None:
-                    n = setup.number("n")
-                    size, _, _, keyed = arguments(setup, n, FREE)
-                    all_of = S.is_counted(block, n) + conditions(size, keyed)
-                    if k == 0:
-                        setup.bound((keyed,), 1, MOST)
-                    return (lambda a: (REFUSED, None, [])) if fail(setup, all_of[k], side) else None
-                refused.__doc__ = "refused: condition %d, side %d" % (k, side)
-                yield refused
+                yield titled("accepted, key %s" % has_key, accepted)
+
+        def lengths(setup: Setup) -> list:
+            size, _, _, keyed = arguments(setup, setup.number("n"), FREE)
+            return conditions(size, keyed)
+        yield from self.refused(lengths)
+
+        def counted(setup: Setup) -> list:
+            n = setup.number("n")
+            arguments(setup, n, (1, MOST))
+            return S.is_counted(block, n)
+        yield from self.refused(counted)
 
     def derive_key(self) -> Iterator:
         yield from self.one_shot(True)
