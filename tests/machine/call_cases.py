@@ -248,16 +248,16 @@ class Cases:
 
     # States.
 
-    def ready(self, **fields: tuple) -> dict:
-        """The fields of a state that is ready."""
-        kind = self.kind
-        return {"output_size": (1, kind.w), "pending_length": (0, kind.block),
-                "start_length": (0, kind.block), **fields}
+    def conditions(self, s: Any) -> list:
+        """When a state is ready."""
+        return S.is_ready(self.kind, s)
 
-    def add_ready(self, setup: Setup, **fields: tuple) -> S.State:
-        """A state that is ready, as an argument."""
-        s = setup.pass_state(**self.ready(**fields))
-        hold(setup, S.is_ready(self.kind, s))
+    def add_ready(self, setup: Setup, *more: Any, **fields: tuple) -> S.State:
+        """A state that is ready, as an argument. The bounds of its numbers are those of the specification."""
+        names = self.conditions(self.wiped.but(**{name: name for name in self.wiped.FIELDS}), *more)
+        bounds = {numbers[0]: (low, high) for numbers, low, high in names if len(numbers) == 1}
+        s = setup.pass_state(**{**bounds, **fields})
+        hold(setup, self.conditions(s, *more))
         return s
 
     def each(self, make: Callable, *choices: tuple) -> Iterator:
@@ -416,7 +416,7 @@ class Cases:
         for has_key in keys:
             def accepted(setup: Setup) -> Callable:
                 setup.pass_state()
-                given, conditions = read(setup, (1, kind.w) if has_key else (0, 0))
+                given, conditions = read(setup, (1, MOST) if has_key else (0, 0))
                 setup.reads_key = (0, given[2]),
                 hold(setup, conditions)
                 return lambda a: (0, init(a, kind, *given), [])
@@ -506,7 +506,7 @@ class Cases:
             for amount in self.amounts(pending):
                 def accepted(setup: Setup) -> Callable:
                     n, absorb = amount(setup)
-                    size, out, data, key, keyed, conditions = arguments(setup, n, (1, kind.w) if has_key else (0, 0))
+                    size, out, data, key, keyed, conditions = arguments(setup, n, (1, MOST) if has_key else (0, 0))
                     setup.reads_key = (0, keyed),
                     hold(setup, conditions + S.is_counted(pending, n))
                     return lambda a: (0, None, S.one_shot(

@@ -295,7 +295,7 @@ def tests_of_the_tool() -> Iterator[Job]:
     yield Job("the specification of whole calls agrees with hashlib", None, lambda: check_specification.check(
         few(400, 10)))
     yield Job("the specification of whole calls agrees with the library", native or SOLVER,
-              lambda: check_specification.compare(few(10, 1)))
+              lambda: check_specification.compare(few(10, 2)))
     yield Job("the ranges of words that are followed have their numbers", None, lambda: check_ranges.check(
         few(2000, 100)))
     yield from map(table_of_forms, ("x86_64", "aarch64"))

@@ -183,11 +183,12 @@ class Made(call_cases.Setup):
         return T.const(w, value(self.number(name, 0, (1 << w) - 1)))
 
     def number(self, name: str, low: int = 0, high: int = MOST) -> T.Term:
-        """A number near a bound, or that of a short length."""
+        """A number up to a limit that it may have, or near another bound."""
         rng, kind = self.rng, self.kind
-        bounds = (0, low, high, kind.w // 4, kind.w, kind.block, X.unknown(kind), kind.w << 32, 1 << 48, MOST)
-        short = rng.randrange(rng.choice((kind.w // 4, kind.w, 3 * kind.block)))
-        n = rng.choice((rng.choice(bounds) + rng.choice((-1, 0, 1)), short))
+        limit = {"salt_size": kind.w // 4, "persona_size": kind.w // 4, "K": LONGEST // kind.block}.get(
+            name, kind.w if "size" in name or name == "room" else kind.block)
+        other = rng.choice((0, low, high, X.unknown(kind), kind.w << 32, 1 << 48, MOST))
+        n = rng.choice((limit, rng.randrange(limit + 1), rng.randrange(limit + 1), other)) + rng.choice((-1, 0, 0, 1))
         return T.const(64, max(low, min(high, n)))
 
     def secrets(self, name: str, size: int, w: int) -> list:
@@ -277,7 +278,7 @@ def compare_case(rng: random.Random, cases: Any, case: Callable, f: Any) -> str 
     """What differs for numbers of a case, or None. The case may have none."""
     for k in range(TRIES):
         T.reset()
-        if k == TRIES // 50 and not is_possible(cases, case):
+        if k == TRIES // 200 and not is_possible(cases, case):
             return None
         setup = Made(rng, cases)
         try:

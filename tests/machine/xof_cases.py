@@ -36,17 +36,9 @@ class Cases(C.Cases):
 
     # States.
 
-    def length(self, is_known: bool) -> tuple:
-        (_, low, high), = X.is_length(self.kind, 0, is_known)
-        return low, high
-
-    def add_ready(self, setup: Setup, is_known: Any = True, **fields: Any) -> Any:
-        """A state that is ready; with any length, if nothing was read and it does not matter."""
-        kind, length = self.kind, {} if is_known is None else {"xof_length": self.length(is_known)}
-        given: dict = {**self.ready(), "output_size": (kind.w, kind.w), **length, **fields}
-        s: Any = setup.pass_state(**given)
-        hold(setup, X.is_ready(kind, s, True)[:-2] if is_known is None else X.is_ready(kind, s, is_known))
-        return s
+    def conditions(self, s: Any, is_known: Any = True) -> list:
+        """When a state is ready; with any length, if nothing was read and it does not matter."""
+        return X.is_ready(self.kind, s, True)[:-2] if is_known is None else X.is_ready(self.kind, s, is_known)
 
     def unready(self, rest: Callable, result: T.Term | int = REFUSED) -> Iterator:
         kind = self.kind
@@ -174,7 +166,7 @@ class Cases(C.Cases):
             for amount in amounts[int(has_key):][:1] if self.is_short else amounts:
                 def accepted(setup: Setup) -> Callable:
                     n, absorb = amount(setup)
-                    size, data, key, keyed = arguments(setup, n, (1, kind.w) if has_key else NOT_ON)
+                    size, data, key, keyed = arguments(setup, n, (1, MOST) if has_key else NOT_ON)
                     setup.reads_key = (0, keyed),
                     hold(setup, conditions(size, keyed) + S.is_counted(block * has_key, n))
                     state = lambda a: X.one_shot(a, kind, size, key, keyed, lambda s: absorb(a, s, data))
