@@ -252,7 +252,7 @@ class Cases:
         """When a state is ready."""
         return S.is_ready(self.kind, s)
 
-    def add_ready(self, setup: Setup, *more: Any, **fields: tuple) -> S.State:
+    def add_ready(self, setup: Setup, *more: Any, **fields: Any) -> Any:
         """A state that is ready, as an argument. The bounds of its numbers are those of the specification."""
         names = self.conditions(self.wiped.but(**{name: name for name in self.wiped.FIELDS}), *more)
         bounds = {numbers[0]: (low, high) for numbers, low, high in names if len(numbers) == 1}
