@@ -300,6 +300,13 @@ def tests_of_the_tool() -> Iterator[Job]:
         few(2000, 100)))
     yield from map(table_of_forms, ("x86_64", "aarch64"))
     yield Job("no file is left out", None, all_files)
+    yield from changes_of_the_code()
+    if is_long():
+        yield Job("the types of tests/machine", None if shutil.which("mypy") else "mypy", types)
+
+
+def changes_of_the_code() -> Iterator[Job]:
+    """The jobs that show that changes are refused."""
     yield Job("each line of mutations.txt can be applied", None, lambda: changes.check_table(CHANGES))
     for row in changes.table():
         if is_long() or row.is_first:
@@ -309,7 +316,6 @@ def tests_of_the_tool() -> Iterator[Job]:
             yield Job("%s: random changes of %s are refused" % (path, entry[0]), missing(path),
                       lambda path=path, entry=entry: changes.check_random(path, entry))
     if is_long():
-        yield Job("the types of tests/machine", None if shutil.which("mypy") else "mypy", types)
         for path, k in [(p, k) for p in changes.FILES.values() if functions.architecture(p) != "wasm"
                         for k in range(6)]:
             yield Job("%s: branches on argument %d of each exported function are refused" % (path, k),
