@@ -33,9 +33,8 @@ from typing import Any, Callable, Iterator, NamedTuple
 
 import call_cases
 import changes
-import check_decisions
 import check_instructions
-import check_ranges
+import check_numbers
 import check_specification
 import check_wasm_instructions
 import compression
@@ -283,10 +282,10 @@ def tests_of_the_tool() -> Iterator[Job]:
     few = lambda n, m: n if is_long() else m
     native = not_runnable(check_specification.PATH) or (None if platform.machine() == "x86_64" else "x86-64")
     assembly = not_runnable(planted.ARM) or not_runnable(planted.V3) or native or SOLVER
-    for width in few((64, 32, 16, 8), (8,)):
+    for width in few((64, 32, 16, 8), (16,)):
         yield Job("the rules of terms at %d bits" % width, SOLVER, lambda width=width: rules(width))
     for seed in range(few(4, 1)):
-        yield Job("comparisons of whole calls are decided right", SOLVER, lambda seed=seed: check_decisions.check(
+        yield Job("comparisons of whole calls are decided right", SOLVER, lambda seed=seed: check_numbers.check_calls(
             seed, few(25000, 500)))
     for change in planted.ALL:
         if is_long() or not change.is_long:
@@ -296,7 +295,7 @@ def tests_of_the_tool() -> Iterator[Job]:
         few(400, 10)))
     yield Job("the specification of whole calls agrees with the library", native or SOLVER,
               lambda: check_specification.compare(few(10, 2)))
-    yield Job("the ranges of words that are followed have their numbers", None, lambda: check_ranges.check(
+    yield Job("the ranges of words that are followed have their numbers", None, lambda: check_numbers.check_secrets(
         few(2000, 100)))
     yield from map(table_of_forms, ("x86_64", "aarch64"))
     yield Job("no file is left out", None, all_files)

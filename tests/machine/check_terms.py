@@ -4,6 +4,7 @@ and each form is shifted by each number of bits. Else only the forms for which a
 
 from __future__ import annotations
 
+import operator
 from typing import Any, Iterable, Iterator
 
 import z3
@@ -13,14 +14,13 @@ import terms as T
 C, D = 0x6a09e667f3bcc908, 0xbb67ae8584caa73b   # any two numbers
 
 
-def formula(t: T.Term, memo: dict) -> Any:
+def formula(t: Any) -> Any:
     """What a term means, by the definitions of its operators only."""
-    if t not in memo:
-        memo[t] = meaning(t, t.args, t.w, lambda u: formula(u, memo))
-    return memo[t]
+    return T.remembered(meaning, t) if isinstance(t, T.Term) else t
 
 
-def meaning(t: T.Term, a: Any, w: int, of: Any) -> Any:
+def meaning(t: T.Term) -> Any:
+    a, w, of = t.args, t.w, formula
     number = lambda n: z3.BitVecVal(n, w)
     if t.op == "const":
         return number(a)
@@ -66,7 +66,7 @@ def shapes(w: int) -> list:
     return [
         T.const(w, 0), T.const(w, -1), T.const(w, C), x, y, flag(-1, 0), flag(C, D),
         T.add(w, (1, x), (2, y), (1, T.const(w, C))), T.add(w, (1, x), (-1, y)),
-        T.xor(w, x, T.ror(w, y, 3), flag(C, D), T.const(w, D)), T.xor(w, x, y), T.ror(w, x, 5),
+        T.xor(w, x, T.ror(w, y, 3), flag(C, D), T.const(w, C)), T.xor(w, x, y), T.ror(w, x, 5),
         T.ror(w, x, w // 2), T.shr(w, x, 3), T.word(T.split(wide)[n // 2:n // 2 + n]),
         T.word((bs[::-1] + cs)[1:n + 1]), T.word(([0] + bs + cs)[:n]),
         T.word((bs[:1] + T.split(flag(C, D)))[:n]), T.test("zero", w, x),
@@ -74,100 +74,66 @@ def shapes(w: int) -> list:
     ]
 
 
-def binary(w: int, has_all: bool) -> Iterator:
-    """Pairs of a result and its meaning, for the rules with two operands."""
-    for name, made, means in (
-            ("add", lambda a, b: T.add(w, (1, a), (1, b)), lambda a, b: a + b),
-            ("sub", lambda a, b: T.add(w, (1, a), (-1, b)), lambda a, b: a - b),
-            ("multiples", lambda a, b: T.add(w, (8, a), (128, b), (1, a)), lambda a, b: 9 * a + 128 * b),
-            ("xor", lambda a, b: T.xor(w, a, b), lambda a, b: a ^ b),
-            ("or", lambda a, b: T.either(w, a, b), lambda a, b: a | b),
-            ("and", lambda a, b: T.both(w, a, b), lambda a, b: a & b)):
-        yield name, [(lambda a=a, b=b, g=made: g(a, b), lambda f, a=a, b=b, g=means: g(f(a), f(b)))
-                     for a, b in pairs(w, has_all)]
-
-
-def pairs(w: int, has_all: bool) -> list:
-    """The pairs of terms."""
-    found = shapes(w)
-    return [(a, b) for k, a in enumerate(found) for b in (found if has_all else found[k:])]
-
-
-def shift_counts(w: int, form: T.Term, has_all: bool) -> list | range:
+def shift_counts(w: int, form: T.Term, has_all: bool) -> Iterable:
     """The numbers of bits by which a term is shifted."""
     few = not has_all and form.op not in ("const", "var", "xor", "ror")
     return sorted({1, 8 % w or 7, w // 2, w - 1}) if few else range(1, w)
 
 
-def shifts(w: int, has_all: bool) -> Iterator:
-    """The same for shifts and rotations."""
-    numbers = lambda k: z3.BitVecVal(k, w)
-    for name, made, means in (
-            ("ror", T.ror, lambda f, k: z3.RotateRight(f, k)),
-            ("shl", T.shl, lambda f, k: f << numbers(k)),
-            ("shr", T.shr, lambda f, k: z3.LShR(f, numbers(k))),
-            ("rotation", lambda w, a, k: T.either(w, T.shl(w, a, k), T.shr(w, a, w - k)),
-             lambda f, k: z3.RotateLeft(f, k)),
-            ("rotation with a sum",
-             lambda w, a, k: T.rotation(w, T.shr(w, a, k), T.shl(w, a, w - k)) or T.ror(w, a, k),
-             lambda f, k: z3.RotateRight(f, k))):
-        yield name, [(lambda a=a, k=k, g=made: g(w, a, k),
-                      lambda f, a=a, k=k, g=means: g(f(a), k))
-                     for a in shapes(w) for k in shift_counts(w, a, has_all)]
-
-
-def places(w: int, has_all: bool) -> Iterator:
-    """The same for bytes: parts of words, moves, tests, and other terms for variables."""
-    n = w // 8
-    all_shapes = shapes(w)
-    yield "part", [(lambda a=a, i=i, k=k: T.word(T.split(a)[i:i + k]),
-                    lambda f, a=a, i=i, k=k: part(f(a), i, k))
-                   for a in all_shapes for i in range(n) for k in range(1, n - i + 1)]
+def cases(w: int, has_all: bool) -> Iterator:
+    """The rules: a name, what makes a term, the same of its meaning, and the arguments of both."""
+    forms, n, x = shapes(w), w // 8, T.var(w, "x", T.SECRET)
+    pairs = [(a, b) for k, a in enumerate(forms) for b in (forms if has_all else forms[k:])]
+    shifts = [(a, k) for a in forms for k in shift_counts(w, a, has_all)]
+    parts = [(a, i, k) for a in forms for i in range(n) for k in range(1, n - i + 1)]
     order = [(5 * k + 2) % (2 * n) for k in range(n)]
-    yield "move", [(lambda a=a, b=b: T.word([(T.split(a) + T.split(b))[p] for p in order]),
-                    lambda f, a=a, b=b: join(part(z3.Concat(f(b), f(a)), p, 1) for p in order))
-                   for a, b in pairs(w, has_all)]
-    zero, one = z3.BitVecVal(0, w), z3.BitVecVal(1, w)
-    for name, if_zero, if_not in (("zero", one, zero), ("nonzero", zero, one)):
-        yield name, [(lambda a=a, name=name: T.test(name, w, a),
-                      lambda f, a=a, x=if_zero, y=if_not: z3.If(f(a) == 0, x, y))
-                     for a in all_shapes]
-    x = T.var(w, "x", T.SECRET)
-    yield "substitute", [
-        (lambda a=a, b=b: T.substitute(a, {x: b}, {}),
-         lambda f, a=a, b=b: z3.substitute(f(a), (f(x), f(b)))) for a, b in pairs(w, has_all)]
+    zero, one = (z3.BitVecVal(k, w) for k in range(2))
+    for arguments, name, made, means in (
+        (pairs, "sub", lambda a, b: T.add(w, (1, a), (-1, b)), operator.sub),
+        (pairs, "multiples", lambda a, b: T.add(w, (8, a), (128, b), (1, a)), lambda f, g: 9 * f + 128 * g),
+        (pairs, "xor", lambda a, b: T.xor(w, a, b), operator.xor),
+        (pairs, "or", lambda a, b: T.either(w, a, b), operator.or_),
+        (pairs, "and", lambda a, b: T.both(w, a, b), operator.and_),
+        (shifts, "ror", lambda a, k: T.ror(w, a, k), z3.RotateRight),
+        (shifts, "shl", lambda a, k: T.shl(w, a, k), lambda f, k: f << k),
+        (shifts, "shr", lambda a, k: T.shr(w, a, k), z3.LShR),
+        (shifts, "rotation", lambda a, k: T.either(w, T.shl(w, a, k), T.shr(w, a, w - k)), z3.RotateLeft),
+        (parts, "part", lambda a, i, k: T.word(T.split(a)[i:i + k]), part),
+        (pairs, "move", lambda a, b: T.word([(T.split(a) + T.split(b))[p] for p in order]),
+         lambda f, g: join(part(z3.Concat(g, f), p, 1) for p in order)),
+        ([(a,) for a in forms], "zero", lambda a: T.test("zero", w, a), lambda f: z3.If(f == 0, one, zero)),
+        ([(a,) for a in forms], "nonzero", lambda a: T.test("nonzero", w, a), lambda f: z3.If(f == 0, zero, one)),
+        (pairs, "substitute", lambda a, b: T.substitute(a, {x: b}, {}),
+         lambda f, g: z3.substitute(f, (formula(x), g)))):
+        yield from ((name, made, means, given) for given in arguments)
 
 
-def wrong(cases: list, memo: dict) -> tuple:
-    """The first of the cases that does not hold, as text, or None; and how many have a rule."""
-    count = 0
-    for made, means in cases:
-        try:
-            t = made()
-        except T.CannotShow:
-            continue
-        count += 1
-        names: dict = {}
-        T.add_names(t, names, set())
-        if t.taint != T.taint_of(names.values()):
-            return "%r has the taint %d" % (t, t.taint), count
-        meant = means(lambda u: formula(u, memo))
-        differs = z3.simplify(formula(t, memo) != meant, som=True)
-        solver = z3.Solver()
-        solver.add(differs)
-        if not z3.is_false(differs) and solver.check() != z3.unsat:
-            return "%r is not %s for %s" % (t, meant, solver.model() if solver.check() == z3.sat else "unknown"), count
-    return None, count
+def wrong(t: T.Term, meant: Any) -> str | None:
+    """Why a term is not what it should be, as text, or None."""
+    if t.taint != T.taint_of(u.taint for u in T.variables(t)):
+        return "%r has the taint %d" % (t, t.taint)
+    differs = z3.simplify(formula(t) != meant, som=True)
+    if z3.is_false(differs):
+        return None
+    solver = z3.Solver()
+    solver.add(differs)
+    found = solver.check()
+    return None if found == z3.unsat else "%r is not %s for %s" % (
+        t, meant, solver.model() if found == z3.sat else "unknown")
 
 
 def check(width: int, has_all: bool) -> tuple:
     """Whether all rules hold at a width: a verdict, and how many cases there are."""
     T.reset()
-    found = []
-    for table in (binary, shifts, places):
-        for rule, cases in table(width, has_all):
-            why, count = wrong(cases, {})
-            if why or not count:
-                return "not ok", "%s: %s" % (rule, " ".join((why or "no case has a rule").split()))
-            found.append("%s %d" % (rule, count))
-    return "ok", "cases: " + ", ".join(found)
+    count: dict = {}
+    for rule, made, means, arguments in cases(width, has_all):
+        count.setdefault(rule, 0)
+        try:
+            t = made(*arguments)
+        except T.CannotShow:
+            continue
+        count[rule] += 1
+        why = wrong(t, means(*map(formula, arguments)))
+        if why:
+            return "not ok", "%s: %s" % (rule, " ".join(why.split()))
+    return "ok" if all(count.values()) else "not ok", "cases: " + ", ".join("%s %d" % pair for pair in count.items())

@@ -5,6 +5,7 @@ own. Nothing else in this tool decides how the numbers of a whole call compare."
 from __future__ import annotations
 
 import atexit
+import functools
 import operator
 import os
 import subprocess
@@ -25,39 +26,39 @@ RELATIONS: dict = {"==": operator.eq, "!=": operator.ne, "<": operator.lt, "<=":
                    ">": operator.gt, ">=": operator.ge}
 
 
+@functools.lru_cache(maxsize=None)
+def variable(name: str, w: int) -> tuple:
+    """An integer of Z3 of this name, and that it has at most so many bits. Terms of later cases use it again."""
+    n = z3.Int(name)
+    return n, z3.And(0 <= n, n < 1 << w)
+
+
 def number(t: T.Term) -> Any:
     """A term as an integer of Z3."""
-    return T.remembered(_number, t)
+    return z3.IntVal(t.args) if t.op == "const" else variable("%s %d" % (t.op, t.serial), t.w)[0]
 
 
-def _number(t: T.Term) -> Any:
-    return z3.IntVal(t.args) if t.op == "const" else z3.Int("%s %d" % (t.op, t.serial))
-
-
-def definition(t: T.Term) -> list:
-    """What is so of the integers of a term and its parts, by the meaning of its operator. Of another operator only
-    the range is known."""
-    return [] if t.op == "const" else T.remembered(_definition, t)
-
-
-def _definition(t: T.Term) -> list:
-    a, n = t.args, number(t)
-    found, inner = [0 <= n, n < 1 << t.w], []
+def definition(t: T.Term) -> tuple:
+    """The parts of a term, and what is so of its integer and theirs, by the meaning of its operator. Of another
+    operator only the range is known."""
+    a, inner = t.args, []
+    n, in_range = variable("%s %d" % (t.op, t.serial), t.w)
+    found = [in_range]
     if t.op == "add":
         inner = [u for u, _ in a[1]]
         total = z3.Sum([a[0]] + [signed(t.w, k) * number(u) for u, k in a[1]])
-        found.append(n == total + (1 << t.w) * z3.Int("wraps %d" % t.serial))
+        found.append(n == total + (1 << t.w) * variable("wraps %d" % t.serial, 0)[0])
     elif t.op in ("slice", "shr"):
         start = 8 * a[1] if t.op == "slice" else a[1]
-        low, high = (z3.Int("%s %d" % (part, t.serial)) for part in ("below", "above"))
+        (low, is_low), (high, is_high) = (variable("%s %d" % (part, t.serial), bits) for part, bits in (
+            ("below", start), ("above", max(a[0].w - start - t.w, 0))))
         inner = [a[0]]
-        found += [number(a[0]) == low + n * (1 << start) + high * (
-            1 << start + t.w), 0 <= low, low < 1 << start, 0 <= high]
+        found += [number(a[0]) == low + n * (1 << start) + high * (1 << start + t.w), is_low, is_high]
     elif t.op == "cat":
         parts = list(runs(a))
         inner = [u for _, u in parts]
         found.append(n == z3.Sum([number(u) * (1 << 8 * k) for k, u in parts]))
-    return found + [f for u in inner for f in definition(u)]
+    return inner, z3.And(found)
 
 
 def runs(data: tuple) -> Iterator:
@@ -91,14 +92,24 @@ def run_with_z3(script: str, arguments: list) -> None:
 class Model:
     """Numbers of variables, for which Z3 says that some facts hold. Of a word, the number that follows from these."""
 
-    def __init__(self, names: dict) -> None:
-        self.names = names
+    def __init__(self, found: Any, variables: Iterable) -> None:
+        self.found, self.terms = found, {t.args: t for t in variables}
+        self.known: dict = {}
+
+    def __getitem__(self, name: Any) -> int:
+        if name not in self.known:
+            self.known[name] = self.found.eval(number(self.terms[name]), model_completion=True).as_long()
+        return self.known[name]
 
     def __call__(self, t: T.Term) -> int:
-        return T.value(t, self.names, {})
+        return T.value(t, self, {})
+
+    def names(self) -> dict:
+        """The numbers of all variables."""
+        return {name: self[name] for name in self.terms}
 
     def shown(self) -> str:
-        found = sorted("%s = %#x" % pair for pair in self.names.items() if isinstance(pair[0], str))
+        found = sorted("%s = %#x" % pair for pair in self.names().items() if isinstance(pair[0], str))
         return ", ".join(found[:4]) + ", .." * (len(found) > 4)
 
 
@@ -108,7 +119,8 @@ class Facts:
     or of conditions."""
 
     solver: Any = None
-    asserted: list = []                # the facts that the solver has, in its order
+    asserted: list = []                # the facts that it has, in its order, and how much was defined before each
+    defined: dict = {}                 # the terms whose definitions it has, in its order
     questions = 0
 
     def __init__(self, claim: Callable | None = None, words: tuple = (), before: Facts | None = None) -> None:
@@ -117,7 +129,7 @@ class Facts:
         self.ranges: dict = {}
         self.fixed: dict | None = None
         self.models: list = []         # numbers of the variables for which Z3 says that all hold
-        self.variables: frozenset = (before.variables if before else frozenset()).union(*map(variables, words))
+        self.variables: frozenset = (before.variables if before else frozenset()).union(*map(T.variables, words))
 
     def plus(self, relation: str, a: T.Term, b: T.Term) -> Facts:
         """With one more comparison that holds."""
@@ -152,6 +164,11 @@ class Facts:
                                     either(of(n) == 0, of(m) == 0, of(y) >= of(n))]
         return Facts(claim, (x, y, n, m), self)
 
+    @classmethod
+    def forget(cls) -> None:
+        """Lets go of the solver."""
+        cls.solver, cls.asserted, cls.defined = None, [], {}
+
     def newest_first(self) -> Iterator:
         """The facts, the last one first."""
         f: Facts | None = self
@@ -162,36 +179,51 @@ class Facts:
     def ask(self, claims: Iterable = (), words: Iterable = ()) -> Any:
         """Numbers for which the facts and some claims about words hold, as a function, False if there are none, or
         None if Z3 does not know."""
-        if Facts.solver is None:
+        if self.solver is None:
             Facts.solver = z3.Solver()
             Facts.solver.set("rlimit", EFFORT)
         solver, asserted, wanted = self.solver, self.asserted, list(self.newest_first())[::-1]
         common = 0
-        while common < min(len(asserted), len(wanted)) and asserted[common] is wanted[common]:
+        while common < min(len(asserted), len(wanted)) and asserted[common][0] is wanted[common]:
             common += 1
-        solver.pop(len(asserted) - common)
-        del asserted[common:]
+        self.pop(len(asserted) - common)
         for f in wanted[common:]:
-            solver.push()
-            asserted.append(f)
-            self.tell(f.claim(number, z3.Or) if f.claim else (), f.words)
-        solver.push()
-        self.tell(claims, words)
+            self.push(f, f.claim(number, z3.Or) if f.claim else (), f.words)
+        self.push(None, claims, words)
         answer = solver.check()
         model: Any = False if answer == z3.unsat else None
         if answer == z3.sat:
-            found = solver.model()
-            model = Model({t.args: found.eval(number(t), model_completion=True).as_long()
-                           for t in self.variables.union(*map(variables, words))})
+            model = Model(solver.model(), self.variables.union(*map(T.variables, words)))
             self.models.append(model)
-        solver.pop()
+        self.pop(1)
         Facts.questions += 1
         return model
 
-    def tell(self, claims: Iterable, words: Iterable) -> None:
-        for t in words:
-            self.solver.add(*definition(t))
-        self.solver.add(*claims)
+    def push(self, f: Facts | None, claims: Iterable, words: Iterable) -> None:
+        """Tells the solver some claims about words, and what these words are."""
+        self.solver.push()
+        self.asserted.append((f, len(self.defined)))
+        waiting = [t for t in words if t.op != "const"]
+        while waiting:
+            t = waiting.pop()
+            if t not in self.defined:
+                self.defined[t] = True
+                inner, claim = T.remembered(definition, t)
+                waiting += [u for u in inner if u.op != "const"]
+                self.tell(claim)
+        for claim in claims:
+            self.tell(z3.BoolVal(claim) if isinstance(claim, bool) else claim)
+
+    def tell(self, claim: Any) -> None:
+        z3.Z3_solver_assert(self.solver.ctx.ref(), self.solver.solver, claim.as_ast())
+
+    def pop(self, n: int) -> None:
+        """Takes the last of these back."""
+        self.solver.pop(n)
+        for _, defined in self.asserted[len(self.asserted) - n:][:1]:
+            while len(self.defined) > defined:
+                self.defined.popitem()
+        del self.asserted[len(self.asserted) - n:]
 
     def are_possible(self) -> bool:
         return bool(self.models) or self.ask() is not False
@@ -203,7 +235,7 @@ class Facts:
         question = relation, a, b
         if question not in self.answers:
             other = OPPOSITE[relation]
-            known = variables(a) | variables(b) <= self.variables
+            known = T.variables(a) | T.variables(b) <= self.variables
             self.answers[question] = any(f.answers.get(question) for f in self.newest_first()) or not (
                 known and any(compared(other, m(a), m(b), a.w) for m in self.models)
                 or self.ask([compared(other, number(a), number(b), a.w)], (a, b)) is not False)
@@ -218,9 +250,9 @@ class Facts:
         them; all is computed again, so they are inputs."""
         other = OPPOSITE[relation]
         model = self.ask([compared(other, number(a), number(b), a.w)], (a, b))
-        is_example = model and all(isinstance(name, str) and "~" not in name for name in model.names)
+        is_example = model and all(isinstance(name, str) and "~" not in name for name in model.terms)
         return model.shown() if is_example and compared(other, model(a), model(b), a.w) and all(
-            self.holds_for(model.names)) else None
+            self.holds_for(model)) else None
 
     def holds_for(self, names: dict) -> Iterator:
         """Whether each fact holds for these numbers of the variables."""
@@ -273,21 +305,9 @@ def least(f: Callable, top: int) -> int:
     return low
 
 
-def variables(t: T.Term) -> frozenset:
-    """The variables of a term."""
-    return T.remembered(_variables, t)
-
-
-def _variables(t: T.Term) -> frozenset:
-    if t.op == "var":
-        return frozenset([t])
-    inner = t.args[1] if t.op in ("add", "xor") else t.args if isinstance(t.args, tuple) else ()
-    terms = (u[0] if isinstance(u, tuple) else u for u in inner)
-    return frozenset().union(*[variables(u) for u in terms if isinstance(u, T.Term)])
-
-
 @atexit.register
 def _forget() -> None:
     """Lets go of Z3's objects before its library goes."""
     T.reset()
-    Facts.solver, Facts.asserted = None, []
+    variable.cache_clear()
+    Facts.forget()

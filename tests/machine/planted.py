@@ -6,7 +6,7 @@ from typing import Any, Callable, NamedTuple
 
 import call_cases
 import check_instructions
-import check_ranges
+import check_numbers
 import check_specification
 import constant_time
 import program as programs
@@ -60,9 +60,9 @@ ALL = (
             check_instructions.check, (V3, "T", 2), True),
     Planted("a sum whose range is that of one of two paths that meet", _Taint, "relate", lambda right: (
         lambda self, m, _, visits, *words: right(self, m, m, visits, *words[:2], words[1])),
-            check_ranges.check, (200,)),
+            check_numbers.check_secrets, (200,)),
     Planted("a range that begins between two steps", ranges, "aligned", lambda _: (
-        lambda low, high, start, step: (low, high, step)), check_ranges.check, (200,)),
+        lambda low, high, start, step: (low, high, step)), check_numbers.check_secrets, (200,)),
     Planted("a test of the models that leaves out a form", check_instructions, "chosen", lambda right: (
         lambda *arguments: (right(*arguments)[0], [t for t in right(*arguments)[1] if not t[0].startswith("usra")])),
             check_instructions.check, (ARM, "F", 1), True),

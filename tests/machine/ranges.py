@@ -1,6 +1,9 @@
-"""What is known of public words: the range of each variable, and of sums of variables."""
+"""What is known of public words: a range (low, high, step) of each variable, and of sums of variables. A word is one
+of low, low + step and so on up to high, or such a number less a multiple of 2^w, where w is its width."""
 
 from __future__ import annotations
+
+from math import gcd
 
 import terms as T
 
@@ -8,12 +11,6 @@ TOP = 1 << 64
 OPPOSITE = {"==": "!=", "!=": "==", "<": ">=", ">=": "<", ">": "<=", "<=": ">",
             "carry": "no carry", "no carry": "carry"}
 VISITS = 2                             # of a place, after which ranges are widened
-
-
-def merged_ranges(a: tuple, b: tuple) -> tuple:
-    """The least range with a step (low, high, step) that has both."""
-    low, high = min(a[0], b[0]), max(a[1], b[1])
-    return low, high, gcd(gcd(a[2], b[2]), abs(a[0] - b[0]))
 
 
 def signed(w: int, n: int) -> int:
@@ -34,12 +31,6 @@ def _parts(t: T.Term) -> tuple:
     return signed(t.w, constant), sign, T.add(t.w, *[(sign * k, u) for u, k in items.items()])
 
 
-def gcd(a: int, b: int) -> int:
-    while b:
-        a, b = b, a % b
-    return a
-
-
 def aligned(low: int, high: int, start: int, step: int) -> tuple:
     """The least range that has all numbers between two that are a start plus multiples of a step, which is 0 if the
     start is the only one."""
@@ -48,31 +39,32 @@ def aligned(low: int, high: int, start: int, step: int) -> tuple:
     return low + (start - low) % step, high - (high - start) % step, step
 
 
-def in_both(a: tuple, b: tuple) -> tuple:
-    """A range that has all numbers that two ranges have in common, by the greater step."""
+def merged_ranges(a: tuple, b: tuple) -> tuple:
+    """The least range that has the numbers of both."""
+    return min(a[0], b[0]), max(a[1], b[1]), gcd(a[2], b[2], a[0] - b[0])
+
+
+def in_both(a: tuple, b: tuple, w: int) -> tuple | None:
+    """A range that has the words of w bits that two ranges have in common, by the greater step. None if there are
+    none. If they meet at both ends, it is the smaller of both."""
+    size = 1 << w
+    shift = -((b[1] - a[0]) // size) * size          # the least with which b does not end before a
+    if b[0] + shift > a[1]:
+        return None
+    if b[0] + shift + size <= a[1]:
+        return min(a, b, key=lambda r: r[1] - r[0])
+    b = b[0] + shift, b[1] + shift, b[2]
     if a[2] == 0 or b[2] == 0:
         return a if a[2] == 0 else b
-    return aligned(max(a[0], b[0]), min(a[1], b[1]), *max(a, b, key=lambda r: r[2])[::2])
-
-
-def extended(t: T.Term) -> T.Term | None:
-    """The word that a term has followed by bytes of zeros, or None."""
-    if t.op != "cat":
-        return None
-    data = T.split(t)
-    while data and data[-1] == 0:
-        data.pop()
-    inner = T.word(data) if len(data) in (1, 2, 4) else t
-    return inner if inner.op in ("var", "add", "slice") else None
+    found = aligned(max(a[0], b[0]), min(a[1], b[1]), *max(a, b, key=lambda r: r[2])[::2])
+    return found if found[0] <= found[1] else None
 
 
 class Ranges:
-    """The part of an abstract machine that has the ranges (low, high, step) of variables that have a smaller one than
-    their width. Sums of variables without a constant have ranges too; in `residues`, modulo the width. `regions` has
-    the bases of memory, which have no range."""
+    """The part of an abstract machine that has the ranges of variables and of sums without a constant that have a
+    smaller one than their width says. `regions` has the bases of memory, which have no range."""
 
     ranges: dict
-    residues: dict
     regions: dict
     where: str
     block: int
@@ -84,16 +76,13 @@ class Ranges:
 
     def renew(self, x: T.Term, limits: tuple | None) -> T.Term:
         """A variable that stands for another value from now on."""
-        for name in ("ranges", "residues"):
-            setattr(self, name, {
-                t: r for t, r in getattr(self, name).items()
-                if t is not x and (t.op != "add" or x not in T.linear(t)[1])})
+        self.ranges = {t: r for t, r in self.ranges.items() if x not in T.linear(t)[1]}
         if limits:
             self.ranges[x] = limits
         return x
 
     def range_of(self, t: T.Term) -> tuple:
-        """The range (low, high, step) of a term, of which one number is its value modulo 2^w."""
+        """The range of a term."""
         if t.op == "const":
             n = signed(t.w, t.args) if t.w == 64 else t.args
             return n, n, 0
@@ -112,20 +101,11 @@ class Ranges:
 
     def range_of_rest(self, t: T.Term) -> tuple:
         """The range of a variable, or of a sum without a constant."""
-        low, high, step = self.range_of_integer(t)
-        other = self.residues.get(t)
-        if other is None or other[1] - other[0] >= high - low:
-            return low, high, step
-        if max(high, other[1]) - min(low, other[0]) >> t.w:
-            return other
-        return in_both((low, high, step), other)
-
-    def range_of_integer(self, t: T.Term) -> tuple:
-        """The same, of the sum as an integer."""
         known = self.ranges.get(t)
         if t.op != "add":
             return known or (self.range_of(t) if t.op != "var" else (0, (1 << t.w) - 1, 1))
-        return in_both(known, self.range_of_sum(t)) if known else self.range_of_sum(t)
+        found = self.range_of_sum(t)
+        return in_both(known, found, t.w) or known if known else found
 
     def range_of_sum(self, t: T.Term) -> tuple:
         """The range of a sum by those of its parts."""
@@ -133,7 +113,7 @@ class Ranges:
         for u, k in t.args[1]:
             k, (a, b, s) = signed(t.w, k), self.range_of(u)
             low, high = low + min(k * a, k * b), high + max(k * a, k * b)
-            step = gcd(step, abs(k) * s)
+            step = gcd(step, k * s)
         return low, high, step
 
     def unsigned(self, t: T.Term) -> tuple:
@@ -145,38 +125,18 @@ class Ranges:
         return 0, (1 << t.w) - 1
 
     def limit(self, t: T.Term, low: int, high: int, step: int = 1) -> bool:
-        """Learns that a term is between two numbers, and one of low, low + step and so on, where the step is a power
-        of two. Returns whether that may be."""
-        inner = extended(t)
-        if inner and -1 << t.w - 1 <= low and high < 1 << t.w:
-            low, high = low + step * max(0, -(low // step)), min(high, (1 << inner.w) - 1)
-            return low <= high and self.limit(inner, low, high, step)
+        """Learns that a term is between two numbers, and one of low, low + step and so on. Returns whether that may
+        be."""
         constant, sign, rest = parts(t)
-        if rest.op == "slice" and rest.args[1] == 0:
-            rest = rest.args[0]
         if rest.op not in ("var", "add") or rest in self.regions:
             return True
-        if step > 1:
-            high -= (high - low) % step
+        high -= (high - low) % step
         low, high = sorted((sign * (low - constant), sign * (high - constant)))
-        a, b, known = self.range_of_integer(rest)
-        size = 1 << t.w
-        first = (a - high + size - 1) // size
-        found = [(max(a, low + s * size), min(b, high + s * size)) for s in range(first, first + 2)]
-        found = [p for p in found if p[0] <= p[1]]
-        if not found:
+        found = in_both(self.range_of_rest(rest), (low, high, step), t.w)
+        if found is None:
             return False
-        if len(found) > 1:             # the range has several such parts
-            p, q, _ = self.range_of_rest(rest)
-            if rest.op == "add" and high - low < q - p:
-                self.residues[rest] = low, high, 1
-            return True
-        start, step = (a, known) if known >= step else (low, step)
-        new = aligned(*found[0], start, step)
-        if new[0] > new[1]:
-            return False
-        self.ranges[rest] = new
-        return rest.op != "add" or self.limit_parts(rest)
+        self.ranges[rest] = found
+        return rest.op == "var" or self.limit_parts(rest)
 
     def limit_parts(self, t: T.Term) -> bool:
         """Learns from the range of a sum what follows for its parts."""
@@ -184,18 +144,13 @@ class Ranges:
         first, last, _ = self.range_of_sum(t)
         for x, k in t.args[1]:
             k, (a, b, step) = signed(t.w, k), self.range_of(x)
-            if x.op not in ("var", "slice") or abs(k) != 1 or x in self.regions:
+            if x.op != "var" or abs(k) != 1 or x in self.regions:
                 continue
             p, q = (low - last + b, high - first + a) if k == 1 else (first - high + b, last - low + a)
-            if max(a, p) > min(b, q):
+            found = in_both((a, b, step), (p, q, 1), t.w)
+            if found is None:
                 return False
-            if x.op == "slice":
-                if not self.limit(x, max(a, p), min(b, q)):
-                    return False
-                continue
-            self.ranges[x] = aligned(max(a, p), min(b, q), a, step)
-            if self.ranges[x][0] > self.ranges[x][1]:
-                return False
+            self.ranges[x] = found
         return True
 
     def assume(self, relation: str, a: T.Term, b: T.Term) -> bool:
@@ -207,30 +162,15 @@ class Ranges:
             low, high = max(p, r), min(q, s)
             return low <= high and self.limit(a, low, high) and self.limit(b, low, high)
         if relation == "!=":
-            if a is b or p == q == r == s:
-                return False
-            for t, (low, high), (u, v) in ((a, (p, q), (r, s)), (b, (r, s), (p, q))):
-                if u == v and u in (low, high) and not self.limit(t, low + (u == low), high - (u == high)):
-                    return False
-            return self.differ(a, b)
+            difference, size = T.add(a.w, (1, b), (-1, a)), 1 << a.w
+            low, high, step = self.range_of(difference)
+            first, last = (low % size == 0) * (step or 1), (high % size == 0) * (step or 1)
+            return high - low >= size or low + first <= high - last and self.limit(difference, low + first, high - last)
         strict = relation == "<"
         if strict and a is b or p + strict > s:
             return False
         may = self.limit(a, p, min(q, s - strict)) and self.limit(b, max(r, p + strict), s)
         return may and self.limit(T.add(a.w, (1, b), (-1, a)), strict + 0, s - p)
-
-    def differ(self, a: T.Term, b: T.Term) -> bool:
-        """Learns that two words are not the same, if one end of the range of their difference would be 0. Returns
-        whether that may be."""
-        difference = T.add(a.w, (1, b), (-1, a))
-        low, high, step = self.range_of(difference)
-        if high - low >= 1 << a.w:
-            return True
-        if low % (1 << a.w) == 0:
-            low += step or 1
-        if high % (1 << a.w) == 0:
-            high -= step or 1
-        return low <= high and self.limit(difference, low, high)
 
     def widened(self, old: tuple, new: tuple, w: int, visits: int) -> tuple:
         """A range that stops to grow after some visits. Its end goes to a block's size first."""

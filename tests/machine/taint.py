@@ -68,31 +68,10 @@ def joined_byte(a: T.Byte, b: T.Byte) -> T.Byte:
     return secret() if is_secret(a) or is_secret(b) else unknown()
 
 
-def low_parts(t: T.Term) -> list:
-    """A term and its lowest bytes as shorter terms, of which each is 0 if a bit is."""
-    data = T.split(t)
-    return [T.word(data[:n]) for n in (8, 4, 1) if n <= len(data)]
-
-
-def variables(t: T.Term) -> frozenset:
-    """The variables of a term."""
-    return T.remembered(_variables, t)
-
-
-def _variables(t: T.Term) -> frozenset:
-    if t.op == "var":
-        return frozenset([t])
-    if t.op == "const":
-        return frozenset()
-    inner = t.args[1] if t.op == "add" else t.args
-    return frozenset().union(*[variables(u[0] if isinstance(u, tuple) else u) for u in inner
-                               if isinstance(u, (tuple, T.Term))])
-
-
 class Taint(Ranges, Followed):
     """Values of which each byte is public or secret."""
 
-    KNOWN = ("memory", "ranges", "residues")
+    KNOWN = ("memory", "ranges")
     facts: dict
     bounds: frozenset
 
@@ -103,15 +82,13 @@ class Taint(Ranges, Followed):
         self.block, self.longest = block, longest or block
         # Byte -> what holds if it is 0, and what if it is not: comparisons, as for learn().
         self.facts = {}
-        # The range (low, high, step) of each variable that has a smaller one than its width. Sums
-        # of variables without a constant have ranges too; in `residues`, modulo the width.
-        self.ranges, self.residues = dict(ranges), {}
+        self.ranges = dict(ranges)
         self.bounds = frozenset()      # words that a branch of the function has compared
         self.where = ""                # the path of calls and the instruction, for new variables
 
     def copy(self) -> Any:
         other = super().copy()
-        other.ranges, other.residues = dict(self.ranges), dict(self.residues)
+        other.ranges = dict(self.ranges)
         return other
 
     def lost(self, n: int, is_compression: bool = False) -> list:
@@ -173,7 +150,7 @@ class Taint(Ranges, Followed):
         """This machine with what a comparison says of the ranges if it holds or does not, or None if that may not
         be."""
         m = copy.copy(self)
-        m.ranges, m.residues = dict(self.ranges), dict(self.residues)
+        m.ranges = dict(self.ranges)
         relation, a, b = compared
         return m if m.learn(relation, a, b, holds) else None
 
@@ -454,9 +431,7 @@ class Taint(Ranges, Followed):
 
     def join_ranges(self, other: Any) -> None:
         """What holds on both paths. A range that is missing is not known."""
-        for name in ("ranges", "residues"):
-            mine, yours = getattr(self, name), getattr(other, name)
-            setattr(self, name, {t: merged_ranges(r, yours[t]) for t, r in mine.items() if t in yours})
+        self.ranges = {t: merged_ranges(r, other.ranges[t]) for t, r in self.ranges.items() if t in other.ranges}
         for t, (low, high, _) in list(self.ranges.items()):
             if t.op == "var" and high - low > 2 * TOP:
                 self.renew(t, (-TOP, TOP, 1))
@@ -477,37 +452,11 @@ class Taint(Ranges, Followed):
         old_range, new_range = (m.offset(v, base) for m, v in ((old, t), (other, u)))
         x = self.renew(T.var(t.w, "%s%s" % (self.where, name), T.PUBLIC), self.widened(
             old_range, merged_ranges(old_range, new_range), t.w, visits))
-        if base.op == "const" and self.range_of(x)[:2] == (0, 1):
-            self.remember(x, old, other, t, u)
         return T.split(T.add(t.w, (1, base), (1, x)))
-
-    def remember(self, x: T.Term, old: Any, other: Any, t: T.Term, u: T.Term) -> None:
-        """Keeps of a word that is 0 or 1 on each of two paths what it says of the path."""
-        on: list = [(), ()]
-        for m, word, n in ((old, t, other), (other, u, old)):
-            others = n.range_of(u if m is old else t)
-            for value in (0, 1):
-                if others[:2] == (1 - value, 1 - value):
-                    known = next((m.facts[k][value] for k in low_parts(word) if k in m.facts), ())
-                    on[value] = m.more_than(n) + known
-        on = [tuple(f for f in known if not any(
-            v.args.startswith(self.where) for t in f[1:3] for v in variables(t))) for known in on]
-        if any(on):
-            self.facts = {**self.facts, **{k: tuple(on) for k in low_parts(x)}}
-
-    def more_than(self, other: Any) -> tuple:
-        """What the ranges of variables say here and not on another path: comparisons."""
-        found = []
-        for t in sorted(self.ranges, key=lambda t: t.serial):
-            low, high, _ = self.ranges[t]
-            least, greatest, _ = other.range_of(t)
-            if t.op == "var" and 0 <= low <= high < TOP >> 1 and (least < low or high < greatest):
-                found += [("<=", t, T.const(t.w, high), True), (">=", t, T.const(t.w, low), True)]
-        return tuple(found)
 
     def renew(self, x: T.Term, limits: tuple | None) -> T.Term:
         self.facts = {t: f for t, f in self.facts.items() if not any(
-            x in variables(u) for u in [t] + [w for _, a, b, _ in f[0] + f[1] for w in (a, b)])}
+            x in T.variables(u) for u in [t] + [w for _, a, b, _ in f[0] + f[1] for w in (a, b)])}
         return super().renew(x, limits)
 
     def joined_bit(self, a: T.Byte, b: T.Byte, name: str) -> T.Byte:

@@ -490,30 +490,27 @@ def difference(a: Term, b: Term) -> Any:
 
 def depends(t: Term, taint: int) -> Any:
     """Inputs for which a term changes with a variable of this taint only, as text, or None."""
-    names: dict = {}
-    add_names(t, names, set())
+    changed = [u.args if u.op == "var" else u.args[0] for u in variables(t) if u.taint & taint]
     for seed in range(1, 9):
         numbers = Numbers(seed)
         before = value(t, numbers, {})
-        changed = [name for name, found in names.items() if found & taint]
         numbers.update({name: Numbers(-seed)[name] for name in changed})
         if value(t, numbers, {}) != before:
             return "it changes with %s" % ", ".join(sorted(map(str, changed))[:3])
     return None
 
 
-def add_names(t: Term, names: dict, seen: set) -> None:
-    """Adds the names of the variables of a term, with their taints."""
-    if t in seen or t.op == "const":
-        return
-    seen.add(t)
-    if t.op in ("var", "ite"):
-        names[t.args if t.op == "var" else t.args[0]] = t.taint
-        return
-    for part in t.args[1] if t.op in ("add", "xor") else t.args:
-        u = part[0] if isinstance(part, tuple) else part
-        if isinstance(u, Term):
-            add_names(u, names, seen)
+def variables(t: Term) -> frozenset:
+    """The variables of a term, and its flags."""
+    return remembered(_variables, t)
+
+
+def _variables(t: Term) -> frozenset:
+    if t.op in ("const", "var", "ite"):
+        return frozenset() if t.op == "const" else frozenset([t])
+    parts = t.args[1] if t.op in ("add", "xor") else t.args
+    found = (part[0] if isinstance(part, tuple) else part for part in parts)
+    return frozenset().union(*[variables(u) for u in found if isinstance(u, Term)])
 
 
 def substitute(t: Term, mapping: Any, memo: dict) -> Term:

@@ -1,0 +1,179 @@
+"""Tests what the machines that follow secrets, and those of whole calls, say of numbers, over numbers: words are
+computed, compared and chosen, and paths meet. Each word must have the number that its operation has, and be in its
+range, by its step too. No answer may be wrong, and no comparison that is true may be called impossible."""
+
+from __future__ import annotations
+
+import operator
+import random
+from typing import Any, Callable
+
+import terms as T
+import x86
+from facts import Facts
+from ranges import OPPOSITE
+from symbolic import Exact
+from taint import Taint, reset
+
+TRUE: dict = {"==": operator.eq, "!=": operator.ne, "<": operator.lt, "<=": operator.le, ">": operator.gt,
+              ">=": operator.ge}
+SMALL, LARGE = (1, -1, 2, 8, 64, 128), (1 << 32, 1 << 62, 1 << 63, -(1 << 62), 3)
+ADDED = (0, 1, 8, 127, -1, -8, -128, -512)
+MASKS = (0xff, 7, 63, 127, -64, -128, -4, -8, 0x1c, 0xffffffff, 0x7fffffff)
+SHIFTS = (1, 3, 6, 7, 8, 12, 32)
+STEPS, WAYS = 14, 3
+
+
+class Wrong(Exception):
+    """What a machine says is not so of the numbers."""
+
+
+class Run:
+    """A machine, the words that were computed, and the numbers of the variables."""
+
+    def __init__(self, rng: random.Random, machine: Callable, factors: tuple) -> None:
+        reset()
+        self.rng, self.machine, self.factors = rng, machine(), factors
+        self.machine.stack = T.var(64, "sp", T.PUBLIC)
+        self.numbers = {name: self.number() for name in "xyz"}
+        self.words = [T.var(64, name, T.PUBLIC) for name in "xyz"]
+        self.questions = 0
+
+    def number(self) -> int:
+        n = self.rng.choice((2, 8, 64, 130, 1 << 11, 1 << 32, 1 << 63))
+        return (self.rng.randrange(n) + self.rng.choice((0, 0, 0, -n // 2, 1 << 32))) % (1 << 64)
+
+    def value(self, t: T.Term) -> int:
+        return T.value(t, self.numbers, {})
+
+    def add(self, t: T.Term, n: int) -> None:
+        """A word that was computed, and its number. One new variable has what makes the word this."""
+        for u, k in T.linear(t)[1].items():
+            if u.op == "var" and u.args not in self.numbers:
+                self.numbers[u.args] = 0
+                self.numbers[u.args] = (n - self.value(t)) * (1 if k == 1 else -1) % (1 << t.w)
+        if self.value(t) != n % (1 << 64):
+            raise Wrong("%r is %#x instead of %#x" % (t, self.value(t), n))
+        self.words.append(t)
+
+    def compute(self) -> None:
+        """One more word."""
+        m, rng = self.machine, self.rng
+        a, b = rng.sample(self.words, 2)
+        x, y, data = self.value(a), self.value(b), (T.split(a), T.split(b))
+        n, k, size = rng.choice(MASKS), rng.choice(SHIFTS), rng.choice((1, 2, 4))
+        factor, added = rng.choice(self.factors), rng.choice(ADDED)
+        kind, f, found = rng.choice((
+            ("add", lambda a, b: T.add(64, (1, a), (factor, b), (1, T.const(64, added))), x + factor * y + added),
+            ("and", lambda a, _: m.masked(a, T.const(64, n)), x & n), ("or", m.either, x | y),
+            ("shift", lambda a, _: m.shifted_right(a, k), x >> k), ("xor", m.exclusive, x ^ y),
+            ("low", None, x % (1 << 8 * size))))
+        self.add(T.word(m.computed(kind, f, *data) if f else [m.norm(b) for b in data[0]][:size] + [0] * (8 - size)),
+                 found)
+
+    def learn(self, relation: str, a: T.Term, b: T.Term, holds: bool) -> None:
+        if not self.machine.learn(relation, a, b, holds):
+            raise Wrong("%r %s %r is called impossible" % (a, relation if holds else OPPOSITE[relation], b))
+
+    def run(self) -> int:
+        """Computes and compares, with all that follows. Returns how many questions were answered."""
+        for k in range(STEPS):
+            self.machine.where = "at %d " % k
+            try:
+                self.compute()
+            except T.CannotShow:
+                pass
+            self.compare(*[self.rng.choice(words) for words in (
+                self.words, self.words + [T.const(64, self.number())])])
+        return self.questions
+
+
+class OfSecrets(Run):
+    """A machine that follows secrets."""
+
+    def compare(self, a: T.Term, b: T.Term) -> None:
+        """Learns how two words compare, or chooses one of two by that."""
+        m, relation = self.machine, self.rng.choice(sorted(TRUE))
+        holds = TRUE[relation](self.value(a), self.value(b))
+        if self.rng.random() < 0.6:
+            self.learn(relation, a, b, holds)
+            m.bounds |= {t for t in (a, b) if t.op in ("var", "add")}
+        else:
+            c, d = (self.rng.choice(self.words) for _ in range(2))
+            m.where += "chosen "
+            self.add(T.word(m.chosen((relation, a, b), T.split(c), T.split(d))), self.value(c if holds else d))
+        self.check()
+
+    def meet(self) -> None:
+        """Another path meets this one, on which other things are known."""
+        m, rng = self.machine, self.rng
+        other = m.copy()
+        for k in range(3):
+            m.general[k], other.general[k] = (T.split(rng.choice(self.words)) for _ in range(2))
+            a, b = (rng.choice(self.words) for _ in range(2))
+            if not other.learn(rng.choice(sorted(TRUE)), a, b, rng.random() < 0.5):
+                return
+        kept = [T.word(m.general[k]) for k in range(3)]
+        m.join(other, "met ", rng.choice((0, 2, 3)), True)
+        for t, old in zip(m.general, kept):
+            self.add(T.word(t), self.value(old))
+        self.check()
+
+    def check(self) -> None:
+        self.questions += len(self.words)
+        for t in self.words:
+            n, (low, high, step) = self.value(t), self.machine.range_of(t)
+            found = range(n + (low - n + (1 << t.w) - 1 >> t.w << t.w), high + 1, 1 << t.w)
+            if not any((k - low) % step == 0 if step else k == low for k in found[:1 << 12]):
+                raise Wrong("%r is %#x, and not in %s" % (t, n, (low, high, step)))
+
+
+class OfCalls(Run):
+    """A machine of whole calls."""
+
+    def compare(self, a: T.Term, b: T.Term) -> None:
+        """Asks how two words compare, in some ways, and perhaps learns the last."""
+        m, rng, x, y = self.machine, self.rng, self.value(a), self.value(b)
+        for relation in rng.sample(sorted(TRUE) + ["carry"], WAYS):
+            holds = x + y >= 1 << 64 if relation == "carry" else TRUE[relation](x, y)
+            answer = m.decide(relation, a, b)
+            self.questions += 1
+            if answer not in (None, holds):
+                raise Wrong("%r %s %r is %s" % (a, relation, b, answer))
+        low, high = (x, x) if self.factors != SMALL or rng.random() > 0.05 else m.path_facts.range(a)
+        if not low <= x <= high:
+            raise Wrong("%r is %#x, and not in %s" % (a, x, (low, high)))
+        if answer is None:
+            self.learn(relation, a, b, holds)
+        for t, n in m.path_facts.values().items() if rng.random() < 0.1 else ():
+            if n.args != self.value(t):
+                raise Wrong("%r is %#x, not %r" % (t, self.value(t), n))
+
+
+def check_secrets(count: int) -> tuple:
+    """Whether all ranges have their numbers: a verdict, and what was tried."""
+    rng = random.Random(5)
+    for _ in range(count):
+        run = OfSecrets(rng, lambda: Taint({}, x86.X86, (16, 0), {}, 128, rng.choice((0, 896))), SMALL)
+        try:
+            run.run()
+            run.meet()
+        except Wrong as e:
+            return "not ok", str(e)
+    return "ok", "%d runs of %d steps" % (count, STEPS)
+
+
+def check_calls(seed: int, count: int) -> tuple:
+    """Whether at least so many comparisons are decided right: a verdict, and what was tried. A question that takes
+    long is open."""
+    rng, decided, runs = random.Random(seed), 0, 0
+    Facts().ask()                      # makes the solver
+    Facts.solver.set("timeout", 30)
+    while decided < count:
+        runs += 1
+        try:
+            decided += OfCalls(rng, lambda: Exact({}, x86.X86, (16, 0)), SMALL + LARGE * (runs % 8 == 0)).run()
+        except Wrong as e:
+            return "not ok", str(e)
+    Facts.forget()
+    return "ok", "%d comparisons, in %d runs" % (decided, runs)
