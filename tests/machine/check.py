@@ -296,7 +296,7 @@ def tests_of_the_tool() -> Iterator[Job]:
     yield Job("the specification of whole calls agrees with the library", native or SOLVER,
               lambda: check_specification.compare(few(10, 2)))
     yield Job("the ranges of words that are followed have their numbers", None, lambda: check_numbers.check_secrets(
-        few(2000, 100)))
+        few(2000, 60)))
     yield from map(table_of_forms, ("x86_64", "aarch64"))
     yield Job("no file is left out", None, all_files)
     yield from changes_of_the_code()

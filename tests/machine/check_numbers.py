@@ -19,7 +19,8 @@ TRUE: dict = {"==": operator.eq, "!=": operator.ne, "<": operator.lt, "<=": oper
               ">=": operator.ge}
 SMALL, LARGE = (1, -1, 2, 8, 64, 128), (1 << 32, 1 << 62, 1 << 63, -(1 << 62), 3)
 ADDED = (0, 1, 8, 127, -1, -8, -128, -512)
-MASKS = (0xff, 7, 63, 127, -64, -128, -4, -8, 0x1c, 0xffffffff, 0x7fffffff)
+BOUNDS = (1, 7, 63, 129, 1 << 11, 1 << 32)
+MASKS = (0xff, 5, 7, 63, 127, -64, -128, -4, -8, 0x1c, 0xffffffff, 0x7fffffff)
 SHIFTS = (1, 3, 6, 7, 8, 12, 32)
 STEPS, WAYS = 14, 3
 
@@ -37,7 +38,11 @@ class Run:
         self.machine.stack = T.var(64, "sp", T.PUBLIC)
         self.numbers = {name: self.number() for name in "xyz"}
         self.words = [T.var(64, name, T.PUBLIC) for name in "xyz"]
-        self.questions = 0
+        self.questions = self.steps = 0
+        for t in self.words:           # of most, a bound is known
+            bound = next((n for n in BOUNDS if self.value(t) <= n), 0)
+            if bound and rng.random() < 0.7:
+                self.learn("<=", t, T.const(64, bound), True)
 
     def number(self) -> int:
         n = self.rng.choice((2, 8, 64, 130, 1 << 11, 1 << 32, 1 << 63))
@@ -77,14 +82,17 @@ class Run:
 
     def run(self) -> int:
         """Computes and compares, with all that follows. Returns how many questions were answered."""
-        for k in range(STEPS):
-            self.machine.where = "at %d " % k
+        for _ in range(STEPS):
+            self.steps += 1
+            self.machine.where = "at %d " % self.steps
             try:
                 self.compute()
             except T.CannotShow:
                 pass
-            self.compare(*[self.rng.choice(words) for words in (
-                self.words, self.words + [T.const(64, self.number())])])
+            a = self.rng.choice(self.words)
+            x = self.value(a)
+            near = T.const(64, self.rng.choice((x, x + 1, x - 1, -x, self.number())))
+            self.compare(a, self.rng.choice(self.words + [near]))
         return self.questions
 
 
@@ -104,24 +112,31 @@ class OfSecrets(Run):
             self.add(T.word(m.chosen((relation, a, b), T.split(c), T.split(d))), self.value(c if holds else d))
         self.check()
 
-    def meet(self) -> None:
-        """Another path meets this one, on which other things are known."""
+    def meet(self) -> bool:
+        """Two paths meet, of which one was taken. The words that were there when others met are gone. Returns whether
+        both are possible."""
         m, rng = self.machine, self.rng
-        other = m.copy()
-        for k in range(3):
-            m.general[k], other.general[k] = (T.split(rng.choice(self.words)) for _ in range(2))
-            a, b = (rng.choice(self.words) for _ in range(2))
-            if not other.learn(rng.choice(sorted(TRUE)), a, b, rng.random() < 0.5):
-                return
-        kept = [T.word(m.general[k]) for k in range(3)]
-        m.join(other, "met ", rng.choice((0, 2, 3)), True)
+        self.numbers = {name: n for name, n in self.numbers.items() if not name.startswith("met ")}
+        self.words = [t for t in self.words if all(u.args in self.numbers for u in T.variables(t))]
+        paths = [m, m.copy()]
+        taken = rng.choice(paths)
+        for path in paths:
+            for k in range(3):
+                path.general[k] = T.split(rng.choice(self.words))
+            (a, b), relation = (rng.choice(self.words) for _ in range(2)), rng.choice(sorted(TRUE))
+            is_so = TRUE[relation](self.value(a), self.value(b))
+            if not path.learn(relation, a, b, is_so if path is taken else rng.random() < 0.5):
+                return False
+        kept = [T.word(taken.general[k]) for k in range(3)]
+        m.join(paths[1], "met ", rng.choice((0, 2, 3)), True)
         for t, old in zip(m.general, kept):
             self.add(T.word(t), self.value(old))
         self.check()
+        return True
 
     def check(self) -> None:
-        self.questions += len(self.words)
-        for t in self.words:
+        """Looks at the range of each word, and of how it differs from another."""
+        for t in self.words + [T.add(64, (1, t), (-1, self.rng.choice(self.words))) for t in self.words]:
             n, (low, high, step) = self.value(t), self.machine.range_of(t)
             found = range(n + (low - n + (1 << t.w) - 1 >> t.w << t.w), high + 1, 1 << t.w)
             if not any((k - low) % step == 0 if step else k == low for k in found[:1 << 12]):
@@ -145,9 +160,22 @@ class OfCalls(Run):
             raise Wrong("%r is %#x, and not in %s" % (a, x, (low, high)))
         if answer is None:
             self.learn(relation, a, b, holds)
+        if rng.random() < 0.3:
+            self.tell(a, b, *(rng.choice((0, 1, 64, abs(x - y))) for _ in range(2)))
         for t, n in m.path_facts.values().items() if rng.random() < 0.1 else ():
             if n.args != self.value(t):
                 raise Wrong("%r is %#x, not %r" % (t, self.value(t), n))
+
+
+    def tell(self, a: T.Term, b: T.Term, n: int, k: int) -> None:
+        """Learns the bounds of a difference, and that two places are apart, as a call begins with."""
+        m, x, y = self.machine, self.value(a), self.value(b)
+        if a.op == b.op == "var":
+            m.path_facts = m.path_facts.between([(1, a), (-1, b)], x - y - n, x - y + k)
+        if (y - x) % (1 << 64) >= n and (x - y) % (1 << 64) >= k:
+            m.path_facts = m.path_facts.apart(a, T.const(64, n), b, T.const(64, k))
+        if not m.path_facts.are_possible():
+            raise Wrong("what is so of %#x and %#x is called impossible" % (x, y))
 
 
 def check_secrets(count: int) -> tuple:
@@ -157,10 +185,12 @@ def check_secrets(count: int) -> tuple:
         run = OfSecrets(rng, lambda: Taint({}, x86.X86, (16, 0), {}, 128, rng.choice((0, 896))), SMALL)
         try:
             run.run()
-            run.meet()
+            if run.meet():
+                run.run()
+                run.meet()
         except Wrong as e:
             return "not ok", str(e)
-    return "ok", "%d runs of %d steps" % (count, STEPS)
+    return "ok", "%d runs of %d steps" % (count, 2 * STEPS)
 
 
 def check_calls(seed: int, count: int) -> tuple:
