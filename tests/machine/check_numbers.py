@@ -67,9 +67,10 @@ class Run:
         a, b = rng.sample(self.words, 2)
         x, y, data = self.value(a), self.value(b), (T.split(a), T.split(b))
         n, k, size = rng.choice(MASKS), rng.choice(SHIFTS), rng.choice((1, 2, 4))
-        factor, added = rng.choice(self.factors), rng.choice(ADDED)
+        first, factor, added = rng.choice((1, 1, 0)), rng.choice(self.factors), rng.choice(ADDED)
         kind, f, found = rng.choice((
-            ("add", lambda a, b: T.add(64, (1, a), (factor, b), (1, T.const(64, added))), x + factor * y + added),
+            ("add", lambda a, b: T.add(64, (first, a), (factor, b), (1, T.const(64, added))),
+             first * x + factor * y + added),
             ("and", lambda a, _: m.masked(a, T.const(64, n)), x & n), ("or", m.either, x | y),
             ("shift", lambda a, _: m.shifted_right(a, k), x >> k), ("xor", m.exclusive, x ^ y),
             ("low", None, x % (1 << 8 * size))))

@@ -246,8 +246,8 @@ class Exact(Followed):
         inside = lambda n: (("<=", n, size), ("<=", at, T.add(64, (1, size), (-1, n))))
         if n.op == "const" and region.writable and isinstance(region, Buffer):
             for first, count in self.inside.get(region, ()):
-                if 0 <= (base_of(T.add(64, (1, at), (-1, first))) or 0) <= count - n.args and (
-                        base_of(T.add(64, (1, at), (-1, first))) is not None):
+                behind = base_of(T.add(64, (1, at), (-1, first)))
+                if behind is not None and 0 <= behind <= count - n.args:
                     return
             most = T.const(64, max(n.args, WRITTEN))
             if all(self.is_always(*comparison) for comparison in inside(most)):
@@ -425,8 +425,7 @@ class Exact(Followed):
         try:
             return f(*data)
         except CannotShow:
-            taint = T.SECRET if any(map(is_secret, joined(data))) else T.PUBLIC
-            return fresh("new", taint, len(data[0]))
+            return [self.mixed(joined(data)) for _ in data[0]]
 
     def mixed(self, data: list) -> Any:
         return fresh("new", T.SECRET if any(map(is_secret, data)) else T.PUBLIC)[0]
@@ -436,20 +435,20 @@ class Exact(Followed):
     def place(self, address: T.Term, size: int, aligned: bool) -> tuple:
         """The base, the offset as a term, and the region of an access."""
         base, offset, region = self.region_of(address)
-        self.need_inside("the access of %d bytes at %r may be outside of its memory" % (size, address),
-                         region, offset, T.const(64, size))
+        at = base_of(offset)
+        if not isinstance(region, Cells) or at is None or not region.low <= at <= region.high - size:
+            self.need_inside("the access of %d bytes at %r may be outside of its memory" % (size, address),
+                             region, offset, T.const(64, size))
         if aligned:
             self.check_aligned(region, offset, size, address)
         return base, offset, region
 
     def check_aligned(self, region: Cells, offset: T.Term, size: int, address: T.Term) -> None:
-        unit, start = region.alignment if isinstance(region, Cells) else (1, 0)
-        if base_of(offset) is None or unit % size:
-            if base_of(offset) is not None and self.regions.get(self.stack) is region:
-                raise Aligned(size)
+        (unit, start), at = region.alignment if isinstance(region, Cells) else (1, 0), base_of(offset)
+        if at is not None and unit % size and self.regions.get(self.stack) is region:
+            raise Aligned(size)
+        if at is None or unit % size or (start + at) % size:
             raise IsWrong("%r may not be a multiple of %d" % (address, size))
-        if (start + base_of(offset)) % size:
-            raise IsWrong("%r is not a multiple of %d" % (address, size))
 
     def region_of(self, address: T.Term) -> tuple:
         need_public(address, "an address")
@@ -457,14 +456,16 @@ class Exact(Followed):
         if len(bases) != 1:
             raise CannotShow("no memory is known at %r" % address)
         self.counts["addresses"] += 1
-        offset = T.add(address.w, (1, address), (-1, bases[0]))
-        if bases[0] is self.stack and base_of(offset) is not None and (base_of(offset) < self.lowest()):
+        base, = bases
+        offset = T.add(address.w, (1, address), (-1, base))
+        if base is self.stack and base_of(offset) is not None and base_of(offset) < self.lowest():
             raise IsWrong("%r is below the stack" % address)
-        return bases[0], offset, self.regions[bases[0]]
+        return base, offset, self.regions[base]
 
     def byte_at(self, base: T.Term, offset: int, region: Cells) -> T.Byte:
         """The byte at an offset: a number, or a term in memory that is only read."""
-        if region.writable and (isinstance(offset, T.Term) or any(p.base is base for p in self.pieces)):
+        if region.writable and (isinstance(offset, T.Term) or self.pieces and any(
+                p.base is base for p in self.pieces)):
             raise CannotShow("it reads at an offset that is not a number: %r" % offset)
         found = self.memory.get((base, offset))
         return region.initial(offset) if found is None else found
@@ -526,9 +527,7 @@ class Exact(Followed):
         high = region.low + self.path_facts.range(T.add(64, (1, from_low), (1, length)))[1]
         if high - low > 256 or base is self.stack and low < self.lowest():
             raise CannotShow("a copy of %r bytes from %r" % (length, offset))
-        target, at, output = self.region_of(to)
-        self.check_inside(output, at, length, to)
-        self.check_writable(output, to)
+        target, at, output = self.written(to, length)
         self.add_piece(target, at, output, [self.byte_at(base, k, region) for k in range(low, high)],
                        length, T.add(64, (1, offset), (-1, T.const(64, low))))
 
@@ -538,19 +537,15 @@ class Exact(Followed):
             if length.args:
                 self.store(to, [byte] * length.args)
             return
-        base, offset, region = self.region_of(to)
+        base, offset, region = self.written(to, length)
         if isinstance(region, Buffer):
-            self.check_inside(region, offset, length, to)
-            self.check_writable(region, to)
             self.add_piece(base, offset, region, byte, length)
-            return
-        if base_of(offset) is None:
-            self.fill_from(base, offset, region, byte, length, to)
-            return
-        self.write_some(to, [byte] * self.most(length), length)
+        elif base_of(offset) is None:
+            self.fill_from(base, offset, region, byte, length)
+        else:
+            self.write_some(to, [byte] * self.most(length), length)
 
-    def fill_from(self, base: T.Term, offset: T.Term, region: Cells, byte: T.Byte, length: T.Term,
-                  to: T.Term) -> None:
+    def fill_from(self, base: T.Term, offset: T.Term, region: Cells, byte: T.Byte, length: T.Term) -> None:
         """Fills to an end that is a number, from an offset that is not."""
         end = T.add(64, (1, offset), (1, length))
         first = T.const(64, region.low)
@@ -560,17 +555,20 @@ class Exact(Followed):
         # Without a wrap, a place is before the offset if it is less than the number and the rest.
         if base_of(end) is None or high - low > 128 or not self.is_always("<=", size, 1 << 32) or (
                 base is self.stack and low < self.lowest()):
-            raise CannotShow("a fill of %r bytes at %r" % (length, to))
-        self.check_inside(region, offset, length, to)
-        self.check_writable(region, to)
+            raise CannotShow("a fill of %r bytes at %r" % (length, offset))
         places = range(low, base_of(end))
         self.put(base, places, [below(self, k - signed(64, constant), size,
                                       self.byte_at(base, k, region), byte) for k in places])
 
-    def write_some(self, to: T.Term, data: list, length: T.Term) -> None:
+    def written(self, to: T.Term, length: T.Term) -> tuple:
+        """The base, the offset and the region of bytes that are written."""
         base, offset, region = self.region_of(to)
         self.check_inside(region, offset, length, to)
         self.check_writable(region, to)
+        return base, offset, region
+
+    def write_some(self, to: T.Term, data: list, length: T.Term) -> None:
+        base, offset, region = self.written(to, length)
         if base_of(offset) is None:
             self.add_piece(base, offset, region, data, length)
             return

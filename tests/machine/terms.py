@@ -21,6 +21,8 @@ pair of a term and of the place of the byte in it. So moves and shuffles only mo
 
 from __future__ import annotations
 
+import functools
+import operator
 import random
 from typing import Any, Callable, Iterable, Tuple, Union
 
@@ -68,15 +70,11 @@ _results: dict = {}                          # what remembered() has returned
 _words: dict = {}                            # what word() has returned
 
 
-def _too_wide(args: Any) -> bool:
-    return isinstance(args, tuple) and len(args) == 2 and isinstance(args[1], tuple) and (len(args[1]) > WIDEST)
-
-
 def _term(op: str, w: int, args: Any, taint: int) -> Term:
     key = (op, w, args)
     found = _table.get(key)
     if found is None:
-        if len(_table) >= LIMIT or _too_wide(args):
+        if len(_table) >= LIMIT or op in ("add", "xor") and len(args[1]) > WIDEST:
             raise CannotShow("the terms grow beyond the limit, so they do not match")
         found = Term()
         found.op, found.w, found.args, found.taint = op, w, args, taint
@@ -202,10 +200,7 @@ def _serial(item: tuple) -> int:
 
 def taint_of(taints: Iterable) -> int:
     """The taints of all."""
-    result = 0
-    for taint in taints:
-        result |= taint
-    return result
+    return functools.reduce(operator.or_, taints, 0)
 
 
 def _members(terms: tuple) -> tuple:
@@ -247,11 +242,8 @@ def xor(w: int, *terms: Any) -> Term:
     return _term("xor", w, (constant, tuple(found)), taint_of([u.taint for u in found]))
 
 
-def _xor_all(numbers: Iterable | tuple) -> int:
-    result = 0
-    for n in numbers:
-        result ^= n
-    return result
+def _xor_all(numbers: Iterable) -> int:
+    return functools.reduce(operator.xor, numbers, 0)
 
 
 def _ror_number(w: int, n: int, k: int) -> int:
@@ -324,20 +316,17 @@ def either(w: int, a: Term, b: Term) -> Term | None:
     """The bitwise or of two terms."""
     if a is b:
         return a
-    found = leaves(lambda x, y: x | y, w, a, b) or rotation(w, a, b) or disjoint(a, b)
-    if found:
-        return found
-    return _bytewise(w, a, b, 255, "or")
+    return leaves(operator.or_, w, a, b) or rotation(w, a, b) or _bytewise(a, b, 255, operator.or_)
 
 
 def both(w: int, a: Term, b: Term) -> Term | None:
     """The bitwise and of two terms."""
     if a is b:
         return a
-    return leaves(lambda x, y: x & y, w, a, b) or _bytewise(w, a, b, 0, "and")
+    return leaves(operator.and_, w, a, b) or _bytewise(a, b, 0, operator.and_)
 
 
-def _bytewise(w: int, a: Term, b: Term, absorbing: int, what: str) -> Term | None:
+def _bytewise(a: Term, b: Term, absorbing: int, f: Callable) -> Term:
     result = []
     for x, y in zip(split(a), split(b)):
         if x == absorbing or y == absorbing:
@@ -347,10 +336,9 @@ def _bytewise(w: int, a: Term, b: Term, absorbing: int, what: str) -> Term | Non
         elif y == 255 - absorbing:
             result.append(x)
         else:
-            f = (lambda p, q: p | q) if what == "or" else (lambda p, q: p & q)
             simple = leaves(f, 8, word((x,)), word((y,)))
             if not simple:
-                raise CannotShow("there is no rule for %r %s %r" % (a, what, b))
+                raise CannotShow("there is no rule for the %s of %r and %r" % (f.__name__.strip("_"), a, b))
             result.append(split(simple)[0])
     return word(result)
 
