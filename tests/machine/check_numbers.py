@@ -81,6 +81,10 @@ class Run:
         if not self.machine.learn(relation, a, b, holds):
             raise Wrong("%r %s %r is called impossible" % (a, relation if holds else OPPOSITE[relation], b))
 
+    def compare(self, a: T.Term, b: T.Term) -> None:
+        """Asks or learns how two words compare."""
+        raise NotImplementedError
+
     def run(self) -> int:
         """Computes and compares, with all that follows. Returns how many questions were answered."""
         for _ in range(STEPS):

@@ -88,7 +88,7 @@ def cases(w: int, has_all: bool) -> Iterator:
     parts = [(a, i, k) for a in forms for i in range(n) for k in range(1, n - i + 1)]
     order = [(5 * k + 2) % (2 * n) for k in range(n)]
     zero, one = (z3.BitVecVal(k, w) for k in range(2))
-    for arguments, name, made, means in (
+    rules: Any = (
         (pairs, "sub", lambda a, b: T.add(w, (1, a), (-1, b)), operator.sub),
         (pairs, "multiples", lambda a, b: T.add(w, (8, a), (128, b), (1, a)), lambda f, g: 9 * f + 128 * g),
         (pairs, "xor", lambda a, b: T.xor(w, a, b), operator.xor),
@@ -104,7 +104,8 @@ def cases(w: int, has_all: bool) -> Iterator:
         ([(a,) for a in forms], "zero", lambda a: T.test("zero", w, a), lambda f: z3.If(f == 0, one, zero)),
         ([(a,) for a in forms], "nonzero", lambda a: T.test("nonzero", w, a), lambda f: z3.If(f == 0, zero, one)),
         (pairs, "substitute", lambda a, b: T.substitute(a, {x: b}, {}),
-         lambda f, g: z3.substitute(f, (formula(x), g)))):
+         lambda f, g: z3.substitute(f, (formula(x), g))))
+    for arguments, name, made, means in rules:
         yield from ((name, made, means, given) for given in arguments)
 
 

@@ -153,9 +153,9 @@ class Facts:
             return [low <= total, total <= high]
         return Facts(claim, tuple(u for _, u in parts if u is not None), self)
 
-    def no_more_than_sum(self, r: T.Term, a: T.Term, b: T.Term) -> Facts:
-        """With the fact that a word is no more than the sum of two others, which has no width."""
-        return Facts(lambda of, _: [of(r) <= of(a) + of(b)], (r, a, b), self)
+    def with_or(self, r: T.Term, a: T.Term, b: T.Term) -> Facts:
+        """With the bounds of an or of two words: it is no less than either, and no more than their sum."""
+        return Facts(lambda of, _: [of(r) >= of(a), of(r) >= of(b), of(r) <= of(a) + of(b)], (r, a, b), self)
 
     def apart(self, a: T.Term, n: T.Term, b: T.Term, m: T.Term) -> Facts:
         """With the fact that n bytes from a on and m bytes from b on are apart."""
@@ -179,7 +179,7 @@ class Facts:
     def ask(self, claims: Iterable = (), words: Iterable = ()) -> Any:
         """Numbers for which the facts and some claims about words hold, as a function, False if there are none, or
         None if Z3 does not know."""
-        if self.solver is None:
+        if Facts.solver is None:
             Facts.solver = z3.Solver()
             Facts.solver.set("rlimit", EFFORT)
         solver, asserted, wanted = self.solver, self.asserted, list(self.newest_first())[::-1]

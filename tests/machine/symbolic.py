@@ -351,14 +351,9 @@ class Exact(Followed):
         except CannotShow:
             if (a.taint | b.taint) & ~T.PUBLIC:
                 raise
-            return self.no_less(a, b)
-
-    def no_less(self, a: T.Term, b: T.Term) -> T.Term:
-        """An or of which only the bounds are known: it is no less than either, and no more than the sum."""
-        r = self.new(a.w)
-        facts = self.path_facts.plus(">=", r, a).plus(">=", r, b)
-        self.path_facts = facts.no_more_than_sum(r, a, b)
-        return r
+            r = self.new(a.w)          # of which only bounds are known
+            self.path_facts = self.path_facts.with_or(r, a, b)
+            return r
 
     @staticmethod
     def or_byte(x: T.Byte, y: T.Byte) -> T.Byte:
