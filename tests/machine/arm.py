@@ -2,11 +2,14 @@
 
 from __future__ import annotations
 
+import functools
 import re
 from typing import Any, Callable
 
+import machine
 import terms as T
-from machine import Processor, chunks, image, invert, joined, lanewise, need_public, number
+from machine import (Operand, Processor, chunks, image, invert, joined, lanewise, need_public, no_rule, number,
+                     total)
 from terms import CannotShow, IsWrong
 
 SP, ZERO, LINK, PLATFORM = 31, 32, 30, 18
@@ -18,30 +21,14 @@ STORES, LOADS = ("str", "stur", "stp"), ("ldr", "ldur", "ldp")
 BITWISE = {"eor": "xor", "orr": "or", "and": "and"}
 
 
-class Operand:
-    """A part of an instruction. `general` is a register, `vector` the low bytes of one, `lanes` one by parts of n
-    bytes, of which perhaps only one. `memory` is at a base register plus an offset or another register, which is added
-    for the access only ("at"), or also to the base, "before" or "after" the access. `number` is a constant, `shift` one
-    of the operand before, `word` what an instruction has to know itself, such as a condition, and `value` is in no
-    register."""
-
-    kind: str
-    mode: str
-    offset: int
-
-    def __init__(self, kind: str, **fields: Any) -> None:
-        self.__dict__.update(fields, kind=kind)
-        if kind == "general" and self.index == PLATFORM:
-            raise IsWrong("x18 belongs to the platform")
-
-    def __getattr__(self, name: str) -> Any:
-        return None
-
-
+# The kinds of operands by their texts, and what the groups of each say. `general` is a register, `vector` the low bytes of
+# one, `lanes` one by parts of n bytes, of which perhaps only one. `memory` is at a base register plus an offset or another
+# register, which is added for the access only ("at"), or also to the base, "before" or "after" the access. `number` is a
+# constant, `shift` one of the operand before, `word` what an instruction has to know itself, such as a condition, and
+# `value` is in no register.
 NUMBER = r"#(-?(?:0x[0-9a-f]+|\d+))"
-# The kinds of operands by their texts, and what the groups of each say.
 OPERANDS: tuple = (
-    (r"([xw])(\d+|zr)", lambda m: Operand("general", index=ZERO if m[2] == "zr" else int(m[2]), size=WIDTHS[m[1]])),
+    (r"([xw])(\d+|zr)", lambda m: Operand("general", index=register(m[2]), size=WIDTHS[m[1]])),
     (r"sp", lambda m: Operand("general", index=SP, size=8)),
     (r"([bhsdq])(\d+)", lambda m: Operand("vector", index=int(m[2]), size=WIDTHS[m[1]])),
     (r"v(\d+)\.(\d*)([bhsd])(?:<(\d+)>)?", lambda m: Operand(
@@ -52,24 +39,30 @@ OPERANDS: tuple = (
         "memory", base=operand(m[1]), index=operand(m[2]) if m[2] else None, offset=int(m[3] or "0", 0),
         mode="before" if m[4] else "at")),
     (r"(lsl|lsr|ror) #(\d+)", lambda m: Operand("shift", name=m[1], count=int(m[2]))),
+    (r".*", lambda m: Operand("word", text=m[0])),
 )
 
 
+def register(text: str) -> int:
+    """The number of a register."""
+    if text == str(PLATFORM):
+        raise IsWrong("x18 belongs to the platform")
+    return ZERO if text == "zr" else int(text)
+
+
+@functools.lru_cache(maxsize=None)
 def operand(text: str) -> Operand:
     """The operand that this is."""
-    return next((make(m) for pattern, make in OPERANDS for m in [re.fullmatch(pattern, text)] if m),
-                Operand("word", text=text))
+    return next(make(m) for pattern, make in OPERANDS for m in [re.fullmatch(pattern, text)] if m)
 
 
-class Instruction:
+class Instruction(machine.Instruction):
     """A line of objdump's output."""
 
-    __slots__ = ("address", "next", "name", "operands", "text", "target")
-    next: int
+    JUMP, CALL, TRAP = "b", "bl", "brk"
 
-    def __init__(self, address: int, text: str) -> None:
-        self.address, self.text, self.target = address, text, None
-        self.name, _, rest = text.partition("//")[0].strip().partition("\t")
+    def read(self) -> None:
+        self.name, _, rest = self.text.partition("//")[0].strip().partition("\t")
         jump = re.fullmatch(r"(.*?)(?:, )?\b([0-9a-f]+) <.*>", rest.strip())
         if jump:
             target = int(jump[2], 16)
@@ -81,25 +74,11 @@ class Instruction:
         pieces = re.findall(r"\[[^]]*\]!?|\{[^}]*\}|(?:ls[lr]|ror) #\d+|[^\s,]+", rest)
         self.operands = [operand(p) for p in pieces]
         if len(self.operands) > 1 and self.operands[-2].kind == "memory":
-            step = self.operands.pop()
-            self.operands[-1].mode, self.operands[-1].offset = "after", step.value
-
-    is_jump = property(lambda self: self.name == "b")
-    is_call = property(lambda self: self.name == "bl")
-    is_trap = property(lambda self: self.name == "brk")
-    is_return = property(lambda self: self.name == "ret" and not self.operands)
-
-
-def unknown(i: Instruction) -> CannotShow:
-    return CannotShow("the instruction %s is not modelled: add it to tests/machine/arm.py, and run "
-                      "tests/machine/check.py --forms" % " ".join(i.text.split()))
+            memory, step = self.operands[-2:]
+            self.operands[-2:] = [Operand("memory", base=memory.base, offset=step.value, mode="after")]
 
 
 # What instructions on words make of two words; the values may know more than the words say.
-
-def total(a: T.Term, b: T.Term, sign: int = 1) -> T.Term:
-    return T.add(a.w, (1, a), (sign, b))
-
 
 WORDS: dict = {
     "add": lambda m, a, b: total(a, b), "sub": lambda m, a, b: total(a, b, -1), "and": lambda m, a, b: m.masked(a, b),
@@ -115,8 +94,15 @@ SETS_FLAGS = {"adds": ("add", "add"), "cmn": ("add", "add"), "subs": ("sub", "su
 ONLY_FLAGS = ("cmn", "cmp", "tst")
 
 
-def no_rule(*data: Any) -> Any:
-    raise CannotShow("there is no rule for this operation on vectors")
+def more(data: list) -> list:
+    return T.split(total(T.word(data), T.const(8 * len(data), 1)))
+
+
+# What instructions write if a condition holds, and if not, by the size and their operands.
+SELECTS: dict = {
+    "csel": lambda n, a, b: (a, b), "csinc": lambda n, a, b: (a, more(b)), "cinc": lambda n, a: (more(a), a),
+    "cinv": lambda n, a: (invert(a), a), "cset": lambda n: ([1], [0]), "csetm": lambda n: ([255] * n, [0] * n),
+}
 
 
 def accumulate(w: int, k: int) -> Callable:
@@ -125,11 +111,6 @@ def accumulate(w: int, k: int) -> Callable:
         moved = T.shr(w, t, k)
         return T.rotation(w, old, moved) or T.disjoint(old, moved) or total(old, moved)
     return f
-
-
-def paired(start: int) -> Callable:
-    """Parts of two vectors by turns, each second part from one on."""
-    return lambda n, a, b: joined(x + y for x, y in zip(chunks(a, n)[start::2], chunks(b, n)[start::2]))
 
 
 def reversed_in(size: int) -> Callable:
@@ -144,7 +125,8 @@ VECTORS: dict = {
     "zip1": lambda n, a, b: joined(x + y for x, y in zip(chunks(a, n), chunks(b, n))),
     "zip2": lambda n, a, b: VECTORS["zip1"](n, a[len(a) // 2:], b[len(b) // 2:]),
     "uzp1": lambda n, a, b: joined(chunks(a + b, n)[::2]), "uzp2": lambda n, a, b: joined(chunks(a + b, n)[1::2]),
-    "trn1": paired(0), "trn2": paired(1), "ext": lambda n, a, b, k: (a + b)[k:],
+    "trn2": lambda n, a, b: joined(x + y for x, y in zip(chunks(a, n)[1::2], chunks(b, n)[1::2])),
+    "ext": lambda n, a, b, k: (a + b)[k:],
     "xtn": lambda n, a: joined(p[:n] for p in chunks(a, 2 * n)),
     "uxtl": lambda n, a: joined(p + [0] * len(p) for p in chunks(a, n // 2)),
     "rev64": reversed_in(8), "rev32": reversed_in(4),
@@ -270,7 +252,7 @@ class Arm(Processor):
             t = T.word(data)
             return "==" if i.name.endswith("bz") else "!=", t, T.const(t.w, 0)
         if i.name[2:] not in CONDITIONS or i.name[:2] != "b.":
-            raise unknown(i)
+            raise i.unknown()
         self.need_public_flags()
         if self.values.flags is not None and self.values.flags[0] == "ccmp":
             return None
@@ -284,7 +266,7 @@ class Arm(Processor):
         if kind in LOADS + STORES:
             self.transfer(name, kind, ops)
         elif not ops or not (self.words(name, ops) if ops[0].kind == "general" else self.vectors(name, ops)):
-            raise unknown(i)
+            raise i.unknown()
 
     def transfer(self, name: str, kind: str, ops: list) -> None:
         """A load or a store of one register, or of two of one size."""
@@ -312,7 +294,7 @@ class Arm(Processor):
         to, size = ops[0], ops[0].size
         if ops[-1].kind == "shift" and name != "movk":
             ops = ops[:-2] + [self.shifted(ops[-2], ops[-1], size)]
-        if name in ("csel", "csinc", "cinc", "cinv", "cset", "csetm"):
+        if name in SELECTS:
             return self.select(name, ops)
         if name in SETS_FLAGS or name in WORDS:
             return self.compute(name, ops)
@@ -364,13 +346,10 @@ class Arm(Processor):
 
     def of_public(self, name: str, ops: list) -> bool:
         """Products and divisions, whose time may depend on the operands, which must be public."""
-        if name not in ("udiv", "mul", "umulh", "madd", "msub", "bfi"):
+        if name not in ("udiv", "mul", "umulh", "madd", "msub"):
             return False
         to, size = ops[0], ops[0].size
         a, b, *rest = [self.read(o, size) for o in ops[1:]]
-        if name == "bfi":              # the other bits stay
-            self.write(to, self.quietly(lambda x, y: None, self.read(to, size), a))
-            return True
         need_public(T.word(a + b), "the time of a product or a division")
         times = lambda x, y: T.add(x.w, (y.args, x)) if name != "umulh" and y.op == "const" else None
         data = self.values.anything(size) if name == "udiv" else self.quietly(times, a, b)
@@ -384,19 +363,11 @@ class Arm(Processor):
         to, size, condition = ops[0], ops[0].size, ops[-1].text
         if condition not in CONDITIONS:
             return False
-        compared = self.compared(condition)
-        one = self.read(Operand("number", value=1), size)
-        more = lambda data: self.quietly(lambda a, b: T.add(a.w, (1, a), (1, b)), data, one)
-        if name in ("cset", "csetm"):
-            self.write(to, [self.values.bit(compared)] + [0] * (size - 1) if name == "cset" else (
-                self.values.chosen(compared, [255] * size, [0] * size)))
-            return True
-        a = self.read(ops[1], size)
-        if name in ("cinc", "cinv"):
-            self.write(to, self.values.chosen(compared, more(a) if name == "cinc" else invert(a), a))
+        compared, data = self.compared(condition), [self.read(o, size) for o in ops[1:-1]]
+        if name == "cset":
+            self.write(to, [self.values.bit(compared)] + [0] * (size - 1))
         else:
-            b = self.read(ops[2], size)
-            self.write(to, self.values.chosen(compared, a, more(b) if name == "csinc" else b))
+            self.write(to, self.values.chosen(compared, *SELECTS[name](size, *data)))
         return True
 
     # Vectors.
@@ -435,13 +406,7 @@ class Arm(Processor):
         """The bytes that an instruction of VECTORS makes."""
         if name in ACCUMULATES:
             data = [self.read(to)] + data
-        f = lambda *sources: VECTORS[name](n, *sources, *numbers)[:to.size]
-        if name in COMPUTES:
-            return self.values.vector_of(f, *data)
-        try:
-            return f(*data)
-        except CannotShow:             # the places that bytes come from are not numbers
-            return self.values.vector_of(f, *data)
+        return self.made(name not in COMPUTES, lambda *sources: VECTORS[name](n, *sources, *numbers)[:to.size], data)
 
     def inserted(self, name: str, old: T.Byte, x: T.Byte, y: T.Byte) -> T.Byte:
         """A byte of which bits are chosen by a mask: exactly if the mask has all or none."""

@@ -114,18 +114,14 @@ SETS_FLAGS = {
 SIGNED = re.compile(r"(set|cmov)(n?s|n?o) |, (mi|pl|vs|vc)$")
 
 
-def rewritten(kind: str, i: Any) -> tuple:
+def rewritten(kind: str, text: str) -> tuple:
     """An instruction over a base register of its own for memory: its text, and the register."""
     if kind == "aarch64":
-        text = i.text.partition("//")[0].strip().replace("\t", " ")
         used = {int(n) for n in re.findall(r"\b[xw](\d+)\b", re.sub(r"\[.*\]", "", text))}
         base, index = [n for n in range(28, 20, -1) if n not in used][:2]
-        if " [" in text:
-            text = re.sub(r" \[\w+, x\d+", " [x%d, x%d" % (base, index), text)
-            return re.sub(r" \[\w+", " [x%d" % base, text), base
-        return re.sub(r"\bsp\b", "x%d" % base, text), base
-    text = i.text.partition("#")[0].strip()
-    if i.name == "lea":
+        text = re.sub(r" \[\w+, x\d+", " [x%d, x%d" % (base, index), text)
+        return re.sub(r" \[\w+" if "[" in text else r"\bsp\b", (" [x%d" if "[" in text else "x%d") % base, text), base
+    if text.startswith("lea "):
         return text.replace("rsp", "r11"), 14
     base = 15 if not re.search(r"\br15", re.sub(r"\[.*\]", "", text)) else 13
     text = re.sub(r"\[.*\]", "[%s]" % NAMES[base], text)
@@ -243,17 +239,17 @@ def chosen(program: Program, user: str, count: int, rng: Any) -> tuple:
     """The forms that are executed for a user, except those that are part of whole functions only, and up to `count`
     instructions of each, as (text, base register)."""
     found: dict = {}
-    for name in executed(program, user):
-        for i in program.code(name):
-            f = forms.form(program.kind, i.text)
-            if not forms.CONTROL[program.kind].fullmatch(f):
-                found.setdefault(f, set()).add(rewritten(program.kind, i))
+    for text in sorted({text for name in executed(program, user) for text in program.texts(name)}):
+        f = forms.form(program.kind, text)
+        if not forms.CONTROL[program.kind].fullmatch(f):
+            found.setdefault(f, set()).add(rewritten(program.kind, text))
     return set(found), [t for f in sorted(found) for t in rng.sample(sorted(found[f]), min(count, len(found[f])))]
 
 
 def machine(program: Program, user: str, text: str, base: int, data: bytes, places: set) -> tuple:
     """The machine after the instructions of a text, in which bytes at some places are secret."""
     byte = lambda k: secret() if k in places else data[k]
+    word = lambda at, n: [byte(k) for k in range(at, at + n)] if places else list(data[at:at + n])
     memory, cpu = lambda k: byte(MEMORY + BUFFER + k), program.model.Model
     buf = T.var(64, "buffer", T.PUBLIC)
     m: Any
@@ -264,14 +260,12 @@ def machine(program: Program, user: str, text: str, base: int, data: bytes, plac
     else:
         m = Taint({buf: Memory(*SPAN, memory)}, cpu, (16, 0), {}, 128)
     m.stack = T.var(64, "sp", T.PUBLIC)
-    for j in range(len(m.general)):
-        m.general[j] = [byte(8 * j + k) for k in range(8)]
+    m.general = [word(8 * j, 8) for j in range(len(m.general))]
     m.general[base] = T.split(buf)
     count, size = vectors_of(program.path)
     for j in range(count):
-        m.vector[j][:size] = [byte(VECTORS + size * j + k) for k in range(size)]
-    words = struct.unpack_from("<8Q", data, MASKS)
-    m.masks = [[word >> k & 1 for k in range(64)] for word in words]
+        m.vector[j][:size] = word(VECTORS + size * j, size)
+    m.masks = [[n >> k & 1 for k in range(64)] for n in struct.unpack_from("<8Q", data, MASKS)]
     zero = T.const(8, data[ZERO])
     m.flags = "sub", zero, T.const(8, 0), zero
     run_model(program, m, text)
@@ -293,36 +287,38 @@ def run_model(program: Program, m: Any, text: str) -> None:
 
 
 def places_of(program: Program, m: Any, buf: T.Term) -> Iterator:
-    """The bytes of the registers that a test compares, and of the memory that the model has written, each with its
-    place in a state."""
+    """The registers that a test compares, and the memory that the model has written: places in a state, and the bytes."""
     count, size = vectors_of(program.path)
     for j, r in enumerate(m.general[:31]):
         if (program.kind, j) != ("x86_64", x86.RSP):
-            yield from ((8 * j + k, b) for k, b in enumerate(r))
+            yield 8 * j, r
     for j, r in enumerate(m.vector[:count]):
-        yield from ((VECTORS + size * j + k, b) for k, b in enumerate(r[:size]))
-    yield from ((MEMORY + BUFFER + k, b) for (base, k), b in m.memory.items() if base is buf)
+        yield VECTORS + size * j, r[:size]
+    yield from ((MEMORY + BUFFER + k, [b]) for (base, k), b in m.memory.items() if base is buf)
 
 
 def difference(program: Program, m: Any, buf: T.Term, before: list, after: list) -> str | None:
     """What is called public and differs between the states after one or two runs, or is another number than in the
     first, or None."""
-    one, written = after[0], set()
+    one = after[0]
     numbers = {buf: T.const(64, struct.unpack_from("<32Q", one)[31])}
     number_of = lambda b: b if isinstance(b, int) else T.split(T.substitute(T.word([b]), numbers, {}))[0]
-    for at, b in places_of(program, m, buf):
-        written.add(at)
-        if is_secret(b):
+    for start, data in places_of(program, m, buf):
+        if all(isinstance(b, int) for b in data) and all(
+                state[start:start + len(data)] == bytes(data) for state in after):
             continue
-        if any(state[at] != one[at] for state in after):
-            return "byte %d depends on a secret" % at
-        n = number_of(b)
-        if n != one[at] and (isinstance(n, int) or isinstance(m, Words)):
-            return "byte %d is %d, not %s" % (at, one[at], n)
+        for at, b in enumerate(data, start):
+            if is_secret(b):
+                continue
+            if any(state[at] != one[at] for state in after):
+                return "byte %d depends on a secret" % at
+            n = number_of(b)
+            if n != one[at] and (isinstance(n, int) or isinstance(m, Words)):
+                return "byte %d is %d, not %s" % (at, one[at], n)
     for old, new in zip(before, after):
         kept = bytearray(new)
-        for at in written:
-            kept[at] = old[at]
+        for base, k in m.memory:
+            kept[MEMORY + BUFFER + k] = old[MEMORY + BUFFER + k]
         if kept[MEMORY:] != old[MEMORY:]:
             return "memory that it does not write differs"
     return difference_of_flags(program, m, number_of, after)
@@ -337,10 +333,10 @@ def difference_of_flags(program: Program, m: Any, number_of: Any, after: list) -
         if m.flags[0] not in ("product", "ccmp") and all(isinstance(b, int) for b in data) and (
                 any(data) == bool(after[0][ZERO])):
             return "the zero flag is %d" % after[0][ZERO]
-    if vectors_of(program.path)[1] == x86.WIDTH:
-        for j, word in enumerate(struct.unpack_from("<8Q", after[0], MASKS)):
-            if any(bit not in (None, word >> k & 1) for k, bit in enumerate(m.masks[j])):
-                return "mask register %d differs" % j
+    words = struct.unpack_from("<8Q", after[0], MASKS) if vectors_of(program.path)[1] == x86.WIDTH else ()
+    for j, word in enumerate(words):
+        if any(bit not in (None, word >> k & 1) for k, bit in enumerate(m.masks[j])):
+            return "mask register %d differs" % j
     return None
 
 

@@ -23,7 +23,7 @@ const run = modules.map((text) => {
   const {memory, f} = new WebAssembly.Instance(
     new WebAssembly.Module(Buffer.from(text, "hex"))).exports;
   return (input) => {
-    const bytes = Buffer.from(memory.buffer, 0, 512);
+    const bytes = Buffer.from(memory.buffer, 0, input.length / 2);
     Buffer.from(input, "hex").copy(bytes);
     f();
     return bytes.toString("hex");
@@ -31,33 +31,19 @@ const run = modules.map((text) => {
 });
 console.log(JSON.stringify(inputs.map(([k, input]) => run[k](input))));
 """
-RESULT = 128                           # where a result goes; operands are at 0, 16 and 32
-ADDRESS = 256                          # the address that a load or a store gets
+SIZE, RESULT = 1024, 128               # bytes of memory, and where a result goes; operands are at 0, 16 and 32
+ADDRESS = 512                          # that a load or a store has with its offset
 
 
-def signature(text: str) -> Any:
+def signature(text: str) -> tuple:
     """The types of the operands, and of the result or None."""
-    kind, _, what = text.split()[0].partition(".")
-    lane = "i64" if kind == "i64x2" else "i32"
-    if what.startswith("load"):
-        return (["i32", kind] if what.endswith("lane") else ["i32"]), kind
-    if what.startswith("store"):
-        return ["i32", kind], None
-    if kind in wasm.LANES:
-        operands = {"splat": [lane], "replace_lane": ["v128", lane], "extract_lane": ["v128"]}
-        shift = ["v128", "i32"] if what.startswith("sh") and what != "shuffle" else ["v128"] * 2
-        return operands.get(what, shift), lane if what == "extract_lane" else "v128"
-    if text == "select":
+    name = text.split()[0]
+    kind, _, what = name.partition(".")
+    if name in wasm.PURE:
+        return wasm.PURE[name][:2]
+    if name == "select":
         return ["v128", "v128", "i32"], "v128"
-    if what == "const":
-        return [], kind
-    if what == "wrap_i64":
-        return ["i64"], "i32"
-    if what == "extend_i32_u":
-        return ["i32"], "i64"
-    if kind == "v128":
-        return ["v128"] * (3 if what == "bitselect" else 2), "v128"
-    return [kind] * (1 if what == "eqz" else 2), "i32" if what in ("eqz", "eq", "ne") else kind
+    return (["i32", kind], None) if what == "store" else (["i32"], kind)
 
 
 def leb(n: Any, signed: Any = False) -> Any:
@@ -102,11 +88,10 @@ def module(text: str) -> Any:
             + section(10, b"\1" + leb(len(body)) + body))
 
 
-def model(text: str, data: Any) -> Any:
+def model(text: str, data: bytes) -> bytes:
     """The memory after the instruction in the model."""
     operands, result = signature(text)
-    memory = Region(0, 512, lambda k: data[k], (0, 512))
-    m = Words({None: memory}, wasm.Wasm, {})
+    m = Words({None: Region(0, SIZE, lambda k: data[k], (0, SIZE))}, wasm.Wasm, {})
     m.stack, m.globals = T.var(32, "sp", T.PUBLIC), [[0] * 4]
     cpu = wasm.Wasm(m)
     for k, kind in enumerate(operands):
@@ -132,36 +117,26 @@ def chosen(path: str, rng: Any, count: int) -> Any:
     return len(found), [t for n in sorted(found) for t in rng.sample(sorted(found[n]), min(count, len(found[n])))]
 
 
-def check(path: str, rounds: int) -> Any:
+def check(path: str, rounds: int) -> tuple:
     """Whether the model agrees with node: a verdict, and the numbers or what differs."""
     rng = random.Random(5)
     forms, tests = chosen(path, rng, 8)
     inputs = []
     for k, text in enumerate(tests):
-        operands = signature(text)[0]
+        operands, (name, *numbers) = signature(text)[0], text.split()
         for n in range(rounds):
-            data = bytearray(rng.randbytes(512))
-            if n % 2 and operands and operands[0] != "v128":
+            data = bytearray(rng.randbytes(SIZE))
+            if n % 2 and operands[:1] != ["v128"]:
                 data[:32] = bytes(32)
             if operands == ["v128", "i32"]:
                 data[16:20] = bytes([rng.randrange(64), 0, 0, 0])
-            if operands[:1] == ["i32"] and ("load" in text or "store" in text):
-                data[:4] = (ADDRESS - int(text.split()[1]) % 128).to_bytes(4, "little")
+            if ".load" in name or ".store" in name:
+                data[:4] = (ADDRESS - int(numbers[0])).to_bytes(4, "little")
             inputs.append((k, bytes(data)))
-    small = [re_offset(t) for t in tests]
-    message = {"modules": [module(t).hex() for t in small], "inputs": [(k, data.hex()) for k, data in inputs]}
+    message = {"modules": [module(t).hex() for t in tests], "inputs": [(k, data.hex()) for k, data in inputs]}
     run = subprocess.run(["node", "-e", NODE], input=json.dumps(message), text=True,
                          stdout=subprocess.PIPE, check=True)
     for (k, before), after in zip(inputs, json.loads(run.stdout)):
-        found = model(small[k], before)
-        if found.hex() != after:
-            return "not ok", "%s: in the model the memory or the result differs" % small[k]
+        if model(tests[k], before).hex() != after:
+            return "not ok", "%s: in the model the memory or the result differs" % tests[k]
     return "ok", "%d forms, %d instructions, %d runs" % (forms, len(tests), len(inputs))
-
-
-def re_offset(text: str) -> Any:
-    """An access with an offset below 128, so that it stays in the memory of the test."""
-    name, *numbers = text.split()
-    if ".load" in name or ".store" in name:
-        numbers[0] = str(int(numbers[0]) % 128)
-    return " ".join([name] + numbers)

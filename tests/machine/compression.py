@@ -42,8 +42,7 @@ class Call:
     memory, and what it must return."""
 
     def __init__(self, program: Program, name: str, kind: R.Kind, lanes: int, assumed: dict) -> None:
-        self.program, self.kind, self.assumed = program, kind, assumed
-        self.lanes = lanes
+        self.program, self.kind, self.assumed, self.lanes = program, kind, assumed, lanes
         w, n = kind.w, kind.bytes
         public = lambda what: T.var(64, what, T.PUBLIC)
         secret = lambda what, count: [[T.var(w, "%s%d.%d" % (what, j, k), T.SECRET)
@@ -58,11 +57,11 @@ class Call:
             self.pointer(self.h): Region(0, 8 * n * lanes, rows, (0, 8 * n * lanes)),
         }
         if program.kind != "wasm":
-            self.regions[image()] = Region(0, 1 << 32, program.constant, None, (4096, 0))
+            self.regions[image()] = Region(0, 1 << 32, program.constant, (0, 0), (4096, 0))
         self.cpu: Any = program.model.Model    # what executes instructions over values
         self.machine = Words(self.regions, self.cpu, assumed)
         arguments = self.arguments()
-        self.at_block(0)
+        self.at_block(T.const(64, 0))
         signature = [program.signatures[name]] if program.kind == "wasm" else []
         self.cpu(self.machine).start(self.sp, self.back, [self.h] + arguments, *signature)
         self.entry = self.cpu(self.machine).at_entry()
@@ -80,21 +79,14 @@ class Call:
         return Region(-STACK, top, initial, (-STACK, 0), (16, top))
 
     def arguments(self) -> list:
-        """The arguments after the chaining words."""
-        return self.arguments_of_many() if self.lanes > 1 else self.arguments_of_one()
-
-    def arguments_of_one(self) -> list:
-        """The block, the counter and the flags, whose higher bytes are undefined."""
-        flags = []
-        for name in ("last0", "node0"):
-            rest = [(T.var(8, "%s.%d" % (name, k), T.JUNK), 0) for k in range(1, 8)]
-            flags.append(T.word([flag(name, self.assumed)] + rest))
-        return [self.blocks[0], self.counter] + flags
-
-    def arguments_of_many(self) -> list:
-        """The table of blocks (addresses and numbers), the counter, and the table of flags."""
-        pairs = [t for pair in zip(self.blocks, self.lengths) for t in pair]
-        return [self.table("blocks", pairs), self.counter, self.flags()]
+        """The arguments after the chaining words: of one message the block, the counter and the flags, whose higher bytes
+        are undefined, and of several the table of blocks (addresses and numbers), the counter, and the table of flags."""
+        if self.lanes > 1:
+            pairs = [t for pair in zip(self.blocks, self.lengths) for t in pair]
+            return [self.table("blocks", pairs), self.counter, self.flags()]
+        junk = lambda name: [(T.var(8, "%s.%d" % (name, k), T.JUNK), 0) for k in range(1, 8)]
+        return [self.blocks[0], self.counter] + [
+            T.word([flag(name, self.assumed)] + junk(name)) for name in ("last0", "node0")]
 
     def table(self, name: str, words: list) -> T.Term:
         """A pointer to these words of 64 bits."""
@@ -109,21 +101,19 @@ class Call:
         self.regions[self.pointer(flags)] = Region(0, 2 * self.lanes, lambda k: bits[k])
         return flags
 
-    def at_block(self, i: Any) -> None:
-        """Lets the memory of the blocks be that of block i, where i is a number or a term."""
-        self.regions = dict(self.regions)
-        self.machine.regions = self.regions
-        size = self.kind.block
-        step = T.const(64, i * size) if isinstance(i, int) else T.add(64, (size, i))
-        for j, p in enumerate(self.blocks):
-            self.regions.pop(self.pointer(p), None)
-            base = self.pointer(T.add(64, (1, p), (1, step)))
-            self.regions[base] = Region(0, size, memory_of_words(self.message[j]))
+    def buffers(self) -> list:
+        """Pointers to the first blocks, and the words that are there."""
+        return list(zip(self.blocks, self.message))
 
-    def without_blocks(self) -> None:
-        """Takes the memory of the blocks away."""
-        for p in self.blocks:
-            del self.regions[self.pointer(p)]
+    def at_block(self, i: T.Term | None) -> None:
+        """Lets the memory of the blocks be that of block i, or takes it away."""
+        self.regions = self.machine.regions = dict(self.regions)
+        for p, words in self.buffers():
+            size = self.kind.bytes * len(words)
+            self.regions.pop(self.pointer(p), None)
+            if i is not None:
+                base = self.pointer(T.add(64, (1, p), (size, i)))
+                self.regions[base] = Region(0, size, memory_of_words(words))
 
     def count(self) -> T.Term:
         """The number of blocks of each message."""
@@ -133,36 +123,30 @@ class Call:
         """The terms one of which has to be 0 exactly if no block is left."""
         return [left, T.add(64, (-1, left))]
 
-    def counted(self, j: int, i: Any) -> T.Term:
-        """The counter of message j at block i, where i is a number or a term."""
-        step = T.const(64, 0) if isinstance(i, int) else T.add(64, (self.kind.block, i))
-        return T.add(64, (1, self.counter), (1, step))
+    def counted(self, j: int, i: T.Term) -> T.Term:
+        """The counter of message j at block i."""
+        return T.add(64, (1, self.counter), (self.kind.block, i))
 
     def masks(self, j: int) -> list:
         """The words that the flags of message j are xored in as."""
         return [mask(self.kind.w, "%s%d" % (name, j), self.assumed) for name in ("last", "node")]
 
-    def expected(self, h: list, i: Any = 0) -> list:
+    def expected(self, h: list, i: T.Term) -> list:
         """F of each message, at block i."""
-        found = []
+        found, n = [], self.kind.bytes
         for j in range(self.lanes):
-            counter, n = T.split(self.counted(j, i)), self.kind.bytes
+            counter = T.split(self.counted(j, i))
             low, high = T.word(counter[:n]), T.word(counter[n:] or [0] * 8)
             found.append(R.F(self.kind, h[j], self.message[j], low, high, *self.masks(j)))
         return found
 
-    def result(self, machine: Any, j: int, k: int) -> T.Term:
-        """Chaining word k of message j in memory."""
-        n = self.kind.bytes
-        base = self.pointer(self.h)
-        offset = T.const(base.w, n * (k * self.lanes + j))
-        return T.word(machine.load(T.add(base.w, (1, base), (1, offset)), n))
-
     def check_return(self, machine: Any, wanted: list) -> None:
         """The chaining words, the stack and the registers after a return."""
+        n, base = self.kind.bytes, self.pointer(self.h)
         for k in range(8):
             for j in range(self.lanes):
-                check_same("chaining word %d of message %d" % (k, j), self.result(machine, j, k), wanted[j][k])
+                place = T.add(base.w, (1, base), (1, T.const(base.w, n * (k * self.lanes + j))))
+                check_same("chaining word %d of message %d" % (k, j), T.word(machine.load(place, n)), wanted[j][k])
         self.cpu(machine).check_return(self.entry)
         self.cpu(machine).need_vectors()
 
@@ -175,7 +159,7 @@ class EachCall(Call):
         self.counters = [T.var(64, "counter%d" % j, T.PUBLIC) for j in range(self.lanes)]
         return [self.table("blocks", self.blocks), self.table("counters", self.counters), self.flags()]
 
-    def counted(self, j: int, i: Any) -> T.Term:
+    def counted(self, j: int, i: T.Term) -> T.Term:
         return self.counters[j]
 
 
@@ -186,18 +170,10 @@ class StripesCall(Call):
     def arguments(self) -> list:
         """The address of the stripes, the counter, and the number of stripes. The compiler has removed the number of
         bytes, which the function does not use."""
-        self.blocks = self.blocks[:1]
         return [self.blocks[0], self.counter, self.count()]
 
-    def at_block(self, i: Any) -> None:
-        self.regions = dict(self.regions)
-        self.machine.regions = self.regions
-        size = self.lanes * self.kind.block
-        step = T.const(64, i * size) if isinstance(i, int) else T.add(64, (size, i))
-        self.regions.pop(self.pointer(self.blocks[0]), None)
-        words = [t for message in self.message for t in message]
-        base = self.pointer(T.add(64, (1, self.blocks[0]), (1, step)))
-        self.regions[base] = Region(0, size, memory_of_words(words))
+    def buffers(self) -> list:
+        return [(self.blocks[0], [t for message in self.message for t in message])]
 
     def count(self) -> T.Term:
         return T.var(64, "count", T.PUBLIC)
@@ -207,7 +183,7 @@ class StripesCall(Call):
         size = self.kind.block
         return super().ends(left) + [T.add(64, (n, left)) for n in (size, -size)]
 
-    def counted(self, j: int, i: Any) -> T.Term:
+    def counted(self, j: int, i: T.Term) -> T.Term:
         return T.add(64, (1, super().counted(j, i)), (1, T.const(64, self.kind.block)))
 
     def masks(self, j: int) -> list:
@@ -247,18 +223,18 @@ class Runner:
 
     def run(self, machine: Any, pc: int | None = None, stop: int | None = None) -> Any:
         """Runs from an address to a return, or to the address `stop`. Returns where it stopped."""
-        pc = self.first if pc is None else pc
+        pc, low = self.first if pc is None else pc, machine.lowest()
         while True:
             if pc not in self.code:
                 raise CannotShow("a jump leaves the function")
-            self.at = self.code[pc]
-            before = machine.lowest()
+            self.at, top = self.code[pc], machine.stack_pointer()
             pc = self.cpu(machine).follow(self.at)
-            machine.shrink_from(before)
+            if machine.stack_pointer() is not top:
+                machine.shrink_from(low)
+                low = machine.lowest()
+                self.deepest = min(self.deepest, low)
             self.visited.add(self.at.address)
             self.count += 1
-            if pc is not None:
-                self.deepest = min(self.deepest, machine.lowest())
             if pc is None or pc == stop:
                 return pc
             if self.count > 200000:
@@ -290,7 +266,7 @@ def show_one(program: Program, name: str, kind: R.Kind, lanes: int, runner: Runn
                 raise CannotShow("there is a branch on %r" % (f.condition,))
             waiting += [{**assumed, f.condition: on} for on in (True, False)]
             continue
-        call.check_return(call.machine, call.expected(call.words))
+        call.check_return(call.machine, call.expected(call.words, T.const(64, 0)))
         runner.add(call.machine)
 
 
@@ -308,7 +284,7 @@ class Loop:
         make = call_of(name)
         self.count = make(program, name, kind, lanes, {}).count()
         self.none = make(program, name, kind, lanes, {self.count: True})
-        self.none.without_blocks()
+        self.none.at_block(None)
         self.call = make(program, name, kind, lanes, {self.count: False})
 
     def show(self) -> None:
@@ -359,14 +335,6 @@ class Loop:
                 "ends" if end is None else "goes on", condition, "0" if is_last else "not 0"))
         return machine, condition
 
-    def group(self, cell: tuple) -> tuple:
-        """The bytes of the word that a byte belongs to."""
-        kind, at, k = cell
-        size = 8
-        if kind != "memory":
-            size = min(8, len(getattr(self.first, kind)[at]))
-        return tuple((kind, at, k - k % size + j) for j in range(size))
-
     def classify(self, at_second: dict) -> None:
         """Finds what an iteration changes: words that grow by a constant, bytes of chaining words, and the rest. What
         is found is only proposed: invariant() checks it."""
@@ -376,7 +344,7 @@ class Loop:
         cells = set(self.at_first) | set(at_second)
         for c in sorted((c for c in cells if second(c) != self.initial(c)), key=str):
             self.check_in_stack(c)
-            group = self.group(c)
+            group = self.group(*c)
             a, b = (T.word([f(p) for p in group]) for f in (self.initial, second))
             step = T.add(a.w, (1, b), (-1, a))
             origin = self.initial(c)
@@ -386,6 +354,11 @@ class Loop:
                 self.chain[c] = words[origin[0]] + (origin[1],)
             else:
                 self.scratch.add(c)
+
+    def group(self, kind: str, at: Any, k: int) -> tuple:
+        """The bytes of the word that a byte belongs to."""
+        size = 8 if kind == "memory" else min(8, len(getattr(self.first, kind)[at]))
+        return tuple((kind, at, k - k % size + j) for j in range(size))
 
     def check_in_stack(self, cell: tuple) -> None:
         if cell[0] == "memory" and cell[1] is not self.call.pointer(self.call.sp):
@@ -397,10 +370,9 @@ class Loop:
         i = T.word(T.split(self.i)[:a.w // 8])
         return T.add(a.w, (1, a), (step, i), (1, T.const(a.w, step * more)))
 
-    def state(self) -> dict:
-        """The bytes at the head of the loop in iteration i, by what was proposed."""
-        state = {c: self.initial(c) for c in set(self.at_first) | self.scratch | set(self.chain)}
-        state.update({c: (T.var(8, "scratch%s" % (c,), T.JUNK), 0) for c in self.scratch})
+    def proposed(self) -> dict:
+        """What was proposed of the bytes at the head of the loop in iteration i."""
+        state = {c: (T.var(8, "scratch%s" % (c,), T.JUNK), 0) for c in self.scratch}
         state.update({c: (self.call.chain[j][k], b) for c, (j, k, b) in self.chain.items()})
         for group in self.grows:
             state.update(zip(group, T.split(self.grown(group, 0))))
@@ -415,10 +387,9 @@ class Loop:
         for _ in range(20):
             general = self.first.copy()
             general.regions = self.call.regions
-            state = self.state()
-            general.set_cells(state)
+            general.set_cells(self.proposed())
             after, condition = self.iterate(general, False)
-            wrong = self.wrong(state, after.cells(), wanted)
+            wrong = self.wrong(general.cells(), after.cells(), wanted)
             if not wrong:
                 return general, after, condition, wanted
             self.scratch |= wrong

@@ -36,7 +36,7 @@ CONTROL = {
 def form(kind: str, text: str) -> str:
     """The form of an instruction as objdump shows it, or as a test has it."""
     code = " ".join(text.partition("#" if kind == "x86_64" else "//")[0].split())
-    if re.fullmatch(r"((data16|cs) +)*nop\b.*|xchg +ax,ax", code):
+    if x86.NOP.fullmatch(code):
         return "nop"
     name, _, rest = code.partition(" ")
     rest = re.sub(r"\b[0-9a-f]+ <.*>$", "there", rest)         # a jump, a call, or an address
@@ -83,13 +83,16 @@ def number(name: str, text: str) -> str:
 def known() -> frozenset:
     """All forms of the table, each with the processor and the model."""
     found: set = set()
-    with open(TABLE) as f:
+    with open(TABLE, encoding="ascii") as f:
         for line in f:
             if not line.startswith(" "):
                 kind, users = line.split()
                 continue
-            for name, _, operands in (word.partition(":") for word in line.split()):
-                found |= {(kind, user, ("%s %s" % (name, o)).strip()) for o in operands.split(";") for user in users}
+            for word in line.split():
+                if word.endswith(":"):
+                    name = word[:-1]
+                else:
+                    found |= {(kind, user, ("%s %s" % (name, word)).removesuffix(" -")) for user in users}
     return frozenset(found)
 
 
@@ -101,13 +104,12 @@ def write(found: set) -> None:
     groups: dict = {}
     for (kind, each), letters in users.items():
         name, _, operands = each.partition(" ")
-        groups.setdefault((kind, "".join(letters)), {}).setdefault(name, []).append(operands)
-    with open(TABLE, "w") as f:
+        groups.setdefault((kind, "".join(letters)), {}).setdefault(name + ":", []).append(operands or "-")
+    with open(TABLE, "w", encoding="ascii") as f:
         for (kind, letters), names in sorted(groups.items()):
-            words = ["%s:%s" % (name, ";".join(some)) for name, all_of in names.items()
-                     for some in (all_of[k:k + 4] for k in range(0, len(all_of), 4))]
             f.write("%s %s\n%s\n" % (kind, letters, textwrap.fill(
-                " ".join(words), 118, initial_indent="  ", subsequent_indent="  ", break_on_hyphens=False)))
+                " ".join(word for name, operands in names.items() for word in [name, *operands]), 118,
+                initial_indent="  ", subsequent_indent="  ", break_on_hyphens=False)))
 
 
 def check(kind: str, user: str, text: str) -> None:

@@ -77,23 +77,20 @@ def in_file(path: str, name: str) -> str:
 _ROTATES = {
     "x86_64": re.compile(r"\b(ro[lr]x?|sh[lr]d|v?pro[lr]v?[dq])\b"),
     "aarch64": re.compile(r"\bror\b|\bextr\b|\b(sri|sli|xar)\b"),
-    "wasm": re.compile(r"\.rot[lr]$"),
+    "wasm": re.compile(r"\.rot[lr]$", re.M),
 }
 _SHIFTS = {
-    "x86_64": re.compile(r"\b(?:shr|v?psrl[dq]) .*,(0x[0-9a-f]+)$"),
-    "aarch64": re.compile(r"\b(?:[lu]?s[hr]r|lsr|usra)\b.*#(\d+)$"),
-    "wasm": re.compile(r"^i\d+\.const (\d+); i(?:32|64)(?:x[24])?\.shr_u$"),
+    "x86_64": re.compile(r"\b(?:shr|v?psrl[dq]) .*,(0x[0-9a-f]+)$", re.M),
+    "aarch64": re.compile(r"\b(?:[lu]?s[hr]r|lsr|usra)\b.*#(\d+)$", re.M),
+    "wasm": re.compile(r"^i\d+\.const (\d+)\ni(?:32|64)(?:x[24])?\.shr_u$", re.M),
 }
 
 
 def has_rounds(kind: str, texts: list) -> bool:
     """Whether a function may have a copy of G, by the texts of its instructions."""
-    if kind == "wasm":
-        texts = ["%s; %s" % pair for pair in zip(texts, texts[1:])]
-    if any(_ROTATES[kind].search(t) for t in texts):
-        return True
-    shifts = {int(m[1], 0) for m in map(_SHIFTS[kind].search, texts) if m}
-    return 63 in shifts or {7, 12} <= shifts
+    text = "\n".join(texts)
+    shifts = {int(n, 0) for n in _SHIFTS[kind].findall(text)}
+    return bool(_ROTATES[kind].search(text)) or 63 in shifts or {7, 12} <= shifts
 
 
 def unlisted(program: Program) -> list:

@@ -1,14 +1,14 @@
-"""What the models of the processors have in common: memory, conditions, and operations on bytes."""
+"""What the models of the processors have in common: lines of objdump, memory, conditions, and operations on bytes."""
 
 from __future__ import annotations
 
 import copy
 import itertools
-from typing import Any, Callable, Iterable
+from typing import Any, Callable, Iterable, NamedTuple
 
 import terms as T
+from ranges import signed
 from terms import CannotShow, IsWrong
-
 
 # Operations on words, by the names of those on vectors.
 WORDWISE: dict = {"xor": T.xor, "or": T.either, "and": T.both}
@@ -27,16 +27,52 @@ def image() -> T.Term:
     return T.var(64, "image", T.PUBLIC)
 
 
-class Region:
+class Region(NamedTuple):
     """Memory from `low` to `high`, counted from its base, which is a term, or None for 0.
 
     `initial` returns the byte at an offset at the start. The base is the second number of `alignment` modulo the
     first. `writable` is the part that may be written."""
 
-    def __init__(self, low: int, high: int, initial: Callable, writable: Any = None,
-                 alignment: tuple = (1, 0)) -> None:
-        self.low, self.high, self.initial, self.alignment = low, high, initial, alignment
-        self.writable = writable or (0, 0)
+    low: int
+    high: int
+    initial: Callable
+    writable: tuple = (0, 0)
+    alignment: tuple = (1, 0)
+
+
+class Operand:
+    """A part of an instruction: its kind, and what else its processor says of it. What it does not say is None."""
+
+    def __init__(self, kind: str, **fields: Any) -> None:
+        self.__dict__.update(fields, kind=kind)
+
+    def __getattr__(self, name: str) -> Any:
+        return None
+
+
+class Instruction:
+    """A line of objdump's output. `target` is where a jump or a call goes to."""
+
+    JUMP = CALL = TRAP = ""
+    next: int
+
+    def __init__(self, address: int, text: str) -> None:
+        self.address, self.text, self.target, self.name = address, text, None, ""
+        self.operands: list = []
+        self.read()
+
+    def read(self) -> None:
+        """Sets the rest from the text."""
+        raise NotImplementedError
+
+    def unknown(self) -> CannotShow:
+        return CannotShow("the instruction %s is not modelled: add it to tests/machine/%s.py, and run "
+                          "tests/machine/check.py --forms" % (" ".join(self.text.split()), type(self).__module__))
+
+    is_jump = property(lambda self: self.name == self.JUMP)
+    is_call = property(lambda self: self.name == self.CALL)
+    is_trap = property(lambda self: self.name == self.TRAP)
+    is_return = property(lambda self: self.name == "ret" and not self.operands)
 
 
 class Values:
@@ -48,6 +84,7 @@ class Values:
     globals: list
     locals: list
     operands: list
+    masked: Any                        # the and of two words
 
     def __init__(self, regions: dict, processor: Any) -> None:
         self.regions, self.processor = regions, processor
@@ -56,7 +93,7 @@ class Values:
         self.flags: Any = None         # a kind of operation, two words, and the result
         self.counts = {"branches": 0, "addresses": 0}
         for name, (count, size) in processor.FILES.items():
-            setattr(self, name, [junk("%s%d" % (name, j), size) for j in range(count)])
+            setattr(self, name, [list(T.remembered(junk, "%s%d" % (name, j), size)) for j in range(count)])
         self.masks: list = [[None] * 64 for _ in range(8)]
         self.at_start = {name: [list(r) for r in getattr(self, name)] for name in processor.FILES}
 
@@ -94,15 +131,13 @@ class Values:
         constant, items = T.linear(self.stack_pointer())
         if items != {self.stack: 1}:
             raise CannotShow("the stack pointer is not known")
-        w = self.stack.w
-        return (constant + (1 << w - 1)) % (1 << w) - (1 << w - 1) - self.processor.RED_ZONE
+        return signed(self.stack.w, constant) - self.processor.RED_ZONE
 
     def is_on_stack(self, t: T.Term) -> bool:
         """Whether a word is an address in the stack, or that of its end."""
         constant, items = T.linear(t)
-        region, half = self.regions.get(self.stack), 1 << t.w - 1
-        return region is not None and items == {self.stack: 1} and (
-            region.low <= (constant + half) % (1 << t.w) - half <= region.high)
+        return items == {self.stack: 1} and self.stack in self.regions and (
+            self.regions[self.stack].low <= signed(t.w, constant) <= self.regions[self.stack].high)
 
     @staticmethod
     def shifted_left(a: T.Term, k: int) -> T.Term:
@@ -114,11 +149,7 @@ class Values:
 
     def bitfield(self, a: T.Term, low: int, size: int) -> Any:
         """Some low bits of a word, shifted to the left."""
-        data = self.masked(a, T.const(a.w, (1 << size) - 1))
-        return T.add(a.w, (1 << low, data))
-
-    def masked(self, a: T.Term, b: T.Term) -> Any:
-        raise NotImplementedError
+        return T.add(a.w, (1 << low, self.masked(a, T.const(a.w, (1 << size) - 1))))
 
     def anything(self, n: int) -> list:
         """Public bytes of which nothing is known."""
@@ -148,12 +179,9 @@ class Words(Values):
         return other
 
     def shrink_from(self, before: int) -> None:
-        """If the stack has shrunk since its lowest place was this, bytes below it are lost: a signal may overwrite
-        them. Only bytes of the stack may be below its pointer."""
-        now = self.lowest()
-        if now == before:
-            return
-        region = self.regions[self.stack]
+        """Bytes are lost that were above the lowest place of the stack, and are not now: a signal may overwrite them.
+        Only bytes of the stack may be below its pointer."""
+        now, region = self.lowest(), self.regions[self.stack]
         if not region.low <= now + self.processor.RED_ZONE <= region.high:
             raise IsWrong("the stack pointer leaves the stack")
         loss = next(self.LOSSES)
@@ -258,14 +286,9 @@ class Words(Values):
 
     def choose(self, t: T.Term, if_zero: T.Term, if_not: T.Term) -> T.Term:
         """One of two words by whether t is zero, without a branch."""
-        if t.op not in ("const", "ite"):
-            raise CannotShow("a choice depends on %r" % t)
-        found = T.leaves(lambda c, a, b: a if c == 0 else b, if_zero.w, t, if_zero, if_not)
         if t.op == "const":
             return if_zero if t.args == 0 else if_not
-        if found is None:
-            raise CannotShow("there is no rule for a choice between %r and %r" % (if_zero, if_not))
-        return found
+        return of_numbers(if_zero.w, lambda c, a, b: a if c == 0 else b, t, if_zero, if_not)
 
     @staticmethod
     def zero_of(compared: Any) -> tuple:
@@ -364,6 +387,9 @@ class Processor:
     SIGNED: dict = {}                  # the same of numbers with a sign
     COMMENT = ""                       # what begins a comment of objdump
     SETS_RESULT: tuple = ()            # instructions that only set the result that is compared, before a return
+    step: Callable                     # executes an instruction other than a jump, a call or a return
+    condition: Callable                # what a conditional jump compares
+    at_entry: Callable                 # what a return must find: its address, the stack pointer, the caller's registers
 
     def __init__(self, values: Any) -> None:
         self.values = values
@@ -394,13 +420,14 @@ class Processor:
             pc = i.next
         return False
 
-    def step(self, i: Any) -> Any:
-        """Executes an instruction other than a jump, a call or a return."""
-        raise NotImplementedError
-
-    def condition(self, i: Any) -> Any:
-        """What a conditional jump compares."""
-        raise NotImplementedError
+    def made(self, is_move: bool, f: Callable, data: list) -> list:
+        """The bytes that an instruction on vectors makes."""
+        if is_move:
+            try:
+                return f(*data)
+            except CannotShow:         # the places that bytes come from are not numbers
+                pass
+        return self.values.vector_of(f, *data)
 
     def follow(self, i: Any) -> Any:
         """Executes an instruction other than a call. Returns the address of the next one, or None after a return."""
@@ -449,10 +476,6 @@ class Processor:
             if found != wanted:
                 raise IsWrong("the caller's %s: not as at the entry" % what)
 
-    def at_entry(self) -> tuple:
-        """What a return must find: its address, the stack pointer, and the caller's registers."""
-        raise NotImplementedError
-
 
 def need_public(t: T.Term, what: str) -> None:
     """Refuses a term that depends on a secret or on undefined data."""
@@ -467,11 +490,7 @@ def need_public(t: T.Term, what: str) -> None:
 
 def junk(name: str, n: int) -> list:
     """n bytes of undefined data."""
-    return list(T.remembered(_junk, name, n))
-
-
-def _junk(name: str, n: int) -> tuple:
-    return tuple((T.var(8, "%s.%d" % (name, k), T.JUNK), 0) for k in range(n))
+    return [(T.var(8, "%s.%d" % (name, k), T.JUNK), 0) for k in range(n)]
 
 
 def chunks(data: Any, n: int) -> list:
@@ -508,6 +527,23 @@ def bitwise(f: Callable, a: list, b: list) -> list:
 def invert(data: list) -> list:
     """The complement of each bit."""
     return bitwise(T.xor, data, [255] * len(data))
+
+
+def total(a: T.Term, b: T.Term, sign: int = 1) -> T.Term:
+    """The sum of two words, or their difference."""
+    return T.add(a.w, (1, a), (sign, b))
+
+
+def no_rule(*data: Any) -> Any:
+    raise CannotShow("there is no rule for this operation on vectors")
+
+
+def of_numbers(w: int, f: Callable, *words: T.Term) -> T.Term:
+    """f of words that are numbers, or that all depend on one flag."""
+    found = T.leaves(f, w, *words)
+    if found is None:
+        raise CannotShow("there is no rule for this operation on %s" % (words,))
+    return found
 
 
 def number(bs: list) -> int:

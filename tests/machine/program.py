@@ -67,18 +67,12 @@ def read(path: str) -> Program:
     return Program(path)
 
 
-def module_in(script: str) -> bytes:
-    """The module in src/wasm.js."""
+def module_of(path: str) -> Any:
+    """The module of a file. One of js/src has it in its text."""
+    with open(os.path.join(ROOT, path), "rb") as f:
+        data = f.read()
     try:
-        return wasm_format.module_of_script(script)
-    except wasm_format.CannotRead as why:
-        raise CannotShow(str(why)) from why
-
-
-def module_of(data: bytes) -> Any:
-    """The module with these bytes."""
-    try:
-        return wasm_format.Module(data)
+        return wasm_format.Module(wasm_format.module_of_script(data.decode()) if path.endswith(".js") else data)
     except wasm_format.CannotRead as why:
         raise CannotShow(str(why)) from why
 
@@ -89,30 +83,25 @@ class Program:
     `edit` changes the text of the file, or the lines of the functions of a module, first."""
 
     def __init__(self, path: str, edit: Any = None) -> None:
-        self.path = path
-        self.kind = functions.architecture(path)
+        self.path, self.kind = path, functions.architecture(path)
         self.model, self.width = MODELS[self.kind], 64
-        with open(os.path.join(ROOT, path), "rb") as f:
-            data = f.read()
+        self.codes: dict = {}          # what code() has read, and the lines that it was read from
+        self.extents: dict = {}
         if self.kind == "wasm":
-            self.read_module(data, edit)
+            self.read_module(edit)
         else:
-            self.read_text(data.decode(), edit)
+            with open(os.path.join(ROOT, path), encoding="utf-8") as f:
+                self.read_text(f.read(), edit)
 
-    def read_module(self, data: Any, edit: Any) -> None:
+    def read_module(self, edit: Any) -> None:
         """The functions of a module. One without names has those of the module that it was made from, function by
         function."""
-        if self.path.endswith(".js"):
-            data = module_in(data.decode())
-        module = module_of(data)
-        names = module.names
-        if not names:
-            with open(os.path.join(ROOT, "dist/wasm/vulfsjor.wasm"), "rb") as f:
-                original = module_of(f.read())
-            names = original.names
-            if len(original.functions) != len(module.functions):
-                raise CannotShow("%s has %d functions, and dist/wasm/vulfsjor.wasm has %d" % (
-                    self.path, len(module.functions), len(original.functions)))
+        module = module_of(self.path)
+        original = module if module.names else module_of("dist/wasm/vulfsjor.wasm")
+        names = original.names
+        if len(original.functions) != len(module.functions):
+            raise CannotShow("%s has %d functions, and dist/wasm/vulfsjor.wasm has %d" % (
+                self.path, len(module.functions), len(original.functions)))
         self.width = module.width
         self.signatures = {names[k]: f for k, f in enumerate(module.functions)}
         if len(self.signatures) != len(module.functions):
@@ -131,7 +120,7 @@ class Program:
             raise CannotShow("a comment, or a symbol with a value: %s" % OTHER.split(code)[0].split("\n")[-1])
         other = {name.lower() for name in DIRECTIVE.findall(text)} - DIRECTIVES
         if other:
-            raise CannotShow("the directive .%s, which may mean something else to another " "assembler" % min(other))
+            raise CannotShow("the directive .%s, which may mean something else to another assembler" % min(other))
         compiler, prefix, style = TOOLS[self.kind]
         with tempfile.TemporaryDirectory() as d:
             s, o, so = (os.path.join(d, "a" + suffix) for suffix in (".s", ".o", ".so"))
@@ -199,21 +188,16 @@ class Program:
         note = struct.pack("<3I4s4I", 4, 16, 5, b"GNU", kind, 4, features, 0)
         return (section.name, section.type, bytes(section.data)) == (".note.gnu.property", elf.NOTE, note)
 
-    def is_external(self, shown: str) -> bool:
-        """Whether the target of a call, as objdump shows it, is a function of another file."""
-        name, _, rest = shown.partition("@")
-        return rest == "plt" and name in self.external
-
     def target(self, i: Any, external: tuple) -> str:
         """The name without version of the function that a call or a jump goes to: to its start, or to one of these
         functions of another file, of whose names the file itself has none."""
         shown = found(r"<(.*)>", i.text)[1]
-        name = without_version(shown)
-        if self.is_external(shown):
-            name = shown.partition("@")[0]
+        name, _, rest = shown.partition("@")
+        if rest == "plt" and name in self.external:
             if name in external:
                 return name
             raise CannotShow("a call of %s" % name)
+        name = without_version(shown)
         if name not in self.functions or self.extent(name)[0] != i.target:
             raise IsWrong("it goes to %s, not to the start of a function" % shown)
         return name
@@ -224,23 +208,31 @@ class Program:
         if name not in self.functions:
             raise CannotShow("%s has no function %s: the compiler may have inlined it, or it has "
                              "another name now: see tests/machine/functions.py" % (self.path, name))
-        if self.kind == "wasm":
-            return wasm.parse(self.functions[name])
+        lines = self.functions[name]
+        if name not in self.codes or self.codes[name][0] is not lines:
+            self.codes[name] = lines, wasm.parse(lines) if self.kind == "wasm" else self.instructions(name, lines)
+        for i in self.codes[name][1] if user and self.kind != "wasm" else ():
+            forms.check(self.kind, str(user), i.text)
+        return self.codes[name][1]
+
+    def instructions(self, name: str, lines: list) -> list:
+        """The instructions of an assembly function."""
         start, end = self.extent(name)
+        later = LATER.get(functions.build(self.path)[1])
         found, filled = [], set()
-        for line in self.functions[name]:
+        for line in lines:
             m = LINE.match(line)
-            if m and start <= int(m[1], 16) < end:
-                found.append(self.model.Instruction(int(m[1], 16), m[3].strip()))
-                found[-1].next = found[-1].address + len(m[2].replace(" ", "")) // 2
-                if user:
-                    forms.check(self.kind, user, m[3])
-                later = LATER.get(functions.build(self.path)[1])
-                if later and later.match(m[2].replace(" ", "")):
-                    raise IsWrong("processors of the level of the file do not have %s" % m[3])
-                if found[-1].target is not None and PREFIX.match(m[2]) and self.kind == "x86_64":
-                    raise CannotShow("there is a prefix before a jump or a call: %s" % m[3])
-            elif not m and start <= int(line.partition(":")[0], 16) < end:
+            if not start <= int(m[1] if m else line.partition(":")[0], 16) < end:
+                continue
+            if m:
+                i, data = self.model.Instruction(int(m[1], 16), m[3].strip()), m[2].replace(" ", "")
+                i.next = i.address + len(data) // 2
+                found.append(i)
+                if later and later.match(data):
+                    raise IsWrong("processors of the level of the file do not have %s" % i.text)
+                if i.target is not None and self.kind == "x86_64" and PREFIX.match(data):
+                    raise CannotShow("there is a prefix before a jump or a call: %s" % i.text)
+            else:
                 if found[-1] in filled:
                     raise CannotShow("the linker fills in two numbers of " + found[-1].text)
                 self.check_relocation(found[-1], line)
@@ -283,15 +275,20 @@ class Program:
 
     def extent(self, name: str) -> tuple:
         """Where the code of a function begins and ends. No other symbol may be in it."""
+        if name not in self.extents:
+            self.extents[name] = self.find_extent(name)
+        return self.extents[name]
+
+    def find_extent(self, name: str) -> tuple:
         found = [s for s in self.symbols if without_version(s[3]) == name]
         if len(found) != 1:
             raise CannotShow("%s has %d symbols %s instead of one" % (self.path, len(found), name))
         start, section, size, symbol = found[0]
         if symbol not in self.callable:
             raise IsWrong("the symbol %s is not that of a function, which only this file defines" % symbol)
-        inside = [s[3] for s in self.symbols if s[1] == section and start <= s[0] < start + size]
         # The symbol of the section itself may have the same address.
-        others = [n for n in inside if n not in (found[0][3], section)]
+        others = [s[3] for s in self.symbols if s[1] == section and start <= s[0] < start + size
+                  and s[3] not in (symbol, section)]
         if others:
             raise CannotShow("the symbol %s is inside of %s" % (others[0], name))
         return start, start + size
@@ -337,6 +334,7 @@ def found(pattern: str, text: str) -> Any:
     return m
 
 
+@functools.lru_cache(maxsize=None)
 def without_version(name: str) -> str:
     """A function's name without the number of the code and the build."""
     return re.sub(r"_[0-9]+_[a-z0-9]+$", "", name)

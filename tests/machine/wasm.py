@@ -7,11 +7,11 @@ import re
 from typing import Any, Callable
 
 import terms as T
-from machine import Processor, bitwise, chunks, joined, lanewise, number
+from machine import Processor, bitwise, chunks, joined, lanewise, number, of_numbers, total
 from terms import CannotShow, IsWrong
 
 SIZES = {"i32": 4, "i64": 8, "v128": 16}
-LANES = {"i8x16": 1, "i16x8": 2, "i32x4": 4, "i64x2": 8}
+LANES = {"i32x4": ("i32", 4), "i64x2": ("i64", 8)}
 ROOM = 65536                           # bytes that the stack is assumed to have, for every call
 
 
@@ -54,20 +54,11 @@ def shift(f: Callable) -> Callable:
 
 def signed_shift(w: int, t: T.Term, k: int) -> T.Term:
     """A shift to the right that copies the sign, of a number or of one that a flag chooses."""
-    result = T.leaves(lambda n: (n >> k) - (n >> w - 1 << w - k), w, t)
-    if result is None:
-        raise CannotShow("there is no rule for a signed shift of %r" % t)
-    return result
+    return of_numbers(w, lambda n: (n >> k) - (n >> w - 1 << w - k), t)
 
 
 def select_bits(a: list, b: list, mask: list) -> list:
-    chosen = []
-    for x, y, m in zip(chunks(a, 4), chunks(b, 4), chunks(mask, 4)):
-        t = T.leaves(lambda p, q, k: p & k | q & ~k, 32, T.word(x), T.word(y), T.word(m))
-        if t is None:
-            raise CannotShow("there is no rule for a choice by %r" % T.word(m))
-        chosen.append(T.split(t))
-    return joined(chosen)
+    return lanewise(lambda x, y, m: of_numbers(32, lambda p, q, k: p & k | q & ~k, x, y, m), 4, a, b, mask)
 
 
 def replace_lane(n: int) -> Callable:
@@ -79,37 +70,42 @@ def replace_lane(n: int) -> Callable:
 
 
 def pure_instructions() -> dict:
-    """The instructions that only change the stack of operands: how many of these each takes, and what it makes of
-    their bytes, and of the numbers that are part of it."""
+    """The instructions that only change the stack of operands: the types of the operands that each takes, the type of the
+    result, and what this is of their bytes, and of the numbers that are part of the instruction."""
     found: dict = {
-        "i32.const": (0, lambda n: T.split(T.const(32, n))), "i64.const": (0, lambda n: T.split(T.const(64, n))),
-        "v128.const": (0, lambda *data: list(data)), "i32.wrap_i64": (1, lambda a: a[:4]),
-        "i64.extend_i32_u": (1, lambda a: a + [0] * 4),
-        "i8x16.shuffle": (2, lambda a, b, *places: [(a + b)[p] for p in places]),
-        "v128.xor": (2, lambda a, b: bitwise(T.xor, a, b)), "v128.or": (2, lambda a, b: bitwise(T.either, a, b)),
-        "v128.and": (2, lambda a, b: bitwise(T.both, a, b)), "v128.bitselect": (3, select_bits),
+        "i32.const": ("", "i32", lambda n: T.split(T.const(32, n))),
+        "i64.const": ("", "i64", lambda n: T.split(T.const(64, n))),
+        "v128.const": ("", "v128", lambda *data: list(data)), "i32.wrap_i64": ("i64", "i32", lambda a: a[:4]),
+        "i8x16.shuffle": ("v128 v128", "v128", lambda a, b, *places: [(a + b)[p] for p in places]),
+        "v128.xor": ("v128 v128", "v128", lambda a, b: bitwise(T.xor, a, b)),
+        "v128.or": ("v128 v128", "v128", lambda a, b: bitwise(T.either, a, b)),
+        "v128.bitselect": ("v128 v128 v128", "v128", select_bits),
     }
     words: dict = {
-        "add": lambda w, a, b: T.add(w, (1, a), (1, b)), "sub": lambda w, a, b: T.add(w, (1, a), (-1, b)), "xor": T.xor,
-        "and": T.both, "or": T.either, "eq": lambda w, a, b: T.test("zero", 32, T.add(w, (1, a), (-1, b))),
-        "ne": lambda w, a, b: T.test("nonzero", 32, T.add(w, (1, a), (-1, b))),
-        "shl": lambda w, a, b: shift(T.shl)(w, a, number(T.split(b))),
-        "shr_u": lambda w, a, b: shift(T.shr)(w, a, number(T.split(b))),
+        "add": total, "sub": lambda a, b: total(a, b, -1), "xor": lambda a, b: T.xor(a.w, a, b),
+        "and": lambda a, b: T.both(a.w, a, b), "or": lambda a, b: T.either(a.w, a, b),
+        "shl": lambda a, b: shift(T.shl)(a.w, a, number(T.split(b))),
+        "shr_u": lambda a, b: shift(T.shr)(a.w, a, number(T.split(b))),
     }
-    for kind, w in (("i32", 32), ("i64", 64)):
-        found[kind + ".eqz"] = 1, lambda a: T.split(T.test("zero", 32, T.word(a)))
-        for name, f in words.items():
-            found["%s.%s" % (kind, name)] = 2, lambda a, b, f=f, w=w: T.split(f(w, T.word(a), T.word(b)))
-    for kind, n in LANES.items():
-        of_lanes: dict = {
-            "splat": (1, lambda a, n=n: a[:n] * (16 // n)), "replace_lane": (2, replace_lane(n)),
-            "add": (2, lambda a, b, n=n: lanewise(lambda x, y: T.add(8 * n, (1, x), (1, y)), n, a, b))}
-        if n >= 4:
-            of_lanes["extract_lane"] = 1, lambda a, k, n=n: chunks(a, n)[k]
+    for kind in ("i32", "i64"):
+        two = "%s %s" % (kind, kind)
+        found[kind + ".eqz"] = kind, "i32", of_words(lambda a: T.test("zero", 32, a))
+        for name, op in (("eq", "zero"), ("ne", "nonzero")):
+            found["%s.%s" % (kind, name)] = two, "i32", of_words(lambda a, b, op=op: T.test(op, 32, total(a, b, -1)))
+        found.update({"%s.%s" % (kind, name): (two, kind, of_words(f)) for name, f in words.items()})
+    for kind, (lane, n) in LANES.items():
+        found[kind + ".splat"] = lane, "v128", lambda a, n=n: a * (16 // n)
+        found[kind + ".replace_lane"] = "v128 " + lane, "v128", replace_lane(n)
+        found[kind + ".add"] = "v128 v128", "v128", lambda a, b, n=n: lanewise(total, n, a, b)
         for name, f in (("shl", T.shl), ("shr_u", T.shr), ("shr_s", signed_shift)):
-            of_lanes[name] = 2, lambda a, k, f=f, n=n: lanewise(lambda t: shift(f)(8 * n, t, number(k)), n, a)
-        found.update({"%s.%s" % (kind, name): row for name, row in of_lanes.items()})
-    return found
+            found["%s.%s" % (kind, name)] = "v128 i32", "v128", lambda a, k, f=f, n=n: lanewise(
+                lambda t: shift(f)(8 * n, t, number(k)), n, a)
+    return {name: (types.split(), result, f) for name, (types, result, f) in found.items()}
+
+
+def of_words(f: Callable) -> Callable:
+    """The bytes of what f makes of words."""
+    return lambda *data: T.split(f(*map(T.word, data)))
 
 
 PURE = pure_instructions()
@@ -155,15 +151,15 @@ class Wasm(Processor):
         if kind in ("br", "br_if", "block", "loop", "end", "return"):
             return self.control(i)
         if i.name in PURE:
-            count, f = PURE[i.name]
-            self.push(f(*[self.pop() for _ in range(count)][::-1], *i.numbers))
+            types, _, f = PURE[i.name]
+            self.push(f(*[self.pop() for _ in types][::-1], *i.numbers))
         elif kind == "local" and what in ("get", "set", "tee"):
             self.local(what, i.numbers[0])
         elif i.name == "global.get":
             self.push(self.values.globals[i.numbers[0]])
         elif i.name == "drop":
             self.pop()
-        elif i.name == "i64.lt_s" or i.name == "i32.lt_s":
+        elif i.name == "i64.lt_s":
             b, a = T.word(self.pop()), T.word(self.pop())
             self.push(T.split(self.has_no_room(a, b)))
         elif i.name == "select":
@@ -214,21 +210,17 @@ class Wasm(Processor):
         return T.const(32, 0)
 
     def access(self, kind: str, what: str, numbers: list) -> bool:
-        """A load or a store, of some bytes or of a whole value."""
-        m = re.fullmatch(r"(load|store)(\d*)(?:_(u|zero|splat|lane))?", what)
-        if not m or not numbers or kind not in SIZES or m[1] == "store" and what != "store":
+        """A load or a store, of a whole value, or a load of some bytes."""
+        m = re.fullmatch(r"load(?:(\d+)_u)?|store", what)
+        if not m or not numbers or kind not in SIZES:
             return False
-        size = SIZES[kind]
-        n = int(m[2]) // 8 if m[2] else size
-        old = self.pop() if m[1] == "store" or m[3] == "lane" else []
-        address = self.effective(numbers[0])
-        if m[1] == "store":
-            self.values.store(address, old)
-            return True
-        data = self.values.load(address, n)
-        if m[3] == "lane":
-            data = replace_lane(n)(old, data, numbers[1])
-        self.push(data * (size // n) if m[3] == "splat" else (data + [0] * size)[:size])
+        if what == "store":
+            data = self.pop()
+            self.values.store(self.effective(numbers[0]), data)
+        else:
+            size = SIZES[kind]
+            data = self.values.load(self.effective(numbers[0]), int(m[1]) // 8 if m[1] else size)
+            self.push((data + [0] * size)[:size])
         return True
 
     def effective(self, offset: int) -> T.Term:

@@ -1,13 +1,15 @@
 """A model of the x86-64 instructions that the shipped code uses. Any other is an error. docs/MACHINE.md says how to
-add one: most are a line of a table, VECTORS for vectors and ARITHMETIC for words."""
+add one: most are a line of a table, MOVED or COMPUTED for vectors and ARITHMETIC for words."""
 
 from __future__ import annotations
 
+import functools
 import re
 from typing import Any, Callable
 
+import machine
 import terms as T
-from machine import Processor, bitwise, chunks, image, invert, joined, lanewise, need_public, number
+from machine import Operand, Processor, chunks, image, joined, need_public, no_rule, number, of_numbers, total
 from terms import CannotShow, IsWrong
 
 RAX, RCX, RDX, RBX, RSP, RBP, RSI, RDI = range(8)
@@ -24,36 +26,26 @@ VECTOR = {"%smm%d" % (letter, k): (k, size) for k in range(REGISTERS)
 SIZES = {"BYTE": 1, "WORD": 2, "DWORD": 4, "QWORD": 8, "XMMWORD": 16, "YMMWORD": 32, "ZMMWORD": 64}
 CONDITIONS = "e ne b ae a be s ns l le g ge o no".split()
 OF_CARRY, OF_OVERFLOW = ("b", "ae", "a", "be"), ("o", "no")
-
-
-class Operand:
-    """A register, memory as a sum of (factor, register or None, offset), or a number. The register of an address in
-    the file is IMAGE. A word of memory may be broadcast, to all words of a vector. A mask register may choose the
-    words of a vector that are written; the others are set to zero, or kept."""
-
-    __slots__ = ("kind", "index", "size", "parts", "value", "is_broadcast", "mask", "zeroes")
-
-    def __init__(self, kind: str, index: Any = None, size: Any = None, parts: Any = None, value: Any = None,
-                 is_broadcast: bool = False, mask: Any = None, zeroes: bool = False) -> None:
-        self.kind, self.index, self.size, self.parts, self.value = kind, index, size, parts, value
-        self.is_broadcast, self.mask, self.zeroes = is_broadcast, mask, zeroes
-
-
+NUMBER = re.compile(r"0x[0-9a-f]+|[0-9]+")
+NOP = re.compile(r"((data16|cs) +)*nop\b.*|xchg +ax,ax")
 ONE = Operand("number", value=1)
 
 
+@functools.lru_cache(maxsize=None)
 def operand(text: str, target: int | None) -> Operand:
-    """The operand that this is, where `target` is the address of one that counts from rip."""
+    """The operand that this is: a register, memory as a sum of (factor, register or None, offset), or a number.
+    `target` is the address of one that counts from rip, and the register of an address in the file is IMAGE. A word of
+    memory may be broadcast, to all words of a vector. A mask register may choose the words of a vector that are
+    written; the others are set to zero, or kept."""
     if text in GENERAL:
-        return Operand("general", *GENERAL[text])
-    if text in VECTOR:
-        return Operand("vector", *VECTOR[text])
-    m = re.fullmatch(r"(?:(\wmm\d+)\{)?k([0-7])(\}(\{z\})?)?", text)
-    if m and not m[1] and not m[3]:
-        return Operand("mask", int(m[2]))
-    if m and m[1] in VECTOR and m[3]:
-        return Operand("vector", *VECTOR[m[1]], mask=int(m[2]), zeroes=bool(m[4]))
-    if re.fullmatch(r"0x[0-9a-f]+|[0-9]+", text):
+        return Operand("general", index=GENERAL[text][0], size=GENERAL[text][1])
+    m = re.fullmatch(r"([xyz]mm\d+)(?:\{k([0-7])\}(\{z\})?)?", text)
+    if m and m[1] in VECTOR:
+        index, size = VECTOR[m[1]]
+        return Operand("vector", index=index, size=size, mask=int(m[2]) if m[2] else None, zeroes=bool(m[3]))
+    if re.fullmatch(r"k[0-7]", text):
+        return Operand("mask", index=int(text[1]))
+    if NUMBER.fullmatch(text):
         return Operand("number", value=int(text, 0))
     m = re.fullmatch(r"(?:([A-Z]+) (PTR|BCST) )?\[(.*)\]", text)
     parts = of_address(m[3], target) if m else None
@@ -71,57 +63,39 @@ def of_address(text: str, target: int | None) -> list | None:
         name, _, scale = piece.partition("*")
         if name in GENERAL and GENERAL[name][1] == 8 and sign != "-":
             parts.append((int(scale or 1), GENERAL[name][0], None))
-        elif re.fullmatch(r"0x[0-9a-f]+|[0-9]+", piece):
+        elif NUMBER.fullmatch(piece):
             parts.append((-1 if sign == "-" else 1, None, int(piece, 0)))
         else:
             return None
     return parts
 
 
-class Instruction:
+class Instruction(machine.Instruction):
     """A line of objdump's output, in Intel's order of operands."""
 
-    __slots__ = ("address", "next", "name", "operands", "text", "target")
-    next: int
+    JUMP, CALL, TRAP = "jmp", "call", "ud2"
 
-    def __init__(self, address: int, text: str) -> None:
-        self.address, self.text, self.target = address, text, None
-        code, _, comment = text.partition("#")
+    def read(self) -> None:
+        code, _, comment = self.text.partition("#")
         self.name, _, rest = code.strip().partition(" ")
-        self.operands: list = []
-        if re.fullmatch(r"((data16|cs) +)*nop\b.*|xchg +ax,ax", code.strip()):
+        if NOP.fullmatch(code.strip()):
             self.name = "nop"          # a prefix of another instruction is not modelled
         elif self.name.startswith("j") or self.name == "call":
             m = re.match(r"([0-9a-f]+) <", rest.strip())
             if not m:
-                raise CannotShow("it is not known where %s goes to" % text)
+                raise CannotShow("it is not known where %s goes to" % self.text)
             self.target = int(m[1], 16)
         elif rest.strip():
             target = int(comment.split()[0], 16) if comment.split() else None
             self.operands = [operand(o.strip(), target) for o in rest.split(",")]
-
-    is_jump = property(lambda self: self.name == "jmp")
-    is_call = property(lambda self: self.name == "call")
-    is_trap = property(lambda self: self.name == "ud2")
-    is_return = property(lambda self: self.name == "ret" and not self.operands)
-
-
-def unknown(i: Instruction) -> CannotShow:
-    return CannotShow("the instruction %s is not modelled: add it to tests/machine/x86.py, and run "
-                      "tests/machine/check.py --forms" % " ".join(i.text.split()))
-
-
-# What instructions on words set, by two words: the kind of the flags, and the function. Of an instruction with one
-# operand, the second is 1.
-
-def total(a: T.Term, b: T.Term, sign: int = 1) -> T.Term:
-    return T.add(a.w, (1, a), (sign, b))
 
 
 def product(a: T.Term, b: T.Term) -> T.Term | None:
     return T.add(a.w, (b.args, a)) if b.op == "const" else None
 
 
+# What instructions on words set, by two words: the kind of the flags, and the function. Of an instruction with one
+# operand, the second is 1.
 ARITHMETIC: dict = {
     "add": ("add", lambda m, a, b: total(a, b)), "sub": ("sub", lambda m, a, b: total(a, b, -1)),
     "cmp": ("sub", lambda m, a, b: total(a, b, -1)), "xor": ("logic", lambda m, a, b: m.exclusive(a, b)),
@@ -131,26 +105,26 @@ ARITHMETIC: dict = {
     "shr": ("other", lambda m, a, b: m.shifted_right(a, b.args)),
 }
 ONLY_FLAGS, SHIFTS = ("cmp", "test"), ("shl", "shr")
+# What is added besides: by instructions that keep the carry, and how often the carry itself.
+KEEP_CARRY, ADD_CARRY = {"inc": 1, "dec": -1}, {"adc": 1, "sbb": -1}
+# The registers that products and divisions read besides their operand.
+PRODUCTS = {"mul": (RAX,), "mulx": (RDX,), "div": (RAX, RDX)}
 
 
 # What instructions on vectors write: functions of the bytes of the operands that they read, and of their number.
 
+def each(n: int, f: Callable) -> Callable:
+    """Applies f to each n bytes of the operands, and to the number."""
+    def whole(*arguments: Any) -> list:
+        sources = [a for a in arguments if isinstance(a, list)]
+        rest = arguments[len(sources):]
+        return joined(f(*parts, *rest) for parts in zip(*[chunks(s, n) for s in sources]))
+    return whole
+
+
 def lanes(n: int, f: Callable) -> Callable:
     """Applies f(width, words, number) to the words of n bytes of each operand."""
-    def whole(*arguments: Any) -> list:
-        sources = [a for a in arguments if isinstance(a, list)]
-        rest = arguments[len(sources):]
-        return lanewise(lambda *words: f(8 * n, *words, *rest), n, *sources)
-    return whole
-
-
-def by_halves(f: Callable) -> Callable:
-    """Applies f to each 16 bytes."""
-    def whole(*arguments: Any) -> list:
-        sources = [a for a in arguments if isinstance(a, list)]
-        rest = arguments[len(sources):]
-        return joined(f(*parts, *rest) for parts in zip(*[chunks(s, 16) for s in sources]))
-    return whole
+    return each(n, lambda *parts: T.split(f(8 * n, *[T.word(p) if isinstance(p, list) else p for p in parts])))
 
 
 def shift(f: Callable) -> Callable:
@@ -163,7 +137,7 @@ def shift(f: Callable) -> Callable:
 
 def pick(n: int, *places: int) -> Callable:
     """The parts of n bytes of two sources, by their places in both together."""
-    return by_halves(lambda a, b: joined(chunks(a + b, n)[p] for p in places))
+    return each(16, lambda a, b: joined(chunks(a + b, n)[p] for p in places))
 
 
 def shuffle_four(n: int) -> Callable:
@@ -189,12 +163,6 @@ def insertps(a: list, b: list, imm: int) -> list:
 def shufps(a: list, b: list, imm: int) -> list:
     x, y = chunks(a, 4), chunks(b, 4)
     return x[imm & 3] + x[imm >> 2 & 3] + y[imm >> 4 & 3] + y[imm >> 6 & 3]
-
-
-def shufpd(a: list, b: list, imm: int) -> list:
-    """Each of the lanes has its own two bits."""
-    return joined(chunks(x, 8)[imm >> 2 * k & 1] + chunks(y, 8)[imm >> (2 * k + 1) & 1]
-                  for k, (x, y) in enumerate(zip(chunks(a, 16), chunks(b, 16))))
 
 
 def permute_halves(a: list, b: list, imm: int) -> list:
@@ -236,72 +204,36 @@ def align(n: int) -> Callable:
     return lambda a, b, imm: (b + a)[n * (imm & len(a) // n - 1):][:len(a)]
 
 
-def extended(n: int) -> Callable:
-    return lambda a: joined(part + [0] * n for part in chunks(a, n))
-
-
-def of_numbers(w: int, f: Callable, *words: T.Term) -> T.Term:
-    """f of words that are numbers, or that all depend on one flag."""
-    found = T.leaves(f, w, *words)
-    if found is None:
-        raise CannotShow("there is no rule for this operation on %r" % words[0])
-    return found
-
-
-def signed_words(a: list) -> list:
-    """Words of 4 bytes as words of 8, with the sign."""
-    f = lambda n: n | (1 << 64) - (1 << 32) if n >> 31 else n
-    return joined(T.split(of_numbers(64, f, T.word(part + [0] * 4))) for part in chunks(a, 4))
+def signed_word(a: list) -> list:
+    """A word of 4 bytes as one of 8, with the sign."""
+    return T.split(of_numbers(64, lambda n: n | (1 << 64) - (1 << 32) if n >> 31 else n, T.word(a + [0] * 4)))
 
 
 def blend_by_sign(n: int) -> Callable:
     f = lambda p, q, sign: q if sign >> 8 * n - 1 else p
-    return lambda a, b, mask: joined(
-        T.split(of_numbers(8 * n, f, T.word(x), T.word(y), T.word([0] * (n - 1) + m[-1:])))
-        for x, y, m in zip(chunks(a, n), chunks(b, n), chunks(mask, n)))
-
-
-def ternary(a: list, b: list, c: list, imm: int) -> list:
-    """The bits of imm at the places of three bits: their exclusive or, where each monomial, a product of some of the
-    three, has the exclusive or of the bits at the places in it."""
-    result = [0] * len(a)
-    for monomial in range(8):
-        if sum(imm >> k & 1 for k in range(8) if k & ~monomial == 0) % 2:
-            factors = [data for bit, data in ((4, a), (2, b), (1, c)) if monomial & bit]
-            term = factors.pop() if factors else [255] * len(a)
-            for data in factors:
-                term = bitwise(T.both, data, term)
-            result = bitwise(T.xor, result, term)
-    return result
-
-
-def no_rule(*data: Any) -> Any:
-    raise CannotShow("there is no rule for this operation on vectors")
+    return each(n, lambda x, y, m: T.split(of_numbers(
+        8 * n, f, T.word(x), T.word(y), T.word([0] * (n - 1) + m[-1:]))))
 
 
 # The instructions on vectors: how many of the last operands one reads, and what it does with their bytes. MOVED only
 # moves bytes, or has some of zeros.
 MOVED: dict = {
-    "pshufd": (1, by_halves(shuffle_four(4))), "permq": (1, lambda a, imm: joined(
-        shuffle_four(8)(part, imm) for part in chunks(a, 32))),
-    "pshuflw": (1, by_halves(lambda a, imm: shuffle_four(2)(a[:8], imm) + a[8:])),
-    "pshufhw": (1, by_halves(lambda a, imm: a[:8] + shuffle_four(2)(a[8:], imm))),
-    "pshufb": (2, by_halves(shuffle_bytes)),
-    "palignr": (2, by_halves(lambda a, b, imm: (b + a + [0] * 32)[imm:imm + 16])),
-    "psrldq": (1, by_halves(lambda a, imm: (a + [0] * 16)[min(imm, 16):][:16])),
+    "pshufd": (1, each(16, shuffle_four(4))), "permq": (1, each(32, shuffle_four(8))),
+    "pshufb": (2, each(16, shuffle_bytes)),
+    "palignr": (2, each(16, lambda a, b, imm: (b + a + [0] * 32)[imm:imm + 16])),
+    "psrldq": (1, each(16, lambda a, imm: (a + [0] * 16)[min(imm, 16):][:16])),
     "punpcklqdq": (2, pick(8, 0, 2)), "punpckhqdq": (2, pick(8, 1, 3)),
     "punpckldq": (2, pick(4, 0, 4, 1, 5)), "punpckhdq": (2, pick(4, 2, 6, 3, 7)),
-    "pblendw": (2, blend(2)), "pblendd": (2, blend(4)), "blendpd": (2, blend(8)),
-    "shufps": (2, by_halves(shufps)), "shufpd": (2, shufpd), "insertps": (2, insertps),
-    "perm2i128": (2, permute_halves), "permd": (2, permute(4)), "alignd": (2, align(4)), "alignq": (2, align(8)),
-    "pmovqd": (1, lambda a: joined(part[:4] for part in chunks(a, 8)) + [0] * 16),
+    "pblendw": (2, blend(2)), "pblendd": (2, blend(4)), "shufps": (2, each(16, shufps)), "insertps": (2, insertps),
+    "perm2i128": (2, permute_halves), "permd": (2, permute(4)), "alignq": (2, align(8)),
+    "pmovqd": (1, lambda a: each(8, lambda part: part[:4])(a) + [0] * 16),
     "movq": (1, lambda a: a[:8] + [0] * 8), "movd": (1, lambda a: a[:4] + [0] * 12), "extractps": (1, extract(4)),
     **{"permi2" + c: (3, lambda i, a, b, n=n: permute(n)(i, a + b)) for c, n in (("q", 8), ("d", 4))},
     **{"permt2" + c: (3, lambda a, i, b, n=n: permute(n)(i, a + b)) for c, n in (("q", 8), ("d", 4))},
     **{"pinsr" + c: (2, insert(n)) for c, n in zip("bwdq", (1, 2, 4, 8))},
     **{"pextr" + c: (1, extract(n)) for c, n in zip("bwdq", (1, 2, 4, 8))},
     **{"pbroadcast" + c: (1, lambda a, n=n: a[:n] * (WIDTH // n)) for c, n in zip("bwdq", (1, 2, 4, 8))},
-    **{"pmovzx" + c: (1, extended(n)) for c, n in (("bw", 1), ("wd", 2), ("dq", 4))},
+    **{"pmovzx" + c: (1, each(n, lambda part: part + [0] * len(part))) for c, n in (("wd", 2), ("dq", 4))},
     **{"inserti" + c: (2, insert(None)) for c in ("128", "32x4", "64x2", "32x8", "64x4")},
     **{"extracti" + c: (1, extract(n))
        for c, n in (("128", 16), ("32x4", 16), ("64x2", 16), ("32x8", 32), ("64x4", 32))},
@@ -312,12 +244,11 @@ MOVED: dict = {
 COMPUTED: dict = {
     "paddq": (2, lanes(8, lambda w, x, y: total(x, y))), "paddd": (2, lanes(4, lambda w, x, y: total(x, y))),
     "psubq": (2, lanes(8, lambda w, x, y: total(x, y, -1))), "pcmpgtq": (2, no_rule),
-    "pandn": (2, lambda a, b: bitwise(T.both, invert(a), b)), "pmovsxdq": (1, signed_words),
+    "pmovsxdq": (1, each(4, signed_word)),
     **{"psrl" + c: (1, lanes(n, shift(T.shr))) for c, n in (("w", 2), ("d", 4), ("q", 8))},
     **{"psll" + c: (1, lanes(n, shift(T.shl))) for c, n in (("d", 4), ("q", 8))},
     **{"prol" + c: (1, lanes(n, lambda w, t, k: T.ror(w, t, -k))) for c, n in (("d", 4), ("q", 8))},
-    **{"pror" + c: (1, lanes(n, T.ror)) for c, n in (("d", 4), ("q", 8))},
-    **{"pternlog" + c: (3, ternary) for c in "dq"},
+    **{"pternlog" + c: (3, no_rule) for c in "dq"},
     "blendvps": (3, blend_by_sign(4)), "blendvpd": (3, blend_by_sign(8)), "pblendvb": (3, blend_by_sign(1)),
 }
 # The same for other types of numbers.
@@ -329,8 +260,8 @@ ALIKE = {"permpd": "permq", "unpcklpd": "punpcklqdq", "movlhps": "punpcklqdq", "
              for c in ("128", "32x4", "64x2", "32x8", "64x4")}}
 BITWISE = {name + end: what for what in ("xor", "or", "and") for name, ends in (("p" + what, ("", "d", "q")), (
     what + "p", ("s", "d"))) for end in ends}
-# Of three operands, or of all and of an exclusive or.
-ORS = {0xfe: "or", 0xf6: "xor"}
+# Of three operands, by the number: of the first, and of what the second operation makes of the others.
+TERNARY = {0x96: ("xor", "xor"), 0xf6: ("or", "xor"), 0xfe: ("or", "or")}
 # Moves of whole operands: whether one in memory must be aligned. Moves of the lowest bytes.
 MOVES = {**dict.fromkeys("movdqa movaps movapd movdqa32 movdqa64".split(), True), **dict.fromkeys(
     "movdqu movups movupd movdqu8 movdqu16 movdqu32 movdqu64".split(), False)}
@@ -466,7 +397,7 @@ class X86(Processor):
 
     def condition(self, i: Instruction) -> tuple | None:
         if i.name[1:] not in CONDITIONS:
-            raise unknown(i)
+            raise i.unknown()
         self.need_public_flags()
         return self.compared(i.name[1:])
 
@@ -477,6 +408,12 @@ class X86(Processor):
             method(i, *ops)
         elif name in ARITHMETIC:
             self.compute(i, *ops)
+        elif name in KEEP_CARRY:
+            self.add_and_keep_carry(ops[0], KEEP_CARRY[name])
+        elif name in ADD_CARRY:
+            self.with_carry(*ops, ADD_CARRY[name])
+        elif name in PRODUCTS:
+            self.of_public(name, *ops)
         elif name.startswith("set") and name[3:] in CONDITIONS:
             self.write(ops[0], [self.values.bit(self.compared(name[3:]))])
         elif name.startswith("cmov") and name[4:] in CONDITIONS:
@@ -496,7 +433,7 @@ class X86(Processor):
 
     def do_mov(self, i: Instruction, to: Operand, source: Operand) -> None:
         if to.kind == "memory" and source.kind == "number" and to.size is None:
-            raise unknown(i)
+            raise i.unknown()
         self.write(to, self.read(source, to.size or source.size))
 
     do_movabs = do_mov
@@ -510,7 +447,7 @@ class X86(Processor):
     def do_push(self, i: Instruction, source: Operand) -> None:
         data = self.read(source)
         if len(data) != 8:
-            raise unknown(i)
+            raise i.unknown()
         self.move_stack(-8)
         self.values.store(self.values.stack_pointer(), data)
 
@@ -519,16 +456,11 @@ class X86(Processor):
         self.move_stack(8)
         self.write(to, data)
 
-    def do_xchg(self, i: Instruction, a: Operand, b: Operand) -> None:
-        x, y = self.read(a), self.read(b)
-        self.write(a, y)
-        self.write(b, x)
-
     def compute(self, i: Instruction, to: Operand, source: Operand = ONE) -> None:
         """An instruction of ARITHMETIC. A shift by 0 keeps the flags, and is not modelled."""
         name, (kind, f) = i.name, ARITHMETIC[i.name]
         if name in SHIFTS and (source.kind != "number" or not 0 < source.value < 8 * to.size):
-            raise unknown(i)
+            raise i.unknown()
         if name == "xor" and same(to, source):
             self.write(to, [0] * to.size)
             self.values.flags = ("logic",) + (T.const(8 * to.size, 0),) * 3
@@ -544,12 +476,6 @@ class X86(Processor):
         if keep:
             self.write(to, result)
 
-    def do_inc(self, i: Instruction, to: Operand) -> None:
-        self.add_and_keep_carry(to, 1)
-
-    def do_dec(self, i: Instruction, to: Operand) -> None:
-        self.add_and_keep_carry(to, -1)
-
     def add_and_keep_carry(self, to: Operand, step: int) -> None:
         """inc and dec keep the carry, which may be that of a secret."""
         old = self.values.flags
@@ -563,49 +489,31 @@ class X86(Processor):
         self.arithmetic("other", lambda a, b: T.add(a.w, (-1, a), (-1, b)), to, ONE)
         self.values.flags = flags
 
-    def do_imul(self, i: Instruction, to: Operand, source: Operand, factor: Any = None) -> None:
-        if factor:
-            self.write(to, self.read(source))
-        source = factor or source
+    def do_imul(self, i: Instruction, to: Operand, source: Operand) -> None:
         need_public(T.word(self.read(to) + self.read(source, to.size)), "the time of a product")
         self.arithmetic("product", product, to, source)
 
     def with_carry(self, to: Operand, source: Operand, sign: int) -> None:
+        """Adds or subtracts the carry too, which must be public."""
         flags = self.values.flags
         if flags is None or flags[0] in ("secret", "no carry"):
             raise CannotShow("a carry depends on flags that are not public")
         carry = T.word([self.values.bit(self.compared("b"))] + [0] * (to.size - 1))
         self.arithmetic("other", lambda a, b: T.add(a.w, (1, a), (sign, b), (sign, carry)), to, source)
 
-    def do_adc(self, i: Instruction, to: Operand, source: Operand) -> None:
-        self.with_carry(to, source, 1)
-
-    def do_sbb(self, i: Instruction, to: Operand, source: Operand) -> None:
-        self.with_carry(to, source, -1)
-
-    def do_mulx(self, i: Instruction, high: Operand, low: Operand, source: Operand) -> None:
-        need_public(T.word(self.values.general[RDX][:high.size] + self.read(source, high.size)),
-                    "the time of a product")
-        for to in (low, high):
-            self.write(to, self.values.anything(to.size))
-
-    def do_mul(self, i: Instruction, source: Operand) -> None:
-        self.of_public((RAX,), source)
-
-    def do_div(self, i: Instruction, source: Operand) -> None:
-        self.of_public((RAX, RDX), source)
-
-    def of_public(self, registers: tuple, source: Operand) -> None:
+    def of_public(self, name: str, *ops: Operand) -> None:
         """A product or a division, whose time may depend on the operands: these must be public. One of bytes has all
         of its result in ax, and is not modelled."""
+        *results, source = ops
         if source.size == 1:
             raise CannotShow("a product or a division of bytes")
-        pair = [Operand("general", r, source.size) for r in (RAX, RDX)]
-        for o in [o for o in pair if o.index in registers] + [source]:
+        register = lambda r: Operand("general", index=r, size=source.size)
+        for o in [source, *map(register, PRODUCTS[name])]:
             need_public(T.word(self.read(o)), "the time of a product or a division")
-        for o in pair:
+        for o in results[::-1] or map(register, (RAX, RDX)):
             self.write(o, self.values.anything(o.size))
-        self.values.flags = None
+        if not results:                # mulx keeps the flags
+            self.values.flags = None
 
     def do_vzeroupper(self, i: Instruction) -> None:
         vector = self.values.vector
@@ -627,7 +535,7 @@ class X86(Processor):
             zeros = [0] * count
             result = zeros + masks[0][:bits - count] if action[-1] == "l" else masks[0][count:] + zeros
         else:
-            raise unknown(i)
+            raise i.unknown()
         self.values.masks[to.index] = result + [0] * (64 - len(result))
 
     def masked_move(self, i: Instruction) -> None:
@@ -635,7 +543,7 @@ class X86(Processor):
         name, (to, source, *rest) = i.name[1:], i.operands
         n = MASKED.get(name)
         if n is None or rest or source.kind != "memory":
-            raise unknown(i)
+            raise i.unknown()
         bits = self.values.masks[to.mask][:to.size // n]
         old = chunks([0] * to.size if to.zeroes else self.values.vector[to.index][:to.size], n)
         address, parts = self.address(source), []
@@ -650,7 +558,7 @@ class X86(Processor):
         vex, ops = i.name.startswith("v"), i.operands
         name = ALIKE.get(i.name[vex:], i.name[vex:])
         if not ops or any(o.mask is not None or o.kind == "mask" for o in ops):
-            raise unknown(i)
+            raise i.unknown()
         if name in MOVES:
             self.write(ops[0], self.read(ops[1], aligned=MOVES[name]), vex, MOVES[name])
         elif name in LOW_MOVES and (name != "movlps" or ops[0].kind == "memory"):
@@ -660,7 +568,7 @@ class X86(Processor):
         elif name in MOVED or name in COMPUTED or name in BITWISE:
             self.write(ops[0], self.fitting(ops[0], self.result(name, ops, vex)), vex)
         else:
-            raise unknown(i)
+            raise i.unknown()
 
     def sources(self, ops: list, count: int, vex: bool) -> list:
         """The bytes of the last operands. Those of 16 bytes in memory must be aligned in the old encodings."""
@@ -676,14 +584,10 @@ class X86(Processor):
             return self.values.combined(BITWISE[name], *self.sources(ops, 2, vex))
         count, f = MOVED.get(name) or COMPUTED[name]
         data = self.sources(ops, count, vex)
-        if f is ternary and numbers[0] in ORS:
-            return self.values.combined("or", data[0], self.values.combined(ORS[numbers[0]], *data[1:]))
-        if name in MOVED:
-            try:
-                return f(*data, *numbers)
-            except CannotShow:         # the places that bytes come from are not numbers
-                pass
-        return self.values.vector_of(lambda *sources: f(*sources, *numbers), *data)
+        if name.startswith("pternlog") and numbers[0] in TERNARY:
+            first, second = TERNARY[numbers[0]]
+            return self.values.combined(first, data[0], self.values.combined(second, *data[1:]))
+        return self.made(name in MOVED, lambda *sources: f(*sources, *numbers), data)
 
     @staticmethod
     def fitting(to: Operand, data: list) -> list:
