@@ -66,7 +66,7 @@ SHORT = V3, ARM, JS = "dist/x86_64/vulfsjor-v3.s", "dist/aarch64/vulfsjor.s", "j
 SHORT_MANY = {functions.MANY_B: V3, functions.EACH_S: ARM, functions.STRIPES_B: JS}
 SHORT_FOLLOWED = {part: SHORT[k % 2] for k, part in enumerate(FOLLOWED)}
 SHORT_WRITTEN = {"blake2b": (ARM, 102), "blake2s": (V3, 103), "blake2xb": (V3, 98), "": (V3, 4)}
-SHORT_INSTRUCTIONS = {(path, "F") for path in SHORT} | {(ARM, "T"), (V3, "W")}
+SHORT_INSTRUCTIONS = {(path, "F") for path in changes.FILES.values()} | {(ARM, "T"), (V3, "W")}
 # Where --long shows all cases of BLAKE2X. In other files it shows some, and follows secrets.
 ALL_OF_X = V3
 # The exports whose cases take long, which are parts of their own.

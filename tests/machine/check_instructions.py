@@ -3,7 +3,7 @@ compares with the model: of the functions that compress, of those that calls exe
 which secrets are followed, which are the users F, W and T of forms.txt. What the model has as a number must be that
 number. For T each runs twice, over states that differ only in bytes that are secret: what is public must then be the
 same. Flags are compared through instructions that read them: after each that sets some, and after one that sets them
-and another that keeps some. check_wasm_instructions.py does it for WebAssembly."""
+and another that keeps some. At an odd address the processor must fault where the model refuses a vector. check_wasm_instructions.py does it for WebAssembly."""
 
 from __future__ import annotations
 
@@ -30,6 +30,7 @@ from taint import Memory, Taint, is_secret, reset, secret
 if TYPE_CHECKING:
     from program import Program
 
+ODD = 1 << 31                          # in the number of a test, whose base of memory is then odd
 BUFFER = 4096                          # bytes on each side of the base of an access
 SPAN = (-BUFFER, BUFFER)
 # For each user: the seed of its tests, of how many instructions of each form, and how many tenths of all
@@ -68,7 +69,8 @@ static int all(long what, long file, void *data, long size) {
 void run(void) {
     unsigned k;
     while (all(READ, 0, &k, 4) && all(READ, 0, &s, sizeof s)) {
-        unsigned long base = (unsigned long)(s.memory + %d);
+        unsigned long base = (unsigned long)(s.memory + %d) + (k >> 31);
+        k &= ~(1u << 31);
         s.general[bases[k]] = base;
         tests[k](&s);
         s.general[31] = base;
@@ -195,16 +197,9 @@ def readers(kind: str, tests: list, rng: Any) -> Iterator:
 
 def hidden(rng: Any, size: int) -> set:
     """The places of secret bytes: of some registers and of parts of the memory."""
-    found = set()
-    for j in range(32):
-        if rng.random() < 0.4:
-            found |= set(range(8 * j, 8 * j + 8))
-    for j in range(32):
-        if rng.random() < 0.4:
-            found |= set(range(VECTORS + size * j, VECTORS + size * j + size))
-    if rng.random() < 0.5:
-        found |= set(range(MEMORY, SIZE))
-    return found
+    registers = [(8 * j, 8) for j in range(32)] + [(VECTORS + size * j, size) for j in range(32)]
+    return {k for start, n in registers if rng.random() < 0.4 for k in range(start, start + n)} | set(
+        range(MEMORY, SIZE) if rng.random() < 0.5 else ())
 
 
 def reached(program: Program, waiting: list, left_out: list) -> list:
@@ -246,7 +241,7 @@ def chosen(program: Program, user: str, count: int, rng: Any) -> tuple:
     return set(found), [t for f in sorted(found) for t in rng.sample(sorted(found[f]), min(count, len(found[f])))]
 
 
-def machine(program: Program, user: str, text: str, base: int, data: bytes, places: set) -> tuple:
+def machine(program: Program, user: str, text: str, base: int, data: bytes, places: set, odd: int = 0) -> tuple:
     """The machine after the instructions of a text, in which bytes at some places are secret."""
     byte = lambda k: secret() if k in places else data[k]
     word = lambda at, n: [byte(k) for k in range(at, at + n)] if places else list(data[at:at + n])
@@ -254,9 +249,9 @@ def machine(program: Program, user: str, text: str, base: int, data: bytes, plac
     buf = T.var(64, "buffer", T.PUBLIC)
     m: Any
     if user == "F":
-        m = Words({buf: Region(*SPAN, memory, SPAN, (64, 0))}, cpu, {})
+        m = Words({buf: Region(*SPAN, memory, SPAN, (64, odd))}, cpu, {})
     elif user == "W":
-        m = Exact({buf: Cells(*SPAN, memory, True, (64, 0))}, cpu, (16, 0))
+        m = Exact({buf: Cells(*SPAN, memory, True, (64, odd))}, cpu, (16, 0))
     else:
         m = Taint({buf: Memory(*SPAN, memory)}, cpu, (16, 0), {}, 128)
     m.stack = T.var(64, "sp", T.PUBLIC)
@@ -340,14 +335,14 @@ def difference_of_flags(program: Program, m: Any, number_of: Any, after: list) -
     return None
 
 
-def state(rng: Any, text: str, is_plain: bool, is_zero: bool = False) -> Any:
-    """Random registers and memory; or such that results are often zero; or zeros."""
+def state(rng: Any, text: str, which: int | None) -> Any:
+    """Random registers and memory; or one number everywhere, such that results are often zero."""
     data = bytearray(rng.randbytes(SIZE))
     data[ZERO] = rng.randrange(2)
-    if is_plain:
+    if which is None:
         return data
     numbers = [int(n, 0) for n in re.findall(r"(?<!\w)(?:0x[0-9a-f]+|\d+)(?!\w)", text)] or [1]
-    value = 0 if is_zero else rng.choice([0, 1, numbers[-1], -numbers[-1]]) & (1 << 64) - 1
+    value = (0, 1, numbers[-1], -numbers[-1])[which % 4] & (1 << 64) - 1
     data[:256] = value.to_bytes(8, "little") * 32
     data[MEMORY:] = bytes([rng.choice((0, 1, 2))]) * (2 * BUFFER)
     return data
@@ -374,8 +369,8 @@ def compared(path: str, user: str, used: set, tests: list, what: str) -> tuple:
     return "not ok" if why else "ok", why or "%d forms, %s" % (len(used), what), {(kind, user, f) for f in run}
 
 
-def execute(kind: str, tests: list, vectors: tuple, inputs: list) -> list:
-    """The states after the tests, on the processor."""
+def execute(kind: str, tests: list, vectors: tuple, runs: list) -> list:
+    """The states after the tests of some runs on the processor, each of which ends where it faults."""
     with tempfile.TemporaryDirectory() as d:
         c, s, exe = (os.path.join(d, n) for n in ("a.c", "b.s", "a"))
         for path, text in ((c, C), (s, assembly(kind, tests, vectors))):
@@ -383,10 +378,9 @@ def execute(kind: str, tests: list, vectors: tuple, inputs: list) -> list:
                 f.write(text)
         subprocess.run(TOOLS[kind][0] + ["-O1", "-ffreestanding", "-nostdlib", "-static", "-fno-stack-protector", "-o",
                                          exe, c, s], check=True)
-        data = b"".join(struct.pack("<I", k) + x for k, x in inputs)
-        out = subprocess.run(["qemu-aarch64"] * (kind == "aarch64") + [exe], input=data,
-                             stdout=subprocess.PIPE, check=True).stdout
-    return [out[SIZE * n:SIZE * (n + 1)] for n in range(len(inputs))]
+        outputs = [subprocess.run(["qemu-aarch64"] * (kind == "aarch64") + [exe], stdout=subprocess.PIPE, check=False,
+                                  input=b"".join(struct.pack("<I", k) + x for k, x in inputs)).stdout for inputs in runs]
+    return [[out[at:at + SIZE] for at in range(0, len(out), SIZE)] for out in outputs]
 
 
 def inputs_of(program: Program, user: str, tests: list, rounds: int, rng: Any) -> Iterator:
@@ -394,7 +388,7 @@ def inputs_of(program: Program, user: str, tests: list, rounds: int, rng: Any) -
     for k, (text, _) in enumerate(tests):
         has_zero = user == "F" and text.startswith(OF_ZERO)
         for n in range(rounds + 6 * has_zero):
-            data = state(rng, text, n % 2 == 0 and n != rounds, n == rounds)
+            data = state(rng, text, k + n // 2 if n % 2 else None)
             fit(program.kind, text, data, rng)
             places: set = set()
             if user == "T" and text.split()[0] not in PRODUCTS:
@@ -405,6 +399,16 @@ def inputs_of(program: Program, user: str, tests: list, rounds: int, rng: Any) -
             for at, b in zip(sorted(places), rng.randbytes(len(places))):
                 other[at] = b
             yield k, [bytes(data)] + [bytes(other)] * (user == "T"), places
+
+
+def is_refused(*arguments: Any) -> bool:
+    """Whether the model refuses what machine() has to execute."""
+    reset()
+    try:
+        machine(*arguments)
+    except T.Refused:
+        return True
+    return False
 
 
 def check(path: str, user: str, rounds: int) -> tuple:
@@ -419,15 +423,21 @@ def check(path: str, user: str, rounds: int) -> tuple:
     first, tests = len(tests), tests + extra
     inputs = list(inputs_of(program, user, tests, rounds, rng))
     single = [(k, data) for k, states, _ in inputs for data in states]
-    found = iter(execute(program.kind, tests, vectors_of(path), single))
-    run: set = set()
+    wide = {k: states[0] for k, states, _ in inputs if user != "T" and "MMWORD PTR" in tests[k][0]}
+    found, *faults = execute(program.kind, tests, vectors_of(path), [single, *([(k | ODD, s)] for k, s in wide.items())])
+    if len(found) < len(single):
+        return "not ok", "%s: the processor faults" % tests[single[len(found)][0]][0], set()
+    for (k, data), after in zip(wide.items(), faults):
+        if bool(after) == is_refused(program, user, *tests[k], data, set(), 1):
+            return "not ok", "%s: whether it faults at an odd address" % tests[k][0], set()
+    after_all, run = iter(found), set()
     known: set = set()
     zeros: dict = {}
     for n, (k, states, places) in enumerate(inputs):
         if n % 50 == 0:
             reset()
         text, base = tests[k]
-        after = [next(found) for _ in states]
+        after = [next(after_all) for _ in states]
         try:
             m, buf = machine(program, user, text, base, states[0], places)
         except (T.Refused, Undecided):

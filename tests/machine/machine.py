@@ -238,8 +238,7 @@ class Words(Values):
         if region is None:
             raise CannotShow("no memory is known at %r" % address)
         self.counts["addresses"] += 1
-        w = address.w
-        offset = constant - (1 << w) if base is not None and constant >> w - 1 else constant
+        offset = constant if base is None else signed(address.w, constant)
         if not region.low <= offset <= region.high - size:
             raise IsWrong("the access of %d bytes at %r is outside of its memory" % (size, address))
         if base is self.stack and offset < self.lowest():
@@ -251,11 +250,8 @@ class Words(Values):
     def load(self, address: T.Term, size: Any, aligned: bool = False) -> list:
         """The bytes at an address."""
         base, offset, region = self.place(address, size, aligned)
-        result = []
-        for k in range(offset, offset + size):
-            found = self.memory.get((base, k))
-            result.append(region.initial(k) if found is None else found)
-        return result
+        return [self.memory[base, k] if (base, k) in self.memory else region.initial(k)
+                for k in range(offset, offset + size)]
 
     def store(self, address: T.Term, data: list, aligned: bool = False) -> None:
         """Writes bytes at an address."""
@@ -291,23 +287,20 @@ class Words(Values):
         return of_numbers(if_zero.w, lambda c, a, b: a if c == 0 else b, t, if_zero, if_not)
 
     @staticmethod
-    def zero_of(compared: Any) -> tuple:
-        """The word that is zero if two are the same, and whether it is asked for that."""
+    def difference_of(compared: Any) -> T.Term:
+        """The word that is zero if two are the same, of a comparison for that."""
         if compared is None or compared[0] not in ("==", "!="):
             raise CannotShow("a condition that is not modelled: %s" % (compared,))
-        relation, a, b = compared
-        return T.add(a.w, (1, a), (-1, b)), relation == "=="
+        return total(*compared[1:], -1)
 
     def holds(self, compared: Any) -> bool:
         """Whether a comparison holds, for a branch."""
-        t, is_equal = self.zero_of(compared)
-        return self.is_zero(t) == is_equal
+        return self.is_zero(self.difference_of(compared)) == (compared[0] == "==")
 
     def chosen(self, compared: Any, a: list, b: list) -> list:
         """The bytes a if a comparison holds, and otherwise b, without a branch."""
-        t, is_equal = self.zero_of(compared)
-        words = (T.word(a), T.word(b)) if is_equal else (T.word(b), T.word(a))
-        return T.split(self.choose(t, *words))
+        t = self.difference_of(compared)
+        return T.split(self.choose(t, *map(T.word, (a, b) if compared[0] == "==" else (b, a))))
 
     def bit(self, compared: Any) -> T.Byte:
         """A byte that is 1 if a comparison holds, and otherwise 0."""
