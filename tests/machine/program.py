@@ -37,6 +37,7 @@ MARKS = {"x86_64": (0xc0000002, 3), "aarch64": (0xc0000000, 1)}
 # The directives that the files use. Each means the same to all assemblers, in all folders.
 DIRECTIVES = frozenset("ascii asciz byte file globl hidden hword ident long p2align popsection quad "
                        "pushsection section short size type weak word xword zero".split())
+OF_DATA = frozenset("ascii asciz byte hword long quad short word xword zero".split())
 DIRECTIVE = re.compile(r"(?:^|[;/]|(?<!:lo12):)\s*\.([a-z]\w*)\b(?![\w.$]*\s*:)", re.I | re.M)
 # What the files do not have: what a preprocessor reads, comments, and other values of symbols.
 OTHER = re.compile(r"^\s*#|//|/\*|=", re.M)
@@ -137,6 +138,7 @@ class Program:
                 self.constants = constants(elf.Elf(f.read()))
             out = subprocess.run([prefix + "objdump", "-dzrt", "--insn-width=16"] + style + [so],
                                  check=True, stdout=subprocess.PIPE, text=True).stdout
+        check_data(text)
         # The address, the section, the size and the name of each symbol.
         self.symbols = [(int(m[1], 16), m[2], int(m[3], 16), m[4]) for m in re.finditer(
             r"^([0-9a-f]{16}) .{7} (\S+)\t([0-9a-f]{16})(?: \.\w+)? (.+)$", out, re.M)]
@@ -332,6 +334,17 @@ def found(pattern: str, text: str) -> Any:
     if not m:
         raise CannotShow("%s has not the form %s" % (text, pattern))
     return m
+
+
+def check_data(text: str) -> None:
+    """Refuses data between instructions: objdump shows some bytes as instructions that processors refuse."""
+    section = ".text"
+    for m in DIRECTIVE.finditer(text):
+        if m[1].lower().endswith("section"):           # what popsection goes back to may be code
+            name = re.match(r"\s+([\w.]+)", text[m.end():])
+            section = name[1] if name and m[1].lower() != "popsection" else ".text"
+        elif m[1].lower() in OF_DATA and not section.startswith((CONSTANTS, ".note")):
+            raise CannotShow("there may be data between instructions: .%s in %s" % (m[1], section))
 
 
 @functools.lru_cache(maxsize=None)
