@@ -338,20 +338,20 @@ class Loop:
     def classify(self, at_second: dict) -> None:
         """Finds what an iteration changes: words that grow by a constant, bytes of chaining words, and the rest. What
         is found is only proposed: invariant() checks it."""
-        words = {t: (j, k) for j, row in enumerate(self.call.words) for k, t in enumerate(row)}
+        wanted = self.call.expected(self.call.words, T.const(64, 0))
+        places = {pair: (j, k, b) for j, row in enumerate(self.call.words) for k, t in enumerate(row)
+                  for b, pair in enumerate(zip(T.split(t), T.split(wanted[j][k])))}
         self.grows, self.chain, self.scratch = {}, {}, set()
         second = lambda c: at_second[c] if c in at_second else self.initial(c)
-        cells = set(self.at_first) | set(at_second)
-        for c in sorted((c for c in cells if second(c) != self.initial(c)), key=str):
+        for c in sorted((c for c in set(self.at_first) | set(at_second) if second(c) != self.initial(c)), key=str):
             self.check_in_stack(c)
             group = self.group(*c)
             a, b = (T.word([f(p) for p in group]) for f in (self.initial, second))
             step = T.add(a.w, (1, b), (-1, a))
-            origin = self.initial(c)
             if step.op == "const" and not a.taint & ~T.PUBLIC and len(group) >= 4:
                 self.grows[group] = (a, step.args)
-            elif isinstance(origin, tuple) and origin[0] in words:
-                self.chain[c] = words[origin[0]] + (origin[1],)
+            elif (self.initial(c), second(c)) in places:
+                self.chain[c] = places[self.initial(c), second(c)]
             else:
                 self.scratch.add(c)
 
@@ -380,48 +380,26 @@ class Loop:
 
     def invariant(self) -> Any:
         """The machine at iteration i, after it, the condition of the end, and the chaining words that the iteration
-        must leave. Bytes that are not as proposed count as undefined in the next attempt, and so may not be used."""
+        must leave, if all but the rest is as proposed."""
         self.i = T.var(64, "i", T.PUBLIC)
         self.call.at_block(self.i)
         wanted = self.call.expected(self.call.chain, self.i)
-        for _ in range(20):
-            general = self.first.copy()
-            general.regions = self.call.regions
-            general.set_cells(self.proposed())
-            after, condition = self.iterate(general, False)
-            wrong = self.wrong(general.cells(), after.cells(), wanted)
-            if not wrong:
-                return general, after, condition, wanted
-            self.scratch |= wrong
-            self.drop(wrong & set(self.chain), after.cells(), wanted)
-        raise CannotShow("no invariant of the loop is found")
-
-    def drop(self, cells: Any, at_end: Any, wanted: Any) -> None:
-        """Takes bytes out of the chaining words, each of which another byte must still hold."""
-        dropped = {c: self.chain.pop(c) for c in cells}
-        kept = set(self.chain.values())
-        for c, (j, k, b) in sorted(dropped.items(), key=str):
-            if (j, k, b) not in kept:
-                check_same("after an iteration, byte %d of chaining word %d of message %d" % (
-                    b, k, j), T.word([at_end[c]]), T.word([T.split(wanted[j][k])[b]]))
-
-    def wrong(self, state: Any, at_end: Any, wanted: Any) -> Any:
-        """The bytes that are not as proposed after an iteration."""
-        grown = {c for group in self.grows for c in group}
-        wrong = set()
-        for c in (set(state) | set(at_end)) - self.scratch - grown:
+        general = self.first.copy()
+        general.regions = self.call.regions
+        general.set_cells(self.proposed())
+        after, condition = self.iterate(general, False)
+        state, at_end = general.cells(), after.cells()
+        for group in self.grows:
+            state.update(zip(group, T.split(self.grown(group, 1))))
+        for c in (set(state) | set(at_end)) - self.scratch:
             expected = state[c] if c in state else self.initial(c)
             if c in self.chain:
                 j, k, b = self.chain[c]
                 expected = T.split(wanted[j][k])[b]
             if at_end.get(c, expected) != expected:
                 self.check_in_stack(c)
-                wrong.add(c)
-        for group in self.grows:
-            found = T.word([at_end[c] if c in at_end else self.initial(c) for c in group])
-            if found is not self.grown(group, 1):
-                raise CannotShow("%s does not grow by %d" % (group[0], self.grows[group][1]))
-        return wrong
+                check_same("after an iteration, the byte %s" % (c,), *map(T.word, ([at_end[c]], [expected])))
+        return general, after, condition, wanted
 
 
 def show(program: Program, name: str, kind: R.Kind, lanes: int) -> tuple:
