@@ -21,11 +21,24 @@ STORES, LOADS = ("str", "stur", "stp"), ("ldr", "ldur", "ldp")
 BITWISE = {"eor": "xor", "orr": "or", "and": "and"}
 
 
-# The kinds of operands by their texts, and what the groups of each say. `general` is a register, `vector` the low bytes of
-# one, `lanes` one by parts of n bytes, of which perhaps only one. `memory` is at a base register plus an offset or another
-# register, which is added for the access only ("at"), or also to the base, "before" or "after" the access. `number` is a
-# constant, `shift` one of the operand before, `word` what an instruction has to know itself, such as a condition, and
-# `value` is in no register.
+def register(text: str) -> int:
+    """The number of a register."""
+    if text == str(PLATFORM):
+        raise IsWrong("x18 belongs to the platform")
+    return ZERO if text == "zr" else int(text)
+
+
+@functools.lru_cache(maxsize=None)
+def operand(text: str) -> Operand:
+    """The operand that this is."""
+    return next(make(m) for pattern, make in OPERANDS for m in [re.fullmatch(pattern, text)] if m)
+
+
+# The kinds of operands by their texts, and what the groups of each say. `general` is a register, `vector` the low bytes
+# of one, `lanes` one by parts of n bytes, of which perhaps only one. `memory` is at a base register plus an offset or
+# another register, which is added for the access only ("at"), or also to the base, "before" or "after" the access.
+# `number` is a constant, `shift` one of the operand before, `word` what an instruction has to know itself, such as a
+# condition, and `value` is in no register.
 NUMBER = r"#(-?(?:0x[0-9a-f]+|\d+))"
 OPERANDS: tuple = (
     (r"([xw])(\d+|zr)", lambda m: Operand("general", index=register(m[2]), size=WIDTHS[m[1]])),
@@ -41,19 +54,6 @@ OPERANDS: tuple = (
     (r"(lsl|lsr|ror) #(\d+)", lambda m: Operand("shift", name=m[1], count=int(m[2]))),
     (r".*", lambda m: Operand("word", text=m[0])),
 )
-
-
-def register(text: str) -> int:
-    """The number of a register."""
-    if text == str(PLATFORM):
-        raise IsWrong("x18 belongs to the platform")
-    return ZERO if text == "zr" else int(text)
-
-
-@functools.lru_cache(maxsize=None)
-def operand(text: str) -> Operand:
-    """The operand that this is."""
-    return next(make(m) for pattern, make in OPERANDS for m in [re.fullmatch(pattern, text)] if m)
 
 
 class Instruction(machine.Instruction):
@@ -143,7 +143,7 @@ class Arm(Processor):
     ARGUMENTS: tuple = tuple(range(8))
     RELATIONS = {"eq": "==", "ne": "!=", "cc": "<", "cs": ">=", "hi": ">", "ls": "<="}
     SIGNED = {"lt": "<", "ge": ">=", "gt": ">", "le": "<="}
-
+    CARRY = {"cs": "carry", "cc": "no carry"}
     COMMENT = "//"
     SETS_RESULT = ("mov w0, wzr", "mov w0, #0xffffffff")
 
@@ -186,14 +186,10 @@ class Arm(Processor):
     def read(self, o: Operand, size: Any = None) -> list:
         if o.kind == "general" and o.index == ZERO:
             return [0] * o.size
-        if o.kind in ("general", "vector"):
-            return getattr(self.values, o.kind)[o.index][:o.size]
-        if o.kind == "number" and size:
-            return list((o.value & (1 << 8 * size) - 1).to_bytes(size, "little"))
         if o.kind == "value":
             return o.data
         if o.kind != "lanes":
-            raise CannotShow("a %s is not a value" % o.kind)
+            return super().read(o, size)
         data = self.values.vector[o.index]
         return data[:o.size] if o.lane is None else chunks(data, o.n)[o.lane]
 
@@ -233,12 +229,6 @@ class Arm(Processor):
             self.write(m.base, T.split(T.add(64, (1, base), (1, T.const(64, m.offset)))))
 
     # Conditions.
-
-    def compared(self, condition: str) -> tuple | None:
-        flags = self.values.flags
-        if flags and flags[0] == "add" and condition in ("cs", "cc"):
-            return ("carry" if condition == "cs" else "no carry",) + flags[1:3]
-        return super().compared(condition)
 
     def condition(self, i: Instruction) -> tuple | None:
         if i.name in ("cbz", "cbnz", "tbz", "tbnz"):

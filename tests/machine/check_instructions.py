@@ -3,7 +3,8 @@ compares with the model: of the functions that compress, of those that calls exe
 which secrets are followed, which are the users F, W and T of forms.txt. What the model has as a number must be that
 number. For T each runs twice, over states that differ only in bytes that are secret: what is public must then be the
 same. Flags are compared through instructions that read them: after each that sets some, and after one that sets them
-and another that keeps some. At an odd address the processor must fault where the model refuses a vector. check_wasm_instructions.py does it for WebAssembly."""
+and another that keeps some. At an odd address the processor must fault where the model refuses a vector.
+check_wasm_instructions.py does it for WebAssembly."""
 
 from __future__ import annotations
 
@@ -282,7 +283,7 @@ def run_model(program: Program, m: Any, text: str) -> None:
 
 
 def places_of(program: Program, m: Any, buf: T.Term) -> Iterator:
-    """The registers that a test compares, and the memory that the model has written: places in a state, and the bytes."""
+    """The registers that a test compares, and the memory that the model has written: places in a state, and bytes."""
     count, size = vectors_of(program.path)
     for j, r in enumerate(m.general[:31]):
         if (program.kind, j) != ("x86_64", x86.RSP):
@@ -378,8 +379,9 @@ def execute(kind: str, tests: list, vectors: tuple, runs: list) -> list:
                 f.write(text)
         subprocess.run(TOOLS[kind][0] + ["-O1", "-ffreestanding", "-nostdlib", "-static", "-fno-stack-protector", "-o",
                                          exe, c, s], check=True)
-        outputs = [subprocess.run(["qemu-aarch64"] * (kind == "aarch64") + [exe], stdout=subprocess.PIPE, check=False,
-                                  input=b"".join(struct.pack("<I", k) + x for k, x in inputs)).stdout for inputs in runs]
+        command = ["qemu-aarch64"] * (kind == "aarch64") + [exe]
+        outputs = [subprocess.run(command, input=b"".join(struct.pack("<I", k) + x for k, x in inputs),
+                                  stdout=subprocess.PIPE, check=False).stdout for inputs in runs]
     return [[out[at:at + SIZE] for at in range(0, len(out), SIZE)] for out in outputs]
 
 
@@ -424,7 +426,8 @@ def check(path: str, user: str, rounds: int) -> tuple:
     inputs = list(inputs_of(program, user, tests, rounds, rng))
     single = [(k, data) for k, states, _ in inputs for data in states]
     wide = {k: states[0] for k, states, _ in inputs if user != "T" and "MMWORD PTR" in tests[k][0]}
-    found, *faults = execute(program.kind, tests, vectors_of(path), [single, *([(k | ODD, s)] for k, s in wide.items())])
+    found, *faults = execute(program.kind, tests, vectors_of(path), [
+        single, *([(k | ODD, data)] for k, data in wide.items())])
     if len(found) < len(single):
         return "not ok", "%s: the processor faults" % tests[single[len(found)][0]][0], set()
     for (k, data), after in zip(wide.items(), faults):

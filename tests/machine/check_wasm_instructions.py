@@ -43,6 +43,8 @@ def signature(text: str) -> tuple:
         return wasm.PURE[name][:2]
     if name == "select":
         return ["v128", "v128", "i32"], "v128"
+    if not what.startswith(("load", "store")):
+        raise T.CannotShow("the instruction %s is not modelled: add it to tests/machine/wasm.py" % text)
     return (["i32", kind], None) if what == "store" else (["i32"], kind)
 
 

@@ -79,8 +79,8 @@ class Call:
         return Region(-STACK, top, initial, (-STACK, 0), (16, top))
 
     def arguments(self) -> list:
-        """The arguments after the chaining words: of one message the block, the counter and the flags, whose higher bytes
-        are undefined, and of several the table of blocks (addresses and numbers), the counter, and the table of flags."""
+        """The arguments after the chaining words: of one message the block, the counter and the flags, whose higher
+        bytes are undefined; of several the tables of blocks (addresses and numbers) and of flags around the counter."""
         if self.lanes > 1:
             pairs = [t for pair in zip(self.blocks, self.lengths) for t in pair]
             return [self.table("blocks", pairs), self.counter, self.flags()]

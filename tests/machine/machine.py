@@ -57,7 +57,8 @@ class Instruction:
     next: int
 
     def __init__(self, address: int, text: str) -> None:
-        self.address, self.text, self.target, self.name = address, text, None, ""
+        self.address, self.text, self.name = address, text, ""
+        self.target: int | None = None
         self.operands: list = []
         self.read()
 
@@ -291,7 +292,7 @@ class Words(Values):
         """The word that is zero if two are the same, of a comparison for that."""
         if compared is None or compared[0] not in ("==", "!="):
             raise CannotShow("a condition that is not modelled: %s" % (compared,))
-        return total(*compared[1:], -1)
+        return total(compared[1], compared[2], -1)
 
     def holds(self, compared: Any) -> bool:
         """Whether a comparison holds, for a branch."""
@@ -378,6 +379,7 @@ class Processor:
     ARGUMENTS: tuple = ()              # the registers of arguments
     RELATIONS: dict = {}               # what a condition compares after a subtraction
     SIGNED: dict = {}                  # the same of numbers with a sign
+    CARRY: dict = {}                   # what it asks for after an addition
     COMMENT = ""                       # what begins a comment of objdump
     SETS_RESULT: tuple = ()            # instructions that only set the result that is compared, before a return
     step: Callable                     # executes an instruction other than a jump, a call or a return
@@ -413,6 +415,14 @@ class Processor:
             pc = i.next
         return False
 
+    def read(self, o: Operand, size: int | None = None) -> list:
+        """The bytes of an operand."""
+        if o.kind in ("general", "vector"):
+            return getattr(self.values, o.kind)[o.index][:o.size]
+        if size is None or o.kind != "number":
+            raise CannotShow("a %s is not a value of a known size" % o.kind)
+        return list((o.value & (1 << 8 * size) - 1).to_bytes(size, "little"))
+
     def made(self, is_move: bool, f: Callable, data: list) -> list:
         """The bytes that an instruction on vectors makes."""
         if is_move:
@@ -445,6 +455,8 @@ class Processor:
         if m.flags == ("secret",):
             return relation, None, None
         kind, a, b, r = m.flags
+        if kind == "add" and condition in self.CARRY:
+            return self.CARRY[condition], a, b
         if kind == "sub" and condition in {**self.RELATIONS, **self.SIGNED}:
             on_stack = m.is_on_stack(a) and m.is_on_stack(b)
             if on_stack:               # its addresses are all on one side of 0, and of a half

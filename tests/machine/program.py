@@ -184,7 +184,7 @@ class Program:
         self.callable = {s.name for s in file.symbols
                          if s.type == elf.FUNCTION and s.binding in (elf.LOCAL, elf.GLOBAL)}
 
-    def is_mark(self, section: elf.Section) -> bool:
+    def is_mark(self, section: Any) -> bool:
         """Whether a section is the note that all code of the object is for branch protection."""
         kind, features = MARKS[self.kind]
         note = struct.pack("<3I4s4I", 4, 16, 5, b"GNU", kind, 4, features, 0)
@@ -247,33 +247,13 @@ class Program:
         return found
 
     def content(self, name: str) -> Any:
-        """All that executing a function depends on: the text of its instructions, their places from its start on, and
-        constants instead of their addresses. None if it has an address of constants that is not only read from."""
+        """All that executing a function depends on: its instructions, and where constants are from its start on. None
+        for a module."""
         if self.kind == "wasm":
             return None
-        start, found = self.extent(name)[0], []
-        for i in self.code(name):
-            text = re.split("#|//" if self.kind == "x86_64" else "//", i.text)[0]
-            place: tuple = i.address - start, i.next - start
-            constant = None
-            if i.target is not None:
-                text = re.sub(r"\b[0-9a-f]+ <.*>", "", text)
-                place += i.target - start,
-            elif "[rip" in text or i.name == "adrp":
-                text = re.sub(r"\[rip[^]]*\]", "[constant]", text)
-                constant = self.constant_of(i)
-                if constant is None:
-                    return None
-            found.append((text, place, constant))
-        return tuple(found)
-
-    def constant_of(self, i: Any) -> Any:
-        """The constant that an instruction for x86-64 reads: its bytes, and its alignment."""
-        for o in i.operands if self.kind == "x86_64" else ():
-            if o.kind == "memory" and o.parts[-1][1] == x86.IMAGE and o.size:
-                at = o.parts[0][2]
-                return tuple(self.constant(at + k) for k in range(o.size)), at % o.size
-        return None
+        start, data = self.constants
+        return start - self.extent(name)[0], tuple(data), tuple(
+            m.groups()[1:] for m in map(LINE.match, self.functions[name]) if m)
 
     def extent(self, name: str) -> tuple:
         """Where the code of a function begins and ends. No other symbol may be in it."""

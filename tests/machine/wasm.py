@@ -70,8 +70,8 @@ def replace_lane(n: int) -> Callable:
 
 
 def pure_instructions() -> dict:
-    """The instructions that only change the stack of operands: the types of the operands that each takes, the type of the
-    result, and what this is of their bytes, and of the numbers that are part of the instruction."""
+    """The instructions that only change the stack of operands: the types of the operands that each takes, the type of
+    the result, and what this is of their bytes, and of the numbers that are part of the instruction."""
     found: dict = {
         "i32.const": ("", "i32", lambda n: T.split(T.const(32, n))),
         "i64.const": ("", "i64", lambda n: T.split(T.const(64, n))),

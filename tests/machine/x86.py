@@ -303,6 +303,7 @@ class X86(Processor):
     # What a condition compares after `cmp`. Others are not followed: both ways may be taken.
     RELATIONS = {"e": "==", "ne": "!=", "b": "<", "ae": ">=", "a": ">", "be": "<="}
     SIGNED = {"l": "<", "ge": ">=", "g": ">", "le": "<="}
+    CARRY = {"b": "carry", "ae": "no carry"}
     COMMENT = "#"
     SETS_RESULT = ("xor eax,eax", "mov eax,0xffffffff", "vzeroupper")
 
@@ -360,15 +361,11 @@ class X86(Processor):
         return T.add(64, *[(factor, value(*rest)) for factor, *rest in o.parts])
 
     def read(self, o: Operand, size: int | None = None, aligned: bool = False) -> list:
-        if o.kind in ("general", "vector"):
-            return getattr(self.values, o.kind)[o.index][:o.size]
-        if o.kind == "memory" and o.is_broadcast:
-            return self.values.load(self.address(o), o.size) * (size // o.size)
-        if o.kind == "memory":
-            return self.values.load(self.address(o), o.size or size, aligned)
-        if size is None or o.kind != "number":
-            raise CannotShow("a constant has no size")
-        return list((o.value & (1 << 8 * size) - 1).to_bytes(size, "little"))
+        if o.kind != "memory":
+            return super().read(o, size)
+        if o.is_broadcast:
+            return self.values.load(self.address(o), o.size) * ((size or 0) // o.size)
+        return self.values.load(self.address(o), o.size or size, aligned)
 
     def write(self, o: Operand, data: list, vex: bool = False, aligned: bool = False) -> None:
         data = self.values.cleaned(list(data), o.kind == "general")
@@ -391,8 +388,6 @@ class X86(Processor):
             raise IsWrong("a carry that inc or dec keeps depends on secret or unknown data")
         if kind == "product" and condition not in OF_OVERFLOW:
             raise CannotShow("a product does not define this flag")
-        if kind == "add" and condition in ("b", "ae"):
-            return ("carry" if condition == "b" else "no carry",) + flags[1:3]
         return super().compared(condition)
 
     def condition(self, i: Instruction) -> tuple | None:
@@ -411,7 +406,7 @@ class X86(Processor):
         elif name in KEEP_CARRY:
             self.add_and_keep_carry(ops[0], KEEP_CARRY[name])
         elif name in ADD_CARRY:
-            self.with_carry(*ops, ADD_CARRY[name])
+            self.with_carry(ops[0], ops[1], ADD_CARRY[name])
         elif name in PRODUCTS:
             self.of_public(name, *ops)
         elif name.startswith("set") and name[3:] in CONDITIONS:
@@ -510,7 +505,7 @@ class X86(Processor):
         register = lambda r: Operand("general", index=r, size=source.size)
         for o in [source, *map(register, PRODUCTS[name])]:
             need_public(T.word(self.read(o)), "the time of a product or a division")
-        for o in results[::-1] or map(register, (RAX, RDX)):
+        for o in results[::-1] or [register(RAX), register(RDX)]:
             self.write(o, self.values.anything(o.size))
         if not results:                # mulx keeps the flags
             self.values.flags = None
