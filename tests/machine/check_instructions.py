@@ -190,7 +190,8 @@ def readers(kind: str, tests: list, rng: Any) -> Iterator:
     first, keeping, last = FLAGS[kind]
     for text, base in tests:
         if text.split()[0] in SETS_FLAGS[kind] and "r14" not in text and "x14" not in text:
-            yield "%s; %s" % (text, rng.choice(last)), base
+            reader = "setb r14b" if text.split()[0] in x86.SHIFTS else rng.choice(last)
+            yield "%s; %s" % (text, reader), base
     for keeper in keeping:
         for reader in last:
             yield "; ".join(filter(None, (rng.choice(first), keeper, reader))), 15
