@@ -347,7 +347,7 @@ def report(results: Any) -> bool:
     count = failed = 0
     for verdict, title, why in results:
         count += 1
-        failed += verdict == "not ok"
+        failed += verdict not in ("ok", "skip")
         if verdict == "skip":
             print("ok %d - %s # SKIP %s" % (count, title, why), flush=True)
             continue
