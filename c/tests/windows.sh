@@ -111,6 +111,7 @@ project_for_windows() {
 # byte.
 program_for_windows() {
     CC=$mingw "$top/b2" --build "$work/b2.exe" && write_script "$work/b2" &&
+        [ "$("$work/b2" --version)" = "b2 (Vulfsjor) $(version)" ] && diff <("$work/b2" --help) <("$top/b2" --help) &&
         python3 "$top/tests/compare_b2_model.py" --program "$work/b2" --unicode --cases "$1" &&
         printf 'a\r\n\032\r\r\n\0b' >"$work/binary" &&
         [ "$("$work/b2" sum b512 <"$work/binary")" = "$(b2sum <"$work/binary" | cut -c-128)" ]
