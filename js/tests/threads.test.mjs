@@ -22,6 +22,10 @@ const RANGE = 4 * 1024 * 1024;
 const LEAF = { leafLength: 65536 };
 const ROOT = hex(treeRoot(MESSAGE, LEAF));
 const fault = new Error("enough");
+// The last leaves of a message, and their digests.
+const PART = MESSAGE.slice(700, 1700);
+const PLACE = { settings: { leafLength: 100, salt: SALT, personalization: SALT }, range: { first: 5n, ends: true } };
+const DIGESTS = treeLeaves(PART, { ...PLACE.settings, first: 5, ends: true });
 
 const blob = () => new Blob([MESSAGE]);
 const byThreads = async (source, options) =>
@@ -137,34 +141,27 @@ test("workers use the module that is compiled here, and ranges and digests are t
 test("a worker transfers its digests, and throws what fails there", async () => {
   const sent = [];
   let thrown;
-  const settings = { leafLength: 100, salt: SALT, personalization: SALT };
-  const range = { first: 5n, ends: true };
-  const message = MESSAGE.slice(700, 1700);
   await withOthers(globalThis, { postMessage: (...words) => sent.push(words), onmessage: undefined }, async () => {
     await import("../src/vulfsjor_worker.js");
     const { onmessage } = globalThis;
-    onmessage({ data: { settings, range, message } });
+    onmessage({ data: { ...PLACE, message: PART } });
     for (let left = 1000; sent.length < 2 && left > 0; left--) await sleep(1);
     await withOthers(globalThis, { setTimeout: (work) => (thrown = work) }, async () => {
-      onmessage({ data: { settings, range, blob: { arrayBuffer: () => Promise.reject(fault) } } });
+      onmessage({ data: { ...PLACE, blob: { arrayBuffer: () => Promise.reject(fault) } } });
       await new Promise((resolve) => setImmediate(resolve));
     });
   });
-  const digests = treeLeaves(message, { ...settings, first: 5, ends: true });
-  assert.deepEqual(sent, [["ready"], [digests, [digests.buffer]]]);
+  assert.deepEqual(sent, [["ready"], [DIGESTS, [DIGESTS.buffer]]]);
   assert.throws(thrown, fault);
 });
 
 test("a range is read where it is, past 4 GiB too", async (t) => {
   const { file } = await openMessage(t);
-  const message = MESSAGE.slice(700, 1700);
   const far = 2 ** 32 + 7; // of a file that is almost all hole
-  await file.write(message, 0, message.length, far);
-  const settings = { leafLength: 100, salt: SALT, personalization: SALT };
-  const digests = treeLeaves(message, { ...settings, first: 5, ends: true });
-  for (const source of [{ message }, { blob: new Blob([message]) }, ...[700, far].map((at) =>
+  await file.write(PART, 0, PART.length, far);
+  for (const source of [{ message: PART }, { blob: new Blob([PART]) }, ...[700, far].map((at) =>
     ({ file: { fd: file.fd, at, length: 1000 } }))]) {
-    assert.deepEqual(await digestsOf({ settings, range: { first: 5n, ends: true }, ...source }), digests);
+    assert.deepEqual(await digestsOf({ ...PLACE, ...source }), DIGESTS);
   }
 });
 
