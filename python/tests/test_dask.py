@@ -90,8 +90,8 @@ class DaskTest(unittest.TestCase):
         code = "import functools, dask_root as d\n" \
             "d.LocalCluster = functools.partial(d.LocalCluster, n_workers=1, processes=False)\nd.main()"
         for words, status, out, errors in (
-                (["message"], 0, f"{tree_root(message, 65536, 64).hex()}  message\n", ""),
-                (["--leaf", "777", "message"], 0, f"{tree_root(message, 777, 64).hex()}  message\n", ""),
+                (["message"], 0, f"{tree_root(message, 65536, 64).hex()}  message\n", "^"),
+                (["--leaf", "777", "message"], 0, f"{tree_root(message, 777, 64).hex()}  message\n", "^"),
                 (["absent"], 1, "", "(?m)^dask_root.py: .*No such file or directory: '.*/absent'$"),
                 *((words, 2, "", "usage: ") for words in (
                     [], ["--leaf", "0", "message"], ["--leaf", "4294967296", "message"], ["a", "b"]))):
