@@ -85,7 +85,7 @@ def random_name(rng):
     """A name of any bytes, but not of a quote and an unprintable byte: their quoting is a difference."""
     name = bytes(rng.choice(b"ab \\\n\r\t*-'\"()=#\x01\x7f\x80\xff\xc3") for _ in range(rng.randint(1, 8)))
     if b"'" in name and any(byte < 32 or byte > 126 for byte in name):
-        return name.replace(b"'", b"x")
+        name = name.replace(b"'", b"x")
     return name.replace(b"-a", b"-b")  # -a is an option of ours
 
 
