@@ -86,7 +86,7 @@ def random_name(rng):
     name = bytes(rng.choice(b"ab \\\n\r\t*-'\"()=#\x01\x7f\x80\xff\xc3") for _ in range(rng.randint(1, 8)))
     if b"'" in name and any(byte < 32 or byte > 126 for byte in name):
         name = name.replace(b"'", b"x")
-    return name.replace(b"-a", b"-b")  # -a is an option of ours
+    return re.sub(rb"^-[ab]+", lambda it: it[0].replace(b"a", b"b"), name)  # -a is an option of ours
 
 
 def make_files(rng, folder):
@@ -161,12 +161,14 @@ def has_one_blank(line):
     return bool(re.match(rb"[0-9a-fA-F]+[ \t](?![ *].)", line, flags=re.DOTALL))
 
 
-def random_manifest(rng, files, is_only):
-    """A manifest of some of these files and of others, a share of whose lines is damaged. If it is not the only one,
-    no line has one byte before the name."""
-    lines, share = [], rng.choice([0.0, 0.0, 0.1, 0.4])
+def random_manifest(rng, files, is_only, is_input=False):
+    """A manifest of some of these files and of others, a share of whose lines is damaged. If it is not the only one, or
+    is standard input and names that, no line has one byte before the name."""
+    lines, share, names_input = [], rng.choice([0.0, 0.0, 0.1, 0.4]), not is_input or rng.random() < 0.5
+    is_only = is_only and not (is_input and names_input)
     for _ in range(rng.randint(0, 9)):
-        name = rng.choice(UNREADABLE[:-2] + [b"-"] if rng.random() < 0.2 else list(files))
+        others = UNREADABLE[:-2] + [b"-"] * names_input
+        name = rng.choice(others if rng.random() < 0.2 else list(files))
         line = line_of(rng, name, files.get(name, b""))
         line = damage_line(rng, line) if rng.random() < share else line
         lines.append(b"x" if is_left_out(line) or not is_only and has_one_blank(line) else line)
@@ -186,7 +188,7 @@ def to_check(rng, folder, files):
         names.append(rng.choice([b"sums", b"my sums", b"s'ums", b"s\nums"]) + b"%d" % k)
         write(folder, names[-1], random_manifest(rng, files, count + reads_input == 1))
     if reads_input:
-        data = random_manifest(rng, files, not count)
+        data = random_manifest(rng, files, not count, True)
         names += [b"-"] if names else []
     if rng.random() < 0.1:
         names.append(rng.choice([b"missing", b"dir", b"secret", b"loop"]))
