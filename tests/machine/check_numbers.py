@@ -4,6 +4,7 @@ range, by its step too. No answer may be wrong, and no comparison that is true m
 
 from __future__ import annotations
 
+import math
 import operator
 import random
 from typing import Any, Callable
@@ -101,6 +102,18 @@ class Run:
         return self.questions
 
 
+def is_in(n: int, modulus: int, low: int, high: int, step: int) -> bool:
+    """Whether n, up to a multiple of a modulus, is one of low, low + step, .. up to high."""
+    first = low + (n - low) % modulus
+    if not step:
+        return first == low
+    shared = math.gcd(modulus, step)
+    if (first - low) % shared:
+        return False
+    times = (low - first) // shared * pow(modulus // shared, -1, step // shared) % (step // shared)
+    return first + times * modulus <= high
+
+
 class OfSecrets(Run):
     """A machine that follows secrets."""
 
@@ -142,10 +155,9 @@ class OfSecrets(Run):
     def check(self) -> None:
         """Looks at the range of each word, and of how it differs from another."""
         for t in self.words + [T.add(64, (1, t), (-1, self.rng.choice(self.words))) for t in self.words]:
-            n, (low, high, step) = self.value(t), self.machine.range_of(t)
-            found = range(n + (low - n + (1 << t.w) - 1 >> t.w << t.w), high + 1, 1 << t.w)
-            if not any((k - low) % step == 0 if step else k == low for k in found[:1 << 12]):
-                raise Wrong("%r is %#x, and not in %s" % (t, n, (low, high, step)))
+            n, found = self.value(t), self.machine.range_of(t)
+            if not is_in(n, 1 << t.w, *found):
+                raise Wrong("%r is %#x, and not in %s" % (t, n, found))
 
 
 class OfCalls(Run):
@@ -170,7 +182,6 @@ class OfCalls(Run):
         for t, n in m.path_facts.values().items() if rng.random() < 0.1 else ():
             if n.args != self.value(t):
                 raise Wrong("%r is %#x, not %r" % (t, self.value(t), n))
-
 
     def tell(self, a: T.Term, b: T.Term, n: int, k: int) -> None:
         """Learns the bounds of a difference, and that two places are apart, as a call begins with."""
