@@ -9,8 +9,8 @@ status is 1 if something failed. docs/MACHINE.md says what is shown and how to r
                                       instructions on the processor, and changes that must be refused
     tests/machine/check.py --long     also several messages and all cases of whole calls in all files, except those of
                                       BLAKE2X, all of which are shown in one; all rules and more runs of each
-                                      instruction, the types of the tool, and all changes that must be refused; the
-                                      same as VULFSJOR_TEST_HUGE=1
+                                      instruction, whole functions against hashlib, the types of the tool, and all
+                                      changes that must be refused; the same as VULFSJOR_TEST_HUGE=1
     tests/machine/check.py --forms    writes forms.txt, after a change of the files or the models
     tests/machine/check.py FILE..     only the proofs of these files, by their paths from the root, with all cases
 
@@ -33,6 +33,7 @@ from typing import Any, Callable, Iterator, NamedTuple
 
 import call_cases
 import changes
+import check_digests
 import check_instructions
 import check_numbers
 import check_specification
@@ -301,6 +302,9 @@ def tests_of_the_tool() -> Iterator[Job]:
     yield Job("no file is left out", None, all_files)
     yield from changes_of_the_code()
     if is_long():
+        for path in functions.FILES:
+            yield Job("%s: whole functions in the model agree with hashlib" % path, missing(path),
+                      lambda path=path: check_digests.check(path, 5))
         yield Job("the types of tests/machine", None if shutil.which("mypy") else "mypy", types)
 
 
