@@ -38,8 +38,9 @@ from typing import Callable, NamedTuple
 
 TOP = os.path.dirname(os.path.dirname(os.path.abspath(__file__)))
 sys.path.insert(0, os.path.join(TOP, "tests"))
+import b2_model  # noqa: E402
 from common import Parser, at_least  # noqa: E402
-from oracle import parallel_by_hashlib, tree_root, xof_output  # noqa: E402
+from oracle import SCALAR, parallel_by_hashlib, tree_root  # noqa: E402
 
 RESULTS = os.path.join(TOP, "bench", "results")
 PICTURE = os.path.join(TOP, "docs", "speed.svg")
@@ -551,7 +552,7 @@ def xof_table(turns):
     message, columns = bytearray(os.urandom(64)), []
     for letter, title in OUTPUTS:
         report_progress(f"timing outputs of {title}")
-        wanted = xof_output(letter, bytes(message), OUTPUT_BYTES)
+        wanted = b2_model.output(SCALAR[letter], OUTPUT_BYTES, b2_model.Input(bytes(message)))
         timers = {name: loop_timer(checked_loop(name, getattr(ctypes.CDLL(path), f"{prefix}blake2x{letter}"), message,
                                                 len(message), wanted)) for name, (path, prefix) in found.items()}
         best = best_of(turns * MEMORY_TURNS, timers)

@@ -118,8 +118,7 @@ if [ "$(uname -m)" = x86_64 ]; then
         skip "the crate vulfsjor over the build for x86-64-v3" "the choice is that build, or none"
     fi
     needs qemu-x86_64
-    check "the crate vulfsjor on other processors" \
-        cargo_here test --lib --test programs -- --ignored other_processors
+    check "the crate vulfsjor on other processors" cargo_here test --test programs -- --ignored other_processors
 fi
 needs_cross aarch64-unknown-linux-gnu aarch64-linux-gnu-gcc qemu-aarch64
 check "the crate vulfsjor on 64-bit ARM" cargo_cross $([ -n "${VULFSJOR_TEST_HUGE-}" ] && echo --lib --test bindings) \
@@ -134,17 +133,15 @@ needs
 check_huge "each call with more than 4 GiB" cargo_here test --test trees -- --ignored
 check_huge "the pages of cargo doc have no broken link" env RUSTDOCFLAGS="-D warnings" \
     cargo doc --no-deps --manifest-path "$top/Cargo.toml"
-check_debian "the crate vulfsjor-digest" digest=0.10 serde=1 hmac=0.12 hkdf=0.12 pbkdf2=0.11 -- \
-    cargo_debian rust-digest test --tests --features serde
+digest=(digest=0.10 serde=1 hmac=0.12 hkdf=0.12 pbkdf2=0.11)
+check_debian "the crate vulfsjor-digest" "${digest[@]}" -- cargo_debian rust-digest test --tests --features serde
 check_debian "wrong uses of vulfsjor-digest do not compile" digest=0.10 serde=1 -- \
     refused_lines rust-digest/tests/wrong_uses
-check_debian_huge "the examples in the documentation of vulfsjor-digest" digest=0.10 serde=1 hmac=0.12 \
-    hkdf=0.12 pbkdf2=0.11 -- cargo_debian rust-digest test --doc
-check_debian_huge "vulfsjor-digest without std" digest=0.10 serde=1 hmac=0.12 hkdf=0.12 pbkdf2=0.11 -- \
-    cargo_debian rust-digest check --no-default-features
-serde=(digest=0.10 hmac=0.12 hkdf=0.12 pbkdf2=0.11 serde=1 serde_derive=1 serde_json=1 bincode=1)
+check_debian_huge "the examples in the documentation of vulfsjor-digest" "${digest[@]}" -- \
+    cargo_debian rust-digest test --doc
+check_debian_huge "vulfsjor-digest without std" "${digest[@]}" -- cargo_debian rust-digest check --no-default-features
+serde=("${digest[@]}" serde_derive=1 serde_json=1 bincode=1)
 check_debian "vulfsjor-digest under the name blake2" "${serde[@]}" -- renamed_program
-check_debian_huge "digests by serde" "${serde[@]}" -- \
-    cargo_debian rust-digest/tests/renamed test
+check_debian_huge "digests by serde" "${serde[@]}" -- cargo_debian rust-digest/tests/renamed test
 check_debian_huge "the program rust/examples/rayon" rayon=1 -- rayon_example
 finish

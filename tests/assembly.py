@@ -8,16 +8,15 @@ message is compressed without vector registers and several messages with them. F
 eight messages has instructions of 512 bits, and each function clears those of the upper 16 vector registers that it
 uses, after a call with a key all of them.
 
-    tests/assembly.py [DIST]
-
-DIST is dist/ if it is left out.
+In the library a function that ends by `scrub_stack` overwrites all of the stack that the functions called by it may
+have used: the sizes in crates/blake2_ffi are at least what the frames there add up to. Functions of C (memcpy, memmove,
+memset) are left out, and so are `settle`, which reads what was overwritten, and the vector registers.
 """
-import os
+import functools
 import re
-import sys
 
 import tap
-from common import TOP, read
+from common import read
 
 # The files, the ends of their names, and what each calls from elsewhere.
 LIBRARY = {"memcpy", "memmove", "memset"}
@@ -53,6 +52,31 @@ LEAVES = [f"blake2_parallel..lanes..{it}p..Lanes..{what}" for it in FAMILIES for
 FOUR = "blake2_compress..many..blake2b..compress_blocks"
 EIGHT = "blake2_compress..many..blake2b..eight..compress_blocks"
 PARALLEL = {"v2": [], "v3": [FOUR], "v4": [FOUR, EIGHT], "arm": [FOUR]}
+# What a line takes from the stack: bytes, pages of 4,096 bytes, and for an alignment at most that less 1.
+TAKES = [(re.compile(r"pushq\t%\w+$"), lambda m: 8),
+         (re.compile(r"subq\t\$(\d+), %rsp$"), lambda m: int(m[1])),
+         (re.compile(r"andq\t\$-(\d+), %rsp$"), lambda m: int(m[1]) - 1),
+         (re.compile(r"st[pr]\t.*\[sp(?:\], #-(\d+)|, #-(\d+)\]!)$"), lambda m: int(m[1] or m[2])),
+         (re.compile(r"sub\t(?:sp|x\d+), sp, #(\d+)$"), lambda m: int(m[1])),
+         (re.compile(r"sub\tsp, sp, #(\d+), lsl #12$"), lambda m: int(m[1]) << 12),
+         (re.compile(r"and\tsp, x\d+, #0x(f+[0-9a-f]0)$"), lambda m: 2 ** 64 - int(m[1], 16) - 1)]
+# Lines that give back, or only read the stack pointer, and all that may change it.
+GIVES = re.compile(r"popq\t|addq\t\$\d+, %rsp$|leaq\t-\d+\(%rbp\), %rsp$|(ld[pr]|str)\t.*\[sp\], #\d+$"
+                   r"|add\tsp, sp, #\d+(, lsl #12)?$|(mov|sub)\tsp, x29(, #\d+)?$")
+CHANGES = re.compile(r"(push|pop|enter|leave)|.*, %[re]?spl?$|\w+\tw?sp\b|.*\[sp(, .*)?\]!|.*\[sp\], ")
+CALLS = re.compile(r"(callq|vj_call|bl)\t([a-z]\S*)$|(vj_jump|b|b\.\w+|j\w+)\t([a-z]\S*)$|(call|jmp\t\*|blr?\t|br\t).*")
+SCRUB = re.compile(r"blake2_digest\.\.wiping\.\.scrub_stack\.\.(\d+)_")
+# A program's jump to the library's build for the processor in each object format, by the level that choose.c has found.
+# Names begin with _ in Mach-O.
+CHOOSE = """.macro vj_choose name, v2, v3, v4
+\tvj_function\t{_}\\name
+\tcmpb\t$3, {_}vulfsjor_ffi_level(%rip)
+\tja\t{_}\\v4
+\tje\t{_}\\v3
+\tjmp\t{_}\\v2
+\tvj_end\t{_}\\name
+.endm
+"""
 # The number of the code, as it is in names.
 CODE = re.search(r'(?m)^#define CODE "(\d+)"$', read("c/choose.c"))[1]
 
@@ -71,30 +95,44 @@ def functions_of_text(lines):
     return found
 
 
+class Text:
+    """A file of dist/, and what is in it."""
+
+    def __init__(self, name, build):
+        self.text, self.name, self.build, self.end = read(f"dist/{name}"), name, build, f"{CODE}_{build}"
+        self.is_library, self.is_sums = "/vulfsjor" in name, "/b2sum" in name
+        self.code, self.outside = functions_of_text(self.text.split("\n")), set(OUTSIDE.findall(self.text))
+        # The functions of the library that hash for a program, or for both.
+        self.hashing = HASHING if "/b2." in name else sorted(HASHING + LEAVES)
+        self.called_hashing = {f"{it}_{self.end.replace('a64', 'arm')}" for it in self.hashing}
+
+    def after(self, macro):
+        """The operands of each line with a macro."""
+        return re.findall(rf"(?m)^\t{macro}\t(.*)", self.text)
+
+
 def count_vectors(code):
     return sum(bool(VECTOR.search(line.split("//")[0].split("\t", 2)[-1])) for line in code)
 
 
-def check_text(name, text, end):
+def check_text(it):
     """Whether each statement about a file holds, by its words."""
-    lines = text.split("\n")
-    code = functions_of_text(lines)
-    exported = [line.split("\t")[2] for line in lines if line.startswith(("\tvj_export\t", "\tvj_shared\t"))]
-    called, outside = set(CALL.findall(text)), set(OUTSIDE.findall(text))
+    text, code, end = it.text, it.code, it.end
+    exported, called = it.after("vj_export") + it.after("vj_shared"), set(CALL.findall(text))
     named = set(re.findall(r"[A-Za-z_][\w.]*", re.sub(f"{FUNCTION.pattern}|\tvj_end\t.*", "", text, flags=re.M)))
     labels = re.findall(r"(?m)^(\.L[^\t\n]*):$", text)
-    words = {line.split("\t")[1] for line in lines if line.startswith("\t.")}
+    words = set(re.findall(r"(?m)^\t(\.[^\t\n]*)", text))
     yield "each function ends in the number of the code and the build", (
-        code and all(it.endswith(f"_{end}") for it in code))
-    yield "so does the name of each constant", labels and all(it.startswith(f".L{end}_") for it in labels)
+        code and all(name.endswith(f"_{end}") for name in code))
+    yield "so does the name of each constant", labels and all(label.startswith(f".L{end}_") for label in labels)
     yield "each function is exported, or called or named by another", exported and code.keys() <= named | set(exported)
-    theirs = [OF_C.findall("\n".join(sorted(it))) for it in (outside, [it for it in exported if ".proved_" in it])]
+    theirs = [OF_C.findall("\n".join(sorted(names)))
+              for names in (it.outside, [name for name in exported if ".proved_" in name])]
     yield "C has three functions of b2sum, and calls the proved ones", theirs == [
-        ["disk..hide_memory", "disk..show_progress", "hashes..absorb_tree"] if "/b2sum" in name else []] * 2
-    hashing = {f"{it}_{end.replace('a64', 'arm')}" for it in hashing_of(name)}
-    yield "it calls what is there, and the C library", called <= code.keys() and LIBRARY - {"memmove"} <= outside <= (
-        hashing | {it for it in outside if OF_C.match(it)} | SUMS if "/b2sum" in name
-        else hashing | PROGRAM if "/b2" in name else hashing | LIBRARY)
+        ["disk..hide_memory", "disk..show_progress", "hashes..absorb_tree"] if it.is_sums else []] * 2
+    known = SUMS | set(filter(OF_C.match, it.outside)) if it.is_sums else LIBRARY if it.is_library else PROGRAM
+    yield "it calls what is there, and the C library", (
+        called <= code.keys() and LIBRARY - {"memmove"} <= it.outside <= it.called_hashing | known)
     yield "it has only directives that all systems have", words and words <= DIRECTIVES
     yield "no preprocessor changes a line", not PREPROCESSED.search(re.sub(r"(?m)\A.*|^\t\.asci.*", "", text))
     yield "it uses no red zone and no x18", not RESERVED.search(text) and not any(
@@ -102,39 +140,26 @@ def check_text(name, text, end):
         for body in code.values())
 
 
-def hashing_of(name):
-    """The functions of the library that hash for a program, or for both."""
-    return HASHING if "/b2." in name else sorted(HASHING + LEAVES)
-
-
-def check_hashing(name, text, build):
-    """Whether the programs hash by functions of the library, and of the build for the processor."""
-    lines = text.split("\n")
-    chosen = [line for line in lines if line.startswith("\tvj_choose\t")]
-    if "/vulfsjor" in name:
-        shared = [line.split("\t")[2] for line in lines if line.startswith("\tvj_shared\t")]
-        yield "the programs can call the functions that hash", not chosen and sorted(shared) == [
-            f"{it}_{CODE}_{build}" for it in hashing_of(name)]
+def check_hashing(it):
+    """Whether the programs hash by functions of the library, and of the build for the processor, and the library
+    compresses as many messages of BLAKE2b in parallel as is fastest."""
+    chosen = it.after("vj_choose")
+    if it.is_library:
+        yield "the programs can call the functions that hash", not chosen and sorted(it.after("vj_shared")) == [
+            f"{name}_{it.end}" for name in it.hashing]
+        found = sorted(name for name in it.code if name.startswith((FOUR, EIGHT)))
+        yield "it compresses as many messages of BLAKE2b in parallel as is fastest", found == [
+            f"{name}_{it.end}" for name in PARALLEL[it.build]]
         return
-    outside = set(OUTSIDE.findall(text))
-    hashing = {f"{it}_{CODE}_{build.replace('a64', 'arm')}" for it in hashing_of(name)}
-    yield "it has no compression, and calls those of the library", hashing <= outside and not any(
-        re.search(r"compress|hash_next|Lanes\.\.(outputs|update)", it) for it in functions_of_text(lines))
+    yield "it has no compression, and calls those of the library", it.called_hashing <= it.outside and not any(
+        re.search(r"compress|hash_next|Lanes\.\.(outputs|update)", name) for name in it.code)
     yield "each goes to the library's build for the processor", chosen == [
-        f"\tvj_choose\t{', '.join(f'{it}_{CODE}_{end}' for end in (build, *BUILDS))}"
-        for it in hashing_of(name) if build == "x86"]
+        ", ".join(f"{name}_{CODE}_{end}" for end in (it.build, *BUILDS)) for name in it.hashing if it.build == "x86"]
 
 
-def check_parallel(text, build):
-    """Whether as many messages of BLAKE2b are compressed in parallel as is fastest."""
-    found = sorted(it for it in functions_of_text(text.split("\n")) if it.startswith((FOUR, EIGHT)))
-    yield "it compresses as many messages of BLAKE2b in parallel as is fastest", found == [
-        f"{it}_{CODE}_{build}" for it in PARALLEL[build]]
-
-
-def check_arm(text):
+def check_arm(it):
     """Whether the compressions use the registers that they are to use."""
-    code = functions_of_text(text.split("\n"))
+    code = it.code
     for family in FAMILIES:
         one = [it for it in code if it.startswith(f"blake2_compress..compress..{family}..compress_{CODE}")]
         yield (f"{family}: one message is compressed without vector registers",
@@ -142,6 +167,44 @@ def check_arm(text):
         several = [it for it in code if it.startswith(f"blake2_compress..many..{family}..compress_blocks_{CODE}")]
         yield (f"{family}: several messages are compressed with them",
                len(several) == 1 and count_vectors(code[several[0]]) > 3000)
+
+
+def frame_of(lines):
+    """The most bytes that a function takes from the stack for itself."""
+    taken = 0
+    for line in lines:
+        found = [take(m) for form, take in TAKES if (m := form.match(line))]
+        if not found and CHANGES.match(line) and not GIVES.match(line):
+            raise ValueError(f"moves the stack pointer in an unknown way: {line}")
+        taken += sum(found)
+    return taken
+
+
+def calls_of(lines):
+    """The functions that a function calls, and those that it jumps to, after its frame is gone."""
+    for line in lines:
+        if (m := CALLS.match(line)) and m[5]:
+            raise ValueError(f"an unknown function: {line}")
+        if m:
+            yield m[2] or m[4], bool(m[2])
+
+
+def check_stack(it):
+    """Whether `scrub_stack` covers what was called before it. A line that moves the stack pointer in a way that is not
+    known here ends the program."""
+    bodies = {name: [line.strip() for line in lines] for name, lines in it.code.items()}
+    pushed = 8 * (it.build != "arm")  # the return address
+
+    @functools.lru_cache(maxsize=None)
+    def stack_reach(name):
+        frame = frame_of(bodies[name])
+        return max([frame, *(stack_reach(to) + is_call * (frame + pushed) for to, is_call in calls_of(bodies[name]))])
+
+    scrubs = {name: {to for to, _ in calls_of(lines) if SCRUB.match(to)} for name, lines in bodies.items()}
+    scrubbing = [name for name in bodies if scrubs[name] and not SCRUB.match(name)]
+    short = [(name, to) for name in scrubbing for to in {to for to, _ in calls_of(bodies[name])} - scrubs[name]
+             if stack_reach(to) + pushed > min(int(SCRUB.match(scrub)[1]) for scrub in scrubs[name])]
+    yield f"scrub_stack covers what was called before it{short[:3] or str()}", not short and len(scrubbing) > 40
 
 
 def before_returns(code):
@@ -156,33 +219,31 @@ def before_returns(code):
     return set.intersection(*found) if found else set()
 
 
-def check_upper(name, text):
+def check_upper(it):
     """Whether the code for AVX-512 leaves nothing in the upper vector registers."""
-    code = functions_of_text(text.split("\n"))
-    used = {it: {number for line in lines for number in UPPER.findall(line)} for it, lines in code.items()}
-    wide = f"{EIGHT}_{CODE}_v4"
+    code = it.code
+    used = {name: {number for line in lines for number in UPPER.findall(line)} for name, lines in code.items()}
+    wide = f"{EIGHT}_{it.end}"
     yield "only the compression of eight messages of BLAKE2b has instructions of 512 bits", [
-        it for it, lines in code.items() if any("%zmm" in line for line in lines)] == [wide]
+        name for name, lines in code.items() if any("%zmm" in line for line in lines)] == [wide]
     yield "it has little else, and keeps its rows in registers", 1300 < sum(
         "%zmm" in line for line in code.get(wide, [])) < 1700
     yield "each function clears the upper registers that it uses", all(
-        used[it] <= before_returns(code[it]) for it in code) and any(used.values())
-    keyed = [it for it in code if "wiping..scrub_stack.." in it]
-    yield "what ends a call with a key clears all of them", len(keyed) >= 8 * ("/vulfsjor" in name) and all(
-        len(before_returns(code[it])) == 16 for it in keyed)
+        used[name] <= before_returns(code[name]) for name in code) and any(used.values())
+    keyed = [name for name in code if "wiping..scrub_stack.." in name]
+    yield "what ends a call with a key clears all of them", len(keyed) >= 8 and all(
+        len(before_returns(code[name])) == 16 for name in keyed)
 
 
 def main():
-    dist = sys.argv[1] if len(sys.argv) > 1 else os.path.join(TOP, "dist")
+    for system, underscore in (("elf", ""), ("macho", "_"), ("coff", "")):
+        tap.result(CHOOSE.format(_=underscore) in read(f"dist/x86_64/{system}.inc"),
+                   f"{system}.inc: a program jumps to the right build")
     for name, build in TEXTS.items():
-        with open(os.path.join(dist, name), encoding="utf-8") as file:
-            text = file.read()
-        is_library = "/vulfsjor" in name
-        checks = [*check_text(name, text, f"{CODE}_{build}"), *check_hashing(name, text, build),
-                  *(check_parallel(text, build) if is_library else []),
-                  *(check_arm(text) if is_library and build == "arm" else []),
-                  *(check_upper(name, text) if build == "v4" else [])]
-        for words, holds in checks:
+        it = Text(name, build)
+        checks = [check_text, check_hashing, *([check_stack] if it.is_library else []),
+                  *([check_arm] if build == "arm" else []), *([check_upper] if build == "v4" else [])]
+        for words, holds in (statement for check in checks for statement in check(it)):
             tap.result(holds, f"{name}: {words}")
     tap.finish()
 

@@ -260,9 +260,10 @@ def options(words, names):
     return given
 
 
-def leaf_length_of(digits):
-    length = decimal_number(digits, 10)
-    if not length or length >= 2**32:
+def length_below(end, words):
+    """The length that the first of these words gives: a number from 1 on and below this one."""
+    length = decimal_number(words[0] if words else "", 10)
+    if not length or length >= end:
         raise Fault("wrong words")
     return length
 
@@ -277,7 +278,7 @@ def tree_of(leaf_length, words):
 
 def part_lines(words, source):
     """The lines of `leaves`."""
-    leaf_length = leaf_length_of(words[0] if words else "")
+    leaf_length = length_below(2**32, words)
     first = decimal_number(words[1], 18) if len(words) > 1 else None
     if first is None or len(words) < 3 or words[2] not in ("more", "last"):
         raise Fault("wrong words")
@@ -301,22 +302,15 @@ def line_digests(data):
 
 def root_line(command, size, words, source):
     """The line of `tree` or `root`, by the arguments after KIND."""
-    tree = tree_of(leaf_length_of(words[0] if words else ""), words[1:])
+    tree = tree_of(length_below(2**32, words), words[1:])
     data = source()
     digests = line_digests(data) if command == "root" else leaf_digests(tree, 0, True, data)
     return root_over(tree, size, digests).hex()
 
 
-def output_length(family, digits):
-    length = decimal_number(digits, 10)
-    if not length or length >= unknown_length(family):
-        raise Fault("wrong words")
-    return length
-
-
 def derived(words, source):
     """The line of `derive`."""
-    length = output_length(B, words[0] if words else "")
+    length = length_below(unknown_length(B), words)
     if len(words) != 2:
         raise Fault("wrong words")
     key = source()
@@ -383,7 +377,7 @@ def lines(words, source):
     if command in ("tree", "root"):
         return [root_line(command, size, rest, source)]
     if command == "xof":
-        length = output_length(family, rest.pop(0) if rest else "")
+        length, rest = length_below(unknown_length(family), rest), rest[1:]
     given = Input(b"", **options(rest, ("key", "salt", "persona")))
     if max(len(given.salt), len(given.persona)) > family.salt or given.key is not None and not (
             1 <= len(given.key) <= family.key):

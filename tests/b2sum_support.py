@@ -21,20 +21,18 @@ FILES = {"a": b"", "b": b"abc", "with\nline": b"x" * 1000, "caf\udcff": bytes(ra
 @contextlib.contextmanager
 def programs(given, name="b2sum"):
     """The programs at these paths or, if there are none, those of dist/ that this processor runs, assembled in a folder
-    that each user can read."""
-    folder = tempfile.mkdtemp()
-    os.chmod(folder, 0o755)
-    try:
+    that each user can read, and the `b2` that `rt ci` has built."""
+    with tempfile.TemporaryDirectory() as folder:
+        os.chmod(folder, 0o755)
         if not given and not shutil.which("cc"):
             tap.result(True, f"the program {name} of dist/", skipped="no C compiler cc")
         elif not given:
             done = subprocess.run(["bash", "-c", ASSEMBLE, TOP, folder, name], stdout=subprocess.PIPE,
-                stderr=subprocess.STDOUT)
+                                  stderr=subprocess.STDOUT)
             tap.result(done.returncode == 0, f"the program {name} in dist/ is assembled", done.stdout.decode())
             given = sorted(it.path for it in os.scandir(folder) if it.is_file() and os.access(it.path, os.X_OK))
+            given += [os.path.join(TOP, "crates", "b2", "out", "b2")] * (name == "b2" and "RT_CI" in os.environ)
         yield [os.path.abspath(program) for program in given]
-    finally:
-        shutil.rmtree(folder)
 
 
 class Runs:
@@ -66,13 +64,10 @@ class Runs:
     def wants(self, words, out, err="", status=0, data=b"", **more):
         """A run that has to print these texts and end with this status. Each line of `err` is a message."""
         err = b"".join(b"b2sum: " + os.fsencode(line) + b"\n" for line in err.splitlines())
-        if "Try" in more:
+        if more.pop("Try", False):
             err += b"Try 'b2sum --help' for more information.\n"
-            del more["Try"]
         wanted, got = (os.fsencode(out), err, status), self.run(words, data, **more)
-        self.count += 1
-        if got != wanted:
-            self.wrong.append(f"{words}\n  wanted {wanted}\n  got    {got}")
+        self.holds(f"{words}\n  wanted {wanted}", got == wanted, got)
 
     def run_within(self, kib, words, data=b""):
         """A run in this many KiB of address space."""
@@ -107,10 +102,17 @@ def escaped(name):
 
 @functools.cache
 def digest(family, data, size, **parameters):
-    """The digest of a family, such as "b" of BLAKE2b and "bp" of BLAKE2bp."""
+    """The digest of a family, such as "b" of BLAKE2b, "bp" of BLAKE2bp, "tree-4" of trees with leaves of 4 bytes."""
     if family in ("bp", "sp"):
         return parallel_digest(family[0], data, size, **parameters)
+    if family.startswith("tree-"):
+        return tree_root(data, int(family[5:]), size, **parameters)
     return getattr(hashlib, "blake2" + family)(data, digest_size=size, **parameters).digest()
+
+
+def longest(family):
+    """The bits of the longest digest of a family."""
+    return 256 if family[0] == "s" else 512
 
 
 def needs_of_tag(key=b"", salt=b"", person=b""):
@@ -119,13 +121,12 @@ def needs_of_tag(key=b"", salt=b"", person=b""):
 
 
 def line(name, data, bits=512, family="b", mark=" ", tag=False, **parameters):
-    """The line of a file."""
+    """The line of a file. That of a root is always tagged."""
     digits = digest(family, data, bits // 8, **parameters).hex()
     start = "\\" if escaped(name) != name else ""
-    if tag:
-        longest = 512 if family[0] == "b" else 256
-        tag = f"BLAKE2{family}{needs_of_tag(**parameters)}{'' if bits == longest else f'-{bits}'}"
-        return f"{start}{tag} ({escaped(name)}) = {digits}\n"
+    if tag or family.startswith("tree-"):
+        tag = f"BLAKE2{'b-' * family.startswith('tree-')}{family}{needs_of_tag(**parameters)}"
+        return f"{start}{tag}{'' if bits == longest(family) else f'-{bits}'} ({escaped(name)}) = {digits}\n"
     return f"{start}{digits} {mark}{escaped(name)}\n"
 
 
@@ -143,24 +144,19 @@ def lines(**more):
     return "".join(line(name, data, **more) for name, data in FILES.items())
 
 
-root = functools.cache(tree_root)
-
-
 def root_line(name, data, leaf, bits=512, **texts):
     """The line of the root of a tree."""
-    tag = f"BLAKE2b-tree-{leaf}{needs_of_tag(**texts)}{'' if bits == 512 else f'-{bits}'}"
-    return f"{tag} ({name}) = {root(data, leaf, bits // 8, **texts).hex()}\n"
+    return line(name, data, bits, f"tree-{leaf}", **texts)
 
 
 def run_tests(tests, others=(), faulty=()):
     """Runs tests of the programs that the command line names, or of those of dist/: all of them for the first program,
     and the others for the rest. The faulty ones need the library FAULTS, which is built first."""
-    work = tempfile.mkdtemp()
-    os.environ["FAULTS"] = os.path.join(work, "faults.so")
-    has_faults = not faulty or shutil.which("cc") and subprocess.run(
-        ["cc", "-shared", "-fPIC", "-O1", "-Wl,-z,now", os.path.join(TOP, "tests", "b2sum_faults.c"), "-o",
-         os.environ["FAULTS"]], stdout=subprocess.DEVNULL).returncode == 0
-    with programs(sys.argv[1:]) as built:
+    with tempfile.TemporaryDirectory() as work, programs(sys.argv[1:]) as built:
+        os.environ["FAULTS"] = os.path.join(work, "faults.so")
+        has_faults = not faulty or shutil.which("cc") and subprocess.run(
+            ["cc", "-shared", "-fPIC", "-O1", "-Wl,-z,now", os.path.join(TOP, "tests", "b2sum_faults.c"), "-o",
+             os.environ["FAULTS"]], stdout=subprocess.DEVNULL).returncode == 0
         for number, program in enumerate(built):
             for test in others if number else tests:
                 if test in faulty and not has_faults:
@@ -168,5 +164,4 @@ def run_tests(tests, others=(), faulty=()):
                     continue
                 with tempfile.TemporaryDirectory() as folder:
                     test(Runs(program, folder))
-    shutil.rmtree(work)
     tap.finish()

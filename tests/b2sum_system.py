@@ -8,10 +8,10 @@ Only the first program is tested: the others are the same program, with older bu
 
 usage: tests/b2sum_system.py [PROGRAM..]
 """
+import contextlib
 import errno
-import functools
-import hashlib
 import itertools
+import mmap
 import os
 import random
 import select
@@ -28,27 +28,6 @@ CALLS = {"readv": errno.EIO, "openat": errno.EACCES, "write": errno.ENOSPC, "mal
 # that of a reset.
 MOST_COPIES = {"b": 3, "s": 3, "bp": 6, "sp": 10}
 NAME_REQUESTS = 3  # for memory, before the name of the program is known
-
-zeros = functools.cache(bytes)
-
-
-class Marked:
-    """This many zero bytes, except for a one at some offsets. Slices of zeros of one length are one object."""
-
-    def __init__(self, size, marks):
-        self.size, self.marks = size, marks
-
-    def __len__(self):
-        return self.size
-
-    def __getitem__(self, part):
-        some = range(*part.indices(self.size))
-        data, found = zeros(len(some)), [at - some.start for at in self.marks if at in some]
-        if found:
-            data = bytearray(data)
-            for at in found:
-                data[at] = 1
-        return data
 
 
 def scan_memory(runs, words, key, call, at):
@@ -91,8 +70,11 @@ def test_secrets(runs):
     runs.ends("keys in memory")
 
 
-def stop_process(process):
-    """Ends a process, which waits for a reader of its pipe if there was none."""
+@contextlib.contextmanager
+def filled_pipe(runs, name, commands):
+    """Commands of a shell write to a pipe, and are ended: they wait for a reader if there was none."""
+    process = subprocess.Popen(["sh", "-c", f"exec >{name}; {commands}"], cwd=runs.folder)
+    yield
     process.kill()
     process.wait()
 
@@ -107,8 +89,7 @@ def test_system(runs):
     reasons = {"none": errno.ENOENT, "dir": errno.EISDIR, "loop": errno.ELOOP, "a/x": errno.ENOTDIR,
                "folder": errno.EISDIR, "dangling": errno.ENOENT, "link/": errno.ENOTDIR,
                "n" * 256: errno.ENAMETOOLONG, "n" * 131071: errno.ENAMETOOLONG, "x/" * 2050: errno.ENAMETOOLONG,
-               "socket": errno.ENXIO,
-               "/proc/self/mem": errno.EIO, "": errno.ENOENT}
+               "socket": errno.ENXIO, "/proc/self/mem": errno.EIO, "": errno.ENOENT}
     for name, error in reasons.items():
         shown = name or "''"
         runs.wants(["b", name, "a"], line("b", b"abc") + line("a", b""), f"{shown}: {os.strerror(error)}", 1)
@@ -117,8 +98,7 @@ def test_system(runs):
                        "WARNING: 1 listed file could not be read", 1,
                        os.fsencode(line(name, b"abc") + line("b", b"abc")))
             said = "read error" if error in (errno.EISDIR, errno.EIO) else os.strerror(error)
-            runs.wants(["-c", name], "", f"{name}: {said}",
-                       1)
+            runs.wants(["-c", name], "", f"{name}: {said}", 1)
     runs.wants(["link", "dir/../b"], line("link", b"abc") + line("dir/../b", b"abc"))
     for name in ("/dev/null", "/" * 4086 + "/dev/null"):
         runs.wants([name], line(name, b""))
@@ -131,12 +111,10 @@ def test_system(runs):
     runs.wants(["b", "-"], line("b", b"abc"), f"-: {os.strerror(errno.EBADF)}\nstandard input: "
                f"{os.strerror(errno.EBADF)}", 1, stdin=None, preexec_fn=lambda: os.close(0))
     os.mkfifo(runs.path("pipe"))
-    writer = subprocess.Popen(["sh", "-c", "exec >pipe; printf ab; sleep 0.3; printf c"], cwd=runs.folder)
-    runs.wants(["pipe"], line("pipe", b"abc"))
-    stop_process(writer)
-    writer = subprocess.Popen(["sh", "-c", "exec >pipe; cat a b"], cwd=runs.folder)
-    runs.wants(["--tree", "2", "pipe"], root_line("pipe", b"abc", 2))
-    stop_process(writer)
+    with filled_pipe(runs, "pipe", "printf ab; sleep 0.3; printf c"):
+        runs.wants(["pipe"], line("pipe", b"abc"))
+    with filled_pipe(runs, "pipe", "cat a b"):
+        runs.wants(["--tree", "2", "pipe"], root_line("pipe", b"abc", 2))
     server.close()
     runs.ends("what cannot be read, pipes and devices")
 
@@ -194,6 +172,7 @@ def test_called(runs):
     usage, version = (runs.run([word])[0] for word in ("--help", "--version"))
     first = b"Usage: b2sum [OPTION].. [FILE]..\n"
     runs.holds("the usage", usage.startswith(first) and usage.count(b"b2sum") == 1, usage)
+    runs.holds("the version", b"b2sum" in version, version)
     missing, no_space = (os.strerror(it).encode() for it in (errno.ENOENT, errno.ENOSPC))
     for path, name in (("vulfsjor-b2sum", b""), ("/usr/bin/vulfsjor-b2sum", b"vulfsjor-b2sum"),
                        ("./b2sum.exe", b"b2sum.exe"), ("a b/c\n\udcff d", b"c\n\xff d"), ("//s", b"s"),
@@ -286,9 +265,8 @@ def test_progress(runs):
     for words, wanted, parameters in ((["--progress"], shown, {}), (["--prog", "--tag"], shown, {"tag": True}),
                                       (["--key-file", "--prog"], b"", {"key": b"k"}), ([], b"", {})):
         terminal, end = os.openpty()
-        writer = subprocess.Popen(["sh", "-c", "exec >slow; printf ab; sleep 0.7; printf c"], cwd=runs.folder)
-        runs.wants([*words, "slow"], line("slow", b"abc", **parameters), stderr=end)
-        stop_process(writer)
+        with filled_pipe(runs, "slow", "printf ab; sleep 0.7; printf c"):
+            runs.wants([*words, "slow"], line("slow", b"abc", **parameters), stderr=end)
         os.write(end, b"end")
         got = b""
         while not got.endswith(b"end"):
@@ -296,9 +274,8 @@ def test_progress(runs):
         runs.holds(words, got == wanted + b"end", got)
         os.close(terminal)
         os.close(end)
-    writer = subprocess.Popen(["sh", "-c", "exec >slow; printf ab; sleep 0.7; printf c"], cwd=runs.folder)
-    runs.wants(["--progress", "slow"], line("slow", b"abc"))  # to no terminal
-    stop_process(writer)
+    with filled_pipe(runs, "slow", "printf ab; sleep 0.7; printf c"):
+        runs.wants(["--progress", "slow"], line("slow", b"abc"))  # to no terminal
     runs.ends("progress")
 
 
@@ -309,15 +286,13 @@ def test_large(runs):
                "WARNING: 1 listed file could not be read", 1, os.fsencode(line(long_name, b"") + line("b", b"abc")))
     if HUGE:
         # Marks on both sides of 4 GiB, and at each MiB after it, so that no two pieces there are the same.
-        size, state = (1 << 32) + (40 << 20) + 4097, hashlib.blake2b()
-        data = Marked(size, [5, (1 << 32) - 1, *((1 << 32) + (i << 20) + 3 * i for i in range(40)), size - 1])
-        with open(runs.path("sparse"), "wb") as file:
+        size = (1 << 32) + (40 << 20) + 4097
+        with open(runs.path("sparse"), "w+b") as file:
             file.truncate(size)
-            for at in data.marks:
+            for at in (5, (1 << 32) - 1, *((1 << 32) + (i << 20) + 3 * i for i in range(40)), size - 1):
                 os.pwrite(file.fileno(), b"\1", at)
-        for at in range(0, size, 1 << 20):
-            state.update(data[at:at + (1 << 20)])
-        runs.wants(["sparse"], f"{state.hexdigest()}  sparse\n", timeout=1000)
+            data = mmap.mmap(file.fileno(), 0, access=mmap.ACCESS_READ)
+        runs.wants(["sparse"], line("sparse", data), timeout=1000)
         runs.wants(["--tree", "1048576", "sparse"], root_line("sparse", data, 1 << 20), timeout=1000)
         os.remove(runs.path("sparse"))
     runs.ends(f"a long line{' and a file beyond 4 GiB' if HUGE else ''}")
@@ -330,20 +305,16 @@ def test_memory(runs):
     high = runs.least_room(["a"], (line("a", b"").encode(), b"", 0))
     with open(runs.path("large"), "wb") as file:
         file.truncate(64 << 20)
-    got = runs.run_within(high + 64, ["large"])
-    runs.holds("64 MiB", got == (os.fsencode(line("large", bytes(64 << 20))), b"", 0), got)
-    manifest = os.fsencode("# comment\n" * 400000 + line("b", b"abc"))
-    got = runs.run_within(high + 192, ["-c"], manifest)
-    runs.holds("a manifest of 4 MB", got == (b"b: OK\n", b"", 0), got)
-    got = runs.run_within(high + 192, ["-c"], b"y\n" * (1 << 20))
-    runs.holds("lines of yes",
-               got == (b"", b"b2sum: 'standard input': no properly formatted checksum lines found\n", 1),
-               got)
-    manifest = os.fsencode("#" * (1 << 22) + "\n" + line("b", b"abc"))
-    got = runs.run_within(high + 192 + 2 * len(manifest) // 1024, ["-c"], manifest)
-    runs.holds("a line of 4 MiB", got == (b"b: OK\n", b"", 0), got)
-    got = runs.run_within(high + len(manifest) // 1024, ["-c"], manifest)
-    runs.holds("with less", got == (b"", b"b2sum: memory exhausted\n", 1), got)
+    comments = os.fsencode("# comment\n" * 400000 + line("b", b"abc"))
+    long_line = os.fsencode("#" * (1 << 22) + "\n" + line("b", b"abc"))
+    kib = len(long_line) >> 10
+    for more, words, data, out, said in (
+            (64, ["large"], b"", line("large", bytes(64 << 20)), ""), (192, ["-c"], comments, "b: OK\n", ""),
+            (192, ["-c"], b"y\n" * (1 << 20), "", "'standard input': no properly formatted checksum lines found"),
+            (192 + 2 * kib, ["-c"], long_line, "b: OK\n", ""), (kib, ["-c"], long_line, "", "memory exhausted")):
+        got = runs.run_within(high + more, words, data)
+        wanted = os.fsencode(out), f"b2sum: {said}\n".encode() if said else b"", int(bool(said))
+        runs.holds([more, words], got == wanted, got)
     runs.ends("memory")
 
 

@@ -41,10 +41,3 @@ def at_least(least):
             raise argparse.ArgumentTypeError(f"{text!r} is not a whole number of at least {least}")
         return int(text)
     return whole_number
-
-
-def program(path):
-    """Reads an argument that names a program."""
-    if not os.access(path, os.X_OK) or os.path.isdir(path):
-        raise argparse.ArgumentTypeError(f"{path!r} is not a program")
-    return os.path.abspath(path)

@@ -5,10 +5,14 @@ are cases too.
 
 For each command it runs random cases from one seed: arguments in random order and case, arguments that are wrong,
 missing or too many, arguments that are not UTF-8, inputs around every boundary, scripts with wrong lines and bad calls,
-and an input that can't be read. Status and output have to be the same; what `sum`, `tree`, `leaves` and `root` print is
-compared with hashlib too.
+and an input that can't be read. Status and output have to be the same, and the usage follows on standard error only
+after wrong words or digits. tests/oracle.py compares the model with hashlib.
 
-usage: tests/compare_b2_model.py --program PATH [--cases N] [--seed N] [--unicode]
+Without --program it compares those of dist/ that this processor runs; all but the first, which are the same program
+with older builds of the library, in a tenth of the cases. With --unicode it passes only Unicode, as Windows does, and
+does not look at standard error.
+
+usage: tests/compare_b2_model.py [--program PATH] [--cases N] [--unicode]
 """
 import hashlib
 import os
@@ -19,10 +23,14 @@ import subprocess
 
 import tap
 from b2_model import B, S, Input, Place, entries, parameter_words, read, run
-from common import FAMILIES, KINDS, TOP, Parser, at_least, program
+from b2sum_support import programs
+from common import FAMILIES, KINDS, TOP, Parser, at_least
 from common import read as read_file
-from oracle import range_digests, root_of_leaves, tree_root
+from oracle import tree_root
 
+HUGE = bool(os.environ.get("VULFSJOR_TEST_HUGE"))
+NOTES = re.compile(rb"(usage: b2 .*|b2: a command is missing|b2: the first argument is not a command)\n"
+                   rb"Try 'b2 --help' for more information\.\n")
 COMMANDS = ("sum", "steps", "script", "witness", "tree", "leaves", "root", "xof", "derive")
 
 
@@ -70,11 +78,12 @@ class Dice(random.Random):
         while self.random() < 0.12:
             place = self.randrange(len(words) + 1)
             other = self.choice([*words, "", "foo", "key", "key=01", "salt=", "persona=00", "persona-text=", "=",
-                                 "b512", "S256", "-", "61", "xs"])
+                                 "b512", "S256", "-", "61", "xs", "-h", "--help"])
             if self.random() < 0.4:
                 words.insert(place, other)
             elif place < len(words):
                 words[place:place + 1] = self.choice([[], [other], [words[place].upper()], [words[place] + "="]])
+        words += ["5"] * self.mostly(0, 1, 9)
         given = [word.encode() for word in words]
         if given and self.random() < 0.02:
             given[self.randrange(len(given))] += self.choice([b"\xff", b"\xc3(", b"\xed\xa0\x80"])
@@ -181,33 +190,23 @@ def unreadable_input():
     raise IsADirectoryError
 
 
-def run_program(path, words, message):
-    """The status and the output of the program; None is an input whose reads fail."""
+def has_right_notes(output, notes):
+    """Whether the usage, or what is wrong with the command, follows wrong words and digits, and nothing else."""
+    return bool(NOTES.fullmatch(notes)) if output in (b"b2: wrong words\n", b"b2: wrong hex\n") else not notes
+
+
+def run_program(path, words, message, looks_at_notes=True):
+    """The status and the output of the program, or what it wrote to standard error if that is wrong; None is an input
+    whose reads fail."""
     folder = os.open(TOP, os.O_RDONLY)
     try:
         given = {"stdin": folder} if message is None else {"input": message}
-        done = subprocess.run([path, *words], stdout=subprocess.PIPE, **given)
+        done = subprocess.run([path, *words], capture_output=True, **given)
     finally:
         os.close(folder)
+    if looks_at_notes and not has_right_notes(done.stdout, done.stderr):
+        return done.stderr
     return done.returncode, done.stdout
-
-
-def of_hashlib(words, message):
-    """What `sum`, `tree`, `leaves` or `root` prints with these words, which are right, by hashlib."""
-    words = [word.decode() for word in words]
-    given = {}
-    for name, value in (word.split("=", 1) for word in words if "=" in word):
-        given[name.removesuffix("-text")] = value.encode() if name == "persona-text" else bytes.fromhex(value)
-    named = {"salt": given.get("salt", b""), "person": given.get("persona", b"")}
-    if words[0] == "leaves":
-        digests = range_digests(message, int(words[1]), int(words[2]), words[3] == "last", **named)
-        return "\n".join(digests[i:i + 64].hex() for i in range(0, len(digests), 64))
-    family, named["digest_size"] = KINDS[words[1]]
-    if words[0] == "tree":
-        return tree_root(message, int(words[2]), **named).hex()
-    if words[0] == "root":
-        return root_of_leaves(bytes.fromhex(message.decode()), int(words[2]), **named).hex()
-    return FAMILIES[family].function(message, key=given.get("key", b""), **named).hexdigest()
 
 
 def printed(words, message=b""):
@@ -275,32 +274,37 @@ def compare_cases(path, dice, command, cases, unicode):
         if unicode and any(word != word.decode(errors="replace").encode() for word in words):
             continue
         wanted = run(words, unreadable_input if message is None else lambda: message)
-        if command in ("sum", "tree", "leaves", "root") and wanted[0] == 0:
-            wanted = 0, of_hashlib(words, message).encode() + b"\n"
-        found = run_program(path, words, message)
+        found = run_program(path, words, message, not unicode)
         if found != wanted:
             wrong.append(f"case {number}: b2 {words} over {message!r}\ngave {found}\nwanted {wanted}")
         statuses.add(wanted[0])
-    tap.result(not wrong and len(statuses) > 1, f"{cases} cases of {command}", "\n".join(wrong))
+    tap.result(not wrong and len(statuses) > 1, f"{os.path.basename(path)}: {cases} cases of {command}",
+               "\n".join(wrong))
 
 
-def main():
-    parser = Parser(description=__doc__.split("\n\n")[0])
-    parser.add_argument("--program", type=program, required=True, help="the program")
-    parser.add_argument("--cases", type=at_least(1), default=300, help="how many runs of each command (300)")
-    parser.add_argument("--seed", type=at_least(0), default=7693, help="of the random inputs (7693)")
-    parser.add_argument("--unicode", action="store_true", help="pass only Unicode, as Windows does")
-    given = parser.parse_args()
+def compare_page():
+    """Compares the worked values of docs/SPECIFICATION.md."""
     page = " ".join(read_file("docs/SPECIFICATION.md").split())
     wrong = [f"{name}: {found}, and not {wanted} and {words!r}" for name, found, wanted, words in worked_examples()
              if found != wanted or words not in page]
     tap.result(not wrong, "the worked values of docs/SPECIFICATION.md", "\n".join(wrong))
-    for line, words, message in examples_of_page():
-        wanted = run(words, lambda: message)
-        tap.result(wanted[0] == 0 and run_program(given.program, words, message) == wanted, line)
-    dice = Dice(given.seed)
-    for command in COMMANDS:
-        compare_cases(given.program, dice, command, given.cases, given.unicode)
+
+
+def main():
+    parser = Parser(description=__doc__.split("\n\n")[0])
+    parser.add_argument("--program", help="the program")
+    parser.add_argument("--cases", type=at_least(1), default=300 if HUGE else 80, help="how many runs of each command")
+    parser.add_argument("--unicode", action="store_true", help="pass only Unicode, as Windows does")
+    given = parser.parse_args()
+    compare_page()
+    with programs([given.program] if given.program else [], "b2") as built:
+        for number, path in enumerate(built):
+            for line, words, message in examples_of_page():
+                wanted = run(words, lambda: message)
+                tap.result(wanted[0] == 0 and run_program(path, words, message, not given.unicode) == wanted, line)
+            dice = Dice(7693 + number)
+            for command in COMMANDS:
+                compare_cases(path, dice, command, given.cases // 10 if number else given.cases, given.unicode)
     tap.finish()
 
 

@@ -7,8 +7,8 @@
 - some of them with standard input closed;
 - manifests with lines of many forms, and each length that `-l` may have, without VULFSJOR_TEST_HUGE only some with
   `--tag`;
-- random ones, over files with names of any bytes and manifests with damaged lines: RUNS of them for each program, by
-  default 200, and 5,000 if VULFSJOR_TEST_HUGE is set.
+- random ones, over files with names of any bytes and manifests with damaged lines: 200 of them for each program, and
+  5,000 if VULFSJOR_TEST_HUGE is set.
 
 Only the first program has others than random ones, and the others have a tenth of those: they are the same program,
 with older builds of the library.
@@ -18,7 +18,7 @@ which this test avoids and tests/b2sum_files.py checks. It compares with coreuti
 With --by each PROGRAM is one for Windows, which the command COMMAND runs; then it compares every Nth command line of
 options, and every Nth manifest whose names Windows has too.
 
-usage: tests/compare_coreutils.py [--runs RUNS] [--seed SEED] [--by COMMAND] [--every N] [PROGRAM..]
+usage: tests/compare_coreutils.py [--by COMMAND] [--every N] [PROGRAM..]
 """
 import argparse
 import concurrent.futures
@@ -30,6 +30,7 @@ import shutil
 import subprocess
 import tempfile
 
+import b2sum_support
 import tap
 from b2sum_support import programs
 
@@ -106,22 +107,11 @@ def make_files(rng, folder):
 
 # ---- Manifests.
 
-def escaped_name(name):
-    """The name as a line of a manifest has it, and what begins such a line."""
-    for byte, text in ((b"\\", b"\\\\"), (b"\n", b"\\n"), (b"\r", b"\\r")):
-        name = name.replace(byte, text)
-    return name
-
-
 def line_of(rng, name, data):
     """A line of a manifest for a file of this name, in one of three styles."""
-    size = rng.choice([64, 64, rng.randint(1, 64)])
-    digits = hashlib.blake2b(data, digest_size=size).hexdigest().encode()
-    start = b"\\" if escaped_name(name) != name else b""
-    if rng.random() < 0.3:
-        tag = b"BLAKE2b" + (b"" if size == 64 else b"-%d" % (8 * size))
-        return start + tag + b" (" + escaped_name(name) + b") = " + digits
-    return start + digits + rng.choice([b"  ", b" *"]) + escaped_name(name)
+    bits = rng.choice([512, 512, 8 * rng.randint(1, 64)])
+    return os.fsencode(b2sum_support.line(
+        os.fsdecode(name), data, bits, mark=rng.choice(" *"), tag=rng.random() < 0.3).removesuffix("\n"))
 
 
 def damage_line(rng, line):
@@ -317,8 +307,6 @@ def compare(program, pool, title, runs_in, *given):
 
 def main():
     parser = argparse.ArgumentParser()
-    parser.add_argument("--runs", type=int, default=5000 if HUGE else 200)
-    parser.add_argument("--seed", type=int, default=1)
     parser.add_argument("--by")
     parser.add_argument("--every", type=int, default=1)
     parser.add_argument("program", nargs="*")
@@ -341,11 +329,9 @@ def main():
                 compare(program, pool, options, option_runs, 1 if HUGE else 4)
                 compare(program, pool, "command lines without standard input", closed_runs)
                 compare(program, pool, forms, form_runs, False, 1)
-            runs = given.runs if number == 0 else given.runs // 10
-            seeds = range(given.seed * 1000003, given.seed * 1000003 + runs)
-            said = list(filter(None, pool.map(lambda seed: random_run(program, seed), seeds)))
-            tap.result(not said, f"{program}: {runs} random command lines, from seed {given.seed} on",
-                       f"{len(said)} differ\n" + "".join(said[:9]))
+            runs = (5000 if HUGE else 200) // (10 if number else 1)
+            said = list(filter(None, pool.map(lambda seed: random_run(program, seed), range(runs))))
+            tap.result(not said, f"{program}: {runs} random command lines", f"{len(said)} differ\n" + "".join(said[:9]))
     tap.finish()
 
 

@@ -1,18 +1,13 @@
 #!/usr/bin/env bash
 # Tests tools/dist.sh without the toolchain: in a small repository, what `current` finds and what it
-# leaves out, and what the scripts refuse that make the texts. tests/dist_is_proved.sh makes all of dist/ and
-# compares it.
+# leaves out, and what the programs share with the library. tests/dist_is_proved.sh makes all of dist/
+# and compares it, tests/generated.sh sees a change of a script that makes a text, and
+# tests/assembly.py looks at the texts.
 set -u
 source "$(dirname "$(readlink -f "$0")")/tap.sh"
 shown=("$work/shown")
-has python3 || { skip "the script that makes dist/" "no python3"; finish; }
-
-# Python starts in half the time without packages, which these scripts do not use.
-mkdir "$work/python"
-printf '#!/bin/sh\nexec "%s" -S -E "$@"\n' "$(python3 -c 'import sys; print(sys.executable)')" \
-    >"$work/python/python3"
-chmod +x "$work/python/python3"
-PATH=$work/python:/usr/bin:/bin
+mkdir "$work/bin"
+PATH=$work/bin:/usr/bin:/bin
 
 # The repository: crates of one line, the files that the sources name, and a MANIFEST of them.
 repository=$work/a\ repository
@@ -131,107 +126,24 @@ for words in "" "make a" "check a" "what"; do
     # shellcheck disable=SC2086
     check "the arguments '$words' are refused" ends 1 "dist.sh: " $words
 done
-printf '#!/bin/sh\n[ "$1" != check ] || exit 1\n' >"$work/python/rt" && chmod +x "$work/python/rt"
+printf '#!/bin/sh\n[ "$1" != check ] || exit 1\n' >"$work/bin/rt" && chmod +x "$work/bin/rt"
 for file in x86_64/none.s x86_64/elf.inc vulfsjor.S; do
     check "there is no file $file" ends 1 "there is no file $file in dist/" make "$work/some" $file
 done
 check "a library that is not proved stops it" ends 1 "the crates below b2 are not proved" make \
     "$work/some" aarch64/b2.s
 
-# What the scripts refuse that a compiler of another version may write. What they make of the texts of
-# this one is in dist/.
-lanes() {
-    printf '%s\n' 'define i64 @"blake2_compress::many::blake2b::lanes"() {' "${@:2}" '}' |
-        sed -f "tools/x86_64_$1.sed" 2>&1
-}
-for level in v2 v4; do
-    check "$level takes one number of messages" lanes $level '  store i64 4, ptr %r0'
-    check "and no other" eval '! lanes "$level" "  store i64 2, ptr %r0"'
-    check "and not two" eval '! lanes "$level" "  store i64 4, ptr %r0" "  store i64 4, ptr %r1"'
-done
-# Whether a script says this of these lines: SCRIPT OPTIONS -- WORDS LINES..
-refuses() {
-    local script=tools/$1 options=()
-    while shift && [ "$1" != -- ]; do options+=("$1"); done
-    ! printf '%s\n' "${@:3}" | "$script" "${options[@]}" >"$work/shown" 2>&1 &&
-        grep -qF -- "$2" "$work/shown"
-}
-scrub='"blake2_digest::wiping::scrub_stack::<=9>":'
-for last in '	jmp	memcpy@PLT' '	ud2'; do
-    check "clear_registers.py refuses the end '$last'" refuses clear_registers.py -- "" "$scrub" \
-        "$last" .Lfunc_end0:
-done
-name=plain_names.py theirs=('	callq	"c::f::<a::B<c>>"@PLT' '	.globl	"c::f::<a::B<c>>::proved"'
-    '"c::f::<a::B<c>>::proved":' '"c::ff":')
-has_not=(refuses $name _1 c::f -- "plain_names.py: C cannot have the function c::f")
-check "a text without a function of C is refused" "${has_not[@]}" '"c::g":'
-check "one that has it itself is refused" "${has_not[@]}" "${theirs[@]}" '"c::f":'
-check "one that never calls it is refused" "${has_not[@]}" "${theirs[@]:1}"
-check "one that does not export the proved one is refused" "${has_not[@]}" "${theirs[0]}" "${theirs[@]:2}"
-check "one with two instances is refused" "${has_not[@]}" "${theirs[@]}" '"c::f::<d>::proved":'
-check "a function elsewhere that is never called is refused" refuses $name _1 read=our_read -- \
-    "plain_names.py: read is never called" '	.globl	g' '	callq	reads' '	.ascii	"read"'
-check "two names that would be one are refused" refuses $name _1 -- \
-    "plain_names.py: two names would be one" '"a::b":' '"a:: b":'
-function_of() {
-    printf '\t%s\n' '.file	"rattle"' ".section	.text.$1,\"ax\",@progbits" ".globl	$1" ".hidden	$1" \
-        '.p2align	4' ".type	$1,@function"
-    printf '%s\n' "$1:" .LB1: "${@:2}" .Lfunc_end0: "	.size	$1, .Lfunc_end0-$1"
-}
-object_formats() { function_of "$@" | tools/object_formats.py >"$work/shown" 2>&1; }
-check "object_formats.py knows a function" object_formats f_7_v3 '	jmp	.LB1'
-for line in '	.weak	f' '	jmp	.LB9' '	leaq	f_7_v3(%rip), %rax' \
-    '	movq	g@GOTPCREL(%rip), %rax' '	adrp	x0, :got:g' '	nop // a comment' \
-    '#define a' '	movl	linux(%rip), %eax' '	.section	.init_array,"aw",@progbits' \
-    '	.type	f_7_v3,@object' h:; do
-    check "and not the line '$line'" eval '! object_formats f_7_v3 "$line" && grep -q "what is " "$work/shown"'
-done
-is_label() {
-    { function_of f_7_v3 && function_of lines_7_v3 | sed '/globl\|hidden\|file/d;s/LB1/LB2/;s/end0/end1/'; } |
-        tools/object_formats.py 2>&1 | diff - <(echo "object_formats.py: in Mach-O a name with l or L is a label")
-}
-check "nor a name that would be a label in Mach-O" is_label
-
-# What hashes for the programs, in LLVM's text of the library and of a program, and in theirs.
-hashing() {
-    of_script "write_sharing_edit $1" >hashing.sed &&
-        printf '%s\n' 'define internal i64 @"blake2_tree::nodes::Nodes::hash_next"(ptr noundef %0, i8 %1) #0 {' \
-            '  ret i64 1' '}' 'define internal void @"a::hash_next"() #0 {' '  ret void' '}' | sed -f hashing.sed
-}
-check "the library exports what hashes" diff - <(hashing blake2_ffi) <<'END'
-define i64 @"blake2_tree::nodes::Nodes::hash_next"(ptr noundef %0, i8 %1) #0 {
+# What hashes for the programs, in LLVM's text of the library and of a program.
+text='define internal i64 @"blake2_tree::nodes::Nodes::hash_next"(ptr noundef %0, i8 %1) #0 {
   ret i64 1
 }
 define internal void @"a::hash_next"() #0 {
   ret void
-}
-END
+}'
+hashing() { of_script "write_sharing_edit $1" >hashing.sed && sed -f hashing.sed <<<"$text"; }
+check "the library exports what hashes" diff <(hashing blake2_ffi) - <<<"${text/internal /}"
 for crate in b2 b2sum; do
-    check "$crate calls it, and has it not" diff - <(hashing $crate) <<'END'
-declare i64 @"blake2_tree::nodes::Nodes::hash_next"(ptr noundef %0, i8 %1)
-define internal void @"a::hash_next"() #0 {
-  ret void
-}
-END
+    check "$crate calls it, and has it not" diff <(hashing $crate) \
+        <(sed '1s/define internal \(.*\) #0 {/declare \1/;2,3d' <<<"$text")
 done
-shared() { function_of "$@" | sed "$edit" | tools/object_formats.py a..g a..h | grep 'vj_.*[gh]_'; }
-edit=
-check "a program for x86-64 chooses the library's build" diff - \
-    <(shared f_7_x86 '	callq	a..g_7_x86@PLT' '	callq	b..h_7_x86@PLT') <<'END'
-	vj_call	a..g_7_x86
-	vj_call	b..h_7_x86
-	vj_choose	a..g_7_x86, a..g_7_v2, a..g_7_v3, a..g_7_v4
-END
-edit='s/p2align	4/p2align	2/'
-check "one for ARM calls the only one" diff - <(shared f_7_a64 '	bl	a..g_7_a64' '	ret') <<'END'
-	vj_call	a..g_7_arm
-END
-check "the library has it for them" diff - <({ function_of f_7_v3 '	callq	a..g_7_v3@PLT'
-    function_of a..g_7_v3 | sed '/file/d;s/LB1/LB2/;s/end0/end1/'; } | tools/object_formats.py a..g | grep vj_) <<'END'
-	vj_export	f_7_v3
-	vj_call	a..g_7_v3
-	vj_end	f_7_v3
-	vj_shared	a..g_7_v3
-	vj_end	a..g_7_v3
-END
 finish

@@ -4,7 +4,7 @@ libsodium, or of the pages that are named, and compares what it prints.
 
     tests/examples.py [PAGE..]
 
-An example is a fenced block in c, cpp, rust, python, cmake or sh; js/tests/readme.test.mjs runs those in JavaScript,
+An example is a fenced block in c, cpp, rust, python, cmake or sh; js/tests/package.test.mjs runs those in JavaScript,
 and python/tests/test_names.py those in Python's guide. A block in C, C++ or Rust is a whole program, in C `hello.c`, in
 Rust with the dependencies of the page's block in toml, if it has one. One in cmake is a CMakeLists.txt, whose program
 `hello` is run. The blocks of a page run in order, with VULFSJOR_TEST_HUGE twice, in one folder, which starts with links

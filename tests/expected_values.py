@@ -10,7 +10,8 @@ import itertools
 import random
 import struct
 
-from b2_model import Input, Place, bytes_of, entries, fields, parameter_words, read
+from b2_model import Input, Place, bytes_of, entries, parameter_words, read
+from b2_model import lines as printed_lines
 from common import FAMILIES, KINDS, Parser
 from oracle import SCALAR, check, hashlib_node, range_digests, tree_root
 
@@ -29,13 +30,10 @@ def digest(data):
     return blake2("b", 32, data if isinstance(data, bytes) else b"".join(data)).hex()
 
 
-def transcript_text(family, size, message, *given):
+def transcript_text(kind, message, **given):
     """What `steps` prints, of a key, a salt and a persona."""
-    scalar, key = SCALAR[family], given[0] or None if given else None
-    taken = Input(message, key, *given[1:])
-    lines = [fields(scalar, "w", parameter_words(scalar, size, taken)),
-             *(fields(scalar, "e", [], entry) for entry in entries(scalar, taken))]
-    return "".join(line + "\n" for line in lines).encode()
+    words = ["steps", kind, *(f"{name}={value.hex()}" for name, value in given.items() if value)]
+    return "".join(line + "\n" for line in printed_lines(words, lambda: message)).encode()
 
 
 def copies():
@@ -88,7 +86,7 @@ def large():
     except the last byte."""
     message = bytes(i % 251 for i in range(2**20 + 1))
     for kind in ("b512", "s256"):
-        text = transcript_text(*KINDS[kind], message)
+        text = transcript_text(kind, message)
         yield f"  {kind}: {blake2(*KINDS[kind], message).hex()}, {len(text)} bytes, {digest(text)}"
     for leaf in (1, 64, 1000, 4096, 20000, 2**20, 2**20 + 1, 2**26):
         yield f"  {leaf}: {tree_root(message, leaf, 32).hex()}"
@@ -110,7 +108,7 @@ def texts():
         of = KINDS[kind]
         yield f"sum {kind}|{lines(blake2(*of, each) for each in inputs)}"
         yield f"script {kind}|{lines(blake2(*of, bytes((len(each) - 8) // 2)) for each in inputs)}"
-        yield f"steps {kind}|{digest(transcript_text(*of, each) for each in inputs)}"
+        yield f"steps {kind}|{digest(transcript_text(kind, each) for each in inputs)}"
     for leaf in (1, 64, 4096):
         yield f"tree b512 {leaf}|{lines(tree_root(each, leaf, 64) for each in inputs)}"
 
@@ -122,9 +120,9 @@ def options():
     for kind, (family, size) in KINDS.items():
         numbers, sums, steps = FAMILIES[family], b"", b""
         for choice in itertools.product((0, 1, numbers.key), (0, 1, numbers.salt), (0, 1, numbers.salt)):
-            given = [ALPHABET[:length] for length in choice]
-            sums += 2 * (blake2(family, size, b"abc", *given).hex() + "\n").encode()
-            steps += transcript_text(family, size, b"abc", *given)
+            given = {name: ALPHABET[:length] for name, length in zip(("key", "salt", "persona"), choice)}
+            sums += 2 * (blake2(family, size, b"abc", **given).hex() + "\n").encode()
+            steps += transcript_text(kind, b"abc", **given)
         yield f"{kind}|{digest(sums)}|{digest(steps)}"
 
 

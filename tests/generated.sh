@@ -6,9 +6,27 @@ source "$(dirname "$(readlink -f "$0")")/tap.sh"
 check "dist/ was made from these sources" "$top/tools/dist.sh" current
 needs python3
 check "the files of BLAKE2s are what tools/twins.py makes of those of BLAKE2b" "$top/tools/twins.py" --check
+# In a copy: a made file, the table of words, an attribute and a source that are others are reported,
+# and what is made is made again.
+twins_are_compared() {
+    local copy=$work/copy hasher=crates/blake2/src/hashers/blake2s.rt output=crates/blake2_xof/src/reader/blake2x words
+    mkdir "$copy" && tar -C "$top" --exclude=out --exclude=must-fail --exclude=data -cf - crates tools .gitattributes |
+        tar -C "$copy" -xf - && cd "$copy" && tools/twins.py --check || return 1
+    echo "// more" >>$hasher &&
+        sed -i 's|^by hand: |&none/* |; 0,/^in: .*/s//&\nno such word ~> word/' tools/twins.txt &&
+        printf '\nin: blake2_none/*\nBLAKE2 ~> BLAKE\n' >>tools/twins.txt &&
+        sed -i '/^crates.*_tests/d' .gitattributes && echo "crates/none/** linguist-generated" >>.gitattributes &&
+        rm ${output}b.rt && ! tools/twins.py --check >"$work/said" 2>&1 || return 1
+    for words in "$hasher is not as it is made" "no such word" "no file has 'BLAKE2'" "no file has 'none/*'" \
+        "blake2s.rt is made" "crates/none/** changes nothing" "${output}s.rt is made from no file"; do
+        grep -F "$words" "$work/said" || { cat "$work/said" && return 1; }
+    done
+    cp "$top"/tools/twins.txt tools/ && tools/twins.py | grep -F $hasher && cmp $hasher "$top/$hasher" &&
+        [ ! -e ${output}s.rt ] && ! tools/twins.py --chekc
+}
+check "a file that is not as tools/twins.py makes it is reported" twins_are_compared
 check "the model of the conformance cases has the digests of hashlib" env PYTHONPATH="$top/tests" python3 -c \
     'import oracle, random; oracle.check(random.Random(7693))'
-check "tests/vectors.json has the digests of hashlib and of the model" "$top/tests/vectors.py" --check
 others_are_as_the_page_says() {
     mkdir "$work/conforming" && "$top/tests/conformance/write.py" "$work/conforming" &&
         "$top/tests/conformance/others.py" --check "$work/conforming"

@@ -94,14 +94,6 @@ check "a program as old as one of its sources is built again" builds "$program"
 run "$work/linked sum" "two words" --help
 check "b2sum builds the other program, and passes on all arguments" ends 7 "<two words><--help>in" 1
 check "and says so" says "b2sum: built $sums"
-are_replaced() {
-    local file=$top/dist/${machine/arm64/aarch64}/b2sum.s
-    grep -qF "=$(name_in "$file" call absorb_tree) " "$work/calls" &&
-        grep -qF "=$(name_in "$file" export absorb_tree) " "$work/calls" &&
-        grep -qF "=$(name_in "$file" call hide_memory) " "$work/calls" &&
-        grep -qF "=$(name_in "$file" call show_progress) " "$work/calls"
-}
-check "C replaces three functions, and calls one" are_replaced
 check "with the threads of glibc before 2.34" grep -q -- ' -pthread ' "$work/calls"
 for file in b2sum c/system.h c/include/vulfsjor_threads.h $(inputs); do
     touch -d '+9 seconds' "$file" && run "$repository/b2sum" a
@@ -172,7 +164,7 @@ run XDG_CACHE_HOME= HOME= "$repository/b2" sum
 check "nothing is written elsewhere in the clone" says "b2: $repository/out cannot be written"
 
 # The completions: what bash and fish offer for a line of a program, bash after the options of compopt, and zsh for one
-# of b2: PROGRAM WORDS..
+# of b2, or of b2sum after an option: PROGRAM WORDS..
 by_bash() {
     bash --norc -c 'source "$0/completions/$1.bash"; compopt() { echo "$*"; }
         COMP_WORDS=("$@") COMP_CWORD=$(($# - 1)); _$1; printf "%s\n" "${COMPREPLY[@]}"' "$top" "$@"
@@ -181,15 +173,29 @@ by_fish() {
     fish --no-config -c 'source "$argv[1]/completions/$argv[2].fish"; complete -C "$argv[2..]"' "$top" "$@" | cut -f 1
 }
 by_zsh() {
-    zsh -fc 'compadd() { [[ $1 != -- ]] || shift; print -rl -- ${@:#-S} }; words=("$@") CURRENT=$#
-        complete_b2() { source completions/_b2 }; complete_b2' - "$@" | grep -e "^${!#}."
+    [ "$1" = b2 ] || { values_by_zsh "$2" && return; }
+    zsh -fc 'compadd() { [[ $1 != -- ]] || shift; print -rl -- ${@:#-S} }; words=("$@") CURRENT=$# file=$0
+        complete_b2() { source "$file" }; complete_b2' "$top/completions/_b2" "$@" | grep -e "^${!#}."
 }
+# What zsh gets for each word of b2sum.
+sums_by_zsh() {
+    zsh -fc '_arguments() { print -rl -- "$@" }; source "$0"' "$top/completions/_b2sum"
+}
+# What it offers there after this option, or for a file.
+values_by_zsh() {
+    local spec equals="="
+    [[ $1 == --* ]] || equals=
+    spec=$(sums_by_zsh | sed -nE "s/^(\(.*\))?$1$equals\[[^]]*\]//p")
+    sed 's/.*://;s/_files/file/;s/[()]//g;s/ /\n/g' <<<"${spec:-$(sums_by_zsh | grep '^\*:')}"
+}
+# In a folder with one file.
 offers() {
     local shell=$1 line words
+    mkdir -p "$work/folder" && cd "$work/folder" && touch file || return 1
     while IFS=: read -r line words; do
         read -ra line <<<"$line"
         [ "${line[-1]}" != . ] || line[-1]=""
-        diff <(by_$shell "${line[@]}" | sed '/^$/d;/^-o nospace$/d' | sort) \
+        diff <(by_$shell "${line[@]}" | sed '/^$/d;/^-o /d' | sort) \
             <(printf '%s\n' $words | sed '/^$/d' | sort) || return
     done <<'END'
 b2 .:sum script steps witness tree leaves root xof derive --help --version
@@ -218,11 +224,19 @@ b2 derive .:
 b2 sum b512 salt=00 p:persona= persona-text=
 b2 steps b512 k:key=
 b2 other .:
+b2sum -a .:blake2b blake2s blake2bp blake2sp
+b2sum --algorithm .:blake2b blake2s blake2bp blake2sp
+b2sum -l .:128 160 224 256 384 512
+b2sum --length .:128 160 224 256 384 512
+b2sum --tree .:65536
+b2sum --threads .:
+b2sum --personal .:
+b2sum --personal-text .:
+b2sum --salt .:
+b2sum --key-file .:file
+b2sum --check .:file
+b2sum .:file
 END
-}
-# What zsh gets for each word of b2sum.
-sums_by_zsh() {
-    zsh -fc '_arguments() { print -rl -- "$@" }; source "$0"' "$top/completions/_b2sum"
 }
 # The options that a shell offers: bash only long ones.
 options_by() {
@@ -238,42 +252,6 @@ offers_options() {
     diff <(options_by "$1") <(sed -n '/^| `-/s/ | .*//p' "$top/docs/B2SUM.md" |
         grep -oE -e "--$([ "$1" = bash ] || echo '?')[a-z-]+" | sort -u)
 }
-# What a shell offers after an option of b2sum, in a folder with one file.
-value_by() {
-    local spec equals="="
-    case $1 in
-        bash) by_bash b2sum "$2" "" ;;
-        fish) by_fish b2sum "$2 " ;;
-        zsh)
-            [[ $2 == --* ]] || equals=
-            spec=$(sums_by_zsh | sed -nE "s/^(\(.*\))?$2$equals\[[^]]*\]//p")
-            spec=$(sed 's/.*://; s/_files/file/' <<<"${spec:-$(sums_by_zsh | grep '^\*:')}")
-            tr -d '()' <<<"$spec" | tr ' ' '\n'
-            ;;
-    esac | sed '/^$/d'
-}
-offers_values() {
-    local option values
-    mkdir -p "$work/folder" && cd "$work/folder" && touch file &&
-        while IFS=: read -r option values; do
-            values=${values// /$'\n'}
-            [ "$1,$values" != bash,file ] || values=$'-o filenames\nfile'
-            diff <(value_by "$1" "$option") <(sed '/^$/d' <<<"$values") || return
-        done <<'END'
--a:blake2b blake2s blake2bp blake2sp
---algorithm:blake2b blake2s blake2bp blake2sp
--l:128 160 224 256 384 512
---length:128 160 224 256 384 512
---tree:65536
---threads:
---personal:
---personal-text:
---salt:
---key-file:file
---check:file
-none:file
-END
-}
 # Lines that bash cuts into words at =, and the commands whose completions these are.
 bash_words() {
     diff <(by_bash b2sum --algorithm = blake2bp && by_bash b2sum --tree = &&
@@ -282,7 +260,7 @@ bash_words() {
             by_bash b2sum -ablake2s -l 25 && by_bash b2sum -a blake2bp --length = 5) \
             <(printf '%s\n' "" "" 256 512) &&
         cd "$work/folder" && touch "a file" &&
-        [ "$(by_bash b2sum "a f" | tail -n 1)" = "a file" ] &&
+        [ "$(by_bash b2sum "a f")" = $'-o filenames\na file' ] &&
         bash --norc -c 'for name; do source "$0/completions/$name.bash"; done; complete -p "$@"' "$top" b2 b2sum |
         diff - <(printf 'complete -F _%s\n' 'b2 b2' 'b2sum b2sum') &&
         [ "$(grep -cxE '#compdef b2sum|_arguments -s \\' "$top/completions/_b2sum")" -eq 2 ]
@@ -292,7 +270,6 @@ cd "$top" && for shell in bash zsh fish; do
     needs $shell
     check "what $shell completes" offers $shell
     check "which options of b2sum $shell completes" offers_options $shell
-    check "which values and files $shell completes after them" offers_values $shell
 done
 needs bash
 check "which words of b2sum bash completes" bash_words

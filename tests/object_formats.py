@@ -1,13 +1,10 @@
 #!/usr/bin/env python3
 """Assembles each text of dist/ for Linux, macOS and Windows: each function has the same instructions there, the objects
 call only what they may, and linkers for these systems accept them. What tests/machine reads is, byte for byte, what the
-assembler makes of the text. vulfsjor.S has the functions of its texts.
+assembler makes of the text. vulfsjor.S has the functions of its texts, with the same code.
 
-    tests/object_formats.py [DIST]
-
-DIST is dist/ if it is left out. Without VULFSJOR_TEST_HUGE vulfsjor.S, which says nothing of systems, is assembled for
-Linux only, and so are texts whose macros another has too. Needs clang, llvm-objdump and llvm-nm, and ld64.lld and
-lld-link.
+Without VULFSJOR_TEST_HUGE vulfsjor.S, which says nothing of systems, is assembled for Linux only, and so are texts
+whose macros another has too. Needs clang, llvm-objdump and llvm-nm, and ld64.lld and lld-link.
 """
 import os
 import re
@@ -20,18 +17,15 @@ import tap
 from common import TOP
 
 sys.path.insert(0, os.path.join(TOP, "tests", "machine"))
+import elf as elf_format  # pylint: disable=wrong-import-position
 import macros  # pylint: disable=wrong-import-position
 
+DIST = os.path.join(TOP, "dist")
 HUGE = bool(os.environ.get("VULFSJOR_TEST_HUGE"))
 SYSTEMS = {"linux": "linux-gnu", "macos": "apple-macos11", "windows": "pc-windows-msvc"}
 TEXTS = {"x86_64": ["vulfsjor-v2", "vulfsjor-v3", "vulfsjor-v4", "b2", "b2sum"], "aarch64": ["vulfsjor", "b2", "b2sum"]}
 # What the programs call on Windows instead of functions of the C library for Linux.
 ON_WINDOWS = {"read": "b2_read", "write": "b2_write", "__write": "b2_write", "__sysv_signal": "b2_signal"}
-# The functions of the library that hash for the programs.
-HASHING = re.compile(r"blake2_(compress\.\.compress\.\.blake2[bs]\.\.compress|tree\.\.nodes\.\.Nodes\.\.hash_next"
-                     r"|parallel\.\.lanes\.\.blake2[bs]p\.\.Lanes\.\.(outputs|update))_\d+_(v[234]|arm)")
-# How many of them a program calls.
-HASHING_COUNT = {"b2": 3, "b2sum": 7}
 # The texts that are assembled for each system without VULFSJOR_TEST_HUGE: one of the library, and the longer program.
 FOR_EACH_SYSTEM = ("vulfsjor-v3", "vulfsjor", "b2sum")
 TOOLS = ("clang", "llvm-objdump", "llvm-nm")
@@ -48,11 +42,17 @@ def symbols_of_object(path, *kinds):
     return {line.split()[-1] for line in run("llvm-nm", *kinds, path).splitlines()}
 
 
-def sizes_of_object(path):
-    """The sizes of an object's functions, by their names, as only ELF has them."""
-    found = (line.split() for line in run("llvm-nm", "--print-size", "--defined-only", path).splitlines())
-    return {name.removeprefix("_"): size[1:] for *size, kind, name in found
-            if kind in "tT" and not re.match(r"_?(vj_sysv_|[.lL])", name)}
+def code_of_elf(path):
+    """The bytes of an object's functions, each of which has a section in ELF, by their names."""
+    with open(path, "rb") as file:
+        sections = elf_format.Elf(file.read()).sections
+    return {it.name.removeprefix(".text."): it.data for it in sections if it.flags & elf_format.EXECUTABLE and it.data}
+
+
+def names_in_object(path):
+    """The names of an object's functions."""
+    names = re.findall(r"(?m)^\w+ [tT] _?(\S+)$", run("llvm-nm", "--defined-only", path))
+    return {name for name in names if not re.match(r"vj_sysv_|[.lL]", name)}
 
 
 def functions_of_object(path, arch):
@@ -87,34 +87,10 @@ def functions_of_object(path, arch):
 
 
 def assemble_text(path, arch, system, made):
-    words = [] if path.endswith(".S") else ["-include", os.path.join(TOP, "dist", "macros.h"),
+    words = [] if path.endswith(".S") else ["-include", os.path.join(DIST, "macros.h"),
                                             "-x", "assembler-with-cpp"]
     run("clang", f"--target={arch}-{SYSTEMS[system]}", *words, "-c", path, "-o", made)
     return made
-
-
-def functions_that_jump(path):
-    """The instructions of each function of an x86-64 object that jumps to the library's build, with what each names."""
-    found, body = {}, None
-    for line in run("llvm-objdump", "--triple=x86_64-linux-gnu", "-dr", "--no-show-raw-insn", path).splitlines():
-        head = re.match(r"[0-9a-f]+ <_?(.*)_(\d+)_x86>:", line)
-        if head or not line.strip():
-            hashes = head and HASHING.fullmatch(f"{head[1]}_{head[2]}_v2")
-            body = found.setdefault((head[1], head[2]), []) if hashes else None
-        elif body is not None and (named := re.match(r"\s*[0-9a-f]+:\s+[RIX]\w+\s+_?([\w.]+?)(?:[-+]\w+)?$", line)):
-            body[-1] += " " + named[1]
-        elif body is not None:
-            words = line.split(":", 1)[1].strip().replace("$0x3", "$3").replace("cmpb\t$", "cmpb$")
-            body.append(re.sub(r"\s.*|,.*", "", words))
-    return found
-
-
-def jump_right(path, count):
-    """Whether each such function jumps to the three builds by the level that choose.c has found."""
-    found = functions_that_jump(path)
-    return len(found) == count and all(body[:4] == ["cmpb$3 vulfsjor_ffi_level", *(
-        f"{jump} {name}_{code}_{build}" for jump, build in (("ja", "v4"), ("je", "v3"), ("jmp", "v2")))]
-                                   for (name, code), body in found.items())
 
 
 def is_read_so(path, arch, room, elf):
@@ -138,9 +114,6 @@ def check_system(name, arch, system, made, elf, of_linux):
     called = {re.sub("^_", "", it) if system == "macos" else it for it in symbols_of_object(made, "-u")}
     wanted = {ON_WINDOWS.get(it, it) if system == "windows" else it for it in of_linux}
     yield "it calls what the one for Linux calls, which tests/assembly.py knows", called == wanted, called ^ wanted
-    if name.startswith("b2") and arch == "x86_64":
-        yield ("it jumps to the library's build for the processor", jump_right(made, HASHING_COUNT[name]),
-               functions_that_jump(made))
     link = f"{made}.linked"
     mac_linker = next(filter(None, map(shutil.which, ("ld64.lld", "ld64.lld-14"))), None)
     if system == "macos" and mac_linker:
@@ -153,25 +126,21 @@ def check_system(name, arch, system, made, elf, of_linux):
 
 
 def check_text(path, arch, name, room):
-    """Prints the results of a text, and returns the sizes of its functions."""
+    """Prints the results of a text, and returns the code of its functions."""
     made = assemble_text(path, arch, "linux", os.path.join(room, "elf.o"))
     systems = ("macos", "windows") if HUGE or name in FOR_EACH_SYSTEM else ()
     elf, of_linux = functions_of_object(made, arch) if systems else {}, symbols_of_object(made, "-u")
-    sizes = sizes_of_object(made)
+    code = code_of_elf(made)
     tap.result(is_read_so(path, arch, room, made),
                f"{arch}/{name}.s: tests/machine reads what the assembler makes of it")
-    if name.startswith("b2") and arch == "x86_64":
-        tap.result(jump_right(os.path.join(room, "elf.o"), HASHING_COUNT[name]),
-                   f"{arch}/{name}.s: it jumps to the library's build for the processor")
     for system in systems:
         made = assemble_text(path, arch, system, os.path.join(room, f"{arch}-{name}-{system}.o"))
         for words, holds, why in check_system(name, arch, system, made, elf, of_linux):
             tap.result(holds, f"{arch}/{name}.s on {system}: {words}", str(why))
-    return sizes
+    return code
 
 
 def main():
-    dist = sys.argv[1] if len(sys.argv) > 1 else os.path.join(TOP, "dist")
     missing = [tool for tool in TOOLS if not shutil.which(tool)]
     if missing:
         tap.result(True, "the objects for Linux, macOS and Windows", skipped=f"no {', '.join(missing)}")
@@ -181,11 +150,11 @@ def main():
             found = {}
             for name in names:
                 of_file = found.setdefault(name.partition("-")[0], {})
-                of_file.update(check_text(os.path.join(dist, arch, f"{name}.s"), arch, name, room))
+                of_file.update(check_text(os.path.join(DIST, arch, f"{name}.s"), arch, name, room))
             for system in SYSTEMS if HUGE else ("linux",):
-                made = assemble_text(os.path.join(dist, "vulfsjor.S"), arch, system, os.path.join(room, "all.o"))
-                sizes, wanted = sizes_of_object(made), found["vulfsjor"]
-                tap.result(sizes == wanted if system == "linux" else sizes.keys() == wanted.keys(),
+                made = assemble_text(os.path.join(DIST, "vulfsjor.S"), arch, system, os.path.join(room, "all.o"))
+                wanted = found["vulfsjor"]
+                tap.result(code_of_elf(made) == wanted if system == "linux" else names_in_object(made) == {*wanted},
                            f"vulfsjor.S on {system}, {arch}: it has the functions of its texts, and no others")
     tap.finish()
 

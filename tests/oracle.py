@@ -9,8 +9,7 @@ hashlib.
 import hashlib
 import sys
 
-from b2_model import B, S, Input, Place, parallel, steps
-from b2_model import output as xof
+from b2_model import B, S, Input, Place, Tree, leaf_digests, parallel, root_over, steps
 from common import FAMILIES
 
 SCALAR = {"b": B, "s": S}
@@ -62,11 +61,6 @@ def parallel_by_hashlib(name, message, **texts):
     return node(b"".join(leaf.digest() for leaf in leaves), node_depth=1, last_node=True).digest()
 
 
-def xof_output(name, message, length, key=b"", salt=b"", person=b"", is_known=True):
-    """This many bytes of the output of BLAKE2Xb ("b") or BLAKE2Xs ("s"). hashlib has no nodes of depth 0."""
-    return xof(SCALAR[name], length, Input(message, key or None, salt, person), is_known)
-
-
 def hashlib_node(given):
     """The arguments of hashlib's functions for an input, except its message and its key."""
     place = given.place
@@ -96,3 +90,12 @@ def check(source):
             if parallel(family, family.digest, given) != parallel_by_hashlib(
                     name, given.message, salt=salt, person=persona):
                 sys.exit(f"oracle: another digest than hashlib's, BLAKE2{name}p of {length} bytes")
+    for leaf in (1, 64, 129, 2**32 - 1):
+        message, texts = source.randbytes(source.randrange(1000)), {"salt": b"salt", "person": source.randbytes(16)}
+        tree, first = Tree(leaf, *texts.values()), source.randrange(2**32)
+        for ends in (False, True):
+            if b"".join(leaf_digests(tree, first, ends, message)) != range_digests(
+                    message, leaf, first, ends, **texts):
+                sys.exit(f"oracle: other digests of leaves of {leaf} bytes than hashlib's")
+        if root_over(tree, 20, leaf_digests(tree, 0, True, message)) != tree_root(message, leaf, 20, **texts):
+            sys.exit(f"oracle: another root than hashlib's, with leaves of {leaf} bytes")

@@ -9,32 +9,25 @@ import pathlib
 import re
 
 import tap
+from common import read
 
 TOP = pathlib.Path(__file__).resolve().parent.parent
 PORTABLE = "amd64 arm64 armhf i386 ppc64el riscv64 s390x"
-# The fields of each package in debian/control that are compared, of which those of several lines are one.
-FIELDS = r"(?:Section|Build-Depends|Rules-Requires-Root|Architecture|Multi-Arch|Build-Profiles|Pre-Depends|Depends): "
-CONTROL = {
-    "Source: vulfsjor": [
-        "Section: libs", "Rules-Requires-Root: no",
-        "Build-Depends: debhelper-compat (= 13), dh-sequence-python3 <!nopython>, python3-dev <!nopython>,"],
-    "Package: libvulfsjor0": [
-        f"Architecture: {PORTABLE}", "Multi-Arch: same", "Pre-Depends: ${misc:Pre-Depends}",
-        "Depends: ${misc:Depends}, ${shlibs:Depends}"],
-    "Package: libvulfsjor-dev": [
-        "Section: libdevel", f"Architecture: {PORTABLE}", "Multi-Arch: same",
-        "Depends: ${misc:Depends}, libvulfsjor0 (= ${binary:Version})"],
-    "Package: vulfsjor": [
-        "Section: utils", "Architecture: amd64 arm64", "Multi-Arch: foreign",
-        "Depends: ${misc:Depends}, ${shlibs:Depends}"],
-    "Package: python3-vulfsjor": [
-        "Section: python", "Architecture: amd64 arm64", "Build-Profiles: <!nopython>",
-        "Depends: python3 (>= 3.11), ${misc:Depends}, ${python3:Depends}, ${shlibs:Depends}"],
-}
-# Lines, or parts of them, of the other files.
+PACKAGES = ["libvulfsjor0", "libvulfsjor-dev", "vulfsjor", "python3-vulfsjor"]
+# Lines, or parts of them. In debian/control they are the fields of each package.
 LINES = {
-    "debian/control": ["On amd64 it needs SSE4.2 (x86-64-v2) and",
-                       "uses AVX2 and AVX-512. On architectures other than"],
+    "debian/control": [
+        "Source: vulfsjor\nSection: libs\nPriority: ", "Rules-Requires-Root: no\n\n",
+        "\nBuild-Depends: debhelper-compat (= 13),\n dh-sequence-python3 <!nopython>,\n python3-dev <!nopython>,\nSt",
+        f"Package: libvulfsjor0\nArchitecture: {PORTABLE}\nMulti-Arch: same\nPre-Depends: ${{misc:Pre-Depends}}\n"
+        "Depends: ${misc:Depends}, ${shlibs:Depends}\nDescription: ",
+        f"Package: libvulfsjor-dev\nSection: libdevel\nArchitecture: {PORTABLE}\nMulti-Arch: same\n"
+        "Depends: ${misc:Depends}, libvulfsjor0 (= ${binary:Version})\nDescription: ",
+        "Package: vulfsjor\nSection: utils\nArchitecture: amd64 arm64\nMulti-Arch: foreign\n"
+        "Depends: ${misc:Depends}, ${shlibs:Depends}\nDescription: ",
+        "Package: python3-vulfsjor\nSection: python\nArchitecture: amd64 arm64\nBuild-Profiles: <!nopython>\n"
+        "Depends: python3 (>= 3.11), ${misc:Depends}, ${python3:Depends}, ${shlibs:Depends}\nDescription: ",
+        "On amd64 it needs SSE4.2 (x86-64-v2) and\n uses AVX2 and AVX-512. On architectures other than"],
     "debian/rules": [
         "export DEB_BUILD_MAINT_OPTIONS = hardening=+all", "export CC = $(DEB_HOST_GNU_TYPE)-gcc",
         "export CFLAGS CPPFLAGS LDFLAGS", "ifneq (,$(filter amd64 arm64,$(DEB_HOST_ARCH)))",
@@ -80,16 +73,12 @@ OTHERS = {"vulfsjor-digest.crate: vulfsjor-digest-VERSION/tests/": {"conformance
 
 
 def read_packaging(name):
-    return (TOP / "packaging" / name).read_text(encoding="utf-8")
+    return read(f"packaging/{name}")
 
 
-def wrong_fields():
-    found = [re.sub(r"\n +", " ", it).strip().split("\n") for it in read_packaging("debian/control").split("\n\n")]
-    fields = {name: [line for line in lines if re.match(FIELDS, line)] for name, *lines in found}
-    if list(fields) != list(CONTROL):
-        yield f"the packages are {list(fields)}"
-    yield from (f"{name} has {fields.get(name)}, and not {wanted}" for name, wanted in CONTROL.items()
-                if sorted(fields.get(name, [])) != sorted(wanted))
+def other_packages():
+    found = re.findall(r"(?m)^Package: (.*)$", read_packaging("debian/control"))
+    return [] if found == PACKAGES else [f"the packages are {found}"]
 
 
 def missing_lines():
@@ -99,7 +88,7 @@ def missing_lines():
 
 def wrong_symbols():
     """Each version of symbols is that of the first release that has it."""
-    versions = re.findall(r"(?m)^VULFSJOR_([\d.]+) \{", (TOP / "c" / "vulfsjor.map").read_text(encoding="utf-8"))
+    versions = re.findall(r"(?m)^VULFSJOR_([\d.]+) \{", read("c/vulfsjor.map"))
     wanted = [f" (symver)VULFSJOR_{version} {version}.0" for version in versions]
     found = [line for line in read_packaging("debian/libvulfsjor0.symbols").splitlines() if line.startswith(" ")]
     return [] if found == wanted else [f"libvulfsjor0.symbols has {found}, and not {wanted}"]
@@ -107,11 +96,9 @@ def wrong_symbols():
 
 def other_sonames():
     """The soname in the names of packages is that of the library."""
-    soname = re.search(r"soname,libvulfsjor\.so\.(\d+)",
-                       (TOP / "c" / "make_libraries.sh").read_text(encoding="utf-8"))[1]
-    names = set(re.findall(r"libvulfsjor(\d+)\b",
-                           read_packaging("debian/control") + read_packaging("debian/rules") +
-                           read_packaging("vulfsjor.spec")))
+    soname = re.search(r"soname,libvulfsjor\.so\.(\d+)", read("c/make_libraries.sh"))[1]
+    texts = map(read_packaging, ("debian/control", "debian/rules", "vulfsjor.spec"))
+    names = set(re.findall(r"libvulfsjor(\d+)\b", "".join(texts)))
     return [] if names == {soname} else [f"the packages have the sonames {names}, and the library {soname}"]
 
 
@@ -124,7 +111,7 @@ def other_files():
         different = names ^ {each.name for each in (TOP / folder).iterdir() if each.is_file()}
         if different:
             yield f"{folder}: only one of it and files.txt has {sorted(different)}"
-    script = (TOP / "tools" / "release.sh").read_text(encoding="utf-8")
+    script = read("tools/release.sh")
     pages = re.search(r"for page in (.+); do", script)[1].split()
     pages += read_packaging("debian/libvulfsjor-dev.docs").split()
     yield from (f"there is no page {page}" for page in pages if not (TOP / page).is_file())
@@ -169,7 +156,7 @@ def unlike_the_patterns():
         yield from (f"{kind}: {' '.join(it)} has no file" for it in sorted(patterns - {it for _, it in matches}))
 
 
-TESTS = (("the fields of debian/control", wrong_fields), ("the lines of packaging/", missing_lines),
+TESTS = (("the packages of debian/control", other_packages), ("the lines of packaging/", missing_lines),
          ("the versions of symbols", wrong_symbols), ("the soname", other_sonames),
          ("the lists of files", other_files), ("the files of each package", unlike_the_patterns))
 for title, find in TESTS:

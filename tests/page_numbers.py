@@ -110,6 +110,9 @@ def of_threads():
     yield header, "up to {} or four leaves, whichever is more, and at most {}", size(part), size(most)
     yield header, "vulfsjor_tree_update_fd at most {} for digests", size(64 * leaves)
     yield header, "A regular file of at least {} is read by all threads", size(least)
+    yield header, "with the caller's: at most {}, and 0 is", threads
+    yield header, "has one buffer of {} more", size(part)
+    yield header, "about {} or four leaves, and at the end", size(part)
     yield "rust/README.md", "It starts a second thread from {} on", size(2 * least)
     yield rust, "(less than {} for each)", size(least)
     yield file, "A regular file of at least {} is read and hashed by", size(2 * least)

@@ -96,19 +96,8 @@ def wrong_in_packages():
             yield f"{path}: {name} is not {there} of C"
 
 
-# What the programs of CC say of the machine that they compile for, by the name of its system.
-TARGETS = {"Linux": ("x86_64-linux-gnu", "aarch64-linux-gnu"), "Windows": ("x86_64-w64-mingw32", "aarch64-w64-mingw32"),
-           "macOS": ("x86_64-apple-darwin23", "arm64-apple-darwin23")}
-# The scripts that build, with arguments that name a file or a folder.
-BUILDING = {"the library": ("c/install.sh", "{}"), "`b2`": ("b2", "--build", "{}"),
-            "`b2sum`": ("b2sum", "--build", "{}")}
-# Each sentence of a page that says what there is for which systems.
-SENTENCES = {
-    "README.md": [(it, r"\*\*Platforms\*\* .*?WebAssembly; (.*?); other processors") for it in BUILDING],
-    "docs/PORTABLE.md": [(it, r"The programs `b2` and `b2sum` are for ([^.]*)\.") for it in ("`b2`", "`b2sum`")],
-    "docs/B2SUM.md": [("`b2sum`", r"The program is for ([^.]*)\.")],
-    "dist/README.md": [(it, r"Each text is for (.*?)\.") for it in BUILDING],
-}
+# The scripts that build, with arguments that name a file or a folder. That for b2sum is as that for b2.
+BUILDING = {"the library": ("c/install.sh", "{}"), "`b2`": ("b2", "--build", "{}")}
 
 
 @functools.cache
@@ -125,23 +114,6 @@ def found_by(script, target):
                               capture_output=True, text=True, check=False)
         with open(calls, encoding="utf-8") if os.path.exists(calls) else io.StringIO() as file:
             return file.read() + done.stderr
-
-
-def has_build(script, target):
-    return "there is no build for" not in found_by(script, target)
-
-
-def check_systems():
-    """The systems that the pages name for the library and the programs, with those that the scripts build for"""
-    built = {script: {system for system, targets in TARGETS.items() if all(has_build(script, it) for it in targets)}
-             for script in BUILDING}
-    for page, sentences in SENTENCES.items():
-        text = " ".join(read(page).split())
-        for script, pattern in sentences:
-            named = set(re.findall("|".join(TARGETS), find(pattern, text, page)))
-            wanted = built[script] - {"Linux"} if "WebAssembly; (" in pattern else built[script]
-            if named != wanted:
-                yield f"{page}: {script} is for {sorted(named)}, and is built for {sorted(built[script])}"
 
 
 # Each row of docs/PORTABLE.md: what its compiler says of the machine, and the words of a test of the library, of the
@@ -174,7 +146,25 @@ def library_for(target):
     """What the library is for a machine: assembly or portable C, and whether it has programs and threads there."""
     if "/dist/c/vulfsjor.c" in found_by("the library", target):
         return "library, portable C"
-    return "yes" if has_build("`b2`", target) else "library without threads"
+    return "library without threads" if "there is no build for" in found_by("`b2`", target) else "yes"
+
+
+# The sentence of each page that says for which systems the library and the programs are.
+SENTENCES = {
+    "README.md": r"\*\*Platforms\*\* (.*?); other processors",
+    "docs/PORTABLE.md": r"The programs `b2` and `b2sum` are for ([^.]*)\.",
+    "docs/B2SUM.md": r"The program is for ([^.]*)\.",
+    "dist/README.md": r"Each text is for (.*?)\.",
+}
+
+
+def check_systems():
+    """The systems that the pages name for the library and the programs, with those that the scripts build for"""
+    wanted = {name.split()[0].strip(",") for name, (target, *_) in PLATFORMS.items() if library_for(target) == "yes"}
+    for page, pattern in SENTENCES.items():
+        named = set(re.findall("Linux|Windows|macOS", find(pattern, " ".join(read(page).split()), page)))
+        if named != wanted:
+            yield f"{page}: it names {sorted(named)}, and {sorted(wanted)} have builds"
 
 
 def has_assembly_in_rust(target):

@@ -1,4 +1,6 @@
 """The speeds of the pages, from the tables of bench/results/, and the ratios of these tables. Not a program."""
+import itertools
+
 from page_sources import measured, newest, rows_of, size, tables
 
 
@@ -83,45 +85,36 @@ def is_ratio(ratio, over, under):
     return low * c <= b and a <= high * d
 
 
-def ratios_to(header, rows):
-    """The ratios of a table to the candidate that its header names, in its column or, if it has no number there, in the
-    first one: row, ratio and the two speeds, as cells."""
-    for i, title in enumerate(header):
-        base = title.partition("ratio to ")[2]
-        if base:
-            found = next(row for row in rows if row[0] in (base, f"ours: {base}"))
-            unit = header[i - 1].rpartition(", ")[2]
-            for row in rows:
-                if row[i]:
-                    pair = row[i - 1], found[i - 1] or found[1]
-                    yield row[0], row[i], *(pair if unit == "GB/s" else reversed(pair))
+# The columns that are compared in tables whose header names no candidate, by the first title and the ratio's column.
+COMPARED = {("hash", 4): (2, 3), ("call with 64 bytes", 3): (1, 2), ("tree root of", 3): (2, 1),
+            ("tree root of", 5): (4, 1), ("in C", 4): (2, 3), ("in C", 6): (2, 5)}
+# The programs that others are compared with, over the same file.
+PROGRAMS = ("`b2sum` of coreutils", "`b2sum --tree 65536`, 1 processor")
 
 
-# The ratios of tables whose header names no candidate: their column, and the columns of the two that are compared.
-COMPARED = {"hash": ((4, 2, 3),), "call with 64 bytes": ((3, 1, 2),), "tree root of": ((3, 2, 1), (5, 4, 1)),
-            "in C": ((4, 2, 3), (6, 2, 5))}
-
-
-def ratios_by_row(header, rows):
-    """The same of such a table, or of one of programs over files."""
-    base = {row[0]: row[2] for row in rows if row[1] in ("`b2sum` of coreutils", "`b2sum --tree 65536`, 1 processor")}
-    for row in rows:
-        if header[0] == "read":
-            yield row[1], row[3], base[row[0]], row[2]
-        for i, one, other in COMPARED.get(header[0], ()):
-            if row[i]:
-                yield row[0], row[i], *((row[one], row[other]) if row[one].endswith("B/s") else (row[other], row[one]))
+def compared(header, rows, row, i):
+    """The two cells of which the ratio is in a row's column. A candidate that the header names may have its number in
+    the first column only."""
+    candidate = header[i].partition("ratio to ")[2]
+    if candidate:
+        base = next(it for it in rows if it[0] in (candidate, f"ours: {candidate}"))
+        return row[i - 1], base[i - 1] or base[1]
+    if header[0] == "read":
+        return row[2], next(it[2] for it in rows if it[0] == row[0] and it[1] in PROGRAMS)
+    one, other = COMPARED[header[0], i]
+    return row[one], row[other]
 
 
 def wrong_ratios():
     """The ratios of bench/results/: each is that of the two numbers in its table"""
-    count = wanted = 0
+    count = 0
     for header, rows in tables():
-        for row, ratio, over, under in (*ratios_to(header, rows), *ratios_by_row(header, rows)):
-            count += 1
-            if not is_ratio(ratio, over, under):
-                yield f"bench/results/: {header[0]}, {row}: {ratio} is not {over} / {under}"
-        columns = [i for i, title in enumerate(header) if title.startswith("ratio")]
-        wanted += sum(bool(row[i]) for row in rows for i in columns)
-    if count != wanted or not count:
-        yield f"bench/results/: of {wanted} ratios {count} are read"
+        for row, i in itertools.product(rows, range(len(header))):
+            if header[i].startswith("ratio") and row[i]:
+                count += 1
+                ours, theirs = compared(header, rows, row, i)
+                is_speed = "B/s" in header[i - 1] + ours
+                if not is_ratio(row[i], *((ours, theirs) if is_speed else (theirs, ours))):
+                    yield f"bench/results/: {header[0]}, {row[0]}: {row[i]} is not the ratio of {ours} and {theirs}"
+    if not count:
+        yield "bench/results/: no ratio"

@@ -175,11 +175,9 @@ def check_crates():
     if len(needs) != len(paths("crates/*")):
         yield f"crates.txt: {len(needs)} crates"
     for crate, used in needs.items():
-        for other in used - needs.keys() - {"hex"}:
+        of_sums = {other for other in used if other.startswith("b2sum") and not crate.startswith("b2sum")}
+        for other in used - needs.keys() - {"hex"} | of_sums:
             yield f"crates.txt: {crate} needs {other}"
-        for other in used if not crate.startswith("b2sum") else ():
-            if other.startswith("b2sum"):
-                yield f"crates.txt: {crate} needs {other}"
 
 
 def without_code(page):

@@ -8,6 +8,7 @@ before, which may have left a key below it: the deepest of them, with all that t
 than SCRUB overwrites, and no function may use more than MOST. Prints each of these functions; the status is 1 if one
 reaches further.
 """
+import functools
 import re
 import sys
 
@@ -27,30 +28,22 @@ def main():
     scrubbed = {name: int(length) for name, length in re.findall(r"^SCRUB\((\w+), (\d+)\)$", text, re.MULTILINE)}
     bodies = dict(re.findall(r"^APART \w+ (\w+)\([^{]*\{\n(.*?)^\}$", text, re.MULTILINE | re.DOTALL))
     calls = {name: {*re.findall(r"\b(\w+)\(", body)} & {*bodies, *scrubbed} for name, body in bodies.items()}
-    depths = {}
 
-    def stack_depth(name):
-        if name not in depths:
-            # The compiler leaves out a function whose result is a number.
-            depths[name] = frames.get(name, 0) + max(map(stack_depth, calls[name] - {*scrubbed}), default=0)
-        return depths[name]
+    @functools.cache
+    def stack_depth(name, overwritten):
+        """What a call uses, with those of SCRUB or without them. The compiler leaves out a function whose result is a
+        number."""
+        below = [stack_depth(it, overwritten) for it in calls.get(name, set()) - {*scrubbed}]
+        below += [scrubbed[it] for it in calls.get(name, set()) & {*scrubbed} if overwritten]
+        return frames.get(name, 0) + max(below, default=0)
 
     failed = not scrubbed or len(frames) < len(bodies) / 2
     for name, callees in sorted((name, callees) for name, callees in calls.items() if callees & {*scrubbed}):
-        used = max(map(stack_depth, callees - {*scrubbed}), default=0)
+        used = max((stack_depth(it, False) for it in callees - {*scrubbed}), default=0)
         for each in sorted(callees & {*scrubbed}):
             failed = failed or used > scrubbed[each]
             print(f"{name}: {used} bytes below it, {scrubbed[each]} overwritten{' TOO FEW' * (used > scrubbed[each])}")
-    whole = {}
-
-    def used_by(name):
-        """What a call uses, also by those of SCRUB."""
-        if name not in whole:
-            below = (scrubbed[it] if it in scrubbed else used_by(it) for it in calls.get(name, ()))
-            whole[name] = frames.get(name, 0) + max(below, default=0)
-        return whole[name]
-
-    deepest = max((used_by(name), name) for name in bodies)
+    deepest = max((stack_depth(name, True), name) for name in bodies)
     print(f"{deepest[1]}: {deepest[0]} bytes, of at most {MOST}")
     sys.exit(failed or deepest[0] > MOST)
 

@@ -1,6 +1,7 @@
 # What the scripts of tests share; a script reads it by `source`, and so gets what tools/shell.sh has. The functions
 # print the Test Anything Protocol, which `prove` reads.
 source "$(dirname "$(dirname "$(readlink -f "${BASH_SOURCE[0]}")")")/tools/shell.sh"
+name=b2 source "$top/tools/launcher.sh"
 ended=0 failed=0
 
 # The files that show, besides what a failed test printed, why it failed.
@@ -97,21 +98,12 @@ with_macros() {
         echo "$file"
 }
 
-# The name that a file of a program in dist/ gives to a function that it calls or exports: FILE
-# call|export FUNCTION. The name of `main` there, and the program from it and the library, assembled once:
+# Assembles a program of dist/, once, and links it with what it is linked with by tools/launcher.sh:
 # FILE PROGRAM [ARGUMENTS FOR THE COMPILER..]
-name_in() { sed -n "/^\tvj_$2\t.*\.$3[._]/{s/.*\t//p;q;}" "$1"; }
-main_of() { sed -n 's/^\tvj_export\t\(main_.*\)/\1/p' "$1"; }
 assemble() {
-    local words=("-DMAIN=$(main_of "$1")" "-I$top/c/include" "$top"/c/{b2,choose}.c)
-    local object=$work/macros/${1##*/}.o
-    if [[ $1 == */b2sum* ]]; then
-        words+=("-DABSORB_TREE=$(name_in "$1" call absorb_tree)"
-            "-DPROVED_TREE=$(name_in "$1" export absorb_tree)"
-            "-DHIDE_MEMORY=$(name_in "$1" call hide_memory)"
-            "-DSHOW_PROGRESS=$(name_in "$1" call show_progress)" -pthread
-            -DEND=b2sum_end -DFREE=b2sum_free -DREALLOC=b2sum_realloc "$top"/c/{b2sum,threads}.c)
-    fi
+    local object=$work/macros/${1##*/}.o format=elf words=() name
+    name=$(basename "$1" .s)
+    add_words "$1"
     [ -e "$object" ] || cc -c "$(with_macros "$1" "${1%/*}"/vulfsjor*.s)" -o "$object" || return
     cc -O2 -fno-lto -o "$2" "${words[@]}" "$object" -Wl,--gc-sections "${@:3}"
 }

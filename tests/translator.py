@@ -5,10 +5,8 @@ there are more functions, compilers and processors.
 
     tests/translator.py [SEED COUNT]
 
-Needs node and a C compiler. Other processors need their compiler and emulator, and Rust needs rustc. RUSTC may be
-several words, of a Rust that compiles for another processor, and RUSTC_RUNNER its emulator.
+Needs node and a C compiler. Other processors need their compiler and emulator, and Rust needs rustc, or what RUSTC is.
 """
-import functools
 import os
 import re
 import shutil
@@ -37,9 +35,10 @@ MORE_TARGETS = {processor: ([f"{compiler}-gcc", "-O2", "-static"], [emulator]) f
     ("riscv64", "riscv64-linux-gnu", "qemu-riscv64"), ("i386", "i686-linux-gnu", "qemu-i386"),
     ("armhf", "arm-linux-gnueabihf", "qemu-arm"), ("ppc64el", "powerpc64le-linux-gnu", "qemu-ppc64le"))}
 MORE_TARGETS |= {"cc -O2": (["cc", "-O2"], []), "clang -O1": (["clang", "-O1"], [])}
+IN_C = ["-std=c99", "-w", "-I.", "main.c", "v.c"]
 # Sums that are too long for their type would panic in Rust with these words.
-RUSTC = [*os.environ.get("RUSTC", "rustc").split(), "-C", f"opt-level={int(HUGE)}", "-C", "debug-assertions=on",
-         "-A", "warnings"]
+RUSTC = [os.environ.get("RUSTC", "rustc"), "-C", f"opt-level={int(HUGE)}", "-C", "debug-assertions=on",
+         "-A", "warnings", "--edition=2021", "main.rs"]
 INPUTS = [(0, 0), (1, 2**64 - 1), (0x0123456789abcdef, 0xfedcba9876543210), (1 << 63, 1 << 31),
           (0x7fffffff80000000, 0xff80), (0x9e3779b97f4a7c15, 0xbf58476d1ce4e5b9), (33, 0x94d049bb133111eb)]
 C_TYPES = {"i64": "uint64_t", "i32": "uint32_t"}
@@ -131,16 +130,11 @@ class Case:
         return done.stdout if not done.returncode else f"{words[0]}: {done.returncode} {done.stderr[-3000:]}"
 
     def translate(self):
-        self.write("v.c", str(wasm_to_c.Program(self.data, self.header)).encode())
+        for name, translator in (("v.c", wasm_to_c), ("v.rs", wasm_to_rust)):
+            self.write(name, str(translator.Program(self.data, self.header)).encode())
 
     def run(self, compiler, emulator):
-        said = self.output([*compiler, "-std=c99", "-w", "-I.", "main.c", "v.c", "-o", "run"])
-        return said or self.output([*emulator, "./run"])
-
-    def run_in_rust(self):
-        self.write("v.rs", str(wasm_to_rust.Program(self.data, self.header)).encode())
-        said = self.output([*RUSTC, "--edition=2021", "main.rs", "-o", "run"])
-        return said or self.output([*os.environ.get("RUSTC_RUNNER", "").split(), "./run"])
+        return self.output([*compiler, "-o", "run"]) or self.output([*emulator, "./run"])
 
     def difference(self, got):
         """The first function whose result is another than node's, or nothing."""
@@ -163,10 +157,11 @@ def what_is_missing(tool, *emulator):
 
 def test_targets(case, name):
     """The functions on each processor whose compiler is there."""
-    targets = [(target, what_is_missing(compiler[0], *emulator), functools.partial(case.run, compiler, emulator))
-               for target, (compiler, emulator) in {**TARGETS, **(MORE_TARGETS if HUGE else {})}.items()]
-    for target, missing, run in (*targets, ("in Rust", what_is_missing(RUSTC[0]), case.run_in_rust)):
-        why = "" if missing else case.difference(run())
+    targets = {target: ([*compiler, *IN_C], emulator)
+               for target, (compiler, emulator) in {**TARGETS, **(MORE_TARGETS if HUGE else {})}.items()}
+    for target, (compiler, emulator) in {**targets, "in Rust": (RUSTC, [])}.items():
+        missing = what_is_missing(compiler[0], *emulator)
+        why = "" if missing else case.difference(case.run(compiler, emulator))
         tap.result(not why, f"{name}, {target}", why, missing)
 
 

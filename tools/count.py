@@ -1,7 +1,7 @@
 #!/usr/bin/env python3
 """Counts the lines of each kind of file that git keeps here, and how many lines of tests, tools and benchmarks there
 are for each line of the product, which is all code that is written by hand and installed. Examples, the page in
-js/demo, test vectors and what is generated belong to neither, and tests/machine is counted by itself.
+js/demo and what is generated belong to neither, and tests/machine is counted by itself.
 
     tools/count.py [CLONE]
 """
@@ -15,7 +15,6 @@ import sys
 KINDS = [
     ("pages", r".*\.md"),
     ("generated", r"js/src/(wasm\w*|worker_text)\.js|dist/(?!.*\.(S|h|inc)$).*|.*\.(svg|[1-8]|lock)|bench/results/.*"),
-    ("test vectors", r"tests/vectors\.json"),
     ("examples, demo", r"crates/blake2_examples/src/.*|.*/examples/.*|js/demo/.*"),
     ("must-fail edits", r"crates/.*/must-fail/.*"), ("Rattle, specs", r"crates/.*/specs/.*"),
     ("Rattle, proofs", r"crates/.*/proofs/.*"),

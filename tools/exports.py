@@ -89,11 +89,6 @@ def prototypes():
     return {name: (result, list_parts(given), bool(empty)) for empty, result, name, given in found}
 
 
-def header_signatures():
-    """The same as in Rust: parameters and result."""
-    return {name: ([of_c(one) for one in given], NUMBERS[result]) for name, (result, given, _) in prototypes().items()}
-
-
 def signature(head, state):
     """The name of a function of Rust or Rattle, and its signature."""
     name, given, result = re.search(r"fn (\w+)\((.*?)\)(?: -> (\w+))?", head).groups("")
@@ -125,7 +120,9 @@ def fields_of(text, name):
 
 def differences_from_header():
     """What differs from the header, as sentences."""
-    wanted = header_signatures()
+    # The signatures as in Rust: parameters and result.
+    wanted = {name: ([of_c(one) for one in given], NUMBERS[result])
+              for name, (result, given, _) in prototypes().items()}
     found = dict(rattle_exports())
     yield from (f"{HEADER}: {name} has narrow arguments on the stack, which {CALLS} cannot pass on"
                 for name, (given, _) in wanted.items() if is_packed(given))

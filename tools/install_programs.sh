@@ -33,7 +33,7 @@ is_ours() { { [ ! -e "$1" ] && [ ! -L "$1" ]; } || grep -qs Vulfsjor "$1"; }
 # words of lines, and the words in bold; in completions of the three shells, what they are for.
 renamed() {
     sed "s/^\.TH /&$(printf '%s' "$prefix" | tr '[:lower:]' '[:upper:]')/;s/^$2 /$prefix&/
-        s/\\\\fB$2\\( [^\\\\]*\\)\\{0,1\\}\\\\fR/\\\\fB$prefix$2\\1\\\\fR/g
+        s/\\\\fB$2\\([ \\\\]\\)/\\\\fB$prefix$2\\1/g
         s/^\\(complete .* \\)$2\$/\\1$prefix$2/;s/^complete -c /&$prefix/;1s/^#compdef /&$prefix/" "$1"
 }
 

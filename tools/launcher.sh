@@ -29,8 +29,8 @@ is_current() {
 
 # The name of the main in a file of dist/, and that of a function that it calls or exports: FILE
 # call|export FUNCTION.
-main_of() { sed -n $'s/^\tvj_export\t\\(main_.*\\)/\\1/p' "$top/$1"; }
-name_in() { sed -n $'/^\tvj_'"$2"$'\t.*\\.'"$3"$'[._]/{s/.*\t//p;q;}' "$top/$1"; }
+main_of() { sed -n $'s/^\tvj_export\t\\(main_.*\\)/\\1/p' "$1"; }
+name_in() { sed -n $'/^\tvj_'"$2"$'\t.*\\.'"$3"$'[._]/{s/.*\t//p;q;}' "$1"; }
 
 # Adds to `words` what the compiler gets for the program of this file.
 add_words() {
@@ -78,7 +78,7 @@ build() {
     # With -g this name is written, and not that of the temporary file.
     (cd "$top" && echo "# 1 \"$name.s\"" && cat "${texts[0]%/*}/$format.inc" &&
         printf '\tvj_marks\n' && cat "${texts[@]}") >"$begun.s"
-    add_words "${texts[0]}"
+    add_words "$top/${texts[0]}"
     read -ra flags <<<"${CPPFLAGS-} ${CFLAGS-} ${LDFLAGS-}"
     "${cc[@]}" -O2 ${flags[@]+"${flags[@]}"} -fno-lto -ffunction-sections "${words[@]}" \
         -o "$begun.new" "$begun.s"

@@ -18,6 +18,16 @@ TABLE = "tools/twins.txt"
 MADE = "Made by tools/twins.py from"
 
 
+# A line with the number 2 that ends with a comma, one that has 3 for that, and none with 4.
+LEAVES = re.compile(r"(?m)^(.*)\b2\b(.*,\n)\1\b3\b.*\n(?!\1\b4\b)")
+
+
+def for_leaves(match):
+    """What lines for leaves 2 and 3 become: those for leaves 2 to 7."""
+    second = match[1] + "2" + match[2]
+    return "".join(re.sub(r"\b2\b", str(k), second) for k in range(2, 8))
+
+
 class Table:
     """The table: which files are written by hand, and what becomes what in which files."""
 
@@ -49,7 +59,7 @@ class Table:
             self.used.add(line)
             return new
 
-        return pattern.sub(replace, text)
+        return LEAVES.sub(for_leaves, pattern.sub(replace, text))
 
     def made_files(self):
         """The files to make, with their texts."""

@@ -111,7 +111,7 @@ class Body:
         self.blocks.append(Block(is_loop, f"l{self.labels}", len(self.stack), places))
         self.emit(Mark(self.blocks[-1], True))
 
-    def close(self):
+    def do_end(self):
         """Ends a block or a loop."""
         refuse_unless(self.blocks, "an end of no block")
         block = self.blocks.pop()
@@ -184,10 +184,6 @@ class Body:
                 self.compare(a, op, sign, b)
             else:
                 self.arithmetic(a, what, b)
-
-    def do_end(self):
-        """The end of a block."""
-        self.close()
 
     def do_br(self, depth):
         """A branch."""
@@ -333,7 +329,7 @@ class Body:
         if sign == "s":
             value = Value(type_, self.sign(type_, value, n), [value])
         elif value.type != type_:
-            value = Value(type_, self.language.cast(type_, text), [value])
+            value = Value(type_, self.cast(type_, text), [value])
         self.push(value)
 
     def store(self, type_, bits, offset):
@@ -352,13 +348,17 @@ class Body:
 
     def number(self, type_, n):
         """An operand that is a number."""
-        value = Value(type_, self.language.number(type_, n))
+        value = Value(type_, self.language.number.format(bits=BITS[type_], text=literal(n)))
         value.number = n
         return value
 
+    def cast(self, type_, text):
+        """An expression of another type."""
+        return self.language.cast.format(bits=BITS[type_], text=text)
+
     def comparison(self, condition, of):
         """The result of a comparison."""
-        value = Value("i32", self.language.cast("i32", f"({condition})"), of)
+        value = Value("i32", self.cast("i32", f"({condition})"), of)
         value.condition = condition
         return value
 
@@ -366,10 +366,10 @@ class Body:
         """An operator with one operand."""
         if what == "wrap_i64":
             a = self.pop("i64")
-            self.push(Value("i32", self.language.cast("i32", a.text), [a]))
+            self.push(Value("i32", self.cast("i32", a.text), [a]))
         elif what == "extend_i32_u":
             a = self.pop("i32")
-            self.push(Value("i64", self.language.cast("i64", a.text), [a]))
+            self.push(Value("i64", self.cast("i64", a.text), [a]))
         elif what == "eqz":
             a = self.pop(type_)
             if a.number is not None:
@@ -405,7 +405,7 @@ class Body:
             elif what == "and":
                 place = self.aligned(a.place, b.number)
         if what == "xor" and b.number == (1 << w) - 1:
-            text = self.language.opposite(a.text)
+            text = self.language.opposite.format(text=a.text)
         elif what in OPERATORS:
             operator = OPERATORS[what]
             if what == "add" and b.number is not None and -1 << 15 < b.signed() < 0:
@@ -471,8 +471,9 @@ class Body:
         texts = self.language.declarations([each for each in variables if each[0] in read])
         if TOP in read:
             self.program.needs("frame")
-            texts += self.language.frame((self.frame + self.align) // 8 + 2)
-        texts += [self.language.unused(f"v{k}") for k in range(count) if f"v{k}" not in read]
+            words = (self.frame + self.align) // 8 + 2
+            texts += self.language.frame.format(words=words, bytes=8 * words).split("\n")
+        texts += [self.language.unused.format(name=f"v{k}") for k in range(count) if f"v{k}" not in read]
         texts += self.language.statements(lines)
         for _, text in lines:
             if isinstance(text, Write):

@@ -5,7 +5,6 @@ from __future__ import annotations
 
 import base64
 import re
-import struct
 from typing import Any
 
 
@@ -143,21 +142,23 @@ class Module:
     """The functions, by their index, the width of addresses in bits, and names if there are any."""
 
     names: dict
+    sections: dict
 
     def __init__(self, data: bytes) -> None:
         reader = Reader(data)
         if reader.take(8) != b"\0asm\1\0\0\0":
             raise CannotRead("this is not a WebAssembly module of version 1")
-        sections, self.names = {}, {}
+        self.sections, self.names = {}, {}
         while reader.at < len(data):
             id_ = reader.byte()
             content = Reader(reader.take(reader.number()))
             if id_ == 0:
                 self.read_names(content)
-            elif id_ in sections or id_ == START or id_ > LAST:
+            elif id_ in self.sections or id_ == START or id_ > LAST:
                 raise CannotRead("the module has a section %d, or has it twice" % id_)
             else:
-                sections[id_] = content
+                self.sections[id_] = content
+        sections = self.sections
         if 2 in sections:
             raise CannotRead("the module has imports, so its functions are counted otherwise")
         types = [self.read_type(sections[1]) for _ in range(sections[1].number())]

@@ -1,5 +1,6 @@
 /* The text in C that no module has, in parts for tools/wasm_to_c.py: it writes those that it needs,
- * in this order. A word such as @FAMILY@ stands for what it knows. This file is not compiled. */
+ * in this order. A word such as @FAMILY@ stands for what it knows, and a part with sizes is one for
+ * each. This file is not compiled. */
 
 /* ---- head */
 /* BLAKE2b, BLAKE2s, BLAKE2bp and BLAKE2sp for processors without assembly in dist/: the functions of
@@ -99,14 +100,8 @@ uint32_t vulfsjor_library_version(void) { return VULFSJOR_VERSION_NUMBER; }
         return a operator b;                                             \
     }
 
-/* ---- order16 */
-ORDER(16)
-
-/* ---- order32 */
-ORDER(32)
-
-/* ---- order64 */
-ORDER(64)
+/* ---- order 16 32 64 */
+ORDER(@SIZE@)
 
 /* ---- load8 */
 static inline uint32_t load8(uint64_t a) { return *POINTER(a); }
@@ -114,23 +109,14 @@ static inline uint32_t load8(uint64_t a) { return *POINTER(a); }
 /* ---- load16 */
 LOAD(16, uint32_t)
 
-/* ---- load32 */
-LOAD(32, uint32_t)
-
-/* ---- load64 */
-LOAD(64, uint64_t)
+/* ---- load 32 64 */
+LOAD(@SIZE@, uint@SIZE@_t)
 
 /* ---- store8 */
 static inline void store8(uint64_t a, uint64_t number) { *POINTER(a) = (uint8_t)number; }
 
-/* ---- store16 */
-STORE(16)
-
-/* ---- store32 */
-STORE(32)
-
-/* ---- store64 */
-STORE(64)
+/* ---- store 16 32 64 */
+STORE(@SIZE@)
 
 /* ---- copy */
 static inline void copy(uint64_t to, uint64_t from, uint64_t length) {
@@ -143,41 +129,23 @@ APART void fill(uint64_t to, uint32_t byte, uint64_t length) {
     if (length) memset(POINTER(to), (unsigned char)byte, (size_t)length);
 }
 
-/* ---- rotl32 */
-ROTL(32)
+/* ---- rotl 32 64 */
+ROTL(@SIZE@)
 
-/* ---- rotl64 */
-ROTL(64)
+/* ---- rotr 32 64 */
+ROTR(@SIZE@)
 
-/* ---- rotr32 */
-ROTR(32)
+/* ---- shr_s 32 64 */
+SHR_S(@SIZE@)
 
-/* ---- rotr64 */
-ROTR(64)
+/* ---- sign 32 64 */
+SIGN(@SIZE@)
 
-/* ---- shr_s32 */
-SHR_S(32)
+/* ---- div_u 32 64 */
+DIVIDE(div_u, @SIZE@, /)
 
-/* ---- shr_s64 */
-SHR_S(64)
-
-/* ---- sign32 */
-SIGN(32)
-
-/* ---- sign64 */
-SIGN(64)
-
-/* ---- div_u32 */
-DIVIDE(div_u, 32, /)
-
-/* ---- div_u64 */
-DIVIDE(div_u, 64, /)
-
-/* ---- rem_u32 */
-DIVIDE(rem_u, 32, %)
-
-/* ---- rem_u64 */
-DIVIDE(rem_u, 64, %)
+/* ---- rem_u 32 64 */
+DIVIDE(rem_u, @SIZE@, %)
 
 /* ---- scrub */
 /* Overwrites the stack below the caller, by as much at once as the compiler can. */
@@ -200,7 +168,7 @@ typedef u64 wide;
     const uint64_t top = (ADDRESS(frame) + sizeof frame) & ~UINT64_C(15)
 
 /* ---- many */
-@HEAD@ {
+@HEAD@
     /* The module's messages are two 64-bit numbers each. A call refuses all groups or none, except
      * for a length, so that is looked at before the first. */
     enum { GROUP = 32 };

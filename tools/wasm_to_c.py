@@ -38,67 +38,51 @@ SCRUB = ("block; global.get 0; local.tee 0; i64.const 16; i64.lt_s; br_if 0; cal
 class C:
     """How a function is written in C."""
 
-    @staticmethod
-    def type(type_):
+    # A number of a type, an expression of another type, and all bits changed.
+    number, cast, opposite = "UINT{bits}_C({text})", "(u{bits}){text}", "(~{text})"
+    # The part of the stack, of so many numbers, and its end; and what says that a parameter is not used.
+    frame, unused = "FRAME({words});", "(void){name};"
+    # A structure of the header for the module: its room there, and each field before and after a call.
+    room = "uint64_t {name}_[{count}];"
+    field_before = "store{bits}(ADDRESS({name}_) + {place}, {name}->{field});"
+    field_after = "{name}->{field} = (uint{bits}_t)load{bits}(ADDRESS({name}_) + {place});"
+    address = "ADDRESS({}_)"
+
+    def type(self, type_):
         """The type for one of WebAssembly."""
         refuse_unless(type_ in BITS, f"the type {type_}")
         return f"u{BITS[type_]}"
 
-    @staticmethod
-    def number(type_, n):
-        """A number of a type."""
-        return f"UINT{BITS[type_]}_C({literal(n)})"
-
-    @staticmethod
-    def cast(type_, text):
-        """An expression of another type."""
-        return f"({C.type(type_)}){text}"
-
-    @staticmethod
-    def argument(_, value):
+    def argument(self, _, value):
         """An operand as an argument of another type."""
         return value.plain()
 
-    @staticmethod
-    def choice(c, a, b):
+    def choice(self, c, a, b):
         """One of two."""
         return f"({c.condition or c.text} ? {a} : {b})"
 
-    @staticmethod
-    def opposite(text):
-        """All bits changed."""
-        return f"(~{text})"
-
-    @staticmethod
-    def operation(a, operator, b):
+    def operation(self, a, operator, b):
         """An operator between two operands."""
         first = a.beside(b) if a.number is not None else a.before(operator)
         return f"({first} {operator} {b.beside(a)})"
 
-    @staticmethod
-    def condition(c):
+    def condition(self, c):
         """An operand as a condition."""
         return c.condition or c.plain()
 
-    @staticmethod
-    def declarations(variables):
+    def head(self, name, c_name, function):
+        """The first lines of a function of the module."""
+        result = self.type(function.results[0]) if function.results else "void"
+        words = ", ".join(f"{self.type(type_)} v{k}" for k, type_ in enumerate(function.parameters))
+        return f"/* {name} */\n" + filled(f"APART {result} {c_name}({words or 'void'}) {{")
+
+    def declarations(self, variables):
         """The declarations of variables, of which each has a name, a type, and whether it is 0 at first."""
         names = {type_: [name + " = 0" * is_zero for name, each, is_zero in variables if each == type_]
                  for type_ in BITS}
-        return [f"{C.type(type_)} {', '.join(names[type_])};" for type_ in BITS if names[type_]]
+        return [f"{self.type(type_)} {', '.join(names[type_])};" for type_ in BITS if names[type_]]
 
-    @staticmethod
-    def frame(words):
-        """The part of the stack, of so many numbers, and its end."""
-        return [f"FRAME({words});"]
-
-    @staticmethod
-    def unused(name):
-        """What says that a parameter is not used."""
-        return f"(void){name};"
-
-    @staticmethod
-    def statements(lines):
+    def statements(self, lines):
         """The statements of lines: each sets a variable, or None, to an expression, or is a branch or a mark."""
         texts = []
         for sets, text in lines:
@@ -116,14 +100,39 @@ class C:
         used = {word for text in texts for word in re.findall(r"goto (l\d+);", text)}
         return [text for text in texts if not text.endswith(":;") or text[:-2] in used]
 
+    def exported(self, name, result, parameters):
+        """The first lines of a function of the header."""
+        given = ", ".join(f"{const}{type_} {star}{each}" for const, type_, star, each in parameters) or "void"
+        return filled(f"{result} NAME({name})({given})") + " {"
+
+    def passed(self, parameter, _):
+        """A parameter of such a function as the module's argument."""
+        _, _, star, each = parameter
+        return f"ADDRESS({each})" if star else each
+
+    def last_lines(self, call, result, after):
+        """What such a function does with the call of the module's: if there is something to do after it, unless that
+        fails."""
+        if after:
+            return [f"if ({call}) return -1;", *after, "return 0;"]
+        return [f"return ({result}){call};" if result != "void" else f"{call};"]
+
+
+def filled(text):
+    """The first lines of a function, of at most 100 columns."""
+    return textwrap.fill(text, 100, subsequent_indent=" " * 8)
+
 
 class Parts:
-    """The text that no module has: tools/wasm_to_c.c, for example. A part begins with a line that names it."""
+    """The text that no module has: tools/wasm_to_c.c, for example. A part begins with a line that names it, and is
+    several if that has their sizes."""
 
     def __init__(self, name):
         with open(os.path.join(HERE, name), encoding="utf-8") as file:
-            found = re.split(r"^(?:/\*|//) ---- (\w+)(?: \*/)?\n", file.read(), flags=re.MULTILINE)
-        self.texts = dict(zip(found[1::2], (text.strip("\n") for text in found[2::2])))
+            found = re.split(r"^(?:/\*|//) ---- (\w+)([ \d]*)(?:\*/)?\n", file.read(), flags=re.MULTILINE)
+        self.texts = {name + size: text.strip("\n").replace("@SIZE@", size)
+                      for name, sizes, text in zip(found[1::3], found[2::3], found[3::3])
+                      for size in sizes.split() or [""]}
 
     def fill(self, name, **words):
         """A part with these words in the places of their names, such as @NAME@."""
@@ -147,11 +156,11 @@ class Header:
 class Program:
     """The file in C."""
 
-    language, parts_file = C, "wasm_to_c.c"
+    language, parts_file = C(), "wasm_to_c.c"
 
     def __init__(self, data, header):
-        self.exports = checked(data)
         module = Module(data)
+        self.exports = exports_of(module)
         refuse_unless(module.width == 64, "a memory of 32 bits")
         self.functions, self.names = module.functions, module.names
         refuse_unless(sorted(self.names) == list(range(len(self.functions))), "functions without names")
@@ -176,13 +185,12 @@ class Program:
     def check_runtime(self):
         """Refuses functions of Rattle's runtime that are not as they are known here."""
         for k, name in self.names.items():
-            if name in RUNTIME:
-                refuse_unless(self.lines_of(k) == RUNTIME[name], f"another {name}")
+            wanted = RUNTIME.get(name)
             if re.search(r"\bsettle::<=\d+>$", name):
-                refuse_unless(self.lines_of(k) == SETTLE, f"another {name}")
-            if self.scrubbed(k):
-                settle = name.replace("scrub_stack", "settle")
-                refuse_unless(self.lines_of(k) == SCRUB.replace("SETTLE", settle), f"another {name}")
+                wanted = SETTLE
+            elif self.scrubbed(k):
+                wanted = SCRUB.replace("SETTLE", name.replace("scrub_stack", "settle"))
+            refuse_unless(wanted in (None, self.lines_of(k)), f"another {name}")
 
     def wrapped(self, k):
         """What an exported function calls between __rattle_enter and __rattle_leave, if nothing else, or itself."""
@@ -210,12 +218,9 @@ class Program:
 
     def function(self, k):
         """A function of the module."""
-        function = self.functions[k]
-        refuse_unless(len(function.results) <= 1, "several results")
-        result = C.type(function.results[0]) if function.results else "void"
-        words = ", ".join(f"{C.type(type_)} v{k}" for k, type_ in enumerate(function.parameters))
-        head = textwrap.fill(f"APART {result} {self.c_name(k)}({words or 'void'}) {{", 100, subsequent_indent=" " * 8)
-        return f"/* {self.names[k]} */\n{head}\n{Body(self, function)}\n}}"
+        refuse_unless(len(self.functions[k].results) <= 1, "several results")
+        head = self.language.head(self.names[k], self.c_name(k), self.functions[k])
+        return f"{head}\n{Body(self, self.functions[k])}\n}}"
 
     def all_functions(self):
         """The functions that are called, callees first."""
@@ -242,39 +247,34 @@ class Program:
             bits = int(re.fullmatch(r"uint(8|32|64)_t", each)[1])
             self.needs(f"store{bits}"), self.needs(f"load{bits}")
             refuse_unless(place % (bits // 8) == 0, f"{type_} with a gap")
-            before.append(f"store{bits}(ADDRESS({name}_) + {place}, {name}->{field});")
-            after.append(f"{name}->{field} = ({each})load{bits}(ADDRESS({name}_) + {place});")
+            words = {"name": name, "field": field, "bits": bits, "place": place}
+            before.append(self.language.field_before.format(**words))
+            after.append(self.language.field_after.format(**words))
             place += bits // 8
         refuse_unless(place % 8 == 0, f"{type_} with a gap")
-        return f"uint64_t {name}_[{place // 8}];", before if is_const else [], [] if is_const else after
+        room = self.language.room.format(name=name, count=place // 8)
+        return [room, *(before if is_const else [])], [] if is_const else after
 
     def exported(self, name):
         """A function of the header."""
         result, parameters = self.header.functions[name]
-        inner = self.c_name(self.exports[name])
-        words, declared, before, after, is_many = [], [], [], [], False
-        for const, type_, star, each in parameters:
-            is_many = is_many or type_ == "vulfsjor_message"
-            if star and type_ in self.header.structs and not type_.endswith("_state") and not is_many:
-                lines = self.struct(type_, each, const)
-                for to, more in zip((declared, before, after), ([lines[0]], *lines[1:])):
-                    to += more
-                words.append(f"ADDRESS({each}_)")
-            else:
-                words.append(f"ADDRESS({each})" if star else each)
-        given = ", ".join(f"{const}{type_} {star}{each}" for const, type_, star, each in parameters) or "void"
-        head = textwrap.fill(f"{result} NAME({name.removeprefix('vulfsjor_ffi_')})({given})", 100,
-                             subsequent_indent=" " * 8)
-        if is_many:
+        types, inner = {type_ for _, type_, _, _ in parameters}, self.c_name(self.exports[name])
+        head = self.language.exported(name.removeprefix("vulfsjor_ffi_"), result, parameters)
+        if "vulfsjor_message" in types:
             family = "BLAKE2B" if "blake2b" in name else "BLAKE2S"
             return self.parts.fill("many", HEAD=head, INNER=inner, FAMILY=family)
-        call = f"{inner}({', '.join(words)})"
-        lines = declared + before
-        if after:
-            lines += [f"if ({call}) return -1;", *after, "return 0;"]
-        else:
-            lines.append(f"return ({result}){call};" if result != "void" else f"{call};")
-        return f"{head} {{\n" + "\n".join(f"    {line}" for line in lines) + "\n}"
+        words, lines, after = [], [], []
+        for const, type_, star, each in parameters:
+            is_struct = type_ in self.header.structs
+            if is_struct and not type_.endswith("_state"):
+                before, more = self.struct(type_, each, const)
+                lines += before
+                after += more
+                words.append(self.language.address.format(each))
+            else:
+                words.append(self.language.passed((const, type_, star, each), is_struct))
+        lines += self.language.last_lines(f"{inner}({', '.join(words)})", result, after)
+        return f"{head}\n" + "\n".join(f"    {line}" for line in lines) + "\n}"
 
     def __str__(self):
         functions = self.all_functions()
@@ -283,23 +283,19 @@ class Program:
         return "\n\n".join(parts + functions + exported) + "\n"
 
 
-def checked(data):
+def exports_of(module):
     """The exported functions of a module by name, if its sections are known here: no import, table, start or data."""
-    reader, exports = Reader(data), {}
-    reader.take(8)
-    while reader.at < len(data):
-        id_, content = reader.byte(), Reader(reader.take(reader.number()))
-        refuse_unless(id_ in (0, 1, 3, 5, 6, 7, 10, 11), f"a section {id_}")
-        if id_ == 6:  # the stack pointer, the flag, and an address that is constant
-            refuse_unless(re.fullmatch(rb"\x03(\x7e\x01\x42[\x80-\xff]*[\0-\x7f]\x0b)(\x7f\x01\x41\0\x0b)"
-                                       rb"(\x7e\0\x42[\x80-\xff]*[\0-\x7f]\x0b)", content.data), "other globals")
-        elif id_ == 7:
-            for _ in range(content.number()):
-                name, kind, k = content.take(content.number()).decode(), content.byte(), content.number()
-                refuse_unless(kind == 0 or name in ("memory", "__heap_base"), f"the export {name}")
-                exports.update({name: k} if kind == 0 else {})
-        elif id_ == 11:  # segments of no bytes
-            refuse_unless(re.fullmatch(rb"\x01\0\x42[\x80-\xff]*[\0-\x7f]\x0b\0", content.data), "data")
+    number = rb"\x42[\x80-\xff]*[\0-\x7f]\x0b"
+    known = {6: rb"\x03(\x7e\x01" + number + rb")(\x7f\x01\x41\0\x0b)(\x7e\0" + number + rb")",
+             11: rb"\x01\0" + number + rb"\0"}  # the stack pointer, the flag, a constant address; no bytes
+    for id_, content in module.sections.items():
+        refuse_unless(id_ in (1, 3, 5, 6, 7, 10, 11), f"a section {id_}")
+        refuse_unless(id_ not in known or re.fullmatch(known[id_], content.data), "other globals, or data")
+    exports, content = {}, module.sections.get(7, Reader(b"\0"))
+    for _ in range(content.number()):
+        name, kind, k = content.take(content.number()).decode(), content.byte(), content.number()
+        refuse_unless(kind == 0 or name in ("memory", "__heap_base"), f"the export {name}")
+        exports.update({name: k} if kind == 0 else {})
     return exports
 
 

@@ -77,6 +77,7 @@ static void begin_at(uint64_t at, int file, const char *name) {
 }
 
 static void check_progress(void) {
+    const char *const end = "\rnnnnnnnnnnnnnnnnnnnnnnnnnnnnnnnnnnnnnend: 0 MiB\033[K";
     char name[50] = "";
 
     begin_at(1000, 99, "some\x1f\x7f\xff ~");
@@ -86,12 +87,11 @@ static void check_progress(void) {
     memset(name, 'n', 49);
     strcpy(name + 41, "end");
     begin_at(2000, 99, name);
-    CHECK(shows(99, 2600, 1, "\rnnnnnnnnnnnnnnnnnnnnnnnnnnnnnnnnnnnnnend: 0 MiB\033[K"));
+    CHECK(shows(99, 2600, 1, end));
     write_fails = true;
-    CHECK(shows(99, 2700, 1, "\rnnnnnnnnnnnnnnnnnnnnnnnnnnnnnnnnnnnnnend: 0 MiB\033[K"));
+    CHECK(shows(99, 2700, 1, end));
     write_fails = false;
-    CHECK(shows(99, 2701, 0, ""));
-    CHECK(shows(99, 2801, 1, "\rnnnnnnnnnnnnnnnnnnnnnnnnnnnnnnnnnnnnnend: 0 MiB\033[K"));
+    CHECK(shows(99, 2701, 0, "") && shows(99, 2801, 1, end));
     is_shown = write_fails = true; /* the error of a read is not that of the write */
     CHECK(b2sum_read(99, name, 1) == -1 && errno == EBADF && !strcmp(written, "\r\033[K"));
     is_shown = write_fails = false;
@@ -106,13 +106,9 @@ static void check_length(void) {
 
     CHECK(!ftruncate(file, (off_t)1 << 40));
     memset(name, 'n', sizeof name - 1);
-    sprintf(line, "\r%s: 4294967297 MiB of 1048576\033[K", name);
-    begin_at(5000, file, name);
-    CHECK(shows(file, 5100, (ssize_t)1 << 52, "") && shows(file, 5500, 1 << 20, line));
     sprintf(line, "\r%s: 4398046511105 MiB of 1048576\033[K", name);
-    CHECK(shows(file, 5550, ((ssize_t)1 << 62) - ((ssize_t)1 << 52), "") && shows(file, 5600, 0, "\r\033[K"));
     begin_at(5600, file, name);
-    CHECK(shows(file, 6000, (ssize_t)1 << 62, "") && shows(file, 6500, 1 << 20, line));
+    CHECK(shows(file, 5700, (ssize_t)1 << 62, "") && shows(file, 6100, 1 << 20, line) && shows(file, 6200, 0, "\r\033[K"));
 }
 
 /* Standard input is another file, and what threads have read is shown with the bytes before. */
@@ -178,9 +174,7 @@ static void check_room(void) {
 
 /* Whether these bytes are all this one. */
 static bool are_all(const unsigned char *bytes, size_t length, int byte) {
-    for (size_t i = 0; i < length; i++)
-        if (bytes[i] != byte) return false;
-    return true;
+    return bytes[0] == byte && !memcmp(bytes, bytes + 1, length - 1);
 }
 
 /* Whether freed blocks have nothing in them, also if a block moves, which stays what it is. */
@@ -226,17 +220,13 @@ __attribute__((noinline, no_sanitize("address"))) static int left_on_stack(void)
 static void check_stack(void) {
     char bytes[1];
 
-    leave_on_stack();
-    CHECK(left_on_stack() > DEEP / 2);
-    leave_on_stack();
-    b2sum_open("/", 0);
-    CHECK(left_on_stack() < DEEP / 50);
-    leave_on_stack();
-    b2sum_read(99, bytes, 1);
-    CHECK(left_on_stack() < DEEP / 50);
-    leave_on_stack();
-    b2sum_end(0, "");
-    CHECK(left_on_stack() < DEEP / 50);
+    for (int call = 0; call < 4; call++) {
+        leave_on_stack();
+        if (call == 1) b2sum_open("/", 0);
+        if (call == 2) b2sum_read(99, bytes, 1);
+        if (call == 3) b2sum_end(0, "");
+        CHECK(call ? left_on_stack() < DEEP / 50 : left_on_stack() > DEEP / 2);
+    }
 }
 
 int main(void) {

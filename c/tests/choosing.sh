@@ -14,22 +14,21 @@ names_of_header() {
         LC_ALL=C sort -u
 }
 
-names_of_object() {
-    nm "$@" | awk 'NF == 3 && $2 ~ /[A-Z]/ { print $3 }' | sed 's/@.*//' | LC_ALL=C sort -u
-}
+names_of_object() { nm "$@" | awk 'NF == 3 && $2 ~ /[A-Z]/ { print $3 }' | LC_ALL=C sort -u; }
 
 # Names that an archive has for itself: those of the builds, which have the number of the code in
 # them, and those of choose.c.
 without_own() { sed "/_$(code_number)_[a-z0-9]*\$/d;/^vulfsjor_ffi_\(ask\|find\|level\)\$/d"; }
 
-# Header, archive and shared library have the same functions, and show nothing else.
+# Header, archive and shared library have the same functions, in the latter with their version, and show nothing else.
 names_are_one() {
     names_of_header >"$work/names" && [ "$(wc -l <"$work/names")" -ge 29 ] || return 1
     names_of_object -g --defined-only "$archive" | without_own | diff "$work/names" - || return 1
-    names_of_object -D --defined-only "$shared" | sed '/^VULFSJOR_0[.]1$/d' | diff "$work/names" -
+    names_of_object -D --defined-only "$shared" | sed '/^VULFSJOR_0[.]1$/d' |
+        diff <(sed 's/$/@@VULFSJOR_0.1/' "$work/names") -
 }
 
-# The shared library: its name, the version of its functions, what it needs, and that no page of it
+# The shared library: its name, what it needs, and that no page of it
 # is written and run.
 shared_library_is_right() {
     local file
@@ -40,9 +39,7 @@ shared_library_is_right() {
         grep -q BIND_NOW "$work/dynamic" && ! grep NEEDED "$work/dynamic" | grep -v 'libc\.' &&
         grep -q GNU_RELRO "$work/segments" && grep -q 'GNU_STACK .* RW ' "$work/segments" &&
         ! grep -q 'LOAD.*RWE' "$work/segments" || return 1
-    [ "$(readelf --dyn-syms -W "$file" | grep -c ' FUNC  *GLOBAL .*@@VULFSJOR_0[.]1$')" -eq \
-        "$(names_of_header | wc -l)" ] &&
-        [ "$(readlink "$shared")" = libvulfsjor.so.0 ] &&
+    [ "$(readlink "$shared")" = libvulfsjor.so.0 ] &&
         [ "$(readlink "$prefix/lib/libvulfsjor.so.0")" = "libvulfsjor.so.$(version)" ] &&
         ! nm -D --undefined-only "$file" |
         grep -vE ' (w|U) (_ITM_|__cxa_finalize|__gmon|abort|write|mem(cpy|move|set))'
@@ -77,14 +74,11 @@ texts_stand_together() {
         cc -c "$work/all.S" -o "$work/all.o"
 }
 
-# A program takes of the archives what it calls, if the linker leaves out the rest.
+# A program takes of the archives what it calls, if the linker leaves out the rest. installing.sh looks at programs of
+# the main one.
 programs_take_what_they_call() {
-    local lib=$prefix/lib section
-    block_of c/README.md c >"$work/hello.c"
-    cc -O2 -I"$include" "$work/hello.c" "$archive" -Wl,--gc-sections -o "$work/hello" &&
-        nm "$work/hello" >"$work/names" && grep -q ' vulfsjor_ffi_blake2b_update$' "$work/names" &&
-        ! grep 'vulfsjor_ffi_\(tree\|blake2s\|blake2b_many\)' "$work/names" || return 1
-    readelf -SW "$lib/libvulfsjor-libb2.a" "$lib/libvulfsjor-threads.a" >"$work/sections"
+    local section
+    readelf -SW "$prefix"/lib/libvulfsjor-{libb2,threads}.a >"$work/sections"
     for section in blake2b_init blake2s_final vulfsjor_tree_root_fd; do
         grep -q " \.text\.$section " "$work/sections" || return 1
     done
@@ -122,35 +116,30 @@ chooses_by_clang() {
         "$work/by_clang.o" "$archive" -o "$work/first_calls" -pthread && "$work/first_calls"
 }
 
-# What the choice says on this processor or an emulated one: the level, 2 to 4, by the first call and by a later one, or
-# 0 for an end with a line.
-chooses_level() {
-    "${@:2}" "$work/choose" >"$work/said" 2>"$work/error"
+# Runs a program on a processor of a level, 2 to 4: it prints these lines. If the level is 0, the first call of the
+# library has ended it with a line: LEVEL LINES COMMAND..
+runs_on() {
+    "${@:3}" >"$work/said" 2>"$work/error"
     local status=$?
     cat "$work/said" "$work/error"
     if [ "$1" = 0 ]; then
-        [ $status -eq 134 ] && [ "$(<"$work/said")" = begun ] &&
-            [ "$(grep -cxF 'vulfsjor: this processor is below x86-64-v2, which the library needs' \
-                "$work/error")" -eq 1 ]
+        [ $status -eq 134 ] && [ "$(grep -cxF \
+            'vulfsjor: this processor is below x86-64-v2, which the library needs' "$work/error")" -eq 1 ] || return 1
     else
-        [ $status -eq 0 ] && [ "$(<"$work/said")" = "begun"$'\n'"$1 $1" ]
+        [ $status -eq 0 ] || return 1
     fi
+    [ "$(<"$work/said")" = "$2" ]
 }
 
-# The example of the README, linked statically, on an emulated processor: its digest, or an end with
-# a line.
-example_runs_on() {
-    local wanted=$1
-    qemu-x86_64 -cpu "$2" "$work/hello_static" >"$work/said" 2>"$work/error"
-    local status=$?
-    cat "$work/error"
-    if [ "$wanted" = 0 ]; then
-        [ $status -eq 134 ] && [ ! -s "$work/said" ] &&
-            grep -q '^vulfsjor: this processor is below' "$work/error"
-    else
-        [ $status -eq 0 ] && diff "$work/said" <(wanted_of_readme)
-    fi
+# What the choice says, by the first call and by a later one: LEVEL COMMAND..
+chooses_level() {
+    local said=begun
+    [ "$1" = 0 ] || said+=$'\n'"$1 $1"
+    runs_on "$1" "$said" "${@:2}" "$work/choose"
 }
+
+# The example of the README, linked statically: LEVEL COMMAND..
+example_runs_on() { runs_on "$1" "$([ "$1" = 0 ] || wanted_of_readme)" "${@:2}" "$work/hello_static"; }
 
 # Emulated processors of a level: what is sold, and one with each of the features that the next level asks for taken
 # away. qemu emulates none with AVX-512.
@@ -163,29 +152,24 @@ emulated_processors() {
     esac
 }
 
-# The choice, and the example of the README, linked statically, on each of them.
+# Links the choice and the example of the README statically.
+link_emulated() {
+    compile_choose choose -O2 -static && block_of c/README.md c >"$work/hello.c" &&
+        cc -static -I"$include" "$work/hello.c" "$archive" -o "$work/hello_static"
+}
+
+# Both on each emulated processor.
 test_emulated() {
     local level name
-    if ! has qemu-x86_64; then
-        skip "the choice on emulated processors" "no qemu-x86_64"
-        return
-    fi
-    if ! compile_choose choose -O2 -static 2>"$work/log"; then
-        skip "the choice on emulated processors" "cc links no static program"
-        return
-    fi
-    block_of c/README.md c >"$work/hello.c"
-    cc -static -I"$include" "$work/hello.c" "$archive" -o "$work/hello_static"
+    needs qemu-x86_64 python3
+    [ -n "$missing" ] || link_emulated 2>"$work/log" || missing="cc links no static program"
+    [ -z "$missing" ] || { skip "the choice on emulated processors" "$missing" && return; }
     for level in 0 2 3; do
         for name in $(some $(emulated_processors $level)); do
-            if qemu-x86_64 -cpu help | grep -qw "${name%%,*}"; then
-                check "the choice on $name" chooses_level $level qemu-x86_64 -cpu "$name"
-                needs python3
-                check "the example on $name" example_runs_on $level "$name"
-                needs
-            else
-                skip "the choice on $name" "qemu-x86_64 has no such processor"
-            fi
+            qemu-x86_64 -cpu help | grep -qw "${name%%,*}" || missing="qemu-x86_64 has no such processor"
+            check "the choice on $name" chooses_level $level qemu-x86_64 -cpu "$name"
+            check "the example on $name" example_runs_on $level qemu-x86_64 -cpu "$name"
+            missing=
         done
     done
 }
@@ -256,13 +240,9 @@ costs_little() {
 
 test_cost() {
     local task
-    if ! has valgrind; then
-        skip "what the choice costs" "no valgrind"
-        return
-    fi
-    check "choose.c for valgrind" compile_choose choose -O2 &&
-        check "repeat_call.c" compile_repeat_call || return
-    for task in $(some 0 1 4 7 10 11); do
+    needs valgrind
+    check "choose.c for valgrind" compile_choose choose -O2 && check "repeat_call.c" compile_repeat_call || return
+    for task in $(some 0 1 2 3 4 5); do
         check "what dispatch costs, task $task" costs_little $task
     done
 }
@@ -283,7 +263,7 @@ test_choosing() {
     needs
     check "calls of a constructor, and of threads" first_calls
     check "first calls of many threads" first_calls -DFIRST_BY_THREADS
-    if ! chooses; then
+    if ! is_x86; then
         skip "the choice" "the library holds one build"
         return
     fi

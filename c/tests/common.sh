@@ -1,18 +1,12 @@
 # What the parts of the tests of the C library share; a part reads it by `source` and ends with `part FUNCTION`, or
-# `part FUNCTION cases` if it needs the conformance cases. It installs the library in a temporary
-# folder:
-#
-#   c/tests/PART.sh [--cpu CPU] [--from DIST]
-#
-# c/install.sh explains the options. Without DIST the library is that of dist/. Without options it
-# is the one in the folder VULFSJOR_INSTALLED, if that is set, as by ./test, and the conformance cases are
-# those in the folder VULFSJOR_CONFORMANCE.
+# `part FUNCTION cases` if it needs the conformance cases. The library is the one in the folder VULFSJOR_INSTALLED, and
+# the cases are those in the folder VULFSJOR_CONFORMANCE, if these are set, as by ./test.
 declare -F part >/dev/null && return
 set -u
 source "$(dirname "$(readlink -f "${BASH_SOURCE[0]}")")/../../tests/tap.sh"
 here=$top/c
 tests=$here/tests
-prefix=$work/installed
+prefix=${VULFSJOR_INSTALLED:-$work/installed}
 # In these words, so that install.sh does not compare dist/ with the sources each time.
 dist=$top/./dist
 conforming=${VULFSJOR_CONFORMANCE:-$work/conforming}
@@ -21,16 +15,6 @@ hashes=(blake2b blake2s blake2bp blake2sp blake2xb blake2xs tree)
 # One of each kind and length of words, or all in the full test: for a system or processor whose code is the same.
 kinds=(blake2b blake2sp blake2xb tree)
 [ -z "${VULFSJOR_TEST_HUGE-}" ] || kinds=("${hashes[@]}")
-cpu=() from=()
-[ $# -gt 0 ] || prefix=${VULFSJOR_INSTALLED:-$prefix}
-while [ $# -gt 0 ]; do
-    case $1,$# in
-        --cpu,[2-9]) cpu=(--cpu "$2") ;;
-        --from,[2-9]) dist=$(readlink -f "$2") from=(--from "$dist") ;;
-        *) echo "usage: $0 [--cpu CPU] [--from DIST]" >&2 && exit 2 ;;
-    esac
-    shift 2
-done
 
 include=$prefix/include
 libb2=$include/vulfsjor-libb2
@@ -46,12 +30,34 @@ echo 'int main(void) { return 0; }' >"$empty"
 level=$("$top/tests/processor.sh")
 level=${level#x86-64-v}
 
-# Whether the library here is for x86-64, and whether it holds all builds, and so chooses.
+# Whether the library here is for x86-64, and so chooses one of its builds.
 is_x86() { [[ $(cc -dumpmachine) == x86_64-* ]]; }
-chooses() { is_x86 && [ ${#cpu[@]} -eq 0 ]; }
 
 # Whether the compiler links a program with these words.
 links() { cc -o "$work/linked" "$empty" "$@" >/dev/null 2>&1; }
+
+# All files and links below a folder, by their paths in it.
+files_below() { (cd "$1" && find . -type f -o -type l | sed 's/^\.\///' | LC_ALL=C sort); }
+
+# The files of an installation, with this in the place of lib/, for Linux or another system: LIB [windows|macos]
+wanted_files() {
+    local files=(include/vulfsjor{.h,.hpp,_threads.h} include/vulfsjor-libb2/blake2.h
+        "$1"libvulfsjor{,-libb2,-threads}.a "$1"pkgconfig/vulfsjor{,-static,-threads}.pc
+        "$1"cmake/vulfsjor/vulfsjor-config{,-version}.cmake "$1"vulfsjor-libb2/pkgconfig/libb2.pc)
+    [ "${2-}" = windows ] || files+=("$1"libvulfsjor-static.a "$1"vulfsjor-libb2/libb2.a)
+    case ${2-} in
+        windows) files+=(bin/libvulfsjor-0.dll "$1"libvulfsjor.dll.a) ;;
+        macos) files+=("$1"libvulfsjor{.0,}.dylib) ;;
+        *) files+=("$1"libvulfsjor.so{,.0,".$(version)"}) ;;
+    esac
+    printf '%s\n' "${files[@]}" | LC_ALL=C sort
+}
+
+# Whether a folder has these files, until an uninstallation of a copy of it, which leaves none: FOLDER [windows|macos]
+files_come_and_go() {
+    files_below "$1" | diff <(wanted_files lib/ "${2-}") - && cp -a "$1" "$work/again" &&
+        "$here/install.sh" --uninstall "$work/again" && [ -z "$(files_below "$work/again")" ] && rm -r "$work/again"
+}
 
 # The words for a program that ends at a fault in memory, and what the next tests need for it.
 sanitizers=(-fsanitize=address,undefined -fno-sanitize-recover=all)
@@ -101,14 +107,14 @@ check_once() { if [[ $family == *s* ]]; then check_huge "$@"; else check "$@"; f
 
 # libb2.c with these words behind it. libb2's threads would spin while they wait.
 names_of_libb2() {
-    cc -std=c99 -g $quick "${warnings[@]}" $(family_words "$1") -o "$work/libb2" "$tests/libb2.c" "${@:2}" &&
+    cc -std=c99 -g $quick "${warnings[@]}" $(family_words "$1") -I"$include" -o "$work/libb2" "$tests/libb2.c" \
+        "${@:2}" &&
         OMP_WAIT_POLICY=passive GOMP_SPINCOUNT=0 "$work/libb2"
 }
 
 # The words for a program over a library of this name.
 words_for() {
     case $1 in
-        vulfsjor) echo "-I$include -L$prefix/lib -lvulfsjor" ;;
         vulfsjor-static) echo "-I$include $archive" ;;
         vulfsjor-threads) echo "-I$include $prefix/lib/libvulfsjor-threads.a $archive -pthread" ;;
     esac
@@ -143,7 +149,7 @@ part() {
     if ! has cc; then
         skip "all tests" "no C compiler cc"
     elif { [ "$prefix" = "${VULFSJOR_INSTALLED-}" ] ||
-        check "install.sh" "$here/install.sh" "${cpu[@]}" "${from[@]}" "$prefix"; } &&
+        check "install.sh" "$here/install.sh" "$prefix"; } &&
         { [ $# -eq 1 ] || ! has python3 || check "the conformance cases are written" write_conformance; }; then
         "$1"
     fi

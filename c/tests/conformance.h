@@ -1,45 +1,28 @@
 /* What the hashes differ in for conformance.c: which functions have the arguments of a case. The words of family.h say
  * which hash it is, and TEST_T the tree of two levels. */
 #include <limits.h>
-#include <stdlib.h>
 #include "family.h"
+#include "conformance_lines.h"
 
 #ifdef TEST_T
 #define HASH "tree"
 #undef BLAKE
 #define BLAKE(name) vulfsjor_tree_##name
 #define state_t vulfsjor_tree_state
+enum { FIRST_TEXT = 1 }; /* of the key, the salt and the personalization: a tree has no key */
 #else
 #define HASH "blake2" FAMILY
+enum { FIRST_TEXT = 0 };
 #endif
 #if !defined(TEST_T) && !defined(TEST_P) && !defined(TEST_X)
 #define TEST_NODES
 #endif
 
-/* Bytes in an allocation of exactly their length, so that a sanitizer sees a byte too far. */
-typedef struct text {
-    uint8_t *bytes;
-    size_t length;
-} text;
-
-/* The arguments of a hash. A text that is `none` is null and has one byte. */
-typedef struct given {
-    uint64_t size, last;
-    text key, salt, person;
-    vulfsjor_tree tree;
-    int is_node;
-} given;
-#define TEXT(t) (t).bytes, (t).length
-#define TEXTS TEXT(g->key), TEXT(g->salt), TEXT(g->person)
-
-/* With TEST_SECRETS, under memcheck of valgrind: bytes that are a secret, or no longer one. */
-#ifdef TEST_SECRETS
-#include <valgrind/memcheck.h>
-#define HIDE(bytes, length) (void)VALGRIND_MAKE_MEM_UNDEFINED(bytes, length)
-#define SHOW(bytes, length) (void)VALGRIND_MAKE_MEM_DEFINED(bytes, length)
+/* The size of an output whose length is not known; a size that no other hash has. */
+#ifdef TEST_X
+#define UNKNOWN ((uint64_t)CONSTANT(UNKNOWN_LENGTH))
 #else
-#define HIDE(bytes, length) (void)0
-#define SHOW(bytes, length) (void)0
+#define UNKNOWN UINT64_MAX
 #endif
 
 /* Whether bytes are the same, some of which may be secrets, and then stay secrets. */
@@ -67,6 +50,7 @@ static inline int flag_of(int on) {
 /* ---- inits: INITS of them, of which the first has all arguments. ABSENT: this one has not these arguments */
 
 enum { INITS = 6, ABSENT = -2 };
+#define HAS_KEY(g) ((g)->key.bytes || (g)->key.length)
 
 #ifdef TEST_NODES
 static inline int init_node(state_t *S, const given *g) {
@@ -76,7 +60,7 @@ static inline int init_node(state_t *S, const given *g) {
 
 /* By a parameter block without a key. It has no room for what is out of bounds. */
 static inline int init_block(state_t *S, const given *g) {
-    if (g->key.length || g->last || g->size > 255 || BLAKE(refused)(1, TEXTS, &g->tree)) return ABSENT;
+    if (HAS_KEY(g) || g->last || g->size > 255 || BLAKE(refused)(1, TEXTS, &g->tree)) return ABSENT;
     param_t p = {.digest_length = (uint8_t)g->size, .fanout = g->tree.fanout, .depth = g->tree.depth,
                  .leaf_length = g->tree.leaf_length, .node_depth = g->tree.node_depth,
                  .inner_length = g->tree.inner_length};
@@ -102,33 +86,23 @@ static inline int init_by(int which, state_t *S, const given *g) {
     if (which == 2) return init_block(S, g);
 #endif
     if (!which) return BLAKE(init_salt_personal)(S, g->size, TEXTS);
-    if (which == 3 && is_plain && !g->key.length) return BLAKE(init)(S, g->size);
-    if (which == 4 && is_plain && g->key.length) return BLAKE(init_key)(S, g->size, TEXT(g->key));
-    if (which == 5 && !g->is_node && g->key.length) return BLAKE(init_mac)(S, g->size, TEXTS);
+    if (which == 3 && is_plain && !HAS_KEY(g)) return BLAKE(init)(S, g->size);
+    if (which == 4 && is_plain && HAS_KEY(g)) return BLAKE(init_key)(S, g->size, TEXT(g->key));
+    if (which == 5 && !g->is_node && HAS_KEY(g)) return BLAKE(init_mac)(S, g->size, TEXTS);
     return ABSENT;
 #endif
 }
 
-/* Whether a key of 0 bytes is refused where a key is demanded, and a pointer to one everywhere. */
-static inline int refuses_no_key(const given *g) {
-#ifdef TEST_T
-    return !!g;
-#else
-    state_t S[4];
-    uint8_t out[1] = {0xaa};
-    memset(S, 0x5a, sizeof S);
-#ifdef TEST_NODES
-    vulfsjor_message empty = {"", 0};
-    if (!BLAKE(init_tree)(S, g->size, "", 0, TEXT(g->salt), TEXT(g->person), &g->tree) || !is_ended(S)) return 0;
-    if (!BLAKE(many)(out, 1, &empty, 1, "", 0, NULL, 0, NULL, 0) || !BLAKE(many)(out, 1, &empty, 0, "", 0, 0, 0, 0, 0))
-        return 0;
-#endif
-    return ONE_CALL(out, 1, "", 0, "", 0) && *out == 0xaa &&
-           BLAKE(init_key)(S, g->size, NULL, 0) && BLAKE(init_key)(S + 1, g->size, "", 0) &&
-           BLAKE(init_mac)(S + 2, g->size, NULL, 0, TEXT(g->salt), TEXT(g->person)) &&
-           BLAKE(init_salt_personal)(S + 3, g->size, "", 0, TEXT(g->salt), TEXT(g->person)) && is_ended(S) &&
-           is_ended(S + 1) && is_ended(S + 2) && is_ended(S + 3);
-#endif
+/* The arguments with a text that all calls refuse: a null pointer, a pointer to a key of no bytes, or a length that 32
+ * bits would take for another, of which there is no memory. It is by turns the key, the salt and the
+ * personalization. */
+#define WRONG_TEXTS (sizeof(size_t) == 8 ? 18 : 6)
+static inline given with_wrong_text(const given *g, int i) {
+    static const size_t lengths[] = {1, 0, TWO_TO(32), TWO_TO(32) + 1, TWO_TO(63), ~(size_t)0};
+    static uint8_t bytes[MAX];
+    given other = *g;
+    (&other.key)[i % 3] = (text){i < 3 ? NULL : bytes, i == 4 || i == 5 ? MAX : lengths[i / 3]};
+    return other;
 }
 
 /* The argument that the inits refuse. */

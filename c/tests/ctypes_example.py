@@ -1,13 +1,10 @@
 """What c/examples/ctypes_hash.py accepts and refuses: ctypes_example.py ctypes_hash.py LIBRARY"""
 import array
 import hashlib
+import runpy
 import sys
 
-program = sys.argv.pop(1)
-space = {}
-with open(program) as file:
-    exec(compile(file.read(), program, "exec"), space)
-blake2b = space["blake2b"]
+blake2b = runpy.run_path(sys.argv.pop(1))["blake2b"]
 
 
 def is_right(message, size=64, key=b""):
@@ -17,11 +14,10 @@ def is_right(message, size=64, key=b""):
         raise SystemExit(f"another digest of {message!r} in {size} bytes under {key!r}")
 
 
-for error, arguments in (
-        (TypeError, ("abc",)), (TypeError, (b"abc", 64, "key")), (TypeError, (3,)), (TypeError, (None,)),
-        (TypeError, ([1, 2],)), (TypeError, (b"abc", 64, None)),
-        (ValueError, (b"abc", 0)), (ValueError, (b"abc", 65)), (ValueError, (b"abc", -1)),
-        (ValueError, (b"abc", 64, bytes(65)))):
+for error, *arguments in (
+        (TypeError, "abc"), (TypeError, b"abc", 64, "key"), (TypeError, 3), (TypeError, None), (TypeError, [1, 2]),
+        (TypeError, b"abc", 64, None), (ValueError, b"abc", 0), (ValueError, b"abc", 65), (ValueError, b"abc", -1),
+        (ValueError, b"abc", 64, bytes(65))):
     try:
         blake2b(*arguments)
     except error:
@@ -30,9 +26,7 @@ for error, arguments in (
 
 data = bytes(range(256)) * 3
 for size in range(1, 65):
-    is_right(data, size, data[:size])
-for length in (0, 1, 127, 128, 129, 255, 256, 257, 700):
-    is_right(data[:length])
+    is_right(data[:11 * size], size, data[:size])
 for wrap in (bytes, bytearray, memoryview, lambda b: memoryview(bytearray(b)), lambda b: array.array("B", b)):
     is_right(wrap(b"abc"), key=wrap(b"key"))
 # A view of every second byte, and one of wider items.

@@ -1,6 +1,6 @@
 /* Tests what C has beyond the calls of the conformance cases and the states of made_states.c: null trees, blocks and
  * pointers of no bytes, wiping, hexadecimal digits, the field of a flag, parameter blocks, lengths of several messages
- * and constants. Returns 0 if all is as it should be.
+ * and the version. Returns 0 if all is as it should be.
  *
  *   cc -std=c99 -Wall -Wextra -Wpedantic -Werror -I FOLDER/include edge_cases.c ARCHIVE -o edge_cases
  *   cc the same with -DTEST_S                       the same for BLAKE2s */
@@ -18,26 +18,12 @@ static int is_untouched(const uint8_t *out, size_t from, size_t room) {
 
 static uint8_t *fill_with_marks(void *out, size_t room) { return memset(out, 0xaa, room); }
 
-#define REFUSED(call)                                                   \
-    do {                                                                \
-        memset(&state, 0x5a, sizeof state);                             \
-        CHECK((call) == -1 && is_zero(&state, sizeof state));           \
-    } while (0)
-
-/* Trees, blocks and states that are null, and null pointers with length 0 and 1. */
+/* Trees and blocks that are null, and null pointers with length 0 and 1. */
 static void check_null_pointers(void) {
-    state_t state;
-    CHECK(BLAKE(init_tree)(NULL, MAX, key, 1, bytes, 1, bytes, 1, NULL) == -1);
-    REFUSED(BLAKE(init_tree)(&state, MAX, key, 1, bytes, 1, bytes, 1, NULL));
-    REFUSED(BLAKE(init_param)(&state, NULL));
+    state_t states[2], *S = memset(states, 0x5a, sizeof states);
+    CHECK(BLAKE(init_tree)(S, MAX, key, 1, bytes, 1, bytes, 1, NULL) == -1 && BLAKE(init_param)(S + 1, NULL) == -1);
+    CHECK(is_zero(states, sizeof states) && BLAKE(init_tree)(NULL, MAX, key, 1, bytes, 1, bytes, 1, NULL) == -1);
     CHECK(BLAKE(init_param)(NULL, NULL) == -1 && BLAKE(param_refused)(NULL) == VULFSJOR_ARGUMENT_PARAM);
-    CHECK(BLAKE(init_key)(&state, MAX, key, 1) == 0);
-    const state_t before = state;
-    CHECK(BLAKE(update)(NULL, NULL, 0) == -1 && BLAKE(final)(NULL, NULL, 0) == -1);
-    CHECK(BLAKE(final)(&state, NULL, 0) == -1 && BLAKE(verify)(NULL, NULL, 0) == -1);
-    CHECK(BLAKE(verify)(&state, NULL, 1) == -1 && SAME(state, before));
-    CHECK(BLAKE(verify)(&state, NULL, 0) == -1 && is_zero(&state, sizeof state));
-    CHECK(ONE_CALL(NULL, 0, bytes, 1, key, 1) == -1);
     for (int both = 0; both < 4; both++) {
         const uint8_t *one = both & 1 ? bytes : NULL, *other = both & 2 ? bytes : NULL;
         CHECK(vulfsjor_memcmp(one, other, 0) == 0 && vulfsjor_memcmp(one, other, 1) == (both == 3 ? 0 : -1));
@@ -57,72 +43,69 @@ static void check_wipe(void) {
 
 /* ---- hexadecimal digits */
 
-static void check_bin2hex(void) {
-    char out[2 * 70 + 9], wanted[2 * 256 + 1], all[2 * 256 + 1];
-    uint8_t values[256];
-    for (int i = 0; i < 256; i++) {
-        values[i] = (uint8_t)i;
-        snprintf(wanted + 2 * i, 3, "%02x", (unsigned)i);
+static uint8_t values[256];
+static char digits[2 * 256 + 1];
+
+/* So many bytes as digits and back, with each room and number of digits, and one character that is none at each place. */
+static void check_digits_of(size_t length) {
+    uint8_t out[2 * 70 + 9];
+    for (size_t room = 0; room <= sizeof out; room++) {
+        const size_t written = room > 2 * length ? 2 * length + 1 : 0;
+        CHECK(vulfsjor_bin2hex((char *)fill_with_marks(out, sizeof out), room, values + 90, length) == -!written);
+        CHECK(is_untouched(out, written, sizeof out));
+        CHECK(!written || (!memcmp(out, digits + 180, 2 * length) && !out[2 * length]));
     }
-    CHECK(vulfsjor_bin2hex(all, sizeof all, values, 256) == 0 && !strcmp(all, wanted));
-    for (size_t length = 0; length <= 70; length++)
-        for (size_t room = 0; room <= sizeof out; room++) {
-            uint8_t *fill = fill_with_marks(out, sizeof out);
-            int taken = room >= 2 * length + 1;
-            CHECK(vulfsjor_bin2hex(out, room, values + 90, length) == (taken ? 0 : -1));
-            CHECK(is_untouched(fill, taken ? 2 * length + 1 : 0, sizeof out));
-            CHECK(!taken || (!memcmp(out, wanted + 180, 2 * length) && !out[2 * length]));
-        }
-    fill_with_marks(out, sizeof out);
-    CHECK(vulfsjor_bin2hex(out, 9, values, ~(size_t)0) == -1);
-    CHECK_64(vulfsjor_bin2hex(out, 9, values, TWO_TO(63)) == -1);
-    CHECK(vulfsjor_bin2hex(out, ~(size_t)0, values, ~(size_t)0 / 2 + 1) == -1);
-    CHECK(vulfsjor_bin2hex(NULL, 9, values, 1) == -1 && vulfsjor_bin2hex(NULL, 9, NULL, 0) == -1);
-    CHECK(vulfsjor_bin2hex(out, 9, NULL, 1) == -1 && is_untouched((uint8_t *)out, 0, sizeof out));
-    CHECK(vulfsjor_bin2hex(out, 1, NULL, 0) == 0 && !out[0]);
-}
-
-/* The value of a digit by its place among the digits, or -1. */
-static int value_of(int character) {
-    static const char digits[] = "0123456789abcdef0123456789ABCDEF";
-    const char *at = character ? strchr(digits, character) : NULL;
-    return at ? (int)(at - digits) % 16 : -1;
-}
-
-/* Digits of another number, and one character that is none at each place. */
-static void check_digits_of(size_t length, char *digits, size_t most) {
-    uint8_t out[72];
-    for (size_t given = 0; given <= most; given++) {
-        int taken = given == 2 * length;
-        CHECK(vulfsjor_hex2bin(fill_with_marks(out, 72), length, digits, given) == (taken ? 0 : -1));
-        CHECK(is_untouched(out, taken ? length : 0, 72));
-        for (size_t i = 0; taken && i < length; i++)
-            CHECK(out[i] == 16 * value_of(digits[2 * i]) + value_of(digits[2 * i + 1]));
+    for (size_t given = 0; given <= sizeof out; given++) {
+        const int is_right = given == 2 * length;
+        CHECK(vulfsjor_hex2bin(fill_with_marks(out, sizeof out), length, digits + 180, given) == -!is_right);
+        CHECK(is_untouched(out, is_right ? length : 0, sizeof out));
+        CHECK(!is_right || !memcmp(out, values + 90, length));
     }
     for (size_t i = 0; i < 2 * length; i++) {
-        char kept = digits[i];
+        const char kept = digits[i];
         digits[i] = 'g';
-        CHECK(vulfsjor_hex2bin(fill_with_marks(out, 72), length, digits, 2 * length) == -1 && is_untouched(out, 0, 72));
+        CHECK(vulfsjor_hex2bin(fill_with_marks(out, sizeof out), length, digits, 2 * length) == -1);
+        CHECK(is_untouched(out, 0, sizeof out));
         digits[i] = kept;
     }
 }
 
-static void check_hex2bin(void) {
-    uint8_t out[72];
-    char digits[2 * 70 + 2];
+/* The value of a digit by its place among the digits, or -1. */
+static int value_of(int character) {
+    static const char all[] = "0123456789abcdef0123456789ABCDEF";
+    const char *at = character ? strchr(all, character) : NULL;
+    return at ? (int)(at - all) % 16 : -1;
+}
+
+/* Each two characters. */
+static void check_pairs(void) {
+    uint8_t out[2];
     for (int i = 0; i < 256 * 256; i++) {
         const char pair[2] = {(char)(i >> 8), (char)i};
-        int high = value_of(i >> 8), low = value_of(i & 255), taken = high >= 0 && low >= 0;
-        CHECK(vulfsjor_hex2bin(fill_with_marks(out, 2), 1, pair, 2) == (taken ? 0 : -1));
-        CHECK(out[0] == (taken ? 16 * high + low : 0xaa) && out[1] == 0xaa);
+        int high = value_of(i >> 8), low = value_of(i & 255), is_right = high >= 0 && low >= 0;
+        CHECK(vulfsjor_hex2bin(fill_with_marks(out, 2), 1, pair, 2) == -!is_right);
+        CHECK(out[0] == (is_right ? 16 * high + low : 0xaa) && out[1] == 0xaa);
     }
-    for (size_t i = 0; i < sizeof digits; i++) digits[i] = "0aF9b4"[i * i % 6];
-    for (size_t length = 0; length <= 70; length++) check_digits_of(length, digits, sizeof digits);
-    fill_with_marks(out, 72);
-    CHECK(vulfsjor_hex2bin(out, ~(size_t)0 / 2 + 1, digits, 0) == -1);
+}
+
+static void check_hex(void) {
+    char out[9], all[2 * 256 + 1];
+    uint8_t *in = fill_with_marks(out, sizeof out);
+    for (int i = 0; i < 256; i++) {
+        values[i] = (uint8_t)i;
+        snprintf(digits + 2 * i, 3, "%02x", (unsigned)i);
+    }
+    CHECK(vulfsjor_bin2hex(all, sizeof all, values, 256) == 0 && !strcmp(all, digits));
+    for (size_t length = 0; length <= 70; length++) check_digits_of(length);
+    check_pairs();
+    CHECK(vulfsjor_bin2hex(out, 9, values, ~(size_t)0) == -1 && vulfsjor_bin2hex(out, 9, NULL, 1) == -1);
+    CHECK_64(vulfsjor_bin2hex(out, 9, values, TWO_TO(63)) == -1);
+    CHECK(vulfsjor_bin2hex(out, ~(size_t)0, values, ~(size_t)0 / 2 + 1) == -1);
+    CHECK(vulfsjor_bin2hex(NULL, 9, values, 1) == -1 && vulfsjor_bin2hex(NULL, 9, NULL, 0) == -1);
+    CHECK(vulfsjor_hex2bin(in, ~(size_t)0 / 2 + 1, digits, 0) == -1 && vulfsjor_hex2bin(in, 1, NULL, 2) == -1);
     CHECK(vulfsjor_hex2bin(NULL, 0, digits, 0) == -1 && vulfsjor_hex2bin(NULL, 1, digits, 2) == -1);
-    CHECK(vulfsjor_hex2bin(out, 1, NULL, 2) == -1 && vulfsjor_hex2bin(out, 0, NULL, 0) == 0);
-    CHECK(is_untouched(out, 0, 72));
+    CHECK(vulfsjor_hex2bin(in, 0, NULL, 0) == 0 && is_untouched(in, 0, sizeof out));
+    CHECK(vulfsjor_bin2hex(out, 1, NULL, 0) == 0 && !out[0]);
 }
 
 /* ---- flags and parameter blocks */
@@ -134,10 +117,9 @@ static void check_last_node_field(void) {
     state_t made, state;
     CHECK(BLAKE(init)(&made, MAX) == 0 && made.last_node == 0 && BLAKE(update)(&made, bytes, 10) == 0);
     state = made;
-    CHECK(BLAKE(set_last_node)(&state, -2) == 0 && state.last_node == IN_STATE(1));
     CHECK(LIBRARY(set_last_node)(&state, 1u << 31) == 0 && state.last_node == IN_STATE(1));
     CHECK(BLAKE(final)(&state, wanted, MAX) == 0);
-    for (size_t i = 0; i < sizeof on / sizeof *on; i++) {
+    for (size_t i = 0; i < COUNT_OF(on); i++) {
         state = made;
         state.last_node = IN_STATE(on[i]);
         state_t copy = state;
@@ -158,12 +140,11 @@ static void check_block(void) {
     param_t param;
     state_t state;
     for (int i = 2; i < MAX; i++) block[i] = (uint8_t)(i * 37);
-    memcpy(&param, block, sizeof param);
-#if defined(__BYTE_ORDER__) && __BYTE_ORDER__ == __ORDER_BIG_ENDIAN__
-    param.leaf_length = __builtin_bswap32(param.leaf_length);
+    memcpy(&param, block, sizeof param); /* in which numbers have the order of the processor */
+    param.leaf_length = 0;
+    for (int i = 0; i < 4; i++) param.leaf_length |= (uint32_t)block[4 + i] << 8 * i;
 #ifndef TEST_S
-    param.node_offset = __builtin_bswap64(param.node_offset);
-#endif
+    param.node_offset = IN_STATE(param.node_offset);
 #endif
     CHECK(BLAKE(init_param)(&state, &param) == 0 && BLAKE(update)(&state, "abc", 3) == 0);
     CHECK(BLAKE(final)(&state, out, MAX) == 0 && vulfsjor_hex2bin(digest, MAX, wanted, 2 * MAX) == 0);
@@ -171,7 +152,7 @@ static void check_block(void) {
     for (size_t length = 0; length <= MAX + 1; length++) {
         uint8_t raw[MAX + 1] = {MAX, 0, 1, 1};
         memset(&state, 0x5a, sizeof state);
-        CHECK(LIBRARY(init_param)(&state, raw, length) == (length == MAX ? 0 : -1));
+        CHECK(LIBRARY(init_param)(&state, raw, length) == -(length != MAX));
         CHECK(length == MAX || is_zero(&state, sizeof state));
     }
 }
@@ -213,13 +194,13 @@ static void verify_by_block(void) {
 /* Counts and lengths that 32 or 64 bits would take for others; nothing is written. */
 static void check_refused_messages(void) {
     enum { COUNT = 65 };
+    static const size_t rooms[][2] = {{9 * MAX - 1, 9}, {8 * MAX, 9}, {8 * MAX + 1, 8}, {MAX, 0}, {0, 0}};
     static uint8_t out[COUNT * MAX];
     vulfsjor_message messages[COUNT];
     fill_with_marks(out, sizeof out);
     for (size_t i = 0; i < COUNT; i++) messages[i] = (vulfsjor_message){bytes, i};
     CHECK(BLAKE(many)(NULL, MAX, messages, 0, 0, 0, 0, 0, 0, 0) == -1);
     CHECK(BLAKE(many)(out, MAX, NULL, 0, 0, 0, 0, 0, 0, 0) == -1);
-    CHECK(BLAKE(many)(out, 0, messages, 0, 0, 0, 0, 0, 0, 0) == -1);
     CHECK(BLAKE(many)(out, ~(size_t)0 / 2 + 1, messages, 2, 0, 0, 0, 0, 0, 0) == -1);
     for (size_t i = 0; i < COUNT; i++) {
         /* With the key's block, this message is too long to count: no byte of any is read. */
@@ -227,30 +208,16 @@ static void check_refused_messages(void) {
         CHECK_64(BLAKE(many)(out, MAX, messages, i < 9 ? 9 : COUNT, key, 1, 0, 0, 0, 0) == -1);
         messages[i].length = i;
     }
-    CHECK(LIBRARY(many)(out, 9 * MAX - 1, MAX, messages, 9, key, 0, bytes, 0, bytes, 0) == -1);
-    CHECK(LIBRARY(many)(out, 9 * MAX - MAX, MAX, messages, 9, key, 0, bytes, 0, bytes, 0) == -1);
-    CHECK(LIBRARY(many)(out, 8 * MAX + 1, MAX, messages, 8, key, 0, bytes, 0, bytes, 0) == -1);
-    CHECK(LIBRARY(many)(out, MAX, MAX, messages, 0, key, 0, bytes, 0, bytes, 0) == -1);
-    CHECK(LIBRARY(many)(out, 0, MAX, messages, 0, key, 0, bytes, 0, bytes, 0) == 0);
+    for (size_t i = 0; i < COUNT_OF(rooms); i++)
+        CHECK(LIBRARY(many)(out, rooms[i][0], MAX, messages, rooms[i][1], key, 0, bytes, 0, bytes, 0) == -(i < 4));
     CHECK(is_untouched(out, 0, sizeof out));
 }
 
-/* ---- constants and sizes */
-
-static void check_constants(void) {
-    state_t state;
-    param_t param;
+static void check_version(void) {
+    const unsigned number = vulfsjor_version();
     char version[32];
-    CHECK(CONSTANT(BLOCKBYTES) == BLOCK && CONSTANT(OUTBYTES) == MAX && CONSTANT(KEYBYTES) == MAX);
-    CHECK(CONSTANT(SALTBYTES) == SALT && CONSTANT(PERSONALBYTES) == SALT);
-    CHECK(vulfsjor_version() == VULFSJOR_VERSION_NUMBER);
-    snprintf(version, sizeof version, "%u.%u.%u", vulfsjor_version() >> 16, vulfsjor_version() >> 8 & 255,
-             vulfsjor_version() & 255);
-    CHECK(!strcmp(version, VULFSJOR_VERSION));
-    CHECK(LIBRARY(state_size)() == sizeof(state_t) && sizeof(state_t) == 8 * 2 * sizeof(word) + 5 * 8 + 2 * BLOCK);
-    CHECK(sizeof state.chain == 8 * sizeof(word) && sizeof state.first == 8 * sizeof(word));
-    CHECK(sizeof state.pending == BLOCK && sizeof state.start_block == BLOCK);
-    CHECK(sizeof(param_t) == (size_t)MAX && sizeof param.salt == SALT && sizeof param.personal == SALT);
+    snprintf(version, sizeof version, "%u.%u.%u", number >> 16, number >> 8 & 255, number & 255);
+    CHECK(number == VULFSJOR_VERSION_NUMBER && !strcmp(version, VULFSJOR_VERSION));
 }
 
 int main(void) {
@@ -258,14 +225,13 @@ int main(void) {
     for (size_t i = 0; i < sizeof key; i++) key[i] = (uint8_t)(i + 100);
     check_null_pointers();
     check_wipe();
-    check_bin2hex();
-    check_hex2bin();
+    check_hex();
     check_last_node_field();
     check_block();
     check_param_refusals();
     verify_by_block();
     check_refused_messages();
-    check_constants();
+    check_version();
     fprintf(stderr, "%d checks, %d failures\n", checks, fails);
     return fails != 0;
 }

@@ -5,47 +5,38 @@
 #include "vulfsjor.h"
 
 #include <pthread.h>
-#include <stdio.h>
+
+#include "check.h"
 
 /* BLAKE2s-256 of "abc" (RFC 7693, appendix B). */
 static const uint8_t wanted[32] = {0x50, 0x8c, 0x5e, 0x8c, 0x32, 0x7c, 0x14, 0xe2, 0xe1, 0xa7, 0x2b,
                                    0xa3, 0x4e, 0xeb, 0x45, 0x2f, 0x37, 0x45, 0x8b, 0x20, 0x9e, 0xd6,
                                    0x3a, 0x29, 0x4d, 0x99, 0x9b, 0x4c, 0x86, 0x67, 0x59, 0x82};
 
-static int is_right(void) {
+static void call(void) {
     uint8_t out[32];
-    return vulfsjor_blake2s(out, sizeof out, "abc", 3, 0, 0) == 0 &&
-           !memcmp(out, wanted, sizeof out);
+    CHECK(vulfsjor_blake2s(out, sizeof out, "abc", 3, 0, 0) == 0 && SAME(out, wanted));
 }
 
-static int before_main = 1;
 #ifndef FIRST_BY_THREADS
-__attribute__((constructor)) static void call_early(void) { before_main = is_right(); }
+__attribute__((constructor)) static void call_early(void) { call(); }
 #endif
 
 enum { THREADS = 16 };
 static pthread_barrier_t begin;
 
-static void *call_at_barrier(void *right) {
-    int all = 1;
+static void *call_at_barrier(void *unused) {
     pthread_barrier_wait(&begin);
-    for (int i = 0; i < 100; i++) all &= is_right();
-    *(int *)right = all;
-    return NULL;
+    for (int i = 0; i < 100; i++) call();
+    return unused;
 }
 
 int main(void) {
     pthread_t threads[THREADS];
-    int right[THREADS] = {0}, all = before_main;
 
-    if (!before_main) puts("first_calls.c: a constructor's call was answered wrong");
     if (pthread_barrier_init(&begin, NULL, THREADS)) return 2;
     for (int i = 0; i < THREADS; i++)
-        if (pthread_create(&threads[i], NULL, call_at_barrier, &right[i])) return 2;
-    for (int i = 0; i < THREADS; i++) {
-        pthread_join(threads[i], NULL);
-        if (!right[i]) printf("first_calls.c: thread %d had another digest\n", i);
-        all &= right[i];
-    }
-    return !all;
+        if (pthread_create(&threads[i], NULL, call_at_barrier, NULL)) return 2;
+    for (int i = 0; i < THREADS; i++) pthread_join(threads[i], NULL);
+    return fails != 0;
 }

@@ -1,5 +1,5 @@
 /* Calls with more than 2^32 bytes of each buffer that has a length, 2^26 digests of leaves and 2^26 or 2^27
- * messages. The message has zeros, except five bytes, so its memory is a few pages, and a file of it takes no room.
+ * messages. The message has zeros, except five bytes, so its memory is a few pages. thread_faults.c has files.
  * Digests and roots are compared with those of Python's hashlib, and what has no such value with calls of fewer than
  * 2^32 bytes. Returns 0 if all are as they should be.
  *
@@ -30,7 +30,6 @@
 #include "check.h"
 #include "family.h"
 
-#include <fcntl.h>
 #include <stdlib.h>
 #include <sys/mman.h>
 #include <unistd.h>
@@ -187,41 +186,15 @@ static void check_digests(void) {
         CHECK(!memcmp(other, out, 64));
     }
 }
-
-/* ---- files */
-
-/* A file with the message, from a position before 2^32 on, and all of it by its path and with long leaves. */
-static void check_files(int huge) {
-    int file = memfd_create("sparse", 0);
-    char path[40];
-
-    snprintf(path, sizeof path, "/proc/self/fd/%d", file);
-    if (file < 0 || ftruncate(file, (off_t)LENGTH)) exit(3);
-    for (size_t i = 0; i < 5; i++)
-        if (pwrite(file, message + marks[i], 1, (off_t)marks[i]) != 1) exit(3);
-    for (size_t from = ((size_t)1 << 32) - 1000, leaf = 4096;; from = 0, leaf = 1 << 26) {
-        CHECK(lseek(file, (off_t)from, SEEK_SET) == (off_t)from);
-        CHECK(!vulfsjor_tree_root_fd(out, 64, file, 0, 0, 0, 0, (uint32_t)leaf, 0));
-        CHECK(lseek(file, 0, SEEK_CUR) == (off_t)LENGTH);
-        CHECK(!vulfsjor_tree_root(other, 64, message + from, LENGTH - from, 0, 0, 0, 0, (uint32_t)leaf));
-        CHECK(!memcmp(out, other, 64));
-        if (!huge || !from) break;
-    }
-    if (huge) CHECK(!vulfsjor_tree_root_file(out, 64, path, NO_TEXTS, 0) && has_digits(out, ROOT));
-    close(file);
-}
 #endif
 
 int main(void) {
-    const int huge = getenv("VULFSJOR_TEST_HUGE") != NULL;
-
     message = new_message();
     other = repeated_pages(LENGTH);
 #ifndef TEST_S
     same_bytes();
-    check_files(huge);
 #endif
-    if (huge) {
+    if (getenv("VULFSJOR_TEST_HUGE")) {
         check_message();
         check_many();
 #ifndef TEST_S

@@ -4,14 +4,14 @@ source "$(dirname "$(readlink -f "${BASH_SOURCE[0]}")")/common.sh"
 
 # With one build for x86-64, and with what is compiled of C optimized as in other tests.
 one=()
-! chooses || one=(--cpu x86-64-v2)
+! is_x86 || one=(--cpu x86-64-v2)
 # The same, made once for all of these installations, where another archive was: by a compiler of several words, which
 # notes them, and makes no position-independent programs by default.
 install_one() {
     if [ ! -e "$work/built/kind" ]; then
         write_noted ccache env && mkdir -p "$work/built" && ar rc "$work/built/libvulfsjor.a" "$empty" &&
             touch "$work/built/libvulfsjor.so.0.0.9" &&
-            PATH=$work:$PATH CC="ccache cc -fno-pie" CFLAGS=$quick "$here/install.sh" "${cpu[@]}" "${one[@]}" \
+            PATH=$work:$PATH CC="ccache cc -fno-pie" CFLAGS=$quick "$here/install.sh" "${one[@]}" \
                 --from "$dist" --build "$work/built" || return
     fi
     "$here/install.sh" --built "$work/built" "$@"
@@ -20,57 +20,44 @@ install_one() {
 # Writes a compiler or an archiver that notes its words: NAME COMMAND
 write_noted() { printf '#!/bin/sh\necho "$*" >>"$0.calls"\nexec %s "$@"\n' "$2" >"$work/$1" && chmod +x "$work/$1"; }
 
-# All files and links below a folder, by their paths in it.
-files_below() { (cd "$1" && find . -type f -o -type l | sed 's/^\.\///' | LC_ALL=C sort); }
-
-# The files of an installation, with this in the place of lib/.
-wanted_files() {
-    printf '%s\n' include/vulfsjor-libb2/blake2.h include/vulfsjor{.h,.hpp,_threads.h} \
-        "$1"libvulfsjor{,-libb2,-static,-threads}.a "$1"libvulfsjor.so{,.0,".$(version)"} \
-        "$1"pkgconfig/vulfsjor{,-static,-threads}.pc "$1"cmake/vulfsjor/vulfsjor-config{,-version}.cmake \
-        "$1"vulfsjor-libb2/{libb2.a,pkgconfig/libb2.pc} | LC_ALL=C sort
-}
 has_files() { files_below "$1" | diff <(wanted_files lib/) -; }
 
-# A program by the words of one file for pkg-config in this folder, run where the shared library is
-# found.
-program_by_words() {
-    local folder=$1 name=$2 libraries=$3 words
+# A program of one hash, by the names of libb2 if LIBB2 is defined, and one with threads.
+write_program() {
     printf '%s\n' '#ifdef LIBB2' '#include <blake2.h>' '#ifndef VULFSJOR_LIBB2_BLAKE2_H' \
         '#error "the blake2.h of another library"' '#endif' \
         '#define vulfsjor_blake2b(o, n, i, m, k, l) blake2b(o, i, k, n, m, l)' '#else' \
-        '#include <vulfsjor.h>' '#endif' 'int main(void) { unsigned char out[64];' \
-        'return vulfsjor_blake2b(out, 64, 0, 0, 0, 0) || out[0] != 0x78 || out[63] != 0xce; }' \
-        >"$work/program.c"
-    words=$(PKG_CONFIG_PATH=$folder pkg-config --cflags --libs "$name")
-    [ "$name" != libb2 ] || words+=" -DLIBB2"
-    eval "cc $quick '$work/program.c' $words -o '$work/program'" &&
-        LD_LIBRARY_PATH=$libraries "$work/program"
+        '#include "vulfsjor.h"' '#endif' 'int main(void) { unsigned char out[64];' \
+        'return vulfsjor_blake2b(out, 64, 0, 0, 0, 0) || out[0] != 0x78 || out[63] != 0xce; }' >"$1"
+}
+write_threads() {
+    printf '%s\n' '#include <vulfsjor_threads.h>' 'int main(void) { unsigned char out[64];' \
+        'return vulfsjor_tree_root_threads(out, 64, 0, 0, 0, 0, 0, 0, 1, 0); }' >"$1"
 }
 
-# A program with threads, over the static library and over the shared one.
-program_with_threads() {
-    local libraries=$2 one two
-    write_threads "$work/program.c"
-    one=$(PKG_CONFIG_PATH=$1 pkg-config --cflags --libs vulfsjor-threads)
-    [[ " $one " == *" -pthread "* ]] || return 1 # glibc before 2.34 needs it
-    two=$(PKG_CONFIG_PATH=$1 pkg-config --cflags --libs vulfsjor)
-    eval "cc '$work/program.c' $one -o '$work/program'" && "$work/program" &&
-        two="'$libraries/libvulfsjor-threads.a' $two -pthread" &&
-        eval "cc '$work/program.c' $two -o '$work/program'" &&
-        LD_LIBRARY_PATH=$libraries "$work/program"
+# A program from these words and those of a module for pkg-config in this folder, run where the shared library is found:
+# FOLDER MODULE LIBRARIES WORDS
+program_by_words() {
+    local words
+    write_program "$work/program.c" && write_threads "$work/threads.c" &&
+        words=$(PKG_CONFIG_PATH=$1 pkg-config --cflags --libs "$2") &&
+        eval "cc $quick $4 $words -o '$work/program'" && LD_LIBRARY_PATH=$3 "$work/program"
 }
 
 # One program of an installation, and each, by its files for pkg-config, with its archives by other names.
-program_works() { ! has pkg-config || program_by_words "$1/pkgconfig" vulfsjor-static /nowhere; }
+program_works() {
+    ! has pkg-config || program_by_words "$1/pkgconfig" vulfsjor-static /nowhere "'$work/program.c'"
+}
 words_work() {
     local lib=$1
     cmp "$lib/libvulfsjor-static.a" "$lib/libvulfsjor.a" &&
         cmp "$lib/vulfsjor-libb2/libb2.a" "$lib/libvulfsjor-libb2.a" && program_works "$lib" || return 1
     ! has pkg-config || {
-        program_by_words "$lib/pkgconfig" vulfsjor "$lib" &&
-            program_by_words "$lib/vulfsjor-libb2/pkgconfig" libb2 /nowhere &&
-            program_with_threads "$lib/pkgconfig" "$lib" &&
+        program_by_words "$lib/pkgconfig" vulfsjor "$lib" "'$work/program.c'" &&
+            program_by_words "$lib/vulfsjor-libb2/pkgconfig" libb2 /nowhere "-DLIBB2 '$work/program.c'" &&
+            program_by_words "$lib/pkgconfig" vulfsjor-threads /nowhere "'$work/threads.c'" &&
+            program_by_words "$lib/pkgconfig" vulfsjor "$lib" \
+                "'$work/threads.c' '$lib/libvulfsjor-threads.a' -pthread" &&
             [ "$(PKG_CONFIG_PATH=$lib/pkgconfig pkg-config --modversion vulfsjor)" = "$(version)" ]
     }
 }
@@ -133,7 +120,7 @@ is_small() {
     size=$(stat -c %s "$1") && names=$(nm "$1") && grep " vulfsjor_ffi_$2_" <<<"$names" >/dev/null || return 1
     ! sed -n 's/.* vulfsjor_ffi_//p' <<<"$names" | grep -vE "^($2(_|$)|(ask|find|level)(\.|$))" &&
         ! grep -E 'blake2_(parallel|tree|xof)\.' <<<"$names" &&
-        { [ "$size" -le 81920 ] || { echo "$1 has $size bytes" && return 1; }; }
+        ! grep "_ffi_$2_many" <<<"$names" && { [ "$size" -le 81920 ] || { echo "$1 has $size bytes" && return 1; }; }
 }
 
 # Programs that link the archive and have one hash, in one call or in pieces, are small without a flag for it: by
@@ -152,8 +139,7 @@ blake2b 0xbd vulfsjor_blake2b(d, 32, "abc", 3, 0, 0)
 blake2s 0x50 vulfsjor_blake2s(d, 32, "abc", 3, 0, 0)
 blake2b 0xbd vulfsjor_blake2b_init(&s, 32) || vulfsjor_blake2b_update(&s, "abc", 3) || vulfsjor_blake2b_final(&s, d, 32)
 END
-    ! has cmake || { project_by_cmake "list(APPEND CMAKE_PREFIX_PATH \"$prefix\")
-find_package(vulfsjor REQUIRED)" vulfsjor::vulfsjor vulfsjor::threads && is_small "$work/made_program" blake2b; }
+    ! has cmake || { project_that_finds "$prefix" "" && is_small "$work/made_program" blake2b; }
 }
 
 # A project of its own that has the library's files as a part, by hand, as c/README.md has it:
@@ -204,9 +190,14 @@ END
     readelf -d "$build/program" "$build/threads" "$build/libshared.so" |
         sed -n 's/.*NEEDED.*\[\(libvulfsjor.*\)\]/\1/p' >"$work/needed"
 }
+# The same with the package below a folder: FOLDER WORDS [LINES [LANGUAGE]]
+project_that_finds() {
+    project_by_cmake "list(APPEND CMAKE_PREFIX_PATH \"$1\")
+${3-}
+find_package(vulfsjor $2 REQUIRED)" vulfsjor::vulfsjor vulfsjor::threads "${4-C}"
+}
 needs_nothing() { [ ! -s "$work/needed" ]; }
-needs_shared() { [ "$(paste -sd ' ' "$work/needed")" = "$(printf 'libvulfsjor.so.0 %.0s' 1 2 3 |
-    sed 's/ $//')" ]; }
+needs_shared() { diff "$work/needed" <(printf '%s\n' libvulfsjor.so.0{,,}); }
 shared_is_on="set(BUILD_SHARED_LIBS ON)"
 
 # The repository as a part of a project.
@@ -227,31 +218,21 @@ $add" vulfsjor::vulfsjor vulfsjor::threads && needs_shared &&
         readelf -d "$work"/project.*/build/vulfsjor/libvulfsjor.so | grep -q BIND_NOW
 }
 
-# The package of an installation: by another LIBDIR, static by default, for C++ too, found twice,
-# and in no other version than these; and moved, shared by BUILD_SHARED_LIBS.
+# The package of an installation: by another LIBDIR, static by default, for C++ too and found twice; and moved, shared
+# by BUILD_SHARED_LIBS.
 installed_for_cmake() {
-    local found=$work/found find="find_package(vulfsjor"
+    local found=$work/found
     LIBDIR=$found/other/lib install_one "$work/found by libdir" &&
-        project_by_cmake "list(APPEND CMAKE_PREFIX_PATH \"$found/other\")
-foreach(request 0.1.99 0.0 0.2 1.1)
-  $find \${request} QUIET)
-  if(vulfsjor_FOUND OR NOT vulfsjor_CONSIDERED_VERSIONS STREQUAL \"$(version)\")
-    message(FATAL_ERROR \"version \${request}\")
-  endif()
-endforeach()
-$find $(version) EXACT REQUIRED)
-$find REQUIRED)" vulfsjor::vulfsjor vulfsjor::threads CXX && needs_nothing &&
+        project_that_finds "$found/other" "" "find_package(vulfsjor $(version) EXACT REQUIRED)" CXX && needs_nothing &&
         install_one "$work/found here" && mv "$work/found here" "$found/here" &&
-        project_by_cmake "list(APPEND CMAKE_PREFIX_PATH \"$found/here\")
-$shared_is_on
-$find 0.1 REQUIRED)" vulfsjor::vulfsjor vulfsjor::threads && needs_shared
+        project_that_finds "$found/here" 0.1 "$shared_is_on" && needs_shared
 }
 
 # `cmake --install`, which installs the same files as the Makefile, by the same scripts: a stand-in for bash notes their
 # words and variables, and has what they would build. The package for CMake may be moved within the installation, and
 # has the static library and the shared one.
 installed_by_cmake() {
-    local folder=$work/by\ cmake find made=$work/by\ cmake.build/made cc
+    local folder=$work/by\ cmake made=$work/by\ cmake.build/made cc
     cc=$(command -v cc) && install_one "$work/as it is" && cat >"$work/noted_bash" <<END || return 1
 #!$BASH
 [ "\$2" = --build ] || exec "$BASH" "\$@"
@@ -271,11 +252,8 @@ END
         cmake -S "$here" -B "$folder.build" -DCMAKE_INSTALL_{BIN,INCLUDE,MAN}DIR=other &&
         cmake --install "$folder.build" --prefix "$folder.other" && files_below "$folder.other" |
         diff <(files_of_all | sed 's,^\(bin\|include\|share/man\)/,other/,' | LC_ALL=C sort) - || return 1
-    find="list(APPEND CMAKE_PREFIX_PATH \"$folder\")
-find_package(vulfsjor 0.1 REQUIRED)"
-    project_by_cmake "$shared_is_on
-$find" vulfsjor::vulfsjor vulfsjor::threads && needs_shared && rm -r "$folder/include" &&
-        refuses 1 'no folder above' project_by_cmake "$find" vulfsjor::vulfsjor vulfsjor::threads
+    project_that_finds "$folder" 0.1 "$shared_is_on" && needs_shared && rm -r "$folder/include" &&
+        refuses 1 'no folder above' project_that_finds "$folder" 0.1
 }
 
 # The same in portable C, in the way of Windows and macOS: the library without the programs.
@@ -287,21 +265,11 @@ portable_by_cmake() {
         cmake --build "$folder.build" && cmake --install "$folder.build" --prefix "$folder" &&
         files_below "$folder" | diff <(printf '%s\n' include/vulfsjor{.h,.hpp,_threads.h} \
             lib/cmake/vulfsjor/vulfsjor-config{-version,}.cmake lib/libvulfsjor{-threads,}.a) - &&
-        project_by_cmake "list(APPEND CMAKE_PREFIX_PATH \"$folder\")
-find_package(vulfsjor $(version) EXACT REQUIRED)" vulfsjor::vulfsjor vulfsjor::threads && needs_nothing
+        project_that_finds "$folder" "$(version) EXACT" && needs_nothing
 }
 
-# The modules for pkg-config in CMake, which looks for the files that the words name, as meson does.
-modules_by_cmake() {
-    project_by_cmake "set(ENV{PKG_CONFIG_PATH} \"$prefix/lib/pkgconfig\")
-find_package(PkgConfig REQUIRED)
-pkg_check_modules(shared REQUIRED IMPORTED_TARGET vulfsjor)
-pkg_check_modules(threads REQUIRED IMPORTED_TARGET vulfsjor-threads)" PkgConfig::shared PkgConfig::threads &&
-        [ "$(cat "$work/needed")" = libvulfsjor.so.0 ]
-}
-
-# What pkg-config prints for each module, from the folder of its file: MODULE FOLDER INCLUDES ROOM
-# LIBRARIES.
+# What pkg-config prints for each module, from the folder of its file: MODULE FOLDER INCLUDES ROOM LIBRARIES. CMake and
+# meson find the files of such words.
 words_are_these() {
     local module folder includes room libraries
     while read -r module folder includes room libraries; do
@@ -333,14 +301,18 @@ files_of_program() {
     echo "share/zsh/site-functions/_$1"
 }
 
-# Whether those of b2 and of b2sum that are not built are the ones of this repository.
+# Whether the files of b2 and of b2sum that are not built are the ones of this repository, which differ only by this
+# before the name of a program, wherever that is one: FOLDER [PREFIX]
 are_copies() {
-    local name
+    local name place from text prefix=${2-}
     for name in b2 b2sum; do
-        cmp "$1/share/man/man1/$name.1" "$top/docs/$name.1" &&
-            cmp "$1/share/bash-completion/completions/$name" "$top/completions/$name.bash" &&
-            cmp "$1/share/fish/vendor_completions.d/$name.fish" "$top/completions/$name.fish" &&
-            cmp "$1/share/zsh/site-functions/_$name" "$top/completions/_$name" || return
+        while read -r place from; do
+            text=$(<"$1/$place") && text=${text//"$prefix"/} &&
+                diff <(echo "${text//"${prefix^^}"/}") "$top/$from" || return
+            [ -z "$prefix" ] || ! grep -e "^\.TH ${name^^} " -e "^$name " -e "\\\\fB$name[ \\\\]" \
+                -e "^complete .* $name\( \|\$\)" -e "^#compdef $name" "$1/$place" || return
+        done < <(files_of_program "$prefix$name" | paste -d ' ' - <(printf '%s\n' "$name" completions/$name.bash \
+            docs/$name.1 completions/{$name.fish,_$name}) | sed 1d)
     done
 }
 
@@ -432,8 +404,8 @@ made_next_to_others() {
         files_below "$place" | diff <({ printf '%s\n' bin/b2 bin/b2sum share/man/man1/b2sum.1 &&
             files_of_all vulfsjor-; } | LC_ALL=C sort) - &&
         [ "$(cat "$place"/bin/b2{,sum} "$place/share/man/man1/b2sum.1" | paste -sd ' ')" = \
-            "Boost coreutils coreutils" ] && follows_the_prefix "$place" &&
-            is_plain "$place/lib/pkgconfig" || return 1
+            "Boost coreutils coreutils" ] && are_copies "$place" vulfsjor- && is_plain "$place/lib/pkgconfig" &&
+        [ "$("$place/bin/vulfsjor-b2sum" none 2>&1)" = "vulfsjor-b2sum: none: No such file or directory" ] || return 1
     make_here install prefix=/usr DESTDIR="$root" PROGRAM_PREFIX=vulfsjor- &&
         make_here uninstall prefix=/usr DESTDIR="$root" && [ "$(cat "$place/bin/b2")" = Boost ] &&
         make_here uninstall prefix=/usr DESTDIR="$root" PROGRAM_PREFIX=vulfsjor- &&
@@ -445,24 +417,6 @@ is_plain() {
     grep -qx prefix=/usr "$1/vulfsjor.pc" && grep -q '^URL: https://' "$1/vulfsjor.pc" || return 1
     ! has pkg-config ||
         [ "$(PKG_CONFIG_PATH=$1 pkg-config --cflags --libs vulfsjor | sed 's/ *$//')" = -lvulfsjor ]
-}
-
-# The man pages and completions have the name of the program with the prefix, and no other line differs. So do the
-# messages of b2sum.
-follows_the_prefix() {
-    local name share=$1/share
-    [ "$("$1/bin/vulfsjor-b2sum" none 2>&1)" = "vulfsjor-b2sum: none: No such file or directory" ] || return
-    for name in b2 b2sum; do
-        head -4 "$share/man/man1/vulfsjor-$name.1" |
-            grep -q "^\.TH VULFSJOR-$(tr '[:lower:]' '[:upper:]' <<<$name) 1 " &&
-            sed -n '4p;7p' "$share/man/man1/vulfsjor-$name.1" | grep -c "^vulfsjor-$name " | grep -qx 2 &&
-            ! grep -E "(^|\\fB)$name( |\\)" "$share/man/man1/vulfsjor-$name.1" &&
-            grep -qx "complete -.* vulfsjor-$name" "$share/bash-completion/completions/vulfsjor-$name" &&
-            ! grep -q "^complete .* $name$" "$share/bash-completion/completions/vulfsjor-$name" &&
-            [ "$(head -1 "$share/zsh/site-functions/_vulfsjor-$name")" = "#compdef vulfsjor-$name" ] &&
-            grep -q "^complete -c vulfsjor-$name " "$share/fish/vendor_completions.d/vulfsjor-$name.fish" &&
-            ! grep "^complete -c $name " "$share/fish/vendor_completions.d/vulfsjor-$name.fish" || return 1
-    done
 }
 
 # What the other names of the Makefile run, and the list of all. No rule takes a word that is not listed, such as one
@@ -509,15 +463,6 @@ chosen_by_cmake() {
         printf '%s /c/vulfsjor.c\n' "${portable[@]}")
 }
 
-write_program() {
-    printf '%s\n' '#include "vulfsjor.h"' 'int main(void) { unsigned char out[64];' \
-        'return vulfsjor_blake2b(out, 64, 0, 0, 0, 0) || out[0] != 0x78 || out[63] != 0xce; }' >"$1"
-}
-write_threads() {
-    printf '%s\n' '#include <vulfsjor_threads.h>' 'int main(void) { unsigned char out[64];' \
-        'return vulfsjor_tree_root_threads(out, 64, 0, 0, 0, 0, 0, 0, 1, 0); }' >"$1"
-}
-
 # A repository of its own whose tools/dist.sh is a stand-in, which notes its words.
 make_stand_in() {
     mkdir -p "$1/tools" && cp "$top/tools/shell.sh" "$1/tools" && cp -R "$here" "$1/c" && cp -R "$dist" "$1/dist" &&
@@ -549,9 +494,9 @@ refuses() {
         { echo "status or words of: $*"; cat "$work/said"; return 1; }
 }
 
-# A compiler for the machine that is its first word, which notes its other words and which texts end its assembly, and
-# only writes an empty object; or, with the file `real`, is the one here, and optimizes nothing. With the file `noting`
-# it fails at C, which comes after the texts.
+# A compiler for the machine that is its first word, which notes its other words and only writes an empty object; or,
+# with the file `real`, is the one here, and optimizes nothing. With the file `noting` it fails at C, which comes after
+# the texts.
 compiler_for() {
     rm -f "$work"/{compiled,real,noting} && cc -c "$empty" -o "$work/empty.o" &&
         cat >"$work/for" <<END && chmod +x "$work/for"
@@ -561,23 +506,17 @@ shift
 echo "\$*" >>"$work/compiled"
 case " \$* " in *" -E "* | *" -print-prog-name="*) exec cc "\$@" ;; esac
 [ ! -e "$work/real" ] || exec cc "\$@" -O0
-for file; do
-    case \${file##*/} in *_*) continue ;; *.s) ;; *) continue ;; esac
-    for text in "$dist"/*/vulfsjor*.s; do
-        tail -c "\$(wc -c <"\$text")" "\$file" | cmp -s - "\$text" && echo "\$text " >>"$work/compiled"
-    done
-done
 [ ! -e "$work/noting" ] || case " \$* " in *".c "*) exit 1 ;; esac
 while [ "\$1" != -o ]; do shift; done
 cp "$work/empty.o" "\$2"
 END
 }
 
-# The texts that install.sh takes for a machine, whose compiler is that one.
+# The names of the texts that install.sh takes for a machine, whose compiler is that one.
 texts_for() {
     rm -f "$work/compiled"
     CC="$work/for $1" "$here/install.sh" --from "$dist" "${@:2}" "$work/for_$1" 2>"$work/said"
-    grep -ohE 'dist/[^ ]*/vulfsjor[v0-9-]*\.[sc] ' "$work/compiled" | sort -u | sed 's|.*dist/||;s/ $//'
+    grep -ohE '/vulfsjor[v0-9-]*\.[sc] ' "$work/compiled" | sort -u | tr -d '/ '
 }
 
 # A folder of the loader: the programs that link the library start, or a line says what is to be done. A stand-in for
@@ -612,15 +551,15 @@ is_portable() {
 machines_without_assembly() {
     local machine
     compiler_for && touch "$work/real" || return 1
-    texts_for riscv64-linux-gnu | diff <(echo c/vulfsjor.c) - && is_portable riscv64-linux-gnu &&
+    texts_for riscv64-linux-gnu | diff <(echo vulfsjor.c) - && is_portable riscv64-linux-gnu &&
         [ "$(grep -c -e -Wl,-z,defs "$work/compiled")" -eq 1 ] && rm "$work/real" && touch "$work/noting" || return 1
-    texts_for x86_64-pc-linux-gnu --portable | diff <(echo c/vulfsjor.c) - || return 1
+    texts_for x86_64-pc-linux-gnu --portable | diff <(echo vulfsjor.c) - || return 1
     for machine in x86_64-linux-gnux32 aarch64-linux-gnu_ilp32 aarch64_be-linux-gnu i386-unknown-haiku; do
-        texts_for $machine | diff <(echo c/vulfsjor.c) - || return 1
+        texts_for $machine | diff <(echo vulfsjor.c) - || return 1
     done
     ! is_x86 ||
         for machine in x86_64-unknown-{openbsd,freebsd14.0,dragonfly6.4} x86_64-{linux-android,w64-windows-gnu}; do
-        texts_for $machine | diff <(printf 'x86_64/vulfsjor-v%s.s\n' 2 3 4) - || return 1
+        texts_for $machine | diff <(printf 'vulfsjor-v%s.s\n' 2 3 4) - || return 1
     done
 }
 
@@ -628,7 +567,7 @@ machines_without_assembly() {
 # sanitizer, whose functions are not in the library.
 odd_compilers() {
     compiler_for || return 1
-    ! is_x86 || CFLAGS=-m32 texts_for x86_64-linux-gnu | diff <(echo c/vulfsjor.c) - || return 1
+    ! is_x86 || CFLAGS=-m32 texts_for x86_64-linux-gnu | diff <(echo vulfsjor.c) - || return 1
     printf '#!/bin/sh\nexit 1\n' >"$work/silent" && chmod +x "$work/silent" &&
         refuses 1 "silent does not know -dumpmachine: use GCC or Clang" env CC="$work/silent" "$here/install.sh" \
             --from "$dist" "$work/no" &&
@@ -639,69 +578,64 @@ odd_compilers() {
 # The package for CMake is for the size of a pointer of what is installed, and a later version would be for requests of
 # its minor version.
 size_of_pointers() {
-    local size other request
+    local size package=lib/cmake/vulfsjor/vulfsjor-config-version.cmake
+    install_one "$work/size" || return 1
     for size in 4 8; do
-        rm -rf "$work/built$size" && install_one "$work/size" && cp -R "$work/built" "$work/built$size" &&
-            sed -i "3s/.*/$size/" "$work/built$size/kind" && "$here/install.sh" --built "$work/built$size" \
-                "$work/size$size" || return 1
-        for other in 4 8; do
-            printf '%s\n' "set(CMAKE_SIZEOF_VOID_P $other)" \
-                "include(\"$work/size$size/lib/cmake/vulfsjor/vulfsjor-config-version.cmake\")" \
-                'message("unsuitable: ${PACKAGE_VERSION_UNSUITABLE}")' >"$work/size.cmake"
-            [ "$(cmake -P "$work/size.cmake" 2>&1)" = "unsuitable: $([ $size = $other ] || echo TRUE)" ] || return 1
-        done
+        cp -R "$work/built" "$work/built$size" && sed -i "3s/.*/$size/" "$work/built$size/kind" &&
+            "$here/install.sh" --built "$work/built$size" "$work/size$size" || return 1
     done
-    sed "s/$(version)/0.3.5/" "$work/size8/lib/cmake/vulfsjor/vulfsjor-config-version.cmake" >"$work/later.cmake" &&
-        for request in 0.3 0.3.5 0.3.6 0.2 1.3; do
-        printf 'set(PACKAGE_FIND_VERSION%s)\n' " $request" "_MAJOR ${request%%.*}" "_MINOR $(cut -d . -f 2 <<<$request)"
-        printf '%s\n' "include(\"$work/later.cmake\")" "message(\"$request \${PACKAGE_VERSION_COMPATIBLE}\")" \
-            'unset(PACKAGE_VERSION_COMPATIBLE)'
-    done >"$work/requests.cmake" && cmake -P "$work/requests.cmake" 2>&1 |
-        diff - <(printf '%s\n' "0.3 TRUE" "0.3.5 TRUE" "0.3.6 " "0.2 " "1.3 ") || return 1
-    grep -x "$(echo __SIZEOF_POINTER__ | cc -E -P -)" "$work/built/kind"
+    sed "s/$(version)/0.3.5/" "$work/size8/$package" >"$work/later.cmake" && cat >"$work/size.cmake" <<END || return 1
+foreach(size 4 8)
+  foreach(CMAKE_SIZEOF_VOID_P 4 8)
+    unset(PACKAGE_VERSION_UNSUITABLE)
+    include("$work/size\${size}/$package")
+    message("\${size} for \${CMAKE_SIZEOF_VOID_P}: \${PACKAGE_VERSION_UNSUITABLE}")
+  endforeach()
+endforeach()
+foreach(PACKAGE_FIND_VERSION 0.3 0.3.5 0.3.6 0.2 1.3)
+  string(REGEX MATCHALL "[0-9]+" numbers \${PACKAGE_FIND_VERSION})
+  list(GET numbers 0 PACKAGE_FIND_VERSION_MAJOR)
+  list(GET numbers 1 PACKAGE_FIND_VERSION_MINOR)
+  unset(PACKAGE_VERSION_COMPATIBLE)
+  include("$work/later.cmake")
+  message("\${PACKAGE_FIND_VERSION} \${PACKAGE_VERSION_COMPATIBLE}")
+endforeach()
+END
+    cmake -P "$work/size.cmake" 2>&1 | diff - <(printf '%s\n' "4 for 4: " "4 for 8: TRUE" "8 for 4: TRUE" "8 for 8: " \
+        "0.3 TRUE" "0.3.5 TRUE" "0.3.6 " "0.2 " "1.3 ") &&
+        grep -x "$(echo __SIZEOF_POINTER__ | cc -E -P -)" "$work/built/kind"
 }
 
 # CMake optimizes portable C for speed, whatever the type of build and the flags are: the last option counts. So does
 # install.sh.
 optimized() {
-    local type wanted build=$work/type
+    local type build=$work/type
     compiler_for && CFLAGS=-O0 texts_for riscv64-linux-gnu && grep 'vulfsjor\.c ' "$work/compiled" | grep -o -e '-O.' |
         diff - <(printf '%s\n' -O2 -O0 -O2{,} -O0 -O2) || return 1
-    ! has cmake || while IFS=: read -r type wanted; do
-        cmake -S "$here" -B "$build" -DVULFSJOR_PORTABLE=ON -DCMAKE_BUILD_TYPE="$type" -DCMAKE_C_FLAGS=-O0 &&
-            grep -o -e '-O.' "$build/CMakeFiles/vulfsjor.dir/flags.make" | tail -1 | diff - <(echo "$wanted") ||
+    ! has cmake || for type in :-O2 Debug:-O2 Release:-O3 RelWithDebInfo:-O2 MinSizeRel:-O2 Other:-O2; do
+        cmake -S "$here" -B "$build" -DVULFSJOR_PORTABLE=ON -DCMAKE_BUILD_TYPE="${type%:*}" -DCMAKE_C_FLAGS=-O0 &&
+            grep -o -e '-O.' "$build/CMakeFiles/vulfsjor.dir/flags.make" | tail -1 | diff - <(echo "${type#*:}") ||
             return 1
-    done <<'END'
-:-O2
-Debug:-O2
-Release:-O3
-RelWithDebInfo:-O2
-MinSizeRel:-O2
-Other:-O2
-END
+    done
 }
 
 refusals() {
-    local call=("$here/install.sh")
-    compiler_for || return 1
-    refuses 1 "no build for riscv64-linux-gnu and x86-64-v2" env CC="$work/for riscv64-linux-gnu" \
-        "${call[@]}" --cpu x86-64-v2 --from "$dist" "$work/no" || return 1
-    refuses 2 usage "${call[@]}" --cpu x86-64-v3 --portable "$work/no" || return 1
-    refuses 1 "no build for aarch64-linux-gnu and x86-64-v2" env CC="$work/for aarch64-linux-gnu" \
-        "${call[@]}" --cpu x86-64-v2 --from "$dist" "$work/no" || return 1
-    refuses 2 usage "${call[@]}" && refuses 2 usage "${call[@]}" "" &&
-        refuses 2 usage "${call[@]}" a b &&
-        refuses 2 usage "${call[@]}" --cpu &&
-        refuses 2 usage "${call[@]}" --cpu x86-64-v5 "$work/no" &&
-        refuses 2 usage "${call[@]}" --from && refuses 2 usage "${call[@]}" --what "$work/no" &&
-        cd "$work" && refuses 2 usage "${call[@]}" --from "$dist" --what && [ ! -e --what ] &&
-        refuses 2 usage "${call[@]}" --uninstall && refuses 0 'DESTDIR' "${call[@]}" --help &&
-        refuses 1 'no-compiler is not on the PATH' env CC=no-compiler "${call[@]}" --from "$dist" \
-            "$work/no" &&
-        refuses 1 'No such file' "${call[@]}" --from "$work/nowhere" "$work/no" &&
-        refuses 1 'was not made by --build' "${call[@]}" --built "$work" "$work/no" &&
-        [ ! -e "$work/no" ] || return 1
-    "$here/install.sh" --help | head -n 1 | grep -q '^Installs the library'
+    local call=("$here/install.sh") words
+    compiler_for && cd "$work" || return 1
+    for words in riscv64 aarch64; do
+        refuses 1 "no build for $words-linux-gnu and x86-64-v2" env CC="$work/for $words-linux-gnu" \
+            "${call[@]}" --cpu x86-64-v2 --from "$dist" no || return 1
+    done
+    for words in "" "a b" --cpu "--cpu x86-64-v5 no" "--cpu x86-64-v3 --portable no" --from "--from no --what" \
+        "--what no" --uninstall; do
+        # shellcheck disable=SC2086
+        refuses 2 usage "${call[@]}" $words || return 1
+    done
+    refuses 2 usage "${call[@]}" "" &&
+        refuses 0 DESTDIR "${call[@]}" --help && head -n 1 said | grep -q '^Installs the library' &&
+        refuses 1 'no-compiler is not on the PATH' env CC=no-compiler "${call[@]}" --from "$dist" no &&
+        refuses 1 'No such file' "${call[@]}" --from nowhere no &&
+        refuses 1 'was not made by --build' "${call[@]}" --built . no && [ ! -e no ] && [ ! -e --what ]
 }
 
 test_installing() {
@@ -737,8 +671,6 @@ test_installing() {
     check "a program of one call is small" small_programs
     needs pkg-config
     check "the words of pkg-config" words_are_these
-    needs pkg-config cmake
-    check "the modules of pkg-config in CMake" modules_by_cmake
 }
 
 part test_installing

@@ -6,11 +6,9 @@
  * and a search that misses a copy which is put there for it to find. For BLAKE2X it looks for the
  * root hash and the first block of the output too. Returns 0 if none failed.
  *
- *   cc -std=gnu99 -O2 -Wl,-z,now -I FOLDER/include key_scan.c ARCHIVE -o key_scan
- *   cc the same with -DTEST_S       the same of BLAKE2s
- *   cc the same with -DTEST_P       the same of BLAKE2bp, or of BLAKE2sp with both
- *   cc the same with -DTEST_X       the same of BLAKE2Xb, or of BLAKE2Xs with TEST_S
- *   cc the same with -DLIBB2_NAMES and ARCHIVE-libb2        the calls by libb2's names
+ *   cc -std=gnu99 -O2 -Wl,-z,now -I FOLDER/include key_scan.c ARCHIVE -o key_scan     for BLAKE2b
+ *   cc the same with words of family.h                                              for the others
+ *   cc the same with -DLIBB2_NAMES and ARCHIVE-libb2                                the calls by libb2's names
  *
  * With -z now no call goes by the dynamic linker, which would save vector registers on the
  * stack. */
@@ -19,10 +17,10 @@
 #include "family.h"
 
 #ifdef LIBB2_NAMES
-#include "libb2_family.h"
+#include <blake2.h>
 #undef BLAKE
-#define BLAKE(name) X(_##name)
-#define state_t X(_state)
+#define BLAKE(name) PLAIN(name)
+#define state_t PLAIN(state)
 #endif
 
 enum { DEPTH = 64 * 1024, PIECE = 4, LONGEST = 1000, ROOM = (LANES + 1) * MAX };
@@ -55,98 +53,48 @@ static void start_and_take(void) {
     CHECK(!BLAKE(update)(&state, message, length));
 }
 
-/* ---- The calls. Each returns 0 if its status is the expected one. */
-
-#define CALL(name, wrong) \
-    static int name(void) { return wrong; }
-
-CALL(call_init_key, BLAKE(init_key)(&state, SIZE, key, MAX))
-CALL(call_refused_size, !BLAKE(init_key)(&state, NO_SIZE, key, MAX))
-CALL(call_update, BLAKE(update)(&state, message, length))
-#ifndef TEST_X
-CALL(call_final, BLAKE(final)(&state, out, MAX))
-#endif
-
-#ifdef LIBB2_NAMES
-CALL(call_one_call, BLAKE2(out, message, key, MAX, length, MAX))
-#else
-static uint8_t salt[2 * MAX];
-
-CALL(call_init_salt, BLAKE(init_salt_personal)(&state, SIZE, key, MAX, salt, MAX / 4, salt, MAX / 4))
-/* Not by the header, which sets the state to zero before. */
-CALL(call_refused_salt, !LIBRARY(init_salt_personal)(&state, SIZE, key, MAX, salt, MAX / 4 + 1, salt, 0))
-CALL(call_one_call, ONE_CALL(out, SIZE, message, length, key, MAX))
-CALL(call_reset, BLAKE(reset)(&state))
-CALL(call_wipe, (BLAKE(wipe)(&state), 0))
-
 #ifdef TEST_X
+/* How many bytes of the output have been read, and how many are then. */
+static size_t bytes_read = MAX, asked;
+
 static void start_and_read(void) {
     start_and_take();
-    CHECK(!BLAKE(squeeze)(&state, out, MAX));
-}
-
-static void start_and_read_part(void) {
-    start_and_take();
-    CHECK(!BLAKE(squeeze)(&state, out, 7));
+    CHECK(!bytes_read || !BLAKE(squeeze)(&state, out, bytes_read));
 }
 
 static void start_read_and_reset(void) {
     start_and_read();
     CHECK(!BLAKE(reset)(&state));
 }
+#endif
 
-CALL(call_derive_key, BLAKE(derive_key)(out, SIZE, key, MAX, message, length))
-CALL(call_squeeze_none, BLAKE(squeeze)(&state, NULL, 0))
-CALL(call_squeeze_part, BLAKE(squeeze)(&state, out, 7))
-CALL(call_squeeze_block, BLAKE(squeeze)(&state, out, MAX))
-CALL(call_squeeze_blocks, BLAKE(squeeze)(&state, out, LANES * MAX))
-CALL(call_refused_squeeze, !BLAKE(squeeze)(&state, out, SIZE))
-CALL(call_refused_update, !BLAKE(update)(&state, message, length))
+/* ---- Calls of which bench/key_remains.c makes some too. Each returns 0 if its status is the expected one. */
+
+#define CALL(name, wrong) \
+    static int name(void) { return wrong; }
+
+CALL(call_init_key, BLAKE(init_key)(&state, SIZE, key, MAX))
+CALL(call_update, BLAKE(update)(&state, message, length))
+#ifndef TEST_X
+CALL(call_final, BLAKE(final)(&state, out, MAX))
+#endif
+#ifdef LIBB2_NAMES
+CALL(call_one_call, PLAIN_ONE_CALL(out, message, key, MAX, length, MAX))
 #else
-#ifdef TEST_P
-#define REFUSED(...) BLAKE(refused)(__VA_ARGS__)
-CALL(call_refused, REFUSED(MAX, key, MAX, salt, MAX / 4, salt, MAX) != VULFSJOR_ARGUMENT_PERSONAL)
-#else
+CALL(call_one_call, ONE_CALL(out, SIZE, message, length, key, MAX))
+#endif
+#if !defined(LIBB2_NAMES) && !defined(TEST_X) && !defined(TEST_P)
+#define TEST_NODES
 static vulfsjor_tree tree = {3, 4096, 2, 2, 0, MAX}, no_tree = {3, 4096, 2, 0, 0, MAX};
 
-#define REFUSED(...) BLAKE(refused)(__VA_ARGS__, NULL)
 #define MANY(count) BLAKE(many)(out, MAX, messages, count, key, MAX, 0, 0, 0, 0)
-CALL(call_init_tree, BLAKE(init_tree)(&state, MAX, key, MAX, salt, MAX / 4, salt, MAX / 4, &tree))
-CALL(call_refused_depth, !BLAKE(init_tree)(&state, MAX, key, MAX, salt, 0, salt, 0, &no_tree))
-CALL(call_refused, BLAKE(refused)(MAX, key, MAX, salt, 1, salt, 1, &no_tree) != VULFSJOR_ARGUMENT_DEPTH)
 CALL(call_many_one, MANY(1))
 CALL(call_many_four, MANY(4))
 CALL(call_many_lanes, MANY(LANES))
 CALL(call_many_more, MANY(LANES + 1))
-CALL(call_set_last_node, BLAKE(set_last_node)(&state, 1))
-#endif
-
-CALL(call_refused_null, REFUSED(MAX, key, MAX, NULL, 1, NULL, 0) != VULFSJOR_ARGUMENT_SALT)
-CALL(call_verify_right, BLAKE(verify)(&state, tag, MAX))
-CALL(call_verify_wrong, !BLAKE(verify)(&state, wrong, MAX))
-CALL(call_verify_short, !BLAKE(verify)(&state, tag, MAX - 1))
-
-/* A copy of the key in a frame that is then dead, and one by its digits. */
-static int call_wipe_bytes(void) {
-    uint8_t copy[MAX];
-    int status;
-
-    memcpy(copy, key, MAX);
-    status = BLAKE(init_key)(&state, MAX, copy, MAX);
-    vulfsjor_wipe(copy, MAX);
-    return status;
-}
-
-static int call_hexadecimal(void) {
-    static char digits[2 * MAX + 1];
-    uint8_t copy[MAX];
-    int status = vulfsjor_bin2hex(digits, sizeof digits, key, MAX) ||
-                 vulfsjor_hex2bin(copy, MAX, digits, 2 * MAX) || memcmp(copy, key, MAX);
-
-    vulfsjor_wipe(copy, MAX);
-    return status;
-}
-#endif
+#define REFUSED(...) BLAKE(refused)(__VA_ARGS__, &no_tree)
+#else
+#define REFUSED(...) BLAKE(refused)(__VA_ARGS__)
 #endif
 
 /* ---- The search. */
@@ -158,53 +106,30 @@ static __attribute__((noinline)) void fill_stack(void) {
     for (size_t i = 0; i < sizeof bytes; i++) bytes[i] = 0x55;
 }
 
-/* Copies the registers zmm16 to zmm31, and sets one of them. */
+/* Copies the registers zmm16 to zmm31, and sets the first and the last of them. */
 static int has_upper;
 #ifdef __x86_64__
 static uint8_t wide[64];
 extern unsigned char vulfsjor_ffi_level __attribute__((weak, visibility("hidden")));
-#define STORE(register, place) "vmovdqu64 %%zmm" #register ", " #place "*64(%0)\n"
-#define SET(register) \
-    static int set_##register(void) { \
-        __asm__ volatile("vmovdqu64 (%0), %%zmm" #register : : "r"(wide)); \
-        return 0; \
-    }
-SET(16)
-SET(31)
+static int set_registers(void) {
+    __asm__ volatile("vmovdqu64 (%0), %%zmm16\nvmovdqu64 (%0), %%zmm31" : : "r"(wide));
+    return 0;
+}
 static inline __attribute__((always_inline)) void keep_registers(void) {
-    __asm__ volatile(
-        STORE(16, 0) STORE(17, 1) STORE(18, 2) STORE(19, 3) STORE(20, 4) STORE(21, 5) STORE(22, 6)
-        STORE(23, 7) STORE(24, 8) STORE(25, 9) STORE(26, 10) STORE(27, 11) STORE(28, 12)
-        STORE(29, 13) STORE(30, 14) STORE(31, 15)
-        : : "r"(stack + DEPTH) : "memory");
+    __asm__ volatile(".irp n, 16, 17, 18, 19, 20, 21, 22, 23, 24, 25, 26, 27, 28, 29, 30, 31\n"
+                     "vmovdqu64 %%zmm\\n, 64 * (\\n - 16)(%0)\n"
+                     ".endr" : : "r"(stack + DEPTH) : "memory");
 }
 #else
 static void keep_registers(void) {}
 #endif
 
-/* How the stack pointer is read. */
-#if defined(__x86_64__)
-#define READ_POINTER "mov %%rsp, %0"
-#elif defined(__i386__)
-#define READ_POINTER "mov %%esp, %0"
-#elif defined(__aarch64__) || defined(__arm__)
-#define READ_POINTER "mov %0, sp"
-#elif defined(__s390x__)
-#define READ_POINTER "lgr %0, %%r15"
-#elif defined(__riscv)
-#define READ_POINTER "mv %0, sp"
-#elif defined(__powerpc64__)
-#define READ_POINTER "mr %0, 1"
-#endif
-
 /* Makes the call, and copies the stack below this frame before anything else, without a call. */
 static __attribute__((noinline)) int call_and_keep(int (*call)(void)) {
     int status = call();
-    const volatile uint8_t *from;
+    const volatile uint8_t *from = (const uint8_t *)__builtin_frame_address(0) - DEPTH;
     volatile uint8_t *to = stack;
 
-    __asm__ volatile(READ_POINTER : "=r"(from));
-    from -= DEPTH;
     for (size_t i = 0; i < DEPTH; i++) to[i] = from[i];
     if (has_upper) keep_registers();
     return status;
@@ -261,62 +186,6 @@ static void finds_copies(void) {
 
 /* ---- All. */
 
-/* The calls, what goes before each, and whether it leaves the state zero. */
-static const struct {
-    int (*call)(void);
-    void (*before)(void);
-    int wipes;
-    const char *name;
-} CALLED[] = {
-    {call_init_key, nothing, 0, "init_key"},
-    {call_refused_size, start_keyed, 1, "init_key, refused for its length"},
-    {call_one_call, nothing, 0, "the hash in one call"},
-    {call_update, start_keyed, 0, "update"},
-    {call_update, start_and_take, 0, "update, after an update"},
-#ifndef TEST_X
-    {call_final, start_and_take, 1, "final"},
-#endif
-#ifndef LIBB2_NAMES
-    {call_init_salt, nothing, 0, "init_salt_personal with a key"},
-    {call_refused_salt, start_keyed, 1, "init_salt_personal, refused for its salt"},
-    {call_reset, start_and_take, 0, "reset"},
-    {call_wipe, start_and_take, 1, "wipe"},
-#ifdef TEST_X
-    {call_derive_key, nothing, 0, "derive_key"},
-    {call_squeeze_none, start_and_take, 0, "squeeze, the first, of no bytes"},
-    {call_squeeze_part, start_and_take, 0, "squeeze, the first, a part of a block"},
-    {call_squeeze_block, start_and_take, 0, "squeeze, the first, a block"},
-    {call_squeeze_blocks, start_and_take, 0, "squeeze, the first, several blocks"},
-    {call_squeeze_part, start_and_read_part, 0, "squeeze, a later one, of the same block"},
-    {call_squeeze_block, start_and_read_part, 0, "squeeze, a later one, of two blocks"},
-    {call_squeeze_block, start_and_read, 0, "squeeze, a later one, a block"},
-    {call_squeeze_blocks, start_and_read_part, 0, "squeeze, a later one, several blocks"},
-    {call_refused_squeeze, start_and_read, 0, "squeeze, refused for its length"},
-    {call_refused_update, start_and_read, 0, "update, refused after a squeeze"},
-    {call_reset, start_and_read, 0, "reset, after a squeeze"},
-    {call_update, start_read_and_reset, 0, "update, after a squeeze and a reset"},
-    {call_wipe, start_and_read, 1, "wipe, after a squeeze"},
-#else
-    {call_refused, nothing, 0, "which argument of a keyed call is refused, its last"},
-    {call_refused_null, nothing, 0, "which argument of a keyed call is refused, a null salt"},
-#ifndef TEST_P
-    {call_init_tree, nothing, 0, "init_tree with a key"},
-    {call_refused_depth, start_keyed, 1, "init_tree, refused for its depth"},
-    {call_many_one, nothing, 0, "many, one message"},
-    {call_many_four, nothing, 0, "many, four messages"},
-    {call_many_lanes, nothing, 0, "many, as many as are hashed at once"},
-    {call_many_more, nothing, 0, "many, one more, of another length"},
-    {call_set_last_node, start_and_take, 0, "set_last_node"},
-#endif
-    {call_verify_right, start_and_take, 1, "verify, a right tag"},
-    {call_verify_wrong, start_and_take, 1, "verify, a wrong tag"},
-    {call_verify_short, start_and_take, 1, "verify, a tag of another length"},
-    {call_wipe_bytes, nothing, 0, "vulfsjor_wipe of a copy of the key"},
-    {call_hexadecimal, nothing, 0, "vulfsjor_bin2hex and vulfsjor_hex2bin of the key"},
-#endif
-#endif
-};
-
 #ifdef TEST_X
 /* Sets what is looked for besides the key: the root hash, which is a digest under the key at the
  * node offset that has the length of the output in its upper bits, and a block of the output. */
@@ -327,8 +196,8 @@ static void take_secrets(void) {
     CHECK(!SEQUENTIAL(init_tree)(&root, MAX, key, MAX, NULL, 0, NULL, 0, &root_place));
     CHECK(!SEQUENTIAL(update)(&root, message, length) && !SEQUENTIAL(final)(&root, key + MAX, MAX) && !call_one_call());
     memcpy(key + 2 * MAX, out, MAX);
-    start_and_read();
-    CHECK(!memcmp(state.reader.root, key + MAX, MAX));
+    start_and_take();
+    CHECK(!BLAKE(squeeze)(&state, out, MAX) && !memcmp(state.reader.root, key + MAX, MAX));
 }
 #endif
 
@@ -349,34 +218,134 @@ static void take_length(size_t bytes) {
  * inside main it would leave the key in registers that calls save on Windows. */
 static __attribute__((noinline)) void finds_registers(void) {
 #ifdef __x86_64__
-    int (*const set[])(void) = {set_16, set_31};
-
     take_length(0);
     has_upper = &vulfsjor_ffi_level != NULL && vulfsjor_ffi_level == 4;
     memcpy(wide, key, MAX);
-    for (size_t i = 0; has_upper && i < 2; i++)
-        CHECK(pieces_after(nothing, set[i]) == (MAX + MAX * (int)i) / PIECE);
-    if (has_upper) __asm__ volatile("vpxord %xmm16, %xmm16, %xmm16\nvpxord %xmm31, %xmm31, %xmm31");
+    if (!has_upper) return;
+    CHECK(pieces_after(nothing, set_registers) == 2 * MAX / PIECE);
+    __asm__ volatile("vpxord %xmm16, %xmm16, %xmm16\nvpxord %xmm31, %xmm31, %xmm31");
 #endif
 }
 
-/* Makes a call over messages of several lengths. */
-static void try_call(size_t index) {
+/* Makes the call of a row below, by the number of its line, over messages of several lengths. */
+static int rows(int line);
+static int line_of_row;
+static int call_row(void) { return rows(line_of_row); }
+
+static void try_row(int line, const char *name, void (*before)(void), int wipes) {
     static const size_t lengths[] = {0,   1,   BLOCK - 1, BLOCK, BLOCK + 1, 2 * BLOCK,
                                      384, 385, LONGEST};
-    const int before = fails;
+    const int before_it = fails;
     int greatest = 0;
 
+    line_of_row = line;
     for (size_t i = 0; i < COUNT_OF(lengths); i++) {
         int found;
 
         take_length(lengths[i]);
-        found = pieces_after(CALLED[index].before, CALLED[index].call);
+        found = pieces_after(before, call_row);
         if (found > greatest) greatest = found;
-        CHECK(!CALLED[index].wipes || is_zero(&state, sizeof state));
+        CHECK(!wipes || is_zero(&state, sizeof state));
     }
     fails += greatest > 0;
-    printf("%s: %s: %d pieces\n", fails > before ? "FAILED" : "passed", CALLED[index].name, greatest);
+    printf("%s: %s: %d pieces\n", fails > before_it ? "FAILED" : "passed", name, greatest);
+}
+
+#if !defined(LIBB2_NAMES) && !defined(TEST_X)
+/* A copy of the key in a frame that is then dead, and one by its digits. */
+__attribute__((noinline)) static int call_wipe_bytes(void) {
+    uint8_t copy[MAX];
+    int status;
+
+    memcpy(copy, key, MAX);
+    status = BLAKE(init_key)(&state, MAX, copy, MAX);
+    vulfsjor_wipe(copy, MAX);
+    return status;
+}
+
+__attribute__((noinline)) static int call_hexadecimal(void) {
+    static char digits[2 * MAX + 1];
+    uint8_t copy[MAX];
+    int status = vulfsjor_bin2hex(digits, sizeof digits, key, MAX) ||
+                 vulfsjor_hex2bin(copy, MAX, digits, 2 * MAX) || memcmp(copy, key, MAX);
+
+    vulfsjor_wipe(copy, MAX);
+    return status;
+}
+#endif
+
+/* A row: what it is, what goes before the call, whether that leaves the state zero, and the call, which is 0 if its
+ * status is the expected one. */
+#define ROW(name, before, wipes, wrong)                          \
+    do {                                                         \
+        if (line == __LINE__) return wrong;                      \
+        if (!line) try_row(__LINE__, name, before, wipes);       \
+    } while (0)
+
+/* Makes the call of the row in this line, or if that is 0 tries each row. */
+static int rows(int line) {
+#ifndef LIBB2_NAMES
+    static uint8_t salt[2 * MAX];
+#endif
+
+    ROW("init_key", nothing, 0, call_init_key());
+    ROW("init_key, refused for its length", start_keyed, 1, !BLAKE(init_key)(&state, NO_SIZE, key, MAX));
+    ROW("the hash in one call", nothing, 0, call_one_call());
+    ROW("update", start_keyed, 0, call_update());
+    ROW("update, after an update", start_and_take, 0, call_update());
+#ifndef TEST_X
+    ROW("final", start_and_take, 1, call_final());
+#endif
+#ifndef LIBB2_NAMES
+    ROW("init_salt_personal with a key", nothing, 0,
+        BLAKE(init_salt_personal)(&state, SIZE, key, MAX, salt, MAX / 4, salt, MAX / 4));
+    /* Not by the header, which sets the state to zero before. */
+    ROW("init_salt_personal, refused for its salt", start_keyed, 1,
+        !LIBRARY(init_salt_personal)(&state, SIZE, key, MAX, salt, MAX / 4 + 1, salt, 0));
+    ROW("reset", start_and_take, 0, BLAKE(reset)(&state));
+    ROW("wipe", start_and_take, 1, (BLAKE(wipe)(&state), 0));
+#ifdef TEST_X
+    ROW("derive_key", nothing, 0, BLAKE(derive_key)(out, SIZE, key, MAX, message, length));
+    ROW("squeeze, refused for its length", start_and_read, 0, !BLAKE(squeeze)(&state, out, SIZE));
+    ROW("update, refused after a squeeze", start_and_read, 0, !BLAKE(update)(&state, message, length));
+    ROW("reset, after a squeeze", start_and_read, 0, BLAKE(reset)(&state));
+    ROW("update, after a squeeze and a reset", start_read_and_reset, 0, BLAKE(update)(&state, message, length));
+    ROW("wipe, after a squeeze", start_and_read, 1, (BLAKE(wipe)(&state), 0));
+    for (size_t i = 0; i < 12; i++) {
+        static const size_t lengths[] = {0, 7, MAX, LANES * MAX};
+        static char name[100];
+
+        if (!line) bytes_read = lengths[i / 4], asked = lengths[i % 4];
+        if (!line) snprintf(name, sizeof name, "squeeze, %zu bytes after %zu", asked, bytes_read);
+        ROW(name, start_and_read, 0, BLAKE(squeeze)(&state, out, asked));
+    }
+#else
+    ROW("verify, a right tag", start_and_take, 1, BLAKE(verify)(&state, tag, MAX));
+    ROW("verify, a wrong tag", start_and_take, 1, !BLAKE(verify)(&state, wrong, MAX));
+    ROW("verify, a tag of another length", start_and_take, 1, !BLAKE(verify)(&state, tag, MAX - 1));
+    ROW("vulfsjor_wipe of a copy of the key", nothing, 0, call_wipe_bytes());
+    ROW("vulfsjor_bin2hex and vulfsjor_hex2bin of the key", nothing, 0, call_hexadecimal());
+    ROW("which argument of a keyed call is refused, a null salt", nothing, 0,
+        REFUSED(MAX, key, MAX, NULL, 1, NULL, 0) != VULFSJOR_ARGUMENT_SALT);
+#ifdef TEST_NODES
+    ROW("which argument of a keyed call is refused, its last", nothing, 0,
+        REFUSED(MAX, key, MAX, salt, 1, salt, 1) != VULFSJOR_ARGUMENT_DEPTH);
+    ROW("init_tree with a key", nothing, 0,
+        BLAKE(init_tree)(&state, MAX, key, MAX, salt, MAX / 4, salt, MAX / 4, &tree));
+    ROW("init_tree, refused for its depth", start_keyed, 1,
+        !BLAKE(init_tree)(&state, MAX, key, MAX, salt, 0, salt, 0, &no_tree));
+    ROW("many, one message", nothing, 0, call_many_one());
+    ROW("many, four messages", nothing, 0, call_many_four());
+    ROW("many, as many as are hashed at once", nothing, 0, call_many_lanes());
+    ROW("many, one more, of another length", nothing, 0, call_many_more());
+    ROW("set_last_node", start_and_take, 0, BLAKE(set_last_node)(&state, 1));
+#else
+    ROW("which argument of a keyed call is refused, its last", nothing, 0,
+        REFUSED(MAX, key, MAX, salt, MAX / 4, salt, MAX) != VULFSJOR_ARGUMENT_PERSONAL);
+#endif
+#endif
+#endif
+    return 0;
 }
 
 int main(void) {
@@ -386,6 +355,6 @@ int main(void) {
     take_length(0);
     finds_copies();
     finds_registers();
-    for (size_t i = 0; i < COUNT_OF(CALLED); i++) try_call(i);
+    rows(0);
     return fails != 0;
 }

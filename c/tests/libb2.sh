@@ -18,29 +18,12 @@ names_conform() {
 END
 }
 
-# What docs/ and PORTING.md say of threads: libb2 returns another digest, and no error, if it gets
-# fewer threads than it has leaves. The functions here start none.
+# What PORTING.md says of libb2 itself, in one program with this library, linked in this order. With fewer threads than
+# it has leaves libb2 then returns another digest, and no error, which no other line than those of digests says.
+said_of_libb2() { names_of_libb2 "$1" -DLIBB2 -w "${@:2}"; }
 too_few_threads() {
-    local family=$1 theirs ours wanted
-    cat >"$work/few.c" <<'END'
-#include <blake2.h>
-#include <stdio.h>
-int main(void) {
-    static unsigned char in[100000];
-    unsigned char out[32] = {0};
-    for (size_t i = 0; i < sizeof in; i++) in[i] = (unsigned char)(i % 251);
-    if (HASH(out, in, NULL, sizeof out, sizeof in, 0)) return 1;
-    for (size_t i = 0; i < sizeof out; i++) printf("%02x", out[i]);
-    return puts("") < 0;
-}
-END
-    wanted=$(PYTHONPATH=$top/tests python3 -c "from oracle import parallel_digest
-print(parallel_digest('${family:0:1}', bytes(i % 251 for i in range(100000)), 32).hex())") &&
-        cc "-DHASH=blake2$family" "$work/few.c" -lb2 -o "$work/theirs" &&
-        cc "-DHASH=blake2$family" "$work/few.c" "$beside" -o "$work/ours" &&
-        theirs=$(OMP_THREAD_LIMIT=1 "$work/theirs") && ours=$(OMP_THREAD_LIMIT=1 "$work/ours") &&
-        [ "$ours" = "$wanted" ] && [ "$theirs" != "$wanted" ] &&
-        [ "$(env -u OMP_THREAD_LIMIT "$work/theirs")" = "$wanted" ]
+    said_of_libb2 "$1" -lb2 "$archive" && ! OMP_THREAD_LIMIT=1 "$work/libb2" 2>"$work/said" &&
+        ! grep -v 'not !memcmp(.*, wanted' "$work/said"
 }
 
 # What calls by libb2's names leave of a key on the dead stack.
@@ -62,15 +45,6 @@ configure_finds() {
         --exists 'libb2 = 0.98.1'
 }
 
-# This library and libb2 in one program, by both headers, linked in both orders.
-beside_libb2() {
-    local words
-    for words in "$archive -lb2" "-lb2 $archive" "$shared -lb2" "-lb2 $shared"; do
-        cc "${warnings[@]}" -I"$include" "$tests/beside_libb2.c" $words -o "$work/both" &&
-            LD_LIBRARY_PATH=$prefix/lib "$work/both" || return 1
-    done
-}
-
 # Whether libb2 has threads, as it has where it was built with OpenMP.
 libb2_has_threads() { links -Wl,--no-as-needed -lb2 && ldd "$work/linked" | grep -q libgomp; }
 
@@ -78,16 +52,11 @@ has_libb2() { links -lb2 && echo '#include <blake2.h>' | cc -fsyntax-only -x c -
 
 # The machine's own lists of packages, asked for sources in the place of programs.
 source_lists() {
-    local list lists=$1
-    mkdir -p "$lists"
-    for list in /etc/apt/sources.list /etc/apt/sources.list.d/*.list; do
-        [ -r "$list" ] && sed -n 's/^deb\([[:space:]]\)/deb-src\1/p' "$list" \
-            >"$lists/$(basename "$list" .list).list"
+    local list
+    mkdir -p "$1"
+    for list in /etc/apt/sources.list{,.d/*.list,.d/*.sources}; do
+        [ ! -r "$list" ] || sed 's/^deb\([[:space:]]\)/deb-src\1/;s/^Types:.*/Types: deb-src/' "$list" >"$1/${list##*/}"
     done
-    for list in /etc/apt/sources.list.d/*.sources; do
-        [ -r "$list" ] && sed 's/^Types:.*/Types: deb-src/' "$list" >"$lists/$(basename "$list")"
-    done
-    return 0
 }
 
 # The sources of these packages, which no file of this repository keeps, each in a folder of its
@@ -155,19 +124,19 @@ test_libb2() {
         -o "$work/libb2.o"
     check "a configure script finds libb2" configure_finds
     for family in b bp s sp; do
-        check_once "key_scan.c by libb2's names, blake2$family" keys_of_names $family
-        check "libb2's names, blake2$family" names_of_libb2 $family "$beside"
-        check "libb2's names by the header here, blake2$family" names_of_libb2 $family -DOWN_HEADER -I"$libb2" \
-            "$archive"
+        check "libb2's names by the header here, blake2$family" names_of_libb2 $family -I"$libb2" "$archive"
     done
     needs python3
     check "the conformance cases by libb2's names" names_conform
     has_libb2 || missing="no libb2"
     for family in b s bp sp; do
-        check "libb2's names with its own header, blake2$family" names_of_libb2 $family -DOWN_HEADER "$beside"
-        check "what is said of libb2 itself, blake2$family" names_of_libb2 $family -DOWN_HEADER -DLIBB2 -w -lb2
+        check "libb2's names with its own header, blake2$family" names_of_libb2 $family "$beside"
+        check "what is said of libb2 itself, blake2$family" said_of_libb2 $family -lb2 "$archive"
+        check_once "key_scan.c by libb2's names, blake2$family" keys_of_names $family
     done
-    check "this library and libb2 in one program" beside_libb2
+    check "libb2 after this library" said_of_libb2 b "$archive" -lb2
+    check "libb2 after the shared library" said_of_libb2 b "$shared" -lb2 -Wl,-rpath,"$prefix/lib"
+    check "libb2 before the shared library" said_of_libb2 b -lb2 "$shared" -Wl,-rpath,"$prefix/lib"
     libb2_has_threads || missing=${missing:-"libb2 has no threads"}
     for family in bp sp; do
         check "libb2 with too few threads, blake2$family" too_few_threads $family

@@ -10,17 +10,6 @@ run_hash() {
         LD_LIBRARY_PATH=$prefix/lib "$work/$name" "$conforming/$hash.txt"
 }
 
-# In C++ by each compiler that is there, without casts and null pointers as only C has them.
-header_compiles_as_cpp() {
-    local compiler
-    printf '#include "%s"\nint main() { return 0; }\n' "$1" >"$work/header.cpp"
-    for compiler in c++ g++ clang++; do
-        ! has $compiler || $compiler -std=c++11 "${warnings[@]}" -Wold-style-cast \
-            -Wzero-as-null-pointer-constant -I"$include" -I"$libb2" -c "$work/header.cpp" \
-            -o /dev/null || return 1
-    done
-}
-
 # No warning of clang, of which some are not in -Wall and -Wextra, in the first and the last standard.
 headers_warn_of_nothing() {
     local standard
@@ -39,10 +28,7 @@ headers_warn_of_nothing() {
 }
 
 # edge_cases.c of the family, compiled with these words.
-edge_cases() {
-    cc -std=c99 -g $quick "${warnings[@]}" $(family_words "$family") -I"$include" "$tests/edge_cases.c" "$@" \
-        "$archive" -o "$work/edge_cases" && "$work/edge_cases"
-}
+edge_cases() { run_hash edge_cases "blake2$family" "$@" "$archive"; }
 
 # What the inline functions pass to the library, which is a part of the test; and what those of
 # thunks.h pass to the assembly on Windows and macOS. With both conventions of calls in one file the
@@ -61,10 +47,21 @@ long_buffers() {
         "$work/huge"
 }
 
-# A program in C++ over all headers.
+# A program in C++ that has the address of each function of the headers, by its name in C: by each compiler that is
+# there, without casts and null pointers as only C has them.
 cpp_links() {
-    c++ -std=c++11 "${warnings[@]}" -I"$include" -o "$work/link" "$tests/link.cpp" \
-        "$prefix/lib/libvulfsjor-threads.a" "$archive" -pthread && "$work/link"
+    local compiler
+    { printf '#include "%s"\n' vulfsjor-libb2/blake2.h vulfsjor_threads.h && echo 'typedef void function();' &&
+        echo 'function *volatile all[] = {' &&
+        functions_of_headers | sed 's/.*/    reinterpret_cast<function *>(&),/' &&
+        printf '    reinterpret_cast<function *>(%s),\n' blake2{b,s,bp,sp}{,_init,_init_key,_update,_final} blake2 &&
+        echo '};' && echo 'int main() { return all[0] == nullptr; }'; } >"$work/link.cpp" &&
+        [ "$(grep -c reinterpret_cast "$work/link.cpp")" -gt 130 ] || return
+    for compiler in c++ g++ clang++; do
+        ! has $compiler || { $compiler -std=c++11 "${warnings[@]}" -Wold-style-cast -Wzero-as-null-pointer-constant \
+            -I"$include" -o "$work/link" "$work/link.cpp" "$prefix/lib/libvulfsjor-threads.a" "$archive" -pthread &&
+            "$work/link"; } || return
+    done
 }
 
 # hasher.cpp, by this compiler and standard, with the warnings of careful projects: compiled, and
@@ -75,20 +72,20 @@ compile_hasher() {
 }
 hasher_of_cpp() { compile_hasher "$@" "$archive" -o "$work/hasher" && "$work/hasher"; }
 
+refused_in_cpp14() {
+    c++ -std=c++14 -I"$include" -fsyntax-only -x c++ - <<<'#include <vulfsjor.hpp>' 2>&1 | grep 'for C++17 and later'
+}
+
+# The lines of a file that are marked as wrong: FILE STANDARD COMPILER
+lines_are_refused() { python3 "$tests/wrong_lines.py" "$1" "$include" "${@:2}"; }
+calls_are_warned_of() {
+    python3 "$tests/warned_calls.py" "$include" >"$work/calls.c" && lines_are_refused "$work/calls.c" gnu99 gcc
+}
+
 # The conformance cases by the header for C++.
 conformance_of_cpp() {
     c++ -std=c++17 "${warnings[@]}" -I"$include" "$tests/conformance.cpp" "$@" "$archive" -o "$work/conformance" &&
         "$work/conformance" "$conforming"
-}
-
-# The example in C by a compiler, with the library of this name.
-c_example() {
-    local compiler=$1 name=$2 language=$3
-    block_of c/README.md c >"$work/hello.c"
-    "$compiler" -O2 "${warnings[@]}" -x "$language" "$work/hello.c" -x none $(words_for "$name") \
-        -o "$work/hello" &&
-        LD_LIBRARY_PATH=$prefix/lib "$work/hello" >"$work/said" &&
-        diff "$work/said" <(wanted_of_readme)
 }
 
 # The program of c/examples over files of several lengths, over standard input, and over what can't
@@ -169,17 +166,9 @@ test_hash() {
 }
 
 # What calls leave of a key on the dead stack, and in a state.
-scan_for_keys() {
-    cc -std=gnu99 -O2 "${warnings[@]}" -Wl,-z,now -I"$include" $(family_words "$family") \
-        -o "$work/key_scan" "$tests/key_scan.c" "$archive" && "$work/key_scan"
-}
+scan_for_keys() { run_hash key_scan "blake2$family" -std=gnu99 -O2 -Wl,-z,now "$archive"; }
 
 test_examples() {
-    check "the example in C of c/README.md" c_example cc vulfsjor-static c
-    check "the example in C with the shared library" c_example cc vulfsjor c
-    needs c++
-    check "the example in C++" c_example c++ vulfsjor-static c++
-    needs
     check "the program c/examples/sum.c" sum_example
     check "the program c/examples/duplicates.c" duplicates_example
     check_huge "the benchmark bench/calls.c" bench_runs
@@ -187,12 +176,9 @@ test_examples() {
 }
 
 test_languages() {
-    local header hash
+    local hash
     needs c++
-    for header in vulfsjor.h vulfsjor_threads.h blake2.h; do
-        check "$header in C++" header_compiles_as_cpp $header
-    done
-    check "link.cpp" cpp_links
+    check "each function of the headers in C++, linked" cpp_links
     needs python3
     check "passed_arguments.py" passes $quick
     check "passed_arguments.py, through thunks.h" passes_by_thunks
@@ -200,18 +186,19 @@ test_languages() {
     check "the headers under all warnings of clang" headers_warn_of_nothing
     needs gcc python3
     [ "$(gcc -dumpversion 2>/dev/null | cut -d. -f1)" -ge 11 ] 2>/dev/null || missing=${missing:-"gcc 11"}
-    check "warnings of short memory and of ignored statuses" python3 "$tests/warned_calls.py" gcc "$include"
+    check "warnings of short memory and of ignored statuses" calls_are_warned_of
     needs c++ python3
     # Each standard with exceptions and without, and each compiler with all of these.
     check "hasher.cpp in C++17" hasher_of_cpp c++ c++17 $quick
     check "conformance.cpp" conformance_of_cpp
+    check "vulfsjor.hpp is refused in C++14" refused_in_cpp14
     check_huge "hasher.cpp in C++20, compiled" compile_hasher c++ c++20 -fsyntax-only
     needs g++ python3
-    check "wrong_lines.cpp in C++20, by g++" python3 "$tests/wrong_lines.py" "$include" c++20 g++
-    check_huge "wrong_lines.cpp in C++17, by g++" python3 "$tests/wrong_lines.py" "$include" c++17 g++
+    check "wrong_lines.cpp in C++20, by g++" lines_are_refused "$tests/wrong_lines.cpp" c++20 g++
+    check_huge "wrong_lines.cpp in C++17, by g++" lines_are_refused "$tests/wrong_lines.cpp" c++17 g++
     needs clang++ python3
-    check "wrong_lines.cpp in C++17, by clang++" python3 "$tests/wrong_lines.py" "$include" c++17 clang++
-    check_huge "wrong_lines.cpp in C++20, by clang++" python3 "$tests/wrong_lines.py" "$include" c++20 clang++
+    check "wrong_lines.cpp in C++17, by clang++" lines_are_refused "$tests/wrong_lines.cpp" c++17 clang++
+    check_huge "wrong_lines.cpp in C++20, by clang++" lines_are_refused "$tests/wrong_lines.cpp" c++20 clang++
     check_huge "hasher.cpp in C++17, by clang++, without exceptions, compiled" compile_hasher clang++ \
         c++17 -fno-exceptions -fsyntax-only
     check "hasher.cpp in C++20, by clang++, without exceptions" hasher_of_cpp clang++ c++20 \

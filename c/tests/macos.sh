@@ -9,7 +9,7 @@ sdk=$work/sdk
 linker=$(command -v ld64.lld || command -v ld64.lld-14)
 lipo=$(command -v llvm-lipo || command -v llvm-lipo-14)
 
-# What the library and the programs need of the C library of macOS.
+# What the library and the programs need of the C library of macOS; clang has the headers that no system has to have.
 write_sdk() {
     local names
     mkdir -p "$sdk"/usr/{include/{sys,malloc},lib}
@@ -57,11 +57,6 @@ write_sdk() {
         'int pthread_cond_broadcast(pthread_cond_t *);' '#define PTHREAD_CANCEL_DISABLE 0' \
         '#define PTHREAD_MUTEX_INITIALIZER {0, {0}}' '#define PTHREAD_COND_INITIALIZER {0, {0}}' \
         >"$sdk/usr/include/pthread.h"
-    printf 'typedef %s;\n' 'signed char int8_t' 'int int32_t' 'unsigned char uint8_t' \
-        'unsigned short uint16_t' 'unsigned uint32_t' 'unsigned long long uint64_t' \
-        'unsigned long uintptr_t' >"$sdk/usr/include/stdint.h"
-    printf '#define %s\n' 'UINT32_C(n) n##U' 'UINT64_C(n) n##ULL' \
-        'UINT64_MAX 0xffffffffffffffffULL' >>"$sdk/usr/include/stdint.h"
     printf '%s\n' 'int *__error(void);' '#define errno (*__error())' \
         'enum { EINTR = 4, EIO, EBADF = 9, ENOMEM = 12, EINVAL = 22, EFBIG = 27, ENAMETOOLONG = 63,' \
         'ECANCELED = 89 };' >"$sdk/usr/include/errno.h"
@@ -89,18 +84,12 @@ write_compiler() {
 installs() {
     local folder=$work/installed_$1 names=$work/names
     CC=$work/$1 CFLAGS=$quick "$here/install.sh" --from "$dist" "$folder" &&
-        (cd "$folder" && find . -type f -o -type l) | sed 's|^\./||' | LC_ALL=C sort |
-        diff - <(printf '%s\n' include/vulfsjor-libb2/blake2.h include/vulfsjor{.h,.hpp,_threads.h} \
-            lib/cmake/vulfsjor/vulfsjor-config{,-version}.cmake \
-            lib/libvulfsjor{-libb2,-static,-threads,}.a lib/libvulfsjor{.0,}.dylib \
-            lib/pkgconfig/vulfsjor{,-static,-threads}.pc lib/vulfsjor-libb2/libb2.a \
-            lib/vulfsjor-libb2/pkgconfig/libb2.pc | LC_ALL=C sort) &&
+        files_come_and_go "$folder" macos &&
         sed -n 's/^ *\(vulfsjor_.*\);$/_\1/p' "$here/vulfsjor.map" | LC_ALL=C sort >"$names" &&
         llvm-nm -gU "$folder/lib/libvulfsjor.0.dylib" | awk '{ print $3 }' | LC_ALL=C sort |
         diff - "$names" &&
         llvm-objdump --macho --dylib-id "$folder/lib/libvulfsjor.0.dylib" |
-        grep -qx '@rpath/libvulfsjor.0.dylib' &&
-        "$here/install.sh" --uninstall "$folder" && [ -z "$(find "$folder" ! -type d)" ]
+        grep -qx '@rpath/libvulfsjor.0.dylib'
 }
 
 # Whether an object is for both processors of a Mac, with the functions of each.
@@ -110,15 +99,10 @@ is_universal() {
         llvm-nm --arch=arm64 "$1" | grep -q ' T _vulfsjor_ffi_blake2b_.*_arm$'
 }
 
-# CMake makes it, or else one command. If one of the processors has no text, CMake compiles portable C for
-# all. lipo is LLVM's.
+# CMake makes it. If one of the processors has no text, it compiles portable C for all. lipo is LLVM's.
 makes_universal() {
     local build=$work/universal words
     mkdir -p "$build/bin" && ln -sf "$lipo" "$build/bin/lipo" && export PATH=$build/bin:$PATH || return 1
-    if ! has cmake; then
-        "$work/arm64" -arch arm64 -arch x86_64 -c "$dist/vulfsjor.S" -o "$build/both.o" && is_universal "$build/both.o"
-        return
-    fi
     words=(-DCMAKE_SYSTEM_NAME=Darwin -DCMAKE_C_COMPILER="$work/arm64" -DCMAKE_OSX_SYSROOT="$sdk"
         -DCMAKE_TRY_COMPILE_TARGET_TYPE=STATIC_LIBRARY)
     cmake -S "$here" -B "$build" "${words[@]}" -DCMAKE_SYSTEM_PROCESSOR=arm64 \
@@ -145,19 +129,9 @@ calls_in_program() {
         sed -E 's/^_\S* (hide_memory|show_progress|absorb_tree)/text \1/' | LC_ALL=C sort | uniq -c | sed 's/^ *//' |
         grep -xE -e '.* (has|text) (hide_memory|show_progress|absorb_tree.*)' -e '.* hide_memory _setrlimit' \
             -e '.* show_progress _isatty' -e '.* absorb_tree absorb_tree.*' |
-        diff - <(cat <<'END'
-1 absorb_tree absorb_tree.proved
-1 has absorb_tree
-1 has absorb_tree.proved
-1 has hide_memory
-1 has show_progress
-1 hide_memory _setrlimit
-1 show_progress _isatty
-1 text absorb_tree
-1 text hide_memory
-1 text show_progress
-END
-        )
+        diff - <(printf '1 %s\n' 'absorb_tree absorb_tree.proved' \
+            has\ {absorb_tree{,.proved},hide_memory,show_progress} 'hide_memory _setrlimit' 'show_progress _isatty' \
+            text\ {absorb_tree,hide_memory,show_progress})
 }
 
 # apple_arguments.c by Apple's convention: as assembly for macOS, whose names are then written as ELF
@@ -199,15 +173,12 @@ test_macos() {
         $check "b2 for macOS on $processor" builds_program $processor b2
         $check "b2sum for macOS on $processor, and the functions of C that it calls" calls_in_program $processor
     done
+    needs cmake
     [ -n "$lipo" ] || missing="no llvm-lipo"
     check "an object for both processors, and a library by CMake" makes_universal
-    needs
-    if has qemu-aarch64 && has_compiler aarch64-linux-gnu-gcc && has python3; then
-        check "apple_arguments.c by the convention of macOS on ARM" apple_arguments_run
-    else
-        skip "apple_arguments.c" \
-            "no qemu-aarch64, no aarch64-linux-gnu-gcc with a C library, or no python3"
-    fi
+    needs qemu-aarch64 python3
+    has_compiler aarch64-linux-gnu-gcc || missing="no aarch64-linux-gnu-gcc with a C library"
+    check "apple_arguments.c by the convention of macOS on ARM" apple_arguments_run
 }
 
 part test_macos

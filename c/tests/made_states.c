@@ -1,6 +1,6 @@
 /* Tests what no list of calls reaches: states that no calls make. The calls refuse one that is not ready, and it stays
  * as it is, byte by byte; counts near their end and past 2^32; random bytes as a state, of which every call ends, and
- * writes within its memory; and lengths of which there is no memory. Returns 0 if all is as it should be.
+ * writes within its memory; and messages of which there is no memory. Returns 0 if all is as it should be.
  *
  *   cc -std=c99 -I FOLDER/include made_states.c ARCHIVE -o made_states     for BLAKE2b; the others as in family.h
  *   cc the same with -DTEST_T                                              for the tree of two levels */
@@ -134,29 +134,49 @@ static void vary_state(state_t *state, int i) {
     state->personal_length = IN_STATE(state->personal_length % (SALT + 2));
 }
 
-#elif defined(TEST_X)
-/* ---- outputs */
+#else
+/* ---- the others: the fields that they have by several names, the most bytes that are held, and those of a key's
+ * blocks, which are the most that a state starts with. The counter is that of each of so many leaves. */
 
-#define UNKNOWN ((uint64_t)CONSTANT(UNKNOWN_LENGTH))
-#define WHOLE ((uint64_t)MAX << 32)
+#if defined(TEST_P)
+enum { LEAVES = 512 / BLOCK, HELD = (2 * LEAVES - 1) * BLOCK, KEY_BLOCKS = 512, SIZE = MAX };
+#define OWN(field) field
+#define PENDING lanes.length
+#define COUNTER lanes.counter
+#elif defined(TEST_X)
+enum { LEAVES = 1, HELD = BLOCK, KEY_BLOCKS = BLOCK, SIZE = 100 };
+#define OWN(field) root.field
+#define PENDING root.pending_length
+#define COUNTER root.counter
+#else
+enum { LEAVES = 1, HELD = BLOCK, KEY_BLOCKS = BLOCK, SIZE = MAX };
+#define OWN(field) field
+#define PENDING pending_length
+#define COUNTER counter
+#endif
 
 static state_t made_state(void) {
     state_t made;
-    CHECK(BLAKE(init_key)(&made, 100, bytes, MAX) == 0 && BLAKE(update)(&made, bytes, 70) == 0);
+    CHECK(BLAKE(init_key)(&made, SIZE, bytes, MAX) == 0 && BLAKE(update)(&made, bytes, 700) == 0);
     CHECK(CONSTANT(KEYBYTES) == MAX && CONSTANT(SALTBYTES) == SALT && CONSTANT(PERSONALBYTES) == SALT);
+#ifndef TEST_X
+    CHECK(CONSTANT(BLOCKBYTES) == BLOCK && CONSTANT(OUTBYTES) == MAX);
+#endif
     CHECK(LIBRARY(state_size)() == sizeof made);
     return made;
 }
 
-static void unready_states(state_t made) {
+#ifdef TEST_X
+#define WHOLE ((uint64_t)MAX << 32)
+
+/* An output that is not one, or was read further than it goes; a state that has been read from, whatever its mark. */
+static void unready_outputs(state_t made) {
+    state_t state = made;
     UNREADY(state.root.output_size = IN_STATE(MAX - 1));
-    UNREADY(state.root.pending_length = IN_STATE(BLOCK + 1));
     UNREADY(state.reader.xof_length = 0);
     UNREADY(state.reader.xof_length = IN_STATE(UNKNOWN + 1));
     UNREADY(state.reader.position = IN_STATE(101));
     UNREADY(state.reader.xof_length = IN_STATE(UNKNOWN); state.reader.position = IN_STATE(WHOLE + 1));
-    /* A state that has been read from, whatever its mark. */
-    state_t state = made;
     state.reader.position = IN_STATE(1);
     CHECK(BLAKE(update)(&state, bytes, 1) == -1 && BLAKE(reset)(&state) == 0);
     state = made, state.reading = (uint64_t)1 << 40;
@@ -164,14 +184,10 @@ static void unready_states(state_t made) {
     CHECK(BLAKE(update)(&state, bytes, 1) == 0);
 }
 
-/* The count may not reach 2^64, that of a key's block included; and the end of an output whose length is not known. */
-static void long_counts(void) {
+/* The end of an output whose length is not known. */
+static void end_of_output(void) {
     state_t state, before;
     uint8_t out[3] = {1, 2, 3};
-    CHECK(BLAKE(init_key)(&state, 9, bytes, MAX) == 0 && BLAKE(update)(&state, bytes, 1000) == 0);
-    state.root.counter = IN_STATE(MOST - IN_STATE(state.root.pending_length) - 3);
-    CHECK(BLAKE(count)(&state) == MOST - 3 - BLOCK);
-    check_room(state, 3);
     CHECK(BLAKE(init)(&state, (size_t)UNKNOWN) == 0 && BLAKE(left)(&state) == WHOLE && !BLAKE(squeeze)(&state, out, 1));
     state.reader.position = IN_STATE(WHOLE - 2);
     before = state, out[0] = 1;
@@ -179,114 +195,66 @@ static void long_counts(void) {
     CHECK(SAME(state, before) && out[0] == 1 && BLAKE(squeeze)(&state, out, 2) == 0 && BLAKE(left)(&state) == 0);
     CHECK(BLAKE(squeeze)(&state, out, 1) == -1 && BLAKE(squeeze)(&state, NULL, 0) == 0);
 }
-
-static void vary_state(state_t *state, int i) {
-    const uint64_t length = i % 4 == 1 ? UNKNOWN : random_below(1 << 24) % UNKNOWN;
-    state->root.output_size = IN_STATE(MAX);
-    state->root.pending_length = IN_STATE(random_below(1 << 24) % (BLOCK + 9));
-    state->root.start_length = IN_STATE(random_below(1 << 24) % (BLOCK + 9));
-    state->root.counter = IN_STATE(random_below(1 << 24));
-    state->reader.xof_length = IN_STATE(length);
-    state->reader.position = IN_STATE(random_below(1 << 24) % (length + 2));
-    state->reading = IN_STATE(i / 2 % 2);
-}
-
-#elif defined(TEST_P)
-/* ---- BLAKE2bp and BLAKE2sp */
-
-/* The leaves, the bytes of a stripe, the most that are pending, and those of a key's blocks. */
-enum { LEAVES = 512 / BLOCK, STRIPE = 512, HELD = (2 * LEAVES - 1) * BLOCK, KEY_BLOCKS = 512 };
-
-static state_t made_state(void) {
-    state_t made;
-    CHECK(BLAKE(init_key)(&made, MAX, bytes, MAX) == 0 && BLAKE(update)(&made, bytes, 700) == 0);
-    CHECK(CONSTANT(BLOCKBYTES) == BLOCK && CONSTANT(OUTBYTES) == MAX && CONSTANT(KEYBYTES) == MAX);
-    CHECK(CONSTANT(SALTBYTES) == SALT && CONSTANT(PERSONALBYTES) == SALT && LIBRARY(state_size)() == sizeof made);
-    return made;
-}
+#endif
 
 static void unready_states(state_t made) {
     static const uint64_t sizes[] = {0, MAX + 1, MOST}, lengths[] = {HELD + 1, PAST_32, MOST},
                           starts[] = {KEY_BLOCKS + 1, PAST_32, MOST};
     for (size_t i = 0; i < 3; i++) {
-        UNREADY(state.output_size = IN_STATE(sizes[i]));
-        UNREADY(state.lanes.length = IN_STATE(lengths[i]));
-        UNREADY(state.start_length = IN_STATE(starts[i]));
+        UNREADY(state.OWN(output_size) = IN_STATE(sizes[i]));
+        UNREADY(state.PENDING = IN_STATE(lengths[i]));
+        UNREADY(state.OWN(start_length) = IN_STATE(starts[i]));
     }
-    UNREADY(state.lanes.counter = IN_STATE((MOST - IN_STATE(state.lanes.length)) / LEAVES + 1));
+    UNREADY(state.COUNTER = IN_STATE((MOST - IN_STATE(state.PENDING)) / LEAVES + 1));
+#ifdef TEST_X
+    unready_outputs(made);
+#endif
 }
 
-/* The count may not reach 2^64, those of a key's blocks included, and a refused update changes nothing. */
+/* The count may not reach 2^64, that of a key's blocks included, and a refused update changes nothing. */
 static void long_counts(void) {
-    state_t made, state;
-    CHECK(BLAKE(init_key)(&made, MAX, bytes, MAX) == 0 && BLAKE(update)(&made, bytes, 1000) == 0);
-    CHECK(IN_STATE(made.lanes.length) < STRIPE + BLOCK && IN_STATE(made.lanes.counter) >= BLOCK);
-    for (size_t room = 0; room <= sizeof bytes; room += 13) {
-        uint64_t counter = (MOST - room - (STRIPE - 1)) / LEAVES, left = MOST - LEAVES * counter - (STRIPE - 1);
+    const state_t made = made_state();
+    const uint64_t held = IN_STATE(made.PENDING);
+    state_t state = made, before;
+    for (size_t room = 0; room <= sizeof bytes; room += room < 2 * BLOCK ? 1 : 13) {
+        const uint64_t counter = (MOST - room - held) / LEAVES, left = MOST - LEAVES * counter - held;
         state = made;
-        state.lanes.length = IN_STATE(STRIPE - 1);
-        state.lanes.counter = IN_STATE(counter);
+        state.COUNTER = IN_STATE(counter);
         CHECK(BLAKE(count)(&state) == MOST - left - KEY_BLOCKS);
         check_room(state, (size_t)left);
     }
-}
-
-static void vary_state(state_t *state, int i) {
-    uint64_t counter = IN_STATE(state->lanes.counter) / (2 * LEAVES);
-    if (i % 4 == 1) counter = MOST / LEAVES - random_below(1 << 24) % STRIPE;
-    state->output_size = IN_STATE(IN_STATE(state->output_size) % (MAX + 6));
-    state->lanes.length = IN_STATE(IN_STATE(state->lanes.length) % (HELD + 12));
-    state->start_length = IN_STATE(IN_STATE(state->start_length) % (KEY_BLOCKS + 12));
-    state->lanes.counter = IN_STATE(counter);
-}
-
-#else
-/* ---- BLAKE2b and BLAKE2s */
-
-static state_t made_state(void) {
-    state_t made;
-    CHECK(BLAKE(init_key)(&made, MAX, bytes, MAX) == 0 && BLAKE(update)(&made, bytes, BLOCK + 3) == 0);
-    return made;
-}
-
-static void unready_states(state_t made) {
-    static const uint64_t sizes[] = {0, MAX + 1, MOST}, lengths[] = {BLOCK + 1, PAST_32, MOST};
-    for (size_t i = 0; i < 3; i++) {
-        UNREADY(state.output_size = IN_STATE(sizes[i]));
-        UNREADY(state.pending_length = IN_STATE(lengths[i]));
-        UNREADY(state.start_length = IN_STATE(lengths[i]));
-    }
-    UNREADY(state.counter = IN_STATE(MOST - IN_STATE(state.pending_length) + 1));
-}
-
-/* The count may not reach 2^64, and a refused update changes nothing. */
-static void long_counts(void) {
-    state_t made, state, before;
-    CHECK(BLAKE(init)(&made, MAX) == 0 && BLAKE(update)(&made, bytes, 3) == 0);
-    for (uint64_t room = 0; room <= 2 * BLOCK; room++) {
-        state = made;
-        state.counter = IN_STATE(MOST - 3 - room); /* so that `room` bytes more are taken */
-        check_room(state, (size_t)room);
-    }
     /* Lengths that would wrap round: no byte of them is read. */
-    before = state = made;
-    state.counter = before.counter = IN_STATE((uint64_t)1 << 63);
+    state.COUNTER = IN_STATE(((uint64_t)1 << 63) / LEAVES);
+    before = state;
     CHECK_64(BLAKE(update)(&state, bytes, TWO_TO(63)) == -1 && SAME(state, before));
     CHECK_64(BLAKE(update)(&state, bytes, ~(size_t)0) == -1 && SAME(state, before));
     /* A count past 2^32 is one of 64 bits. */
-    state = made;
-    state.counter = IN_STATE(PAST_32 - BLOCK);
-    CHECK(BLAKE(update)(&state, bytes, BLOCK) == 0 && state.counter == IN_STATE(PAST_32));
-    CHECK(state.pending_length == IN_STATE(3) && BLAKE(count)(&state) == PAST_32 + 3);
-    state.counter = IN_STATE(((uint64_t)1 << 40) + 7 * BLOCK);
-    CHECK(BLAKE(update)(&state, bytes, 3 * BLOCK) == 0 && state.counter == IN_STATE(((uint64_t)1 << 40) + 10 * BLOCK));
+    for (int bits = 32; bits <= 40; bits += 8) {
+        state.COUNTER = IN_STATE(((uint64_t)1 << bits) - BLOCK);
+        const uint64_t count = BLAKE(count)(&state);
+        CHECK(count == LEAVES * (((uint64_t)1 << bits) - BLOCK) + held - KEY_BLOCKS);
+        CHECK(BLAKE(update)(&state, bytes, 1024) == 0 && BLAKE(count)(&state) == count + 1024);
+        CHECK(IN_STATE(state.COUNTER) >= (uint64_t)1 << bits);
+    }
+#ifdef TEST_X
+    end_of_output();
+#endif
 }
 
 static void vary_state(state_t *state, int i) {
-    state->output_size = IN_STATE(state->output_size % (MAX + 6));
-    state->pending_length = IN_STATE(state->pending_length % (BLOCK + 12));
-    state->start_length = IN_STATE(state->start_length % (BLOCK + 12));
-    if (i % 4 == 1) state->counter = IN_STATE(MOST - random_below(1 << 24) % (2 * BLOCK));
+    uint64_t counter = IN_STATE(state->COUNTER) / (2 * LEAVES);
+    if (i % 4 == 1) counter = MOST / LEAVES - random_below(1 << 24) % (4 * BLOCK);
+    state->COUNTER = IN_STATE(counter);
+    state->OWN(output_size) = IN_STATE(IN_STATE(state->OWN(output_size)) % (MAX + 6));
+    state->PENDING = IN_STATE(IN_STATE(state->PENDING) % (HELD + 12));
+    state->OWN(start_length) = IN_STATE(IN_STATE(state->OWN(start_length)) % (KEY_BLOCKS + 12));
+#ifdef TEST_X
+    const uint64_t length = i % 4 == 1 ? UNKNOWN : random_below(1 << 24) % UNKNOWN;
+    state->root.output_size = IN_STATE(MAX);
+    state->reader.xof_length = IN_STATE(length);
+    state->reader.position = IN_STATE(random_below(1 << 24) % (length + 2));
+    state->reading = IN_STATE(i / 2 % 2);
+#endif
 }
 #endif
 
@@ -316,64 +284,9 @@ static void random_states(void) {
     CHECK(taken >= 100 && taken < 4000);
 }
 
-/* ---- lengths that 32 bits would take for others, of which there is no memory */
-
+#ifdef TEST_T
 #define UNTOUCHED(call) CHECK((call) == -1 && SAME(out, blank))
 
-/* Each length of a digest, a key, a salt and a personalization, by each init, in one call, and what is refused. */
-static void long_arguments(size_t n) {
-    uint8_t out[MAX], blank[MAX];
-    memset(out, 0xaa, sizeof out);
-    memset(blank, 0xaa, sizeof blank);
-    for (int argument = 0; argument < 4; argument++) {
-        given made = {.size = argument ? 9 : n, .tree = {.fanout = 1, .depth = 1, .leaf_length = 1}}, *g = &made;
-        static const vulfsjor_argument wanted[] = {VULFSJOR_ARGUMENT_OUTLEN, VULFSJOR_ARGUMENT_KEY,
-                                                   VULFSJOR_ARGUMENT_SALT, VULFSJOR_ARGUMENT_PERSONAL};
-        if (argument) (&g->key)[argument - 1] = (text){bytes, n};
-#ifdef TEST_T
-        if (argument == 1) continue;
-#endif
-        CHECK(refused_of(g) == wanted[argument]);
-        for (int i = 0; i < INITS; i++) {
-            state_t state;
-            memset(&state, 0x5a, sizeof state);
-            int status = init_by(i, &state, g);
-            CHECK(status == ABSENT || (status == -1 && is_ended(&state)));
-        }
-        int status = in_one_call(out, g, (text){bytes, 1});
-        CHECK((status == -1 || status == ABSENT) && SAME(out, blank));
-#ifdef TEST_NODES
-        vulfsjor_message message = {bytes, 1};
-        UNTOUCHED(BLAKE(many)(out, g->size, &message, 1, TEXTS));
-#endif
-#if defined(TEST_X) && !defined(TEST_S)
-        if (argument == 0) UNTOUCHED(vulfsjor_blake2xb_derive_key(out, n, bytes, 1, bytes, 1));
-        if (argument == 1) UNTOUCHED(vulfsjor_blake2xb_derive_key(out, 9, bytes, n, bytes, 1));
-#endif
-#ifdef TEST_T
-        UNTOUCHED(vulfsjor_tree_root_of_leaves(out, g->size, bytes, 64, TEXT(g->salt), TEXT(g->person), 4));
-        if (argument) UNTOUCHED(vulfsjor_tree_leaves(out, 64, 0, 1, bytes, 4, TEXT(g->salt), TEXT(g->person), 4));
-#endif
-    }
-#ifndef TEST_X
-    state_t state = made_state(), before = state;
-    UNTOUCHED(write_output(&state, out, n));
-    UNTOUCHED(write_output(&state, out, n | MAX));
-    CHECK(SAME(state, before));
-#ifndef TEST_T /* a tag that starts with the right bytes */
-    CHECK(write_output(&state, out, MAX) == 0 && BLAKE(verify)(&before, out, n | MAX) == -1 && is_ended(&before));
-    CHECK(n % TWO_TO(32) || (before = made_state(), BLAKE(verify)(&before, out, n) == -1 && is_ended(&before)));
-#endif
-#endif
-#ifdef TEST_T
-    CHECK(vulfsjor_tree_init(&state, MAX, NULL, 0, NULL, 0, 4) == 0);
-    UNTOUCHED(vulfsjor_tree_leaves(out, n & ~(size_t)63, 0, 1, bytes, 9, NULL, 0, NULL, 0, 4));
-    UNTOUCHED(vulfsjor_tree_leaves(out, n | 192, 0, 1, bytes, 9, NULL, 0, NULL, 0, 4));
-    UNTOUCHED(vulfsjor_tree_leaves_ahead(&state, out, n | 64, 0, bytes, 4));
-#endif
-}
-
-#ifdef TEST_T
 /* Messages that end at byte 2^58 or after it. */
 static void long_messages(void) {
     uint8_t out[MAX], blank[MAX];
@@ -394,17 +307,13 @@ static void long_messages(void) {
 #endif
 
 int main(void) {
-    static const size_t lengths[] = {TWO_TO(32), TWO_TO(32) + 1, TWO_TO(32) + MAX, TWO_TO(63), ~(size_t)0};
-    state_t state;
     for (size_t i = 0; i < sizeof bytes; i++) bytes[i] = (uint8_t)(i % 251);
-    memset(&state, 0, sizeof state);
-    check_refused_and_unchanged(state);
-    memset(&state, 0xff, sizeof state);
-    check_refused_and_unchanged(state);
-    unready_states(made_state());
+    const state_t made = made_state();
+    UNREADY(memset(&state, 0, sizeof state));
+    UNREADY(memset(&state, 0xff, sizeof state));
+    unready_states(made);
     long_counts();
     random_states();
-    for (size_t i = 0; i < 5 && sizeof(size_t) == 8; i++) long_arguments(lengths[i]);
 #ifdef TEST_T
     if (sizeof(size_t) == 8) long_messages();
 #endif

@@ -48,17 +48,15 @@ static void show(uint64_t argument) {
 """
 
 
-def prototypes(include):
-    """The type and the parameters, each a type and a name, of each function of the header that calls the library or is
-    of it, by its name."""
-    with open(f"{include}/vulfsjor.h", encoding="utf-8") as file:
+def prototypes(include, header="vulfsjor.h"):
+    """The type and the parameters, each a type and a name, of each function of a header, by its name."""
+    with open(f"{include}/{header}", encoding="utf-8") as file:
         text = re.sub(r"/\*.*?\*/|^#.*?$", "", file.read(), flags=re.S | re.M)
     found = {}
     for kind, name, words in re.findall(
             r"\b(int|void|\w+_t|vulfsjor_argument)\s+(vulfsjor_\w+)\(([^(){};]*)\)\s*[;{]", text):
         words = (" ".join(word.split()) for word in words.split(",") if word != "void")
-        if not re.search(f"_({NO_CALLS})$", name):
-            found[name] = kind, [re.fullmatch(r"(.*?)(\w+)", word).groups() for word in words]
+        found[name] = kind, [re.fullmatch(r"(.*?)(\w+)", word).groups() for word in words]
     return found
 
 
@@ -66,7 +64,8 @@ class Calls:
     """The calls in C, and the lines that they print."""
 
     def __init__(self, include):
-        self.all = prototypes(include)
+        self.all = {name: given for name, given in prototypes(include).items()
+                    if not re.search(f"_({NO_CALLS})$", name)}
         self.library = {name: given for name, given in self.all.items() if "_ffi_" in name}
         self.code, self.lines = [], []
         for name, (_, parameters) in self.all.items():

@@ -85,7 +85,7 @@ test_there() {
         check "edge_cases.c, blake2$family, for $processor" run_there edge_cases \
             $(family_words "$family") "$tests/edge_cases.c" --
         check "libb2.c, blake2$family, for $processor" run_there libb2 $(family_words "$family") \
-            -DOWN_HEADER "-I$here/include/libb2" "$tests/libb2.c" -- # which copies states of libb2
+            "-I$here/include/libb2" "$tests/libb2.c" -- # which copies states of libb2
     done
     check "tree_parts.c, for $processor" run_there tree_parts "$tests/tree_parts.c" -- $turns
     check "the stack that is wiped, for $processor" stack_there

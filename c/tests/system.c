@@ -1,6 +1,6 @@
-/* Tests what threads.c calls of a system (system.h), on Linux, macOS and Windows: compares what each
- * function of vulfsjor_threads.h writes with vulfsjor_tree_root of the same bytes, from a file with a
- * name that is not ASCII, with several numbers of threads, and tries files that cannot be read.
+/* Tests what threads.c calls of a system (system.h), on Linux, macOS and Windows: compares roots (thread_calls.h) of bytes
+ * and of a file with a name that is not ASCII, by several numbers of threads, and tries files that cannot be read; and
+ * on Windows paths, shared and long files, text mode, handles and processors.
  *
  *   cc -std=gnu99 -I FOLDER/include system.c ARCHIVE-threads.a ARCHIVE.a -pthread -o system
  *   ./system PROCESSORS      makes its file in the current folder, on a machine with this many
@@ -9,97 +9,42 @@
 
 #include <stdio.h>
 
-#include "check.h"
 #include "vulfsjor_threads.h"
 
+#ifdef _WIN32
+/* Opens the file for text, as this library does not. */
+static bool as_text;
+#define OPEN(path) (as_text ? open(path, O_RDONLY | O_TEXT) : open_path(path))
+#endif
+#include "thread_calls.h"
 
-enum { BYTES = (3 << 20) + 17, LEAF = 4096, FROM = 1000, ROOT = 64 };
+enum { BYTES = (3 << 20) + 17, LEAF = 4096, FROM = 1000 };
 
 static const char name[] = "caf\xc3\xa9 \xf0\x9f\x98\x80";
-static unsigned char message[BYTES], root[ROOT], wanted[ROOT], wanted_rest[ROOT];
-#ifdef _WIN32
-enum { IS_PASSED = 77 };
-static unsigned char wanted_text[ROOT];
-static thread_result THREAD_CALL end_at_once(void *given) {
-    (void)given;
-    return 0;
-}
-#endif
 
-/* Whether the root is this one, which it then is no longer. */
-static int is_root(const unsigned char *it) {
-    const int is_same = !memcmp(root, it, ROOT);
+/* With several numbers of threads. */
+static void try_threads(size_t length) {
+    static const unsigned threads[] = {0, 1, 2, 7};
 
-    memset(root, 0, ROOT);
-    return is_same;
-}
-
-/* The file, open from this byte on. */
-static int open_at(long from) {
-    const int file = open_path(name);
-
-    CHECK(file >= 0 && lseek(file, from, SEEK_SET) == from);
-    return file;
-}
-
-static uint64_t reported;
-static int note_progress(void *answer, uint64_t count) {
-    CHECK(count > reported);
-    reported = count;
-    return *(int *)answer;
-}
-
-/* An update of a state, which has absorbed the first bytes, from the file. */
-static void update_from(unsigned threads, int answer) {
-    vulfsjor_tree_state state;
-    const int file = open_at(FROM);
-    int status;
-
-    reported = 0;
-    CHECK(!vulfsjor_tree_init(&state, ROOT, NULL, 0, NULL, 0, LEAF) &&
-          !vulfsjor_tree_update(&state, message, FROM));
-    status = vulfsjor_tree_update_fd(&state, file, threads, note_progress, &answer);
-    if (answer) {
-        CHECK(status == -1 && errno == ECANCELED && vulfsjor_tree_count(&state) == FROM);
-    } else {
-        CHECK(!status && reported == BYTES - FROM && lseek(file, 0, SEEK_CUR) == BYTES);
-        CHECK(!vulfsjor_tree_final(&state, root, ROOT) && is_root(wanted));
-    }
-    close(file);
-}
-
-static void try_threads(unsigned threads) {
-    vulfsjor_tree_state state;
-    int file;
-
-    CHECK(!vulfsjor_tree_root_threads(root, ROOT, message, BYTES, NULL, 0, NULL, 0, LEAF, threads));
-    CHECK(is_root(wanted));
-    CHECK(!vulfsjor_tree_root_file(root, ROOT, name, NULL, 0, NULL, 0, LEAF, threads));
-    CHECK(is_root(wanted));
-    file = open_at(FROM);
-    CHECK(!vulfsjor_tree_root_fd(root, ROOT, file, NULL, 0, NULL, 0, LEAF, threads));
-    CHECK(is_root(wanted_rest) && lseek(file, 0, SEEK_CUR) == BYTES);
-    close(file);
-    CHECK(!vulfsjor_tree_init(&state, ROOT, NULL, 0, NULL, 0, LEAF) &&
-          !vulfsjor_tree_update_threads(&state, message, FROM, threads) &&
-          !vulfsjor_tree_update_threads(&state, message + FROM, BYTES - FROM, threads) &&
-          !vulfsjor_tree_final(&state, root, ROOT));
-    CHECK(is_root(wanted));
-    update_from(threads, 0);
-    update_from(threads, 1);
+    for (size_t i = 0; i < COUNT_OF(threads); i++)
+        compare_roots(length, length < FROM ? 0 : FROM, 64, LEAF, threads[i]);
 }
 
 static void try_errors(void) {
-#define FAILS(error, call)                          \
-    errno = 0;                                      \
-    CHECK((call) == -1 && errno == (error));        \
-    CHECK(is_root((const unsigned char[ROOT]){0}));
-    FAILS(ENOENT, vulfsjor_tree_root_file(root, ROOT, "none", NULL, 0, NULL, 0, LEAF, 2))
-    FAILS(ENOENT, vulfsjor_tree_root_file(root, ROOT, "none/none", NULL, 0, NULL, 0, LEAF, 2))
-    FAILS(EISDIR, vulfsjor_tree_root_file(root, ROOT, ".", NULL, 0, NULL, 0, LEAF, 2))
-    FAILS(EBADF, vulfsjor_tree_root_fd(root, ROOT, -1, NULL, 0, NULL, 0, LEAF, 2))
-    FAILS(EINVAL, vulfsjor_tree_root_file(root, ROOT, NULL, NULL, 0, NULL, 0, LEAF, 2))
-    FAILS(EINVAL, vulfsjor_tree_root_file(root, ROOT, name, NULL, 0, NULL, 0, 0, 2))
+    static const struct {
+        const char *path;
+        uint32_t leaf;
+        int error;
+    } rows[] = {{"none", LEAF, ENOENT}, {"none/none", LEAF, ENOENT}, {".", LEAF, EISDIR}, {NULL, LEAF, EINVAL},
+                {name, 0, EINVAL}};
+
+    memcpy(root, blank, 64);
+    for (size_t i = 0; i < COUNT_OF(rows); i++) {
+        errno = 0;
+        CHECK(vulfsjor_tree_root_file(root, 64, rows[i].path, TEXTS, rows[i].leaf, 2) == -1 && errno == rows[i].error);
+    }
+    errno = 0; /* which wine leaves as it is */
+    CHECK(vulfsjor_tree_root_fd(root, 64, -1, TEXTS, LEAF, 2) == -1 && errno == EBADF && !memcmp(root, blank, 64));
 }
 
 #ifdef _WIN32
@@ -149,40 +94,26 @@ static void try_sharing(void) {
     CloseHandle(alone);
 }
 
-/* Files that are open in text mode are read as they are: CR LF, and all after a byte 26. Also a pipe,
- * which ends when its writer closes it. */
+/* Files that are open in text mode are read as they are: CR LF, and all after a byte 26. Also a pipe, which ends when its
+ * writer closes it. */
 static void try_text_mode(void) {
-    static const unsigned lengths[] = {0, 1, 1000, (1 << 18) - 1, 1 << 18, 600000};
-    static unsigned char text[600000];
-    vulfsjor_tree_state state;
+    static const size_t lengths[] = {0, 1, 1000, (1 << 18) - 1, 1 << 18, 600000};
     int ends[2];
 
-    for (size_t i = 0; i < sizeof text; i++) text[i] = (unsigned char)"line\r\n\x1a-\n"[i % 9];
-    for (size_t i = 0; i < sizeof lengths / sizeof *lengths; i++) {
-        const unsigned length = lengths[i], from = length < FROM ? 0 : FROM;
-        int file = open("text", O_WRONLY | O_CREAT | O_TRUNC | O_BINARY, 0600);
-
-        CHECK(file >= 0 && write(file, text, length) == (int)length && !close(file));
-        CHECK(!vulfsjor_tree_root(wanted_text, ROOT, text + from, length - from, NULL, 0, NULL, 0, LEAF));
-        for (unsigned threads = 1; threads < 4; threads += 2) {
-            CHECK((file = open("text", O_RDONLY | O_TEXT)) >= 0 && lseek(file, from, SEEK_SET) == (off_t)from);
-            CHECK(!vulfsjor_tree_root_fd(root, ROOT, file, NULL, 0, NULL, 0, LEAF, threads));
-            CHECK(is_root(wanted_text) && lseek(file, 0, SEEK_CUR) == (off_t)length && !close(file));
-            CHECK((file = open("text", O_RDONLY | O_TEXT)) >= 0 && lseek(file, from, SEEK_SET) == (off_t)from);
-            CHECK(!vulfsjor_tree_init(&state, ROOT, NULL, 0, NULL, 0, LEAF) &&
-                  !vulfsjor_tree_update_fd(&state, file, threads, NULL, NULL) &&
-                  vulfsjor_tree_count(&state) == length - from &&
-                  !vulfsjor_tree_final(&state, root, ROOT) && is_root(wanted_text) && !close(file));
-        }
-        CHECK(!vulfsjor_tree_root(wanted_text, ROOT, text, length, NULL, 0, NULL, 0, LEAF));
-        CHECK(!vulfsjor_tree_root_file(root, ROOT, "text", NULL, 0, NULL, 0, LEAF, 2) && is_root(wanted_text));
+    for (int i = 0; i < BYTES; i++) message[i] = (unsigned char)"line\r\n\x1a-\n"[i % 9];
+    strcpy(path, "text");
+    as_text = true;
+    for (size_t i = 0; i < COUNT_OF(lengths); i++) {
+        write_file(lengths[i]);
+        try_threads(lengths[i]);
     }
-    CHECK(!unlink("text") && !_pipe(ends, 1 << 16, O_TEXT | O_NOINHERIT));
-    CHECK(_setmode(ends[1], O_BINARY) >= 0 && write(ends[1], text, 1000) == 1000 && !close(ends[1]));
-    CHECK(!vulfsjor_tree_root(wanted_text, ROOT, text, 1000, NULL, 0, NULL, 0, LEAF));
-    CHECK(!vulfsjor_tree_root_fd(root, ROOT, ends[0], NULL, 0, NULL, 0, LEAF, 2) && is_root(wanted_text));
-    CHECK(!close(ends[0]));
+    CHECK(!unlink(path) && !_pipe(ends, 1 << 16, O_TEXT | O_NOINHERIT));
+    CHECK(_setmode(ends[1], O_BINARY) >= 0 && write(ends[1], message, 1000) == 1000 && !close(ends[1]));
+    CHECK(!vulfsjor_tree_root(wanted, 64, message, 1000, TEXTS, LEAF));
+    CHECK(!vulfsjor_tree_root_fd(root, 64, ends[0], TEXTS, LEAF, 2) && !memcmp(root, wanted, 64) && !close(ends[0]));
 }
+
+enum { IS_PASSED = 77 };
 
 /* Whether this process was passed a descriptor: the C library passes a number of them, a byte for each,
  * and their handles. */
@@ -203,6 +134,11 @@ static bool is_passed_on(int file) {
     swprintf(number, 12, L"%d", file);
     return GetModuleFileNameW(NULL, path, LONGEST_PATH) &&
            _wspawnl(_P_WAIT, path, L"child", L"of", number, NULL) == IS_PASSED;
+}
+
+static thread_result THREAD_CALL end_at_once(void *given) {
+    (void)given;
+    return 0;
 }
 
 /* A child does not inherit the files that are opened here, neither as a handle nor as a descriptor, and
@@ -261,32 +197,29 @@ static void try_start(unsigned wanted_processors) {
 }
 
 int main(int count, char **words) {
-    static const unsigned threads[] = {0, 1, 2, 7};
-    int file;
-
 #ifdef _WIN32
     if (count == 3) return is_passed(atoi(words[2])) ? IS_PASSED : 0;
 #endif
-    for (int i = 0; i < BYTES; i++) message[i] = (unsigned char)(i % 7 ? random_below(256) : '\n');
+    make_message(BYTES + 1, ".");
+    write_file(BYTES);
 #ifdef _WIN32
-    file = _wopen(L"caf\u00e9 \U0001f600", _O_WRONLY | _O_CREAT | _O_TRUNC | _O_BINARY, 0600);
+    _wunlink(L"caf\u00e9 \U0001f600");
+    CHECK(!_wrename(L"message", L"caf\u00e9 \U0001f600"));
 #else
-    file = open(name, O_WRONLY | O_CREAT | O_TRUNC, 0600);
+    CHECK(!rename(path, name));
 #endif
-    CHECK(file >= 0 && write(file, message, BYTES) == BYTES && !close(file));
-    CHECK(!vulfsjor_tree_root(wanted, ROOT, message, BYTES, NULL, 0, NULL, 0, LEAF));
-    CHECK(!vulfsjor_tree_root(wanted_rest, ROOT, message + FROM, BYTES - FROM, NULL, 0, NULL, 0,
-                              LEAF));
-    for (size_t i = 0; i < sizeof threads / sizeof *threads; i++) try_threads(threads[i]);
+    strcpy(path, name);
+    try_threads(BYTES);
     try_errors();
 #ifdef _WIN32
     try_paths();
     try_sharing();
     try_far();
     try_affinity();
-    try_text_mode();
     try_handles();
+    try_text_mode();
 #endif
     try_start(count == 2 ? (unsigned)atoi(words[1]) : 0);
+    free(message);
     return fails != 0;
 }

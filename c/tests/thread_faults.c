@@ -22,6 +22,7 @@
 #include <time.h>
 
 enum { BYTES = 40 << 20, FEW = 100000 };
+#define FAR (((size_t)1 << 32) + 1000)
 
 /* Whether threads.c starts a thread for each byte. */
 #ifdef LEAST_BYTES
@@ -52,14 +53,12 @@ static struct {
 
 static int allocated, running, started; /* blocks and threads that are left; threads in all */
 
-static void atomic_add(int *counter, int n) { __atomic_fetch_add(counter, n, __ATOMIC_SEQ_CST); }
-static int atomic_value(int *counter) { return __atomic_load_n(counter, __ATOMIC_SEQ_CST); }
+static int atomic_add(int *counter, int n) { return __atomic_add_fetch(counter, n, __ATOMIC_SEQ_CST); }
+static int atomic_value(int *counter) { return atomic_add(counter, 0); }
 
 /* Whether this call is the one that fails. */
 static int fails_now(const char *call) {
-    if (strcmp(call, fault.call) ||
-        __atomic_add_fetch(&fault.counted, 1, __ATOMIC_SEQ_CST) != fault.at)
-        return 0;
+    if (strcmp(call, fault.call) || atomic_add(&fault.counted, 1) != fault.at) return 0;
     errno = fault.error;
     return 1;
 }
@@ -83,7 +82,7 @@ static void wait_for(int *counter, int n) {
 
 /* Whether this read is interrupted. */
 static int is_interrupted(int file) {
-    int call = __atomic_add_fetch(&reads.calls, 1, __ATOMIC_SEQ_CST);
+    int call = atomic_add(&reads.calls, 1);
 
     check_cancellation();
     if (!(fcntl(file, F_GETFD) & FD_CLOEXEC)) reads.inherited = 1;
@@ -98,19 +97,20 @@ static int is_interrupted(int file) {
     return 1;
 }
 
-/* How many bytes of each MiB of a long file were read; null: files are read, and not only noted. */
-static uint32_t *seen;
-enum { MIBS = (1 << 12) + 64 + 1 };
+/* Whether input is only noted, and not read or hashed; and a sum over what was read, in which the ends of neighbors
+ * cancel out. */
+static int only_noted;
+static uint64_t noted;
+
+/* A number for a place in the input. Sums of others are not the same. */
+static uint64_t mixed(uint64_t place) {
+    place = (place ^ place >> 30) * 0xbf58476d1ce4e5b9u;
+    place = (place ^ place >> 27) * 0x94d049bb133111ebu;
+    return place ^ place >> 31;
+}
 
 static ssize_t note_read(size_t n, off_t from) {
-    const off_t end = from + (off_t)n;
-
-    for (off_t next; from < end; from = next) {
-        next = ((from >> 20) + 1) << 20;
-        if (next > end) next = end;
-        if (from >> 20 < MIBS)
-            __atomic_add_fetch(&seen[from >> 20], (uint32_t)(next - from), __ATOMIC_SEQ_CST);
-    }
+    __atomic_fetch_add(&noted, mixed((uint64_t)from + n) - mixed((uint64_t)from), __ATOMIC_SEQ_CST);
     return (ssize_t)n;
 }
 
@@ -120,7 +120,7 @@ static ssize_t next_read(int file, void *to, size_t n) {
 }
 
 static ssize_t read_at_place(int file, void *to, size_t n, off_t from) {
-    if (seen) return note_read(n, from);
+    if (only_noted) return note_read(n, from);
     if (reads.least && !from) { /* no more reads come, since all other threads wait then */
         atomic_add(&reads.calls, 1);
         wait_for(&reads.calls, reads.least);
@@ -132,9 +132,11 @@ static ssize_t read_at_place(int file, void *to, size_t n, off_t from) {
     return pread(file, to, reads.most && n > reads.most ? reads.most : n, from);
 }
 
-/* Leaves in memory are noted as those of a file are. */
+/* The message in memory is noted as that of a file is. */
 static size_t length;
-static int note_input(const uint8_t *input, size_t n) {
+static int note_input(const void *given, size_t n) {
+    const unsigned char *input = given;
+
     if (input >= message && input < message + length) note_read(n, input - message);
     return 0;
 }
@@ -157,17 +159,22 @@ static void free_block(void *block) {
     free(block);
 }
 
-/* Whether this thread blocks all signals except those of its own faults of memory, and SIGKILL and
- * SIGSTOP, which none can block. */
-static int blocks_signals(void) {
-    sigset_t mask;
-    int number, is = !pthread_sigmask(SIG_BLOCK, NULL, &mask);
+/* Whether two sets have the same signals. */
+static int are_same(const sigset_t *a, const sigset_t *b) {
+    int number = 1;
 
-    for (number = 1; is && number <= SIGRTMAX; number++)
-        if (number < 32 || number >= SIGRTMIN) /* those between are the C library's */
-            is = sigismember(&mask, number) == (number != SIGBUS && number != SIGSEGV &&
-                                                number != SIGKILL && number != SIGSTOP);
-    return is;
+    while (number <= SIGRTMAX && sigismember(a, number) == sigismember(b, number)) number++;
+    return number > SIGRTMAX;
+}
+
+/* Whether this thread blocks all signals that can be blocked, except those of its own faults of memory. */
+static int blocks_signals(void) {
+    sigset_t wanted, mask;
+
+    sigfillset(&wanted), sigdelset(&wanted, SIGBUS), sigdelset(&wanted, SIGSEGV);
+    pthread_sigmask(SIG_SETMASK, &wanted, &mask);
+    pthread_sigmask(SIG_SETMASK, &mask, &wanted); /* as the system has set it */
+    return are_same(&mask, &wanted);
 }
 
 /* What threads.c has each thread do, which is one function for all. */
@@ -219,14 +226,15 @@ static int processors = INT_MIN;
 #define vulfsjor_tree_plan_update(...) OR_FAILS(vulfsjor_tree_plan_update, __VA_ARGS__)
 #define vulfsjor_tree_part(...) OR_FAILS(vulfsjor_tree_part, __VA_ARGS__)
 /* Where files are only noted, nothing is hashed. */
-#define OR_NOTES(noted, call, ...) (fails_now(#call) ? -1 : seen ? (noted) : call(__VA_ARGS__))
+#define OR_NOTES(noted, call, ...) (fails_now(#call) ? -1 : only_noted ? (noted) : call(__VA_ARGS__))
 #define vulfsjor_tree_root(...) OR_NOTES(0, vulfsjor_tree_root, __VA_ARGS__)
-#define vulfsjor_tree_update(...) OR_NOTES(0, vulfsjor_tree_update, __VA_ARGS__)
-#define vulfsjor_tree_update_leaves(...) OR_NOTES(0, vulfsjor_tree_update_leaves, __VA_ARGS__)
+#define vulfsjor_tree_update(t, i, in) OR_NOTES(note_input(i, in), vulfsjor_tree_update, t, i, in)
+#define vulfsjor_tree_update_leaves(t, o, on, i, in) \
+    OR_NOTES(note_input(i, in), vulfsjor_tree_update_leaves, t, o, on, i, in)
 #define vulfsjor_tree_final(...) OR_NOTES(0, vulfsjor_tree_final, __VA_ARGS__)
 #define vulfsjor_tree_init_root(...) OR_NOTES(0, vulfsjor_tree_init_root, __VA_ARGS__)
 #define vulfsjor_tree_init_leaf(...) OR_NOTES(0, vulfsjor_tree_init_leaf, __VA_ARGS__)
-#define vulfsjor_blake2b_update(...) OR_NOTES(0, vulfsjor_blake2b_update, __VA_ARGS__)
+#define vulfsjor_blake2b_update(s, i, in) OR_NOTES(note_input(i, in), vulfsjor_blake2b_update, s, i, in)
 #define vulfsjor_blake2b_final(...) OR_NOTES(0, vulfsjor_blake2b_final, __VA_ARGS__)
 #define vulfsjor_tree_leaves(o, on, f, e, i, in, ...) \
     OR_NOTES(note_input(i, in), vulfsjor_tree_leaves, o, on, f, e, i, in, __VA_ARGS__)
@@ -260,32 +268,6 @@ static int by_file(void) { return vulfsjor_tree_root_file(root, 64, path, 0, 0, 
 
 static int by_bytes(void) {
     return vulfsjor_tree_root_threads(root, 64, message, length, 0, 0, 0, 0, leaf, asked);
-}
-
-/* Closes the file of a call, whose status and errno stay. */
-static int close_after(int file, int status) {
-    const int error = errno;
-
-    close(file);
-    errno = error;
-    return status;
-}
-
-/* A pipe that holds all of the message after these bytes. */
-static int pipe_after(size_t head) {
-    int ends[2];
-
-    if (pipe(ends) || fcntl(ends[1], F_SETPIPE_SZ, 1 << 20) < 0 ||
-        write(ends[1], message + head, length - head) != (ssize_t)(length - head))
-        exit(3);
-    close(ends[1]);
-    return ends[0];
-}
-
-static int by_pipe(void) {
-    const int file = pipe_after(0);
-
-    return close_after(file, vulfsjor_tree_root_fd(root, 64, file, 0, 0, 0, 0, leaf, asked));
 }
 
 /* What the calls of progress have reported: how often, the last number, and whether each was more
@@ -325,24 +307,38 @@ static int absorb_after(size_t head, int file) {
 
 static int by_update(void) { return absorb_after(1000, -1); }
 
-/* The message after its first 1,000 bytes from the file, or all of it, or after them from a pipe. */
-static int by_file_after(size_t head) {
-    int file = open(path, O_RDONLY | O_CLOEXEC), status;
+/* A descriptor with the message after these bytes: of the file, or of a pipe that holds it. */
+static int descriptor_after(size_t head, int is_pipe) {
+    int ends[2], file = open(path, O_RDONLY | O_CLOEXEC);
 
     if (file < 0 || (lseek)(file, (off_t)head, SEEK_SET) < 0) exit(3);
-    status = absorb_after(head, file);
-    CHECK(status || reads.resized_at || (lseek)(file, 0, SEEK_CUR) == (off_t)length);
-    return close_after(file, status);
+    if (!is_pipe) return file;
+    close(file);
+    if (pipe(ends) || fcntl(ends[1], F_SETPIPE_SZ, 1 << 20) < 0 ||
+        write(ends[1], message + head, length - head) != (ssize_t)(length - head))
+        exit(3);
+    close(ends[1]);
+    return ends[0];
 }
 
-static int by_rest(void) { return by_file_after(1000); }
-static int by_all(void) { return by_file_after(0); }
+/* The root of what a descriptor has, or an update with it. */
+static int by_descriptor(size_t head, int is_pipe, int is_update) {
+    const int file = descriptor_after(head, is_pipe),
+              status = is_update ? absorb_after(head, file)
+                                 : vulfsjor_tree_root_fd(root, 64, file, 0, 0, 0, 0, leaf, asked),
+              error = errno;
 
-static int by_piped_rest(void) {
-    const int file = pipe_after(1000);
-
-    return close_after(file, absorb_after(1000, file));
+    CHECK(status || is_pipe || reads.resized_at || (lseek)(file, 0, SEEK_CUR) == (off_t)length);
+    close(file);
+    errno = error;
+    return status;
 }
+
+static int by_pipe(void) { return by_descriptor(0, 1, 0); }
+static int by_piped_rest(void) { return by_descriptor(1000, 1, 1); }
+static int by_rest(void) { return by_descriptor(1000, 0, 1); }
+static int by_all(void) { return by_descriptor(0, 0, 1); }
+static int by_far_rest(void) { return by_descriptor(FAR, 0, 0); }
 
 /* How many descriptors are open, and some more. */
 static int open_descriptors(void) {
@@ -372,8 +368,7 @@ static int call_cleanly(int (*call)(void)) {
     pthread_setcancelstate(PTHREAD_CANCEL_DISABLE, &now);
     pthread_sigmask(SIG_BLOCK, NULL, &after);
     CHECK(now == given && !could_cancel);
-    for (int number = 1; number <= SIGRTMAX; number++)
-        CHECK(sigismember(&after, number) == sigismember(&before, number));
+    CHECK(are_same(&after, &before));
     CHECK(call != by_file || !reads.inherited);
     CHECK(!memcmp(root, status ? blank : wanted, 64));
     CHECK(!atomic_value(&allocated) && !atomic_value(&running) && open_descriptors() == open);
@@ -505,7 +500,7 @@ static void reads_are_short(void) {
             expect_errno(by_rest, 0);
             expect_errno(by_piped_rest, 0);
         }
-    use_file(20 << 20, 17 << 20, 2);
+    use_file(BYTES, 17 << 20, 2); /* the rest has a whole leaf that is not the first */
     reads.interrupted = 1;
     reads.most = 300001;
     expect_errno(by_file, 0);
@@ -665,51 +660,37 @@ static void memory_is_as_said(void) {
     CHECK(largest > 15 * MIB && largest <= 16 * MIB);
 }
 
-/* The same of bytes in memory, of which there is one page; an update absorbs the first and the last by itself. */
-static void long_bytes(void) {
+/* Each byte of a file or in memory is read once, of more than 2^32 bytes. There is one page of them, and nothing is
+ * hashed. */
+static void long_inputs(void) {
+    static const uint32_t leaves[] = {4096,    65536,   1 << 22, 1 << 24, (1 << 24) + (1 << 20),
+                                      1 << 26, 1u << 31};
+    static const struct {
+        int (*call)(void);
+        size_t from;
+    } rows[] = {{by_file, 0}, {by_all, 0}, {by_far_rest, FAR}, {by_bytes, 0}, {by_update, 1000}};
     unsigned char *const kept = message;
 
-    leaf = 65536;
+    use_file(FEW, 65536, 3);
+    length = ((size_t)1 << 32) + (64 << 20) + 1;
     message = mmap(NULL, length, PROT_READ, MAP_PRIVATE | MAP_ANONYMOUS | MAP_NORESERVE, -1, 0);
-    CHECK(message != MAP_FAILED);
-    for (int is_update = 0; is_update < 2; is_update++) {
-        memset(seen, 0, MIBS * sizeof *seen);
-        CHECK(!(is_update ? by_update() : by_bytes()));
-        for (int i = is_update; i + 1 < MIBS - is_update; i++) CHECK(seen[i] == 1 << 20);
-        CHECK(is_update || seen[MIBS - 1] == 1);
-    }
+    CHECK(message != MAP_FAILED && !truncate(path, (off_t)length));
+    only_noted = 1;
+    for (size_t i = 0; i < COUNT_OF(leaves); i++)
+        for (size_t k = 0; k < COUNT_OF(rows); k++) {
+            leaf = leaves[i];
+            largest = 0, noted = 0;
+            CHECK(!rows[k].call() && noted == mixed(length) - mixed(rows[k].from));
+            if (!k && leaf < 1 << 18) CHECK(largest == (1 << 20) + leaf / 64);
+        }
+    only_noted = 0;
     munmap(message, length);
     message = kept;
 }
 
-/* Each byte of a file of more than 2^32 bytes is read once. Nothing is hashed. */
-static void long_files(void) {
-    static const uint32_t leaves[] = {4096,    65536,   1 << 22, 1 << 24, (1 << 24) + (1 << 20),
-                                      1 << 26, 1u << 31};
-    int (*const calls[])(void) = {by_file, by_all};
-    const size_t size = MIBS * sizeof *seen;
-    int once;
-
-    use_file(FEW, 65536, 3);
-    length = ((size_t)(MIBS - 1) << 20) + 1;
-    CHECK(!truncate(path, (off_t)length) && (seen = (malloc)(size)));
-    for (size_t i = 0; i < COUNT_OF(leaves); i++)
-        for (size_t k = 0; k < COUNT_OF(calls); k++) {
-            memset(seen, 0, size);
-            leaf = leaves[i];
-            largest = 0;
-            CHECK(!calls[k]());
-            if (!k && leaf < 1 << 18) CHECK(largest == (1 << 20) + leaf / 64);
-            for (once = 0; once + 1 < MIBS && seen[once] == 1 << 20; once++) continue;
-            CHECK(once == MIBS - 1 && seen[once] == 1);
-        }
-    long_bytes();
-    (free)(seen);
-    seen = NULL;
-}
-
 int main(int count, char **words) {
     if (count < 2) return 2;
+    close(0); /* as in a program without standard input: a file that is opened has this number */
     make_message(BYTES, words[1]);
     caller = pthread_self();
     if (EACH_BYTE) {
@@ -723,7 +704,7 @@ int main(int count, char **words) {
     } else {
         RUN(least_bytes());
         RUN(memory_is_as_said());
-        RUN(long_files());
+        RUN(long_inputs());
     }
     CHECK(!wrong_masks);
     unlink(path);

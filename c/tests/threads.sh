@@ -43,29 +43,6 @@ faults_with() {
 # Both, with each number of threads.
 threads_and_faults() { threads_with "$@" && faults_with -DLEAST_BYTES=1 "$@" && faults_with "$@"; }
 
-# The numbers in the comment of vulfsjor_threads.h are those of threads.c.
-numbers_of_header() {
-    local text least part buffer threads leaves most said
-    text=$(tr -s ' *\n' ' ' <"$here/include/vulfsjor_threads.h")
-    least=$(sed -n 's/^#define LEAST_BYTES (1 << \([0-9]*\))$/\1/p' "$here/threads.c")
-    part=$(sed -n 's/^ *PART_BYTES = 1 << \([0-9]*\),.*/\1/p' "$here/threads.c")
-    buffer=$(sed -n 's/^ *MOST_BUFFER_BYTES = 1 << \([0-9]*\),.*/\1/p' "$here/threads.c")
-    threads=$(sed -n 's/^ *MOST_THREADS = \([0-9]*\),$/\1/p' "$here/threads.c")
-    leaves=$(sed -n 's/^ *MOST_LEAVES = 1 << \([0-9]*\) .*/\1/p' "$here/threads.c")
-    most=$(sed -n 's/^ *PART_LEAVES = 1 << \([0-9]*\),.*/\1/p' "$here/threads.c")
-    for said in "with the caller's: at most $threads, and 0 is" \
-        "at most one thread for each $((1 << (least - 10))) KiB of input" \
-        "A regular file of at least $((1 << (least - 10))) KiB is read by all threads" \
-        "a buffer: up to $((1 << (part - 20))) MiB or four leaves, whichever is more," \
-        "and at most $((1 << (buffer - 20))) MiB." \
-        "about $((2 << (most - 14))) MiB for each thread at most, however" \
-        "at most $((1 << (leaves - 14))) MiB for digests" \
-        "one buffer of $((1 << (part - 20))) MiB more" \
-        "about $((1 << (part - 20))) MiB or four leaves, and at the end"; do
-        [[ $text == *"$said"* ]] || { echo "not in vulfsjor_threads.h: $said"; return 1; }
-    done
-}
-
 # The same by a function with a sanitizer, where memory that is not there is refused as without one.
 sanitized() {
     TSAN_OPTIONS=allocator_may_return_null=1 ASAN_OPTIONS=allocator_may_return_null=1 \
@@ -86,28 +63,27 @@ make_files() {
     done
 }
 
-# A call with a status of its own, and without output.
+# Calls of a program, each with the words of a text, that end with this status and a message, and without output:
+# STATUS PROGRAM TEXT..
 refuses_with() {
-    local status=$1 said
-    shift
-    said=$("$@" 2>"$work/said")
-    [ $? -eq "$status" ] && [ -z "$said" ] && [ -s "$work/said" ]
+    local status=$1 program=$2 words said
+    for words in "${@:3}"; do
+        said=$(eval "'$program' $words" 2>"$work/said")
+        [ $? -eq "$status" ] && [ -z "$said" ] && [ -s "$work/said" ] || { echo "$words" && return 1; }
+    done
 }
 
 tree_sum_example() {
-    local sum=$work/tree_sum threads leaf
+    local sum=$work/tree_sum words
     compile_example tree_sum vulfsjor-threads && make_files || return 1
-    roots_by_hashlib 65536 file_* >wanted && "$sum" file_* | diff wanted - || return 1
-    for threads in 0 1 3; do
-        "$sum" --threads $threads file_* | diff wanted - || return 1
+    # The bytes of a leaf, and the options.
+    for words in "65536 --threads 1" "65536 --threads=3" "65536 --threads 0" "1000 --leaf 1000" \
+        "4294967295 --leaf 4294967295" 65536; do
+        set -- $words
+        "$sum" "${@:2}" file_* | diff <(roots_by_hashlib $1 file_*) - &&
+            "$sum" "${@:2}" - file_1 <file_65537 | diff <(roots_by_hashlib $1 - file_1 <file_65537) - || return 1
     done
-    for leaf in 1000 4294967295; do
-        "$sum" --leaf $leaf file_* | diff <(roots_by_hashlib $leaf file_*) - || return 1
-    done
-    "$sum" <file_3000000 | diff <(roots_by_hashlib 65536 - <file_3000000) - || return 1
-    "$sum" --leaf 777 - <file_65537 | diff <(roots_by_hashlib 777 - <file_65537) - || return 1
-    cat file_3000000 | "$sum" --threads=2 - file_1 |
-        diff <(roots_by_hashlib 65536 - file_1 <file_3000000) - || return 1
+    cat file_3000000 | "$sum" | diff <(roots_by_hashlib 65536 - <file_3000000) - || return 1
     # standard input from where it stands, and to its end
     { head -c 5 >head && "$sum" && "$sum" -; } <file_262144 >said && tail -c +6 file_262144 >rest &&
         { roots_by_hashlib 65536 - <rest && roots_by_hashlib 65536 - </dev/null; } | diff - said ||
@@ -117,11 +93,8 @@ tree_sum_example() {
         printf 'tree_sum: %s\n' 'absent: No such file or directory' 'folder: Is a directory' |
         diff - errors || return 1
     ! "$sum" file_1 >/dev/full && "$sum" --help | grep -q '^usage' || return 1
-    for leaf in 0 4294967296 -1 '' 1x ' 1' 18446744073709551617; do
-        refuses_with 2 "$sum" --leaf "$leaf" file_1 || return 1
-    done
-    refuses_with 2 "$sum" --threads x file_1 && refuses_with 2 "$sum" --what file_1 &&
-        refuses_with 2 "$sum" --leaf
+    refuses_with 2 "$sum" "--leaf "{0,4294967296,-1,"''",1x,"' 1'",18446744073709551617}" file_1" \
+        "--threads x file_1" "--what file_1" --leaf
 }
 
 # A file in parts of this many leaves, by xargs, which keeps the order of one process.
@@ -133,7 +106,7 @@ in_parts() {
 }
 
 tree_parts_example() {
-    local parts=$work/tree_parts name
+    local parts=$work/tree_parts name count
     compile_example tree_parts vulfsjor-static && make_files || return 1
     for name in file_*; do
         for count in 1 7 16 100; do
@@ -145,27 +118,20 @@ tree_parts_example() {
         "$parts" leaves file_3000000 40 3 | cmp - <(tail -c +2561 all | head -c 192) ||
         return 1
     # a part that is missing, one that came twice, and a digest in pieces
-    head -c 2880 all | refuses_with 1 "$parts" root file_3000000 &&
-        head -c 2943 all | refuses_with 1 "$parts" root file_3000000 &&
-        { cat all && head -c 64 all; } | refuses_with 1 "$parts" root file_3000000 || return 1
-    refuses_with 1 "$parts" leaves file_3000000 46 1 && refuses_with 1 "$parts" leaves absent 0 1 &&
-        refuses_with 1 "$parts" leaves /dev/null 0 1 &&
-        refuses_with 1 "$parts" root absent </dev/null &&
-        refuses_with 1 "$parts" root file_3000000 <folder &&
-        grep -q 'standard input: Is a directory' "$work/said" &&
+    head -c 2880 all | refuses_with 1 "$parts" "root file_3000000" &&
+        head -c 2943 all | refuses_with 1 "$parts" "root file_3000000" &&
+        { cat all && head -c 64 all; } | refuses_with 1 "$parts" "root file_3000000" || return 1
+    refuses_with 1 "$parts" "leaves file_3000000 46 1" "leaves absent 0 1" "leaves /dev/null 0 1" "root absent" \
+        </dev/null || return 1
+    refuses_with 1 "$parts" "root file_3000000" <folder && grep -q 'standard input: Is a directory' "$work/said" &&
         ! "$parts" leaves file_3000000 0 1 2>"$work/said" >/dev/full &&
         ! "$parts" root file_3000000 <all >/dev/full || return 1
     # a file with fewer bytes than it says
     name=/sys/kernel/mm/transparent_hugepage/enabled
-    [ ! -r $name ] || { refuses_with 1 "$parts" leaves $name 0 1 &&
+    [ ! -r $name ] || { refuses_with 1 "$parts" "leaves $name 0 1" &&
         grep -q 'Input/output error' "$work/said"; } || return 1
-    for name in -1 x '' 1x 9223372036854775808; do
-        refuses_with 2 "$parts" leaves file_1 "$name" 1 &&
-            refuses_with 2 "$parts" leaves file_1 0 "$name" || return 1
-    done
-    refuses_with 2 "$parts" leaves file_1 0 0 && refuses_with 2 "$parts" &&
-        refuses_with 2 "$parts" leaves file_1 0 &&
-        refuses_with 2 "$parts" root && refuses_with 2 "$parts" what file_1
+    refuses_with 2 "$parts" "leaves file_1 "{-1,x,"''",1x,9223372036854775808}" 1" \
+        "leaves file_1 0 "{0,-1,x,"''",1x,9223372036854775808} "leaves file_1 0" "" root "what file_1"
 }
 
 # The line of c/examples/tree_parts.c with GNU parallel.
@@ -187,7 +153,6 @@ test_threads() {
     check "threads.c, with the installed library" threads_installed
     check "thread_faults.c" faults_with -O2
     check_huge "threads.c and thread_faults.c" threads_and_faults -O2
-    check "the numbers in vulfsjor_threads.h" numbers_of_header
     # What shows races looks at threads, and what shows wrong accesses at faults; in the full test both at both.
     for kind in thread address,undefined; do
         [ "$kind" = thread ] && program=threads || program=faults

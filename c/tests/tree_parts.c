@@ -14,18 +14,16 @@ static uint8_t message[1000];
 
 static void leaf_counts(void) {
     static const uint32_t sizes[] = {1, 2, 3, 64, 65536, 0x7fffffff, 0x80000000, UINT32_MAX};
-    static const uint64_t counts[] = {1, 2, 3, 1000, 1u << 26};
+    static const uint64_t lengths[] = {0, 1, 3, 1000, 1u << 26, (uint64_t)3 << 32, UINT64_MAX - 1};
 
-    for (size_t i = 0; i < COUNT_OF(sizes) * COUNT_OF(counts); i++) {
-        const uint64_t leaf = sizes[i % COUNT_OF(sizes)], count = counts[i / COUNT_OF(sizes)];
-        CHECK(vulfsjor_tree_leaf_count(0, (uint32_t)leaf) == 1);
-        CHECK(vulfsjor_tree_leaf_count(count * leaf, (uint32_t)leaf) == count);
-        CHECK(vulfsjor_tree_leaf_count(count * leaf + 1, (uint32_t)leaf) == count + 1);
-        CHECK(leaf == 1 || vulfsjor_tree_leaf_count(count * leaf - 1, (uint32_t)leaf) == count);
-        CHECK(vulfsjor_tree_leaf_count(UINT64_MAX, (uint32_t)leaf) == UINT64_MAX / leaf + (UINT64_MAX % leaf > 0));
+    for (size_t i = 0; i < COUNT_OF(sizes) * COUNT_OF(lengths); i++) {
+        const uint64_t leaf = sizes[i % COUNT_OF(sizes)], some = lengths[i / COUNT_OF(sizes)], whole = some - some % leaf;
+        for (uint64_t step = whole ? 0 : 1; step < 3; step++) {
+            const uint64_t length = whole + step - 1, count = length / leaf + (length % leaf > 0);
+            CHECK(vulfsjor_tree_leaf_count(length, (uint32_t)leaf) == (count ? count : 1));
+        }
+        CHECK(!vulfsjor_tree_leaf_count(some, 0));
     }
-    CHECK(!vulfsjor_tree_leaf_count(0, 0) && !vulfsjor_tree_leaf_count(5, 0));
-    CHECK(!vulfsjor_tree_leaf_count(UINT64_MAX, 0));
 }
 
 /* ---- plans */
@@ -97,18 +95,17 @@ static void random_plans(int turns) {
     }
 }
 
+/* What writes no plan or part. */
+#define NO_PLAN(call) CHECK((call) == -1 && SAME(plan, kept))
+#define NO_PART(call) CHECK((call) == -1 && SAME(part, kept_part))
+
 static void refused_plans(void) {
     static const vulfsjor_limits good = {2, 1, 8, 8}, no_threads = {0, 1, 8, 8}, no_least = {2, 0, 8, 8};
     const vulfsjor_limits *const wrong[] = {&no_threads, &no_least, NULL};
     vulfsjor_tree_state state = tree_with(4, 5), none = {0};
-    vulfsjor_plan plan, kept;
-    vulfsjor_part part, kept_part;
+    vulfsjor_plan plan = {1, 2, 3, 4, 5, 6, 7, 8, 9}, kept = plan;
+    vulfsjor_part part = {1, 2, 3, 4, 5, 6}, kept_part = part;
 
-    memset(&plan, 0xaa, sizeof plan);
-    memset(&part, 0xaa, sizeof part);
-    kept = plan;
-    kept_part = part;
-#define NO_PLAN(call) CHECK((call) == -1 && SAME(plan, kept))
     for (size_t i = 0; i < 3; i++) {
         NO_PLAN(vulfsjor_tree_plan(&plan, 0, 9, 4, wrong[i]));
         NO_PLAN(vulfsjor_tree_plan_update(&plan, &state, 9, wrong[i]));
@@ -120,7 +117,6 @@ static void refused_plans(void) {
     NO_PLAN(vulfsjor_tree_plan_update(&plan, NULL, 9, &good));
     NO_PLAN(vulfsjor_tree_plan_update(&plan, &state, top - 5, &good));
     CHECK(vulfsjor_tree_plan(NULL, 0, 9, 4, &good) == -1 && vulfsjor_tree_plan_update(NULL, &state, 9, &good) == -1);
-#define NO_PART(call) CHECK((call) == -1 && SAME(part, kept_part))
     NO_PART(vulfsjor_tree_part(&part, &plan, 0)); /* no call made it */
     CHECK(!vulfsjor_tree_plan(&plan, UINT64_MAX - 9, 9, 4, &good));
     NO_PART(vulfsjor_tree_part(&part, &plan, plan.part_count));
@@ -147,35 +143,26 @@ static void try_numbers(const uint64_t *numbers) {
 /* Each number of a plan changed to others, of which some leave a plan. */
 static void changed_plans(void) {
     static const vulfsjor_limits limits = {3, 1, 16, 100};
+    static const uint64_t rows[][2] = {{7, 41}, {0, 0}, {5, 4}}, updates[] = {50, 7, 3}; /* 3: no whole leaf */
     const uint64_t values[] = {0, 1, 2, 3, 4, 5, 64, UINT32_MAX, (uint64_t)1 << 32, top, UINT64_MAX - 1, UINT64_MAX};
     const uint64_t steps[] = {1, 4, 16, 64, (uint64_t)1 << 32, (uint64_t)1 << 63};
+    enum { FIELDS = sizeof(vulfsjor_plan) / 8 };
     vulfsjor_tree_state state = tree_with(4, 6);
-    vulfsjor_plan plans[6];
-
-    CHECK(!vulfsjor_tree_plan(&plans[0], 7, 41, 4, &limits) && !vulfsjor_tree_plan(&plans[1], 0, 0, 4, &limits));
-    CHECK(!vulfsjor_tree_plan(&plans[2], 5, 4, 4, &limits));
-    for (int i = 3; i < 6; i++) /* the last has no whole leaf */
-        CHECK(!vulfsjor_tree_plan_update(&plans[i], &state, i == 3 ? 50 : i == 4 ? 7 : 3, &limits));
-    for (size_t i = 0; i < 6; i++)
-        for (size_t field = 0; field < sizeof *plans / 8; field++) {
-            uint64_t numbers[sizeof *plans / 8], was;
-            memcpy(numbers, &plans[i], sizeof numbers);
-            was = numbers[field];
-            for (size_t k = 0; k < COUNT_OF(values); k++) numbers[field] = values[k], try_numbers(numbers);
-            for (size_t k = 0; k < 2 * COUNT_OF(steps); k++)
-                numbers[field] = k % 2 ? was - steps[k / 2] : was + steps[k / 2], try_numbers(numbers);
-        }
-}
-
-/* A part is fours of leaves if each thread has four, and a part room for four. */
-static void parts_in_fours(void) {
-    const vulfsjor_limits limits = {4, 1, 1 << 20, 1 << 19}, few = {4, 1, 1 << 20, (1 << 18) - 1};
+    uint64_t numbers[FIELDS];
     vulfsjor_plan plan;
 
-    CHECK(!vulfsjor_tree_plan(&plan, 0, 1 << 26, 1 << 16, &limits));
-    CHECK(plan.part_length == 8 << 16 && plan.part_count == 128 && plan.threads == 4);
-    CHECK(!vulfsjor_tree_plan(&plan, 0, 1 << 26, 1 << 16, &few));
-    CHECK(plan.part_length == 1 << 16 && plan.part_count == 1024);
+    for (size_t i = 0; i < 6 * FIELDS; i++) {
+        const size_t row = i / FIELDS, field = i % FIELDS;
+        CHECK(!(row < 3 ? vulfsjor_tree_plan(&plan, rows[row][0], rows[row][1], 4, &limits)
+                        : vulfsjor_tree_plan_update(&plan, &state, updates[row - 3], &limits)));
+        memcpy(numbers, &plan, sizeof plan);
+        const uint64_t was = numbers[field];
+        for (size_t k = 0; k < COUNT_OF(values); k++) numbers[field] = values[k], try_numbers(numbers);
+        for (size_t k = 0; k < COUNT_OF(steps); k++) {
+            numbers[field] = was + steps[k], try_numbers(numbers);
+            numbers[field] = was - steps[k], try_numbers(numbers);
+        }
+    }
 }
 
 int main(int count, char **words) {
@@ -183,7 +170,6 @@ int main(int count, char **words) {
     leaf_counts();
     refused_plans();
     changed_plans();
-    parts_in_fours();
     random_plans(count > 1 ? atoi(words[1]) : 20000);
     return fails ? 1 : 0;
 }

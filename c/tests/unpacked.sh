@@ -33,7 +33,7 @@ version_of_b2sum() {
 }
 # Nor debug information, which would name the folder too. grep ends with 1 only if it has read all and found none.
 no_build_path() {
-    grep -raE '/build/|/tmp/|\.debug_info' "$folder/bin"
+    grep -raE "/build/|${TMPDIR:-/tmp}/|\.debug_info" "$folder/bin"
     [ $? -eq 1 ]
 }
 is_relocatable() {
@@ -54,8 +54,7 @@ has_version() {
 }
 pages_have_no_dead_link() { ! grep -rnE '\]\([^):]*\)' "$folder" --include='*.md'; }
 is_found() {
-    words_work "$folder/lib" && project_by_cmake "list(APPEND CMAKE_PREFIX_PATH \"$folder\")
-find_package(vulfsjor $(version) EXACT REQUIRED)" vulfsjor::vulfsjor vulfsjor::threads && needs_nothing
+    words_work "$folder/lib" && project_that_finds "$folder" "$(version) EXACT" && needs_nothing
 }
 
 export WINEPREFIX=$work/wine WINEDEBUG=-all,err+virtual WINEDLLOVERRIDES="mscoree,mshtml=" WINE WINE_LOG=$work/wine_log

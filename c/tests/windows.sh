@@ -48,19 +48,10 @@ cc() {
     [ ! -e "$2.exe" ] || write_script "$2" "| tr -d '\\r'"
 }
 
-wanted_for_windows() {
-    printf '%s\n' bin/libvulfsjor-0.dll include/vulfsjor-libb2/blake2.h include/vulfsjor.h{,pp} \
-        include/vulfsjor_threads.h lib/cmake/vulfsjor/vulfsjor-config{,-version}.cmake \
-        lib/libvulfsjor{,-libb2,-threads,.dll}.a lib/pkgconfig/vulfsjor{,-static,-threads}.pc \
-        lib/vulfsjor-libb2/pkgconfig/libb2.pc | LC_ALL=C sort
-}
-
 # What is installed, and that all of it goes again.
 installs() {
-    (cd "$prefix" && find . -type f -o -type l) | sed 's|^\./||' | LC_ALL=C sort |
-        diff - <(wanted_for_windows) && [ "$(cd "$prefix" && find . -perm 755 -type f)" = ./bin/libvulfsjor-0.dll ] &&
-        cp -a "$prefix" "$work/again" &&
-        "$here/install.sh" --uninstall "$work/again" && [ -z "$(find "$work/again" ! -type d)" ]
+    files_come_and_go "$prefix" windows &&
+        [ "$(cd "$prefix" && find . -perm 755 -type f)" = ./bin/libvulfsjor-0.dll ]
 }
 
 # The DLL has the functions of the header, and needs only what Windows has.
@@ -225,10 +216,7 @@ crate_for_windows() {
 rustc_for_windows() {
     local each root library=lib/rustlib/x86_64-pc-windows-gnu/lib
     for each in $(type -ap rustc) /usr/bin/rustc; do
-        if root=$("$each" --print sysroot 2>/dev/null) && [ -d "$root/$library" ]; then
-            readlink -f "$each"
-            return
-        fi
+        root=$("$each" --print sysroot 2>/dev/null) && [ -d "$root/$library" ] && readlink -f "$each" && return
     done
 }
 
@@ -259,7 +247,7 @@ test_windows() {
     for family in b s; do
         check_by_wine "edge_cases.c, blake2$family, for Windows" edge_cases
         check_by_wine "key_scan.c, blake2$family, for Windows" scan_for_keys
-        check_once_by_wine "libb2.c, blake2$family, for Windows" names_of_libb2 $family -DOWN_HEADER -I"$libb2" \
+        check_once_by_wine "libb2.c, blake2$family, for Windows" names_of_libb2 $family -I"$libb2" \
             "$prefix/lib/libvulfsjor-libb2.a"
     done
     check_by_wine "passed_arguments.py, for Windows, through thunks.h" passes_by_thunks
@@ -282,19 +270,14 @@ test_windows() {
         check_by_wine "b2sum.exe next to coreutils" sums_next_to_coreutils \
             "$([ -n "${VULFSJOR_TEST_HUGE-}" ] && echo 1 || echo 120)"
     fi
-    if has cmake; then
-        check_huge_by_wine "a project by CMake for Windows" project_for_windows OFF
-        check_by_wine "a project by CMake for Windows, with a DLL" project_for_windows ON
-    else
-        skip "a project by CMake for Windows" "no cmake"
-    fi
+    needs cmake
+    check_huge_by_wine "a project by CMake for Windows" project_for_windows OFF
+    check_by_wine "a project by CMake for Windows, with a DLL" project_for_windows ON
+    needs
     check "it is still the same server" "$server" -k0
     rustc=$(rustc_for_windows)
-    if [ -n "$rustc" ]; then
-        check_by_wine "the crate for Rust on Windows" crate_for_windows
-    else
-        skip "the crate for Rust on Windows" "no standard library of Rust for x86_64-pc-windows-gnu"
-    fi
+    [ -n "$rustc" ] || missing="no standard library of Rust for x86_64-pc-windows-gnu"
+    check_by_wine "the crate for Rust on Windows" crate_for_windows
 }
 
 part test_windows cases

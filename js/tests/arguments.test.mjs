@@ -1,28 +1,28 @@
-// The exact texts of what is refused, by each call with each of its arguments. conformance.test.mjs has what is
-// accepted.
+// The exact texts of what is refused, by each call with each of its arguments, and what is around a call and must not
+// change it: other kinds of memory, objects of other realms, what other code gives to all objects, and code of the
+// caller that runs during a call. conformance.test.mjs has what is accepted.
 import assert from "node:assert/strict";
+import { createHash } from "node:crypto";
 import test from "node:test";
 import vm from "node:vm";
 import * as vulfsjor from "../index.js";
 import { memories } from "../src/engine.js";
-import { assertClean } from "./common.mjs";
+import { assertClean, hexOf, INDEX, printedBy } from "./common.mjs";
 
 const {
-  Blake2b, Blake2bp, Blake2s, Blake2sp, Blake2xb, TreeHash, blake2b, blake2bStream, blake2bp, blake2bpStream, blake2s,
-  blake2spStream, deriveKey, equal, fromHex, hex, load, treeLeaves, treeRoot, treeRootOfLeaves, treeRootStream, utf8,
+  Blake2b, Blake2bp, Blake2s, Blake2sp, Blake2xb, TreeHash, blake2b, blake2bMany, blake2bStream, blake2bp,
+  blake2bpStream, blake2s, blake2sMany, blake2sStream, blake2sp, blake2spStream, deriveKey, equal, fromHex, hex, load,
+  treeLeaves, treeRoot, treeRootOfLeaves, treeRootStream, utf8,
 } = vulfsjor;
 const M = utf8("abc");
+const WANTED = createHash("blake2b512").update("abc").digest("hex");
 const bytes = (length) => new Uint8Array(length).fill(7);
 
 // Asserts the error of a call, of this class itself and with this text, and that the library's memories were not
 // touched.
 function refuses(call, Class, message) {
   const before = memories();
-  assert.throws(call, (fault) => {
-    assert.equal(fault.message, message);
-    assert.equal(fault.constructor, Class);
-    return true;
-  });
+  assert.throws(call, { message, constructor: Class });
   assert.deepEqual(memories().map((bytes, i) => bytes === before[i]), [true, true, true], message);
 }
 
@@ -143,46 +143,17 @@ for (const [caller, message, known, given = {}] of WITH_OPTIONS) {
       refuses(() => call({ ...given, [name]: undefined }), TypeError, `${caller}: ${name} must be given`);
     }
     if ("leafLength" in given) assert.throws(() => call(), { message: /: \w+ must be given$/ });
+    const what = caller === "treeRootOfLeaves" ? "digests" : "message";
+    if (isClass) refusesOthers((value) => call(given).update(value), `${caller.slice(4)}.update: message`);
+    else if (!caller.endsWith("Many")) refusesOthers((value) => vulfsjor[caller](value, given), `${caller}: ${what}`);
   });
 }
 
-for (const [name, most, offset] of [["blake2b", 64, 2n ** 64n - 1n], ["blake2s", 32, 2n ** 48n - 1n]]) {
-  testRefusals(`${name}: tree`, () => {
-    const at = (tree) => hex(vulfsjor[name](M, { tree }));
-    for (const [what, least, greatest] of [["fanout", 0, 255], ["depth", 1, 255], ["leafLength", 0, WORD],
-      ["nodeDepth", 0, 255], ["innerLength", 0, most]]) {
-      refusesNumbers((value) => at({ [what]: value }), `${name}: tree.${what}`, least, greatest);
-    }
-    assert.equal(at({ nodeOffset: 5 }), at({ nodeOffset: 5n }));
-    assert.equal(at({ nodeOffset: 2 ** 48 - 1 }), at({ nodeOffset: 2n ** 48n - 1n }));
-    for (const value of [-1, -1n, offset + 1n, 0.5, NaN, 2 ** 53]) {
-      refuses(() => at({ nodeOffset: value }), RangeError, `${name}: tree.nodeOffset must be an integer from 0 to ` +
-        `${offset}, not ${value}${value === 2 ** 53 ? " (pass a bigint)" : ""}`);
-    }
-    for (const [tree, message] of [
-      [{ nodeOffset: "5" }, "tree.nodeOffset must be a number or a bigint, not a string"],
-      [{ lastNode: 1 }, "tree.lastNode must be a boolean, not a number"],
-      [5, "tree must be a plain object, not a number"],
-      [{ leaf: 1 }, 'unknown property "leaf" of tree; known are fanout, depth, leafLength, nodeOffset, nodeDepth, ' +
-        "innerLength, lastNode"],
-    ]) {
-      refuses(() => at(tree), TypeError, `${name}: ${message}`);
-    }
-  });
-}
-
-testRefusals("what is not bytes is refused, wherever bytes are expected", () => {
+testRefusals("what is not bytes is refused, wherever else bytes are expected", () => {
   for (const [caller, what, call] of [
-    ...["blake2b", "blake2s", "blake2bp", "blake2sp"].map((name) => [name, "message", vulfsjor[name]]),
-    ...["Blake2b", "Blake2s", "Blake2bp", "Blake2sp", "Blake2xb", "Blake2xs"].map((name) =>
-      [`${name}.update`, "message", (value) => new vulfsjor[name]().update(value)]),
-    ["TreeHash.update", "message", (value) => new TreeHash(LEAF).update(value)],
     ["Blake2s.verify", "tag", (value) => new Blake2s().verify(value)],
     ["Blake2bp.verify", "tag", (value) => new Blake2bp({ key: M }).verify(value)],
-    ["treeRoot", "message", (value) => treeRoot(value, LEAF)],
-    ["blake2bMany", "message 1", (value) => vulfsjor.blake2bMany([M, value])],
-    ["treeLeaves", "message", (value) => treeLeaves(value, {})],
-    ["treeRootOfLeaves", "digests", (value) => treeRootOfLeaves(value, {})],
+    ["blake2bMany", "message 1", (value) => blake2bMany([M, value])],
     ["equal", "a", (value) => equal(value, M)], ["equal", "b", (value) => equal(M, value)], ["hex", "bytes", hex],
     ["deriveKey", "context", (value) => deriveKey(M, value, 9)],
   ]) {
@@ -191,26 +162,96 @@ testRefusals("what is not bytes is refused, wherever bytes are expected", () => 
   refusesOthers((value) => deriveKey(value, M, 9), "deriveKey: key", true);
 });
 
-testRefusals("lengths that are read or derived", () => {
+// What else is refused: the name of a function, a call, the class of the error, and the rest of its text.
+const inTree = (name, offset) => {
+  const at = (tree) => () => vulfsjor[name](M, { tree });
+  return [
+    ...[-1, -1n, offset + 1n, 0.5, NaN, 2 ** 53].map((value) => [name, at({ nodeOffset: value }), RangeError,
+      `tree.nodeOffset must be an integer from 0 to ${offset}, not ${value}` +
+        (value === 2 ** 53 ? " (pass a bigint)" : "")]),
+    [name, at({ nodeOffset: "5" }), TypeError, "tree.nodeOffset must be a number or a bigint, not a string"],
+    [name, at({ lastNode: 1 }), TypeError, "tree.lastNode must be a boolean, not a number"],
+    [name, at(5), TypeError, "tree must be a plain object, not a number"],
+    [name, at({ leaf: 1 }), TypeError, 'unknown property "leaf" of tree; known are fanout, depth, leafLength, ' +
+      "nodeOffset, nodeDepth, innerLength, lastNode"],
+  ];
+};
+const leaves = (options, message = new Uint8Array(10)) =>
+  treeLeaves(message, { leafLength: 5, first: 0, ends: true, ...options });
+const last = (2n ** 58n - 10n) / 5n; // leaf numbers whose range ends at 2^58 - 4, and 2^58 + 1
+const noRange = [
+  [{ ends: 1 }, TypeError, "ends must be a boolean, not a number"],
+  [{ first: "0" }, TypeError, "first must be a number or a bigint, not a string"],
+  [{ first: -1 }, RangeError, `first must be an integer from 0 to ${2n ** 58n - 1n}, not -1`],
+  [{ ends: false, leafLength: 4 }, RangeError,
+    "message must be whole leaves of 4 bytes, not 10 bytes, unless it ends"],
+  ...[{ ends: false }, { first: 1 }].map((options) =>
+    [options, RangeError, "message must have at least one leaf", new Uint8Array(0)]),
+  ...[{ first: last + 1n }, { first: 2n ** 58n - 10n, leafLength: 1 }].map((options) =>
+    [options, RangeError, "the leaves must end below byte 2^58 of the message"]),
+].map(([options, Class, message, bytes]) => ["treeLeaves", () => leaves(options, bytes), Class, message]);
+const noMessages = [
+  [undefined, "undefined"], [5, "a number"], ["abc", "a string"], [{}, "an object"],
+  ...[M, M.buffer, new DataView(M.buffer), new SharedArrayBuffer(3)].map((one) =>
+    [one, `an instance of ${one.constructor.name}; several messages are expected, not one`]),
+].flatMap(([value, said]) => ["blake2bMany", "blake2sMany"].map((many) =>
+  [many, () => vulfsjor[many](value), TypeError, `messages must be an iterable of bytes, not ${said}`]));
+const noDigits = [
+  "0", "0g", "0x12", " 12", "12 ", "１２", " abc", "abc ", "\tabc", "abc\n", " ab ", "1 2 ", "-1", "+1", "1.", "1e1_",
+  "\0\0", "aé",
+].map((text) =>
+  ["fromHex", () => fromHex(text), RangeError, "text must be an even number of hexadecimal digits"]);
+
+testRefusals("single values are refused", () => {
   const output = new Blake2xb({ outputLength: 9 }).update(M);
   const start = output.copy();
   refusesNumbers((length) => output.read(length), "Blake2xb.read: length", 0, 2 ** 31 - 1);
   refusesNumbers((length) => deriveKey(M, M, length), "deriveKey: length", 1, 2 ** 31 - 1);
   output.read(5);
-  for (const [call, Class, message] of [
-    [() => output.read(), TypeError, "Blake2xb.read: length must be given"],
-    [() => output.read(5), RangeError, "Blake2xb.read: only 4 bytes of the output are left"],
-    [() => output.update(M), TypeError, "Blake2xb.update: the output is already being read"],
-    [() => deriveKey(M, M), TypeError, "deriveKey: length must be given"],
-    [() => deriveKey(undefined, M, 9), TypeError, "deriveKey: key must be given"],
-    ...[0, 65].map((length) => [() => deriveKey(bytes(length), M, 9), RangeError,
-      `deriveKey: key must have 1 to 64 bytes, not ${length}`]),
+  for (const [name, call, Class, message] of [
+    ["Blake2xb.read", () => output.read(), TypeError, "length must be given"],
+    ["Blake2xb.update", () => output.update(M), TypeError, "the output is already being read"],
+    ["deriveKey", () => deriveKey(M, M), TypeError, "length must be given"],
+    ["deriveKey", () => deriveKey(undefined, M, 9), TypeError, "key must be given"],
+    ...[0, 65].map((length) => ["deriveKey", () => deriveKey(bytes(length), M, 9), RangeError,
+      `key must have 1 to 64 bytes, not ${length}`]),
+    ...inTree("blake2b", 2n ** 64n - 1n), ...inTree("blake2s", 2n ** 48n - 1n), ...noRange,
+    ...[0, 1, 63, 65].map((length) => ["treeRootOfLeaves", () => treeRootOfLeaves(bytes(length), { leafLength: 5 }),
+      RangeError, `digests must have 64 bytes for each leaf, not ${length} bytes`]),
+    ...noMessages, ...noDigits,
+    ...["\ud800", "a\udc00", "\udc00\ud800", "\ud83d"].map((text) =>
+      ["utf8", () => utf8(text), RangeError, "text has a lone surrogate"]),
+    ...[utf8, fromHex].map((call) => [call.name, () => call(5), TypeError, "text must be a string, not a number"]),
   ]) {
-    assert.throws(call, { name: Class.name, message });
+    refuses(call, Class, `${name}: ${message}`);
   }
+  for (const [name, most] of [["blake2b", 64], ["blake2s", 32]]) {
+    for (const [what, least, greatest] of [["fanout", 0, 255], ["depth", 1, 255], ["leafLength", 0, WORD],
+      ["nodeDepth", 0, 255], ["innerLength", 0, most]]) {
+      const call = (value) => vulfsjor[name](M, { tree: { [what]: value } });
+      refusesNumbers(call, `${name}: tree.${what}`, least, greatest);
+    }
+  }
+  assert.throws(() => output.read(5),
+    { name: "RangeError", message: "Blake2xb.read: only 4 bytes of the output are left" });
   assert.equal(hex(output.read(4)), hex(start.read(9).subarray(5))); // what was refused has changed nothing
+});
+
+test("values near those that are refused", () => {
+  for (const name of ["blake2b", "blake2s"]) {
+    for (const [one, other] of [[5, 5n], [2 ** 48 - 1, 2n ** 48n - 1n]]) {
+      assert.deepEqual(...[one, other].map((nodeOffset) => vulfsjor[name](M, { tree: { nodeOffset } })));
+    }
+    assert.deepEqual(vulfsjor[`${name}Many`]([]), []);
+    assert.deepEqual(vulfsjor[`${name}Many`](new Set([M])), [vulfsjor[name](M)]);
+  }
   assert.equal(deriveKey(bytes(32), M, 2 ** 16).length, 2 ** 16);
   assert.equal(hex(deriveKey(M, M, 9)), hex(new Blake2xb({ key: M, outputLength: 9 }).update(M).read(9)));
+  assert.equal(leaves({ first: last }).length, 128);
+  assert.deepEqual(utf8("aß€😀"), Uint8Array.from(Buffer.from("aß€😀")));
+  assert.deepEqual(["00fFaB", "", "01"].map(fromHex), [[0, 255, 171], [], [1]].map((bytes) => Uint8Array.from(bytes)));
+  assert.deepEqual([Uint8Array.of(0, 15, 255), new ArrayBuffer(2)].map(hex), ["000fff", "0000"]);
+  assert.deepEqual(["a", "b"].map(utf8), [Uint8Array.of(97), Uint8Array.of(98)]);
 });
 
 test("an option that is undefined is one that is not given, and a key that can be read is one", () => {
@@ -243,51 +284,12 @@ testRefusals("memory that was taken away is refused", () => {
     refuses(() => blake2b(taken(what)), TypeError, text("message"));
     refuses(() => blake2b(M, { key: taken(what) }), TypeError, text("key"));
   }
-  if (ArrayBuffer.prototype.resize === undefined) return;
   const buffer = new ArrayBuffer(20, { maxByteLength: 20 });
   const views = [new Uint8Array(buffer, 4, 12), new Uint8Array(buffer, 12), new DataView(buffer, 4, 12)];
   const follows = new Uint8Array(buffer, 2);
   buffer.resize(8);
   for (const view of views) refuses(() => blake2b(view), TypeError, text("message"));
   assert.deepEqual(blake2b(follows), blake2b(new Uint8Array(6)));
-});
-
-testRefusals("what is not a range of leaves is refused", () => {
-  const leaves = (options, message = new Uint8Array(10)) =>
-    treeLeaves(message, { leafLength: 5, first: 0, ends: true, ...options });
-  const far = "the leaves must end below byte 2^58 of the message";
-  const none = "message must have at least one leaf";
-  const last = (2n ** 58n - 10n) / 5n; // leaf numbers whose range ends at 2^58 - 4, and 2^58 + 1
-  for (const [options, Class, message, bytes] of [
-    [{ ends: 1 }, TypeError, "ends must be a boolean, not a number"],
-    [{ first: "0" }, TypeError, "first must be a number or a bigint, not a string"],
-    [{ first: -1 }, RangeError, `first must be an integer from 0 to ${2n ** 58n - 1n}, not -1`],
-    [{ ends: false, leafLength: 4 }, RangeError,
-      "message must be whole leaves of 4 bytes, not 10 bytes, unless it ends"],
-    [{ ends: false }, RangeError, none, new Uint8Array(0)], [{ first: 1 }, RangeError, none, new Uint8Array(0)],
-    [{ first: last + 1n }, RangeError, far], [{ first: 2n ** 58n - 10n, leafLength: 1 }, RangeError, far],
-  ]) {
-    refuses(() => leaves(options, bytes), Class, `treeLeaves: ${message}`);
-  }
-  for (const length of [0, 1, 63, 65]) {
-    refuses(() => treeRootOfLeaves(new Uint8Array(length), { leafLength: 5 }), RangeError,
-      `treeRootOfLeaves: digests must have 64 bytes for each leaf, not ${length} bytes`);
-  }
-  assert.equal(leaves({ first: last }).length, 128);
-});
-
-testRefusals("several messages", () => {
-  for (const [many, one] of [[vulfsjor.blake2bMany, blake2b], [vulfsjor.blake2sMany, blake2s]]) {
-    assert.deepEqual(many([]), []);
-    assert.deepEqual(many(new Set([M])), [one(M)]);
-    for (const [value, said] of [
-      [undefined, "undefined"], [5, "a number"], ["abc", "a string"], [{}, "an object"],
-      ...[M, M.buffer, new DataView(M.buffer), new SharedArrayBuffer(3)].map((one) =>
-        [one, `an instance of ${one.constructor.name}; several messages are expected, not one`]),
-    ]) {
-      refuses(() => many(value), TypeError, `${many.name}: messages must be an iterable of bytes, not ${said}`);
-    }
-  }
 });
 
 testRefusals("one argument more is refused, except by five calls that ignore it", async () => {
@@ -358,23 +360,115 @@ test("streams reject what calls refuse", async () => {
   }
 });
 
-testRefusals("utf8, fromHex, hex", () => {
-  assert.deepEqual(utf8("aß€😀"), Uint8Array.from(Buffer.from("aß€😀")));
-  for (const text of ["\ud800", "a\udc00", "\udc00\ud800", "\ud83d"]) {
-    refuses(() => utf8(text), RangeError, "utf8: text has a lone surrogate");
+test("bytes of other realms, of subclasses, and of objects that lie about themselves", () => {
+  const foreign = vm.runInNewContext("({ u: Uint8Array.of(97, 98, 99), b: Uint8Array.of(97, 98, 99).buffer, o: {} })");
+  class Liar extends Uint8Array {
+    get length() { return 1; }
+    get byteLength() { return 2; }
+    get buffer() { return new ArrayBuffer(3); }
+    get byteOffset() { return 1; }
+    subarray() { return M; }
+    static get [Symbol.species]() { return Array; }
   }
-  for (const text of [
-    "0", "0g", "0x12", " 12", "12 ", "１２", " abc", "abc ", "\tabc", "abc\n", " ab ", "1 2 ", "-1", "+1", "1.",
-    "1e1_", "\0\0", "aé",
+  assert.deepEqual([
+    blake2b(foreign.u), blake2b(foreign.b, foreign.o), blake2b(Liar.of(97, 98, 99)),
+    new Blake2b().update(Liar.of(97, 98)).update(Liar.of(99)).digest(),
+  ].map(hexOf), Array(4).fill(WANTED));
+  assert.equal(hex(Liar.of(97, 98, 99)), "616263");
+  assert.deepEqual(blake2b(new Uint16Array([0x6261])), blake2b(utf8("ab")));
+  assert.deepEqual(blake2b(new Float64Array(2)), blake2b(new Uint8Array(16)));
+});
+
+// A program that makes calls after Object.prototype has these properties, which it has before or after the import.
+const POLLUTED = `
+  const ours = [...Array(10).keys(), 32, 64, "node", "isPlain", "tree", "leafLength", "options", "keyLength"];
+  const all = [...ours, "key", "digestLength", "salt", "personalization", "fanout", "lastNode", "signal", "onProgress"];
+  const pollute = (names, value) => names.forEach((name) => (Object.prototype[name] = value));
+  if (IS_BEFORE) pollute(ours, "0"); // node itself cannot import with all
+  const { Blake2b, Blake2s, Blake2xb, blake2b, blake2bMany, blake2bStream, blake2bp, blake2s, equal, treeRoot, utf8 } =
+    await import(INDEX);
+  const digestsOf = async () => {
+    const [message, key, salt] = [utf8("a message"), utf8("a key"), utf8("salt")];
+    const digests = [
+      blake2b(message), blake2b(message, {}), blake2b(message, { key }), blake2s(message, { digestLength: 7 }),
+      blake2b(message, { key, salt }), new Blake2b({ key, salt }).update(message).digest(),
+      new Blake2s().update(message).digest(), new Blake2s().digest(), blake2b(message, { tree: {} }),
+      blake2bMany([message, salt], { key })[1], treeRoot(message, { leafLength: 5, salt }),
+      new Blake2xb({ key }).update(message).read(9), blake2bp(message, { key }), await blake2bStream([message]),
+    ];
+    const isEqual = [equal(message, message.slice()), equal(salt, utf8("pepper").subarray(0, 4))];
+    return [digests.map((digest) => Buffer.from(digest).toString("hex")), isEqual].join();
+  };
+  const results = [];
+  for (const value of ["0", 5]) {
+    pollute(all, value);
+    results.push(await digestsOf());
+  }
+  for (const name of all) delete Object.prototype[name];
+  console.log([...results, await digestsOf()].join("\\n"));`;
+
+test("what other code gives to all objects is no option, no length, no state and no digest", () => {
+  const run = (isBefore) => printedBy(`const [INDEX, IS_BEFORE] = [${INDEX}, ${isBefore}];${POLLUTED}`).split("\n");
+  const results = [...run(true), ...run(false)].filter(Boolean);
+  assert.equal(results.length, 6);
+  assert.equal(new Set(results).size, 1);
+  assert.ok(results[0].startsWith(createHash("blake2b512").update("a message").digest("hex")), results[0]);
+  assert.match(results[0], /,true,false$/);
+});
+
+test("it works without SharedArrayBuffer and Blob, as in some browsers", () => {
+  const printed = printedBy(`delete globalThis.SharedArrayBuffer;
+    delete globalThis.Blob;
+    const { blake2b, blake2bStream, hex } = await import(${INDEX});
+    const source = (async function* () { yield Uint8Array.of(97, 98, 99).buffer; })();
+    console.log(hex(blake2b(Uint8Array.of(97, 98, 99).buffer)));
+    console.log(hex(await blake2bStream(source)));`);
+  assert.equal(printed, `${WANTED}\n${WANTED}\n`);
+});
+
+test("options are read once, by a stream too, and code of theirs may hash", async () => {
+  let count = 0;
+  const options = {
+    get key() {
+      count++;
+      blake2s(bytes(1000), { key: bytes(9) });
+      return bytes(3);
+    },
+  };
+  assert.deepEqual(blake2b(M, options), blake2b(M, { key: bytes(3) }));
+  assert.equal(count, 1);
+  const tree = { get fanout() { return ++count; } };
+  assert.deepEqual(await blake2bStream(new Blob([M]), { tree }), blake2b(M, { tree: { fanout: 2 } }));
+  assert.equal(count, 2);
+});
+
+test("memory that code of the caller takes away during a call is no key of no bytes", async () => {
+  const take = (view) => structuredClone(0, { transfer: [view.buffer] });
+  const newKey = () => new Uint8Array(new ArrayBuffer(9)).fill(7);
+  const gone = { name: "TypeError", message: /the memory of key is detached or has shrunk$/ };
+  for (const call of [
+    (key, tree) => blake2b(M, { key, tree }), (key, tree) => new Blake2b({ tree, key }),
+    (key, tree) => blake2s(M, { tree, key }),
   ]) {
-    refuses(() => fromHex(text), RangeError, "fromHex: text must be an even number of hexadecimal digits");
+    const key = newKey();
+    assert.throws(() => call(key, { get depth() { take(key); } }), gone, String(call));
   }
-  for (const call of [utf8, fromHex]) {
-    refuses(() => call(5), TypeError, `${call.name}: text must be a string, not a number`);
+  for (const many of [blake2bMany, blake2sMany]) {
+    const key = newKey();
+    assert.throws(() => many((function* () { take(key); yield M; })(), { key }), gone);
+    const message = newKey();
+    assert.throws(() => many((function* () { yield message; take(message); })()),
+      { name: "TypeError", message: /the memory of message 0 is detached or has shrunk$/ });
   }
-  assert.deepEqual(fromHex("00fFaB"), Uint8Array.of(0, 255, 171));
-  assert.deepEqual(fromHex(""), new Uint8Array(0));
-  assert.deepEqual([Uint8Array.of(0, 15, 255), new ArrayBuffer(2)].map(hex), ["000fff", "0000"]);
-  assert.deepEqual(["00", "01"].map(fromHex).map(hex), ["00", "01"]);
-  assert.deepEqual(["a", "b"].map(utf8), [Uint8Array.of(97), Uint8Array.of(98)]);
+  for (const stream of [blake2bStream, blake2sStream]) {
+    const key = newKey();
+    const source = { [Symbol.iterator]() { take(key); return [M][Symbol.iterator](); } };
+    await assert.rejects(stream(source, { key }), gone);
+  }
+  for (const [hash, more] of [[blake2b, {}], [blake2sp, {}], [treeRoot, { leafLength: 5 }]]) {
+    const message = newKey();
+    assert.throws(() => hash(message, { ...more, get salt() { take(message); } }), TypeError);
+    blake2b(M);
+    assertClean();
+  }
 });

@@ -86,10 +86,9 @@ const BROWSERS = {
   },
   async "firefox-esr"(url) {
     if (!hasCommand("firefox-esr")) return undefined;
-    const folder = newFolder();
-    const words = ["--headless", "--no-remote", "--profile", folder, url];
+    const words = ["--headless", "--no-remote", "--profile", newFolder(), url];
     const child = spawn("firefox-esr", words, { stdio: "ignore", detached: true });
-    return () => endBrowser(child, folder);
+    return () => endBrowser(child);
   },
 };
 for (const [name, open] of Object.entries(BROWSERS)) {

@@ -36,93 +36,84 @@ writeFileSync(pathOf("app.mjs"), PROGRAM);
 writeFileSync(pathOf("path.mjs"), byPath(PROGRAM));
 
 const run = promisify(execFile);
+// The words by which each bundler writes a format of a program into a file. Those of webpack are its defaults.
+const WORDS = {
+  esbuild: (from, to, format) => [from, "--bundle", "--log-level=warning", `--format=${format}`, `--outfile=${to}`,
+    ...(format === "iife" ? ["--minify"] : [])],
+  rollup: (from, to, format) => [from, "--silent", "--format", format === "esm" ? "es" : format, "--file", to],
+  webpack: (from, to) => ["--mode", "production", "--entry", `./${from}`, "--output-path", dirname(pathOf(to)),
+    "--output-filename", basename(to), "--stats", "errors-warnings"],
+};
+
 // Bundles, and asserts that the bundler had no remark.
-async function bundle(command, ...words) {
+async function bundle(command, from, to, format = "esm", ...more) {
+  const words = [...WORDS[command](from, to, format), ...more];
   const { stdout, stderr } = await run(command, words, { cwd: folder });
   const remarks = (stdout + stderr).replace("webpack compiled successfully\n", "");
   assert.equal(remarks, "", `${command} ${words.join(" ")}`);
 }
 
-// What each bundler writes for each format, in a folder of its own with no other file.
-const BUNDLERS = {
-  esbuild: (format, file) => bundle("esbuild", "app.mjs", "--bundle", "--log-level=warning",
-    `--format=${format}`, `--outfile=${file}`, ...(format === "iife" ? ["--minify"] : [])),
-  rollup: (format, file) => bundle("rollup", "path.mjs", "--silent", "--format",
-    format === "esm" ? "es" : format, "--file", file),
-};
-
 // A test that is skipped if there is no bundler of this name.
 const testOf = (command, name, work) => test(name, (t) => (hasCommand(command) ? work(t) : t.skip(`no ${command}`)));
 
-for (const [command, write] of Object.entries(BUNDLERS)) {
+// Each bundle is in a folder of its own with no other file.
+for (const [command, program] of [["esbuild", "app.mjs"], ["rollup", "path.mjs"]]) {
   testOf(command, `bundles of ${command} start their workers in node`, async () => {
     await Promise.all(["esm", "iife", "cjs"].map(async (format) => {
       const file = `${command}-${format}/app.${format === "esm" ? "mjs" : "cjs"}`;
-      await write(format, file);
+      await bundle(command, program, file, format);
       const { stdout } = await run(process.execPath, [pathOf(file)]);
       assert.deepEqual(JSON.parse(stdout), [WANTED], `${command} ${format}`);
     }));
   });
 }
 
-// A program that imports one hash, and what it prints: hashlib's digests of abc.
-const oneHash = (name) => `import { ${name} } from "vulfsjor";
-  console.log(${name}(Uint8Array.of(97, 98, 99), { digestLength: 4 }).join());`;
-const DIGESTS = { blake2b: "99,144,98,72", blake2s: "223,113,1,211" };
 // The most bytes of a bundle of one hash; not minified, with comments.
 const MOST = 40_000;
 const MOST_LONG = 80_000;
 
-// How each bundler makes a small bundle: a command, its words, and the most bytes of the bundle. The defaults of
-// esbuild and webpack, and rollup with the plugin that finds packages, read in package.json that the files have no
-// side effects. Rollup without it is given a path.
-const SMALL = [
-  ["esbuild", (from, to) => [from, "--bundle", "--minify", "--format=esm", "--log-level=warning",
-    `--outfile=${to}`], MOST],
-  ["rollup", (from, to) =>
-    ["--plugin", "node-resolve", from, "--silent", "--format", "es", "--file", to], MOST_LONG],
-  ["rollup", (from, to) => [from, "--silent", "--format", "es", "--file", to], MOST_LONG, byPath],
-  ["webpack", (from, to) => ["--mode", "production", "--entry", `./${from}`, "--output-path",
-    dirname(pathOf(to)), "--output-filename", basename(to), "--stats", "errors-warnings"], MOST],
-];
+// Asserts that a bundle of what a program imports has at most so many bytes, and prints this, if anything is given.
+async function assertSmall(command, [names, most, printed], program, ...more) {
+  const [from, to] = ["small.mjs", `${command}-small/app.mjs`];
+  writeFileSync(pathOf(from), program);
+  await bundle(command, from, to, "esm", ...more);
+  const { length } = readFileSync(pathOf(to));
+  assert.ok(length <= most, `${length} bytes of ${names} by ${command}`);
+  if (printed) assert.equal((await run(process.execPath, [pathOf(to)])).stdout, printed);
+}
 
-for (const [command, wordsOf, most, form] of SMALL) {
-  const how = form === undefined ? command : `${command} without a plugin`;
+// The defaults of esbuild and webpack, and rollup with the plugin that finds packages, read in package.json that the
+// files have no side effects. Rollup without it is given a path.
+for (const [command, how, most, form, ...more] of [
+  ["esbuild", "esbuild", MOST, String, "--minify"],
+  ["rollup", "rollup", MOST_LONG, String, "--plugin", "node-resolve"],
+  ["rollup", "rollup without a plugin", MOST_LONG, byPath], ["webpack", "webpack", MOST, String],
+]) {
   testOf(command, `a bundle by ${how} has only the hash that its program imports`, async (t) => {
-    for (const [name, wanted] of Object.entries(DIGESTS)) {
-      const [from, to] = [`${name}.mjs`, `${command}-${name}/app.mjs`];
-      writeFileSync(pathOf(from), form?.(oneHash(name)) ?? oneHash(name));
+    // hashlib's digests of abc
+    for (const [name, wanted] of [["blake2b", "99,144,98,72\n"], ["blake2s", "223,113,1,211\n"]]) {
+      const program = form(`import { ${name} } from "vulfsjor";
+        console.log(${name}(Uint8Array.of(97, 98, 99), { digestLength: 4 }).join());`);
       try {
-        await bundle(command, ...wordsOf(from, to));
+        await assertSmall(command, [name, most, wanted], program, ...more);
       } catch (fault) {
         if (!/Cannot find package|Cannot load plugin/.test(fault.stderr)) throw fault;
         return t.skip(`${command} has no plugin that finds packages`);
       }
-      const { stdout } = await run(process.execPath, [pathOf(to)]);
-      assert.equal(stdout, `${wanted}\n`);
-      const { length } = readFileSync(pathOf(to));
-      t.diagnostic(`${name}: ${length} bytes`);
-      assert.ok(length <= most, `${length} bytes of ${name} by ${command}`);
     }
   });
 }
 
 testOf("esbuild", "other programs get what they import, too", async () => {
-  const sizeOf = async (names) => {
-    writeFileSync(pathOf("names.mjs"), `import { ${names} } from "vulfsjor"; console.log(${names});`);
-    await bundle("esbuild", "names.mjs", "--bundle", "--minify", "--format=esm",
-      "--log-level=warning", "--outfile=names/app.mjs");
-    return readFileSync(pathOf("names/app.mjs")).length;
-  };
+  const assertSize = (names, most) => assertSmall("esbuild", [names, most],
+    `import { ${names} } from "vulfsjor"; console.log(${names});`, "--minify");
   for (const [names, most] of [
-    ["blake2b", MOST], ["blake2s", MOST], ["hex, utf8, fromHex", 5_000],
-    ["Blake2b", 46_000], ["Blake2s", 46_000], ["blake2bStream", 51_000], ["blake2sStream", 51_000],
-    ["blake2b, blake2s", 65_000],
+    ["hex, utf8, fromHex", 5_000], ["Blake2b", 46_000], ["Blake2s", 46_000], ["blake2bStream", 51_000],
+    ["blake2sStream", 51_000], ["blake2b, blake2s", 65_000],
   ]) {
-    const size = await sizeOf(names);
-    assert.ok(size <= most, `${size} bytes of ${names}`);
+    await assertSize(names, most);
   }
-  assert.ok(await sizeOf("treeRoot") > 300_000); // the module with all functions
+  await assert.rejects(assertSize("treeRoot", 300_000), /bytes of treeRoot/); // the module with all functions
 });
 
 const PAGES = {
@@ -158,12 +149,10 @@ async function assertPages(t, pages) {
 const NO_WORKER = /^Error: it could not be started$/;
 
 testOf("esbuild", "workers start in Chromium with esbuild and without, or one thread hashes", async (t) => {
-  const build = BUNDLERS.esbuild;
   await Promise.all([
-    build("esm", "alone/app.mjs"), build("iife", "alone/app.js"), build("esm", "beside/app.mjs"),
-    // as README says
-    bundle("esbuild", WORKER, "--bundle", "--log-level=warning", "--format=esm",
-      "--outfile=beside/vulfsjor_worker.js"),
+    bundle("esbuild", "app.mjs", "alone/app.mjs"), bundle("esbuild", "app.mjs", "alone/app.js", "iife"),
+    bundle("esbuild", "app.mjs", "beside/app.mjs"),
+    bundle("esbuild", WORKER, "beside/vulfsjor_worker.js"), // as README says
   ]);
   cpSync(pathOf("path.mjs"), pathOf("plain/app.mjs"));
   cpSync(pathOf("node_modules"), pathOf("plain/node_modules"), { recursive: true });
@@ -180,8 +169,7 @@ testOf("esbuild", "workers start in Chromium with esbuild and without, or one th
 
 // The module makes a bundle larger than webpack recommends.
 testOf("webpack", "webpack finds the file of the worker", async (t) => {
-  await bundle("webpack", "--mode", "production", "--entry", "./app.mjs", "--output-path",
-    "webpack", "--output-filename", "app.js", "--stats", "errors-warnings", "--no-performance");
+  await bundle("webpack", "app.mjs", "webpack/app.js", "iife", "--no-performance");
   await assertPages(t, [
     ["webpack", "script", "none given"], ["webpack", "script", "blob:"],
     ["webpack", "script", "'self'"], ["webpack", "script", "'none'", NO_WORKER],

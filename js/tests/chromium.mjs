@@ -2,22 +2,17 @@
 // process share one Chromium.
 import { spawn } from "node:child_process";
 import { once } from "node:events";
-import { mkdtempSync, rmSync } from "node:fs";
-import { tmpdir } from "node:os";
-import { join } from "node:path";
 import { after } from "node:test";
 import { setTimeout as sleep } from "node:timers/promises";
+import { newFolder } from "./common.mjs";
 
 const WORDS = [
   "--headless=new", "--no-sandbox", "--disable-gpu", "--remote-debugging-pipe", "--no-first-run",
   "--disable-dev-shm-usage", "--disable-background-networking",
 ];
 
-/**
- * Kills all processes of the group that a browser leads, then removes its folder. A process that was killed while it
- * made a file can still put it there: then the folder is removed again.
- */
-export async function endBrowser(browser, folder) {
+/** Kills all processes of the group that a browser leads. Its folder is removed when this process ends. */
+export async function endBrowser(browser) {
   const exited = new Promise((resolve) => browser.on("exit", resolve));
   try {
     process.kill(-browser.pid, "SIGKILL");
@@ -25,20 +20,11 @@ export async function endBrowser(browser, folder) {
     if (fault.code !== "ESRCH") throw fault;
   }
   if (browser.exitCode === null && browser.signalCode === null) await exited;
-  for (let left = 50; ; left--) {
-    try {
-      return rmSync(folder, { recursive: true, force: true });
-    } catch (fault) {
-      if (!left) throw fault;
-      await sleep(100);
-    }
-  }
 }
 
 // Starts Chromium. Rejects if there is none.
 async function startChromium() {
-  const profile = mkdtempSync(join(tmpdir(), "vulfsjor-chromium-"));
-  const child = spawn(process.env.CHROMIUM ?? "chromium", [...WORDS, `--user-data-dir=${profile}`],
+  const child = spawn(process.env.CHROMIUM ?? "chromium", [...WORDS, `--user-data-dir=${newFolder()}`],
     { stdio: ["ignore", "ignore", "ignore", "pipe", "pipe"], detached: true });
   const [, , , input, output] = child.stdio;
   await once(child, "spawn");
@@ -81,9 +67,7 @@ async function startChromium() {
       if (method === "Network.requestWillBeSent") requests.push(params.request.url);
     });
     const call = (method, params) => send(method, params, sessionId);
-    for (const domain of ["Page", "Runtime", "Log", "Network", "DOM"]) {
-      await call(`${domain}.enable`);
-    }
+    for (const domain of ["Page", "Runtime", "Log", "Network", "DOM"]) await call(`${domain}.enable`);
     await call("Emulation.setDeviceMetricsOverride", { width, height: 900, deviceScaleFactor: 1, mobile: false });
     await call("Page.navigate", { url });
     const evaluate = async (expression) => {
@@ -111,7 +95,7 @@ async function startChromium() {
 
   async function close() {
     await send("Browser.close").catch(() => {});
-    await endBrowser(child, profile);
+    await endBrowser(child);
   }
   return { open, close };
 }

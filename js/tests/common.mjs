@@ -1,11 +1,14 @@
 // Helpers of several tests.
 import assert from "node:assert/strict";
 import { execFileSync, spawnSync } from "node:child_process";
-import { mkdtempSync, readFileSync, rmSync } from "node:fs";
+import { mkdtempSync, readFileSync, rmSync, writeFileSync } from "node:fs";
+import { open } from "node:fs/promises";
 import { createServer } from "node:http";
 import { tmpdir } from "node:os";
 import { extname, join } from "node:path";
 import { fileURLToPath } from "node:url";
+import v8 from "node:v8";
+import vm from "node:vm";
 import { SLAB, memories } from "../src/engine.js";
 
 /** Whether this is the full test, and the options of a test that only it has. */
@@ -16,6 +19,11 @@ export const LONG = { skip: HUGE ? false : "VULFSJOR_TEST_HUGE is not set" };
 export const top = fileURLToPath(new URL("..", import.meta.url));
 
 export const hexOf = (bytes) => Buffer.from(bytes.buffer, bytes.byteOffset, bytes.length).toString("hex");
+
+v8.setFlagsFromString("--expose-gc");
+
+/** Collects what is no longer used. */
+export const collect = vm.runInNewContext("gc");
 
 let zeros = Buffer.alloc(0);
 
@@ -68,12 +76,32 @@ export function noteStates(states, work, number = -1) {
 }
 
 const folders = [];
-process.on("exit", () => folders.forEach((folder) => rmSync(folder, { recursive: true, force: true })));
+process.on("exit", () => folders.forEach((folder) => remove(folder)));
+
+// A process that was killed while it made a file can still put it there: then its folder is removed again.
+function remove(folder, left = 50) {
+  try {
+    rmSync(folder, { recursive: true, force: true, maxRetries: 3, retryDelay: 10 });
+  } catch (fault) {
+    if (!left) throw fault;
+    remove(folder, left - 1);
+  }
+}
 
 /** A folder that is removed when the process ends. */
 export function newFolder() {
   folders.push(mkdtempSync(join(tmpdir(), "vulfsjor-")));
   return folders.at(-1);
+}
+
+/** A file of a message that is open in node until the end of a test, and its path and its folder. */
+export async function openFile(t, message) {
+  const folder = newFolder();
+  const path = join(folder, "message");
+  writeFileSync(path, message);
+  const file = await open(path, "r+");
+  t.after(() => file.close());
+  return { folder, path, file };
 }
 
 let written = process.env.VULFSJOR_CONFORMANCE;

@@ -1,5 +1,5 @@
-// The conformance cases (tests/conformance/README.md) over the modules of the package, after some of which nothing is
-// left in the library's memory, and some cases over the module that the proved source compiles to.
+// The conformance cases (tests/conformance/README.md) over the modules of the package, where nothing is left in the
+// library's memory after a call, and some cases over the module that the proved source compiles to.
 import assert from "node:assert/strict";
 import { execFileSync } from "node:child_process";
 import { join } from "node:path";
@@ -14,7 +14,7 @@ const SKIPPED = { blake2b: 43, blake2s: 43, blake2bp: 0, blake2sp: 0, blake2xb: 
 for (const hash of HASHES) {
   test(`the conformance cases of ${hash}`, () => {
     let count = 0;
-    const isClean = (name) => count++ % 23 === 1 && assertClean(`after ${name}`);
+    const isClean = (name) => count++ % 7 === 1 && assertClean(`a call of ${name}`);
     const { cases, skipped, wrong } = tryCases(vulfsjor, casesOf(hash), isClean);
     assert.deepEqual(wrong.slice(0, 5), []);
     assert.deepEqual([cases > 1000, skipped], [true, SKIPPED[hash]]);

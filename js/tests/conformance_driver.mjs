@@ -138,7 +138,10 @@ class Driver {
       check(this.isKeyed[slot], "verify accepts a digest without a key");
       return "yes";
     } catch (error) {
-      if (error instanceof this.vulfsjor.InvalidTagError) return "no";
+      if (error instanceof this.vulfsjor.InvalidTagError) {
+        check(error.message === `${hash.constructor.name}.verify: the tag is wrong`, error.message);
+        return "no";
+      }
       if (this.isKeyed[slot] || !(error instanceof TypeError && NO_KEY.test(error.message))) throw error;
       return this.equal([hexOf(hash.digest()), tag]);
     }
@@ -208,8 +211,8 @@ function isOutcome(got, wanted, call) {
 }
 
 /**
- * Tries the cases of a file. Returns how many there were and how many ended early, and what was wrong. Before each
- * case, isClean gets the name of the one before it. `count` only asks for a number, which the package does not have.
+ * Tries the cases of a file. Returns how many there were and how many ended early, and what was wrong. After each call,
+ * isClean gets the name of the case. `count` only asks for a number, which the package does not have.
  */
 export function tryCases(vulfsjor, text, isClean = () => {}) {
   const [found, wrong] = [{ cases: 0, skipped: 0 }, []];
@@ -217,7 +220,6 @@ export function tryCases(vulfsjor, text, isClean = () => {}) {
   let name;
   for (const line of text.split("\n")) {
     if (line.startsWith("case ")) {
-      isClean(name);
       found.cases++;
       name = line.slice(5);
       driver = new Driver(vulfsjor);
@@ -231,6 +233,7 @@ export function tryCases(vulfsjor, text, isClean = () => {}) {
       continue;
     }
     const got = outcomeOf(driver, call);
+    isClean(name);
     if (isOutcome(got, wanted, call)) continue;
     wrong.push(`${name}: ${line.slice(0, 200)}\n  gives ${String(got).slice(0, 200)}`);
     driver = undefined;

@@ -16,8 +16,7 @@ import { assertClean, assertZeros, withOthers } from "./common.mjs";
 
 const calls = [];
 const passed = {}; // all arguments of the last call of a function
-let refused; // the name of a function that refuses
-let refusedIn; // the memory of the last that did
+const refusal = {}; // the name of a function that refuses, and the memory of the last that did
 const { Instance } = WebAssembly;
 const { WAITING } = engine;
 // The place of the argument that says how much a function is given.
@@ -35,8 +34,8 @@ class Noting {
         const called = name.replace("vulfsjor_ffi_", "");
         calls.push(`${called} ${given[placeOf(called)] ?? ""}`.trim());
         passed[called] = given;
-        if (called !== refused) return value(...given);
-        refusedIn = exports.memory.buffer;
+        if (called !== refusal.name) return value(...given);
+        refusal.memory = exports.memory.buffer;
         return -1;
       }];
     }));
@@ -61,14 +60,7 @@ const updates = (name, length) => [
   ...Array(Math.floor(length / PIECE)).fill(`${name}_update ${PIECE}`), `${name}_update ${length % PIECE}`];
 
 // Some work in which a function of the library refuses.
-function whileRefused(name, work) {
-  refused = name;
-  try {
-    work();
-  } finally {
-    refused = undefined;
-  }
-}
+const whileRefused = (name, work) => withOthers(refusal, { name }, work);
 
 // Asserts the calls of some work.
 function assertCalls(work, ...wanted) {
@@ -198,10 +190,10 @@ testCalls("what the library refuses is an error, and the memory is given up", ()
     ["blake2sp_update", () => blake2sp(part(PIECE + 1)), "vulfsjor: the message is too long"],
     ["blake2b_update", () => blake2b(part(PIECE + 1)), "vulfsjor: the message is too long"],
   ]) {
-    refusedIn = undefined;
+    refusal.memory = undefined;
     whileRefused(name, () => assert.throws(work, { name: "Error", message }, name));
-    assertZeros(new Uint8Array(refusedIn), name);
-    assert.ok(engine.memories().every(({ buffer }) => buffer !== refusedIn), name);
+    assertZeros(new Uint8Array(refusal.memory), name);
+    assert.ok(engine.memories().every(({ buffer }) => buffer !== refusal.memory), name);
   }
 });
 

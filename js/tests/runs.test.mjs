@@ -4,13 +4,11 @@ import assert from "node:assert/strict";
 import { createHash } from "node:crypto";
 import test from "node:test";
 import { inspect } from "node:util";
-import v8 from "node:v8";
-import vm from "node:vm";
 import * as vulfsjor from "../index.js";
 import { BLAKE2B } from "../src/blake2b.js";
 import { SLAB, memories } from "../src/engine.js";
 import { BLAKE2XB } from "../src/whole_module.js";
-import { assertClean, assertZeros, hexOf, INDEX, noteStates, printedBy, withOthers } from "./common.mjs";
+import { assertClean, assertZeros, collect, hexOf, INDEX, noteStates, printedBy, withOthers } from "./common.mjs";
 
 const {
   Blake2b, Blake2bp, Blake2s, Blake2sp, Blake2xb, Blake2xs, InvalidTagError, TreeHash, blake2b, blake2bMany, blake2bp,
@@ -27,6 +25,8 @@ const HASHERS = [
 ];
 const OUTPUTS = [[Blake2xb, { key: KEY }], [Blake2xs, {}]];
 const isSmall = (Hash) => /2x?s/.test(Hash.name);
+const isState = (bytes) => bytes.some((byte) => byte !== 0);
+const statesLeft = (states) => [...states].filter(isState).length;
 
 test("a run that has ended refuses all but wipe", () => {
   for (const [Hash, options] of [...HASHERS, ...OUTPUTS]) {
@@ -34,58 +34,18 @@ test("a run that has ended refuses all but wipe", () => {
     for (const end of ["wipe", DISPOSE, ...(isOutput ? [] : ["hex", "digest"])]) {
       const run = new Hash(options).update(M);
       run[end]();
+      const why = isOutput
+        ? "output was wiped, or a call failed" : "hash has ended, by digest, hex, verify, wipe or a failed call";
       for (const [call, ...words] of [["update", M], ["copy"],
         ...(isOutput ? [["read", 1]] : [["digest"], ["hex"], ["verify", M], ["reset"]])]) {
-        assert.throws(() => run[call](...words), { name: "TypeError", message: `${Hash.name}.${call}: this ` + (isOutput
-          ? "output was wiped, or a call failed" : "hash has ended, by digest, hex, verify, wipe or a failed call") });
+        const message = `${Hash.name}.${call}: this ${why}`;
+        assert.throws(() => run[call](...words), { name: "TypeError", message });
       }
       run.wipe();
       assert.equal(run.blockLength, isSmall(Hash) ? 64 : 128);
       if (isOutput) assert.throws(() => run.left, { message: /: this output was wiped, or a call failed$/ });
       else assert.equal(run.digestLength, options.digestLength ?? (isSmall(Hash) ? 32 : 64));
     }
-  }
-});
-
-test("a check whose result is dropped stops the program, and is not true", () => {
-  for (const [Hash, options] of HASHERS.filter(([, options]) => options.key || options.leafLength)) {
-    const accept = (body, tag) => {
-      new Hash(options).update(body).verify(tag);
-      return body;
-    };
-    const tag = new Hash(options).update(M).digest();
-    assert.equal(accept(M, tag), M);
-    assert.equal(new Hash(options).update(M).verify(tag), undefined);
-    for (const wrong of [tag.subarray(0, 16), new Uint8Array(0), KEY]) {
-      assert.throws(() => accept(M, wrong), InvalidTagError);
-    }
-    const message = `${Hash.name}.verify: the tag is wrong`;
-    assert.throws(() => accept(KEY, tag), { name: "InvalidTagError", message });
-    for (const wrong of [undefined, hex(tag)]) assert.throws(() => accept(M, wrong), TypeError);
-  }
-});
-
-test("nothing is left in the library's memory after a call, however long its message or output is", () => {
-  for (const [Hash, options] of [...HASHERS, ...OUTPUTS]) {
-    const run = new Hash(options);
-    for (const length of [513, 65537, 600000]) {
-      run.update(new Uint8Array(length).fill(0x5a));
-      assertClean(`update of ${length}`);
-      const copy = run.copy();
-      if ("read" in run) {
-        const whole = copy.copy().read(130_000);
-        assertClean("read");
-        assert.equal(hex(Buffer.concat([65537, 64463].map((count) => copy.read(count)))), hex(whole));
-        assert.equal(copy.left, (Hash === Blake2xb ? 2n ** 38n : 2n ** 37n) - 130_000n);
-      } else {
-        copy.digest();
-        assertClean("digest");
-        if (options.key || options.leafLength) assert.throws(() => run.copy().verify(M), InvalidTagError);
-      }
-      assertClean(Hash.name);
-    }
-    run.reset?.();
-    assertClean("reset");
   }
 });
 
@@ -167,24 +127,16 @@ function failsAt(number, states, work) {
     noteStates(states, work, number);
     return false;
   } catch (fault) {
-    if (fault.message === "no stack is left") return true;
-    throw fault;
+    if (fault.message !== "no stack is left" && !(fault instanceof InvalidTagError)) throw fault;
+    return fault.message === "no stack is left";
   }
 }
-
-const isState = (bytes) => bytes.some((byte) => byte !== 0);
 
 test("a call that fails anywhere ends its object, and wipe reaches what it has left", () => {
   const hash = () => new Blake2b({ key: KEY }).update(M);
   const tree = () => new TreeHash({ leafLength: 5 }).update(LONG).update(M);
   const output = () => new Blake2xb({ key: KEY }).update(M);
-  const verify = (run) => {
-    try {
-      run.verify(new Uint8Array(64));
-    } catch (fault) {
-      if (!(fault instanceof InvalidTagError)) throw fault;
-    }
-  };
+  const verify = (run) => run.verify(new Uint8Array(64));
   for (const [make, work] of [
     [hash, (run) => run.update(LONG)], [hash, (run) => run.reset()], [hash, (run) => run.digest()],
     [hash, (run) => run.hex()], [hash, verify], [tree, (run) => run.update(LONG)], [tree, (run) => run.reset()],
@@ -205,7 +157,7 @@ test("a call that fails anywhere ends its object, and wipe reaches what it has l
         assertZeros([...states][0].subarray(BLAKE2B.stateLength), "what waits");
       }
       if (isOpen || hasFailed) run.wipe(); // which the ends of a hash do themselves
-      if (make !== tree) assert.equal([...states].filter(isState).length, 0, `${work} ${count}`);
+      if (make !== tree) assert.equal(statesLeft(states), 0, `${work} ${count}`);
       blake2bp(M); // the memory is wiped before the next call at the latest
       blake2b(M);
       assertClean();
@@ -215,13 +167,13 @@ test("a call that fails anywhere ends its object, and wipe reaches what it has l
   for (const end of ["wipe", DISPOSE]) {
     const states = new Set();
     const run = noteStates(states, () => output().copy().copy());
-    assert.equal([...states].filter(isState).length, 3);
+    assert.equal(statesLeft(states), 3);
     noteStates(states, () => run[end]());
-    assert.equal([...states].filter(isState).length, 2);
+    assert.equal(statesLeft(states), 2);
   }
   const states = new Set();
   noteStates(states, () => deriveKey(KEY, M, 64));
-  assert.deepEqual([states.size, [...states].filter(isState)], [1, []]);
+  assert.deepEqual([states.size, statesLeft(states)], [1, 0]);
 });
 
 test("a copy or a short update that fails leaves its hash as it was, and nothing behind", () => {
@@ -244,7 +196,7 @@ test("a copy or a short update that fails leaves its hash as it was, and nothing
     const run = strange(other);
     const states = new Set();
     noteStates(states, () => assert.throws(() => run.copy(), { message }));
-    assert.deepEqual([...states].filter(isState), []);
+    assert.equal(statesLeft(states), 0);
     assert.equal(run.hex(), wanted);
   }
   const output = new Blake2xb({ key: KEY }).update(M);
@@ -263,8 +215,6 @@ test("a copy or a short update that fails leaves its hash as it was, and nothing
 });
 
 test("the state of a run under a key is wiped when its object goes", async () => {
-  v8.setFlagsFromString("--expose-gc");
-  const collect = vm.runInNewContext("gc");
   const { fill } = Uint8Array.prototype;
   const wiped = [];
   const lengths = [BLAKE2B, BLAKE2XB].map(({ stateLength, room }) => stateLength + room);

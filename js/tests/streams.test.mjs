@@ -1,66 +1,55 @@
-// Hashes of blobs, streams, files and iterables, and sources that were read or are no bytes.
+// Hashes of blobs, streams, files and iterables, sources that were read or are no bytes, and hashes of what is piped,
+// in streams of the web and of node.
 import assert from "node:assert/strict";
 import { createHash, randomBytes } from "node:crypto";
 import { getEventListeners, once } from "node:events";
-import { createReadStream, openAsBlob, writeFileSync } from "node:fs";
-import { open } from "node:fs/promises";
-import { join } from "node:path";
+import { createReadStream, createWriteStream, openAsBlob, readFileSync } from "node:fs";
 import { createInterface } from "node:readline";
-import { PassThrough, Readable } from "node:stream";
+import { Duplex, PassThrough, Readable, Writable } from "node:stream";
+import { finished, pipeline } from "node:stream/promises";
 import test from "node:test";
 import { setTimeout as sleep } from "node:timers/promises";
 import {
-  blake2b, blake2bStream, blake2bp, blake2bpStream, blake2s, blake2sStream, blake2sp, blake2spStream, treeRoot,
-  treeRootStream, utf8,
+  Blake2b, Blake2bp, Blake2s, Blake2sp, TreeHash, blake2b, blake2bStream, blake2bp, blake2bpStream, blake2s,
+  blake2sStream, blake2sp, blake2spStream, hashTransform, hashWritable, treeRoot, treeRootStream, utf8,
 } from "../index.js";
-import { hexOf, newFolder, noteStates, serve, withOthers } from "./common.mjs";
+import { hexOf, noteStates, openFile, serve, withOthers } from "./common.mjs";
 
 const SLICE = 4_194_304;
 const MESSAGE = new Uint8Array(randomBytes(4_300_000)); // two slices of a blob
 const BODY = utf8("user=admin");
 const KEY = utf8("a key");
 const WANTED = hexOf(blake2b(MESSAGE));
+const PART = MESSAGE.subarray(0, 200_000); // which pipes have
 const READ = { name: "TypeError", message: "blake2bStream: source was already read, or something else is reading it" };
+const IS_OF_TEXT = { name: "TypeError", message: /: chunk must be a Uint8Array, .*, not a string/ };
 const fault = new Error("enough");
 
 function* piecesOf(size) {
   for (let at = 0; at < MESSAGE.length; at += size) yield MESSAGE.subarray(at, at + size);
 }
-const streamOf = (pieces, more = {}) =>
-  new ReadableStream({
-    pull(controller) {
-      const { done, value } = pieces.next();
-      if (done) controller.close();
-      else controller.enqueue(value);
-    },
-    ...more,
-  });
 const ofNode = () => Readable.from(piecesOf(70_000), { objectMode: false });
 const ofWeb = () => new Blob([MESSAGE]).stream();
-
-// A file of the message: its path, its handle, which is closed after the test, and one whose numbers are bigints.
-async function openFile(t) {
-  const path = join(newFolder(), "file");
-  writeFileSync(path, MESSAGE);
-  const handle = await open(path);
-  t.after(() => handle.close());
-  const read = (...words) => handle.read(...words);
-  return { path, handle, file: { fd: handle.fd, read, stat: () => handle.stat({ bigint: true }) } };
-}
+const ofText = () => ReadableStream.from(["text"]);
+const throwing = { onProgress() { throw fault; } };
+const ofPart = () => new Blob([PART]).stream();
 
 test("a source of any kind has one digest", async (t) => {
-  const { path, handle, file } = await openFile(t);
+  const { path, file: handle } = await openFile(t, MESSAGE);
+  const file = { // whose numbers are bigints
+    fd: handle.fd, read: (...words) => handle.read(...words), stat: () => handle.stat({ bigint: true }),
+  };
   const pieces = [MESSAGE.subarray(0, 9), MESSAGE.subarray(9).slice().buffer];
   const again = { async* [Symbol.asyncIterator]() { yield* pieces; } };
   const piped = ofNode();
   const other = new Response(MESSAGE);
   const sources = [
-    new Blob([MESSAGE]), new Response(MESSAGE).body, streamOf(piecesOf(70_000)), createReadStream(path),
+    new Blob([MESSAGE]), new Response(MESSAGE).body, ReadableStream.from(piecesOf(70_000)), createReadStream(path),
     (async function* () { yield* piecesOf(12_345); })(), piecesOf(1_000_000), ...ofWeb().tee(), other.clone().body,
     other.body, pieces, pieces, new Set(pieces), again, again, { [Symbol.iterator]: () => piecesOf(1_000_000) },
     handle, file, piped, piped.pipe(new PassThrough()), // listeners to data and pipes take nothing from each other
+    await openAsBlob(path),
   ];
-  if (openAsBlob) sources.push(await openAsBlob(path));
   const digests = await Promise.all(sources.map((source) => blake2bStream(source)));
   assert.deepEqual(digests.map(hexOf), sources.map(() => WANTED));
   const blob = new Blob([MESSAGE]);
@@ -73,7 +62,7 @@ test("a source of any kind has one digest", async (t) => {
   for (const source of [file, piecesOf(1_000_000)]) {
     assert.deepEqual(await treeRootStream(source, { ...options, threads: 2 }), root);
   }
-  for (const empty of [new Blob([]), streamOf([][Symbol.iterator]()), []]) {
+  for (const empty of [new Blob([]), ReadableStream.from([]), []]) {
     assert.equal(hexOf(await blake2bStream(empty)), createHash("blake2b512").digest("hex"));
   }
 });
@@ -81,10 +70,10 @@ test("a source of any kind has one digest", async (t) => {
 test("progress counts up to the end", async (t) => {
   const known = [[SLICE, 4_300_000], [4_300_000, 4_300_000]];
   const unknown = [[2_000_000, undefined], [4_000_000, undefined], [4_300_000, undefined]];
-  const { file } = await openFile(t);
+  const { file } = await openFile(t, MESSAGE);
   for (const [source, wanted] of [
     [new Blob([MESSAGE]), known], [file, known], [new Blob([MESSAGE.subarray(0, SLICE)]), [[SLICE, SLICE]]],
-    [piecesOf(2_000_000), unknown], [streamOf(piecesOf(2_000_000)), unknown],
+    [piecesOf(2_000_000), unknown], [ReadableStream.from(piecesOf(2_000_000)), unknown],
     [(async function* () { yield* piecesOf(2_000_000); })(), unknown],
   ]) {
     const counts = [];
@@ -94,48 +83,38 @@ test("progress counts up to the end", async (t) => {
 });
 
 test("what fails rejects, and the source is released", async () => {
-  let reason;
-  const stream = streamOf(piecesOf(1000), { cancel: (why) => { reason = why ?? "cancelled"; } });
-  await assert.rejects(blake2bStream(stream, { onProgress() { throw fault; } }), fault);
-  assert.deepEqual([reason, stream.locked], ["cancelled", false]);
-  const message = "blake2bStream: chunk must be a Uint8Array, another view or an ArrayBuffer, " +
-    "not a string (utf8() encodes a string)";
-  await assert.rejects(blake2bStream(streamOf(["text"][Symbol.iterator]())), { name: "TypeError", message });
-  await assert.rejects(blake2bStream(new ReadableStream({ pull() { throw fault; } })), fault);
-  await assert.rejects(blake2bStream((async function* () { throw fault; })()), fault);
-  let count = 0;
+  const reasons = [];
+  const cancel = (why) => { reasons.push(why); };
+  const endings = [];
   function* counted() {
     try {
       yield* piecesOf(1000);
     } finally {
-      count++;
+      endings.push("ended");
     }
   }
-  await assert.rejects(blake2bStream(counted(), { onProgress() { throw fault; } }), fault);
-  await assert.rejects(blake2bStream((async function* () { yield* counted(); })(),
-    { onProgress() { throw fault; } }), fault);
-  assert.equal(count, 2);
-});
-
-test("an abort ends it, before and on the way", async () => {
-  const blob = new Blob([MESSAGE]);
-  await assert.rejects(blake2bStream(blob, { signal: AbortSignal.abort() }), { name: "AbortError" });
-  const control = new AbortController();
-  let count = 0;
-  const onProgress = () => ++count === 2 && control.abort(fault);
-  await assert.rejects(blake2bStream(piecesOf(1000), { signal: control.signal, onProgress }), fault);
-  assert.equal(count, 2);
-  let reason;
-  const cancel = (why) => { reason = why; };
-  const stream = streamOf(piecesOf(1000), { cancel });
-  await assert.rejects(blake2bStream(stream, { signal: AbortSignal.abort(fault) }), fault);
-  assert.deepEqual([stream.locked, reason], [false, fault]);
+  const start = (controller) => { for (const piece of piecesOf(1000)) controller.enqueue(piece); };
+  const [thrown, early] = [new ReadableStream({ start, cancel }), new ReadableStream({ start, cancel })];
   const late = new AbortController();
   setTimeout(() => late.abort(fault), 20);
-  reason = undefined;
-  await assert.rejects(blake2bStream(new ReadableStream({ cancel }), { signal: late.signal }), fault);
-  assert.equal(reason, fault);
-  await assert.rejects(blake2bStream((async function* () {})(), { signal: AbortSignal.abort(fault) }), fault);
+  const second = new AbortController();
+  let count = 0;
+  for (const [source, options, error] of [
+    [thrown, throwing, fault], [new ReadableStream({ pull() { throw fault; } }), {}, fault],
+    [(async function* () { throw fault; })(), {}, fault], [counted(), throwing, fault],
+    [(async function* () { yield* counted(); })(), throwing, fault],
+    [ofText(), {}, { name: "TypeError", message: "blake2bStream: chunk must be a Uint8Array, another view or an " +
+      "ArrayBuffer, not a string (utf8() encodes a string)" }],
+    // by an abort, before and on the way
+    [new Blob([MESSAGE]), { signal: AbortSignal.abort() }, { name: "AbortError" }],
+    [early, { signal: AbortSignal.abort(fault) }, fault], [[], { signal: AbortSignal.abort(fault) }, fault],
+    [new ReadableStream({ cancel }), { signal: late.signal }, fault],
+    [piecesOf(1000), { signal: second.signal, onProgress: () => ++count === 2 && second.abort(fault) }, fault],
+  ]) {
+    await assert.rejects(blake2bStream(source, options), error);
+  }
+  assert.deepEqual([reasons, thrown.locked, early.locked], [[undefined, fault, fault], false, false]);
+  assert.deepEqual([endings.length, count], [2, 2]);
   // a signal that has only what the types call for
   const listeners = new Set();
   const signal = {
@@ -143,8 +122,8 @@ test("an abort ends it, before and on the way", async () => {
     addEventListener: (type, listener) => listeners.add(listener),
     removeEventListener: (type, listener) => listeners.delete(listener),
   };
-  const onFirst = () => listeners.forEach((listener) => listener());
-  await assert.rejects(blake2bStream(blob, { signal, onProgress: onFirst }), { name: "AbortError" });
+  const onProgress = () => listeners.forEach((listener) => listener());
+  await assert.rejects(blake2bStream(new Blob([MESSAGE]), { signal, onProgress }), { name: "AbortError" });
   assert.equal(listeners.size, 0);
 });
 
@@ -156,7 +135,7 @@ test("what fails after the first failure is not reported, and no listener is lef
   const blob = new Blob([MESSAGE]);
   const gone = { arrayBuffer: async () => { throw new Error("gone"); } };
   blob.slice = (from, to) => (from === 0 ? Blob.prototype.slice.call(blob, from, to) : gone);
-  await assert.rejects(blake2bStream(blob, { onProgress() { throw fault; } }), fault);
+  await assert.rejects(blake2bStream(blob, throwing), fault);
   await sleep(20);
   assert.deepEqual(unhandled, []);
   await assert.rejects(blake2bStream(blob), { message: "gone" });
@@ -170,7 +149,7 @@ test("what fails after the first failure is not reported, and no listener is lef
     }
   } }, async () => {
     await blake2bStream((async function* () { yield* piecesOf(1_000_000); })(), { signal });
-    await assert.rejects(blake2bStream(streamOf(["text"][Symbol.iterator]()), { signal }), TypeError);
+    await assert.rejects(blake2bStream(ofText(), { signal }), TypeError);
   });
   await sleep(0);
   assert.deepEqual(signals.map((signal) => getEventListeners(signal, "abort").length), [0, 0, 0]);
@@ -188,15 +167,13 @@ test("an iterator that fails to end, or to go on, changes nothing", async () => 
 });
 
 test("key and salt are those of the call, and a stream under a key that fails leaves no state", async (t) => {
-  const { handle } = await openFile(t);
+  const { file } = await openFile(t, MESSAGE);
   const options = { leafLength: 4096, digestLength: 20 };
-  const key = KEY.slice();
-  const salt = KEY.slice();
-  const tags = [new Blob([MESSAGE]), handle].map((source) => blake2bStream(source, { key }));
+  const [key, salt] = [KEY.slice(), KEY.slice()];
+  const tags = [new Blob([MESSAGE]), file].map((source) => blake2bStream(source, { key }));
   const roots = [1, 2].map((threads) =>
-    treeRootStream(handle, { ...options, salt, personalization: salt, threads }));
-  key.fill(0);
-  salt.fill(0);
+    treeRootStream(file, { ...options, salt, personalization: salt, threads }));
+  [key, salt].forEach((bytes) => bytes.fill(0));
   const tag = blake2b(MESSAGE, { key: KEY });
   const root = treeRoot(MESSAGE, { ...options, salt: KEY, personalization: KEY });
   assert.deepEqual(await Promise.all([...tags, ...roots]), [tag, tag, root, root]);
@@ -288,16 +265,15 @@ test("of two readers of a stream one is refused", async () => {
 });
 
 test("a stream of text is refused, whatever made it one, and other iterables of no bytes", async (t) => {
-  const { path, handle } = await openFile(t);
-  const isOfText = { name: "TypeError", message: /chunk must be a Uint8Array.*, not a string/ };
+  const { path, file } = await openFile(t, MESSAGE);
   for (const make of [
     () => createReadStream(path, "utf8"), () => createReadStream(path).setEncoding("hex"),
-    () => createInterface({ input: createReadStream(path) }), () => handle.readLines({ autoClose: false }),
+    () => createInterface({ input: createReadStream(path) }), () => file.readLines({ autoClose: false }),
     () => Readable.from("text"), () => Readable.from(["text"]),
     () => new PassThrough({ encoding: "latin1" }).end(BODY),
     () => new Blob([BODY]).stream().pipeThrough(new TextDecoderStream()), () => ["text"],
   ]) {
-    await assert.rejects(blake2bStream(make()), isOfText, `${make}`);
+    await assert.rejects(blake2bStream(make()), IS_OF_TEXT, `${make}`);
   }
   const form = new FormData();
   form.append("name", "text");
@@ -306,12 +282,192 @@ test("a stream of text is refused, whatever made it one, and other iterables of 
   }
 });
 
-test("a chunk that shrinks while workers hash it is refused, and no shorter message", async (t) => {
-  if (ArrayBuffer.prototype.resize === undefined) return t.skip("buffers cannot be resized");
+test("a chunk that shrinks while workers hash it is refused, and no shorter message", async () => {
   for (let left = 0; left < 5 * SLICE; left += SLICE) {
     const chunk = new Uint8Array(new ArrayBuffer(5 * SLICE, { maxByteLength: 5 * SLICE }));
     const onProgress = () => chunk.length > left && chunk.buffer.resize(left);
     const root = treeRootStream([chunk], { leafLength: 65536, threads: 2, onProgress });
     await assert.rejects(root, RangeError, `${left} bytes are left`);
   }
+});
+
+const HELPERS = { hashTransform, hashWritable };
+
+// Asserts that a hash has ended, so that nobody takes the digest of a part for that of all.
+async function assertEnded(...hashes) {
+  await sleep(5);
+  for (const hash of hashes) assert.throws(() => hash.digest(), /^TypeError: Blake2b.digest: this hash has ended/);
+}
+
+test("streams of the web are hashed on the way, and passed on unchanged", async () => {
+  const make = () => [
+    new Blake2b(), new Blake2s({ key: BODY }), new TreeHash({ leafLength: 5 }), new Blake2bp(),
+    new Blake2sp({ key: BODY }),
+  ];
+  const hashes = make();
+  const last = new Blake2b();
+  let stream = ofPart();
+  for (const hash of hashes) stream = stream.pipeThrough(hashTransform(hash));
+  const [one, two] = stream.tee();
+  await Promise.all([
+    one.pipeTo(hashWritable(last)),
+    new Response(two).arrayBuffer().then((copy) => assert.deepEqual(new Uint8Array(copy), PART)),
+  ]);
+  assert.deepEqual(hashes.map((hash) => hash.hex()), make().map((hash) => hash.update(PART).hex()));
+  assert.equal(last.hex(), hexOf(blake2b(PART)));
+  const empty = new Blake2b();
+  await new Blob([]).stream().pipeTo(hashWritable(empty));
+  assert.equal(empty.hex(), new Blake2b().hex());
+  // any bytes, which are passed on as they are
+  const { readable, writable } = hashTransform(new Blake2b());
+  const chunk = new Uint16Array([1]).buffer;
+  writable.getWriter().write(chunk);
+  assert.equal((await readable.getReader().read()).value, chunk);
+});
+
+test("streams of node are hashed on the way, by pipeline and by pipe, and those of text are refused", async (t) => {
+  const { path: from } = await openFile(t, PART);
+  const to = `${from}.copy`;
+  const hashes = [1, 2, 3, 4].map(() => new Blake2b());
+  await pipeline(createReadStream(from), hashTransform(hashes[0]), createWriteStream(to));
+  assert.deepEqual(new Uint8Array(readFileSync(to)), PART);
+  await pipeline(createReadStream(from), hashWritable(hashes[1]));
+  const options = { decodeStrings: false }; // as the pages say, for streams of text
+  await finished(createReadStream(from).pipe(Duplex.fromWeb(hashTransform(hashes[2])))
+    .pipe(Writable.fromWeb(hashWritable(hashes[3]), options)));
+  assert.deepEqual(hashes.map((hash) => hash.hex()), Array(4).fill(hexOf(blake2b(PART))));
+  const hash = new Blake2b({ key: BODY });
+  await assert.rejects(pipeline(createReadStream(from, "latin1"), hashWritable(hash)), IS_OF_TEXT);
+  await assertEnded(hash);
+  for (const sink of [Writable.fromWeb(hashWritable(new Blake2b()), options),
+    Duplex.fromWeb(hashTransform(new Blake2b()), options).resume()]) {
+    await assert.rejects(finished(createReadStream(from, "latin1").pipe(sink)), IS_OF_TEXT);
+  }
+});
+
+test("no more is read than the other side takes", async () => {
+  let count = 0;
+  const pull = (controller) => (++count < 50 ? controller.enqueue(new Uint8Array(1000)) : controller.close());
+  const source = new ReadableStream({ pull }, { highWaterMark: 0 });
+  const reader = source.pipeThrough(hashTransform(new Blake2b())).getReader();
+  await sleep(5);
+  assert.equal(count, 1); // which waits until the other side reads
+  for (let i = 0; i < 20; i++) await reader.read();
+  await sleep(5);
+  assert.equal(count, 21);
+});
+
+test("what fails on either side fails on the other, and ends the hash", async () => {
+  for (const helper of [hashTransform, hashWritable]) {
+    // the source, after a chunk was read, and while one waits to be read
+    for (const isRead of [true, false]) {
+      const hash = new Blake2b();
+      const streams = helper(hash);
+      const writer = (streams.writable ?? streams).getWriter();
+      const reading = streams.readable?.getReader();
+      writer.closed.catch(() => {});
+      const read = isRead && reading?.read();
+      const written = writer.write(PART);
+      await Promise.race([read, sleep(5)]);
+      await writer.abort(fault);
+      await written;
+      await assertEnded(hash);
+      if (reading) await assert.rejects(reading.read(), fault);
+    }
+    // a chunk
+    const hash = new Blake2b();
+    const pair = helper(hash);
+    const next = pair.readable?.getReader().read();
+    next?.catch(() => {});
+    const text = new Blob([BODY]).stream().pipeThrough(new TextDecoderStream());
+    await assert.rejects(text.pipeTo(pair.writable ?? pair), {
+      name: "TypeError", message: `${helper.name}: chunk must be a Uint8Array, another view or an ArrayBuffer, ` +
+        "not a string (utf8() encodes a string)",
+    });
+    if (next) await assert.rejects(next, IS_OF_TEXT);
+    await assertEnded(hash);
+  }
+  // the other side is canceled, at once or on the way: the source hears of it
+  for (const count of [0, 1]) {
+    const hash = new Blake2b();
+    let [heard, left] = [undefined, 50];
+    const source = new ReadableStream({
+      pull: (controller) => (left-- > 0 ? controller.enqueue(PART) : controller.close()),
+      cancel(reason) { heard = reason; },
+    });
+    const reader = source.pipeThrough(hashTransform(hash)).getReader();
+    for (let i = 0; i < count; i++) await reader.read();
+    await reader.cancel(fault);
+    await assertEnded(hash);
+    assert.equal(heard, fault);
+  }
+  // of node
+  const hashes = Array.from({ length: 4 }, () => new Blake2b());
+  const sink = new Writable({ write: (chunk, _, done) => done(fault) });
+  await assert.rejects(pipeline(Readable.from([PART, PART]), hashTransform(hashes[0]), sink), fault);
+  const source = new Readable({ read() { this.destroy(fault); } });
+  await assert.rejects(pipeline(source, hashWritable(hashes[1])), fault);
+  // by an abort
+  const control = new AbortController();
+  const { signal } = control;
+  const pull = (to) => sleep(1).then(() => to.enqueue(new Uint8Array(1000)));
+  const pipe = new ReadableStream({ pull }).pipeThrough(hashTransform(hashes[2]), { signal })
+    .pipeTo(hashWritable(hashes[3]), { signal });
+  setTimeout(() => control.abort(fault), 10);
+  await assert.rejects(pipe, fault);
+  await assertEnded(...hashes);
+});
+
+test("only hashes are accepted, and no options", () => {
+  for (const [name, helper] of Object.entries(HELPERS)) {
+    for (const [value, said] of [
+      [undefined, "undefined"], [{}, "an object"], ["abc", "a string"], [null, "null"],
+      [Object.create(Blake2b.prototype), "an instance of Blake2b"],
+      [new Proxy(new Blake2b(), {}), "an instance of Blake2b"],
+    ]) {
+      const message = `${name}: hash must be a Blake2b, Blake2s, Blake2bp, Blake2sp or TreeHash, not ${said}`;
+      assert.throws(() => helper(value), { name: "TypeError", message });
+    }
+    const message = `${name}: too many arguments, 2 instead of at most 1; options are those of the hash`;
+    assert.throws(() => helper(new Blake2b(), {}), { name: "TypeError", message });
+  }
+});
+
+test("a hash with a pipe that has not ended is refused, and nothing is lost", async () => {
+  const refuses = (hash) => {
+    const message = "a pipe into this hash has not ended; wait for it first";
+    for (const call of ["digest", "hex", "verify", "update", "reset"]) {
+      assert.throws(() => hash[call](...(/^[uv]/.test(call) ? [BODY] : [])),
+        { name: "TypeError", message: `Blake2b.${call}: ${message}` });
+    }
+    for (const [name, other] of Object.entries(HELPERS)) {
+      assert.throws(() => other(hash), { name: "TypeError", message: `${name}: ${message}` });
+    }
+    assert.equal(hash.copy().digest().length, 64); // of what there is so far
+  };
+  for (const helper of [hashTransform, hashWritable]) {
+    const hash = new Blake2b({ key: BODY });
+    const pair = helper(hash);
+    const piped = pair.readable === undefined
+      ? ofPart().pipeTo(pair) : ofPart().pipeThrough(pair).pipeTo(new WritableStream());
+    refuses(hash);
+    await piped;
+    assert.equal(hash.copy().hex(), hexOf(blake2b(PART, { key: BODY })));
+    // of two pipes, one after the other, and pieces between them
+    hash.update(BODY);
+    await ofPart().pipeTo(hashWritable(hash));
+    const wanted = new Blake2b({ key: BODY }).update(PART).update(BODY).update(PART).update(BODY);
+    assert.equal(hash.update(BODY).hex(), wanted.hex());
+  }
+  // that never ends
+  const endless = new Blake2b();
+  await ofPart().pipeTo(hashWritable(endless), { preventClose: true });
+  refuses(endless);
+  // between two chunks
+  const hash = new Blake2b();
+  const writer = hashWritable(hash).getWriter();
+  await writer.write(BODY);
+  refuses(hash);
+  await writer.close();
+  assert.equal(hash.hex(), hexOf(blake2b(BODY)));
 });

@@ -3,18 +3,15 @@
 import assert from "node:assert/strict";
 import { randomBytes } from "node:crypto";
 import { EventEmitter } from "node:events";
-import { open, truncate, writeFile } from "node:fs/promises";
+import { open, truncate } from "node:fs/promises";
 import os from "node:os";
-import { join } from "node:path";
 import test, { after } from "node:test";
 import { setTimeout as sleep } from "node:timers/promises";
-import v8 from "node:v8";
-import vm from "node:vm";
 import workerThreads from "node:worker_threads";
 import { blake2b, blake2bStream, hex, treeLeaves, treeRoot, treeRootOfLeaves, treeRootStream, utf8 } from "../index.js";
 import { processorCount } from "../src/platform.js";
 import { digestsOf } from "../src/ranges.js";
-import { INDEX, newFolder, printedBy, withOthers } from "./common.mjs";
+import { collect, openFile, withOthers } from "./common.mjs";
 
 const MESSAGE = new Uint8Array(randomBytes(9_000_001));
 const SALT = utf8("a salt");
@@ -89,53 +86,55 @@ class Fake {
 // A file of node that has this many bytes, or says so.
 const fileOf = (size, more) => ({ fd: 3, stat: async () => ({ isFile: () => true, size }), ...more });
 
-// A file of the message that is open in node, and its path and its folder.
-async function openMessage(t) {
-  const folder = newFolder();
-  const path = join(folder, "message");
-  await writeFile(path, MESSAGE);
-  const file = await open(path, "r+");
-  t.after(() => file.close());
-  return { folder, path, file };
-}
-
-test("the root by threads is that of one, by as many workers as there are ranges, which are stopped", async () => {
-  for (const [i, [length, leafLength, threads, ranges]] of [
-    [0, 5, 3, [0]], [RANGE, 65536, 3, [RANGE]], [RANGE + 1, 65536, 2, [1, RANGE]],
-    [9_000_001, 65536, 200, [611_393, RANGE, RANGE]], [9_000_001, 1000, 2, [616_001, 4_192_000, 4_192_000]],
-    [9_000_001, 100_003, 2, [999_761, 4_000_120, 4_000_120]],
-    [9_000_001, 5_000_000, 3, [4_000_001, 5_000_000]], // a range is a leaf that is longer
-    [9_000_001, 2 ** 26, 3, [9_000_001]], [9_000_001, 2 ** 26 + 1, 3, []], [9_000_001, 2 ** 32 - 1, 3, []],
-    [9_000_001, 65536, 1, []], [9_000_001, 65536, undefined, []],
+test("the root by threads is that of one, by as many workers as there are ranges, which are stopped", async (t) => {
+  const { path, file } = await openFile(t, MESSAGE);
+  await file.read(new Uint8Array(7)); // its position does not matter
+  const sorted = (numbers) => [...numbers].sort((a, b) => a - b);
+  for (const [i, [length, leafLength, threads, ...all]] of [
+    [9_000_001, 65536, 200, RANGE, RANGE, 611_393], [9_000_001, 1000, 2, 4_192_000, 4_192_000, 616_001],
+    [9_000_001, 100_003, 2, 4_000_120, 4_000_120, 999_761],
+    [9_000_001, 5_000_000, 3, 5_000_000, 4_000_001], // a range is a leaf that is longer, or all if the end is known
+    [9_000_001, 3_000_000, 3, 9_000_001],
+    [9_000_001, 2 ** 26, 3, 9_000_001], [9_000_001, 2 ** 26 + 1, 3], [9_000_001, 2 ** 32 - 1, 3],
+    [9_000_001, 65536, 1], [9_000_001, 65536, undefined], [2 * RANGE, 65536, 2, RANGE, RANGE],
+    [RANGE + 1, 65536, 2, RANGE, 1], [RANGE, 65536, 3, RANGE], [1, 65536, 3, 1], [1, 65536, 1], [0, 5, 3, 0],
+    [0, 65536, 1],
   ].entries()) {
     const message = MESSAGE.subarray(0, length);
+    await truncate(path, length);
     const options = { leafLength, salt: SALT, personalization: utf8("p"), digestLength: 40 };
-    const [begun, counts] = [[], []];
-    const onProgress = (...both) => counts.push(both);
-    const source = [() => new Blob([message]), inPieces, () => new Blob([message]).stream()][i % 3](message);
-    const root = await withWorkers(counted(begun), () => byThreads(source, { ...options, threads, onProgress }));
-    assert.equal(root, hex(treeRoot(message, options)), `${length} ${leafLength}`);
-    assert.equal(begun.length, Math.min(ranges.length, threads ?? 1));
-    await ended(begun);
-    if (ranges.length === 0) continue;
-    assert.deepEqual(counts.at(-1), [length, i % 3 === 0 ? length : undefined]);
-    assert.deepEqual(counts.map(([at], i) => at - (counts[i - 1]?.[0] ?? 0)).sort((a, b) => a - b), ranges);
+    const other = [() => new Blob([message]), inPieces, () => new Blob([message]).stream()][i % 3](message);
+    for (const [source, total] of [[other, i % 3 === 0 ? length : undefined], [file, length]]) {
+      const ranges = source === file && leafLength === 5_000_000 ? [length] : all;
+      const [begun, counts, jobs] = [[], [], []];
+      const Class = class extends counted(begun) {
+        postMessage(job, ...more) {
+          super.postMessage(job, ...more);
+          jobs.push(job);
+        }
+      };
+      const onProgress = (...both) => counts.push(both);
+      const root = await withWorkers(Class, () => byThreads(source, { ...options, threads, onProgress }));
+      assert.equal(root, hex(treeRoot(message, options)), `${length} ${leafLength}`);
+      assert.equal(begun.length, Math.min(ranges.length, threads ?? 1), `${length} ${leafLength}`);
+      await ended(begun);
+      assert.deepEqual(counts.at(-1) ?? [0, total], [length, total]);
+      if (ranges.length === 0) continue;
+      assert.deepEqual(sorted(counts.map(([at], i) => at - (counts[i - 1]?.[0] ?? 0))), sorted(ranges));
+      jobs.sort((a, b) => a.file?.at - b.file?.at); // a worker is given its first when it has started
+      assert.deepEqual(jobs.map(({ file, message }) => file ?? message.length), // bytes are transferred
+        ranges.map((length, i) => (source === file
+          ? { fd: file.fd, at: ranges.slice(0, i).reduce((sum, part) => sum + part, 0), length } : 0)));
+    }
+    assert.deepEqual(await blake2bStream(file), blake2b(message));
   }
 });
 
-test("workers use the module that is compiled here, and ranges and digests are transferred", async () => {
+test("workers use the module that is compiled here", async () => {
   const worker = new URL("../src/vulfsjor_worker.js", import.meta.url).href;
   const program = `globalThis.atob = () => { throw new Error("decoded again"); };
     import("${worker}");`;
-  const lengths = [];
-  const Class = class extends running(program) {
-    postMessage(job, ...more) {
-      super.postMessage(job, ...more);
-      lengths.push(job.message.length);
-    }
-  };
-  assert.equal(await withWorkers(Class, () => byThreads(blob())), ROOT);
-  assert.deepEqual(lengths, [0, 0, 0]);
+  assert.equal(await withWorkers(running(program), () => byThreads(blob())), ROOT);
 });
 
 test("a worker transfers its digests, and throws what fails there", async () => {
@@ -156,7 +155,7 @@ test("a worker transfers its digests, and throws what fails there", async () => 
 });
 
 test("a range is read where it is, past 4 GiB too", async (t) => {
-  const { file } = await openMessage(t);
+  const { file } = await openFile(t, MESSAGE);
   const far = 2 ** 32 + 7; // of a file that is almost all hole
   await file.write(PART, 0, PART.length, far);
   for (const source of [{ message: PART }, { blob: new Blob([PART]) }, ...[700, far].map((at) =>
@@ -165,45 +164,10 @@ test("a range is read where it is, past 4 GiB too", async (t) => {
   }
 });
 
-test("workers read an open file of node", async (t) => {
-  const { path, file } = await openMessage(t);
-  const jobs = [];
-  const Class = class extends workerThreads.Worker {
-    postMessage(job, ...more) {
-      jobs.push(job);
-      super.postMessage(job, ...more);
-    }
-  };
-  await file.read(new Uint8Array(7)); // its position does not matter
-  for (const [length, leafLength, threads] of [
-    [9_000_001, 100_003, 2], [9_000_001, 3_000_000, 3], [9_000_001, 65536, 1], [2 * RANGE, 65536, 2],
-    [1, 65536, 3], [1, 65536, 1], [0, 65536, 3], [0, 65536, 1],
-  ]) {
-    await truncate(path, length);
-    const message = MESSAGE.subarray(0, length);
-    const options = { leafLength, salt: SALT, digestLength: 40 };
-    const counts = [];
-    jobs.length = 0;
-    const onProgress = (...words) => counts.push(words);
-    const root = await withWorkers(Class, () => byThreads(file, { ...options, threads, onProgress }));
-    assert.equal(root, hex(treeRoot(message, options)));
-    assert.deepEqual(counts.at(-1) ?? [0, 0], [length, length]);
-    const range = 4 * leafLength * Math.max(1, Math.floor(RANGE / leafLength / 4));
-    const ranges = threads === 1 ? 0 : Math.max(1, Math.ceil(length / range));
-    jobs.sort((a, b) => a.file.at - b.file.at); // a worker is given its first when it has started
-    assert.deepEqual(
-      jobs.map(({ file: { fd, at, length: part }, message: bytes }) => [fd, at, part, bytes]),
-      Array.from({ length: ranges }, (_, i) => [file.fd, i * range, Math.min(range, length - i * range), undefined]));
-    assert.deepEqual(await blake2bStream(file), blake2b(message));
-  }
-});
-
 for (const [leafLength, leaves, ranges] of [[65536, 64, 40], [16, 65536, 8]]) {
   test(`two ranges for each worker are ahead of the first, of ${leaves} leaves, and all are in order`, async () => {
     const count = 3;
     const resultOf = (i) => new Uint8Array(64 * leaves).fill(i);
-    v8.setFlagsFromString("--expose-gc");
-    const collect = vm.runInNewContext("gc");
     const made = []; // references to the digests
     let kept = true;
     let sent = 0;
@@ -269,7 +233,7 @@ test("past 4 GiB each part of a file is read where it is", async () => {
 });
 
 test("a file that ends early, is closed or is a folder is refused", async (t) => {
-  const { folder, file } = await openMessage(t);
+  const { folder, file } = await openFile(t, MESSAGE);
   const same = { fd: file.fd, read: (...words) => file.read(...words) };
   const longer = fileOf(MESSAGE.length + 5, same);
   const silent = fileOf(0, same); // as in /proc
@@ -301,38 +265,6 @@ test("threads 0 means all processors, and 256 at most, or one if nobody says how
   }
   for (const [processors, count] of [[3, 3], [300, 256], [undefined, 1]]) {
     assert.equal(inBrowser(undefined, processors, processorCount), count);
-  }
-});
-
-test("a process ends after a call by threads", () => {
-  const printed = printedBy(`import { hex, treeRootStream } from ${INDEX};
-    const root = await treeRootStream(new Blob(["abc"]), { leafLength: 2, threads: 4 });
-    console.log(hex(root).slice(0, 8));`, { timeout: 60000 });
-  assert.equal(printed, "19fc31bb\n"); // hashlib's
-});
-
-test("what a worker of node or of a browser reports is an error of the call", async () => {
-  const OfNode = class extends Ready {
-    constructor(program, words) {
-      super();
-      assert.match(program, /^"use strict";/);
-      assert.deepEqual(words, { eval: true, execArgv: [] });
-    }
-    postMessage() { setImmediate(() => this.emit("messageerror", new Error("cannot be read"))); }
-  };
-  await assert.rejects(withWorkers(OfNode, () => byThreads(blob())),
-    { message: "treeRootStream: a worker failed: cannot be read" });
-  for (const [event, value, message] of [
-    ["messageerror", {}, "its result could not be read"],
-    ["error", {}, "it could not be started"], ["error", { message: "no" }, "no"],
-  ]) {
-    const Class = class extends Fake {
-      postMessage() { setImmediate(() => this[`on${event}`](value)); }
-    };
-    Fake.made.length = 0;
-    await assert.rejects(inBrowser(Class, 4, () => byThreads(blob(), { threads: 2 })),
-      { message: `treeRootStream: a worker failed: ${message}` });
-    assert.deepEqual(Fake.made.splice(2), ["stopped", "stopped"]);
   }
 });
 
@@ -442,33 +374,50 @@ test("an abort, or progress that throws, ends it and stops the workers", async (
   assert.equal(begun.length, 0);
 });
 
-test("a worker that fails is an error, and nothing hangs", async () => {
-  const started = (act) => `const { parentPort } = require("node:worker_threads");
+test("a worker that fails is an error, in node and in a browser, and nothing hangs", async () => {
+  const begun = [];
+  const started = (act) => [`const { parentPort } = require("node:worker_threads");
     parentPort.once("message", () => { ${act} });
-    parentPort.postMessage("ready");`;
-  for (const [act, cause, source] of [
-    ['throw new Error("nothing here")', "nothing here", endlessSource().stream],
-    ['throw "a thing"', "a thing", blob()], ["process.exit(3)", "it exited with code 3", new Blob([])],
-    ["process.exit(0)", "it exited with code 0", endlessSource().stream],
-  ]) {
-    const begun = [];
-    await assert.rejects(withWorkers(running(started(act), begun), () => byThreads(source, { threads: 2 })),
-      { name: "Error", message: `treeRootStream: a worker failed: ${cause}` });
-    await ended(begun);
-  }
-  // one of several, and a source that stalls
+    parentPort.postMessage("ready");`, { eval: true }];
+  const Unreadable = class extends Ready {
+    constructor(program, words) {
+      super();
+      assert.match(program, /^"use strict";/);
+      assert.deepEqual(words, { eval: true, execArgv: [] });
+    }
+    postMessage() { setImmediate(() => this.emit("messageerror", new Error("cannot be read"))); }
+  };
+  const inNode = (Class, source = blob()) => () => withWorkers(Class, () => byThreads(source, { threads: 2 }));
+  const reporting = (event, value) => () => inBrowser(class extends Fake {
+    postMessage() { setImmediate(() => this[`on${event}`](value)); }
+  }, 4, () => byThreads(blob(), { threads: 2 }));
+  const doing = (act, source) => inNode(counted(begun, () => started(act)), source);
   let number = 0;
-  const second = counted([], (...words) => (++number === 2 ? [started("process.exit(3)"), { eval: true }] : words));
   const stalled = (async function* () {
     yield MESSAGE;
     await new Promise(() => setTimeout(() => {}, 1e6).unref());
   })();
-  await assert.rejects(withWorkers(second, () => byThreads(stalled, { threads: 2 })),
-    { message: "treeRootStream: a worker failed: it exited with code 3" });
+  for (const [call, cause, stopped = []] of [
+    [inNode(Unreadable), "cannot be read"],
+    [reporting("messageerror", {}), "its result could not be read", Array(2).fill("stopped")],
+    [reporting("error", {}), "it could not be started", Array(2).fill("stopped")],
+    [reporting("error", { message: "no" }), "no", Array(2).fill("stopped")],
+    [doing('throw new Error("nothing here")', endlessSource().stream), "nothing here"],
+    [doing('throw "a thing"'), "a thing"], [doing("process.exit(3)", new Blob([])), "it exited with code 3"],
+    [doing("process.exit(0)", endlessSource().stream), "it exited with code 0"],
+    // one of several, and a source that stalls
+    [inNode(counted([], (...words) => (++number === 2 ? started("process.exit(3)") : words)), stalled),
+      "it exited with code 3"],
+  ]) {
+    Fake.made.length = 0;
+    await assert.rejects(call, { name: "Error", message: `treeRootStream: a worker failed: ${cause}` });
+    assert.deepEqual(Fake.made.splice(2), stopped);
+    await ended(begun);
+  }
 });
 
 test("in node, too, the calling thread hashes what no worker can be started for", async (t) => {
-  const { file } = await openMessage(t);
+  const { file } = await openFile(t, MESSAGE);
   const begun = [];
   let number = 0;
   const refusing = class { constructor() { throw new Error("no room"); } };

@@ -1,8 +1,8 @@
 """Runs the package in subinterpreters, with a GIL each where Python has that, several times, and
 from 3.13 on several at once: in_subinterpreters.py FOLDER, which has the package."""
+import concurrent.futures
 import hashlib
 import sys
-import threading
 
 try:
     import _interpreters as interpreters
@@ -45,30 +45,25 @@ except TypeError:
 else:
     raise AssertionError
 """
-failures = []
 
 
 def run(each):
-    """Runs the program in an interpreter."""
+    """Runs the program in an interpreter. Returns why it failed, or None."""
     try:
         failed = interpreters.run_string(each, PROGRAM)
     except Exception as error:  # in 3.11 and 3.12
         failed = error
-    if failed:
-        failures.append(getattr(failed, "formatted", failed))
+    return getattr(failed, "formatted", failed)
 
 
+failures = []
 for _ in range(2):
     created = [interpreters.create() for _ in range(3)]
     if sys.version_info >= (3, 13):
-        threads = [threading.Thread(target=run, args=(each,)) for each in created]
-        for thread in threads:
-            thread.start()
-        for thread in threads:
-            thread.join()
+        with concurrent.futures.ThreadPoolExecutor(3) as pool:
+            failures += filter(None, pool.map(run, created))
     else:
-        for each in created:
-            run(each)
+        failures += filter(None, map(run, created))
     for each in created:
         interpreters.destroy(each)
 assert vulfsjor.blake2b(DATA, key=b"key").digest() == WANTED[0]

@@ -9,6 +9,7 @@ usage: support.py FOLDER      builds the package in FOLDER. Status 77: a tool is
 import atexit
 import contextlib
 import ctypes
+import faulthandler
 import functools
 import importlib.util
 import os
@@ -72,15 +73,16 @@ def run(*words, **named):
 
 
 def build(folder, python=sys.executable, **environment):
-    """Builds the package in a folder, without a warning of the compiler. Returns what the build has
-    printed and its status."""
+    """Builds the package in a folder, without a warning of the compiler. Returns what the build has printed."""
     flags = f"-Werror {environment.pop('CFLAGS', '')}"
     with tempfile.TemporaryDirectory() as made:
         done = run(python, BACKEND, "wheel", made, env={**os.environ, "CFLAGS": flags, **environment})
+        if done.returncode:
+            raise RuntimeError(f"building failed:\n{done.stdout}")
         for name in os.listdir(made):
             with zipfile.ZipFile(os.path.join(made, name)) as wheel:
                 wheel.extractall(folder)
-    return done
+    return done.stdout
 
 
 def package():
@@ -90,9 +92,7 @@ def package():
             raise unittest.SkipTest(cannot_build())
         folder = tempfile.mkdtemp()
         atexit.register(shutil.rmtree, folder)
-        done = build(folder)
-        if done.returncode:
-            raise RuntimeError(f"building failed:\n{done.stdout}")
+        build(folder)
         os.environ["VULFSJOR_PACKAGE"] = folder
     return os.path.abspath(os.environ["VULFSJOR_PACKAGE"])
 
@@ -102,21 +102,39 @@ def unread(length):
     return (ctypes.c_char * length).from_address(id(unread))
 
 
+@contextlib.contextmanager
 def by_threads(count, work):
-    """Does some work in several threads, and waits for them."""
+    """Does some work in threads during a block, and waits for them at its end."""
     threads = [threading.Thread(target=work) for _ in range(count)]
     for thread in threads:
         thread.start()
+    yield
     for thread in threads:
         thread.join()
 
 
 class Test(unittest.TestCase):
-    """A test with a folder, self.folder, that is made if it is used."""
+    """A test with a folder, self.folder, that is made if it is used. If it hangs for long, the program ends and shows
+    where."""
+
+    def run(self, result=None):
+        faulthandler.dump_traceback_later(1200, exit=True)
+        try:
+            return super().run(result)
+        finally:
+            faulthandler.cancel_dump_traceback_later()
 
     @functools.cached_property
     def folder(self):
         return self.enterContext(tempfile.TemporaryDirectory())
+
+    def file(self, data=b"", length=None):
+        """The path of a file with these bytes, and then zeros up to this length."""
+        path = os.path.join(self.folder, "file")
+        with open(path, "wb") as file:
+            file.write(data)
+            file.truncate(length)
+        return path
 
     def refuses(self, kind, text, call, *args, **words):
         """The call raises this exception, and no subclass, with this text."""
@@ -129,8 +147,7 @@ if __name__ == "__main__":
     if cannot_build():
         print(cannot_build())
         sys.exit(77)
-    DONE = build(os.path.abspath(sys.argv[1]))
-    print(DONE.stdout)
-    sys.exit(DONE.returncode)
+    print(build(os.path.abspath(sys.argv[1])))
+    sys.exit()
 FOLDER = package()
 sys.path[:0] = [FOLDER, os.path.join(TOP, "tests")]

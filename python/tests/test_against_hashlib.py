@@ -1,17 +1,19 @@
 """Compares the package with Python's own BLAKE2 over a list of calls at the edges, which both have to answer by the
-same digest or the same exception with the same message. test_conformance.py has the values of all other calls."""
+same digest or the same exception with the same message, and the objects of all hash functions with its objects.
+test_conformance.py has the values of all other calls, and test_refusals.py other arguments that are refused."""
 import array
+import copy
 import ctypes
+from functools import partial
+import inspect
 import itertools
 import mmap
 import pickle
 import unittest
 
 import _blake2
-import support  # noqa: F401
+from families import FAMILIES, OUTPUTS, PLAIN
 import vulfsjor
-
-FAMILIES = (("blake2b", 64), ("blake2s", 32))
 
 
 def edge_parameters(longest):
@@ -56,7 +58,7 @@ def outcome(act):
         return type(fault).__name__, None if differs else text
 
 
-def edges_of(module, name, longest):
+def edges_of_calls(module, name, longest):
     """The outcome of every call at the edges."""
     make = getattr(module, name)
     for words in edge_parameters(longest):
@@ -64,24 +66,7 @@ def edges_of(module, name, longest):
     for data in inputs():
         yield data, outcome(lambda: make(data).hexdigest())
         yield data, outcome(lambda: make().update(data))
-    yield from edges_of_objects(module, name)
-
-
-def edges_of_objects(module, name):
-    """The outcome of calls that return no digest."""
-    make = getattr(module, name)
     yield "two", outcome(lambda: make(b"a", b"b"))
-    yield "none", outcome(lambda: make().update())
-    yield "digest", outcome(lambda: make().digest(1))
-    yield "subclass", outcome(lambda: type("Sub", (make,), {}))
-    yield "pickle", outcome(lambda: pickle.dumps(make()))
-    yield "attribute", outcome(lambda: setattr(make(), "other", 1))
-    for field in ("name", "block_size", "digest_size"):
-        yield field, outcome(lambda: setattr(make(), field, 1))[0]
-    for constant in ("MAX_DIGEST_SIZE", "MAX_KEY_SIZE", "SALT_SIZE", "PERSON_SIZE"):
-        yield constant, getattr(make, constant), getattr(module, f"{name.upper()}_{constant}")
-        yield constant, outcome(lambda: setattr(make, constant, 1))[0]
-        yield constant, outcome(lambda: delattr(make, constant))[0]
 
 
 def inputs():
@@ -98,11 +83,75 @@ class Compare(unittest.TestCase):
 
     def test_edges(self):
         count = 0
-        for name, longest in FAMILIES:
-            for ours, theirs in zip(edges_of(vulfsjor, name, longest), edges_of(_blake2, name, longest), strict=True):
+        for name, *_, longest in PLAIN:
+            for ours, theirs in zip(edges_of_calls(vulfsjor, name, longest), edges_of_calls(_blake2, name, longest),
+                                    strict=True):
                 self.assertEqual(ours[1:], theirs[1:], (name, ours))
                 count += 1
         self.assertGreater(count, 1000)
+
+
+def edges_of_objects(kind, make):
+    """The outcome of calls of a class and its objects that return no digest."""
+    yield "none", outcome(lambda: make().update())
+    yield "digest", outcome(lambda: make().digest(1))
+    yield "subclass", outcome(lambda: type("Sub", (kind,), {}))
+    for call in (pickle.dumps, copy.copy, vars, bytes, memoryview, len):
+        yield call, outcome(lambda: call(make()))
+    yield "shown", repr(make()).partition(" at ")[0].replace("vulfsjor.", "_blake2.")
+    yield "attribute", outcome(lambda: setattr(make(), "other", 1))
+    for field in ("name", "block_size", "digest_size", "update"):
+        yield field, outcome(lambda: setattr(make(), field, 1))[0]
+    for constant in ("MAX_DIGEST_SIZE", "MAX_KEY_SIZE", "SALT_SIZE", "PERSON_SIZE"):
+        yield constant, getattr(kind, constant)
+        yield constant, outcome(lambda: setattr(kind, constant, 1))[0]
+        yield constant, outcome(lambda: delattr(kind, constant))[0]
+
+
+def renamed(thing, old, new):
+    """An outcome of a call, with another name of the hash in its message."""
+    if isinstance(thing, str):
+        return thing.replace(old, new)
+    return tuple(renamed(each, old, new) for each in thing) if isinstance(thing, tuple) else thing
+
+
+class Objects(unittest.TestCase):
+    """Next to those of the plain family."""
+
+    def test_objects(self):
+        """They are neither changed, nor subclassed, nor pickled, and show nothing of a key."""
+        for name, make, _, _, longest in FAMILIES:
+            plain, mac = name[:7], getattr(vulfsjor, f"{name}_mac")
+            for kind, new in ((make, make), (mac, partial(mac, b"key"))):
+                theirs = getattr(_blake2, plain)
+                for ours, wanted in zip(edges_of_objects(kind, new), edges_of_objects(theirs, theirs), strict=True):
+                    self.assertEqual(ours, renamed(wanted, plain, kind.__name__))
+                made = new(digest_size=5)
+                self.assertEqual((made.name, made.block_size, made.digest_size), (kind.__name__, 2 * longest, 5))
+                self.assertEqual((type(made.copy()), made.copy().digest_size, new().digest_size), (kind, 5, longest))
+                self.assertEqual((kind.__module__, kind.__name__), ("vulfsjor", name + "_mac" * (kind is mac)))
+                for other in (made.copy(), made.digest()):
+                    self.assertNotEqual(made, other)
+            for constant in ("MAX_DIGEST_SIZE", "MAX_KEY_SIZE", "SALT_SIZE", "PERSON_SIZE"):
+                self.assertEqual(getattr(vulfsjor, f"{name.upper()}_{constant}"), getattr(make, constant))
+
+    def test_outputs(self):
+        for name, make, longest, _ in OUTPUTS:
+            self.assertEqual((make().name, make().block_size), (name, 2 * longest))
+            self.assertRaises(TypeError, type, "Sub", (make,), {})
+            with self.assertRaisesRegex(TypeError, "immutable type"):
+                make.name = "other"
+
+    def test_signatures_are_those_of_hashlib(self):
+        positional = inspect.Parameter.POSITIONAL_ONLY
+        for _, make, theirs, *_ in PLAIN:
+            # From 3.13.4 on, hashlib accepts the data by two names too.
+            wanted = [each.replace(kind=positional) if each.name == "data" else each
+                      for each in inspect.signature(theirs).parameters.values()
+                      if each.name != "string"]
+            self.assertEqual(list(inspect.signature(make).parameters.values()), wanted)
+            for method in ("copy", "digest", "hexdigest", "update"):
+                self.assertEqual(*(inspect.signature(getattr(each, method)) for each in (make, theirs)))
 
 
 if __name__ == "__main__":

@@ -1,7 +1,6 @@
 """Tests of build_package.py and of what it builds: the module, a source distribution, a wheel, and
 the module for 64-bit ARM and on processors that qemu emulates."""
 import base64
-import concurrent.futures
 import contextlib
 import email
 import glob
@@ -13,7 +12,6 @@ import platform
 import re
 import runpy
 import shutil
-import struct
 import sys
 import sysconfig
 import tarfile
@@ -24,15 +22,14 @@ from unittest import mock
 import zipfile
 
 import support
-from support import FOLDER, HERE, HUGE, TOP, absent, cannot_compile, long, run
+from support import FOLDER, HERE, TOP, absent, cannot_compile, long, run
 
 support.needs_clone()
 MODULE = os.path.join(FOLDER, "vulfsjor", "_library.abi3.so")
 PACKAGE = {"__init__.py", "_files.py", "_library.abi3.so", "_library.pyi", "py.typed"}
 X86 = platform.machine() == "x86_64"
 NO_ARM = cannot_compile("aarch64-linux-gnu-gcc")
-with open(os.path.join(TOP, "CHANGELOG.md"), encoding="utf-8") as PAGE:
-    VERSION = re.search(r"^## ([0-9.]+)", PAGE.read(), re.MULTILINE)[1]
+VERSION = re.search(r"(?m)^## ([0-9.]+)", pathlib.Path(TOP, "CHANGELOG.md").read_text(encoding="utf-8"))[1]
 ABOUT = f"vulfsjor-{VERSION}.dist-info"
 # Where the files of a source distribution come from.
 FOLDERS = ("c/include/", "c/", "dist/", "")
@@ -54,8 +51,8 @@ class Test(support.Test):
 
     def compares(self, folder, *prefix):
         """The package in a folder returns what hashlib does."""
-        self.succeeds(*prefix, sys.executable, "-m", "unittest", "test_against_hashlib", "test_parallel",
-                      cwd=HERE, env={**os.environ, "VULFSJOR_PACKAGE": folder})
+        self.succeeds(*prefix, sys.executable, "-m", "unittest", "test_against_hashlib", cwd=HERE,
+                      env={**os.environ, "VULFSJOR_PACKAGE": folder})
 
 
 @unittest.skipIf(absent(tools=["nm", "objdump"]), "no nm and objdump")
@@ -112,12 +109,12 @@ class Build(Test):
         self.assertIsNone(why)
         return os.path.join(self.folder, printed.splitlines()[-1])
 
-    def files_of(self, **words):
-        """The files of a new wheel, by their names, and the words or the text that the fake compiler has written."""
-        with zipfile.ZipFile(self.made(**words)) as wheel:
+    def wheel(self, module="_library.abi3.so", **words):
+        """The name of a new wheel, its files by their names, and what the fake compiler has written."""
+        path = self.made(**words)
+        with zipfile.ZipFile(path) as wheel:
             found = {name: wheel.read(name) for name in wheel.namelist()}
-        return found, next(text for name, text in found.items() if name.startswith("vulfsjor/_library.")
-                           and not name.endswith(".pyi"))
+        return os.path.basename(path), found, found[f"vulfsjor/{module}"].decode()
 
     def refused(self, folder=os.path.join(TOP, "python"), prefix="", **environment):
         """Why a build is refused, with lines of Python before it. It prints nothing else."""
@@ -132,22 +129,8 @@ class Build(Test):
             file.write(FAKE.format(printing))
         return path
 
-    def test_other_platforms(self):
-        for name in ("macosx-11.0-universal2", "win32", "win-arm32"):
-            self.assertEqual(self.refused(_PYTHON_HOST_PLATFORM=name),
-                             "build_package.py: vulfsjor is assembly for Linux, macOS and Windows on x86-64 and on "
-                             f"64-bit ARM, and has none for {name}")
-
     def test_portable(self):
-        """Portable C where there is no assembly, and on a word, over which the module works."""
-        fake = f"'{self.fake()}' -x"
-        for environment in ({"_PYTHON_HOST_PLATFORM": "linux-s390x"}, {"_PYTHON_HOST_PLATFORM": "linux-i686"},
-                            {"_PYTHON_HOST_PLATFORM": "freebsd-14.0-release-amd64"},
-                            {"_PYTHON_HOST_PLATFORM": "linux-x86_64", "VULFSJOR_PORTABLE": "1"},
-                            {"_PYTHON_HOST_PLATFORM": "linux-x86_64", "prefix": "sys.maxsize = 2**31 - 1"}):
-            words = self.files_of(CC=fake, **environment)[1].decode().splitlines()
-            self.assertEqual([word for word in words if word.endswith((".c", ".s"))],
-                             ["src/library.c", "src/by_threads.c", "src/trees.c", "src/xof.c", "src/portable.c"])
+        """A module of portable C works."""
         with zipfile.ZipFile(self.made(VULFSJOR_PORTABLE="1", CFLAGS="-O0")) as wheel:
             wheel.extractall(os.path.join(self.folder, "portable"))
         code = "import vulfsjor; print(vulfsjor.blake2b(b'abc', key=b'k').hexdigest())"
@@ -164,6 +147,9 @@ class Build(Test):
                 (none.format("", " of MinGW-w64"), {"PATH": "", "_PYTHON_HOST_PLATFORM": "win-amd64"}),
                 ("MSVC cannot assemble the code of vulfsjor: set CC to the GCC of MinGW-w64",
                  {"CC": self.fake("CL.exe"), "_PYTHON_HOST_PLATFORM": "win-amd64"}),
+                *(("vulfsjor is assembly for Linux, macOS and Windows on x86-64 and on 64-bit ARM, and has none for "
+                   f"{name}", {"_PYTHON_HOST_PLATFORM": name})
+                  for name in ("macosx-11.0-universal2", "win32", "win-arm32")),
                 ("the compiler failed", {"CC": "false"}),
                 ("the compiler failed: Python.h is missing; install the headers, such as Debian's python3-dev",
                  {"CC": "false", "prefix": "sysconfig.get_path = lambda name: '/absent'"}),
@@ -180,42 +166,42 @@ class Build(Test):
         for name in names:
             self.fake(os.path.join(folder, name), f"echo {name}")
         for name in names:
-            _, text = self.files_of(CC="", PATH=folder, prefix="sysconfig.get_config_var = {'CC': 'own -x'}.get")
-            self.assertEqual(text, f"{name}\n".encode())
+            *_, said = self.wheel(CC="", PATH=folder, prefix="sysconfig.get_config_var = {'CC': 'own -x'}.get")
+            self.assertEqual(said, f"{name}\n")
             os.remove(os.path.join(folder, name))
 
     def test_a_python_without_the_gil(self):
         """Its module and its wheel are for one version, which the name of the wheel has."""
-        wheel = self.made(
-            CC=f"'{self.fake()}'", VULFSJOR_WHEEL_PLATFORM="a-platform.5",
+        name, files, said = self.wheel(
+            "_library.own.so", CC=f"'{self.fake()}'", VULFSJOR_WHEEL_PLATFORM="a-platform.5",
             prefix="sysconfig.get_config_var = {'Py_GIL_DISABLED': 1, 'EXT_SUFFIX': '.own.so'}.get")
         version = f"cp3{sys.version_info.minor}"
-        self.assertEqual(os.path.basename(wheel), f"vulfsjor-{VERSION}-{version}-{version}t-a_platform_5.whl")
-        with zipfile.ZipFile(wheel) as file:
-            words = file.read("vulfsjor/_library.own.so").decode().splitlines()
-            self.assertIn(f"\nTag: {version}-{version}t-a_platform_5\n", file.read(f"{ABOUT}/WHEEL").decode())
-        self.assertIn("-DPy_GIL_DISABLED=1", words)
+        self.assertEqual(name, f"vulfsjor-{VERSION}-{version}-{version}t-a_platform_5.whl")
+        self.assertIn(f"\nTag: {version}-{version}t-a_platform_5\n", files[f"{ABOUT}/WHEEL"].decode())
+        self.assertIn("\n-DPy_GIL_DISABLED=1\n", said)
 
     def test_the_words_of_a_platform(self):
-        """Those that the compiler gets, and the name of the wheel."""
-        fake, linux = f"'{self.fake()}' -x", "-shared -pthread -Wl,--gc-sections -Wl,-z,relro,-z,now"
+        """Those that the compiler gets, and the name of the wheel. It is portable C where there is no assembly, and if
+        that is asked for."""
+        linux, windows = "-fPIC -shared -pthread -Wl,--gc-sections -Wl,-z,relro,-z,now", \
+            f"-shared -L{sys.base_prefix}/libs -L{sys.base_prefix}/lib"
         mac = "-bundle -undefined dynamic_lookup -Wl,-dead_strip -arch {} -mmacosx-version-min={}"
-        windows = f"-shared -L{sys.base_prefix}/libs -L{sys.base_prefix}/lib"
-        for name, options in (
-                ("linux-x86_64", f"-fPIC {linux}"), ("linux-aarch64", f"-fPIC {linux}"),
-                ("macosx-10.13-x86_64", mac.format("x86_64", "10.13")),
-                ("macosx-11.0-arm64", mac.format("arm64", "11.0")),
-                ("mingw_x86_64_ucrt_gnu", windows), ("win-amd64", windows),
-                ("win-arm64", windows)):
-            wheel = self.made(CC=fake, CFLAGS="-g '-D A'", LDFLAGS="-lz", _PYTHON_HOST_PLATFORM=name)
-            with zipfile.ZipFile(wheel) as file:
-                end = "pyd" if options == windows else "abi3.so"
-                words = file.read(f"vulfsjor/_library.{end}").decode().splitlines()
-            platform_name = re.sub("[-.]", "_", name)
-            self.assertEqual(os.path.basename(wheel), f"vulfsjor-{VERSION}-cp311-abi3-{platform_name}.whl")
+        assembly, portable = ["src/choose.c", "src/vulfsjor.s"], ["src/portable.c"]
+        for platform_name, options, sources, more in (
+                ("linux-x86_64", linux, assembly, {}), ("linux-aarch64", linux, assembly, {}),
+                ("macosx-10.13-x86_64", mac.format("x86_64", "10.13"), assembly, {}),
+                ("macosx-11.0-arm64", mac.format("arm64", "11.0"), assembly, {}),
+                *((name, windows, assembly, {}) for name in ("mingw_x86_64_ucrt_gnu", "win-amd64", "win-arm64")),
+                *((name, linux, portable, {}) for name in ("linux-s390x", "linux-i686", "freebsd-14.0-release-amd64")),
+                ("linux-x86_64", linux, portable, {"VULFSJOR_PORTABLE": "1"}),
+                ("linux-x86_64", linux, portable, {"prefix": "sys.maxsize = 2**31 - 1"})):
+            end = "pyd" if options == windows else "abi3.so"
+            name, _, said = self.wheel(f"_library.{end}", CC=f"'{self.fake()}' -x", CFLAGS="-g '-D A'", LDFLAGS="-lz",
+                                       _PYTHON_HOST_PLATFORM=platform_name, **more)
+            words = said.splitlines()
+            self.assertEqual(name, f"vulfsjor-{VERSION}-cp311-abi3-{re.sub('[-.]', '_', platform_name)}.whl")
             self.assertEqual([word for word in words if word.endswith((".c", ".s", ".S"))],
-                             ["src/library.c", "src/by_threads.c", "src/trees.c", "src/xof.c", "src/choose.c",
-                              "src/vulfsjor.s"])
+                             ["src/library.c", "src/by_threads.c", "src/trees.c", "src/xof.c", *sources])
             self.assertEqual((words[0], words[-1]), ("-x", "-lpython3" if options == windows else "-lz"))
             self.assertEqual(words[words.index("-g"):words.index("-o")], ["-g", "-D A", *options.split()])
             self.assertIn(f"-I{sysconfig.get_path('include')}", words)
@@ -223,14 +209,14 @@ class Build(Test):
     def test_the_text_of_a_platform(self):
         """What the assembler gets: the macros of the system, the marks, and the texts."""
         keep = f"'{self.fake(printing='cat src/vulfsjor.s')}'"
-        for name, macros, texts in (
-                ("linux-x86_64", "x86_64/elf", ["x86_64/vulfsjor-v2", "x86_64/vulfsjor-v3", "x86_64/vulfsjor-v4"]),
-                ("macosx-11.0-arm64", "aarch64/macho", ["aarch64/vulfsjor"]),
-                ("win-arm64", "aarch64/coff", ["aarch64/vulfsjor"])):
-            _, text = self.files_of(CC=keep, _PYTHON_HOST_PLATFORM=name)
-            head, *parts = (pathlib.Path(TOP, "dist", it).read_bytes()
+        for name, end, macros, *texts in (
+                ("linux-x86_64", "abi3.so", "x86_64/elf", *(f"x86_64/vulfsjor-v{level}" for level in (2, 3, 4))),
+                ("macosx-11.0-arm64", "abi3.so", "aarch64/macho", "aarch64/vulfsjor"),
+                ("win-arm64", "pyd", "aarch64/coff", "aarch64/vulfsjor")):
+            head, *parts = (pathlib.Path(TOP, "dist", it).read_text(encoding="utf-8")
                             for it in (f"{macros}.inc", *(f"{it}.s" for it in texts)))
-            self.assertTrue(text == b"".join([head, b"\tvj_marks\n", *parts]), name)
+            *_, said = self.wheel(f"_library.{end}", CC=keep, _PYTHON_HOST_PLATFORM=name)
+            self.assertTrue(said == "".join([head, "\tvj_marks\n", *parts]), name)
 
     def test_a_copy_of_the_folder_alone(self):
         shutil.move(self.copied("clone"), os.path.join(self.folder, "alone"))
@@ -240,33 +226,29 @@ class Build(Test):
 
     def test_wheel(self):
         """What is in a wheel, next to a module of the fake compiler."""
-        wheel = self.made(CC=self.fake().replace(" ", "\\ "))
-        with open(os.path.join(TOP, "python", "pyproject.toml"), "rb") as file:
-            project = tomllib.load(file)["project"]
-        with zipfile.ZipFile(wheel) as file:
-            names, contents = file.namelist(), {name: file.read(name) for name in file.namelist()}
+        name, contents, _ = self.wheel(CC=self.fake().replace(" ", "\\ "))
+        here = pathlib.Path(TOP, "python")
+        project = tomllib.loads((here / "pyproject.toml").read_text(encoding="utf-8"))["project"]
+        with zipfile.ZipFile(os.path.join(self.folder, name)) as file:
             self.assertEqual({(each.date_time, each.external_attr) for each in file.infolist()},
                              {((1980, 1, 1, 0, 0, 0), 0o100644 << 16)})
-        self.assertEqual(names, [
+        self.assertEqual(list(contents), [
             f"{ABOUT}/METADATA", f"{ABOUT}/WHEEL", *(f"vulfsjor/{it}" for it in sorted(PACKAGE)),
             f"{ABOUT}/RECORD"])
         record = dict(line.split(",", 1) for line in contents[f"{ABOUT}/RECORD"].decode().split())
         self.assertEqual(record.pop(f"{ABOUT}/RECORD"), ",")
-        for name in names[:-1]:
+        for name, entry in record.items():
             digest = base64.urlsafe_b64encode(hashlib.sha256(contents[name]).digest()).decode()
-            self.assertEqual(record.pop(name), f"sha256={digest.rstrip('=')},{len(contents[name])}")
-            path = os.path.join(TOP, "python", name)
+            self.assertEqual(entry, f"sha256={digest.rstrip('=')},{len(contents[name])}")
             if name.startswith("vulfsjor/") and not name.endswith(".so"):
-                with open(path, "rb") as file:
-                    self.assertEqual(contents[name], file.read())
-        self.assertEqual(record, {})
+                self.assertEqual(contents[name], (here / name).read_bytes())
+        self.assertEqual(list(record), list(contents)[:-1])
         kind = email.message_from_bytes(contents[f"{ABOUT}/WHEEL"])
         self.assertEqual(kind.items(), [
             ("Wheel-Version", "1.0"), ("Generator", f"vulfsjor-{VERSION}"),
             ("Root-Is-Purelib", "false"), ("Tag", f"cp311-abi3-linux_{platform.machine()}")])
         about = email.message_from_bytes(contents[f"{ABOUT}/METADATA"])
-        with open(os.path.join(TOP, "python", "README.md"), encoding="utf-8") as file:
-            self.assertEqual(about.get_payload(decode=True).decode(), file.read())
+        self.assertEqual(about.get_payload(decode=True), (here / "README.md").read_bytes())
         self.assertEqual(about.items(), [
             ("Metadata-Version", "2.1"), ("Name", "vulfsjor"), ("Version", VERSION),
             ("Summary", project["description"]), ("Keywords", ",".join(project["keywords"])),
@@ -287,23 +269,18 @@ class Build(Test):
             self.assertEqual(sorted(file.namelist()), [
                 *(f"{ABOUT}/{name}" for name in ("METADATA", "RECORD", "WHEEL")), "vulfsjor.pth"])
             self.assertEqual(file.read("vulfsjor.pth").decode(), f"{folder}\n")
-            for name in ("METADATA", "WHEEL"):
-                with open(os.path.join(self.folder, ABOUT, name), "rb") as other:
-                    self.assertEqual(file.read(f"{ABOUT}/{name}"), other.read())
+            for name in (f"{ABOUT}/METADATA", f"{ABOUT}/WHEEL"):
+                self.assertEqual(file.read(name), pathlib.Path(self.folder, name).read_bytes())
         self.assertTrue(os.path.exists(os.path.join(folder, "vulfsjor", "_library.abi3.so")))
 
     def test_source_distribution(self):
         """It has what it needs and nothing else, and its own files are what it uses. In another
         folder and at another time it is the same."""
-        path = self.made("sdist")
-        with open(path, "rb") as file:
-            first = file.read()
-        folder = os.path.join(self.folder, f"vulfsjor-{VERSION}")
-        with open(os.path.join(self.copied("a clone", "tests", "tools"), "vulfsjor", "_library.abi3.so"), "wb"):
-            pass  # as an editable install leaves one
-        self.made("sdist", os.path.join(self.folder, "a clone", "python"), TZ="Asia/Tokyo")
-        with open(path, "rb") as file:
-            self.assertEqual(file.read(), first)
+        path, folder = pathlib.Path(self.made("sdist")), os.path.join(self.folder, f"vulfsjor-{VERSION}")
+        first, clone = path.read_bytes(), self.copied("a clone", "tests", "tools")
+        pathlib.Path(clone, "vulfsjor", "_library.abi3.so").touch()  # as an editable install leaves one
+        self.made("sdist", clone, TZ="Asia/Tokyo")
+        self.assertEqual(path.read_bytes(), first)
         with tarfile.open(path) as file:
             self.assertEqual({(each.mode, each.uid, each.mtime) for each in file}, {(0o644, 0, 315532800)})
             file.extractall(self.folder)
@@ -335,30 +312,27 @@ class Build(Test):
         source distribution."""
         folder = self.copied("a clone")
         for name in ("src/vulfsjor.h", "src/choose.c", "src/thunks.h", "vulfsjor/_library.abi3.so"):
-            with open(os.path.join(folder, name), "w", encoding="utf-8") as file:
-                file.write("#error old\n")
+            pathlib.Path(folder, name).write_text("#error old\n", encoding="utf-8")
 
         def state():
             return {path: os.stat(path).st_mtime_ns for path in glob.glob(
                 f"{self.folder}/a clone/**", recursive=True, include_hidden=True)}
 
         before = state()
-        wheel = self.made("wheel", folder, CFLAGS="-g")  # which names the folder of the compiler
+        wheel = pathlib.Path(self.made("wheel", folder, CFLAGS="-g"))  # which names the folder of the compiler
         self.assertEqual(state(), before)
-        with open(wheel, "rb") as file:
-            first = file.read()
-        os.remove(wheel)
+        first = wheel.read_bytes()
+        wheel.unlink()
         self.succeeds(sys.executable, "-m", "pip", "--disable-pip-version-check", "wheel", "--no-index",
                       self.made("sdist"), cwd=self.folder, env={**os.environ, "CFLAGS": "-g"})
-        with open(wheel, "rb") as file:
-            self.assertEqual(file.read(), first)
+        self.assertEqual(wheel.read_bytes(), first)
 
     @long
     @unittest.skipIf(absent("ensurepip"), absent("ensurepip"))
     def test_pip_installs_the_folder(self):
         """As the README says, in a new clone without a network. What is installed is compared with hashlib."""
-        with open(os.path.join(self.copied("a clone"), "README.md"), encoding="utf-8") as file:
-            said = re.search("virtual environment:\\n((?:\\n    .*)+)\\n\\n", file.read())[1]
+        page = pathlib.Path(self.copied("a clone"), "README.md").read_text(encoding="utf-8")
+        said = re.search("virtual environment:\\n((?:\\n    .*)+)\\n\\n", page)[1]
         first, last = said.strip().split("\n    ")
         self.assertRegex(f"{first}\n{last}", r"\A.* -m venv venv\n.*/pip install \./python\Z")
         os.symlink(sys.executable, os.path.join(self.folder, "python3"))
@@ -376,16 +350,13 @@ class Build(Test):
         each processor; that of this one serves, since both have numbers of the same sizes."""
         here = sysconfig.get_config_var("MULTIARCH")
         version = f"python{sys.version_info.major}.{sys.version_info.minor}"
-        folder = os.path.join(self.folder, "include", "aarch64-linux-gnu", version)
-        os.makedirs(folder)
-        with open(os.path.join(folder, "pyconfig.h"), "w", encoding="utf-8") as file:
-            file.write(f'#include "/usr/include/{here}/{version}/pyconfig.h"\n')
-        done = support.build(self.folder, CFLAGS=f"-O0 -I{self.folder}/include",
-                             CC="aarch64-linux-gnu-gcc", _PYTHON_HOST_PLATFORM="linux-aarch64")
-        self.assertEqual(done.returncode, 0, done.stdout)
-        path = os.path.join(self.folder, "vulfsjor", "_library.abi3.so")
-        with open(path, "rb") as file:
-            self.assertEqual(struct.unpack("<H", file.read(20)[18:]), (183,))  # EM_AARCH64
+        folder = pathlib.Path(self.folder, "include", "aarch64-linux-gnu", version)
+        folder.mkdir(parents=True)
+        (folder / "pyconfig.h").write_text(f'#include "/usr/include/{here}/{version}/pyconfig.h"\n', encoding="utf-8")
+        support.build(self.folder, CFLAGS=f"-O0 -I{self.folder}/include",
+                      CC="aarch64-linux-gnu-gcc", _PYTHON_HOST_PLATFORM="linux-aarch64")
+        path = pathlib.Path(self.folder, "vulfsjor", "_library.abi3.so")
+        self.assertEqual(path.read_bytes()[18:20], b"\xb7\0")  # EM_AARCH64
         names = self.succeeds("aarch64-linux-gnu-nm", "-D", path).split("\n")
         self.assertEqual([name.split()[-1] for name in names if " T " in name], ["PyInit__library"])
         unmet = [name.split()[-1] for name in names if " U " in name]
@@ -401,26 +372,44 @@ class Processors(Test):
     def test_processor_without_avx2(self):
         self.compares(FOLDER, "qemu-x86_64", "-cpu", "Nehalem")
 
-    def test_processors_below_x86_64_v2(self):
-        """One that has fewer features, and in the full test each that has all but one. With other
-        ones Python itself does not start."""
-        def said(processor):
-            program = f"import sys\nsys.path.insert(0, {FOLDER!r})\nimport vulfsjor"
-            return run("qemu-x86_64", "-cpu", processor, sys.executable, "-S", "-E", "-c", program)
-
-        features = ("sse3", "ssse3", "cx16", "sse4.2", "popcnt", "lahf-lm") if HUGE else ()
-        below = ["core2duo", *["Nehalem,-sse4.1"] * HUGE, *(f"Haswell,-{feature}" for feature in features)]
-        with concurrent.futures.ThreadPoolExecutor(os.cpu_count()) as pool:
-            done = dict(zip(below, pool.map(said, below)))
-        for name, each in done.items():
-            self.assertEqual(each.returncode, 1, (name, each.stdout))
-            self.assertEqual(each.stdout.splitlines()[-1],
-                             "ImportError: vulfsjor needs a processor of x86-64-v2, with SSE4.2 and POPCNT")
-        self.assertEqual(said("Nehalem").returncode, 0)
+    def test_a_processor_below_x86_64_v2(self):
+        """And one that is of it. c/tests/choosing.sh has those that lack one feature each."""
+        program = f"import sys\nsys.path.insert(0, {FOLDER!r})\nimport vulfsjor"
+        for processor, status, said in (("Nehalem", 0, []), ("core2duo", 1, [
+                "ImportError: vulfsjor needs a processor of x86-64-v2, with SSE4.2 and POPCNT"])):
+            done = run("qemu-x86_64", "-cpu", processor, sys.executable, "-S", "-E", "-c", program)
+            self.assertEqual((done.returncode, done.stdout.splitlines()[-1:]), (status, said))
 
 
-class Time(Test):
-    """What a call takes."""
+# Compares tags that differ at one byte each, by the module alone.
+VERIFY = f"""import importlib.util
+spec = importlib.util.spec_from_file_location("vulfsjor._library", {MODULE!r})
+library = importlib.util.module_from_spec(spec)
+spec.loader.exec_module(library)
+mac = library.blake2b(b"message", key=b"key")
+for place in [0, 31, 63] * 10:
+    wrong = bytearray(mac.digest())
+    wrong[place] ^= 1
+    try:
+        mac.verify(wrong)
+    except library.InvalidTag:
+        continue
+    raise AssertionError
+"""
+# Runs CPython's own test_hashlib with the package instead of _blake2. What fetches vectors from the network is skipped.
+THEIRS = f"""import sys
+sys.path.insert(0, {FOLDER!r})
+import vulfsjor
+sys.modules["_blake2"] = vulfsjor
+import test.support, test.test_hashlib as theirs, unittest
+test.support.use_resources = []
+assert theirs.hashlib.blake2b is vulfsjor.blake2b and theirs.hashlib.blake2s is vulfsjor.blake2s
+unittest.main(theirs, argv=["", "--verbose"])
+"""
+
+
+class Programs(Test):
+    """Programs over the module."""
 
     @long
     @unittest.skipIf(absent(tools=["valgrind"]), "no valgrind")
@@ -428,25 +417,21 @@ class Time(Test):
         """The least instructions of a comparison do not depend on the place where a tag differs.
         Each comparison is counted in a file of its own."""
         self.succeeds(
-            "valgrind", "--tool=callgrind", f"--callgrind-out-file={self.folder}/count",
-            "--toggle-collect=verify", "--dump-after=verify", sys.executable, "-S",
-            os.path.join(HERE, "count_verify.py"), MODULE,
+            "valgrind", "--tool=callgrind", f"--callgrind-out-file={self.folder}/count", "--toggle-collect=verify",
+            "--dump-after=verify", sys.executable, "-S", "-c", VERIFY,
             env={**os.environ, "PYTHONHASHSEED": "0", "PYTHONMALLOC": "malloc"})
         counts = []
         for number in range(1, 31):
-            with open(f"{self.folder}/count.{number}", encoding="utf-8") as file:
-                counts.append(int(re.search(r"^totals: (\d+)", file.read(), re.MULTILINE)[1]))
+            text = pathlib.Path(self.folder, f"count.{number}").read_text(encoding="utf-8")
+            counts.append(int(re.search(r"(?m)^totals: (\d+)", text)[1]))
         least = {min(counts[place::3]) for place in range(3)}  # an allocation adds to some counts
         self.assertEqual(len(least), 1, counts)
         self.assertGreater(min(least), 1000)
 
-
-class CPython(Test):
-    """CPython's own tests."""
-
     @unittest.skipIf(absent("test.test_hashlib"), "no test.test_hashlib")
     def test_hashlib_of_cpython(self):
-        self.succeeds(sys.executable, os.path.join(HERE, "cpython.py"), FOLDER)
+        said = self.succeeds(sys.executable, "-c", THEIRS, cwd=self.folder)
+        self.assertGreaterEqual(len(re.findall(r"(?m)^test_\w*blake2", said)), 12, said)
 
 
 if __name__ == "__main__":

@@ -3,11 +3,10 @@ each task here, and the program over a cluster. They need Dask (Debian's python3
 import os
 import subprocess
 import sys
-import tempfile
 import unittest
 from unittest import mock
 
-from support import FOLDER, TOP, absent, long, needs_clone
+from support import FOLDER, TOP, Test, absent, long, needs_clone
 
 needs_clone()
 if absent("distributed"):
@@ -22,27 +21,21 @@ LEAF = 1000
 
 class Here:
     """A client that runs each task in this process."""
+    gather = staticmethod(list)
 
     @staticmethod
     def submit(function, *given, pure):
         assert not pure
         return function(*given)
 
-    gather = staticmethod(list)
 
-
-class DaskTest(unittest.TestCase):
+class DaskTest(Test):
     """The example, over a file."""
-
-    def setUp(self):
-        folder = self.enterContext(tempfile.TemporaryDirectory())
-        self.path = os.path.join(folder, "message")
 
     def write(self, length):
         """Makes the file hold this many bytes, and returns them."""
         message = os.urandom(length)
-        with open(self.path, "wb") as file:
-            file.write(message)
+        self.path = self.file(message)
         return message
 
     def test_roots(self):
@@ -90,11 +83,11 @@ class DaskTest(unittest.TestCase):
         code = "import functools, dask_root as d\n" \
             "d.LocalCluster = functools.partial(d.LocalCluster, n_workers=1, processes=False)\nd.main()"
         for words, status, out, errors in (
-                (["message"], 0, f"{tree_root(message, 65536, 64).hex()}  message\n", "^"),
-                (["--leaf", "777", "message"], 0, f"{tree_root(message, 777, 64).hex()}  message\n", "^"),
+                (["file"], 0, f"{tree_root(message, 65536, 64).hex()}  file\n", "^"),
+                (["--leaf", "777", "file"], 0, f"{tree_root(message, 777, 64).hex()}  file\n", "^"),
                 (["absent"], 1, "", "(?m)^dask_root.py: .*No such file or directory: '.*/absent'$"),
                 *((words, 2, "", "usage: ") for words in (
-                    [], ["--leaf", "0", "message"], ["--leaf", "4294967296", "message"], ["a", "b"]))):
+                    [], ["--leaf", "0", "file"], ["--leaf", "4294967296", "file"], ["a", "b"]))):
             done = subprocess.run([sys.executable, "-c", code, *words], cwd=os.path.dirname(self.path), text=True,
                                   env={**os.environ, "PYTHONPATH": os.pathsep.join([FOLDER, EXAMPLES])},
                                   capture_output=True, check=False)

@@ -13,6 +13,7 @@ import unittest
 import support
 from support import FOLDER, HERE, HUGE, long, run
 
+FILES = [f"test_{subject}.py" for subject in ("against_hashlib", "conformance", "files", "refusals", "threads")]
 ABOUT = """import sys, sysconfig
 print(sys.executable, *sys.version_info[:2], bool(sysconfig.get_config_var("Py_GIL_DISABLED")),
       sys.implementation.name == "cpython", sep="|")"""
@@ -58,8 +59,7 @@ class Interpreters(unittest.TestCase):
         """The same module returns what hashlib does in each version."""
         for version, python in interpreters().items():
             if not version[2] and version[:2] != sys.version_info[:2]:
-                for file in ("test_against_hashlib.py", "test_conformance.py", "test_mac.py", "test_parallel.py",
-                             "test_tree_*.py"):
+                for file in FILES:
                     with self.subTest(python=python, file=file):
                         self.succeeds(python, "-m", "unittest", "discover", HERE, file, VULFSJOR_PACKAGE=FOLDER)
 
@@ -70,14 +70,11 @@ class Interpreters(unittest.TestCase):
             self.skipTest("no CPython without the GIL")
         for python in found:
             with self.subTest(python=python), tempfile.TemporaryDirectory() as folder:
-                done = support.build(folder, python)
-                self.assertEqual(done.returncode, 0, done.stdout)
-                self.assertRegex(done.stdout, r"-cp(3\d+)-cp\1t-linux_\w+\.whl\n\Z")
+                self.assertRegex(support.build(folder, python), r"-cp(3\d+)-cp\1t-linux_\w+\.whl\n\Z")
                 self.succeeds(python, "-c", f"import sys; sys.path.insert(0, {folder!r}); "
                               "import vulfsjor; assert not sys._is_gil_enabled()")
                 self.succeeds(python, os.path.join(HERE, "in_subinterpreters.py"), folder)
-                for file in ("test_against_hashlib.py", "test_api.py", "test_conformance.py", "test_mac.py",
-                             "test_parallel.py", "test_threads.py", "test_tree_*.py"):
+                for file in (*FILES, "test_api.py"):
                     self.succeeds(python, "-m", "unittest", "discover", HERE, file, VULFSJOR_PACKAGE=folder)
 
 

@@ -1,24 +1,28 @@
-"""Tests of objects that threads share, and of the GIL: other threads run during long calls. test_tree_threads.py has
-trees by several threads."""
+"""Tests of the GIL, which other threads have during long calls, of objects that threads share, and of trees by threads,
+which c/threads.c has: data in memory and updates, how many threads there are, and signals meanwhile. c/tests tests its
+faults."""
 import contextlib
 import functools
 import io
+import os
+import signal
 import sys
 import threading
 import time
 import unittest
 
-from support import WITHOUT_GIL, by_threads
-from test_api import FAMILIES, OUTPUTS, PLAIN
+from families import DATA, FAMILIES, MIB, OUTPUTS, PLAIN, TEXTS, have_ended, other_threads
+from support import Test, WITHOUT_GIL, by_threads
 import oracle
 import vulfsjor
 
-LONG = bytes(1 << 24)
+KIB = 1 << 10
+LONG, LONGEST = bytes(1 << 24), 1 << 27
 # What makes an object, the arguments of its digest, and the digest of a message, for which test_conformance.py knows
 # that some objects are right.
 KINDS = (*((make, (), lambda data, theirs=theirs: theirs(data).digest()) for _, make, theirs, _, _ in PLAIN),
          *((make, (), lambda data, make=make: make(data).digest()) for _, make, *_ in FAMILIES[2:]),
-         *((make, (99,), lambda data, make=make: make(data).digest(99)) for _, make, _ in OUTPUTS),
+         *((make, (99,), lambda data, make=make: make(data).digest(99)) for _, make, *_ in OUTPUTS),
          (functools.partial(vulfsjor.TreeHasher, 1 << 12, digest_size=20), (),
           lambda data: oracle.tree_root(data, 1 << 12, 20)))
 
@@ -57,32 +61,26 @@ class Threads(unittest.TestCase):
         call()
         return self.turns - before
 
-    def assert_lets_others_run(self, call):
-        """In one of fifty tries: on a busy machine the other thread may wait for a processor all the while."""
-        self.assertTrue(any(self.turns_during(call) > 10 for _ in range(50)))
+    def let_others_run(self, *calls):
+        """Each, in one of fifty tries: on a busy machine the other thread may wait for a processor all the while."""
+        for call in calls:
+            self.assertTrue(any(self.turns_during(call) > 10 for _ in range(50)))
 
     def test_long_inputs_let_others_run(self):
         for _, make, _, many, _ in FAMILIES:
-            hasher = make()
-            for call in (lambda: hasher.update(LONG), lambda: make(LONG),
-                         *([lambda: many([LONG])] if many else [])):
-                self.assert_lets_others_run(call)
-        for _, make, _ in OUTPUTS:
-            self.assert_lets_others_run(lambda: make().update(LONG))
-            self.assert_lets_others_run(lambda: make().digest(1 << 24))
-            self.assert_lets_others_run(lambda: make().hexdigest(1 << 24))
-        self.assert_lets_others_run(lambda: vulfsjor.derive_key(b"key", b"", 1 << 24))
-        for call in (
-            lambda: vulfsjor.derive_key(b"key", LONG, 9),
+            self.let_others_run(lambda: make().update(LONG), lambda: make(LONG), *[lambda: many([LONG])] * bool(many))
+        for _, make, *_ in OUTPUTS:
+            self.let_others_run(lambda: make().update(LONG), lambda: make().digest(1 << 24),
+                                lambda: make().hexdigest(1 << 24))
+        self.let_others_run(
+            lambda: vulfsjor.derive_key(b"key", b"", 1 << 24), lambda: vulfsjor.derive_key(b"key", LONG, 9),
             lambda: vulfsjor.file_digest(io.BytesIO(LONG), "blake2b"),
             lambda: vulfsjor.TreeHasher(4096).update_leaves(LONG, b"x"),
             lambda: vulfsjor.tree_root(LONG, 4096),
             lambda: vulfsjor.TreeHasher(4096).update(LONG),
             lambda: vulfsjor.TreeHasher(4096).leaves_ahead(LONG),
             lambda: vulfsjor.tree_leaves(LONG, 4096, first=0, ends=True),
-            lambda: vulfsjor.tree_root_of_leaves(LONG, 4096),
-        ):
-            self.assert_lets_others_run(call)
+            lambda: vulfsjor.tree_root_of_leaves(LONG, 4096))
 
     def test_others_wait_for_a_long_update(self):
         """A call of an object sees all of an update that is under way, at least once in a hundred
@@ -98,12 +96,9 @@ class Threads(unittest.TestCase):
 
     def is_met(self, call, hasher):
         """The result of a call while another thread updates the object."""
-        thread = threading.Thread(target=hasher.update, args=(LONG,))
-        thread.start()
-        time.sleep(0.002)
-        answer = call(hasher)
-        thread.join()
-        return answer
+        with by_threads(1, lambda: hasher.update(LONG)):
+            time.sleep(0.002)
+            return call(hasher)
 
     @unittest.skipIf(WITHOUT_GIL, "no GIL")
     def test_short_ones_do_not(self):
@@ -172,7 +167,8 @@ class Shared(unittest.TestCase):
                 for _ in range(3000):
                     hasher.update(bytes(99))
 
-            by_threads(4, work)
+            with by_threads(4, work):
+                pass
             self.assertEqual(hasher.digest(*size), wanted(bytes(4 * 3000 * 99)))
 
     def test_counts_of_whole_updates(self):
@@ -187,6 +183,150 @@ class Shared(unittest.TestCase):
         while thread.is_alive():
             counts.add(hasher.count)
         self.assertEqual({count % len(piece) for count in counts}, {0})
+
+
+class Trees(Test):
+    """Data in memory by threads."""
+
+    def test_roots_are_those_of_hashlib(self):
+        """In one call, and by updates. From 512 KiB on there are two threads."""
+        for length in (5, 512 * KIB - 1, 512 * KIB, len(DATA)):
+            for leaf_size in (1000, MIB + 1, 2**32 - 1):
+                data = DATA[:length]
+                wanted = oracle.tree_root(data, leaf_size, 20, **TEXTS)
+                for threads in (0, 5):
+                    self.assertEqual(wanted, vulfsjor.tree_root(data, leaf_size, digest_size=20, threads=threads,
+                                                                **TEXTS))
+                    for cut in (1, leaf_size):
+                        hasher = vulfsjor.TreeHasher(leaf_size, digest_size=20, **TEXTS)
+                        for piece in (data[:cut], bytearray(data[cut:]), b""):
+                            self.assertIsNone(hasher.update(piece, threads=threads))
+                        self.assertEqual((hasher.digest(), hasher.count), (wanted, length))
+
+    def most_threads(self, call, wanted):
+        """The most threads, with the caller's, of some calls, until there are as many as wanted."""
+        found, ended = [0], threading.Event()
+
+        def watch():
+            while not ended.is_set():
+                found.append(other_threads())
+
+        for _ in range(50):
+            self.assertTrue(have_ended())
+            with by_threads(1, watch):
+                call()
+                ended.set()
+            ended.clear()
+            if 1 + max(found) >= wanted:
+                break
+        return 1 + max(found)
+
+    def test_the_number_of_threads(self):
+        """With the caller's it is the number that is asked for, or that of the processors of the caller's thread, or
+        one for each 256 KiB. The most of fifty tries count: on a busy machine some end before all begin."""
+        processors = os.sched_getaffinity(0)
+        self.addCleanup(os.sched_setaffinity, 0, processors)
+        data = memoryview(bytes(64 * MIB))
+        for asked, length, allowed, wanted in (
+                (1, 64 * MIB, None, 1), (3, 64 * MIB, None, 3), (9, 512 * KIB - 1, None, 1),
+                (9, 1024 * KIB - 1, None, 3),
+                (0, 64 * MIB, 1, 1), (0, 64 * MIB, 2, 2), (0, 64 * MIB, None, len(processors))):
+            if allowed and allowed > len(processors):
+                continue
+            os.sched_setaffinity(0, set(list(processors)[:allowed]))
+            for call in (lambda: vulfsjor.tree_root(data[:length], 4096, threads=asked),
+                         lambda: vulfsjor.TreeHasher(4096).update(data[:length], threads=asked)):
+                self.assertEqual(self.most_threads(call, wanted), wanted, (asked, length))
+        for asked in (300, 2**32 + 1, 2**70):
+            met = self.most_threads(lambda: vulfsjor.tree_root(data, 4096, threads=asked), 3)
+            self.assertTrue(3 <= met <= 256, met)
+
+    def test_no_update_is_lost(self):
+        """Each update by threads is absorbed, or refused because of another one, which it waits for if that is under
+        way."""
+        hasher, done, text = vulfsjor.TreeHasher(1 << 14), [], "^another thread has updated the hasher meanwhile$"
+
+        def work():
+            for turn in range(60):
+                length = MIB
+                try:
+                    hasher.update(bytes(length), threads=2)
+                except RuntimeError as error:
+                    self.assertRegex(str(error), text)
+                    length = (1, 1 << 17)[turn % 2]  # other threads run during the second
+                    hasher.update(bytes(length))
+                done.append(length)
+
+        with by_threads(3, work):
+            pass
+        self.assertEqual(len(done), 180)
+        self.assertLessEqual({1, 1 << 17}, set(done))
+        self.assertEqual((hasher.count, hasher.digest()), (sum(done), oracle.tree_root(bytes(sum(done)), 1 << 14)))
+
+
+class Signals(Test):
+    """Signals while threads hash: a handler runs in the thread that has called, and its exception ends the call."""
+
+    @staticmethod
+    def fail():
+        raise LookupError("of the handler")
+
+    def during(self, handle, call):
+        """Makes a call again and again, in each of which a signal comes, until one raises an exception, which is
+        returned. The handler calls `handle`."""
+        is_called = threading.Event()
+        before = signal.signal(signal.SIGALRM, lambda *_: is_called.is_set() and handle())
+        self.addCleanup(signal.signal, signal.SIGALRM, before)
+        turn, end = 0, time.monotonic() + 20
+        while time.monotonic() < end:
+            turn += 1
+            is_called.set()
+            signal.setitimer(signal.ITIMER_REAL, 0.002 * (turn % 10 + 1))
+            try:
+                call()
+            except Exception as error:  # whatever is raised is compared
+                return error
+            finally:
+                is_called.clear()
+                signal.setitimer(signal.ITIMER_REAL, 0)
+        self.fail("no signal came in time")
+
+    def test_an_interrupted_update_changes_nothing(self):
+        hasher, data = vulfsjor.TreeHasher(1 << 14), bytes(LONGEST)
+        hasher.update(DATA[:5])
+        whole = hasher.copy()
+        whole.update(data)
+
+        def update():
+            other = hasher.copy()
+            try:
+                other.update(data, threads=3)
+            except LookupError:
+                if other.digest() == whole.digest():  # the signal came just after the update
+                    return
+                self.assertEqual((other.digest(), other.count), (oracle.tree_root(DATA[:5], 1 << 14), 5))
+                raise
+
+        self.assertIsInstance(self.during(self.fail, update), LookupError)
+        self.assertTrue(have_ended())
+
+    def test_an_interrupted_root(self):
+        """Of data, of a file, and of a pipe from which nothing comes. The file would take minutes."""
+        data, path, (reader, writer) = bytes(LONGEST), self.file(length=1 << 37), os.pipe()
+        self.addCleanup(os.close, reader), self.addCleanup(os.close, writer)
+
+        for call in (
+            lambda: vulfsjor.tree_root(data, 1 << 14, threads=2),
+            lambda: vulfsjor.tree_root(data, 1 << 14, threads=300),
+            lambda: vulfsjor.tree_root_file(path, 1 << 16, threads=3),
+            lambda: vulfsjor.tree_root_file(path, 1 << 16, threads=1),
+            lambda: vulfsjor.tree_root_file(path, 2**32 - 1, threads=3),
+            lambda: vulfsjor.tree_root_file(reader, 1 << 16),
+        ):
+            start, found = time.monotonic(), self.during(self.fail, call)
+            self.assertEqual((type(found), str(found)), (LookupError, "of the handler"))
+            self.assertLess(time.monotonic() - start, 20)
+            self.assertTrue(have_ended())
 
 
 if __name__ == "__main__":

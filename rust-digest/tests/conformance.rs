@@ -36,32 +36,30 @@ struct Tagged<T>(T, T);
 struct Variable<T>(T, T);
 
 macro_rules! hash {
-    ($kind:ident: $($bounds:tt)*) => {
+    ($kind:ident($($bounds:tt)*): $is_tag:expr) => {
         impl<T: $($bounds)* + Update + Write + Reset + Clone + 'static> Hash<()> for $kind<T> {
             fn update(&mut self, message: &[u8]) -> Outcome {
                 absorb(&mut self.0, message)
-            }
-            fn copy(&self) -> Box<dyn Hash<()>> {
-                Box::new(self.clone())
             }
             fn reset(&mut self) -> Outcome {
                 Reset::reset(&mut self.0);
                 done()
             }
-            fn digest(&self) -> Outcome {
+            fn digest(&mut self) -> Outcome {
                 let digest = self.by_all_ways(self.0.clone());
                 self.by_all_ways(self.1.clone());
                 Some(Ok(hex(&digest)))
             }
-            fn verify(&self, tag: &[u8]) -> Outcome {
-                yes_or_no(self.is_tag(tag))
+            fn verify(&mut self, tag: &[u8]) -> Outcome {
+                let is_tag: fn(T, &[u8]) -> bool = $is_tag;
+                yes_or_no(is_tag(self.0.clone(), tag))
             }
         }
     };
 }
-hash!(Fixed: Digest + FixedOutputReset);
-hash!(Tagged: Mac + FixedOutputReset);
-hash!(Variable: VariableOutputReset);
+hash!(Fixed(Digest + FixedOutputReset): |hasher, tag| hasher.finalize()[..] == *tag);
+hash!(Tagged(Mac + FixedOutputReset): |mac, tag| mac.verify_slice(tag).is_ok());
+hash!(Variable(VariableOutputReset): |hasher, tag| *hasher.finalize_boxed() == *tag);
 
 impl<T: Digest + FixedOutputReset + Reset + Update + Clone> Fixed<T> {
     fn by_all_ways(&self, mut hasher: T) -> Vec<u8> {
@@ -73,10 +71,6 @@ impl<T: Digest + FixedOutputReset + Reset + Update + Clone> Fixed<T> {
         assert_eq!(hasher.finalize(), self.1.clone().finalize());
         digest.to_vec()
     }
-
-    fn is_tag(&self, tag: &[u8]) -> bool {
-        self.0.clone().finalize()[..] == *tag
-    }
 }
 
 impl<T: Mac + FixedOutputReset + Reset + Clone> Tagged<T> {
@@ -85,10 +79,6 @@ impl<T: Mac + FixedOutputReset + Reset + Clone> Tagged<T> {
         assert_eq!(Mac::finalize_reset(&mut mac).into_bytes(), tag);
         assert!(mac.finalize() == self.1.clone().finalize());
         tag.to_vec()
-    }
-
-    fn is_tag(&self, tag: &[u8]) -> bool {
-        self.0.clone().verify_slice(tag).is_ok()
     }
 }
 
@@ -104,10 +94,6 @@ impl<T: VariableOutputReset + Clone> Variable<T> {
         assert_eq!(hasher.finalize_boxed_reset(), digest);
         assert_eq!(hasher.finalize_boxed(), self.1.clone().finalize_boxed());
         digest.to_vec()
-    }
-
-    fn is_tag(&self, tag: &[u8]) -> bool {
-        *self.0.clone().finalize_boxed() == *tag
     }
 }
 
@@ -125,9 +111,6 @@ where
             return None; // the hasher absorbs more even so
         }
         absorb(&mut self.0, message)
-    }
-    fn copy(&self) -> Box<dyn Hash<()>> {
-        Box::new(self.clone())
     }
     fn reset(&mut self) -> Outcome {
         Reset::reset(&mut self.0);
@@ -158,6 +141,11 @@ where
     }
 }
 
+/// What was made, in a box with what its kind of hash adds.
+fn boxed<T, H: Hash<()> + 'static, E>(made: Result<T, E>, add: fn(T) -> H) -> Made {
+    Some(made.map(|made| Box::new(add(made)) as _).map_err(|_| ()))
+}
+
 macro_rules! family {
     ($make:ident, $hasher:ident, $mac:ident, $var:ident, $longest:ty, $($size:ty)*) => {
         /// A hasher or MAC with these arguments, if the size is one of those here, or at run time.
@@ -165,23 +153,19 @@ macro_rules! family {
             use digest::typenum::Unsigned;
             let [key, salt, persona] = [given.text("key")?, given.text("salt")?, given.text("person")?];
             let size = given.number("size", <$longest>::USIZE)?;
-            macro_rules! boxed {
-                ($kind:ident, $made:expr) => {
-                    return Some($made.map(|made| Box::new($kind(made.clone(), made)) as _).map_err(|_| ()))
-                };
-            }
             $(if size == <$size>::USIZE && given.has("key") {
                 let made = $mac::<$size>::new_with_salt_and_personal(&key, &salt, &persona);
                 if given.has_only(&["size", "key"]) {
                     assert_eq!(<$mac<$size> as KeyInit>::new_from_slice(&key).is_ok(), made.is_ok());
                 }
-                boxed!(Tagged, made);
+                return boxed(made, |made| Tagged(made.clone(), made));
             }
             if size == <$size>::USIZE && given.has_only(&["size", "salt", "person"]) {
-                boxed!(Fixed, $hasher::<$size>::new_with_salt_and_personal(&salt, &persona));
+                let made = $hasher::<$size>::new_with_salt_and_personal(&salt, &persona);
+                return boxed(made, |made| Fixed(made.clone(), made));
             })*
             if given.has_only(&["size"]) {
-                boxed!(Variable, $var::new(size));
+                return boxed($var::new(size), |made| Variable(made.clone(), made));
             }
             None
         }
@@ -206,12 +190,8 @@ impl Driver for Crate {
             "blake2s" => blake2s(given),
             "blake2bp" => blake2bp(given),
             "blake2sp" => blake2sp(given),
-            "blake2xb" => given.params(|params| {
-                Some(Blake2xb::with_params(params).map(|hasher| Box::new(Long(hasher, None)) as _).map_err(|_| ()))
-            }),
-            _ => given.params(|params| {
-                Some(Blake2xs::with_params(params).map(|hasher| Box::new(Long(hasher, None)) as _).map_err(|_| ()))
-            }),
+            "blake2xb" => given.params(|params| boxed(Blake2xb::with_params(params), |hasher| Long(hasher, None))),
+            _ => given.params(|params| boxed(Blake2xs::with_params(params), |hasher| Long(hasher, None))),
         }
     }
 

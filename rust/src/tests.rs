@@ -38,10 +38,11 @@ fn layouts_are_those_of_the_library() {
     }
 }
 
+// What a hasher returns, and what it panics with if no call has made its state.
 macro_rules! family {
     (
-        $test:ident, $hasher:ident, $state:ident, $counter:literal, $leaves:literal, $end:literal, $key:literal
-        $(, $last:ident)?
+        $test:ident, $hasher:ident, $state:ident, $counter:literal, $leaves:literal, $end:literal, $key:literal,
+        $result:ident, $($call:ident($($on:literal)?)),*
     ) => {
         mod $test {
             use super::*;
@@ -59,14 +60,7 @@ macro_rules! family {
                 let none = || $hasher { state: $state::ZEROS };
                 assert_eq!(none().count(), 0);
                 assert!(panic_of(|| none().update(b"").count()).contains("an input of 2^64 bytes"));
-                for panic in [
-                    panic_of(|| none().finalize()),
-                    panic_of(|| none().finalize_reset()),
-                    panic_of(|| none().reset()),
-                    $(panic_of(|| none().$last(true)),)?
-                ] {
-                    assert!(panic.contains("a state that new has made"));
-                }
+                $(assert!(panic_of(|| none().$call($($on)?)).contains("a state that new has made"));)*
             }
 
             #[test]
@@ -74,14 +68,14 @@ macro_rules! family {
                 let mut hasher = near_the_end($hasher::new(), $end);
                 hasher.update([7; $end - 1]);
                 assert_eq!(hasher.count(), u64::MAX);
-                let before = hasher.clone().finalize();
+                let before = $result!(hasher);
                 hasher.update(b"");
                 for length in [1, LONG] {
                     let update = || hasher.update(std::vec![0; length]).count();
                     assert!(panic_of(update).contains("an input of 2^64 bytes"));
                 }
-                assert_eq!((hasher.count(), hasher.finalize()), (u64::MAX, before));
-                assert_ne!(before, $hasher::digest([7; $end - 1]));
+                assert_eq!((hasher.count(), $result!(hasher)), (u64::MAX, before));
+                assert_ne!(before, $result!($hasher::new().update([7; $end - 1])));
             }
 
             #[test]
@@ -98,32 +92,27 @@ macro_rules! family {
     };
 }
 
-family!(blake2b, Blake2b, Blake2bState, 16, 1, 256, 128, set_last_node);
-family!(blake2s, Blake2s, Blake2sState, 8, 1, 128, 64, set_last_node);
-family!(blake2bp, Blake2bp, Blake2bpState, 32, 4, 2048, 512);
-family!(blake2sp, Blake2sp, Blake2spState, 32, 8, 2048, 512);
-
-macro_rules! inputs_of_outputs_end_before_2_to_the_64 {
-    ($test:ident, $hasher:ident, $state:ident, $block:literal, $counter:literal) => {
-        #[test]
-        fn $test() {
-            let none = || $hasher { state: $state::ZEROS };
-            assert!(panic_of(|| none().update(b"").count()).contains("an input of 2^64 bytes"));
-            assert!(panic_of(|| none().reset()).contains("a state that new has made"));
-            let mut hasher = $hasher::new();
-            hasher.state.0[$counter] = 0u64.wrapping_sub($block).to_le();
-            hasher.update([7; $block - 1]);
-            for length in [1, LONG] {
-                let update = || hasher.update(std::vec![0; length]).count();
-                assert!(panic_of(update).contains("an input of 2^64 bytes"));
-            }
-            assert_eq!(hasher.count(), u64::MAX);
-        }
+macro_rules! digest {
+    ($hasher:expr) => {
+        $hasher.finalize()
     };
 }
+macro_rules! output {
+    ($hasher:expr) => {{
+        let mut out = [0; 9];
+        $hasher.finalize_xof().read(&mut out).unwrap();
+        out
+    }};
+}
 
-inputs_of_outputs_end_before_2_to_the_64!(blake2xb, Blake2xb, Blake2xbState, 128, 16);
-inputs_of_outputs_end_before_2_to_the_64!(blake2xs, Blake2xs, Blake2xsState, 64, 8);
+family!(blake2b, Blake2b, Blake2bState, 16, 1, 256, 128, digest,
+    finalize(), finalize_reset(), reset(), set_last_node(true));
+family!(blake2s, Blake2s, Blake2sState, 8, 1, 128, 64, digest,
+    finalize(), finalize_reset(), reset(), set_last_node(true));
+family!(blake2bp, Blake2bp, Blake2bpState, 32, 4, 2048, 512, digest, finalize(), finalize_reset(), reset());
+family!(blake2sp, Blake2sp, Blake2spState, 32, 8, 2048, 512, digest, finalize(), finalize_reset(), reset());
+family!(blake2xb, Blake2xb, Blake2xbState, 16, 1, 256, 128, output, reset());
+family!(blake2xs, Blake2xs, Blake2xsState, 8, 1, 128, 64, output, reset());
 
 #[test]
 fn a_tree_that_no_init_has_made_is_refused() {
@@ -324,22 +313,15 @@ mod threads {
         assert_eq!((hashed, next), (Ok(()), (1 << 32) + (1 << 15)));
 
         let (params, bytes) = (TreeParams::new(100), [7; 300]);
-        for first in [3, (1 << 32) + 3] {
+        for (first, ends) in [(3, 0), ((1 << 32) + 3, 0), (3, 1), ((1 << 32) + 3, 1)] {
             let mut part = Part::default();
-            (part.first, part.length) = (first, 300);
-            let mut wanted = [0; 192];
-            params.leaves(&bytes, first, false, &mut wanted).unwrap();
-            let mut out = [0; 192];
+            (part.first, part.length, part.ends) = (first, 300, ends);
+            let [mut wanted, mut out, mut ahead] = [[0; 192]; 3];
+            params.leaves(&bytes, first, ends == 1, &mut wanted).unwrap();
             params.hash_leaves(&part, &bytes, &mut out).unwrap();
             assert_eq!(out, wanted);
-            out.fill(0);
-            let hasher = params.hasher().unwrap();
-            hasher.hash_leaves(&part, &bytes, &mut out);
-            assert_eq!(out, wanted);
-            part.ends = 1;
-            params.leaves(&bytes, first, true, &mut wanted).unwrap();
-            params.hash_leaves(&part, &bytes, &mut out).unwrap();
-            assert_eq!(out, wanted);
+            params.hasher().unwrap().hash_leaves(&part, &bytes, &mut ahead); // others follow these
+            assert_eq!(ahead == wanted, ends == 0);
         }
     }
 
@@ -484,9 +466,8 @@ mod choice {
     use super::*;
     use crate::processor::{level, level_of_processor, level_of, Leaves};
     use std::is_x86_feature_detected as has;
-    use std::process::Command;
 
-    // Or the level that the next test sets for a processor that qemu emulates.
+    // tests/programs.rs runs a program on other processors, which qemu emulates.
     #[test]
     fn the_level_is_that_of_the_standard_library() {
         let v2 = has!("sse3") && has!("ssse3") && has!("sse4.2") && has!("popcnt") && has!("cmpxchg16b");
@@ -494,15 +475,10 @@ mod choice {
         let v3 = v2 && bits && has!("avx2") && has!("f16c") && has!("fma");
         let v4 = has!("avx512f") && has!("avx512vl") && has!("avx512bw");
         let v4 = v3 && v4 && has!("avx512cd") && has!("avx512dq");
-        let wanted = match std::env::var("VULFSJOR_LEVEL") {
-            Ok(level) => level.parse().unwrap(),
-            Err(_) => 2 + u8::from(v3) + u8::from(v4),
-        };
+        let wanted = 2 + u8::from(v3) + u8::from(v4);
         assert_eq!(level_of_processor(), wanted);
-        if wanted > 1 {
-            library::need_a_build();
-            assert_eq!(level(), wanted);
-        }
+        library::need_a_build();
+        assert_eq!(level(), wanted);
     }
 
     // A processor that is made up: level 4, its bits cleared one by one, and each set of registers
@@ -535,19 +511,6 @@ mod choice {
                 _ => 2,
             };
             assert_eq!(level(ALL, saved), wanted, "{saved}");
-        }
-    }
-
-    // The test before this one clears each bit.
-    #[test]
-    #[ignore = "needs qemu-x86_64"]
-    fn the_level_of_other_processors() {
-        for (level, processor) in [("3", "Haswell"), ("2", "Nehalem"), ("2", "Haswell,-bmi2"), ("1", "core2duo")] {
-            let mut qemu = Command::new("qemu-x86_64");
-            qemu.args(["-cpu", processor]).arg(std::env::current_exe().unwrap());
-            let output = qemu.args(["the_level_is_that", "--test-threads=1"]).env("VULFSJOR_LEVEL", level).output();
-            let said = String::from_utf8_lossy(&output.unwrap().stdout).into_owned();
-            assert!(said.contains("1 passed"), "{processor}: {said}");
         }
     }
 }

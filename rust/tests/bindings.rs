@@ -3,9 +3,8 @@
 // Both orders, references, copies and what is not equal are compared, as programs may write them.
 #![allow(clippy::op_ref, clippy::clone_on_copy, clippy::nonminimal_bool, clippy::precedence)]
 #![cfg(feature = "std")]
-use std::collections::hash_map::DefaultHasher;
+use std::collections::HashMap;
 use std::error::Error;
-use std::hash::{Hash, Hasher};
 use std::io;
 use std::mem::{size_of, MaybeUninit};
 use vulfsjor::*;
@@ -25,12 +24,6 @@ fn bytes_around_drop<T>(value: T) -> [Vec<u8>; 2] {
 
 fn contains_bytes(bytes: &[u8], text: &[u8]) -> bool {
     bytes.windows(text.len()).any(|window| window == text)
-}
-
-fn hash_of(value: impl Hash) -> u64 {
-    let mut hasher = DefaultHasher::new();
-    value.hash(&mut hasher);
-    hasher.finish()
 }
 
 // The bytes of the stack that calls before this one have used.
@@ -62,9 +55,18 @@ fn pieces_left(key: &[u8], call: &(dyn Fn() + Sync)) -> usize {
     std::thread::scope(|scope| scope.spawn(left).join().unwrap())
 }
 
-// What an error says, if there is one.
-fn message_if_refused(is_refused: bool, argument: &str, value: usize, bounds: &str) -> Option<String> {
-    is_refused.then(|| format!("{argument} is {value}, and must be {bounds}"))
+// Parameters of a node, and what is said of each where there are no nodes.
+fn of_nodes() -> [(Params<'static>, &'static str); 7] {
+    let (new, tree) = (Params::new(), Tree::SEQUENTIAL);
+    [
+        (new.last_node(true), "last_node is 1, and must be 0"),
+        (new.tree(Tree { fanout: 2, ..tree }), "tree.fanout is 2, and must be 1"),
+        (new.tree(Tree { depth: 3, ..tree }), "tree.depth is 3, and must be 1"),
+        (new.tree(Tree { leaf_length: 4, ..tree }), "tree.leaf_length is 4, and must be 0"),
+        (new.tree(Tree { node_offset: 5, ..tree }), "tree.node_offset is 5, and must be 0"),
+        (new.tree(Tree { node_depth: 6, ..tree }), "tree.node_depth is 6, and must be 0"),
+        (new.tree(Tree { inner_length: 7, ..tree }), "tree.inner_length is 7, and must be 0"),
+    ]
 }
 
 macro_rules! family {
@@ -72,39 +74,29 @@ macro_rules! family {
         mod $test {
             use super::*;
 
-            // What several messages are refused with. Their digests then stay as they were.
-            fn error_of_many(params: Params, messages: usize, count: usize) -> Option<String> {
-                let mut digests = vec![[7; 1]; count];
-                let made = $hasher::digest_many(&params, &vec![b"x"; messages], &mut digests);
-                assert!(made.is_ok() || digests == vec![[7; 1]; count]);
-                made.err().map(|error| error.to_string())
-            }
-
-            // What the conformance cases have not: among it wrong lengths with no message.
+            // What the conformance cases have not: wrong lengths, parameters of nodes, and refusals with no message.
+            // The digests then stay as they were.
             #[test]
             fn several_messages_are_refused() {
-                let (new, tree) = (Params::new, Tree::SEQUENTIAL);
-                for count in [0usize, 1, 17] {
-                    for other in [count, count + 1, count.saturating_sub(1), count + 256] {
-                        let refused = message_if_refused(other != count, "digests.len()", other, &count.to_string());
-                        assert_eq!(error_of_many(new(), count, other), refused);
+                let refused = |params: Params, messages: usize, count: usize, said: &str| {
+                    let mut digests = vec![[7; 1]; count];
+                    let made = $hasher::digest_many(&params, &vec![b"x"; messages], &mut digests);
+                    assert_eq!((made.unwrap_err().to_string(), digests), (said.into(), vec![[7; 1]; count]));
+                };
+                let new = Params::new;
+                let others = [
+                    (new().output_size(2), "output_size is 2, and must be 1"),
+                    (new().key(b""), concat!("key.len() is 0, and must be 1 to ", $max)),
+                    (new().salt(&[1; 17]), concat!("salt.len() is 17, and must be 0 to ", $small)),
+                ];
+                for count in [0, 1, 17] {
+                    for other in [count + 1, count + 256, 16].into_iter().filter(|other| *other != count) {
+                        refused(new(), count, other, &format!("digests.len() is {other}, and must be {count}"));
                     }
-                    for (params, name, value, wanted) in [
-                        (new().output_size(2), "output_size", 2, "1"),
-                        (new().last_node(true), "last_node", 1, "0"),
-                        (new().tree(Tree { fanout: 2, ..tree }), "tree.fanout", 2, "1"),
-                        (new().tree(Tree { depth: 3, ..tree }), "tree.depth", 3, "1"),
-                        (new().tree(Tree { leaf_length: 4, ..tree }), "tree.leaf_length", 4, "0"),
-                        (new().tree(Tree { node_offset: 5, ..tree }), "tree.node_offset", 5, "0"),
-                        (new().tree(Tree { node_depth: 6, ..tree }), "tree.node_depth", 6, "0"),
-                        (new().tree(Tree { inner_length: 7, ..tree }), "tree.inner_length", 7, "0"),
-                        (new().key(b""), "key.len()", 0, concat!("1 to ", $max)),
-                        (new().key(&[1; $max + 1]), "key.len()", $max + 1, concat!("1 to ", $max)),
-                        (new().salt(&[1; $small + 1]), "salt.len()", $small + 1, concat!("0 to ", $small)),
-                        (new().persona(&[1; $small + 1]), "persona.len()", $small + 1, concat!("0 to ", $small)),
-                    ] {
-                        assert_eq!(error_of_many(params, count, count), message_if_refused(true, name, value, wanted));
+                    for (params, said) in of_nodes().into_iter().chain(others) {
+                        refused(params, count, count, said);
                     }
+                    assert!($hasher::digest_many(&new(), &vec![b"x"; count], &mut vec![[7; 1]; count]).is_ok());
                 }
             }
 
@@ -162,7 +154,7 @@ fn no_text_shows_a_key() {
 // With slices and vectors the conformance cases compare them.
 #[test]
 fn digests_are_compared_as_their_bytes() {
-    let (digest, other) = (Blake2b::digest(b"abc"), Blake2b::digest(b"abd"));
+    let digest = Blake2b::digest(b"abc");
     let array: [u8; 64] = digest.try_into().unwrap();
     assert_eq!((digest.as_ref(), &array[..]), (digest.as_bytes(), digest.as_bytes()));
     assert!(digest == array && array == digest && &array == digest && digest == &array);
@@ -181,8 +173,6 @@ fn digests_are_compared_as_their_bytes() {
     assert_eq!(said(<[u8; 65]>::try_from(digest).err()), "the array's length is 65, and must be 64");
     assert_eq!(said(<[u8; 31]>::try_from(short).err()), "the array's length is 31, and must be 32");
     assert_eq!(said(<[u8; 33]>::try_from(short).err()), "the array's length is 33, and must be 32");
-    assert_eq!(hash_of(digest), hash_of(digest.as_bytes()));
-    assert_ne!(hash_of(digest), hash_of(other));
 }
 
 #[test]
@@ -225,18 +215,12 @@ fn digests_are_shown_in_digits() {
 
 #[test]
 fn families_without_nodes() {
-    let errors = |params: Params| {
+    for (params, said) in of_nodes() {
         let keyed = params.key(b"k");
         let all = [params.blake2bp().err(), params.blake2sp().err(), params.blake2xb().err(), params.blake2xs().err()];
         let macs = [Blake2bpMac::with_params(&keyed).err(), Blake2spMac::with_params(&keyed).err()];
-        assert_eq!(macs, [all[0]; 2]);
-        all.map(|error| error.unwrap().to_string())
-    };
-    let tree = Tree { fanout: 2, ..Tree::SEQUENTIAL };
-    assert_eq!(errors(Params::new().tree(tree)), ["tree.fanout is 2, and must be 1"; 4]);
-    let tree = Tree { inner_length: 7, ..Tree::SEQUENTIAL };
-    assert_eq!(errors(Params::new().tree(tree)), ["tree.inner_length is 7, and must be 0"; 4]);
-    assert_eq!(errors(Params::new().last_node(true)), ["last_node is 1, and must be 0"; 4]);
+        assert!(all.into_iter().chain(macs).all(|error| error.unwrap().to_string() == said), "{said}");
+    }
 }
 
 macro_rules! ends_of_outputs {
@@ -347,8 +331,9 @@ fn digests_are_read_back() {
     assert_eq!(Digest::from([7, 30, 53]), made_up(3).0);
     let longest: [u8; 64] = made_up(64).0.try_into().unwrap();
     assert_eq!(Digest::from(longest), longest);
-    let digests = std::collections::HashMap::from([(Digest::from([1, 2]), "here")]);
-    assert_eq!(digests.get(&[1u8, 2][..]), Some(&"here"));
+    // Each has the hash of its bytes.
+    let digests = HashMap::from([(Digest::from([1, 2]), "here"), (Digest::from(longest), "there")]);
+    assert_eq!((digests.get(&[1u8, 2][..]), digests.get(&longest[..])), (Some(&"here"), Some(&"there")));
     assert_eq!(digests.get(&[1u8][..]), None);
 }
 

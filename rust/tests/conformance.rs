@@ -14,39 +14,29 @@ use vulfsjor::*;
 type Outcome = common::Outcome<InvalidArgument>;
 type Made = Result<Box<dyn common::Hash<InvalidArgument>>, InvalidArgument>;
 
-/// The names that errors have for the arguments of the cases.
-const NAMES: [(&str, &str); 14] = [
-    ("size", "output_size out.len()"),
-    ("key", "key.len()"),
-    ("salt", "salt.len()"),
-    ("person", "persona.len()"),
-    ("offset", "tree.node_offset"),
-    ("depth", "tree.depth"),
-    ("inner", "tree.inner_length"),
-    ("leaf", "leaf_length"),
-    ("message", "bytes.len() leaves.len() input.len()"),
-    ("first", "first"),
-    ("digests", "digests.len()"),
-    ("left", "out.len()"),
-    ("skip", "skip"),
-    ("state", "count()"),
-];
-
-/// The least and the most of an argument of a hash.
-fn bounds(hash: &str, argument: &str) -> Option<(u64, u64)> {
+/// The names that errors have for an argument of a hash, and its least and its most if no other arguments decide.
+fn named(argument: &str, hash: &str) -> (&'static str, Option<(u64, u64)>) {
     let is_s = hash.starts_with("blake2s") || hash == "blake2xs";
     let (most, small) = if is_s { (32, 8) } else { (64, 16) };
-    Some(match (argument, hash) {
-        ("size", "blake2xb" | "derive") => (1, (1 << 32) - 2),
-        ("size", "blake2xs") => (1, (1 << 16) - 2),
-        ("size" | "key", _) => (1, most),
-        ("salt" | "person", _) => (0, small),
-        ("offset", _) => (0, u64::MAX >> (16 * u32::from(is_s))),
-        ("depth", _) => (1, 255),
-        ("inner", _) => (0, most),
-        ("leaf", _) => (1, u64::from(u32::MAX)),
-        _ => return None,
-    })
+    match (argument, hash) {
+        ("size", "blake2xb" | "derive") => ("output_size out.len()", Some((1, (1 << 32) - 2))),
+        ("size", "blake2xs") => ("output_size", Some((1, (1 << 16) - 2))),
+        ("size", _) => ("output_size", Some((1, most))),
+        ("key", _) => ("key.len()", Some((1, most))),
+        ("salt", _) => ("salt.len()", Some((0, small))),
+        ("person", _) => ("persona.len()", Some((0, small))),
+        ("offset", _) => ("tree.node_offset", Some((0, u64::MAX >> (16 * u32::from(is_s))))),
+        ("depth", _) => ("tree.depth", Some((1, 255))),
+        ("inner", _) => ("tree.inner_length", Some((0, most))),
+        ("leaf", _) => ("leaf_length", Some((1, u64::from(u32::MAX)))),
+        ("message", _) => ("bytes.len() leaves.len() input.len()", None),
+        ("first", _) => ("first", None),
+        ("digests", _) => ("digests.len()", None),
+        ("left", _) => ("out.len()", None),
+        ("skip", _) => ("skip", None),
+        ("state", _) => ("count()", None),
+        _ => unreachable!(),
+    }
 }
 
 /// Writes by a call into room of this length. A call that is refused writes nothing.
@@ -85,7 +75,7 @@ macro_rules! sequential {
                 }
                 done()
             }
-            fn digest(&self) -> Outcome {
+            fn digest(&mut self) -> Outcome {
                 let digest = self.hasher.finalize();
                 let (mut hasher, start) = (self.hasher.clone(), self.start.finalize());
                 assert_eq!([hasher.finalize(), hasher.finalize_reset(), hasher.finalize()], [digest, digest, start]);
@@ -97,18 +87,15 @@ macro_rules! sequential {
                 }
                 Some(Ok(hex(digest.as_bytes())))
             }
-            fn count(&self) -> Outcome {
+            fn count(&mut self) -> Outcome {
                 Some(Ok(format!("= {}", self.hasher.count())))
-            }
-            fn copy(&self) -> Box<dyn common::Hash<InvalidArgument>> {
-                Box::new(self.clone())
             }
             fn reset(&mut self) -> Outcome {
                 self.hasher.reset();
                 self.mac.iter_mut().for_each(|mac| mac.reset());
                 done()
             }
-            fn verify(&self, tag: &[u8]) -> Outcome {
+            fn verify(&mut self, tag: &[u8]) -> Outcome {
                 let is_right = self.hasher.finalize() == *tag;
                 let wanted = if is_right { Ok(()) } else { Err(MacError) };
                 assert!(self.mac.iter().all(|mac| mac.verify(tag) == wanted));
@@ -168,18 +155,15 @@ macro_rules! output {
                 self.0.update(one).write_all(other).unwrap();
                 done()
             }
-            fn count(&self) -> Outcome {
+            fn count(&mut self) -> Outcome {
                 Some(Ok(format!("= {}", self.0.count())))
-            }
-            fn copy(&self) -> Box<dyn common::Hash<InvalidArgument>> {
-                Box::new((self.0.clone(), self.1.clone()))
             }
             fn reset(&mut self) -> Outcome {
                 self.0.reset();
                 self.1 = None;
                 done()
             }
-            fn left(&self) -> Outcome {
+            fn left(&mut self) -> Outcome {
                 let left = self.1.as_ref().map_or_else(|| self.0.finalize_xof().left(), |reader| reader.left());
                 Some(Ok(format!("= {left}")))
             }
@@ -214,17 +198,14 @@ impl common::Hash<InvalidArgument> for TreeHasher {
         TreeHasher::update(self, one).write_all(other).unwrap();
         done()
     }
-    fn digest(&self) -> Outcome {
+    fn digest(&mut self) -> Outcome {
         assert_eq!(self.finalize(), self.clone().finalize());
         Some(Ok(hex(self.finalize().as_bytes())))
     }
-    fn count(&self) -> Outcome {
+    fn count(&mut self) -> Outcome {
         Some(Ok(format!("= {}", TreeHasher::count(self))))
     }
-    fn copy(&self) -> Box<dyn common::Hash<InvalidArgument>> {
-        Box::new(self.clone())
-    }
-    fn next(&self, skip: u64, leaves: &[u8]) -> Outcome {
+    fn next(&mut self, skip: u64, leaves: &[u8]) -> Outcome {
         let count = leaves.len() / self.leaf_length() as usize;
         write_digests(count, |out| self.leaves_ahead(skip, leaves, out))
     }
@@ -290,19 +271,15 @@ impl Driver for Crate {
             "hash" => hash(call[1], &bytes(call[2])?, given),
             "many" => {
                 let messages: Option<Vec<_>> = call[2..].iter().map(|word| bytes(word)).collect();
-                match given.number("size", if call[1] == "blake2b" { 64 } else { 32 })? {
-                    0 => many::<0>(call[1], &messages?, given),
-                    1 => many::<1>(call[1], &messages?, given),
-                    2 => many::<2>(call[1], &messages?, given),
-                    4 => many::<4>(call[1], &messages?, given),
-                    8 => many::<8>(call[1], &messages?, given),
-                    20 => many::<20>(call[1], &messages?, given),
-                    32 => many::<32>(call[1], &messages?, given),
-                    33 => many::<33>(call[1], &messages?, given),
-                    64 => many::<64>(call[1], &messages?, given),
-                    65 => many::<65>(call[1], &messages?, given),
-                    _ => None,
+                macro_rules! of_sizes {
+                    ($($size:literal)*) => {
+                        match given.number("size", if call[1] == "blake2b" { 64 } else { 32 })? {
+                            $($size => many::<$size>(call[1], &messages?, given),)*
+                            _ => None,
+                        }
+                    };
                 }
+                of_sizes!(0 1 2 4 8 20 32 33 64 65)
             }
             "equal" => {
                 let (one, other) = (Digest::try_from(&bytes(call[1])?[..]).ok()?, bytes(call[2])?);
@@ -327,16 +304,16 @@ impl Driver for Crate {
     }
 
     fn is_error(&self, error: &InvalidArgument, argument: &str, call: &[&str], given: &Given) -> bool {
-        let names = NAMES.iter().find(|(name, _)| *name == argument).unwrap().1;
-        if !names.split(' ').any(|name| error.argument() == name) {
-            return false;
-        }
         let hash = match call[0] {
             "new" => call[2],
             "hash" | "many" => call[1],
             other => other,
         };
-        if let Some((least, most)) = bounds(hash, argument) {
+        let (names, bounds) = named(argument, hash);
+        if !names.split(' ').any(|name| error.argument() == name) {
+            return false;
+        }
+        if let Some((least, most)) = bounds {
             let said = format!("{} is {}, and must be {least} to {most}", error.argument(), given.value(argument));
             assert_eq!(error.to_string(), said);
             assert_eq!(error.bounds(), Bounds::Range { min: least, max: most });

@@ -13,13 +13,17 @@ const MIB: usize = 1 << 20;
 // The leaf length, the length of the message, and the root by hashlib: all with the persona
 // `files`. Each MiB of the message has one byte, 7 times its index and 1.
 #[rustfmt::skip]
-const ROOTS: [(u32, usize, &str); 6] = [
+const ROOTS: [(u32, usize, &str); 8] = [
     (1 << 16, 0, "53a7b7b0b986868b36dd9fc28d168638f08f280360f2119420df97e996e3f151\
         0e1fa799bb86070158345377b9b8ed04e8c190da1cf7c0d60ca36d22caa9a941"),
     (1 << 16, 5, "01d3f8b94f1383c56984d57e790cac2150e7b727b656bf1428a5627710cc8f07\
         5bb4b4d7ad08ef4ed37d2e0f89ecf0c690a54caf2f78b1874f26e5760045bab6"),
     (1 << 16, 3 * MIB + 5, "cbabeadb941bd2931ec54a0f98deba4c5106e547414528729b509b6a0b6f551e\
         591a02c78288ffce495006ccac4fe957cc8c44ae9f8f190792ae5ce821376b2f"),
+    (1000, MIB + 5, "4b3381d8a29fa797d30f28afe6caafaaac1e808ebcb3638dab7e1bcee666e07a\
+        570ce80e13dedbd0e446f86d069028580fda41bfbfd88129ab5c100ca57d21f2"),
+    (1 << 20, 4 * MIB, "8e921470dc6b2510ce41fdbf7d1e29b8b0f1b96012ce6c28859f53dd5cd654fa\
+        66aa5c3251ca2d8b404e4756b42bdbefdfd635f5fc5e3131cd8737ca9f6eb1a5"),
     (5 << 20, 20 * MIB, "682025f8384b2856bc15a051fc5d230049c2b1aeaa179ea81810ed945cbb4975\
         fc5ee6e76625d4ecab594538875b1f55fb6c0148a4946ea7cdc4e23470a8db4c"),
     (17 << 20, 20 * MIB + 1, "8ce19454ad82d2e9c573b3d598ab6e39728010d5e0279b7cbd05bcc5809cdb8c\
@@ -86,12 +90,15 @@ fn roots_of_files_and_of_memory() {
                 assert!(seen.iter().all(|bytes| *bytes % (1 << 20) == 0 || *bytes == length as u64));
                 assert!(seen.len() > length / MIB);
             }
-            let mut hasher = params.hasher().unwrap();
-            hasher.update_threads(&bytes[..length / 3], threads);
-            hasher.update_threads(&bytes[length / 3..], threads);
-            assert_eq!(hasher.finalize().to_hex(), wanted);
+            for cut in [0, leaf_length as usize, length / 3] {
+                let (first, second) = bytes.split_at(cut.min(length));
+                let mut hasher = params.hasher().unwrap();
+                assert_eq!(hasher.update_threads(first, threads).count(), first.len() as u64);
+                hasher.update_threads(second, threads).update_threads(b"", threads);
+                assert_eq!(hasher.finalize().to_hex(), wanted);
+            }
         }
-        assert_eq!([0, 3].map(|n| params.root_threads(&bytes, n).unwrap().to_hex()), [wanted; 2]);
+        assert_eq!([0, 3, 300].map(|n| params.root_threads(&bytes, n).unwrap().to_hex()), [wanted; 3]);
         assert_eq!(params.root(&bytes).unwrap().to_hex(), wanted);
         let others = params.salt(b"salt").output_size(20);
         let root = others.root(&bytes).unwrap();
@@ -185,18 +192,11 @@ fn files_of_impossible_lengths() {
     assert_eq!(root.unwrap_err().kind(), ErrorKind::Interrupted);
 }
 
-// Bytes that come in pieces of these lengths, over and over, with an interrupted read before each,
-// and an error at the end if there is one.
-struct Slow<'a>(&'a [u8], std::iter::Cycle<std::vec::IntoIter<usize>>, Option<ErrorKind>);
+// Bytes that come in pieces of these lengths, where a length of 0 is an interrupted read, and an error at the end if
+// there is one.
+struct Slow<'a, Lengths>(&'a [u8], Lengths, Option<ErrorKind>);
 
-impl<'a> Slow<'a> {
-    fn new(bytes: &'a [u8], lengths: &[usize], error: Option<ErrorKind>) -> Self {
-        let lengths: Vec<usize> = lengths.iter().flat_map(|length| [0, *length]).collect();
-        Slow(bytes, lengths.into_iter().cycle(), error)
-    }
-}
-
-impl Read for Slow<'_> {
+impl<Lengths: Iterator<Item = usize>> Read for Slow<'_, Lengths> {
     fn read(&mut self, buffer: &mut [u8]) -> io::Result<usize> {
         assert_ne!(buffer.len(), 0);
         match self.1.next().unwrap().min(buffer.len()) {
@@ -218,7 +218,9 @@ macro_rules! readers {
                     let read = |error| {
                         let mut hasher = $new;
                         hasher.update(b"");
-                        let result = hasher.update_reader(Slow::new(&bytes, lengths, error));
+                        // Over and over, with an interrupted read before each.
+                        let lengths = lengths.iter().flat_map(|length| [0, *length]).cycle();
+                        let result = hasher.update_reader(Slow(&bytes, lengths, error));
                         let kind = result.err().map(|error| error.kind());
                         assert_eq!(kind, error);
                         (hasher.count(), hasher.finalize())

@@ -28,6 +28,15 @@ fn folder(name: &str) -> PathBuf {
     folder
 }
 
+// A new package with these lines of Cargo.toml and this text of a file of src/.
+fn package(name: &str, lines: &str, file: &str, text: &str) -> PathBuf {
+    let folder = folder(name);
+    let head = format!("[package]\nname = \"{name}\"\nversion = \"0.1.0\"\nedition = \"2021\"\n");
+    fs::write(folder.join("Cargo.toml"), head + lines).unwrap();
+    fs::write(folder.join("src").join(file), text).unwrap();
+    folder
+}
+
 // That of this test, which has the crate.
 fn target() -> PathBuf {
     Path::new(env!("CARGO_TARGET_TMPDIR")).parent().unwrap().into()
@@ -46,12 +55,6 @@ fn output_of(command: &mut Command) -> String {
     String::from_utf8(stdout).unwrap()
 }
 
-fn run(program: &str, words: &[&dyn AsRef<std::ffi::OsStr>]) -> String {
-    let mut command = Command::new(program);
-    command.args(words.iter().map(|word| word.as_ref()));
-    output_of(&mut command)
-}
-
 struct Program {
     name: String,
     folder: PathBuf,
@@ -61,24 +64,21 @@ impl Program {
     // A program of these lines of `main`, which depends on the crates of these folders as a, b and
     // so on.
     fn new(name: &str, lines: &str, crates: &[&Path]) -> Self {
-        let folder = folder(name);
-        let mut text = package(name);
+        let mut manifest = String::new();
         for lto in ["thin", "fat"] {
-            let profile = format!("[profile.{lto}]\ninherits = \"release\"\nlto = \"{lto}\"\n");
-            text += &(profile + "opt-level = 1\n");
+            manifest += &format!("[profile.{lto}]\ninherits = \"release\"\nlto = \"{lto}\"\nopt-level = 1\n");
         }
-        text.push_str("[dependencies]\n");
+        manifest.push_str("[dependencies]\n");
         for (name, path) in ["a", "b"].into_iter().zip(crates) {
             let path = path.display();
-            text += &format!("{name} = {{ package = \"vulfsjor\", path = \"{path}\" }}\n");
+            manifest += &format!("{name} = {{ package = \"vulfsjor\", path = \"{path}\" }}\n");
         }
-        fs::write(folder.join("Cargo.toml"), text).unwrap();
-        fs::write(folder.join("src/main.rs"), format!("fn main() {{\n{lines}\n}}\n")).unwrap();
+        let folder = package(name, &manifest, "main.rs", &format!("fn main() {{\n{lines}\n}}\n"));
         Program { name: name.into(), folder }
     }
 
     // Builds it in a profile, for the processor that RUSTFLAGS names if they do.
-    fn build_for(&self, profile: &str, flags: &str) -> PathBuf {
+    fn build(&self, profile: &str, flags: &str) -> PathBuf {
         let mut cargo = cargo(&["build", "--profile", profile], &self.folder);
         if !flags.is_empty() {
             cargo.env("CARGO_PROFILE_RELEASE_OPT_LEVEL", "1"); // quicker, and enough to leave out what is never called
@@ -89,14 +89,6 @@ impl Program {
         fs::copy(built, &copy).unwrap();
         copy
     }
-
-    fn build(&self, profile: &str) -> PathBuf {
-        self.build_for(profile, "")
-    }
-}
-
-fn package(name: &str) -> String {
-    format!("[package]\nname = \"{name}\"\nversion = \"0.1.0\"\nedition = \"2021\"\n")
 }
 
 // The number of the code.
@@ -110,7 +102,7 @@ fn code() -> String {
 // Each has the name of its text, which ends in the number, and the one by which the crate of that
 // version calls it. All names are local: those of the texts are labels, and the others are hidden.
 fn functions_held(program: &Path, version: &str, code: &str, build: &str) -> Vec<String> {
-    let names = run("nm", &[&program]);
+    let names = output_of(Command::new("nm").arg(program));
     let end = format!("_{code}_{build}");
     let start = format!("vulfsjor_{version}_vulfsjor_ffi_");
     let (mut held, mut called) = (Vec::new(), Vec::new());
@@ -138,10 +130,8 @@ const BUILDS: &[&str] = &["arm"];
 // A library with its own panic handler and without an allocator, which links neither std nor alloc.
 #[test]
 fn a_library_without_std() {
-    let folder = folder("bare");
-    let mut text = package("bare") + "[lib]\ncrate-type = [\"staticlib\"]\n";
-    text += "[profile.dev]\npanic = \"abort\"\n[dependencies.vulfsjor]\ndefault-features = false\n";
-    fs::write(folder.join("Cargo.toml"), text + &format!("path = \"{TOP}\"\n")).unwrap();
+    let manifest = "[lib]\ncrate-type = [\"staticlib\"]\n[profile.dev]\npanic = \"abort\"\n\
+                    [dependencies.vulfsjor]\ndefault-features = false\n";
     let lines = r#"#![no_std]
         #[no_mangle]
         pub extern "C" fn hash(out: &mut [u8; 64]) {
@@ -151,7 +141,7 @@ fn a_library_without_std() {
         fn panic(_: &core::panic::PanicInfo) -> ! {
             loop {}
         }"#;
-    fs::write(folder.join("src/lib.rs"), lines).unwrap();
+    let folder = package("bare", &format!("{manifest}path = \"{TOP}\"\n"), "lib.rs", lines);
     output_of(&mut cargo(&["build"], &folder));
 }
 
@@ -162,11 +152,11 @@ fn a_library_without_std() {
 fn one_build_if_the_target_has_its_features() {
     for (cpu, last) in some_builds(&[("v3", "\"movbe\""), ("v4", "\"avx512vl\"")]) {
         let flag = format!("-Ctarget-cpu=x86-64-{cpu}");
-        if !run("rustc", &[&"--print", &"cfg", &flag]).contains(*last) {
+        if !output_of(Command::new("rustc").args(["--print", "cfg", &flag])).contains(*last) {
             continue;
         }
         let program = Program::new(&format!("only_{cpu}"), PRINT_ABC, &[TOP.as_ref()]);
-        let built = program.build_for("release", &flag);
+        let built = program.build("release", &flag);
         for build in BUILDS {
             let wanted: &[&str] = if build == cpu { &["blake2b"] } else { &[] };
             assert_eq!(functions_held(&built, VERSION, &code(), build), wanted, "{flag}");
@@ -202,7 +192,7 @@ fn the_first_call_on_other_processors() {
             println!("{}", if std::panic::catch_unwind(call).is_ok() { "returned" } else { "panicked" });
         }
         println!("{}", a::Blake2b::digest(b"abc"));"#;
-    let program = Program::new("first_call", lines, &[TOP.as_ref()]).build("dev");
+    let program = Program::new("first_call", lines, &[TOP.as_ref()]).build("dev", "");
     let on = |processor: &str, calls: &[&str]| {
         let mut qemu = Command::new("qemu-x86_64");
         let Output { status, stdout, stderr } =
@@ -233,7 +223,7 @@ fn the_package_next_to_another_version() {
     let mut package = cargo(&["package", "--allow-dirty", "--no-verify"], TOP.as_ref());
     output_of(package.env("CARGO_HOME", folder.join("home")));
     let file = target().join(format!("package/vulfsjor-{VERSION}.crate"));
-    run("tar", &[&"-C", &folder, &"-xzf", &file]);
+    output_of(Command::new("tar").arg("-C").arg(&folder).arg("-xzf").arg(&file));
     let root = folder.join(format!("vulfsjor-{VERSION}"));
     let listed = fs::read_to_string(Path::new(TOP).join("packaging/files.txt")).unwrap();
     let listed = listed.lines().filter_map(|line| line.strip_prefix("vulfsjor.crate: vulfsjor-VERSION/"));
@@ -244,7 +234,7 @@ fn the_package_next_to_another_version() {
     assert_eq!(found, listed.filter(in_folders).collect());
 
     let (other, code) = (folder.join("other"), code());
-    run("cp", &[&"-r", &root, &other]);
+    output_of(Command::new("cp").arg("-r").arg(&root).arg(&other));
     let replace = |file: &str, from: &str, to: &str| {
         let file = other.join(file);
         let text = fs::read_to_string(&file).unwrap();
@@ -264,7 +254,7 @@ fn the_package_next_to_another_version() {
     let lines = format!("{PRINT_ABC} assert_eq!({});", same.join(", "));
     let program = Program::new("two_versions", &lines, &[&root, &other]);
     for profile in some_builds(&["dev", "release", "thin", "fat"]) {
-        let built = program.build(profile);
+        let built = program.build(profile, "");
         assert_eq!(output_of(&mut Command::new(&built)), ABC);
         for build in BUILDS {
             for (version, code) in [(VERSION, &code[..]), ("99.8.7", "789")] {
@@ -294,7 +284,7 @@ fn next_to_the_library_for_c() {
     );
     fs::write(program.folder.join("build.rs"), script).unwrap();
     for profile in some_builds(&["dev", "release"]) {
-        let built = program.build(profile);
+        let built = program.build(profile, "");
         assert_eq!(output_of(&mut Command::new(built)), ABC);
     }
 }
@@ -303,18 +293,16 @@ fn next_to_the_library_for_c() {
 #[test]
 #[ignore = "another build, for the full test"]
 fn through_a_shared_library_of_rust() {
-    let middle = folder("middle");
-    let text = "[lib]\ncrate-type = [\"dylib\"]\n[dependencies]\nvulfsjor = { path = \"TOP\" }\n";
-    fs::write(middle.join("Cargo.toml"), package("middle") + &text.replace("TOP", TOP)).unwrap();
-    fs::write(middle.join("src/lib.rs"), "pub use vulfsjor;\n").unwrap();
+    let manifest = "[lib]\ncrate-type = [\"dylib\"]\n[dependencies]\nvulfsjor = { path = \"TOP\" }\n";
+    package("middle", &manifest.replace("TOP", TOP), "lib.rs", "pub use vulfsjor;\n");
     let lines = r#"let digest = middle::vulfsjor::Blake2b::new().update(b"abc").finalize();
         println!("{digest}");"#;
     let outer = Program::new("outer", lines, &[]);
     let file = outer.folder.join("Cargo.toml");
     let text = fs::read_to_string(&file).unwrap() + "middle = { path = \"../middle\" }\n";
     fs::write(&file, text).unwrap();
-    let built = outer.build_for("release", "-Cprefer-dynamic");
-    let of_rust = run("rustc", &[&"--print", &"target-libdir"]);
+    let built = outer.build("release", "-Cprefer-dynamic");
+    let of_rust = output_of(Command::new("rustc").args(["--print", "target-libdir"]));
     let folders = format!("{}:{}", target().join("release").display(), of_rust.trim());
     assert_eq!(output_of(Command::new(built).env("LD_LIBRARY_PATH", folders)), ABC);
 }

@@ -3,10 +3,12 @@
 README.md describes the language. The limits are those of RFC 7693, the BLAKE2 document and the BLAKE2X
 document, written down here once more and not read from a package.
 """
+import dataclasses
 import functools
 import hmac
 import os
 import sys
+from typing import Optional
 
 sys.path.insert(0, os.path.join(os.path.dirname(os.path.abspath(__file__)), ".."))
 from b2_model import Input, output, unknown_length  # noqa: E402
@@ -101,17 +103,14 @@ def digest(name, message, items, last):
                                               **node | {"last_node": bool(last)}).digest()
 
 
+@dataclasses.dataclass
 class State:
     """A state: the arguments of its hash, what it has absorbed, and how much of an output was read."""
-
-    def __init__(self, name, given):
-        self.name, self.given = name, given
-        self.message, self.last, self.place = b"", given.get("last", 0), None
-
-    def copy(self):
-        made = State(self.name, self.given)
-        made.message, made.last, made.place = self.message, self.last, self.place
-        return made
+    name: str
+    given: dict
+    message: bytes = b""
+    last: int = 0
+    place: Optional[int] = None
 
     def digest(self):
         return digest(self.name, self.message, tuple(self.given.items()), self.last)
@@ -174,7 +173,8 @@ class Model:
 
     def new(self, slot, name, **words):
         self.slots[slot] = None
-        self.slots[slot] = State(name, read_given(name, words))
+        given = read_given(name, words)
+        self.slots[slot] = State(name, given, last=given.get("last", 0))
 
     def update(self, slot, message):
         state = self.state(slot)
@@ -183,7 +183,7 @@ class Model:
         state.message += self.some(message)
 
     def copy(self, slot, other):
-        self.slots[other] = self.state(slot).copy()
+        self.slots[other] = dataclasses.replace(self.state(slot))
 
     def reset(self, slot):
         state = self.state(slot)
@@ -221,8 +221,7 @@ class Model:
         given = read_given(name, words)
         if "x" in name and given.get("size", 2**32) >= UNKNOWN[family_of(name)]:
             raise Refused("size")
-        state = State(name, given)
-        state.message = self.some(message)
+        state = State(name, given, self.some(message), given.get("last", 0))
         return state.read(given["size"]) if "x" in name else state.digest()
 
     def many(self, name, *messages, **words):

@@ -4,6 +4,7 @@
     tests/conformance/others.py FOLDER           with the cases that write.py wrote to FOLDER
     tests/conformance/others.py --check FOLDER   ends with status 1 if others.txt has another row
     tests/conformance/others.py --libb2 FILE FOLDER    only libb2's functions, of this shared library
+    tests/conformance/others.py --b2 PROGRAM FOLDER    only the program b2
 
 They are Python's `hashlib`, libb2 by ctypes, and Go's golang.org/x/crypto by others.go. One that is absent is left out.
 A case ends at the first call that an implementation does not have, or not with these arguments, and is then not counted
@@ -12,6 +13,7 @@ as run.
 import collections
 import ctypes
 import ctypes.util
+import functools
 import hashlib
 import os
 import re
@@ -19,8 +21,8 @@ import shutil
 import subprocess
 import sys
 
-from model import NODE, read_bytes
-from common import Parser
+from model import NODE, UNKNOWN, family_of, read_bytes
+from common import FAMILIES, KINDS, Parser
 
 HERE = os.path.dirname(os.path.abspath(__file__))
 
@@ -41,6 +43,13 @@ def number(word):
     if word in ("none", "unknown"):
         raise Absent(word)
     return int(word)
+
+
+def digits_of(word):
+    """The digits of BYTES."""
+    if word == "none":
+        raise Absent("null")
+    return read_bytes(word).hex()
 
 
 class Driver:
@@ -89,10 +98,10 @@ class Hashlib(Driver):
         self.states[other] = self.of(slot).copy()
 
     def final(self, state):
-        return state.digest()
+        return state.hexdigest()
 
     def hash(self, _, message, **words):
-        return self.made(words, read_bytes(message)).digest()
+        return self.made(words, read_bytes(message)).hexdigest()
 
 
 def new_state(data=b""):
@@ -165,7 +174,7 @@ class Libb2(Driver):
     def final(self, made):
         out = ctypes.create_string_buffer(made[1])
         self.call("_final", made[0], out, made[1])
-        return out.raw
+        return out.raw.hex()
 
     def hash(self, _, message, **words):
         size, key = number(words.pop("size", str(self.most))), words.pop("key", "-")
@@ -174,7 +183,147 @@ class Libb2(Driver):
         out = ctypes.create_string_buffer(max(size, 1))
         (data, length), (key, key_length) = self.text(message), self.text(key)
         self.call("", out, data, key or None, size, length, key_length)
-        return out.raw[:size]
+        return out.raw[:size].hex()
+
+
+class Go(Driver):
+    """golang.org/x/crypto, by a program that makes the calls which it reads. A state is its number there."""
+
+    hashes = ("blake2b", "blake2s", "blake2xb", "blake2xs")
+    settings = {"GO111MODULE": "off", "GOFLAGS": "", "GOPATH": "/usr/share/gocode"}
+
+    @classmethod
+    @functools.cache
+    def process(cls):
+        return subprocess.Popen(["go", "run", os.path.join(HERE, "others.go")], stdin=subprocess.PIPE,
+                                stdout=subprocess.PIPE, text=True, env={**os.environ, **cls.settings})
+
+    def call(self, *words):
+        print(*words, file=self.process().stdin, flush=True)
+        mark, _, result = self.process().stdout.readline().rstrip("\n").partition(" ")
+        if result == "unexpected EOF":
+            raise Absent("reads past the end, which return what is left")
+        if mark != "=":
+            raise Refused
+        return result
+
+    def made(self, words):
+        if not set(words) <= {"size", "key"}:
+            raise Absent("salts and tree parameters")
+        key, family = digits_of(words.get("key", "-")), family_of(self.name)
+        size = words.get("size", "unknown" if "x" in self.name else str(FAMILIES[family].key))
+        if "x" in self.name:
+            if size != "unknown" and not 0 < number(size) <= UNKNOWN[family]:
+                raise Absent("no length of Go, or 0, which says that it is not known")
+        elif number(size) >= 1 << 63 or self.name == "blake2s" and size != "32" and (size != "16" or not key):
+            raise Absent("no int of Go, or another size of BLAKE2s than 32")
+        return self.call("new", self.name, size.replace("unknown", "0"), key)
+
+    def update(self, slot, message):
+        data = digits_of(message)
+        self.call("write", self.of(slot), data)
+
+    def final(self, state):
+        return self.call("sum", state)
+
+    def read(self, slot, count):
+        if int(count) > 1 << 20:
+            raise Absent("a read of this length")
+        return self.call("read", self.of(slot), count)
+
+    def reset(self, slot):
+        self.call("reset", self.of(slot))
+
+    def hash(self, _, message, **words):
+        data, state = digits_of(message), self.made(words)
+        self.call("write", state, data)
+        if "x" not in self.name:
+            return self.final(state)
+        if int(words["size"]) > 1 << 20:
+            raise Absent("an output of this length in one call")
+        return self.call("read", state, words["size"])
+
+
+class B2(Driver):
+    """The program `b2`: a digest in one call by `sum`, and states by `script`, which has one key, salt and
+    personalization, and prints only what it has if it refuses no line. So it is run again over all lines so far at each
+    digest, and at each call of a state that has ended. Each state is a copy of the first slot."""
+
+    hashes = ("blake2b", "blake2s")
+    path = None
+
+    def __init__(self, name):
+        super().__init__(name)
+        self.words, self.lines, self.said = None, [], ""
+        self.states, self.live = {"first": 0}, [True]  # the numbers of slots, and whether each can be used
+
+    def arguments(self, words):
+        family, names = self.name[6], {"key": "key", "salt": "salt", "person": "persona"}
+        size = words.pop("size", str(FAMILIES[family].key))
+        kind = f"{family}{size.isdigit() and 8 * int(size)}"
+        if kind not in KINDS or not set(words) <= set(names):
+            raise Absent("arguments")
+        given = [f"{names[name]}={digits_of(word)}" for name, word in words.items()]
+        if any(len(word) > 2000 for word in given):
+            raise Absent("an argument that a system may refuse")
+        return [kind, *given]
+
+    def run(self, words, message, refusal):
+        """What a run prints; `refusal` is what it prints if it refuses the call."""
+        done = subprocess.run([self.path, *words], input=message, stdout=subprocess.PIPE, stderr=subprocess.DEVNULL)
+        if (done.returncode, done.stdout) == (2, f"b2: {refusal}\n".encode()):
+            raise Refused
+        return done.stdout.decode() if not done.returncode else f"status {done.returncode}"
+
+    def script(self):
+        """The next line that the script prints for all lines so far. One that is refused is taken back."""
+        text = "\n".join(self.lines).encode()
+        try:
+            said = self.run(["script", *self.words], text, f"line {len(self.lines)}: no such slot")
+        except Refused:
+            self.lines.pop()
+            raise
+        found, self.said = said.removeprefix(self.said), said
+        return found.removesuffix("\n")
+
+    def line(self, letter, slot, more=""):
+        """Adds a line of a slot, which has to be refused if that has ended. Returns what the script prints for it."""
+        place = self.of(slot)
+        self.lines.append(f"{letter} {place}{more}")
+        has_ended, self.live[place] = not self.live[place], self.live[place] and letter != "f"
+        return self.script() if has_ended or letter == "f" else None
+
+    def new(self, slot, _, **words):
+        self.wipe(slot)
+        given = self.arguments(words)
+        if self.words is None:
+            self.run(["script", *given], b"", "wrong length")
+            self.words = given
+        if given != self.words:
+            raise Absent("other arguments")
+        self.copy("first", slot)
+
+    def copy(self, slot, other):
+        said = self.line("c", slot)
+        self.states[other] = len(self.live)
+        self.live.append(True)
+        return said
+
+    def update(self, slot, message):
+        return self.line("u", slot, f" {digits_of(message) or '-'}")
+
+    def reset(self, slot):
+        return self.line("r", slot)
+
+    def digest(self, slot):
+        return self.line("f", slot)
+
+    def verify(self, slot, tag):
+        return "yes" if self.line("f", slot) == digits_of(tag) else "no"
+
+    def hash(self, _, message, **words):
+        data = bytes.fromhex(digits_of(message))
+        return self.run(["sum", *self.arguments(words)], data, "wrong length").removesuffix("\n")
 
 
 def outcome_text(driver, call):
@@ -187,17 +336,17 @@ def outcome_text(driver, call):
         value = method(*(word for word in words if "=" not in word), **named)
     except (Refused, Ended):
         return "!"
-    return "" if value is None else f"= {value.hex() or '-'}"
+    return "" if value is None else f"= {value or '-'}"
 
 
-def run_cases(make, path):
+def run_cases(kind, name, path):
     """How many cases were run, and the others and the wrong ones by what ended them."""
     ran, lacks, wrong = 0, collections.Counter(), collections.Counter()
     with open(path, encoding="ascii") as file:
         cases = re.split(r"^case ", file.read(), flags=re.M)[1:]
     for case in cases:
-        name, *lines = filter(None, case.split("\n"))
-        driver = make()
+        title, *lines = filter(None, case.split("\n"))
+        driver = kind(name)
         try:
             for line in lines:
                 call, wanted = (re.split(r" (?=[=!] )", line) + [""])[:2]
@@ -205,25 +354,13 @@ def run_cases(make, path):
                     continue
                 got = outcome_text(driver, call)
                 if got != ("!" if wanted.startswith("!") else wanted):
-                    wrong[name.split(".")[1]] += 1
-                    print(f"{name}: {line[:120]}\n  gives {got[:100]!r}", file=sys.stderr)
+                    wrong[title.split(".")[1]] += 1
+                    print(f"{title}: {line[:120]}\n  gives {got[:100]!r}", file=sys.stderr)
                     break
             ran += 1
         except Absent as absent:
             lacks[str(absent)] += 1
     return ran, lacks, wrong
-
-
-def run_go(hash_name, path):
-    """The same of Go's package, by others.go."""
-    settings = {"GO111MODULE": "off", "GOFLAGS": "", "GOPATH": "/usr/share/gocode"}
-    done = subprocess.run(["go", "run", os.path.join(HERE, "others.go"), hash_name, path], stdout=subprocess.PIPE,
-                          text=True, env={**os.environ, **settings}, check=True)
-    counts = [collections.Counter() for _ in range(3)]
-    for line in done.stdout.splitlines():
-        kind, count, name = line.split(" ", 2)
-        counts["rlw".index(kind)][name] = int(count)
-    return counts[0]["cases"], *counts[1:]
 
 
 def counts_text(counts):
@@ -233,12 +370,11 @@ def counts_text(counts):
 def table_rows(folder, kinds):
     """The rows of the table. On standard error: at what the other cases end."""
     for title, kind in kinds:
-        if kind is Libb2 and not Libb2.library or kind is None and not shutil.which("go"):
+        if kind is Libb2 and not Libb2.library or kind is Go and not shutil.which("go"):
             print(f"{title} is absent", file=sys.stderr)
             continue
-        for name in kind.hashes if kind else ("blake2b", "blake2s", "blake2xb", "blake2xs"):
-            path = os.path.join(folder, f"{name}.txt")
-            ran, lacks, wrong = run_cases(lambda: kind(name), path) if kind else run_go(name, path)
+        for name in kind.hashes:
+            ran, lacks, wrong = run_cases(kind, name, os.path.join(folder, f"{name}.txt"))
             print(f"{title}, {name}: not run: {counts_text(lacks)}", file=sys.stderr)
             yield f"| {title} | {name} | {ran} of {ran + sum(lacks.values())} | {counts_text(wrong)} |"
 
@@ -247,11 +383,14 @@ def main():
     parser = Parser(description=__doc__.split("\n\n")[0])
     parser.add_argument("--check", action="store_true", help="compare the rows with those of others.txt")
     parser.add_argument("--libb2", metavar="FILE", help="run only libb2's functions, of this shared library")
+    parser.add_argument("--b2", metavar="PROGRAM", help="run only b2, this program")
     parser.add_argument("folder")
     chosen = parser.parse_args()
-    kinds = (("hashlib", Hashlib), ("libb2", Libb2), ("Go", None))
+    kinds = (("hashlib", Hashlib), ("libb2", Libb2), ("Go", Go))
     if chosen.libb2:
         Libb2.library, kinds = ctypes.CDLL(chosen.libb2), kinds[1:2]
+    if chosen.b2:
+        B2.path, kinds = os.path.abspath(chosen.b2), (("b2", B2),)
     with open(os.path.join(HERE, "others.txt"), encoding="utf-8") as file:
         table = file.read()
     status = 0

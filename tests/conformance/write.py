@@ -16,6 +16,8 @@ sys.path.insert(0, os.path.join(os.path.dirname(os.path.abspath(__file__)), ".."
 from common import FAMILIES, Parser  # noqa: E402
 
 KEY, SALT, PERSON = 5000, 6000, 7000  # where keys, salts and personalizations begin
+TEXTS = ("key", "salt", "person")
+NODE = ("fanout", "depth", "leaf", "offset", "node", "inner", "last")
 
 
 def words(**given):
@@ -57,7 +59,7 @@ class Writer:
         for name, (least, most) in self.limits.items():
             if name in given or not (name in also or name == "leaf" and self.is_tree or self.dice.random() < 0.4):
                 continue
-            if name in ("fanout", "depth", "leaf", "offset", "node", "inner", "last") and not self.is_tree:
+            if name in NODE and not self.is_tree:
                 continue
             given[name] = self.some(most, 1 if name == "key" else least)
             if name == "size":
@@ -67,8 +69,7 @@ class Writer:
         return given
 
     def node(self):
-        return {name: self.some(self.limits[name][1], self.limits[name][0])
-                for name in ("fanout", "depth", "leaf", "offset", "node", "inner", "last")}
+        return {name: self.some(self.limits[name][1], self.limits[name][0]) for name in NODE}
 
     def new(self, slot="a", **given):
         """The call that makes a state."""
@@ -125,14 +126,14 @@ def random_hashes(w):
 
 def nodes(w):
     """Nodes of trees: each parameter at its edges, and all of them."""
-    for name in ("fanout", "depth", "leaf", "offset", "node", "inner", "last") if w.has_nodes else ():
+    for name in NODE:
         least, most = w.limits[name]
         bits = {2**n + more for n in (7, 8, 15, 16, 24, 31, 32, 40, 47, 56, 63) for more in (-1, 0)}
         for value in sorted({least, least + 1, most - 1, most} | {bit for bit in bits if least < bit < most}):
             w.hash("node", 9, **{name: max(value, least)})
-    for i in range(150 if w.has_nodes else 0):
+    for i in range(150):
         w.hash("node", w.dice.randint(0, 300), i, **w.arguments(**w.node()))
-    for i in range(40 if w.has_nodes else 0):  # the flag is set and cleared at any time
+    for i in range(40):  # the flag is set and cleared at any time
         given, length, flag = w.arguments(**w.node()), w.dice.randint(0, 300), i % 2
         w.case("flag", w.new(**given), f"last a {1 - flag}", f"update a 0:{length}", f"last a {flag}", "copy a b",
                "digest a", "last b 1", "reset b", f"update b 0:{length}", "digest b")
@@ -160,8 +161,6 @@ def pieces(w):
 
 def tags(w):
     """The right tag, each with one bit changed, shorter and longer ones, none; nothing is left after any."""
-    if w.is_output:
-        return
     for size in (1, 16, w.longest):
         given = {**w.arguments(), "size": size}
         w.case("tag", w.new(**given), "update a 3:90", "copy a b", "copy a c", "copy a d")
@@ -179,42 +178,46 @@ def tags(w):
         w.case("equal", f"equal 0:300000 {start}:{end}")
 
 
+def values_at_edges(w, name):
+    """Values of an argument that are refused, and such that are accepted."""
+    least, most = w.limits[name]
+    if name in TEXTS:
+        # An empty key is a matter of the language.
+        return [most + 1, most + 2, 2 * most, 255, 256, 257, 65536, "none"], [
+            int(name == "key"), least + 1, most - 1, most]
+    wrong = [least - 1, most + 1, most + 2, *(2**n + more for n in (8, 16, 32, 48, 63, 64) for more in (0, 1, 9))]
+    wrong = [value for value in wrong if not least <= value <= most] + ["none"]
+    if w.is_output:  # the number that says `unknown` is no length
+        return [most, *wrong], [1, 2, most - 1, "unknown"]
+    return wrong, [least, least + 1, most - 1, most]
+
+
 def refusals(w):
     """Each argument below its least and above its most, up to 2^64 and more; several wrong ones; no object."""
     base = {"leaf": 9} if w.is_tree else {}
-    for name, (least, most) in w.limits.items():
-        if name == "last":  # a flag of each language's own
-            continue
-        if name in ("key", "salt", "person"):
-            wrong = [most + 1, most + 2, 2 * most, 255, 256, 257, 65536]
-            right = [int(name == "key"), least + 1, most - 1, most]  # an empty key is a matter of the language
-        else:
-            wrong = [least - 1, most + 1, most + 2,
-                     *(2**n + more for n in (8, 16, 32, 48, 63, 64) for more in (0, 1, 9)),
-                     "none"]
-            right = [least, least + 1, most - 1, most]
-            if w.is_output:  # the number that says `unknown` is no length
-                wrong, right = [most, *wrong], [1, 2, most - 1, "unknown"]
-        for value in wrong + ["none"] * (name in ("key", "salt", "person")):
-            if value != "none" and value in range(least, most + 1) and not (w.is_output and value == most):
-                continue
-            given = words(**{**base, name: value})
-            w.case(f"refused-{name}", f"new a {w.name} {given}", "update a 0:1",
+    for name in filter("last".__ne__, w.limits):  # that is a flag of each language's own
+        wrong, right = values_at_edges(w, name)
+        for value in wrong:
+            w.case(f"refused-{name}", f"new a {w.name} {words(**{**base, name: value})}", "update a 0:1",
                    "digest a" if not w.is_output else "read a 1", "wipe a")
-            if not w.is_output or name != "size" or value != "unknown":
-                more = words(**{**base, **({"size": 9} if w.is_output else {}), name: value})
-                w.case(f"refused-{name}", f"hash {w.name} 0:3 {more}")
-                if w.name in ("blake2b", "blake2s") and name in ("size", "key", "salt", "person"):
-                    w.case(f"refused-{name}", f"many {w.name} 0:3 4:7 {more}")
+            given = words(**{**base, **({"size": 9} if w.is_output else {}), name: value})
+            w.case(f"refused-{name}", f"hash {w.name} 0:3 {given}")
+            if w.name in ("blake2b", "blake2s") and name in ("size", *TEXTS):
+                w.case(f"refused-{name}", f"many {w.name} 0:3 4:7 {given}")
         for value in right:
             w.case(f"taken-{name}", w.new(**{**base, name: value}), *(["left a"] if w.is_output else []),
                    "update a 0:1", w.end("a"))
+    several_refusals(w, base)
+
+
+def several_refusals(w, base):
+    """Several wrong arguments, and no message."""
     names = [name for name in w.limits if name not in ("last", "fanout", "node")]
     for wrong in range(1, 2 ** len(names)):
         given = dict(base)
         for i, name in enumerate(names):
             if wrong >> i & 1 and not (name in ("leaf", "offset") and w.name == "blake2b"):
-                given[name] = w.limits[name][1] + 1 if name in ("key", "salt", "person", "offset", "inner") else 0
+                given[name] = w.limits[name][1] + 1 if name in (*TEXTS, "offset", "inner") else 0
         if wrong & wrong - 1:
             w.case("refused-several", w.new(**given))
     w.case("refused-message", f"hash {w.name} none {words(**base, **({'size': 9} if w.is_output else {}))}")
@@ -262,13 +265,11 @@ def walks(w):
 
 def several(w):
     """Messages of one length and of several, up to a thousand, in one call."""
-    if not w.has_nodes:
-        return
     for count in (0, 1, 2, 3, 4, 5, 7, 8, 9, 15, 16, 17, 33):
         for length in (0, 1, w.block, w.block + 1, 300):
             messages = " ".join(f"{i}:{i + length}" for i in range(count))
-            given = {key: value for key, value in w.arguments("size", "key").items()}
-            w.case("many", f"many {w.name} {messages} {words(**{**given, 'size': w.dice.choice([1, 8, 20])})}")
+            given = w.arguments("size", "key") | {"size": w.dice.choice([1, 8, 20])}
+            w.case("many", f"many {w.name} {messages} {words(**given)}")
     for count, size in ((257, 1), (1000, 1), (1025, 2)):
         w.case("many", f"many {w.name} {' '.join(f'{i}:{i + 1}' for i in range(count))} size={size}")
     for _ in range(20):
@@ -281,8 +282,6 @@ def several(w):
 
 def outputs(w):
     """Outputs that are read in pieces, copied and reset on the way; what is refused while they are read."""
-    if not w.is_output:
-        return
     for size in (1, w.longest - 1, w.longest, w.longest + 1, 4 * w.longest, 8 * w.longest + 9, "unknown"):
         total = 600 if size == "unknown" else size
         for cut in sorted({0, 1, total // 3, total - 1, total}):
@@ -299,10 +298,9 @@ def outputs(w):
         for _ in range(6):
             w.call(f"read a {w.dice.choice([0, 1, 2, 31, 32, 33, 63, 64, 65, 128, 200])}")
     most = UNKNOWN[family_of(w.name)]
-    for value in (2 * w.longest + 1, most - 1, most - 2):
-        w.case("left", f"new a {w.name} size={value}", "left a", "read a 33", "left a", f"read a {value}", "read a 3")
-    w.case("left", f"new a {w.name} size=unknown", "left a", "read a 33", "left a", f"read a {w.longest << 32}",
-           "read a 3")
+    for size in (2 * w.longest + 1, most - 1, most - 2, "unknown"):
+        count = w.longest << 32 if size == "unknown" else size
+        w.case("left", f"new a {w.name} size={size}", "left a", "read a 33", "left a", f"read a {count}", "read a 3")
     if w.name == "blake2xb":
         for size, key, context in [(size, key, size % 40) for size in (1, 32, 64, 65, 130) for key in (1, 32, 64)]:
             w.case("derive", f"derive {size}:{size + context} size={size} key={KEY}:{KEY + key}")
@@ -313,9 +311,7 @@ def outputs(w):
 
 
 def trees(w):
-    """The tree of two levels: roots, ranges of leaves, roots of these, and leaves that are hashed by others."""
-    if not w.is_tree:
-        return
+    """The tree of two levels: roots, and ranges of leaves."""
     for leaf in (1, 7, 64, 127, 128, 129, 1000, 2**32 - 1):
         for length in (0, 1, leaf - 1, leaf, leaf + 1, 4 * leaf, 4 * leaf + 1, 5 * leaf, 9 * leaf + 3):
             if length < 10000:
@@ -329,9 +325,8 @@ def trees(w):
                     w.case("leaves", f"leaves {first % 99}:{end} {first} {ends} {words(leaf=leaf, **texts)}")
     for leaf, first, ends, length in ((4, 0, 0, 0), (4, 0, 0, 3), (4, 0, 0, 5), (4, 1, 1, 0), (4, 5, 0, 9),
                                       (4, 0, 1, 0), (1, 2**58 - 1, 1, 1), (1, 2**58 - 2, 1, 1), (1, 2**58 - 2, 0, 2),
-                                      (2, 2**57 - 1, 0, 2),
-                                      (2, 2**57 - 1, 1, 1), (4, 2**56, 1, 4), (4, 2**63, 1, 4), (4, 2**64 - 1, 1, 4),
-                                      (2**32 - 1, 2**26, 1, 4), (2**32 - 1, 2**26 + 1, 1, 4)):
+                                      (2, 2**57 - 1, 0, 2), (2, 2**57 - 1, 1, 1), (4, 2**56, 1, 4), (4, 2**63, 1, 4),
+                                      (4, 2**64 - 1, 1, 4), (2**32 - 1, 2**26, 1, 4), (2**32 - 1, 2**26 + 1, 1, 4)):
         w.case("leaves", f"leaves 0:{length} {first} {ends} leaf={leaf}")
     for name, value in (("leaf", 0), ("leaf", 2**32), ("salt", 17), ("person", 17), ("leaf", "none"), ("salt", "none")):
         w.case("refused-leaves", f"leaves 0:3 0 1 {words(**{'leaf': 4, name: value})}")
@@ -340,6 +335,10 @@ def trees(w):
     for leaf in (258047, 258048, 258049, 100000):  # around what JavaScript hashes at once
         w.case("leaves", f"leaves 5:{5 + 3 * leaf} 7 {leaf % 2} leaf={leaf}")
         w.hash("root", 2 * leaf + 1, leaf=leaf)
+
+
+def parts_of_trees(w):
+    """Roots of ranges of leaves, and leaves that are hashed by others."""
     for length in (0, 1, 63, 64, 65, 128, 192, 640, 6400, 258048, 258112, 640000):
         w.case("top", f"top 0:{length} {words(**w.arguments() | {'size': 1 + length % 63})}")
     for size in (0, 65, 256, 2**32 + 1):
@@ -359,14 +358,13 @@ def trees(w):
            "digest a")
 
 
-KINDS = (lengths, sizes, random_hashes, nodes, pieces, tags, refusals, ended, resets, walks, several, outputs, trees)
-
-
 def text_of(name):
-    writer = Writer(name)
-    for kind in KINDS:
-        kind(writer)
-    return "\n".join([f"# {name}: conformance cases of BLAKE2, format 1. README.md describes them.", *writer.lines, ""])
+    w = Writer(name)
+    for kind in (lengths, sizes, random_hashes, *[nodes] * w.has_nodes, pieces, *[tags] * (not w.is_output), refusals,
+                 ended, resets, walks, *[several] * w.has_nodes, *[outputs] * w.is_output,
+                 *[trees, parts_of_trees] * w.is_tree):
+        kind(w)
+    return "\n".join([f"# {name}: conformance cases of BLAKE2, format 1. README.md describes them.", *w.lines, ""])
 
 
 def main():

@@ -57,7 +57,7 @@ check "the build of tests/key_scan/calls.rt.txt for $cpu" build || finish
 for length in 0 64 1000; do
     scan "$length" >"$work/lines" 2>&1
     status=$?
-    [ "$(wc -l <"$work/lines")" -eq 12 ] || fail "12 lines, and status $status" "$work/lines"
+    [ "$(wc -l <"$work/lines")" -eq 11 ] || fail "11 lines, and status $status" "$work/lines"
     while IFS= read -r line; do
         case $line in
             "passed: "*) pass "$cpu, ${line#*: }" ;;

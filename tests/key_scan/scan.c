@@ -54,10 +54,8 @@ static const struct form FORMS[] = {
 };
 enum { COUNT = sizeof FORMS / sizeof *FORMS };
 
-// The vector registers: those that a build for x86-64-v3 has, and behind them, in one for
-// x86-64-v4, zmm16 to zmm31, which a scrubbed call clears.
-enum { LOWER = 16 * 32, UPPER = 16 * 64 };
-static uint8_t stack[DEPTH], vectors[LOWER + UPPER];
+// In a build for x86-64-v4, the vector registers zmm16 to zmm31, which a scrubbed call clears.
+static uint8_t stack[DEPTH], upper[16 * 64];
 static int fails;
 
 // Fills the stack below, so that what is found there is of the call.
@@ -68,25 +66,15 @@ static __attribute__((noinline)) void fill_stack(void)
         bytes[i] = 0x55;
 }
 
-// Stores 16 vector registers of so many bytes each to these places.
-#define LOWER_NUMBERS "0,1,2,3,4,5,6,7,8,9,10,11,12,13,14,15"
-#define UPPER_NUMBERS "16,17,18,19,20,21,22,23,24,25,26,27,28,29,30,31"
-#define STORE_ALL(instruction, kind, size, numbers, places) \
-    __asm__ volatile(".set at, 0\n .irp n," numbers "\n" instruction " %%" kind "\\n, at(%0)\n" \
-                     ".set at, at + " #size "\n .endr" ::"r"(places) : "memory")
-
 // Runs a form, and copies the vector registers and the stack below this frame before anything else.
 static __attribute__((noinline)) _Bool run(const struct form *form)
 {
     int is_b = form->family == 'b';
     _Bool is_taken = form->call(key, message, LENGTH, is_b ? tag_b : tag_s, is_b ? 64 : 32);
 #if defined(__AVX512F__)
-    STORE_ALL("vmovdqu64", "zmm", 64, UPPER_NUMBERS, vectors + LOWER);
-#endif
-#if defined(__AVX__)
-    STORE_ALL("vmovdqu", "ymm", 32, LOWER_NUMBERS, vectors);
-#else
-    STORE_ALL("movdqu", "xmm", 16, LOWER_NUMBERS, vectors);
+    __asm__ volatile(".set at, 0\n .irp n,16,17,18,19,20,21,22,23,24,25,26,27,28,29,30,31\n"
+                     "vmovdqu64 %%zmm\\n, at(%0)\n .set at, at + 64\n .endr"
+                     ::"r"(upper) : "memory");
 #endif
     uint8_t *from;
     __asm__ volatile("mov %%rsp, %0" : "=r"(from));
@@ -105,34 +93,6 @@ static int copies(const uint8_t *in, size_t size, const uint8_t *secret, size_t 
         for (size_t at = 0; at + PIECE <= size; at++)
             found += !memcmp(in + at, secret + piece, PIECE);
     return found;
-}
-
-// Copies this many bytes of the key to a frame, as far from its end as `place` says: a form that
-// leaves a copy.
-static size_t place, copied;
-static __attribute__((noinline)) _Bool leave_a_copy(const uint8_t *secret, const uint8_t *text,
-                                                    size_t length, const uint8_t *tag,
-                                                    size_t tag_length) {
-    uint8_t frame[DEPTH - 512];
-    memcpy(frame + sizeof frame - place - copied, secret, copied);
-    __asm__ volatile("" ::"r"(frame), "r"(text), "r"(length), "r"(tag), "r"(tag_length) : "memory");
-    return 1;
-}
-
-// Whether the search finds what is there, and no more.
-static _Bool finds_copies(void)
-{
-    static const size_t PLACES[] = {0, 1, 7, 4096, DEPTH - 512 - 64};
-    const struct form form = {"a copy", leave_a_copy, 'b', 0, 0, 0, 0};
-    for (size_t i = 0; i < sizeof PLACES / sizeof *PLACES; i++)
-        for (copied = 0; copied <= 64; copied++) {
-            place = PLACES[i];
-            fill_stack();
-            run(&form);
-            if (copies(stack, DEPTH, key, 64) != (int)(copied / PIECE))
-                return 0;
-        }
-    return 1;
 }
 
 // Whether `settle`, which makes a compiler keep zeros, reads its 64 bytes to the last, and none
@@ -173,24 +133,21 @@ static void look(const struct form *form)
     int in_tag = copies(stack, DEPTH, tag, size);
     int in_chain = copies(stack, DEPTH, chain, is_b ? CHAIN_B : CHAIN_S);
     _Bool is_scrubbed = form->call == keyed_b_scrubbed || form->call == keyed_s_scrubbed;
-    int in_upper = copies(vectors + LOWER, UPPER, key, size) +
-                   copies(vectors + LOWER, UPPER, tag, size);
+    int in_upper = copies(upper, sizeof upper, key, size) + copies(upper, sizeof upper, tag, size);
     _Bool fits = is_taken && in_key >= !form->is_wiped && in_key <= form->key &&
                  in_tag <= form->tag && in_chain <= form->chain && !(is_scrubbed && in_upper);
     printf("%s: %s, message of %d bytes: key %d, tag %d, chaining words %d",
            fits ? "passed" : "FAILED", form->name, LENGTH, in_key, in_tag, in_chain);
-    printf("; at most %d, %d, %d; in vector registers key %d, tag %d%s\n", form->key, form->tag,
-           form->chain, copies(vectors, sizeof vectors, key, size),
-           copies(vectors, sizeof vectors, tag, size), is_taken ? "" : "; the tag is refused");
+    printf("; at most %d, %d, %d; in upper vector registers %d%s\n", form->key, form->tag,
+           form->chain, in_upper, is_taken ? "" : "; the tag is refused");
     fails += !fits;
 }
 
 int main(void)
 {
-    _Bool finds = finds_copies(), reads = settle_reads_all();
-    printf("%s: copies of 0 to 64 bytes are found at each depth\n", finds ? "passed" : "FAILED");
+    _Bool reads = settle_reads_all();
     printf("%s: settle reads 64 bytes\n", reads ? "passed" : "FAILED");
-    fails = !finds + !reads;
+    fails = !reads;
     for (const struct form *form = FORMS; form < FORMS + COUNT; form++)
         look(form);
     return fails != 0;

@@ -8,13 +8,12 @@ from typing import Any, Callable
 
 import machine
 import terms as T
-from machine import (Operand, Processor, chunks, image, invert, joined, lanewise, need_public, no_rule, number,
-                     total)
+from machine import (ON_WORDS, Operand, Processor, chunks, image, invert, joined, lanewise, need_public, no_rule,
+                     number, total)
 from terms import CannotShow, IsWrong
 
 SP, ZERO, LINK, PLATFORM = 31, 32, 30, 18
 WIDTHS = {"b": 1, "h": 2, "s": 4, "w": 4, "d": 8, "x": 8, "q": 16}
-SAVED = tuple(range(19, 30))
 CONDITIONS = "eq ne cs cc hi ls mi pl vs vc ge lt gt le".split()
 SIZES = {"b": 1, "h": 2}
 STORES, LOADS = ("str", "stur", "stp"), ("ldr", "ldur", "ldp")
@@ -78,13 +77,10 @@ class Instruction(machine.Instruction):
             self.operands[-2:] = [Operand("memory", base=memory.base, offset=step.value, mode="after")]
 
 
-# What instructions on words make of two words; the values may know more than the words say.
-
+# What instructions on words make of two words, besides those that have other names.
 WORDS: dict = {
-    "add": lambda m, a, b: total(a, b), "sub": lambda m, a, b: total(a, b, -1), "and": lambda m, a, b: m.masked(a, b),
-    "orr": lambda m, a, b: m.either(a, b), "eor": lambda m, a, b: m.exclusive(a, b),
-    "mvn": lambda m, a, b: T.add(a.w, (-1, a), (-1, T.const(a.w, 1))), "neg": lambda m, a, b: T.add(a.w, (-1, a)),
-    "lsl": lambda m, a, b: m.shifted_left(a, b.args), "lsr": lambda m, a, b: m.shifted_right(a, b.args),
+    **ON_WORDS, **{name: ON_WORDS[other] for name, other in (
+        ("orr", "or"), ("eor", "xor"), ("mvn", "not"), ("lsl", "shl"), ("lsr", "shr"))},
     "ror": lambda m, a, b: T.ror(a.w, a, b.args), "ubfiz": lambda m, a, b, size: m.bitfield(a, b.args, size),
 }
 SHIFTS = ("lsl", "lsr", "ror")
@@ -141,6 +137,7 @@ class Arm(Processor):
     FILES = {"general": (32, 8), "vector": (32, 16)}
     STACK_POINTER = "general", SP
     ARGUMENTS: tuple = tuple(range(8))
+    SAVED = tuple(range(19, 30))
     RELATIONS = {"eq": "==", "ne": "!=", "cc": "<", "cs": ">=", "hi": ">", "ls": "<="}
     SIGNED = {"lt": "<", "ge": ">=", "gt": ">", "le": "<="}
     CARRY = {"cs": "carry", "cc": "no carry"}
@@ -155,7 +152,7 @@ class Arm(Processor):
 
     def at_entry(self) -> tuple:
         m = self.values
-        saved = [list(m.general[r]) for r in SAVED] + [m.vector[r][:8] for r in range(8, 16)]
+        saved = [list(m.general[r]) for r in self.SAVED] + [m.vector[r][:8] for r in range(8, 16)]
         return T.word(m.general[LINK]), m.stack_pointer(), saved
 
     def enter(self) -> T.Term:
@@ -168,15 +165,10 @@ class Arm(Processor):
     def leave(self, link: T.Term) -> None:
         """That register belongs to the call."""
 
-    def clobber(self, is_compression: bool = False) -> None:
-        """What a function may leave in registers that do not belong to its caller."""
-        m = self.values
-        for r in range(31):
-            if r not in SAVED:
-                m.general[r] = m.lost(8, is_compression)
-        m.vector = [v[:8] + m.lost(8, is_compression) if 8 <= r < 16 else m.lost(16, is_compression)
-                    for r, v in enumerate(m.vector)]
-        m.flags = None
+    def lost_vector(self, j: int, old: list, is_compression: bool) -> list:
+        """The low halves of 8 to 15 belong to the caller."""
+        start = 8 if 8 <= j < 16 else 0
+        return old[:start] + self.values.lost(16 - start, is_compression)
 
     def need_vectors(self) -> None:
         """All but those of at_entry() belong to the call."""
@@ -311,13 +303,6 @@ class Arm(Processor):
         return Operand("value", data=self.quietly(
             lambda a, b: WORDS[shift.name](self.values, a, T.const(a.w, k)), self.read(o, size), [0] * size))
 
-    def quietly(self, f: Callable, a: list, b: list) -> list:
-        """The bytes of a result, without the flags."""
-        flags = self.values.flags
-        data = self.values.computed("other", f, a, b)
-        self.values.flags = flags
-        return data
-
     def compute(self, name: str, ops: list) -> bool:
         """An instruction of WORDS, perhaps with flags."""
         m, to, size = self.values, ops[0], ops[0].size
@@ -341,7 +326,7 @@ class Arm(Processor):
         to, size = ops[0], ops[0].size
         a, b, *rest = [self.read(o, size) for o in ops[1:]]
         need_public(T.word(a + b), "the time of a product or a division")
-        times = lambda x, y: T.add(x.w, (y.args, x)) if name != "umulh" and y.op == "const" else None
+        times = lambda x, y: None if name == "umulh" else ON_WORDS["mul"](self.values, x, y)
         data = self.values.anything(size) if name == "udiv" else self.quietly(times, a, b)
         if rest:
             data = self.quietly(lambda x, y: total(x, y, 1 if name == "madd" else -1), rest[0], data)

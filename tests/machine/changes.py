@@ -1,6 +1,6 @@
 """Changes of the code, each of which must be refused: those of mutations.txt; random ones of each function that
-compresses, in which an instruction gets another operation, another number, or the operands of another instruction of
-the same form, or is left out; and a branch of each exported function, at its start, on a byte of a secret argument."""
+compresses, in which an instruction becomes another of the same name, or is left out; and a branch of each exported
+function, at its start, on a byte of a secret argument."""
 
 from __future__ import annotations
 
@@ -9,12 +9,11 @@ import functools
 import os
 import random
 import re
-from typing import Any, Callable, Iterator, NamedTuple
+from typing import Any, Callable, NamedTuple
 
 import compression
 import constant_time
 import families
-import forms
 import functions
 import macros
 import program as programs
@@ -28,20 +27,12 @@ ENTRIES = {"one b": functions.ONE_B, "one s": functions.ONE_S, "many b": functio
            "many s": functions.MANY_S, "eight b": functions.EIGHT_B, "each b": functions.EACH_B,
            "each s": functions.EACH_S, "stripes b": functions.STRIPES_B, "stripes s": functions.STRIPES_S}
 LABEL = re.compile(r'"?(?!\.L)([\w.$]+?)_\d+_[a-z0-9]+"?:')
-KINDS = ("operation", "operands", "number", "left_out")
 COUNT = 4                              # random changes of each function
-# Another operation with the same operands, by parts of names.
-OTHER = {"paddq": "pxor", "paddd": "pxor", "pxor": "paddq", "psrlq": "psllq", "psllq": "psrlq", "psrld": "pslld",
-         "pslld": "psrld", "prolq": "prorq", "prold": "prord", "prorq": "prolq", "prord": "prold",
-         "punpcklqdq": "punpckhqdq", "punpckhqdq": "punpcklqdq", "punpckldq": "punpckhdq", "punpckhdq": "punpckldq",
-         "permi2q": "permt2q", "permi2d": "permt2d", "korb": "kandb", "kandb": "korb", "add": "sub", "sub": "add",
-         "eor": "add", "zip1": "zip2", "zip2": "zip1", "uzp1": "uzp2", "uzp2": "uzp1", "usra": "shl", "shl": "usra",
-         "i64x2.add": "v128.xor", "i32x4.add": "i64x2.add", "v128.xor": "i32x4.add", "i32x4.shl": "i32x4.shr_u",
-         "i64x2.shl": "i64x2.shr_u", "i64x2.shr_u": "i64x2.shl", "i32x4.shr_u": "i32x4.shl", "i64.ne": "i64.eq"}
-# Changes that change nothing, as (path, function, seed): both registers have the same number, or a shuffle has no byte
-# of that operand.
-NEUTRAL = {("js/src/wasm.js", "blake2_compress::compress::blake2s::compress", 1)}
-NUMBER = re.compile(r"#?0x[0-9a-f]+$|#?\d+$")
+# Changes that change nothing, as (path, function, seed): a shuffle has no byte of that operand, or there is room for
+# more on the stack than the check of it needs.
+NEUTRAL = {("dist/wasm/vulfsjor.wasm", "blake2_compress::compress::blake2s::compress", 3),
+           ("js/src/wasm.js", "blake2_parallel::lanes::blake2sp::compress_in_lanes", 1),
+           ("js/src/wasm_blake2s.js", "blake2_compress::compress::blake2s::compress", 0)}
 BRANCH = {"x86_64": "\tcmpb $7, (%%%s)\n\tje 99999f\n99999:\n",
           "aarch64": "\tldrb w9, [%s]\n\tcbz w9, 99999f\n99999:\n"}
 REGISTERS = {"x86_64": "rdi rsi rdx rcx r8 r9".split(), "aarch64": ["x%d" % k for k in range(6)]}
@@ -57,18 +48,15 @@ class NoMatch(Exception):
 class Row(NamedTuple):
     """A change of the table."""
 
-    file: str
+    path: str
     function: str
     number: str
     old: str
     new: str
     is_first: bool                     # of its group
 
-    def path(self) -> str:
-        return FILES[self.file]
-
     def title(self) -> str:
-        return "%s: %s, %s: %s => %s" % ("not called wrong" if self.is_right() else "refused", self.path(),
+        return "%s: %s, %s: %s => %s" % ("not called wrong" if self.is_right() else "refused", self.path,
                                          self.function, self.old, self.new or "nothing")
 
     def is_right(self) -> bool:
@@ -79,14 +67,15 @@ class Row(NamedTuple):
         what, _, rest = self.function.partition(" ")
         export, _, name = rest.partition(" ")
         if what == "scrub":
-            return name or functions.SCRUB_STACK + export, show_scrub, (export,)
+            scrub = functions.SCRUB_STACK + export
+            return name or scrub, scrub_stack.show, (scrub, int(export))
         if what == "file":
             return "", look, ()
         if what in ("call", "whole", "right"):
             export = families.PREFIX + export
             return name or export, show_call if what == "call" else families.show, (export,)
         name, *entry = ENTRIES[self.function.removesuffix(" data")]
-        name = functions.in_file(self.path(), name)
+        name = functions.in_file(self.path, name)
         return name, compression.show, (name, *entry)
 
     def edit(self, found: Any) -> Any:
@@ -104,7 +93,7 @@ class Row(NamedTuple):
         """Whether the change is refused as the table says: a verdict, and why."""
         name, show, arguments = self.target()
         try:
-            program = programs.Program(self.path(), self.edit)
+            program = programs.Program(self.path, self.edit)
             if show is compression.show and is_same(program, name):
                 return "not ok", "the proof of the old code would be taken for this one"
             show(program, *arguments)
@@ -119,31 +108,37 @@ class Row(NamedTuple):
 
 
 def table() -> list:
-    """The changes of the table. Groups have empty lines between them."""
-    found = []
+    """The changes of the table. A comment begins a group."""
+    found, is_first = [], True
     with open(TABLE) as f:
-        for group in f.read().split("\n\n"):
-            lines = [line for line in group.splitlines() if not line.startswith("#")]
-            for line in lines:
-                files, names, number, old, new = (f.strip() for f in re.split(r" \|(?: |$)", line, maxsplit=4))
-                pairs = [(file, name) for file in files.split() for name in names.split(", ")]
-                found += [Row(file, name, number, old, new, line is lines[0] and (file, name) == pairs[0])
-                          for file, name in pairs]
+        for line in f:
+            if line.startswith(("#", "\n")):
+                is_first = True
+                continue
+            files, names, number, old, new = (p.strip() for p in re.split(r" \|(?: |$)", line.rstrip("\n"), maxsplit=4))
+            for file in files.split():
+                for name in names.split(", "):
+                    found.append(Row(FILES[file], name, number, old, new, is_first))
+                    is_first = False
     return found
+
+
+@functools.lru_cache(maxsize=None)
+def original(path: str) -> Any:
+    """What the changes of a file are made in: its text, or the functions of a module."""
+    kind = functions.architecture(path)
+    if kind == "wasm":
+        return programs.read(path).functions
+    with open(os.path.join(programs.ROOT, path), encoding="utf-8") as f:
+        return macros.expanded(f.read(), kind)
 
 
 def check_table(count: int) -> tuple:
     """Whether the table has so many changes, and each can be made: a verdict, and why."""
-    texts: dict = {}
     rows = table()
     for row in rows:
-        path, is_text = row.path(), functions.architecture(row.path()) != "wasm"
-        if path not in texts:
-            with open(os.path.join(programs.ROOT, path), errors="replace") as f:
-                texts[path] = macros.expanded(f.read(), functions.architecture(path)) if is_text else (
-                    programs.read(path).functions)
         try:
-            row.edit(texts[path])
+            row.edit(original(row.path))
         except (NoMatch, KeyError) as e:
             return "not ok", "%s: %s" % (row.title(), e)
     return "ok" if len(rows) == count else "not ok", "%d changes" % len(rows)
@@ -187,11 +182,6 @@ def show_call(program: programs.Program, exported: str) -> None:
             constant_time.follow(program, entry)
 
 
-def show_scrub(program: programs.Program, count: str) -> None:
-    """That scrub_stack of this many bytes overwrites them."""
-    scrub_stack.show(program, functions.SCRUB_STACK + count, int(count))
-
-
 def look(program: programs.Program) -> None:
     """What is looked at in all of a file: sections, symbols, and which functions are called."""
     list(constant_time.exports(program))
@@ -209,76 +199,37 @@ def is_same(program: programs.Program, name: str) -> bool:
     return content is not None and content == programs.read(program.path).content(name)
 
 
-class Changes:
-    """The random changes of a function that compresses, each as the number of a line and its new text."""
-
-    def __init__(self, program: programs.Program, name: str) -> None:
-        self.kind, self.lines = program.kind, program.functions[name]
-        self.alike: dict = {}
-        self.texts = {k: self.text(line) for k, line in enumerate(self.lines)}
-        for text in filter(None, self.texts.values()):
-            self.alike.setdefault(self.form(text), []).append(text)
-
-    def text(self, line: str) -> str | None:
-        """An instruction, or None if its address matters, or if a change of it could change nothing."""
-        m = programs.LINE.match(line)
-        text = line if self.kind == "wasm" else m[3] if m else ""
-        if re.search(r"rip|adrp|<|\bret|nop|^(end|block|loop|return|br|local.tee|drop)\b", text):
-            return None
-        return text.partition("//")[0].strip() or None
-
-    def form(self, text: str) -> str:
-        return text.split()[0] if self.kind == "wasm" else forms.form(self.kind, text)
-
-    def is_known(self, text: str) -> bool:
-        """Whether the model executes an instruction of this form, so that a refusal is for what it does."""
-        return self.kind == "wasm" or text == "nop" or (self.kind, "F", self.form(text)) in forms.known()
-
-    def operation(self, text: str) -> Iterator:
-        name = text.split()[0]
-        plain = name if name in OTHER else name.removeprefix("v")
-        if plain in OTHER:
-            yield text.replace(plain, OTHER[plain], 1)
-
-    def number(self, text: str) -> Iterator:
-        """With another last number, of a form that is known."""
-        m, f = NUMBER.search(text), self.form(text)
-        if not m:
-            return
-        start, n = text[:m.start()], int(m[0].lstrip("#"), 0)
-        if self.kind == "wasm" and f.endswith(".const"):
-            yield start + "%d" % (n ^ 1)
-        elif self.kind != "wasm" and f.rstrip("=")[-1] == "n":
-            yield start + "#" * (m[0][0] == "#") + "%#x" % (n ^ 1)
-        for _, _, other in forms.known() if self.kind != "wasm" else ():
-            found = NUMBER.search(other.rstrip("="))
-            if found and NUMBER.sub("", other.rstrip("=")) == NUMBER.sub("", f.rstrip("=")):
-                yield start + found[0]
-
-    def operands(self, text: str) -> Iterator:
-        yield from self.alike[self.form(text)]
-
-    def left_out(self, _: str) -> Iterator:
-        yield "nop"
-
-    def choose(self, kind: str, rng: random.Random) -> tuple:
-        """A line with a change of this kind: its number, its text and the new one."""
-        while True:
-            k = rng.randrange(len(self.lines))
-            text = self.texts[k]
-            found = [t for t in getattr(self, kind)(text) if t != text and self.is_known(t)] if text else []
-            if found:
-                return k, text, rng.choice(sorted(found))
+def changeable(kind: str, line: str) -> str:
+    """The instruction of a line, or nothing if its address matters, or if a change of it could change nothing."""
+    m = programs.LINE.match(line)
+    text = line if kind == "wasm" else m[3] if m else ""
+    if re.search(r"rip|adrp|<|\bret|nop|^(end|block|loop|return|br|local.tee|drop)\b", text):
+        return ""
+    return text.partition("//")[0].strip()
 
 
-def check_random(path: str, entry: tuple, count: int = COUNT) -> tuple:
+def random_change(kind: str, lines: list, rng: random.Random, is_left_out: bool) -> tuple:
+    """A line of a function, its instruction, and what takes its place: another of the same name, or a no-op."""
+    names: dict = {}
+    for k, text in enumerate(changeable(kind, line) for line in lines):
+        if text:
+            names.setdefault(text.split()[0], []).append((k, text))
+    while True:
+        alike = names[rng.choice(sorted(names))]
+        k, text = rng.choice(alike)
+        others = {"nop"} if is_left_out else {other for _, other in alike} - {text}
+        if others:
+            return k, text, rng.choice(sorted(others))
+
+
+def check_random(path: str, entry: tuple) -> tuple:
     """Whether random changes of a function that compresses are refused: a verdict, and why."""
     (name, kind, lanes), program, wrong = entry, programs.read(path), 0
     name = functions.in_file(path, name)
-    changes, kinds = Changes(program, name), KINDS[:3] if program.kind == "wasm" else KINDS
-    for seed in range(count):
-        k, old, new = changes.choose(kinds[seed % len(kinds)], random.Random("%s %s %d" % (path, name, seed)))
+    for seed in range(COUNT):
         other, lines = copy.copy(program), list(program.functions[name])
+        rng = random.Random("%s %s %d" % (path, name, seed))
+        k, old, new = random_change(program.kind, lines, rng, program.kind != "wasm" and seed % 2 == 1)
         lines[k] = lines[k].replace(old, new)
         other.functions = {**program.functions, name: lines}
         text = "the change %d: %s => %s" % (seed, " ".join(old.split()), " ".join(new.split()))
@@ -291,7 +242,7 @@ def check_random(path: str, entry: tuple, count: int = COUNT) -> tuple:
             continue
         if (path, name, seed) not in NEUTRAL:
             return "not ok", "the proof accepts " + text
-    return "ok", "%d changes, %d of them are wrong for known inputs" % (count, wrong)
+    return "ok", "%d changes, %d of them are wrong for known inputs" % (COUNT, wrong)
 
 
 def with_branches(text: str, kind: str, k: int) -> str:

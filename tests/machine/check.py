@@ -29,6 +29,7 @@ import platform
 import shutil
 import subprocess
 import sys
+from functools import partial
 from typing import Any, Callable, Iterator, NamedTuple
 
 import call_cases
@@ -48,6 +49,7 @@ import planted
 import program as programs
 import scrub_stack
 import terms as T
+from machine import joined
 
 HUGE = "VULFSJOR_TEST_HUGE"
 HERE = os.path.dirname(os.path.abspath(__file__))
@@ -55,7 +57,7 @@ FAMILIES = {"blake2b": "BLAKE2b", "blake2s": "BLAKE2s"}
 FORMS = {compression.EachCall: " with a counter each", compression.StripesCall: " in stripes"}
 # The files that must be read; how many exported functions each library has of which whole calls are shown; and how
 # many changes mutations.txt has.
-READ, EXPORTS, CHANGES = ("dist/*/vulfsjor*.s", "dist/*/*.wasm", "js/src/wasm*.js"), 50, 250
+READ, EXPORTS, CHANGES = ("dist/*/vulfsjor*.s", "dist/*/*.wasm", "js/src/wasm*.js"), 50, 187
 # The families of exported functions, by the parts in which calls are followed.
 FOLLOWED = {"BLAKE2b": ("blake2b",), "BLAKE2s": ("blake2s", "memcmp", "wipe"), "BLAKE2bp": ("blake2bp",),
             "BLAKE2sp": ("blake2sp",), "BLAKE2X": ("blake2xb", "blake2xs"), "trees": ("tree",)}
@@ -66,12 +68,11 @@ FOLLOWED = {"BLAKE2b": ("blake2b",), "BLAKE2s": ("blake2s", "memcmp", "wipe"), "
 SHORT = V3, ARM, JS = "dist/x86_64/vulfsjor-v3.s", "dist/aarch64/vulfsjor.s", "js/src/wasm.js"
 SHORT_MANY = {functions.MANY_B: V3, functions.EACH_S: ARM, functions.STRIPES_B: JS}
 SHORT_FOLLOWED = {part: SHORT[k % 2] for k, part in enumerate(FOLLOWED)}
-SHORT_WRITTEN = {"blake2b": (ARM, 102), "blake2s": (V3, 103), "blake2xb": (V3, 98), "": (V3, 4)}
+SHORT_WRITTEN = {"blake2b": (ARM, 102), "blake2s": (V3, 103), "blake2xb": (V3, 94), "": (V3, 4)}
 SHORT_INSTRUCTIONS = {(path, "F") for path in changes.FILES.values()} | {(ARM, "T"), (V3, "W")}
 # Where --long shows all cases of BLAKE2X. In other files it shows some, and follows secrets.
 ALL_OF_X = V3
-# The exports whose cases take long, which are parts of their own.
-LONG_EXPORTS = ("_verify", "_squeeze", "_derive_key", "")
+# What takes too long without --long.
 LONG_CALLS = ("vulfsjor_ffi_tree_root", "vulfsjor_ffi_tree_update_leaves")
 # The users of forms.txt, and how often each instruction runs: without --long, and with it.
 USERS = {"F": "that compress", "T": "in which secrets are followed", "W": "that calls execute over variables"}
@@ -114,15 +115,11 @@ def not_runnable(path: str) -> str | None:
 
 # The proofs of a file, which its tools can read.
 
-def prove(path: str, name: str, kind: Any, lanes: int) -> Job:
+def compress(path: str, name: str, kind: Any, lanes: int) -> str:
     """F of one function."""
-    count = ("%d messages" % lanes if lanes > 1 else "one message") + FORMS.get(compression.call_of(name), "")
-
-    def show() -> str:
-        runner, seconds = compression.show(programs.read(path), functions.in_file(path, name), kind, lanes)
-        return ("%d instructions, %d executed on %d paths, %d branches and %d addresses without a secret, %.1f s" % (
-            len(runner.code), runner.count, runner.paths, runner.branches, runner.addresses, seconds))
-    return Job("%s: F of %s, %s" % (path, FAMILIES[kind.name], count), None, show)
+    runner, seconds = compression.show(programs.read(path), functions.in_file(path, name), kind, lanes)
+    return "%d instructions, %d executed on %d paths, %d branches and %d addresses without a secret, %.1f s" % (
+        len(runner.code), runner.count, runner.paths, runner.branches, runner.addresses, seconds)
 
 
 def search(path: str) -> tuple:
@@ -134,7 +131,7 @@ def search(path: str) -> tuple:
 def look(path: str) -> tuple:
     changes.look(programs.read(path))
     count = len(families.names(programs.read(path)))
-    return ("ok", "") if count == EXPORTS else ("not ok", "whole calls of %d functions are shown" % count)
+    return "ok" if count == EXPORTS else "not ok", "whole calls of %d functions are shown" % count
 
 
 def scrub(path: str) -> str:
@@ -154,47 +151,41 @@ def is_whole(path: str, entry: tuple) -> bool:
     return not SOLVER and is_shown and name in families.names(programs.read(path))
 
 
-def follow(path: str, part: str) -> Job | None:
-    """That whole calls of some families do not depend on secrets, of functions that are not shown whole."""
-    left_out = () if is_long() else LONG_CALLS
-    entries = [e for e in constant_time.exports(programs.read(path)) if e[2] in FOLLOWED[part]
-               and e[0] not in left_out and not is_whole(path, e)]
-
-    def show() -> str:
-        found = [constant_time.follow(programs.read(path), entry) for entry in entries]
-        reached = [f.reached for f in found if f is not None]
-        return "%d functions, which reach %d instructions besides those that compress" % (
-            len(reached), len(set().union(*reached)))
-    title = "%s: no branch and no address of a call depends on a secret: %s" % (path, part)
-    return Job(title, None, show) if entries else None
+def to_follow(path: str, part: str) -> list:
+    """The functions of some families that are not shown whole."""
+    return [e for e in constant_time.exports(programs.read(path)) if e[2] in FOLLOWED[part]
+            and (is_long() or e[0] not in LONG_CALLS) and not is_whole(path, e)]
 
 
-def write_and_return(path: str, family: str, exports: list, numbers: tuple = (), wanted: int | None = None) -> Job:
-    """That whole calls of some functions of a family write and return what they must, in all cases."""
-    def show() -> tuple:
-        names = exports or families.exports(programs.read(path), family)
-        cases = families.cases(programs.read(path), family, *numbers)
-        count, paths = map(sum, zip(*[cases.show(export) for export in names]))
-        return "ok" if wanted in (None, count) else "not ok", "%d cases, %d paths" % (count, paths)
-    return Job("%s: what calls of %s write and return: %s" % (
-        path, families.TITLES[family], " ".join(e.lstrip("_") or "in one" for e in exports) or "all"), SOLVER, show)
+def follow(path: str, part: str) -> str:
+    """That whole calls do not depend on secrets."""
+    found = [constant_time.follow(programs.read(path), entry) for entry in to_follow(path, part)]
+    reached = [f.reached for f in found if f is not None]
+    return "%d functions, which reach %d instructions besides those that compress" % (
+        len(reached), len(set().union(*reached)))
 
 
-def parts_of_calls(path: str, is_short: bool, has_all: bool) -> Iterator[Job]:
-    """What whole calls of a file write and return: all cases in parts, or some."""
+def write_and_return(path: str, family: str, exports: list, numbers: tuple, wanted: int | None) -> tuple:
+    """That whole calls of some functions of a family, or of all, write and return what they must."""
+    cases = families.cases(programs.read(path), family, *numbers)
+    names = exports or families.exports(programs.read(path), family)
+    count, paths = map(sum, zip(*[cases.show(export) for export in names]))
+    return "ok" if wanted in (None, count) else "not ok", "%d cases, %d paths" % (count, paths)
+
+
+def parts_of_calls(path: str, is_short: bool, has_all: bool) -> Iterator[tuple]:
+    """What is shown of whole calls of a file: all cases in parts, or some. As the arguments of write_and_return."""
     for family in families.TITLES:
         if is_short:
             short, count = SHORT_WRITTEN.get(family, ("", 0))
-            if path == short:
-                yield write_and_return(path, family, [], families.some(family), count)
+            yield from [(path, family, [], families.some(family), count)] * (path == short)
         elif "x" in family and path != ALL_OF_X and not has_all or not family:
-            yield write_and_return(path, family, [], families.some(family))
+            yield path, family, [], families.some(family), None
         else:
-            exports = families.exports(programs.read(path), family)
             pending = range(call_cases.KINDS[family].block + 1)
-            yield from (write_and_return(path, family, ["_update"], (pending[k::4],)) for k in range(4))
-            yield from (write_and_return(path, family, [e]) for e in exports if e in LONG_EXPORTS)
-            yield write_and_return(path, family, [e for e in exports if e not in LONG_EXPORTS + ("_update",)])
+            for export in families.exports(programs.read(path), family):
+                parts: list = [(pending[k::4],) for k in range(4)] if export == "_update" else [()]
+                yield from ((path, family, [export], part, None) for part in parts)
 
 
 def can_read(path: str, is_library: bool) -> bool:
@@ -210,44 +201,45 @@ def proofs(path: str, has_all: bool) -> Iterator[Job]:
     """The jobs that show the claims for a file; with all cases, if that is asked for."""
     is_short, gone = not has_all and not is_long(), missing(path)
     is_library = "/vulfsjor" in path and functions.architecture(path) != "wasm"
-    yield Job("%s: no other function has a copy of the rounds" % path, gone, lambda: search(path))
+    job = lambda title, show, *arguments, needs=gone: Job("%s: %s" % (path, title), needs, partial(show, *arguments))
+    yield job("no other function has a copy of the rounds", search, path)
     if is_library:
-        yield Job("%s: nothing that runs or is read is writable, and each exported function is known" % path, gone,
-                  lambda: look(path))
+        yield job("nothing that runs or is read is writable, and each exported function is known", look, path)
     if gone or not can_read(path, is_library):
         return
-    if is_library:
-        for part in FOLLOWED if path not in constant_time.NOT_FOLLOWED else ():
-            job = follow(path, part) if not is_short or path == SHORT_FOLLOWED[part] else None
-            yield from [job] if job else []
-        if not is_short or path in SHORT:
-            yield Job("%s: scrub_stack overwrites its bytes" % path, None, lambda: scrub(path))
-            yield from parts_of_calls(path, is_short, has_all)
     for entry in functions.FILES[path]:
-        if not is_short or entry[2] == 1 or path == SHORT_MANY.get(entry):
-            yield prove(path, *entry)
+        name, kind, lanes = entry
+        if not is_short or lanes == 1 or path == SHORT_MANY.get(entry):
+            count = "%d messages" % lanes if lanes > 1 else "one message"
+            yield job("F of %s, %s%s" % (FAMILIES[kind.name], count, FORMS.get(compression.call_of(name), "")),
+                      compress, path, *entry)
+    for part in FOLLOWED if is_library and path not in constant_time.NOT_FOLLOWED else ():
+        if (not is_short or path == SHORT_FOLLOWED[part]) and to_follow(path, part):
+            yield job("no branch and no address of a call depends on a secret: %s" % part, follow, path, part)
+    if is_library and (not is_short or path in SHORT):
+        yield job("scrub_stack overwrites its bytes", scrub, path, needs=SOLVER)
+        for calls in parts_of_calls(path, is_short, has_all):
+            names = " ".join(e.lstrip("_") or "in one" for e in calls[2]) or "all"
+            yield job("what calls of %s write and return: %s" % (families.TITLES[calls[1]], names),
+                      write_and_return, *calls, needs=SOLVER)
 
 
 # The tests of the tool.
 
-def instructions(path: str, user: str) -> Job:
+def instructions(path: str, user: str) -> tuple:
     """The model of the instructions of a file that are executed for a user of forms.txt."""
-    rounds, is_wasm = ROUNDS[user][is_long()], functions.architecture(path) == "wasm"
-    title = "%s: the model of instructions %s agrees with the processor" % (path, USERS[user])
-    return Job(title, not_runnable(path), lambda: check_wasm_instructions.check(path, rounds) if is_wasm else (
-        check_instructions.check(path, user, rounds)[:2]))
+    rounds = ROUNDS[user][is_long()]
+    if functions.architecture(path) == "wasm":
+        return check_wasm_instructions.check(path, rounds)
+    return check_instructions.check(path, user, rounds)[:2]
 
 
-def table_of_forms(kind: str) -> Job:
+def table_of_forms(kind: str, paths: list) -> tuple:
     """That each form of the table is one of a shipped file, whose tests run it."""
-    paths = [p for p in functions.FILES if functions.architecture(p) == kind]
-
-    def show() -> tuple:
-        used = {(kind, user, forms.form(kind, text)) for program in map(programs.read, paths) for user in USERS
-                for name in check_instructions.executed(program, user) for text in program.texts(name)}
-        extra = sorted(f for f in forms.known() if f[0] == kind and f not in used)
-        return "not ok" if extra else "ok", " ".join(extra[0]) if extra else ""
-    return Job("each form of an instruction for %s is run" % kind, next(filter(None, map(missing, paths)), None), show)
+    used = {(kind, user, forms.form(kind, text)) for program in map(programs.read, paths) for user in USERS
+            for name in check_instructions.executed(program, user) for text in program.texts(name)}
+    extra = sorted(f for f in forms.known() if f[0] == kind and f not in used)
+    return "not ok" if extra else "ok", " ".join(extra[0]) if extra else ""
 
 
 def all_files() -> tuple:
@@ -279,50 +271,50 @@ def runs_instructions(path: str, user: str) -> bool:
 
 
 def tests_of_the_tool() -> Iterator[Job]:
-    """The jobs that test the tool itself."""
+    """The jobs that test the tool itself, but those of one file."""
     few = lambda n, m: n if is_long() else m
     native = not_runnable(check_specification.PATH) or (None if platform.machine() == "x86_64" else "x86-64")
     assembly = not_runnable(planted.ARM) or not_runnable(planted.V3) or native or SOLVER
-    for width in few((64, 32, 16, 8), (16,)):
-        yield Job("the rules of terms at %d bits" % width, SOLVER, lambda width=width: rules(width))
-    for seed in range(few(4, 1)):
-        yield Job("comparisons of whole calls are decided right", SOLVER, lambda seed=seed: check_numbers.check_calls(
-            seed, few(25000, 500)))
-    for change in planted.ALL:
-        if is_long() or not change.is_long:
-            yield Job("the tool's tests see %s" % change.title, assembly, change.show)
-    yield from (instructions(path, user) for path in functions.FILES for user in USERS if runs_instructions(path, user))
-    yield Job("the specification of whole calls agrees with hashlib", None, lambda: check_specification.check(
-        few(400, 10)))
-    yield Job("the specification of whole calls agrees with the library", native or SOLVER,
-              lambda: check_specification.compare(few(10, 2)))
-    yield Job("the ranges of words that are followed have their numbers", None, lambda: check_numbers.check_secrets(
-        few(2000, 60)))
-    yield from map(table_of_forms, ("x86_64", "aarch64"))
-    yield Job("no file is left out", None, all_files)
-    yield from changes_of_the_code()
-    if is_long():
-        for path in functions.FILES:
-            yield Job("%s: whole functions in the model agree with hashlib" % path, missing(path),
-                      lambda path=path: check_digests.check(path, 5))
-        yield Job("the types of tests/machine", None if shutil.which("mypy") else "mypy", types)
+    for title, gone, show, *arguments in (
+            *[("the rules of terms at %d bits" % width, SOLVER, rules, width) for width in few((64, 32, 16, 8), (16,))],
+            *[("comparisons of whole calls are decided right", SOLVER, check_numbers.check_calls, seed, few(25000, 500))
+              for seed in range(few(4, 1))],
+            *[("the tool's tests see %s" % change.title, assembly, change.show)
+              for change in planted.ALL if is_long() or not change.is_long],
+            ("the specification of whole calls agrees with hashlib", None, check_specification.check, few(400, 10)),
+            ("the specification of whole calls agrees with the library", native or SOLVER,
+             check_specification.compare, few(10, 2)),
+            ("the ranges of words that are followed have their numbers", None,
+             check_numbers.check_secrets, few(2000, 60)),
+            ("no file is left out", None, all_files),
+            ("each line of mutations.txt can be applied", None, changes.check_table, CHANGES),
+            *[(row.title(), missing(row.path) or SOLVER, row.check)
+              for row in changes.table() if is_long() or row.is_first],
+            *[("the types of tests/machine", None if shutil.which("mypy") else "mypy", types)] * is_long()):
+        yield Job(title, gone, partial(show, *arguments))
+    for kind in ("x86_64", "aarch64"):
+        paths = [p for p in functions.FILES if functions.architecture(p) == kind]
+        yield Job("each form of an instruction for %s is run" % kind, next(filter(None, map(missing, paths)), None),
+                  partial(table_of_forms, kind, paths))
 
 
-def changes_of_the_code() -> Iterator[Job]:
-    """The jobs that show that changes are refused."""
-    yield Job("each line of mutations.txt can be applied", None, lambda: changes.check_table(CHANGES))
-    for row in changes.table():
-        if is_long() or row.is_first:
-            yield Job(row.title(), missing(row.path()) or SOLVER, row.check)
-    for path, entries in functions.FILES.items():
-        for entry in entries if is_long() else {ARM: (functions.ONE_S,)}.get(path, ()):
-            yield Job("%s: random changes of %s are refused" % (path, entry[0]), missing(path),
-                      lambda path=path, entry=entry: changes.check_random(path, entry))
+def tests_of_a_file(path: str) -> Iterator[Job]:
+    """The jobs that test the tool with one file: its instructions, whole functions, and changes that are refused."""
+    job = lambda title, gone, show, *arguments: Job("%s: %s" % (path, title), gone, partial(show, *arguments))
+    gone = missing(path)
+    for user in USERS:
+        if runs_instructions(path, user):
+            yield job("the model of instructions %s agrees with the processor" % USERS[user],
+                      not_runnable(path) or (SOLVER if user == "W" else None), instructions, path, user)
+    for entry in functions.FILES[path]:
+        if is_long() or (path, entry) == (ARM, functions.ONE_S):
+            yield job("random changes of %s are refused" % entry[0], gone, changes.check_random, path, entry)
     if is_long():
-        for path, k in [(p, k) for p in changes.FILES.values() if functions.architecture(p) != "wasm"
-                        for k in range(6)]:
-            yield Job("%s: branches on argument %d of each exported function are refused" % (path, k),
-                      missing(path) or SOLVER, lambda path=path, k=k: changes.check_branches(path, k))
+        yield job("whole functions in the model agree with hashlib", gone, check_digests.check, path, 5)
+        is_assembly = path in changes.FILES.values() and functions.architecture(path) != "wasm"
+        for k in range(6) if is_assembly else ():
+            yield job("branches on argument %d of each exported function are refused" % k, gone or SOLVER,
+                      changes.check_branches, path, k)
 
 
 def run(job: Job) -> tuple:
@@ -364,7 +356,6 @@ def report(results: Any) -> bool:
 
 def write_forms() -> int:
     """Writes the forms of instructions that the tests of all files run. Returns the status."""
-    os.environ[forms.WRITES] = "1"
     found: set = set()
     for path in [p for p in functions.FILES if functions.architecture(p) != "wasm"]:
         for user in [u for u in USERS if u != "T" or path not in constant_time.NOT_FOLLOWED]:
@@ -397,8 +388,9 @@ def main(arguments: list) -> int:
         print("check.py: there is no list of functions for %s" % unknown[0], file=sys.stderr)
         return 2
     facts.run_with_z3(__file__, given)
-    shown = [job for path in arguments or functions.FILES for job in proofs(path, bool(arguments))]
-    ALL.extend(shown if arguments else [*shown, *tests_of_the_tool()])
+    ALL.extend(job for path in arguments or functions.FILES for job in proofs(path, bool(arguments)))
+    if not arguments:
+        ALL.extend([*tests_of_the_tool(), *joined(map(tests_of_a_file, functions.FILES))])
     with multiprocessing.get_context("fork").Pool() as pool:
         return 0 if report(pool.imap(run_number, range(len(ALL)), chunksize=1)) else 1
 

@@ -11,40 +11,24 @@ from typing import Any, TYPE_CHECKING
 import compression
 import functions
 import terms as T
+from machine import chunks, joined
 from program import read
 
 if TYPE_CHECKING:
     from program import Program
+    from rfc7693 import Kind
 
 
-def numbers_of(call: Any, texts: Any, size: int) -> Any:
-    """The numbers of a call's variables for messages of one block."""
-    kind, n = call.kind, call.kind.bytes
-    found = {counter: T.const(64, size) for counter in getattr(call, "counters", [call.counter])}
+def numbers_of(kind: Kind, texts: list, size: int) -> dict:
+    """The numbers of a call's variables, by their names, for messages of one block."""
+    found, n = {"counter": size}, kind.bytes
     for j, text in enumerate(texts):
-        h = [kind.iv[0] ^ 0x01010000 ^ 8 * n] + kind.iv[1:]
-        block = text.ljust(kind.block, b"\0")
-        for k in range(8):
-            found[call.words[j][k]] = T.const(kind.w, h[k])
-        for k in range(16):
-            word = int.from_bytes(block[k * n:(k + 1) * n], "little")
-            found[call.message[j][k]] = T.const(kind.w, word)
-        found[call.lengths[j]] = T.const(64, 1)
+        found.update({"counter%d" % j: size, "length%d" % j: 1})
+        chain = [kind.iv[0] ^ 0x01010000 ^ 8 * n] + kind.iv[1:]
+        message = [int.from_bytes(word, "little") for word in chunks(text.ljust(kind.block, b"\0"), n)]
+        for name, words in (("h", chain), ("m", message)):
+            found.update({"%s%d.%d" % (name, j, k): word for k, word in enumerate(words)})
     return found
-
-
-def concrete(call: Any, numbers: list) -> None:
-    """Puts the numbers into the memory and the registers of a call."""
-    memo: dict = {}
-
-    def byte(b: Any) -> Any:
-        return b if isinstance(b, int) else T.split(T.substitute(b[0], numbers, memo))[b[1]]
-
-    for base, region in call.regions.items():
-        call.regions[base] = region._replace(initial=lambda k, initial=region.initial: byte(initial(k)))
-    for name in call.cpu.FILES:
-        for register in getattr(call.machine, name):
-            register[:] = [byte(b) for b in register]
 
 
 def digests(program: Program, entry: Any, rng: Any) -> Any:
@@ -57,13 +41,10 @@ def digests(program: Program, entry: Any, rng: Any) -> Any:
     nodes = [bool(rng.randrange(2)) for _ in range(lanes)]
     assumed = {"last%d" % j: True for j in range(lanes)}
     assumed.update({"node%d" % j: node for j, node in enumerate(nodes)})
-    call = compression.call_of(entry[0])(program, name, kind, lanes, assumed)
-    concrete(call, numbers_of(call, texts, size))
+    call = compression.call_of(entry[0])(program, name, kind, lanes, assumed, numbers_of(kind, texts, size))
     compression.Runner(program.code(name), call.cpu).run(call.machine)
-    n, base = kind.bytes, call.pointer(call.h)
-    places = [[T.add(base.w, (1, base), (1, T.const(base.w, n * (k * lanes + j)))) for k in range(8)]
-              for j in range(lanes)]
-    found = [b"".join(bytes(call.machine.load(place, n)) for place in each) for each in places]
+    words = call.machine.load(call.pointer(call.h), 8 * kind.bytes * lanes)
+    found = [bytes(joined(chunks(words, kind.bytes)[j::lanes])) for j in range(lanes)]
     hash_of = getattr(hashlib, kind.name)
     return found, [hash_of(t, last_node=node).digest() for t, node in zip(texts, nodes)]
 

@@ -2,21 +2,21 @@
 compares with the model: of the functions that compress, of those that calls execute over variables, and of those in
 which secrets are followed, which are the users F, W and T of forms.txt. What the model has as a number must be that
 number. For T each runs twice, over states that differ only in bytes that are secret: what is public must then be the
-same. Flags are compared through instructions that read them: after each that sets some, and after one that sets them
-and another that keeps some. At an odd address the processor must fault where the model refuses a vector.
-check_wasm_instructions.py does it for WebAssembly."""
+same. Of flags all conditions are compared, also after two instructions, of which the first sets flags, and the second
+keeps some or reads them. What the model accepts at an odd address runs there. check_wasm_instructions.py does it for
+WebAssembly."""
 
 from __future__ import annotations
 
+import itertools
 import os
 import random
 import re
 import struct
 import subprocess
 import tempfile
-from typing import Any, Iterator, TYPE_CHECKING
+from typing import Any, Iterator, NamedTuple, TYPE_CHECKING
 
-import arm
 import constant_time
 import families
 import forms
@@ -25,96 +25,64 @@ import terms as T
 import x86
 from machine import Region, Words
 from program import read, TOOLS
-from symbolic import Cells, Exact, Undecided
-from taint import Memory, Taint, is_secret, reset, secret
+from symbolic import Exact, Undecided
+from taint import Cells, Taint, is_secret, reset, secret
 
 if TYPE_CHECKING:
     from program import Program
 
-ODD = 1 << 31                          # in the number of a test, whose base of memory is then odd
 BUFFER = 4096                          # bytes on each side of the base of an access
 SPAN = (-BUFFER, BUFFER)
 # For each user: the seed of its tests, of how many instructions of each form, and how many tenths of all
 # must be compared.
 USERS = {"F": (1, 6, 10), "T": (3, 4, 9), "W": (7, 4, 8)}
 OF_ZERO = ("add", "sub", "dec", "xor", "test", "shr", "shl", "cmp", "subs", "tst")
-# The program of the tests, which needs no C library. It reads the number of each test and a state, and writes the
-# state after the test.
-C = """
-struct state { unsigned long general[32]; unsigned char vector[2048]; unsigned char zero; unsigned char rest[63];
-               unsigned long masks[8]; unsigned char memory[%d]; };
-static struct state s __attribute__((aligned(64)));
-extern void (*const tests[])(struct state *);
-extern const unsigned char bases[];
-#ifdef __x86_64__
-enum { READ = 0, WRITE = 1, EXIT = 60 };
-static long call(long n, long a, void *b, long c) {
-    __asm__ volatile("syscall" : "+a"(n) : "D"(a), "S"(b), "d"(c) : "rcx", "r11", "memory");
-    return n;
-}
-#else
-enum { READ = 63, WRITE = 64, EXIT = 93 };
-static long call(long n, long a, void *b, long c) {
-    register long x8 __asm__("x8") = n, x0 __asm__("x0") = a, x2 __asm__("x2") = c;
-    register void *x1 __asm__("x1") = b;
-    __asm__ volatile("svc 0" : "+r"(x0) : "r"(x8), "r"(x1), "r"(x2) : "memory");
-    return x0;
-}
-#endif
-static int all(long what, long file, void *data, long size) {
-    for (long done = 0, n; done < size; done += n)
-        if ((n = call(what, file, (char *)data + done, size - done)) <= 0)
-            return 0;
-    return 1;
-}
-void run(void) {
-    unsigned k;
-    while (all(READ, 0, &k, 4) && all(READ, 0, &s, sizeof s)) {
-        unsigned long base = (unsigned long)(s.memory + %d) + (k >> 31);
-        k &= ~(1u << 31);
-        s.general[bases[k]] = base;
-        tests[k](&s);
-        s.general[31] = base;
-        if (!all(WRITE, 1, &s, sizeof s))
-            break;
-    }
-    call(EXIT, 0, 0, 0);
-}
-""" % (2 * BUFFER, BUFFER)
-VECTORS, ZERO = 256, 256 + 2048        # where the registers and the flag are
-MASKS = ZERO + 64
+# A state: 32 general registers, vectors, the zero flag before and all flags afterwards, masks and memory. In place of
+# the last register, which has no name, a test reads its number, shifted, and whether the base of its memory is odd;
+# afterwards it has the base.
+LAST, VECTORS, ZERO = 248, 256, 256 + 2048
+FLAGS, MASKS = ZERO + 8, ZERO + 64
 MEMORY = MASKS + 64
 SIZE = MEMORY + 2 * BUFFER
+# The program of the tests, which needs no C library, with the numbers of its system calls: it reads states from a file,
+# and writes each after its test.
+C = """
+static unsigned long s[%d] __attribute__((aligned(64)));
+extern void (*const tests[])(unsigned long *);
+extern const unsigned char bases[];
+extern long call(long, void *, long, long number);
+void run(void) {
+    while (call(0, s, sizeof s, %%d) == sizeof s) {
+        unsigned long k = s[31] >> 1;
+        s[31] = s[bases[k]] = (unsigned long)s + %d + (s[31] & 1);
+        tests[k](s);
+        call(1, s, sizeof s, %%d);
+    }
+    call(0, 0, 0, %%d);
+}
+""" % (SIZE // 8, MEMORY + BUFFER)
+CALLS = {"x86_64": (0, 1, 60), "aarch64": (63, 64, 93)}
+START = {"x86_64": [".intel_syntax noprefix", ".globl _start, call", "_start: call run",
+                    "call: mov rax, rcx", "syscall", "ret"],
+         "aarch64": [".globl _start, call", "_start: bl run", "call: mov x8, x3", "svc 0", "ret"]}
 NAMES = "rax rcx rdx rbx rsp rbp rsi rdi r8 r9 r10 r11 r12 r13 r14 r15".split()
-EXTRA = {
-    # Jumps write 1 or 0 to a register. Indices are small, since r12 and r13 hold them.
-    "x86_64": [("mov r12d,1; %s 1f; mov r12d,0; 1:" % j, 15) for j in ("je", "jne", "jmp")] + [
-        ("mov %s,%sWORD PTR [r15+r12*%d%+d]" % (r, w, scale, offset), 15)
-        for r, w in (("rax", "Q"), ("ecx", "D")) for scale in (1, 2, 4, 8)
-        for offset in (0, 24, -8)] + [("lea rax,[r15+r13*4+0x8]", 15), ("lea rdx,[r15+r12*1]", 15)],
-    "aarch64": [("mov x27, #1; %s 1f; mov x27, #0; 1:" % j, 28) for j in (
-        "b.eq", "b.ne", "b", "cbz x9,", "cbnz x9,", "cbz w9,")],
-}
+# Addresses that the files do not have. Indices are small, since r12 and r13 hold them.
+EXTRA: dict = {"aarch64": [], "x86_64": [
+    ("lea rax,[r15+r13*4+0x8]", 15), ("lea rdx,[r15+r12*1]", 15), *(
+        ("mov %s,%sWORD PTR [r15+r12*%d%+d]" % (r, w, scale, offset), 15) for r, w in (("rax", "Q"), ("ecx", "D"))
+        for scale in (1, 2, 4, 8) for offset in (0, 24, -8))]}
 PRODUCTS = ("div", "udiv", "mul", "imul", "mulx", "madd", "msub", "umulh")      # only of public words
-# Instructions that set flags, that keep some or all, and that read them.
-FLAGS = {
-    "x86_64": (("cmp rbx,rcx", "add edx,esi", "test r8,r9", "neg rdi", "sub r10,r11", "and dl,al",
-                "xor ecx,ecx"),
-               ("", "inc edx", "dec r9", "inc BYTE PTR [r15]", "not ecx", "lea r8,[r9+0x1]"),
-               ["set%s r14b" % c for c in x86.CONDITIONS] + [
-                   "cmov%s r14,r13" % c for c in ("b", "e")] + ["adc r14,r13", "sbb r14d,0x1"]),
-    "aarch64": (("cmp x1, x2", "adds x3, x4, x5", "tst w6, #0xff", "subs w1, w2, w3", "cmn x1, #1",
-                 "ands x3, x4, x5"),
-                ("", "add x9, x9, #1", "mov x10, x11", "ccmp x3, x4, #0, ne"),
-                ["cset x14, %s" % c for c in arm.CONDITIONS] + [
-                    "csel x14, x13, x12, lo", "csinc x14, x13, x12, eq"]),
-}
+# Instructions that set flags, and that keep some or all; those of the files that read some.
 SETS_FLAGS = {
-    "x86_64": "add sub cmp xor or and test inc dec neg shl shr imul adc sbb ptest vptest".split(),
-    "aarch64": "adds subs ands cmp cmn tst ccmp".split(),
-}
-# Readers of flags that are refused in calls that are executed over variables.
-SIGNED = re.compile(r"(set|cmov)(n?s|n?o) |, (mi|pl|vs|vc)$")
+    "x86_64": ("cmp rbx,rcx", "add edx,esi", "test r8,r9", "neg rdi", "sub r10,r11", "and dl,al", "xor ecx,ecx"),
+    "aarch64": ("cmp x1, x2", "adds x3, x4, x5", "tst w6, #0xff", "subs w1, w2, w3", "cmn x1, #1", "ands x3, x4, x5")}
+KEEPS_FLAGS = {"x86_64": ("inc edx", "dec r9", "inc BYTE PTR [r15]", "not ecx", "lea r8,[r9+0x1]"),
+               "aarch64": ("add x9, x9, #1", "mov x10, x11", "ccmp x3, x4, #0, ne")}
+READS_FLAGS = re.compile(r"set|cmov|adc|sbb|cs|cin|ccmp")
+# The bits of the flags for zero, carry, sign and overflow. The conditions by each, by whether sign and overflow differ,
+# by this or zero, and by carry and zero; and their opposites.
+CONDITIONS = {"x86_64": ((6, 0, 7, 11), "e b s o l le be", "ne ae ns no ge g a"),
+              "aarch64": ((30, 29, 31, 28), "eq cs mi vs lt le ls", "ne cc pl vc ge gt hi")}
 
 
 def rewritten(kind: str, text: str) -> tuple:
@@ -138,7 +106,7 @@ def vectors_of(path: str) -> tuple:
     return (32, 64) if path.endswith("-v4.s") else (16, 32)
 
 
-def x86_test(k: int, text: str, vectors: tuple) -> list:
+def x86_test(text: str, vectors: tuple) -> list:
     """A function that loads all registers, runs an instruction, and stores them."""
     count, size = vectors
     moves = ["vmovdqu%s %smm%d, [rax+%d]" % (*(("64", "z") if size == 64 else ("", "y")), j,
@@ -147,54 +115,57 @@ def x86_test(k: int, text: str, vectors: tuple) -> list:
         moves += ["kmovq k%d, [rax+%d]" % (j, MASKS + 8 * j) for j in range(8)]
     saved = "rbx rbp r12 r13 r14 r15".split()
     others = [(j, n) for j, n in enumerate(NAMES) if n not in ("rax", "rsp")]
-    out = ["t%d:" % k] + ["push " + r for r in saved] + ["push rdi", "mov rax, rdi"]
+    out = ["push " + r for r in saved] + ["push rdi", "mov rax, rdi"]
     out += moves + ["cmp byte ptr [rax+%d], 0" % ZERO]
     out += ["mov %s, [rax+%d]" % (n, 8 * j) for j, n in others]
-    out += ["mov rax, [rax]", text, "push rax", "mov rax, [rsp+8]", "setz byte ptr [rax+%d]" % ZERO]
+    out += ["mov rax, [rax]", text, "push rax", "pushfq", "mov rax, [rsp+16]", "pop qword ptr [rax+%d]" % FLAGS]
     out += ["mov [rax+%d], %s" % (8 * j, n) for j, n in others] + ["pop rbx", "mov [rax], rbx"]
     out += [re.sub(r" (.*), (.*)", r" \2, \1", move) for move in moves]
     return out + ["vzeroupper", "pop rdi"] + ["pop " + r for r in reversed(saved)] + ["ret"]
 
 
-def arm_test(k: int, text: str, _: tuple) -> list:
+def arm_test(text: str, _: tuple) -> list:
     """The same for ARM."""
     saved = ["p x%d, x%d, [sp, #%d]" % (19 + 2 * j, 20 + 2 * j, 16 * j) for j in range(6)]
     saved += ["p d%d, d%d, [sp, #%d]" % (8 + 2 * j, 9 + 2 * j, 96 + 16 * j) for j in range(4)]
     vectors = ["r q%d, [x1, #%d]" % (j, 16 * j) for j in range(32)]
-    out = ["t%d:" % k, "sub sp, sp, #192"] + ["st" + s for s in saved]
+    out = ["sub sp, sp, #192"] + ["st" + s for s in saved]
     out += ["str x0, [sp, #160]", "add x1, x0, #256"] + ["ld" + v for v in vectors]
     out += ["ldrb w1, [x0, #%d]" % ZERO, "cmp w1, #0"]
     out += ["ldr x%d, [x0, #%d]" % (j, 8 * j) for j in range(30, -1, -1)]
     out += [text, "str x0, [sp, #168]", "ldr x0, [sp, #160]"]
     out += ["str x%d, [x0, #%d]" % (j, 8 * j) for j in range(1, 31)]
-    out += ["ldr x1, [sp, #168]", "str x1, [x0]", "cset w1, eq", "strb w1, [x0, #%d]" % ZERO]
+    out += ["ldr x1, [sp, #168]", "str x1, [x0]", "mrs x1, nzcv", "str x1, [x0, #%d]" % FLAGS]
     out += ["add x1, x0, #256"] + ["st" + v for v in vectors] + ["ld" + s for s in saved]
     return out + ["add sp, sp, #192", "ret"]
 
 
 def assembly(kind: str, tests: list, vectors: tuple) -> str:
     """The text of all tests, a table of them, and one of their base registers."""
-    out = [".intel_syntax noprefix", ".text", ".globl _start", "_start: call run"] if kind == "x86_64" else [
-        ".text", ".globl _start", "_start: bl run"]
+    out = [".text"] + START[kind]
     for k, (text, _) in enumerate(tests):
-        out += (x86_test if kind == "x86_64" else arm_test)(k, text, vectors)
+        out += ["t%d:" % k] + (x86_test if kind == "x86_64" else arm_test)(text, vectors)
     out += [".section .data.rel.ro,\"aw\"", ".balign 8", ".globl tests", "tests:"]
     out += [".8byte t%d" % k for k in range(len(tests))]
     out += [".section .rodata", ".globl bases", "bases:"] + [".byte %d" % b for _, b in tests]
     return "\n".join(out + ['.section .note.GNU-stack,"",%progbits', ""])
 
 
-def readers(kind: str, tests: list, rng: Any) -> Iterator:
-    """Texts of several instructions, of which the last reads flags: one for each test of an instruction that sets
-    some, and one for each that keeps some and each that reads some."""
-    first, keeping, last = FLAGS[kind]
-    for text, base in tests:
-        if text.split()[0] in SETS_FLAGS[kind] and "r14" not in text and "x14" not in text:
-            reader = "setb r14b" if text.split()[0] in x86.SHIFTS else rng.choice(last)
-            yield "%s; %s" % (text, reader), base
-    for keeper in keeping:
-        for reader in last:
-            yield "; ".join(filter(None, (rng.choice(first), keeper, reader))), 15
+def pairs(kind: str, tests: list, rng: Any) -> Iterator:
+    """Texts of two instructions: one that sets flags, and one that keeps or reads some."""
+    for text, base in [(keeper, 15) for keeper in KEEPS_FLAGS[kind]] + [t for t in tests if READS_FLAGS.match(t[0])]:
+        for first in rng.sample(SETS_FLAGS[kind], 3):
+            yield "%s; %s" % (first, text), base
+
+
+def conditions(kind: str, state: bytes) -> dict:
+    """Whether each condition holds, by the flags of a state."""
+    bits, names, opposites = CONDITIONS[kind]
+    flags, = struct.unpack_from("<Q", state, FLAGS)
+    zero, carry, sign, overflow = (flags >> k & 1 for k in bits)
+    below = carry if kind == "x86_64" else 1 - carry
+    found = zero, carry, sign, overflow, sign ^ overflow, zero | sign ^ overflow, zero | below
+    return {**dict(zip(names.split(), found)), **{name: 1 - bit for name, bit in zip(opposites.split(), found)}}
 
 
 def hidden(rng: Any, size: int) -> set:
@@ -247,7 +218,7 @@ def machine(program: Program, user: str, text: str, base: int, data: bytes, plac
     """The machine after the instructions of a text, in which bytes at some places are secret."""
     byte = lambda k: secret() if k in places else data[k]
     word = lambda at, n: [byte(k) for k in range(at, at + n)] if places else list(data[at:at + n])
-    memory, cpu = lambda k: byte(MEMORY + BUFFER + k), program.model.Model
+    memory, cpu = lambda k: byte(MEMORY + BUFFER + odd + k), program.model.Model
     buf = T.var(64, "buffer", T.PUBLIC)
     m: Any
     if user == "F":
@@ -255,7 +226,7 @@ def machine(program: Program, user: str, text: str, base: int, data: bytes, plac
     elif user == "W":
         m = Exact({buf: Cells(*SPAN, memory, True, (64, odd))}, cpu, (16, 0))
     else:
-        m = Taint({buf: Memory(*SPAN, memory)}, cpu, (16, 0), {}, 128)
+        m = Taint({buf: Cells(*SPAN, memory)}, cpu, (16, 0), {}, 128)
     m.stack = T.var(64, "sp", T.PUBLIC)
     m.general = [word(8 * j, 8) for j in range(len(m.general))]
     m.general[base] = T.split(buf)
@@ -265,42 +236,32 @@ def machine(program: Program, user: str, text: str, base: int, data: bytes, plac
     m.masks = [[n >> k & 1 for k in range(64)] for n in struct.unpack_from("<8Q", data, MASKS)]
     zero = T.const(8, data[ZERO])
     m.flags = "sub", zero, T.const(8, 0), zero
-    run_model(program, m, text)
+    for part in text.split("; "):
+        part = part.replace(" ", "\t", 1) if program.kind == "aarch64" else part
+        cpu(m).step(program.model.Instruction(0, part))
     return m, buf
 
 
-def run_model(program: Program, m: Any, text: str) -> None:
-    """Executes the instructions of a text in the model."""
-    jump = re.search(r"; (\S+) ?(.*?),? ?1f; mov (\w)(\d+)", text)
-    if jump:
-        text = "%s %s" % (jump[1], (jump[2] + ", " if jump[2] else "") + "10 <there>")
-    for part in text.split("; "):
-        part = part.replace(" ", "\t", 1) if program.kind == "aarch64" else part
-        i = program.model.Instruction(0, part)
-        i.next = 4
-        pc = program.model.Model(m).follow(i)
-    if jump:
-        m.general[int(jump[4])] = T.split(T.const(64, int(pc == 16)))
-
-
-def places_of(program: Program, m: Any, buf: T.Term) -> Iterator:
-    """The registers that a test compares, and the memory that the model has written: places in a state, and bytes."""
+def places_of(program: Program, m: Any, written: dict) -> Iterator:
+    """What a test compares of registers, and of what the model has written: places in a state, and bytes."""
     count, size = vectors_of(program.path)
     for j, r in enumerate(m.general[:31]):
         if (program.kind, j) != ("x86_64", x86.RSP):
             yield 8 * j, r
     for j, r in enumerate(m.vector[:count]):
         yield VECTORS + size * j, r[:size]
-    yield from ((MEMORY + BUFFER + k, [b]) for (base, k), b in m.memory.items() if base is buf)
+    yield from ((place, [b]) for place, b in written.items())
 
 
 def difference(program: Program, m: Any, buf: T.Term, before: list, after: list) -> str | None:
     """What is called public and differs between the states after one or two runs, or is another number than in the
     first, or None."""
     one = after[0]
-    numbers = {buf: T.const(64, struct.unpack_from("<32Q", one)[31])}
+    base = struct.unpack_from("<Q", one, LAST)[0]
+    numbers = {buf: T.const(64, base)}
+    written = {MEMORY + BUFFER + base % 2 + k: b for (of, k), b in m.memory.items() if of is buf}
     number_of = lambda b: b if isinstance(b, int) else T.split(T.substitute(T.word([b]), numbers, {}))[0]
-    for start, data in places_of(program, m, buf):
+    for start, data in places_of(program, m, written):
         if all(isinstance(b, int) for b in data) and all(
                 state[start:start + len(data)] == bytes(data) for state in after):
             continue
@@ -314,25 +275,27 @@ def difference(program: Program, m: Any, buf: T.Term, before: list, after: list)
                 return "byte %d is %d, not %s" % (at, one[at], n)
     for old, new in zip(before, after):
         kept = bytearray(new)
-        for base, k in m.memory:
-            kept[MEMORY + BUFFER + k] = old[MEMORY + BUFFER + k]
+        for place in written:
+            kept[place] = old[place]
         if kept[MEMORY:] != old[MEMORY:]:
             return "memory that it does not write differs"
     return difference_of_flags(program, m, number_of, after)
 
 
 def difference_of_flags(program: Program, m: Any, number_of: Any, after: list) -> str | None:
-    """The same of the zero flag, and of the masks of AVX-512."""
-    if m.flags not in (None, ("secret",)):
-        if len({state[ZERO] for state in after}) > 1:
-            return "the zero flag depends on a secret"
-        data = [number_of(b) for b in T.split(m.flags[3])]
-        if m.flags[0] not in ("product", "ccmp") and all(isinstance(b, int) for b in data) and (
-                any(data) == bool(after[0][ZERO])):
-            return "the zero flag is %d" % after[0][ZERO]
+    """The same of the conditions that the flags say, and of the masks of AVX-512."""
+    first, *others = [conditions(program.kind, state) for state in after]
+    for name, holds in first.items():
+        try:
+            said = getattr(m, "truth", m.bit)(program.model.Model(m).compared(name))
+        except (T.Refused, Undecided):
+            continue                   # it is not followed
+        said = number_of(said) if isinstance(said, tuple) else said
+        if said != "secret" and (any(other[name] != holds for other in others) or said in (0, 1) and said != holds):
+            return "the condition %s is %d, not %s" % (name, holds, said)
     words = struct.unpack_from("<8Q", after[0], MASKS) if vectors_of(program.path)[1] == x86.WIDTH else ()
     for j, word in enumerate(words):
-        if any(bit not in (None, word >> k & 1) for k, bit in enumerate(m.masks[j])):
+        if any(bit != word >> k & 1 for k, bit in enumerate(m.masks[j])):
             return "mask register %d differs" % j
     return None
 
@@ -362,33 +325,42 @@ def fit(kind: str, text: str, data: Any, rng: Any) -> None:
         data[MEMORY:] = bytes([7]) * (2 * BUFFER)
 
 
-def compared(path: str, user: str, used: set, tests: list, what: str) -> tuple:
-    """The verdict of the tests of a model, over the forms that its functions have and the texts that it was run with;
-    and the forms that were run."""
-    kind = functions.architecture(path)
-    run = {f for text in tests for f in (forms.form(kind, part) for part in text.split("; ")) if f in used}
-    why = None if forms.WRITES in os.environ else forms.compare(kind, user, used, run)
-    return "not ok" if why else "ok", why or "%d forms, %s" % (len(used), what), {(kind, user, f) for f in run}
-
-
-def execute(kind: str, tests: list, vectors: tuple, runs: list) -> list:
-    """The states after the tests of some runs on the processor, each of which ends where it faults."""
+def execute(kind: str, tests: list, vectors: tuple, states: Any) -> list:
+    """The states after their tests on the processor, up to the first that faults."""
     with tempfile.TemporaryDirectory() as d:
-        c, s, exe = (os.path.join(d, n) for n in ("a.c", "b.s", "a"))
-        for path, text in ((c, C), (s, assembly(kind, tests, vectors))):
+        c, s, exe, before, after = (os.path.join(d, n) for n in ("a.c", "b.s", "a", "before", "after"))
+        for path, text in ((c, C % CALLS[kind]), (s, assembly(kind, tests, vectors))):
             with open(path, "w") as f:
                 f.write(text)
+        with open(before, "wb") as f:
+            f.writelines(states)
         subprocess.run(TOOLS[kind][0] + ["-O1", "-ffreestanding", "-nostdlib", "-static", "-fno-stack-protector", "-o",
                                          exe, c, s], check=True)
-        command = ["qemu-aarch64"] * (kind == "aarch64") + [exe]
-        outputs = [subprocess.run(command, input=b"".join(struct.pack("<I", k) + x for k, x in inputs),
-                                  stdout=subprocess.PIPE, check=False).stdout for inputs in runs]
-    return [[out[at:at + SIZE] for at in range(0, len(out), SIZE)] for out in outputs]
+        with open(before, "rb") as f, open(after, "wb+") as g:
+            subprocess.run(["qemu-aarch64"] * (kind == "aarch64") + [exe], stdin=f, stdout=g, check=False)
+            g.seek(0)
+            return [x for x in iter(lambda: g.read(SIZE), b"")]
 
 
-def inputs_of(program: Program, user: str, tests: list, rounds: int, rng: Any) -> Iterator:
-    """The states for each test: its number, one state, or two, and the places of the secrets."""
-    for k, (text, _) in enumerate(tests):
+class Run(NamedTuple):
+    """A run of a test: its number, its state, or two of them, the places of secrets, and 1 if its memory is at an odd
+    address."""
+
+    test: int
+    states: list
+    places: set
+    odd: int
+
+    def inputs(self) -> Iterator:
+        """The states as the program of the tests reads them."""
+        for data in self.states:
+            yield data[:LAST] + struct.pack("<Q", 2 * self.test + self.odd) + data[VECTORS:]
+
+
+def runs_of(program: Program, user: str, tests: list, rounds: int, rng: Any) -> Iterator:
+    """The runs of each test. The first of one that reads or writes a vector is at an odd address, if the model lets
+    it."""
+    for k, (text, base) in enumerate(tests):
         has_zero = user == "F" and text.startswith(OF_ZERO)
         for n in range(rounds + 6 * has_zero):
             data = state(rng, text, k + n // 2 if n % 2 else None)
@@ -401,17 +373,19 @@ def inputs_of(program: Program, user: str, tests: list, rounds: int, rng: Any) -
             other = bytearray(data)
             for at, b in zip(sorted(places), rng.randbytes(len(places))):
                 other[at] = b
-            yield k, [bytes(data)] + [bytes(other)] * (user == "T"), places
+            may_be_odd = n == 0 and user != "T" and "MMWORD PTR" in text
+            odd = int(may_be_odd and accepts(program, user, text, base, data, places, 1))
+            yield Run(k, [bytes(data)] + [bytes(other)] * (user == "T"), places, odd)
 
 
-def is_refused(*arguments: Any) -> bool:
-    """Whether the model refuses what machine() has to execute."""
+def accepts(*arguments: Any) -> bool:
+    """Whether the model executes what machine() has to."""
     reset()
     try:
         machine(*arguments)
     except T.Refused:
-        return True
-    return False
+        return False
+    return True
 
 
 def check(path: str, user: str, rounds: int) -> tuple:
@@ -420,45 +394,36 @@ def check(path: str, user: str, rounds: int) -> tuple:
     program, (seed, count, tenths) = read(path), USERS[user]
     rng = random.Random(seed)
     used, tests = chosen(program, user, count if rounds > 5 else 1 + (user == "F"), rng)
-    extra = EXTRA[program.kind] if user == "F" else [
-        t for t in readers(program.kind, tests, rng)
-        if user == "T" or not SIGNED.search(t[0].split("; ")[-1])]
+    extra = EXTRA[program.kind] if user == "F" else list(pairs(program.kind, tests, rng))
     first, tests = len(tests), tests + extra
-    inputs = list(inputs_of(program, user, tests, rounds, rng))
-    single = [(k, data) for k, states, _ in inputs for data in states]
-    wide = {k: states[0] for k, states, _ in inputs if user != "T" and "MMWORD PTR" in tests[k][0]}
-    found, *faults = execute(program.kind, tests, vectors_of(path), [
-        single, *([(k | ODD, data)] for k, data in wide.items())])
-    if len(found) < len(single):
-        return "not ok", "%s: the processor faults" % tests[single[len(found)][0]][0], set()
-    for (k, data), after in zip(wide.items(), faults):
-        if bool(after) == is_refused(program, user, *tests[k], data, set(), 1):
-            return "not ok", "%s: whether it faults at an odd address" % tests[k][0], set()
-    after_all, run = iter(found), set()
+    runs = list(runs_of(program, user, tests, rounds, rng))
+    after_all = iter(execute(program.kind, tests, vectors_of(path), (x for r in runs for x in r.inputs())))
+    run: set = set()
     known: set = set()
-    zeros: dict = {}
-    for n, (k, states, places) in enumerate(inputs):
+    for n, r in enumerate(runs):
         if n % 50 == 0:
             reset()
-        text, base = tests[k]
-        after = [next(after_all) for _ in states]
+        text, base = tests[r.test]
+        after = list(itertools.islice(after_all, len(r.states)))
+        if len(after) < len(r.states):
+            return "not ok", "%s: the processor faults" % text, set()
         try:
-            m, buf = machine(program, user, text, base, states[0], places)
+            m, buf = machine(program, user, text, base, r.states[0], r.places, r.odd)
         except (T.Refused, Undecided):
-            if user == "F" or user == "T" and k < first:
+            if user == "F" or user == "T" and r.test < first:
                 raise
-            continue                   # the flags that it reads are not public
-        why = difference(program, m, buf, states, after)
+            continue                   # the flags that it reads are not public, or not known
+        why = difference(program, m, buf, r.states, after)
         if why:
             return "not ok", "%s: in the model %s" % (text, why), set()
-        run.add(k)
-        if user != "W" or all(T.substitute(T.word(r), {buf: T.const(64, 0)}, {}).op == "const" for r in m.general):
-            known.add(k)
-        zeros.setdefault(text.split()[0], set()).add(after[0][ZERO])
-    once = [name for name in OF_ZERO if user == "F" and zeros.get(name, {0, 1}) != {0, 1}]
-    if once:
-        return "not ok", "the zero flag of %s was never seen both 0 and 1" % once[0], set()
+        run.add(r.test)
+        if user != "W" or all(T.substitute(T.word(x), {buf: T.const(64, 0)}, {}).op == "const" for x in m.general):
+            known.add(r.test)
     if len(known) < len(tests) * tenths // 10:
         return "not ok", "only %d of %d tests can be compared" % (len(known), len(tests)), set()
-    what = "%d instructions, %d with a reader of flags or a jump, %d runs, %d compared"
-    return compared(path, user, used, [tests[k][0] for k in run], what % (first, len(extra), len(inputs), len(known)))
+    forms_run = used & {forms.form(program.kind, part) for k in run for part in tests[k][0].split("; ")}
+    missed = sorted(used - forms_run)
+    what = "%d forms, %d instructions, %d more tests, %d runs, %d compared" % (
+        len(used), first, len(extra), len(runs), len(known))
+    return "not ok" if missed else "ok", "the form is not run: %s" % missed[0] if missed else what, {
+        (program.kind, user, f) for f in forms_run}

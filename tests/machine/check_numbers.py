@@ -5,19 +5,16 @@ range, by its step too. No answer may be wrong, and no comparison that is true m
 from __future__ import annotations
 
 import math
-import operator
 import random
 from typing import Any, Callable
 
 import terms as T
 import x86
-from facts import Facts
+from facts import RELATIONS, Facts
 from ranges import OPPOSITE
-from symbolic import Exact
+from symbolic import Exact, below
 from taint import Taint, reset
 
-TRUE: dict = {"==": operator.eq, "!=": operator.ne, "<": operator.lt, "<=": operator.le, ">": operator.gt,
-              ">=": operator.ge}
 SMALL, LARGE = (1, -1, 2, 8, 64, 128), (1 << 32, 1 << 62, 1 << 63, -(1 << 62), 3)
 ADDED = (0, 1, 8, 127, -1, -8, -128, -512)
 BOUNDS = (1, 7, 63, 129, 1 << 11, 1 << 32)
@@ -74,6 +71,7 @@ class Run:
              first * x + factor * y + added),
             ("and", lambda a, _: m.masked(a, T.const(64, n)), x & n), ("or", m.either, x | y),
             ("shift", lambda a, _: m.shifted_right(a, k), x >> k), ("xor", m.exclusive, x ^ y),
+            ("shift back", lambda a, _: m.shifted_right(m.shifted_left(a, k), k), (x << k) % (1 << 64) >> k),
             ("low", None, x % (1 << 8 * size))))
         self.add(T.word(m.computed(kind, f, *data) if f else [m.norm(b) for b in data[0]][:size] + [0] * (8 - size)),
                  found)
@@ -119,8 +117,8 @@ class OfSecrets(Run):
 
     def compare(self, a: T.Term, b: T.Term) -> None:
         """Learns how two words compare, or chooses one of two by that."""
-        m, relation = self.machine, self.rng.choice(sorted(TRUE))
-        holds = TRUE[relation](self.value(a), self.value(b))
+        m, relation = self.machine, self.rng.choice(sorted(RELATIONS))
+        holds = RELATIONS[relation](self.value(a), self.value(b))
         if self.rng.random() < 0.6:
             self.learn(relation, a, b, holds)
             m.bounds |= {t for t in (a, b) if t.op in ("var", "add")}
@@ -141,8 +139,8 @@ class OfSecrets(Run):
         for path in paths:
             for k in range(3):
                 path.general[k] = T.split(rng.choice(self.words))
-            (a, b), relation = (rng.choice(self.words) for _ in range(2)), rng.choice(sorted(TRUE))
-            is_so = TRUE[relation](self.value(a), self.value(b))
+            (a, b), relation = (rng.choice(self.words) for _ in range(2)), rng.choice(sorted(RELATIONS))
+            is_so = RELATIONS[relation](self.value(a), self.value(b))
             if not path.learn(relation, a, b, is_so if path is taken else rng.random() < 0.5):
                 return False
         kept = [T.word(taken.general[k]) for k in range(3)]
@@ -166,8 +164,8 @@ class OfCalls(Run):
     def compare(self, a: T.Term, b: T.Term) -> None:
         """Asks how two words compare, in some ways, and perhaps learns the last."""
         m, rng, x, y = self.machine, self.rng, self.value(a), self.value(b)
-        for relation in rng.sample(sorted(TRUE) + ["carry"], WAYS):
-            holds = x + y >= 1 << 64 if relation == "carry" else TRUE[relation](x, y)
+        for relation in rng.sample(sorted(RELATIONS) + ["carry"], WAYS):
+            holds = x + y >= 1 << 64 if relation == "carry" else RELATIONS[relation](x, y)
             answer = m.decide(relation, a, b)
             self.questions += 1
             if answer not in (None, holds):
@@ -175,6 +173,9 @@ class OfCalls(Run):
         low, high = (x, x) if self.factors != SMALL or rng.random() > 0.05 else m.path_facts.range(a)
         if not low <= x <= high:
             raise Wrong("%r is %#x, and not in %s" % (a, x, (low, high)))
+        for j in (low, x) if low < high else ():
+            if below(m, j, a, 0, 1) == int(j < x):
+                raise Wrong("whether %#x is below %r, which is %#x" % (j, a, x))
         if answer is None:
             self.learn(relation, a, b, holds)
         if rng.random() < 0.3:

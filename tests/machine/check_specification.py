@@ -15,6 +15,7 @@ from typing import Any, Callable, cast
 
 import call_cases
 import call_specification as S
+import facts
 import families
 import macros
 import program as programs
@@ -22,6 +23,7 @@ import rfc7693 as R
 import terms as T
 import xof_specification as X
 from call_cases import MOST, REFUSED
+from whole_calls import Terms
 
 PATH = "dist/x86_64/vulfsjor-v2.s"     # which each of these processors runs
 LONGEST = 512                          # bytes of an argument that is made
@@ -38,63 +40,24 @@ class Unlucky(Exception):
     """The numbers that were made up are not those of the case, or too large."""
 
 
-class Numbers:
+class Numbers(Terms):
     """The operations of call_specification.py over numbers."""
 
-    def word(self, n: Any) -> Any:
-        return value(n)
-
-    def number(self, n: Any, size: int) -> list:
-        return list(value(n).to_bytes(size, "little"))
-
-    def from_bytes(self, data: list) -> int:
-        return int.from_bytes(bytes(data), "little")
-
-    def below(self, j: int, n: Any, x: int, y: int) -> int:
-        return x if j < value(n) else y
-
-    def plus(self, a: Any, b: Any) -> int:
-        return value(a) + value(b)
-
-    def minus(self, a: Any, b: Any) -> int:
-        return value(a) - value(b)
-
-    def times(self, m: int, k: Any) -> int:
-        return m * value(k)
-
-    def difference(self, a: Any, b: Any) -> int:
-        return max(self.minus(a, b), 0)
-
-    def least(self, most: int, n: int) -> int:
-        return min(most, n)
-
-    def xor(self, data: Any, other: list) -> list:
-        return [x ^ y for x, y in zip(data, other)]
-
-    def is_zero(self, n: Any) -> bool:
-        return value(n) == 0
-
-    def is_on(self, n: Any) -> int:
-        return int(value(n) != 0)
+    def __init__(self) -> None:
+        super().__init__(cast(Any, None), SimpleNamespace(
+            path_facts=facts.Facts(), settled=lambda t: t, size_of=lambda t: 8, bytes_of=T.split))
 
     def are_equal(self, x: list, y: list) -> int:
         return int(x == y)
 
     def compress(self, kind: R.Kind, chain: list, block: list, count: Any, last: int, node: int) -> list:
         T.reset()                      # what is left are numbers
-        words = lambda data: [T.const(kind.w, self.from_bytes(data[k:k + kind.bytes]))
-                              for k in range(0, len(data), kind.bytes)]
-        ones, count = (1 << kind.w) - 1, value(count)
-        numbers = (T.const(kind.w, n) for n in (count, count >> kind.w, last * ones, node * ones))
-        return [b for t in R.F(kind, words(chain), words(block), *numbers) for b in T.split(t)]
+        return R.compress(kind, chain, block, value(count), last, node)
 
-    def compress_all(self, kind: R.Kind, chain: list, data: Callable, start: int, k: Any, count: Any) -> list:
+    def compress_all(self, kind: R.Kind, chain: list, data: Any, start: Any, k: Any, count: Any) -> list:
         if value(k) > LONGEST:
             raise Unlucky
-        for i in range(value(k)):
-            block = [data(start + kind.block * i + j) for j in range(kind.block)]
-            chain = self.compress(kind, chain, block, value(count) + kind.block * (i + 1), 0, 0)
-        return chain
+        return R.compress_all(kind, chain, data, value(start), value(k), value(count))
 
 
 A: Any = Numbers()
@@ -107,8 +70,8 @@ class Memory:
     def __init__(self, data: bytes, spare: bytes = bytes(SPARE)) -> None:
         self.data, self.spare = data, spare
 
-    def __call__(self, j: int) -> int:
-        return self.data[j] if j < len(self.data) else 0
+    def __call__(self, j: Any) -> int:
+        return self.data[value(j)] if value(j) < len(self.data) else 0
 
     def initial(self, j: int) -> T.Byte:
         return T.const(8, self(j)), 0
@@ -132,6 +95,7 @@ def lengths(rng: random.Random, kind: R.Kind) -> int:
 def absorbed(kind: R.Kind, s: Any, data: bytes) -> Any:
     """The state after the update that the length of the data calls for."""
     n, size, pending, buffer = len(data), kind.block, value(s.pending_length), cast(Any, Memory(data))
+    s = s.but(pending_length=pending)
     if pending + n <= size:
         return S.update_few(A, kind, s, buffer, n)
     fill = size - pending if pending else 0
@@ -171,20 +135,21 @@ def check(count: int) -> tuple:
 
 # The library.
 
-class Made(call_cases.Setup):
-    """A call with numbers for its variables."""
+class Made(call_cases.Case):
+    """A case of a call with numbers for its variables."""
 
-    def __init__(self, rng: random.Random, cases: Any) -> None:
-        super().__init__(cases.calls, cases.kind, (16, 0), cases.wiped)
-        self.rng, self.is_long = rng, False
+    def __init__(self, rng: random.Random, cases: Any, case: call_cases.Case) -> None:
+        super().__init__(cases, case.choices)
+        self.rng, self.bounds, self.is_long = rng, case.limits, False
         self.memories: dict = {}
 
     def variable(self, name: str, w: int = 64) -> T.Term:
-        return T.const(w, value(self.number(name, 0, (1 << w) - 1)))
+        return T.const(w, value(self.number(name)))
 
     def number(self, name: str, low: int = 0, high: int = MOST) -> T.Term:
         """A number up to a limit that it may have, or near another bound."""
         rng, kind = self.rng, self.kind
+        low, high = self.bounds.get(name, (low, high))
         limit = {"salt_size": kind.w // 4, "persona_size": kind.w // 4, "K": LONGEST // kind.block}.get(
             name, kind.w if "size" in name or name == "room" else kind.block)
         other = rng.choice((0, low, high, X.unknown(kind), kind.w << 32, 1 << 48, MOST))
@@ -194,11 +159,10 @@ class Made(call_cases.Setup):
     def secrets(self, name: str, size: int, w: int) -> list:
         return list(self.rng.randbytes(size))
 
-    def bound(self, numbers: tuple, low: int, high: int) -> bool:
+    def bound(self, numbers: tuple, low: int, high: int) -> None:
         total = sum(n[0] * value(n[1]) if isinstance(n, tuple) else value(n) for n in numbers)
         if not low <= total <= high:
             raise Unlucky
-        return True
 
     def pass_struct(self, name: str, data: list, writable: bool = False) -> Any:
         memory = self.memories[name] = Memory(bytes(data), self.rng.randbytes(SPARE))
@@ -215,7 +179,7 @@ class Made(call_cases.Setup):
     def make_tag(self) -> None:
         """Lets a tag be right, or have one wrong bit."""
         tag = self.memories.get("tag")
-        if tag and len(tag.data) == value(self.state.output_size):
+        if tag and 0 < len(tag.data) == value(self.state.output_size):
             data = bytearray(S.digest(A, self.kind, self.state)[:len(tag.data)])
             data[self.rng.randrange(len(data))] ^= self.rng.choice((0, 0, 1, 128))
             tag.data = bytes(data)
@@ -247,10 +211,10 @@ class Made(call_cases.Setup):
         return next((name for name, memory in self.memories.items() if not memory.has(wanted[name])), None)
 
 
-def read(setup: Made, n: T.Term, is_known: bool, state: Callable, position: T.Term) -> Callable:
+def read(case: Made, n: T.Term, is_known: bool, state: Callable, position: T.Term) -> Callable:
     """The bytes of a read, in place of those that reads.py compares."""
     def data(_: Any) -> bytes:
-        blocks, w = X.stream(A, setup.kind, state(A), is_known), setup.kind.w
+        blocks, w = X.stream(A, case.kind, state(A), is_known), case.kind.w
         first, start = divmod(value(position), w)
         return bytes([b for i in range(first, first + (start + value(n) - 1) // w + 1)
                       for b in blocks(i)][start:start + value(n)])
@@ -268,25 +232,17 @@ def library(folder: str) -> Any:
     return ctypes.CDLL(so)
 
 
-def is_possible(cases: Any, case: Callable) -> bool:
-    """Whether a case has any numbers."""
-    T.reset()
-    return case(call_cases.Setup(cases.calls, cases.kind, (16, 0), cases.wiped)) is not None
-
-
-def compare_case(rng: random.Random, cases: Any, case: Callable, f: Any) -> str | None:
-    """What differs for numbers of a case, or None. The case may have none."""
+def compare_case(rng: random.Random, cases: Any, export: str, case: call_cases.Case, f: Any) -> str | None:
+    """What differs for numbers of a case, or None."""
     for k in range(TRIES):
         T.reset()
-        if k == TRIES // 200 and not is_possible(cases, case):
+        if k == TRIES // 200 and not cases.filled(export, case.choices).is_possible():
             return None
-        setup = Made(rng, cases)
+        made = Made(rng, cases, case)
         try:
-            expected = case(setup)
-            if expected is None:
-                return None
-            setup.make_tag()
-            return setup.differs(f, expected)
+            expected = cases.fill(export, made)
+            made.make_tag()
+            return made.differs(f, expected)
         except Unlucky:
             pass
         except T.Refused as e:
@@ -308,9 +264,9 @@ def compare(count: int) -> tuple:
                 f = getattr(lib, "vulfsjor_ffi_%s%s_1_v2" % (family, end))
                 f.restype = ctypes.c_uint64 if end in ("_count", "_left", "_digest_size", "_state_size") else (
                     ctypes.c_uint32)
-                for case in getattr(cases, end.lstrip("_") or "one_shot")():
+                for case in [case for case in cases.each(end) if case.is_refused == case.fails]:
                     total += count
-                    why = next(filter(None, (compare_case(rng, cases, case, f) for _ in range(count))), None)
+                    why = next(filter(None, (compare_case(rng, cases, end, case, f) for _ in range(count))), None)
                     if why:
-                        return "not ok", "vulfsjor_ffi_%s%s, case %s: %s" % (family, end, case.__doc__, why)
+                        return "not ok", "vulfsjor_ffi_%s%s, case %s: %s" % (family, end, case.title(), why)
     return "ok", "%d calls" % total

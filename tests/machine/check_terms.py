@@ -4,6 +4,7 @@ and each form is shifted by each number of bits. Else only the forms for which a
 
 from __future__ import annotations
 
+import functools
 import operator
 from typing import Any, Iterable, Iterator
 
@@ -14,36 +15,26 @@ import terms as T
 C, D = 0x6a09e667f3bcc908, 0xbb67ae8584caa73b   # any two numbers
 
 
+# What a term of each operator means, from its width, its arguments, and a function that says it of its parts.
+MEANINGS: dict = {
+    "const": lambda w, a, of: z3.BitVecVal(a, w),
+    "var": lambda w, a, of: z3.BitVec(a, w),
+    "ite": lambda w, a, of: z3.If(z3.Bool(a[0]), z3.BitVecVal(a[1], w), z3.BitVecVal(a[2], w)),
+    "add": lambda w, a, of: sum((k * of(u) for u, k in a[1]), z3.BitVecVal(a[0], w)),
+    "xor": lambda w, a, of: functools.reduce(operator.xor, map(of, a[1]), z3.BitVecVal(a[0], w)),
+    "ror": lambda w, a, of: z3.RotateRight(of(a[0]), a[1]),
+    "shr": lambda w, a, of: z3.LShR(of(a[0]), a[1]),
+    "slice": lambda w, a, of: part(of(a[0]), a[1], w // 8),
+    "cat": lambda w, a, of: join(z3.BitVecVal(b, 8) if isinstance(b, int) else part(of(b[0]), b[1], 1) for b in a),
+    "zero": lambda w, a, of: z3.If(of(a[0]) == 0, z3.BitVecVal(1, w), z3.BitVecVal(0, w)),
+    "nonzero": lambda w, a, of: z3.If(of(a[0]) == 0, z3.BitVecVal(0, w), z3.BitVecVal(1, w)),
+}
+
+
+@T.remembering
 def formula(t: Any) -> Any:
-    """What a term means, by the definitions of its operators only."""
-    return T.remembered(meaning, t) if isinstance(t, T.Term) else t
-
-
-def meaning(t: T.Term) -> Any:
-    a, w, of = t.args, t.w, formula
-    number = lambda n: z3.BitVecVal(n, w)
-    if t.op == "const":
-        return number(a)
-    if t.op == "var":
-        return z3.BitVec(a, w)
-    if t.op == "ite":
-        return z3.If(z3.Bool(a[0]), number(a[1]), number(a[2]))
-    if t.op == "add":
-        return sum((number(k) * of(u) for u, k in a[1]), number(a[0]))
-    if t.op == "xor":
-        f = number(a[0])
-        for u in a[1]:
-            f = f ^ of(u)
-        return f
-    if t.op == "ror":
-        return z3.RotateRight(of(a[0]), a[1])
-    if t.op == "shr":
-        return z3.LShR(of(a[0]), a[1])
-    if t.op == "slice":
-        return part(of(a[0]), a[1], w // 8)
-    if t.op in ("zero", "nonzero"):
-        return z3.If((of(a[0]) == 0) == (t.op == "zero"), number(1), number(0))
-    return join(z3.BitVecVal(b, 8) if isinstance(b, int) else part(of(b[0]), b[1], 1) for b in a)
+    """What a term means, by the definitions of its operators only. A number is itself."""
+    return MEANINGS[t.op](t.w, t.args, formula) if isinstance(t, T.Term) else t
 
 
 def part(f: Any, i: int, n: int) -> Any:
@@ -87,7 +78,7 @@ def cases(w: int, has_all: bool) -> Iterator:
     shifts = [(a, k) for a in forms for k in shift_counts(w, a, has_all)]
     parts = [(a, i, k) for a in forms for i in range(n) for k in range(1, n - i + 1)]
     order = [(5 * k + 2) % (2 * n) for k in range(n)]
-    zero, one = (z3.BitVecVal(k, w) for k in range(2))
+    test = lambda f, if_zero: z3.If(f == 0, z3.BitVecVal(if_zero, w), z3.BitVecVal(1 - if_zero, w))
     rules: Any = (
         (pairs, "sub", lambda a, b: T.add(w, (1, a), (-1, b)), operator.sub),
         (pairs, "multiples", lambda a, b: T.add(w, (8, a), (128, b), (1, a)), lambda f, g: 9 * f + 128 * g),
@@ -101,8 +92,8 @@ def cases(w: int, has_all: bool) -> Iterator:
         (parts, "part", lambda a, i, k: T.word(T.split(a)[i:i + k]), part),
         (pairs, "move", lambda a, b: T.word([(T.split(a) + T.split(b))[p] for p in order]),
          lambda f, g: join(part(z3.Concat(g, f), p, 1) for p in order)),
-        ([(a,) for a in forms], "zero", lambda a: T.test("zero", w, a), lambda f: z3.If(f == 0, one, zero)),
-        ([(a,) for a in forms], "nonzero", lambda a: T.test("nonzero", w, a), lambda f: z3.If(f == 0, zero, one)),
+        ([(a,) for a in forms], "zero", lambda a: T.test("zero", w, a), lambda f: test(f, 1)),
+        ([(a,) for a in forms], "nonzero", lambda a: T.test("nonzero", w, a), lambda f: test(f, 0)),
         (pairs, "substitute", lambda a, b: T.substitute(a, {x: b}, {}),
          lambda f, g: z3.substitute(f, (formula(x), g))))
     for arguments, name, made, means in rules:
@@ -123,10 +114,20 @@ def wrong(t: T.Term, meant: Any) -> str | None:
         t, meant, solver.model() if found == z3.sat else "unknown")
 
 
+def has_value(t: T.Term) -> bool:
+    """Whether a term has the number that it means, for some random numbers."""
+    numbers = T.Numbers(1)
+    given = [(z3.Bool(u.args[0]), z3.BoolVal(numbers[u.args[0]] & 1 == 1)) if u.op == "ite" else
+             (formula(u), z3.BitVecVal(numbers[u.args], u.w)) for u in T.variables(t)]
+    return z3.simplify(z3.substitute(formula(t), *given)).as_long() == T.value(t, numbers, {})
+
+
 def check(width: int, has_all: bool) -> tuple:
     """Whether all rules hold at a width: a verdict, and how many cases there are."""
     T.reset()
     count: dict = {}
+    if not all(map(has_value, shapes(width))):
+        return "not ok", "the number of a term is not what it means"
     for rule, made, means, arguments in cases(width, has_all):
         count.setdefault(rule, 0)
         try:

@@ -16,12 +16,10 @@ from program import read, wasm_format
 
 SKIPPED = ("block", "loop", "end", "br", "br_if", "return", "unreachable", "local.get",
            "local.set", "local.tee", "global.get", "i64.lt_s")
-CODES = {"i32": 0x7f, "i64": 0x7e, "v128": 0x7b}
 NODE = """
 const {modules, inputs} = JSON.parse(require("fs").readFileSync(0, "utf8"));
 const run = modules.map((text) => {
-  const {memory, f} = new WebAssembly.Instance(
-    new WebAssembly.Module(Buffer.from(text, "hex"))).exports;
+  const {memory, f} = new WebAssembly.Instance(new WebAssembly.Module(Buffer.from(text, "hex"))).exports;
   return (input) => {
     const bytes = Buffer.from(memory.buffer, 0, input.length / 2);
     Buffer.from(input, "hex").copy(bytes);
@@ -33,6 +31,9 @@ console.log(JSON.stringify(inputs.map(([k, input]) => run[k](input))));
 """
 SIZE, RESULT = 1024, 128               # bytes of memory, and where a result goes; operands are at 0, 16 and 32
 ADDRESS = 512                          # that a load or a store has with its offset
+# The opcodes of all instructions, and the kinds of their numbers.
+CODES = {known.partition(" ")[0]: (prefix, code, known.partition(" ")[2]) for prefix, table in (
+    (b"", wasm_format.PLAIN), (b"\xfd", wasm_format.VECTOR)) for code, known in table.items()}
 
 
 def signature(text: str) -> tuple:
@@ -48,46 +49,35 @@ def signature(text: str) -> tuple:
     return (["i32", kind], None) if what == "store" else (["i32"], kind)
 
 
-def leb(n: Any, signed: Any = False) -> Any:
+def leb(n: int, signed: bool = False) -> bytes:
     """A number in LEB128."""
-    out = []
-    while not (0 <= n < 128 and not signed or signed and -64 <= n < 64):
-        out.append(n & 127 | 128)
-        n >>= 7
-    return bytes(out + [n & 127])
+    is_last = -64 <= n < 64 if signed else n < 128
+    return bytes([n & 127]) if is_last else bytes([n & 127 | 128]) + leb(n >> 7, signed)
 
 
-def encoded(text: str) -> Any:
-    """The bytes of an instruction."""
+def sized(data: bytes) -> bytes:
+    """Bytes after their number."""
+    return leb(len(data)) + data
+
+
+def encoded(text: str) -> bytes:
+    """The bytes of an instruction. The place in memory begins with its alignment."""
     name, *numbers = text.split()
-    for prefix, table in ((b"", wasm_format.PLAIN), (b"\xfd", wasm_format.VECTOR)):
-        for code, known in table.items():
-            if known.split()[0] == name:
-                kinds = known.partition(" ")[2]
-                data = prefix + leb(code)
-                if "m" in kinds:
-                    return data + b"\0" + b"".join(leb(int(n)) for n in numbers)
-                return data + b"".join(leb(int(n), "s" in kinds) if kinds in ("u", "s")
-                                       else bytes([int(n)]) for n in numbers)
-    raise T.CannotShow("no opcode is known for " + text)
+    prefix, code, kinds = CODES[name]
+    data = b"".join(leb(int(n), kinds == "s") if kinds in ("u", "s", "m") else bytes([int(n)]) for n in numbers)
+    return prefix + (leb(code) if prefix else bytes([code])) + b"\0" * (kinds == "m") + data
 
 
-def module(text: str) -> Any:
+def module(text: str) -> bytes:
     """A module with a function that loads operands, runs the instruction, and stores its result."""
     operands, result = signature(text)
-    load = lambda kind, at: b"\x41\0" + encoded("%s.load %d" % (kind, at))
-    body = b"" if result is None else b"\x41\0"
+    lines = ["i32.const 0"] * (result is not None)
     for k, kind in enumerate(operands):
-        body += load(kind, 16 * k)
-    body += encoded(text)
-    if result is not None:
-        body += encoded("%s.store %d" % (result, RESULT))
-    body = b"\0" + body + b"\x0b"
-    section = lambda id_, data: bytes([id_]) + leb(len(data)) + data
-    exports = b"\2\6memory\2\0\1f\0\0"
-    return (b"\0asm\1\0\0\0" + section(1, b"\1\x60\0\0") + section(3, b"\1\0")
-            + section(5, b"\1\0\1") + section(7, exports)
-            + section(10, b"\1" + leb(len(body)) + body))
+        lines += ["i32.const 0", "%s.load %d" % (kind, 16 * k)]
+    lines += [text] + ["%s.store %d" % (result, RESULT)] * (result is not None) + ["end"]
+    body = sized(b"\0" + b"".join(map(encoded, lines)))
+    sections = {1: b"\1\x60\0\0", 3: b"\1\0", 5: b"\1\0\1", 7: b"\2\6memory\2\0\1f\0\0", 10: b"\1" + body}
+    return b"\0asm\1\0\0\0" + b"".join(bytes([k]) + sized(data) for k, data in sections.items())
 
 
 def model(text: str, data: bytes) -> bytes:
@@ -99,17 +89,13 @@ def model(text: str, data: bytes) -> bytes:
     for k, kind in enumerate(operands):
         cpu.push(list(data[16 * k:16 * k + wasm.SIZES[kind]]))
     cpu.follow(wasm.Instruction(0, text))
-    after = list(data)
-    for (_, k), b in m.memory.items():
-        after[k] = b
     if result is not None:
-        found = cpu.pop()
-        after[RESULT:RESULT + len(found)] = found
-    return bytes(after)
+        m.store(T.const(32, RESULT), cpu.pop())
+    return bytes(m.memory.get((None, k), b) for k, b in enumerate(data))
 
 
-def chosen(path: str, rng: Any, count: int) -> Any:
-    """Up to `count` instructions of each name, over all functions of the list."""
+def chosen(path: str, rng: Any, count: int) -> tuple:
+    """How many names of instructions the functions of the list have, and up to `count` instructions of each."""
     program = read(path)
     found: dict = {}
     for name, _, _ in functions.FILES[path]:
@@ -119,26 +105,27 @@ def chosen(path: str, rng: Any, count: int) -> Any:
     return len(found), [t for n in sorted(found) for t in rng.sample(sorted(found[n]), min(count, len(found[n])))]
 
 
+def state(text: str, has_zeros: int, rng: Any) -> bytes:
+    """Random memory, in which some operands are zero, the number of a shift is small, and an address is right."""
+    operands, (name, *numbers) = signature(text)[0], text.split()
+    data = bytearray(rng.randbytes(SIZE))
+    if has_zeros and operands[:1] != ["v128"]:
+        data[:32] = bytes(32)
+    if operands == ["v128", "i32"]:
+        data[16:20] = bytes([rng.randrange(64), 0, 0, 0])
+    if ".load" in name or ".store" in name:
+        data[:4] = (ADDRESS - int(numbers[0])).to_bytes(4, "little")
+    return bytes(data)
+
+
 def check(path: str, rounds: int) -> tuple:
     """Whether the model agrees with node: a verdict, and the numbers or what differs."""
     rng = random.Random(5)
-    forms, tests = chosen(path, rng, 8)
-    inputs = []
-    for k, text in enumerate(tests):
-        operands, (name, *numbers) = signature(text)[0], text.split()
-        for n in range(rounds):
-            data = bytearray(rng.randbytes(SIZE))
-            if n % 2 and operands[:1] != ["v128"]:
-                data[:32] = bytes(32)
-            if operands == ["v128", "i32"]:
-                data[16:20] = bytes([rng.randrange(64), 0, 0, 0])
-            if ".load" in name or ".store" in name:
-                data[:4] = (ADDRESS - int(numbers[0])).to_bytes(4, "little")
-            inputs.append((k, bytes(data)))
+    count, tests = chosen(path, rng, 8)
+    inputs = [(k, state(text, n % 2, rng)) for k, text in enumerate(tests) for n in range(rounds)]
     message = {"modules": [module(t).hex() for t in tests], "inputs": [(k, data.hex()) for k, data in inputs]}
-    run = subprocess.run(["node", "-e", NODE], input=json.dumps(message), text=True,
-                         stdout=subprocess.PIPE, check=True)
-    for (k, before), after in zip(inputs, json.loads(run.stdout)):
+    run = subprocess.run(["node", "-e", NODE], input=json.dumps(message), text=True, stdout=subprocess.PIPE, check=True)
+    for (k, before), after in zip(inputs, json.loads(run.stdout), strict=True):
         if model(tests[k], before).hex() != after:
             return "not ok", "%s: in the model the memory or the result differs" % tests[k]
-    return "ok", "%d forms, %d instructions, %d runs" % (forms, len(tests), len(inputs))
+    return "ok", "%d forms, %d instructions, %d runs" % (count, len(tests), len(inputs))

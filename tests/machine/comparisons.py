@@ -3,15 +3,14 @@ buffers into bytes of registers, and goes on behind these."""
 
 from __future__ import annotations
 
+import functools
 from typing import Any
 
 import terms as T
-from machine import chunks
+from loops import MOST, Straight
 from ranges import signed
 from symbolic import any_of, fresh, members_of
 from terms import CannotShow, IsWrong
-
-MOST = (1 << 64) - 1
 
 
 def difference(b: Any) -> tuple:
@@ -24,48 +23,32 @@ def difference(b: Any) -> tuple:
     return tuple(sorted(n[0] for n in names)), names[0][1]
 
 
-class Differences:
-    """A loop, from the machine that comes to its head on. Its first iteration proposes what changes; a general one
-    must agree."""
+class Differences(Straight):
+    """A loop that compares. The first iteration also proposes which bytes collect differences."""
 
     collects: dict
-    rest: set
-
-    def __init__(self, calls: Any, name: str, head: int, last: int, start: Any) -> None:
-        self.calls, self.name, self.head, self.last, self.start = calls, name, head, last, start
-
-    def iterate(self, m: Any) -> tuple:
-        """The machine after an iteration, and the word that is 0 after the last one."""
-        ends = self.calls.run(self.name, m, self.head, {self.last})
-        code = self.calls.code(self.name)[0]
-        compared = self.calls.cpu(ends[0]).condition(code[self.last]) if len(ends) == 1 else None
-        if compared is None or compared[0] != "!=":
-            raise CannotShow("a loop of a comparison goes on by another condition")
-        return ends[0], T.add(64, (1, compared[1]), (-1, compared[2]))
 
     def show(self) -> Any:
         """The machine after the loop."""
         second, left = self.iterate(self.start.copy())
-        first = self.start.cells()
-        self.propose(first, second.cells())
+        self.propose_all(second.cells())
         i, wrong = self.start.new(64), {None}
         while wrong:                   # what only has differences in it does not collect them
-            after, then = self.iterate_at(self.machine(i), i, left)
+            after, then = self.iterate_at(self.machine(i, self.collects), i, left)
             wrong = {c for c, b in self.collects.items() if b not in members_of(after.cells()[c])}
             self.rest |= wrong
             self.collects = {c: b for c, b in self.collects.items() if c not in wrong}
-        step, others = self.check(first, second.cells(), after.cells(), i)
+        step, others = self.check(second.cells(), after.cells(), i)
         count = self.count(left, then, i)
-        end = self.machine(count)
-        for c, offsets in others.items():
-            b = first[c]
-            for offset in offsets:
-                b = any_of(b, (T.var(8, ("differ", offset, step, count), T.SECRET), 0))
-            end.set_cells({c: b})
-        end.uses_stack_of([second, after])
-        if second.pieces + after.pieces != 2 * end.pieces:
-            raise CannotShow("a loop writes at a place that is not a number")
-        return end
+        differ = lambda offset: (T.var(8, ("differ", offset, step, count), T.SECRET), 0)
+        found = {c: functools.reduce(any_of, map(differ, offsets), self.first[c]) for c, offsets in others.items()}
+        return self.ended(self.machine(count, found), [second, after])
+
+    def propose_all(self, second: dict) -> None:
+        rest = self.propose(self.changed(second), self.constant_step(second))
+        self.collects = {c: fresh("so far", T.SECRET)[0] for c in rest
+                         if members_of(self.first[c]) < members_of(second[c])}
+        self.rest = rest - set(self.collects)
 
     def iterate_at(self, m: Any, i: T.Term, left: T.Term) -> tuple:
         """An iteration, which is no later than the last: what is left grows or shrinks to 0 by one number in each. It
@@ -95,40 +78,12 @@ class Differences:
         last = self.quotient(left, self.unit, self.sign)
         return T.add(64, (1, last), (1, T.const(64, 1)))
 
-    def propose(self, first: dict, second: dict) -> None:
-        """The words that grow by a number, the bytes that collect differences, and the rest."""
-        self.grows: dict = {}
-        changed = {c for c in first if first[c] != second[c]}
-        for kind, at, k in {(kind, at, k - k % 8) for kind, at, k in changed if kind == "general"}:
-            group = tuple((kind, at, k + j) for j in range(8))
-            a, z = (T.word([cells[c] for c in group]) for cells in (first, second))
-            step = T.add(64, (1, z), (-1, a))
-            if step.op == "const" and not a.taint & ~T.PUBLIC:
-                self.grows[group] = a, step.args
-        changed -= {c for group in self.grows for c in group}
-        self.collects = {c: fresh("so far", T.SECRET)[0] for c in changed
-                         if members_of(first[c]) < members_of(second[c])}
-        self.rest = changed - set(self.collects)
-
-    def machine(self, i: T.Term) -> Any:
-        """The machine at the head of iteration i."""
-        m = self.start.copy()
-        state = dict(self.collects)
-        for group, (a, step) in self.grows.items():
-            state.update(zip(group, T.split(T.add(64, (1, a), (step, i)))))
-        for part in chunks(sorted(self.rest, key=str), 64):
-            state.update(zip(part, fresh("rest", T.JUNK, len(part))))
-        m.set_cells(state)
-        m.flags = None
-        return m
-
-    def check(self, first: dict, second: dict, after: dict, i: T.Term) -> tuple:
+    def check(self, second: dict, after: dict, i: T.Term) -> tuple:
         """How many bytes an iteration compares, and for each byte that collects the offsets of the first iteration;
         those of iteration i are as many further as that, i times."""
-        wanted = self.machine(T.add(64, (1, i), (1, T.const(64, 1)))).cells()
         offsets, step = {}, 0
-        for c, b in self.collects.items():
-            found = [difference(x) for x in members_of(second[c]) - members_of(first[c])]
+        for c in self.collects:
+            found = [difference(x) for x in members_of(second[c]) - members_of(self.first[c])]
             offsets[c], step = [offset for _, offset in found], step + len(found)
             if any(names != ("a", "b") for names, _ in found):
                 raise IsWrong("a comparison of %s" % (found[0][0],))
@@ -136,9 +91,8 @@ class Differences:
             then = {difference(x) for x in members_of(after[c]) - {b}}
             if then != {(("a", "b"), T.add(64, (1, t), (step, i))) for t in offsets[c]}:
                 raise CannotShow("the byte %s is not as expected after an iteration" % (c,))
-        for c in set(after) - self.rest - set(self.collects):
-            if after[c] != wanted.get(c):
-                raise CannotShow("the byte %s is not as expected after an iteration" % (c,))
+        collected = {c: after[c] for c in self.collects}
+        self.need(after, self.machine(T.add(64, (1, i), (1, T.const(64, 1))), collected).cells())
         return step, offsets
 
 

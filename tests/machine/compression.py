@@ -8,6 +8,7 @@ from typing import Any, Callable, TYPE_CHECKING
 
 import rfc7693 as R
 import terms as T
+from loops import Induction
 from machine import Fork, Region, Words, image
 from terms import CannotShow, IsWrong
 
@@ -15,7 +16,7 @@ if TYPE_CHECKING:
     from program import Program
 
 STACK = 16384
-FRAMES: dict = {}                      # what frame() has returned, by the content of the function
+FRAMES: dict = {}                      # what frame() returns, by the content of the function
 
 
 def memory_of_words(words: list) -> Callable:
@@ -41,11 +42,13 @@ class Call:
     """A call of a function that compresses one block, or blocks of each of several messages: its variables, its
     memory, and what it must return."""
 
-    def __init__(self, program: Program, name: str, kind: R.Kind, lanes: int, assumed: dict) -> None:
+    def __init__(self, program: Program, name: str, kind: R.Kind, lanes: int, assumed: dict,
+                 numbers: dict | None = None) -> None:
+        """With numbers for the variables of these names."""
         self.program, self.kind, self.assumed, self.lanes = program, kind, assumed, lanes
-        w, n = kind.w, kind.bytes
-        public = lambda what: T.var(64, what, T.PUBLIC)
-        secret = lambda what, count: [[T.var(w, "%s%d.%d" % (what, j, k), T.SECRET)
+        self.numbers, w, n = numbers or {}, kind.w, kind.bytes
+        public = lambda what: self.variable(64, what, T.PUBLIC)
+        secret = lambda what, count: [[self.variable(w, "%s%d.%d" % (what, j, k), T.SECRET)
                                        for k in range(count)] for j in range(lanes)]
         self.sp, self.h, self.counter, self.back = map(public, ("sp", "h", "counter", "return address"))
         self.words, self.chain, self.message = secret("h", 8), secret("H", 8), secret("m", 16)
@@ -65,6 +68,9 @@ class Call:
         signature = [program.signatures[name]] if program.kind == "wasm" else []
         self.cpu(self.machine).start(self.sp, self.back, [self.h] + arguments, *signature)
         self.entry = self.cpu(self.machine).at_entry()
+
+    def variable(self, w: int, name: str, taint: int) -> T.Term:
+        return T.const(w, self.numbers[name]) if name in self.numbers else T.var(w, name, taint)
 
     def pointer(self, t: T.Term) -> T.Term:
         """An address as the program's memory has it: in a memory of 32 bits, its low half."""
@@ -156,7 +162,7 @@ class EachCall(Call):
 
     def arguments(self) -> list:
         """The tables of the blocks' addresses, of the counters and of the flags."""
-        self.counters = [T.var(64, "counter%d" % j, T.PUBLIC) for j in range(self.lanes)]
+        self.counters = [self.variable(64, "counter%d" % j, T.PUBLIC) for j in range(self.lanes)]
         return [self.table("blocks", self.blocks), self.table("counters", self.counters), self.flags()]
 
     def counted(self, j: int, i: T.Term) -> T.Term:
@@ -270,12 +276,14 @@ def show_one(program: Program, name: str, kind: R.Kind, lanes: int, runner: Runn
         runner.add(call.machine)
 
 
-class Loop:
+class Loop(Induction):
     """A function that compresses a number of blocks of each of several messages: a proof by induction over the
-    iterations of its only loop."""
+    iterations of its only loop. The first iteration also proposes where the chaining words are."""
+
+    STILL = ()
 
     def __init__(self, program: Program, name: str, kind: R.Kind, lanes: int, runner: Runner) -> None:
-        self.runner, self.kind = runner, kind
+        self.runner = runner
         heads = {i.target for i in runner.code.values() if i.target is not None and i.target <= i.address}
         if len(heads) != 1:
             raise CannotShow("the function has %d loops instead of one: if the compiler has split "
@@ -292,12 +300,11 @@ class Loop:
         self.runner.run(self.none.machine)
         self.none.check_return(self.none.machine, self.none.words)
         self.runner.add(self.none.machine)
-        self.first = self.call.machine
-        if self.runner.run(self.first, None, self.head) is None:
+        if self.runner.run(self.call.machine, None, self.head) is None:
             raise IsWrong("a call with some blocks returns before the loop")
-        self.runner.add(self.first)
-        self.at_first = self.first.cells()
-        self.classify(self.iterate(self.first, False)[0].cells())
+        self.runner.add(self.call.machine)
+        super().__init__(self.call.machine)
+        self.propose_all(self.iterate(self.start, False)[0].cells())
         general, after, condition, wanted = self.invariant()
         left = T.add(64, (1, self.count), (-1, self.i), (-1, T.const(64, 1)))
         if condition not in self.call.ends(left):
@@ -308,12 +315,6 @@ class Loop:
             raise CannotShow("the loop ends on two conditions")
         self.call.check_return(final, wanted)
         self.runner.add(final)
-
-    def initial(self, cell: tuple) -> T.Byte:
-        """A byte of a register or of memory when the loop is first reached."""
-        if cell in self.at_first:
-            return self.at_first[cell]
-        return self.call.regions[cell[1]].initial(cell[2])
 
     def iterate(self, start: Any, is_last: bool) -> tuple:
         """An iteration, after which the loop ends or goes on, and the term that is 0 if it ends."""
@@ -335,48 +336,25 @@ class Loop:
                 "ends" if end is None else "goes on", condition, "0" if is_last else "not 0"))
         return machine, condition
 
-    def classify(self, at_second: dict) -> None:
-        """Finds what an iteration changes: words that grow by a constant, bytes of chaining words, and the rest. What
-        is found is only proposed: invariant() checks it."""
+    def propose_all(self, second: dict) -> None:
+        """What an iteration changes: words that grow, bytes of chaining words, and the rest."""
         wanted = self.call.expected(self.call.words, T.const(64, 0))
         places = {pair: (j, k, b) for j, row in enumerate(self.call.words) for k, t in enumerate(row)
                   for b, pair in enumerate(zip(T.split(t), T.split(wanted[j][k])))}
-        self.grows, self.chain, self.scratch = {}, {}, set()
-        second = lambda c: at_second[c] if c in at_second else self.initial(c)
-        for c in sorted((c for c in set(self.at_first) | set(at_second) if second(c) != self.initial(c)), key=str):
-            self.check_in_stack(c)
-            group = self.group(*c)
-            a, b = (T.word([f(p) for p in group]) for f in (self.initial, second))
-            step = T.add(a.w, (1, b), (-1, a))
-            if step.op == "const" and not a.taint & ~T.PUBLIC and len(group) >= 4:
-                self.grows[group] = (a, step.args)
-            elif (self.initial(c), second(c)) in places:
-                self.chain[c] = places[self.initial(c), second(c)]
-            else:
-                self.scratch.add(c)
+        changed = self.changed(second)
+        self.check_in_stack(changed)
+        pairs = {c: (self.at(self.first, c), self.at(second, c))
+                 for c in self.propose(changed, self.constant_step(second))}
+        self.chain = {c: places[pair] for c, pair in pairs.items() if pair in places}
+        self.rest = set(pairs) - set(self.chain)
 
-    def group(self, kind: str, at: Any, k: int) -> tuple:
-        """The bytes of the word that a byte belongs to."""
-        size = 8 if kind == "memory" else min(8, len(getattr(self.first, kind)[at]))
-        return tuple((kind, at, k - k % size + j) for j in range(size))
-
-    def check_in_stack(self, cell: tuple) -> None:
-        if cell[0] == "memory" and cell[1] is not self.call.pointer(self.call.sp):
+    def check_in_stack(self, cells: set) -> None:
+        if any(kind == "memory" and at is not self.call.pointer(self.call.sp) for kind, at, _ in cells):
             raise IsWrong("the loop writes outside of the stack")
 
-    def grown(self, group: tuple, more: int) -> T.Term:
-        """A word that grows, at the start of iteration i + more."""
-        a, step = self.grows[group]
-        i = T.word(T.split(self.i)[:a.w // 8])
-        return T.add(a.w, (1, a), (step, i), (1, T.const(a.w, step * more)))
-
-    def proposed(self) -> dict:
-        """What was proposed of the bytes at the head of the loop in iteration i."""
-        state = {c: (T.var(8, "scratch%s" % (c,), T.JUNK), 0) for c in self.scratch}
-        state.update({c: (self.call.chain[j][k], b) for c, (j, k, b) in self.chain.items()})
-        for group in self.grows:
-            state.update(zip(group, T.split(self.grown(group, 0))))
-        return state
+    def chained(self, words: list) -> dict:
+        """The bytes of these chaining words, at their places."""
+        return {c: T.split(words[j][k])[b] for c, (j, k, b) in self.chain.items()}
 
     def invariant(self) -> Any:
         """The machine at iteration i, after it, the condition of the end, and the chaining words that the iteration
@@ -384,21 +362,15 @@ class Loop:
         self.i = T.var(64, "i", T.PUBLIC)
         self.call.at_block(self.i)
         wanted = self.call.expected(self.call.chain, self.i)
-        general = self.first.copy()
+        general = self.machine(self.i, self.chained(self.call.chain))
         general.regions = self.call.regions
-        general.set_cells(self.proposed())
         after, condition = self.iterate(general, False)
-        state, at_end = general.cells(), after.cells()
-        for group in self.grows:
-            state.update(zip(group, T.split(self.grown(group, 1))))
-        for c in (set(state) | set(at_end)) - self.scratch:
-            expected = state[c] if c in state else self.initial(c)
-            if c in self.chain:
-                j, k, b = self.chain[c]
-                expected = T.split(wanted[j][k])[b]
-            if at_end.get(c, expected) != expected:
-                self.check_in_stack(c)
-                check_same("after an iteration, the byte %s" % (c,), *map(T.word, ([at_end[c]], [expected])))
+        found, state = after.cells(), {**general.cells(), **self.grown(self.i, 1), **self.chained(wanted)}
+        wrong = self.wrong(found, state)
+        self.check_in_stack(wrong)
+        for c in sorted(wrong, key=str):
+            words = [T.word([self.at(cells, c)]) for cells in (found, state)]
+            check_same("after an iteration, the byte %s" % (c,), *words)
         return general, after, condition, wanted
 
 
@@ -418,13 +390,17 @@ def show(program: Program, name: str, kind: R.Kind, lanes: int) -> tuple:
     except (T.CannotShow, T.IsWrong) as e:
         at = " ".join(runner.at.text.split()) if runner.at else "the entry"
         raise type(e)("at %s: %s" % (at, e))
+    FRAMES[identity(program, name)] = -runner.deepest
     return runner, time.time() - started
+
+
+def identity(program: Program, name: str) -> Any:
+    return program.content(name) or (program, name)
 
 
 def frame(program: Program, name: str, kind: R.Kind, lanes: int) -> int:
     """How many bytes of the stack below its return address a function that compresses uses, by its proof. All terms
     are forgotten."""
-    content = program.content(name) or (program, name)
-    if content not in FRAMES:
-        FRAMES[content] = -show(program, name, kind, lanes)[0].deepest
-    return FRAMES[content]
+    if identity(program, name) not in FRAMES:
+        show(program, name, kind, lanes)
+    return FRAMES[identity(program, name)]

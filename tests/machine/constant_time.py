@@ -4,6 +4,8 @@ all code that it reaches. docs/MACHINE.md says what is shown."""
 from __future__ import annotations
 
 import heapq
+import math
+import os
 import re
 from typing import Any, Iterator, TYPE_CHECKING
 
@@ -11,7 +13,7 @@ import functions
 import program as programs
 import terms as T
 from machine import Aligned, image, need_public
-from taint import Memory, Taint, is_secret, reset, secret, unknown
+from taint import Cells, Taint, is_secret, reset, secret, unknown
 from terms import CannotShow, IsWrong
 
 if TYPE_CHECKING:
@@ -21,58 +23,21 @@ STACK = 65536
 ROUNDS = 20                            # of a loop, which are unrolled
 
 
-def state(n: Any, block: Any) -> Any:
-    """The fields of a state as pairs of a size and of whether it is public. n is the size of a chaining word."""
-    return [(8 * n, False)] * 2 + [(8, True)] * 5 + [(block, False)] * 2
-
-
-def parallel_state(n: int, block: int, held: int) -> list:
-    """The same of a state of BLAKE2bp or BLAKE2sp, of whose bytes up to `held` are pending."""
-    return ([(256, False)] + [(8, True)] * 2 + [(held, False), (256, False), (8 * n, False)]
-            + [(8, True)] * 2 + [(block, False)])
-
-
-def output_state(n: int, block: int) -> list:
-    """The same of a state of BLAKE2Xb or BLAKE2Xs: a root hash, and the output."""
-    return state(n, block) + [(8 * n, False), (4 * n, False)] + [(8, True)] * 3
-
-
-LAYOUTS = {"blake2b": state(8, 128), "blake2s": state(4, 64),
-           "blake2bp": parallel_state(8, 128, 896), "blake2sp": parallel_state(4, 64, 960),
-           "blake2xb": output_state(8, 128), "blake2xs": output_state(4, 64),
-           "tree": state(8, 128) * 2 + [(8, True)] * 4 + [(16, False)] * 2,
-           "limits": [(8, True)] * 4, "plan": [(8, True)] * 9, "part": [(8, True)] * 6,
-           "place": [(8, True), (4, True)] + [(1, True)] * 4}
-# The arguments of the functions, by the end of their names: a state (of the family, or the node of
-# a tree), another struct, a buffer with its length (of secret or public bytes), a table of messages
-# with its length, or a public number.
-STATE, NODE, PLAN, PART, LIMITS = "state", "blake2b", "plan", "part", "limits"
-PLACE = "place"                        # tree parameters
+# The arguments of the functions: a state of the family, or the name of another struct; a buffer with its length, of
+# secret or of public bytes; a table of messages with its length; or a public number.
+STATE, NODE = "state", "blake2b_state"
 OUT, BYTES, KEY = "out", "bytes", "key"
 PUBLIC, TABLE, NUMBER = "public", "table", "number"
-GIVEN = (NUMBER, KEY, BYTES, BYTES)
-EXPORTS = {
-    "_count": (STATE,), "_digest_size": (STATE,), "_final": (STATE, OUT),
-    "_init_key": (STATE, NUMBER, KEY), "_init_param": (STATE, PUBLIC),
-    "_init_salt_personal": (STATE,) + GIVEN, "_init_tree": (STATE,) + GIVEN + (PLACE,),
-    "_reset": (STATE,), "_set_last_node": (STATE, NUMBER), "_state_size": (),
-    "_update": (STATE, BYTES), "_verify": (STATE, BYTES), "_wipe": (STATE,),
-    "_derive_key": (OUT, KEY, BYTES), "_left": (STATE,), "_squeeze": (STATE, OUT),
-    "": (OUT, BYTES, KEY), "_many": (OUT, NUMBER, TABLE, KEY, BYTES, BYTES),
-}
-TREES = {
-    "_check": (NUMBER,) * 4, "_count": (STATE,), "_digest_size": (STATE,), "_final": (STATE, OUT),
-    "_init": (STATE, NUMBER, BYTES, BYTES, NUMBER),
-    "_init_leaf": (NODE, NUMBER, NUMBER, BYTES, BYTES, NUMBER),
-    "_init_root": (NODE, NUMBER, BYTES, BYTES, NUMBER), "_leaf_count": (NUMBER, NUMBER),
-    "_leaf_length": (STATE,),
-    "_leaves": (OUT, NUMBER, NUMBER, BYTES, BYTES, BYTES, NUMBER),
-    "_leaves_ahead": (STATE, OUT, NUMBER, BYTES), "_part": (PART, PLAN, NUMBER),
-    "_plan": (PLAN, NUMBER, NUMBER, NUMBER, LIMITS), "_plan_update": (PLAN, STATE, NUMBER, LIMITS),
-    "_root": (OUT, BYTES, BYTES, BYTES, NUMBER),
-    "_root_of_leaves": (OUT, BYTES, BYTES, BYTES, NUMBER), "_state_size": (),
-    "_update": (STATE, BYTES), "_update_leaves": (STATE, BYTES, BYTES), "_wipe": (STATE,),
-}
+# The functions and the structs of the C header, with their arguments and fields. tools/exports.py compares both with
+# the source.
+HEADER = "c/include/vulfsjor.h"
+with open(os.path.join(programs.ROOT, HEADER), encoding="utf-8") as file:
+    TEXT = re.sub(r"(?s)/\*.*?\*/", "", file.read())
+SIGNATURES = dict(re.findall(r"(?m)^\w+ (vulfsjor_ffi_\w+)\(([^)]*)\);", TEXT))
+STRUCTS = dict(re.findall(r"(?s)typedef struct vulfsjor_(\w+) \{(.*?)\}", TEXT))
+NAME = re.compile(r"vulfsjor_ffi_(blake2x?[bs]p?|tree|memcmp|wipe)(.*)")
+# The ends of the names of the functions of BLAKE2 and BLAKE2X, some of which each family has.
+EXPORTS = tuple(dict.fromkeys(m[2] for m in map(NAME.fullmatch, SIGNATURES) if m and m[1].startswith("blake2")))
 ANSWERS = ("_verify", "_ffi_memcmp")   # whose result may depend on secrets
 # What the exported functions of a family call, by the end of their names.
 CALLED = {"_final": functions.FINALIZE, "_verify": functions.IS_DIGEST_OF}
@@ -91,49 +56,75 @@ NOT_FOLLOWED = ("dist/x86_64/vulfsjor-v4.s",)   # masks of AVX-512 are not follo
 NOT_SHOWN = {("dist/x86_64/vulfsjor-v3.s", "vulfsjor_ffi_blake2bp")}
 
 
+def layout(struct: str) -> list:
+    """The fields of a struct as pairs of a size and of whether it is public. Numbers are, and arrays are not."""
+    fields: list = []
+    for type_, counts in re.findall(r"(\w+) \w+((?:\[\d+\])*);", STRUCTS[struct]):
+        bits = re.fullmatch(r"uint(\d+)_t", type_)
+        counted = math.prod(map(int, re.findall(r"\d+", counts)))
+        fields += [(int(bits[1]) // 8 * counted, not counts)] if bits else layout(type_.removeprefix("vulfsjor_"))
+    return fields
+
+
+def kinds_of(family: str, given: str) -> tuple:
+    """The kinds of the arguments of a function."""
+    kinds, left = [], iter(re.findall(r"(const )?(\w+) (\*?)(\w+)", given))
+    for const, type_, star, name in left:
+        if not star:
+            kinds.append(NUMBER)
+        elif type_ in ("uint8_t", "vulfsjor_message"):
+            next(left)                 # its length
+            of_bytes = {"key": KEY, "block": PUBLIC}.get(name, BYTES) if const else OUT
+            kinds.append(of_bytes if type_ == "uint8_t" else TABLE)
+        else:
+            kinds.append(STATE if type_ == "vulfsjor_%s_state" % family else type_.removeprefix("vulfsjor_"))
+    return tuple(kinds)
+
+
 class Call:
     """A call of an exported function: its memory and its arguments."""
 
     def __init__(self, program: programs.Program, kinds: tuple, family: str, alignment: tuple, has_key: bool) -> None:
         self.sp, self.has_key = T.var(64, "sp", T.PUBLIC), has_key
-        self.regions = {image(): Memory(0, 1 << 32, program.constant, False)}
+        self.regions = {image(): Cells(0, 1 << 32, program.constant, False)}
         self.words: list = []
         self.ranges: dict = {}
         self.structs: list = []
         for kind in kinds:
-            self.add(kind, LAYOUTS.get(family if kind == STATE else kind))
+            self.add(kind, family)
         cpu = self.cpu = program.model.Model
         back = T.var(64, "return address", T.PUBLIC)
         above = [back] if program.kind == "x86_64" else []
         above = [b for t in above + self.words[len(cpu.ARGUMENTS):] for b in T.split(t)]
-        self.regions[self.sp] = Memory(-STACK, len(above), lambda k: secret() if k < 0 else above[k])
+        self.regions[self.sp] = Cells(-STACK, len(above), lambda k: secret() if k < 0 else above[k])
         self.machine = Taint(self.regions, cpu, alignment, self.ranges, BLOCKS.get(family, 128),
                              LONGEST.get(family, 0))
         cpu(self.machine).start(self.sp, back, self.words)
 
-    def add(self, kind: str, layout: list | None) -> None:
+    def add(self, kind: str, family: str) -> None:
         """Adds an argument, with its memory and its length if it has them."""
         word = T.var(64, "%s%d" % (kind, len(self.words)), T.PUBLIC)
         self.words.append(word)
         if kind == NUMBER:
             return
-        if layout:
+        if kind not in (OUT, BYTES, KEY, PUBLIC, TABLE):
+            fields = layout(family + "_state" if kind == STATE else kind)
             cells: list = []
-            for size, is_public in layout:
+            for size, is_public in fields:
                 cells += [secret()] * size if not is_public else T.split(
                     T.var(64, "%s.%d" % (word.args, len(cells)), T.PUBLIC))[:size]
-            self.regions[word] = Memory(0, len(cells), lambda k: cells[k])
-            self.structs.append((word, layout))
+            self.regions[word] = Cells(0, len(cells), lambda k: cells[k])
+            self.structs.append((word, fields))
             return
         b = unknown() if kind == PUBLIC else secret()
-        self.regions[word] = Memory(0, 0, lambda k: b, kind == OUT, True)
+        self.regions[word] = Cells(0, 0, lambda k: b, kind == OUT, uniform=True)
         length = T.var(64, "length%d" % len(self.words), T.PUBLIC)
         if kind == KEY and self.has_key:
             self.ranges[length] = 1, (1 << 64) - 1, 1
         self.words.append(T.const(64, 0) if kind == KEY and not self.has_key else length)
         if kind == TABLE:
             text = T.var(64, "message", T.PUBLIC)
-            self.regions[text] = Memory(0, 0, lambda k: secret(), False, True)
+            self.regions[text] = Cells(0, 0, lambda k: secret(), False, uniform=True)
             self.regions[word].table = lambda m, low, size: entry(m, text, low, size)
 
 
@@ -180,11 +171,9 @@ class Walk:
             heapq.heappush(self.waiting, key)
 
     def check(self, m: Any, first: int = 0) -> None:
-        """What a return must find. The return address is the first of it."""
-        now = self.cpu(m).at_entry()
-        for k, what in enumerate(("return address", "stack pointer", "registers")):
-            if k >= first and now[k] != self.entry[k]:
-                raise IsWrong("the caller's %s: not as at the entry of %s" % (what, self.name))
+        """What a return must find, perhaps not the return address, which is the first of it."""
+        cpu = self.cpu(m)
+        cpu.check_return(cpu.at_entry()[:first] + self.entry[first:])
 
     def finish(self, m: Any, first: int = 0) -> None:
         self.check(m, first)
@@ -351,14 +340,11 @@ def compress(m: Any, arguments: list, name: str, kind: Kind, lanes: int) -> None
 def exports(program: programs.Program) -> Iterator:
     """The functions that C programs call, with their arguments and families."""
     for name in sorted(set(program.globals) - set(functions.SHARED)):
-        m = re.fullmatch(r"vulfsjor_ffi_(blake2x?[bs]p?|tree|memcmp|wipe)(.*)", name)
-        tables: dict = {"tree": TREES, "memcmp": {"": (BYTES, BYTES)}, "wipe": {"": (OUT,)}}
-        table = tables.get(m[1], EXPORTS) if m else {}
-        if not m or m[2] not in table:
-            raise CannotShow("the arguments of %s are not known: add them to "
-                             "tests/machine/constant_time.py" % name)
+        m = NAME.fullmatch(name)
+        if not m or name not in SIGNATURES:
+            raise CannotShow("the arguments of %s are not known: %s does not declare it" % (name, HEADER))
         program.extent(name)           # refuses what is not a function, or may be another's
-        yield name, table[m[2]], m[1]
+        yield name, kinds_of(m[1], SIGNATURES[name]), m[1]
 
 
 def show(program: programs.Program, name: str, kinds: tuple, family: str) -> Analysis:
@@ -403,11 +389,11 @@ def follow(program: programs.Program, entry: tuple) -> Analysis | None:
 def check(call: Call, after: Any, name: str) -> None:
     """What must hold after a call: the result and the public fields of structs do not depend on a secret, so that the
     next call may assume it, and a wiped state is zero."""
-    for word, layout in call.structs:
+    for word, fields in call.structs:
         if name.endswith("_wipe"):
             need_zeros(after, word)
         at = 0
-        for size, is_public in layout:
+        for size, is_public in fields:
             if is_public and any(is_secret(after.byte(word, at + k, call.regions[word])) for k in range(size)):
                 raise IsWrong("the field at %d of %s depends on a secret" % (at, word.args))
             at += size

@@ -88,7 +88,6 @@ def run_with_z3(script: str, arguments: list) -> None:
         os.execv(DEBIAN, [DEBIAN, script] + arguments)
 
 
-
 class Model:
     """Numbers of variables, for which Z3 says that some facts hold. Of a word, the number that follows from these."""
 

@@ -6,8 +6,8 @@ from typing import Any
 
 import call_cases
 import constant_time
-import memory_cases
 import program as programs
+import rfc7693 as R
 import xof_cases
 
 TITLES = {"blake2b": "BLAKE2b", "blake2s": "BLAKE2s", "blake2xb": "BLAKE2Xb", "blake2xs": "BLAKE2Xs",
@@ -30,13 +30,18 @@ def names(program: programs.Program) -> list:
 def cases(program: programs.Program, family: str, *numbers: Any) -> Any:
     """The cases of a family: all, or those with some numbers."""
     if not family:
-        return memory_cases.Cases(program)
+        return call_cases.Memory(program, PREFIX, R.BLAKE2B, call_cases.S.zeros(R.BLAKE2B))
     return (xof_cases if "x" in family else call_cases).Cases(program, family, *numbers)
 
 
 def some(family: str) -> tuple:
     """The numbers of a short test."""
-    return call_cases.some(family) if family else ()
+    kind = call_cases.KINDS.get(family)
+    if not kind:
+        return ()
+    if "x" in family:                  # whose root hash is updated as that of the other family
+        return (0, 1), ()
+    return (0, 1, kind.block), (1, kind.w - 1, kind.w)
 
 
 def show(program: programs.Program, name: str) -> tuple:

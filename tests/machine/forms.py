@@ -4,7 +4,8 @@ from the tests of instructions. The models refuse an instruction of any other fo
 A form is a name, and for each operand its kind and its bytes: g8 is a general register, x, y, z or k a
 vector or a mask, m8 memory, m8* a word that is broadcast, n a number. `=` says that the last two
 operands are the same register. In forms.txt the forms are below their processor and the models that execute
-them: F is the model of the functions that compress, T that of taint tracking, and W that of whole calls."""
+them: F is the model of the functions that compress, T that of taint tracking, and W that of whole calls. After a
+name, and after operands that end with a comma, are all that follow them there."""
 
 from __future__ import annotations
 
@@ -16,7 +17,6 @@ import textwrap
 import x86
 from terms import CannotShow
 
-WRITES = "VULFSJOR_FORMS"                # in the environment while the table is written
 TABLE = os.path.join(os.path.dirname(os.path.abspath(__file__)), "forms.txt")
 # The numbers of these are added, compared or masked as they are. Those of any other instruction, such
 # as a shift or a shuffle, are part of its form.
@@ -90,9 +90,12 @@ def known() -> frozenset:
                 continue
             for word in line.split():
                 if word.endswith(":"):
-                    name = word[:-1]
+                    name, start = word[:-1], ""
+                elif word.endswith(","):
+                    start = word
                 else:
-                    found |= {(kind, user, ("%s %s" % (name, word)).removesuffix(" -")) for user in users}
+                    text = ("%s %s" % (name, start + word)).removesuffix(" -")
+                    found |= {(kind, user, text) for user in users}
     return frozenset(found)
 
 
@@ -104,12 +107,15 @@ def write(found: set) -> None:
     groups: dict = {}
     for (kind, each), letters in users.items():
         name, _, operands = each.partition(" ")
-        groups.setdefault((kind, "".join(letters)), {}).setdefault(name + ":", []).append(operands or "-")
+        start, comma, last = (operands or "-").rpartition(",")
+        starts = groups.setdefault((kind, "".join(letters)), {}).setdefault(name + ":", {})
+        starts.setdefault(start + comma, []).append(last)
     with open(TABLE, "w", encoding="ascii") as f:
         for (kind, letters), names in sorted(groups.items()):
+            words = [word for name, starts in names.items() for word in [
+                name, *(w for start, lasts in sorted(starts.items()) for w in [start, *lasts] if w)]]
             f.write("%s %s\n%s\n" % (kind, letters, textwrap.fill(
-                " ".join(word for name, operands in names.items() for word in [name, *operands]), 118,
-                initial_indent="  ", subsequent_indent="  ", break_on_hyphens=False)))
+                " ".join(words), 118, initial_indent="  ", subsequent_indent="  ", break_on_hyphens=False)))
 
 
 def check(kind: str, user: str, text: str) -> None:
@@ -118,14 +124,3 @@ def check(kind: str, user: str, text: str) -> None:
     if not CONTROL[kind].fullmatch(found) and (kind, user, found) not in known():
         raise CannotShow("the form of %s was not run on the processor: %s: run tests/machine/check.py --forms"
                          % (" ".join(text.split()), found))
-
-
-def compare(kind: str, user: str, used: set, run: set) -> str | None:
-    """What is wrong with the table, for the forms that some functions have, and those that a test of their
-    instructions has run; or None."""
-    used = {f for f in used if not CONTROL[kind].fullmatch(f)}
-    missed = sorted(used - run)
-    if missed:
-        return "the form is not run: %s" % missed[0]
-    other = sorted(f for f in run if (kind, user, f) not in known())
-    return "run check.py --forms: forms.txt has not: %s" % other[0] if other else None

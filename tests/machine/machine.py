@@ -12,6 +12,14 @@ from terms import CannotShow, IsWrong
 
 # Operations on words, by the names of those on vectors.
 WORDWISE: dict = {"xor": T.xor, "or": T.either, "and": T.both}
+# What instructions make of two words; the values may know more than the words say.
+ON_WORDS: dict = {
+    "add": lambda m, a, b: total(a, b), "sub": lambda m, a, b: total(a, b, -1), "and": lambda m, a, b: m.masked(a, b),
+    "or": lambda m, a, b: m.either(a, b), "xor": lambda m, a, b: m.exclusive(a, b),
+    "not": lambda m, a, b: T.add(a.w, (-1, a), (-1, T.const(a.w, 1))), "neg": lambda m, a, b: T.add(a.w, (-1, a)),
+    "shl": lambda m, a, b: m.shifted_left(a, b.args), "shr": lambda m, a, b: m.shifted_right(a, b.args),
+    "mul": lambda m, a, b: T.add(a.w, (b.args, a)) if b.op == "const" else None,
+}
 
 
 class Fork(Exception):
@@ -95,7 +103,7 @@ class Values:
         self.counts = {"branches": 0, "addresses": 0}
         for name, (count, size) in processor.FILES.items():
             setattr(self, name, [list(T.remembered(junk, "%s%d" % (name, j), size)) for j in range(count)])
-        self.masks: list = [[None] * 64 for _ in range(8)]
+        self.masks = [unknown_bit() * 64] * 8
         self.at_start = {name: [list(r) for r in getattr(self, name)] for name in processor.FILES}
 
     def copy(self) -> Any:
@@ -175,7 +183,7 @@ class Words(Values):
         """The same, to count from there. The flags are unknown."""
         other = super().copy()
         other.counts = dict.fromkeys(self.counts, 0)
-        other.flags, other.masks = None, [[None] * 64 for _ in range(8)]
+        other.flags, other.masks = None, [unknown_bit() * 64] * 8
         other.labels = list(self.labels)
         return other
 
@@ -382,8 +390,10 @@ class Processor:
     CARRY: dict = {}                   # what it asks for after an addition
     COMMENT = ""                       # what begins a comment of objdump
     SETS_RESULT: tuple = ()            # instructions that only set the result that is compared, before a return
+    SAVED: tuple = ()                  # the registers that belong to the caller, except the stack pointer
     step: Callable                     # executes an instruction other than a jump, a call or a return
     condition: Callable                # what a conditional jump compares
+    lost_vector: Callable              # what a function may leave in a vector register
     at_entry: Callable                 # what a return must find: its address, the stack pointer, the caller's registers
 
     def __init__(self, values: Any) -> None:
@@ -402,6 +412,23 @@ class Processor:
     def answer(self) -> list:
         """The register of the result, which is the first on each processor."""
         return self.values.general[0]
+
+    def clobber(self, is_compression: bool = False) -> None:
+        """What a function may leave in registers that do not belong to its caller. One that compresses leaves zero or
+        what there was where compression.py shows that."""
+        m = self.values
+        for r in range(len(m.general)):
+            if r not in self.SAVED + self.STACK_POINTER:
+                m.general[r] = m.lost(8, is_compression)
+        m.vector = [self.lost_vector(j, old, is_compression) for j, old in enumerate(m.vector)]
+        m.flags = None
+
+    def quietly(self, f: Callable, a: list, b: list) -> list:
+        """The bytes of a result of two words, without the flags."""
+        flags = self.values.flags
+        data = self.values.computed("other", f, a, b)
+        self.values.flags = flags
+        return data
 
     @classmethod
     def only_returns(cls, code: dict, pc: int) -> bool:
@@ -496,6 +523,11 @@ def need_public(t: T.Term, what: str) -> None:
 def junk(name: str, n: int) -> list:
     """n bytes of undefined data."""
     return [(T.var(8, "%s.%d" % (name, k), T.JUNK), 0) for k in range(n)]
+
+
+def unknown_bit() -> list:
+    """A byte of a mask, which has one for each bit, of which nothing is known."""
+    return T.remembered(junk, "mask", 1)
 
 
 def chunks(data: Any, n: int) -> list:

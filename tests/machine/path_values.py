@@ -6,6 +6,7 @@ from typing import Any
 
 import rfc7693 as R
 import terms as T
+from machine import chunks
 from terms import CannotShow
 
 SEEDS, BLOCKS = 4, 8                   # of random bytes; and the most blocks that are compressed
@@ -50,31 +51,16 @@ class Example(T.Numbers):
 
     def chain(self, what: str, name: str, chain: tuple, *rest: Any) -> list:
         """The chaining words after one block, or after the blocks of a buffer."""
-        kind = KINDS[name]
-        h = self.words(kind, [self.byte(b) for b in chain])
+        kind, data = KINDS[name], [self.byte(b) for b in chain]
         if what == "F":
             block, count, last, node = rest
-            return self.after(kind, h, [self.byte(b) for b in block], T.value(count, self, {}), last, node)
-        buffer, start, blocks, count = rest
-        start, blocks, count = (T.value(t, self, {}) for t in (start, blocks, count))
-        if blocks > BLOCKS:
-            raise CannotShow("there are more than %d blocks" % BLOCKS)
-        for k in range(blocks):
-            at = start + k * kind.block
-            block = [self.of_tuple(buffer, T.const(64, at + j)) for j in range(kind.block)]
-            h = self.after(kind, h, block, count + (k + 1) * kind.block, 0, 0)
-        return h
-
-    @staticmethod
-    def words(kind: R.Kind, data: list) -> list:
-        return [int.from_bytes(bytes(data[k:k + kind.bytes]), "little") for k in range(0, len(data), kind.bytes)]
-
-    def after(self, kind: R.Kind, h: list, block: list, count: int, last: int, node: int) -> list:
-        """The chaining words after a block."""
-        w = kind.w
-        words = lambda numbers: [T.const(w, n) for n in numbers]
-        low, high, *flags = words((count, count >> w, -last, -node))
-        return [t.args for t in R.F(kind, words(h), words(self.words(kind, block)), low, high, *flags)]
+            data = R.compress(kind, data, [self.byte(b) for b in block], T.value(count, self, {}), last, node)
+        else:
+            start, blocks, count = (T.value(t, self, {}) for t in rest[1:])
+            if blocks > BLOCKS:
+                raise CannotShow("there are more than %d blocks" % BLOCKS)
+            data = R.compress_all(kind, data, lambda j: self.of_tuple(rest[0], T.const(64, j)), start, blocks, count)
+        return [int.from_bytes(bytes(word), "little") for word in chunks(data, kind.bytes)]
 
 
 def difference(facts: Any, results: dict, x: T.Byte, y: T.Byte) -> str | None:

@@ -18,12 +18,9 @@ def signed(w: int, n: int) -> int:
     return n - (1 << w) if n >> w - 1 else n
 
 
+@T.remembering
 def parts(t: T.Term) -> tuple:
     """A term as the sum of a number and of another term or its negative."""
-    return T.remembered(_parts, t)
-
-
-def _parts(t: T.Term) -> tuple:
     constant, items = T.linear(t)
     if not items:
         return t.args, 1, T.const(t.w, 0)

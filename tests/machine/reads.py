@@ -6,36 +6,31 @@ from __future__ import annotations
 from typing import Any, Callable
 
 import terms as T
-from machine import chunks
-from symbolic import Buffer, Piece, base_of, fresh
+from loops import MOST, Induction
+from symbolic import Buffer, Piece, base_of
 from terms import CannotShow, IsWrong
 
-MOST = (1 << 64) - 1
 WORD = 8
 
 
 def cycle(code: dict, head: int) -> frozenset:
     """The addresses of a function's code that are reached from the head of a loop, and from which it is reached
     again."""
-    after: dict = {}
-    before: dict = {}
+    ways: set = set()
     for i in code.values():
         is_inner = i.target is None or i.is_call
-        ways = [] if i.is_return or i.is_trap else [i.next] * (is_inner or not i.is_jump) + (
-            [i.target] * (not is_inner))
-        for pc in ways:
-            after.setdefault(i.address, []).append(pc)
-            before.setdefault(pc, []).append(i.address)
+        if not (i.is_return or i.is_trap):
+            ways |= {(i.address, i.next)} if is_inner or not i.is_jump else set()
+            ways |= {(i.address, i.target)} if not is_inner else set()
 
-    def reached(ways: dict) -> set:
+    def reached(ways: set) -> set:
         found: set = set()
-        waiting = [head]
-        while waiting:
-            new = set(ways.get(waiting.pop(), ())) - found
+        new = {head}
+        while new:
+            new = {pc for at, pc in ways if at in new} - found
             found |= new
-            waiting += new
         return found
-    return frozenset(reached(after) & reached(before))
+    return frozenset(reached(ways) & reached({(pc, at) for at, pc in ways}))
 
 
 def of_byte(t: T.Term) -> T.Term:
@@ -43,26 +38,19 @@ def of_byte(t: T.Term) -> T.Term:
     return T.word(T.split(t) + [0] * (WORD - 1))
 
 
-class Reads:
-    """A loop, from the machine that comes to its head on. `place` is where the position is."""
+class Reads(Induction):
+    """A loop with several ways through it, whose iterations are counted by the position. `place` is where that is."""
 
     def __init__(self, calls: Any, name: str, head: int, body: frozenset, start: Any) -> None:
-        self.calls, self.name, self.head, self.body, self.start = calls, name, head, body, start
+        super().__init__(start)
+        self.calls, self.name, self.head, self.body = calls, name, head, body
         base, offset, _ = start.region_of(calls.position)
         self.place = tuple(("memory", base, base_of(offset) + k) for k in range(WORD))
         outputs = [(u, r) for u, r in start.regions.items() if isinstance(r, Buffer) and r.writable]
         if len(outputs) != 1:
             raise CannotShow("a read without an output")
         (self.out, region), = outputs
-        self.length, self.first = region.length, self.word(start.cells(), self.place)
-
-    def word(self, cells: dict, places: tuple) -> T.Term:
-        return T.word([self.at(cells, c) for c in places])
-
-    def at(self, cells: dict, c: tuple) -> T.Byte:
-        """A byte of a register or of memory, by what was written."""
-        kind, at, k = c
-        return cells[c] if c in cells else self.start.regions[at].initial(k)
+        self.length, self.position = region.length, self.word(self.first, self.place)
 
     def show(self) -> list:
         """The machines behind the loop, each with the address."""
@@ -71,13 +59,13 @@ class Reads:
             raise CannotShow("bytes of the output are written before the loop")
         if not m.is_always("<", T.const(64, 0), self.length):
             raise CannotShow("there is a read of no bytes")
-        self.propose([n for n in self.iterate(m.copy()) if n.pc == self.head])
+        self.propose_all([n for n in self.iterate(m.copy()) if n.pc == self.head])
         i, f = m.new(64), of_byte(m.new(8))
         position = T.add(64, (self.calls.block_of_output, i), (1, f))
         wrong: set = {None}
         while wrong:                   # words that only grow in the first iteration are not known
             ends = self.iterate(self.general(position, f))
-            wrong = {c for n in ends if n.pc == self.head for c in self.wrong(n)}
+            wrong = {c for n in ends if n.pc == self.head for c in self.wrong_at(n)}
             self.forget(wrong)
         for n in ends:
             self.check(n, position)
@@ -86,13 +74,18 @@ class Reads:
             n.uses_stack_of(ends)
         return behind
 
+    def done(self, position: T.Term) -> T.Term:
+        """How many bytes are written when this position is reached."""
+        return T.add(64, (1, position), (-1, self.position))
+
     def general(self, position: T.Term, f: T.Term) -> Any:
         """The machine at the head of any iteration: the position is before the end of the read."""
-        m = self.machine(position)
+        m = self.machine(self.done(position), self.unknown(self.left, "after", T.SECRET))
+        m.pieces = Piece(self.out, T.const(64, 0), None, self.done(position)),
         facts = m.path_facts.between([(1, f)], 0, self.calls.block_of_output - 1)
         facts = facts.between([(1, position)], 0, MOST)
-        facts = facts.between([(1, position), (-1, self.first)], 0, MOST)
-        m.path_facts = facts.between([(1, self.length), (1, self.first), (-1, position)], 1, MOST)
+        facts = facts.between([(1, position), (-1, self.position)], 0, MOST)
+        m.path_facts = facts.between([(1, self.length), (1, self.position), (-1, position)], 1, MOST)
         if not m.path_facts.are_possible():
             raise CannotShow("no iteration is possible")
         return m
@@ -103,80 +96,53 @@ class Reads:
             if c in self.place or c in self.rest:
                 raise CannotShow("the byte %s is not as expected after an iteration" % (c,))
         self.rest |= cells
-        for group in {g for g in self.signs if cells & set(g)}:
-            del self.signs[group]
+        for group in {g for g in self.grows if cells & set(g)}:
+            del self.grows[group]
             self.rest |= set(group)
 
     def iterate(self, machine: Any) -> list:
         """The machines after an iteration: those at the head, and those behind the loop."""
         return self.calls.run(self.name, machine, self.head, self.body)
 
-    def propose(self, ends: list) -> None:
-        """The words that grow or shrink as the position grows, and the rest of what changes."""
-        first = self.start.cells()
+    def propose_all(self, ends: list) -> None:
+        """The words that grow or shrink as the position grows, the rest of what changes, and what the C library may
+        have left of that."""
         found = [(n, n.cells()) for n in ends]
-        changed = {c for _, cells in found for c in cells if self.at(cells, c) != self.at(first, c)
-                   and c[1] is not self.out}
-        self.signs: dict = {}
-        for kind, at, k in {(kind, at, k - k % WORD) for kind, at, k in changed if kind != "vector"}:
-            group = tuple((kind, at, k + j) for j in range(WORD))
-            a = self.word(first, group)
-            steps = [[n.settled(T.add(64, (1, self.word(cells, g)), (-1, self.word(first, g))))
-                      for g in (group, self.place)] for n, cells in found]
-            for sign in (1, -1):
-                if not a.taint & ~T.PUBLIC and all(z is T.add(64, (sign, c)) for z, c in steps):
-                    self.signs[group] = a, sign
-        self.rest = changed - {c for group in self.signs for c in group}
+        moved = lambda n, cells, group: n.settled(
+            T.add(64, (1, self.word(cells, group)), (-1, self.word(self.first, group))))
+
+        def step(_: T.Term, group: tuple) -> int | None:
+            moves = [[moved(n, cells, g) for g in (group, self.place)] for n, cells in found]
+            return next((sign for sign in (1, -1) if all(z is T.add(64, (sign, c)) for z, c in moves)), None)
+        self.rest = self.propose({c for _, cells in found for c in self.changed(cells) if c[1] is not self.out}, step)
         self.left = {c for c in self.rest if c[0] == "vector" and all(
-            self.start.may_be_left(*c[1:], self.at(cells, c)) for cells in [first] + [f for _, f in found])}
-        if self.place not in self.signs:
+            self.start.may_be_left(*c[1:], cells[c]) for cells in [self.first] + [cells for _, cells in found])}
+        if self.place not in self.grows:
             raise CannotShow("a read does not move the position")
-
-    def state(self, position: T.Term) -> dict:
-        """The words that grow, at this position."""
-        state: dict = {}
-        for group, (a, sign) in self.signs.items():
-            state.update(zip(group, T.split(T.add(64, (1, a), (sign, position), (-sign, self.first)))))
-        return state
-
-    def machine(self, position: T.Term) -> Any:
-        """The machine at the head of the loop, when this position is reached."""
-        m = self.start.copy()
-        state = self.state(position)
-        for cells, what, taint in ((self.left, "after", T.SECRET), (self.rest - self.left, "rest", T.JUNK)):
-            for part in chunks(sorted(cells, key=str), 64):
-                state.update(zip(part, fresh(what, taint, len(part))))
-        m.set_cells(state)
-        m.flags = None
-        done = T.add(64, (1, position), (-1, self.first))
-        m.pieces = Piece(self.out, T.const(64, 0), None, done),
-        return m
 
     def check(self, m: Any, before: T.Term) -> None:
         """What an iteration leaves: at the head, this must be what another one starts from."""
-        cells = m.cells()
-        position = self.word(cells, self.place)
-        self.calls.need_output(m, T.add(64, (1, position), (-1, self.first)))
+        position = self.word(m.cells(), self.place)
+        self.calls.need_output(m, self.done(position))
         m.need("an iteration that reads nothing", ("<", before, position))
-        end = T.add(64, (1, self.first), (1, self.length))
+        end = T.add(64, (1, self.position), (1, self.length))
         if m.pc != self.head:
             m.need("the loop ends at %r, not at %r" % (position, end), ("==", position, end))
             m.set_cells(dict(zip(self.place, T.split(end))))
             return
-        m.need("the loop goes on behind the end", ("<", T.add(64, (1, position), (-1, self.first)), self.length))
+        m.need("the loop goes on behind the end", ("<", self.done(position), self.length))
 
-    def wrong(self, m: Any) -> set:
+    def wrong_at(self, m: Any) -> set:
         """The bytes at the head that are not as another iteration starts."""
-        cells, byte = m.cells(), m.settler()
-        found: set = set()
-        wanted = {**self.start.cells(), **self.state(self.word(cells, self.place))}
-        for c in set(cells) | set(wanted):
-            is_right = c[1] is self.out or byte(self.at(cells, c)) == byte(self.at(wanted, c))
-            if c in self.rest:
-                is_right = c not in self.left or m.may_be_left(*c[1:], cells[c])
-            if not is_right:
-                found.add(c)
-        return found
+        cells = m.cells()
+        wanted = {**self.first, **self.grown(self.done(self.word(cells, self.place)))}
+        return {c for c in self.wrong(cells, wanted, m.settler()) if c[1] is not self.out} | {
+            c for c in self.left if not m.may_be_left(*c[1:], cells[c])}
+
+
+def no_output(m: Any, length: T.Term) -> None:
+    """Refuses a read in a case in which nothing is read."""
+    raise CannotShow("a read of %r bytes in a case that has none" % length)
 
 
 def need_output(m: Any, need: Callable, blocks: Callable, size: int, first: T.Term, length: T.Term) -> None:

@@ -2,7 +2,7 @@
 
 from __future__ import annotations
 
-from typing import Any
+from typing import Any, Callable
 
 import terms as T
 
@@ -46,6 +46,21 @@ def root_bits(n: Any, w: int) -> Any:
 
 BLAKE2B = Kind("blake2b", 64, 12, (32, 24, 16, 63))
 BLAKE2S = Kind("blake2s", 32, 10, (16, 12, 8, 7))
+
+
+def compress(kind: Kind, chain: list, block: list, count: int, last: int, node: int) -> list:
+    """The bytes of the chaining words after a block, of numbers: bytes, a counter, and flags that are 0 or 1."""
+    words = lambda data: [T.word(data[k:k + kind.bytes]) for k in range(0, len(data), kind.bytes)]
+    numbers = (T.const(kind.w, n) for n in (count, count >> kind.w, -last, -node))
+    return [b for t in F(kind, words(chain), words(block), *numbers) for b in T.split(t)]
+
+
+def compress_all(kind: Kind, chain: list, data: Callable, start: int, blocks: int, count: int) -> list:
+    """The same after some blocks of data, of which data(j) is a byte."""
+    for at in range(0, blocks * kind.block, kind.block):
+        block = [data(start + at + j) for j in range(kind.block)]
+        chain = compress(kind, chain, block, count + at + kind.block, 0, 0)
+    return chain
 
 
 def F(kind: Kind, h: list, m: list, low: T.Term, high: T.Term, last: T.Term, last_node: T.Term) -> list:

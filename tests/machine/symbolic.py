@@ -4,13 +4,13 @@ copies, if its length is not a number, is a choice byte by byte. A branch that i
 from __future__ import annotations
 
 import itertools
-from typing import Any, Callable, Iterable, Iterator, NamedTuple
+from typing import Any, Callable, NamedTuple
 
 import terms as T
-from machine import Aligned, Followed, bitwise, chunks, joined, need_public
+from machine import Aligned, bitwise, chunks, joined, need_public, total
 from facts import Facts
 from ranges import OPPOSITE, signed
-from taint import is_secret
+from taint import Called, Cells, is_secret
 from terms import CannotShow, IsWrong
 
 KEYS = ("start_block.", "new~", "rest~")      # variables that may be bytes of a key
@@ -39,37 +39,44 @@ def below(machine: Any, j: int, n: T.Term, a: T.Byte, b: T.Byte) -> T.Byte:
         return a
     if j >= high:
         return b
-    return choice(j, n, chosen_of(a, j, n, 0), chosen_of(b, j, n, 1))
+    way = lambda x, k: name_of(x)[3 + k] if name_of(x)[:3] == ("below", j, n) else x
+    return choice(j, n, way(a, 0), way(b, 1))
 
 
 def choice(j: int, n: T.Term, a: T.Byte, b: T.Byte) -> T.Byte:
     if a == b:
         return a
-    taint = T.PUBLIC | T.SECRET
-    for x in (a, b):
-        taint |= 0 if isinstance(x, int) else x[0].taint
+    taint = T.PUBLIC | T.SECRET | T.word([a, b]).taint
     return T.var(8, ("below", j, n, a, b), taint), 0
 
 
-def chosen_of(b: T.Byte, j: int, n: T.Term, which: int) -> T.Byte:
-    """What a byte is if j is below n, or if it is not."""
-    if isinstance(b, tuple) and b[0].op == "var" and isinstance(b[0].args, tuple) and (
-            b[0].args[:3] == ("below", j, n)):
-        return b[0].args[3 + which]
-    return b
+def name_of(b: T.Byte) -> tuple:
+    """What a byte is if it is one by others: the kind of the variable, and these."""
+    return b[0].args if isinstance(b, tuple) and b[0].op == "var" and isinstance(b[0].args, tuple) else ("",)
 
 
 def any_of(a: T.Byte, b: T.Byte) -> T.Byte:
     """A byte that is zero if and only if both are."""
     members = members_of(a) | members_of(b)
-    if not members:
-        return 0
-    return T.var(8, ("any", members), T.SECRET), 0
+    return (T.var(8, ("any", members), T.SECRET), 0) if members else 0
+
+
+def members_of(b: T.Byte) -> frozenset:
+    """Bytes that all are zero if and only if this one is."""
+    return name_of(b)[1] if name_of(b)[0] == "any" else frozenset([b] if b != 0 else ())
+
+
+def is_zero(t: Any) -> T.Byte:
+    """A byte that is 1 if a secret word is zero, and otherwise 0."""
+    members = frozenset().union(*map(members_of, T.split(t)))
+    return (T.var(8, ("zero", members), T.SECRET), 0) if members else 1
 
 
 class Buffer:
     """Memory of a caller whose length is a term. The byte at an offset is a variable that is named by the buffer and
     the offset."""
+
+    low, alignment = 0, (1, 0)
 
     def __init__(self, name: str, length: T.Term, taint: int, writable: bool = False) -> None:
         self.name, self.length, self.taint, self.writable = name, length, taint, writable
@@ -92,23 +99,7 @@ class Piece(NamedTuple):
     start: Any = 0
 
 
-class Cells:
-    """Memory of a number of bytes, or of the stack, from `low` to `high`."""
-
-    def __init__(self, low: int, high: int, initial: Callable, writable: bool = True,
-                 alignment: tuple = (8, 0)) -> None:
-        self.low, self.high, self.initial = low, high, initial
-        self.writable, self.alignment = writable, alignment
-
-
-def extent(base: T.Term, region: Any) -> tuple:
-    """Where a region begins, and how many bytes it has."""
-    low, size = (0, region.length) if isinstance(region, Buffer) else (
-        region.low, T.const(64, region.high - region.low))
-    return T.add(64, (1, base), (1, T.const(64, low))), size
-
-
-class Exact(Followed):
+class Exact(Called):
     """Terms over the variables of a call. Facts decide how public ones compare."""
 
     def __init__(self, regions: dict, processor: Any, alignment: tuple, known: Facts | None = None) -> None:
@@ -151,10 +142,10 @@ class Exact(Followed):
         self.memory.update(((base, at), b) for at, b in zip(places, data))
         if base is self.stack:
             self.is_scrubbed = False
-            for found in (self.secrets, self.keys):
+            kinds: tuple = ((self.secrets, self.is_kept), (self.keys, is_of_key))
+            for found, is_one in kinds:
                 found.difference_update(places)
-            self.secrets.update(at for at, b in zip(places, data) if self.is_kept(b))
-            self.keys.update(at for at, b in zip(places, data) if is_of_key(b))
+                found.update(at for at, b in zip(places, data) if is_one(b))
 
     def copy(self) -> Any:
         other = super().copy()
@@ -167,9 +158,7 @@ class Exact(Followed):
 
     def is_left(self, j: int, start: int) -> bool:
         """Whether each is, from one on."""
-        data = self.vector[j][start:]
-        return data == self.at_start["vector"][j][start:] or all(
-            self.may_be_left(j, start + k, b) for k, b in enumerate(data))
+        return all(self.may_be_left(j, k, b) for k, b in enumerate(self.vector[j]) if k >= start)
 
     def lost(self, n: int, is_compression: bool = False) -> list:
         """What a function leaves in a register: `after` is what one of the C library leaves."""
@@ -224,7 +213,8 @@ class Exact(Followed):
                              key=lambda u: u.serial))
         if len(bases) == 2 and bases not in self.apart:
             self.apart = self.apart | {bases}
-            (x, n), (y, m) = (extent(u, self.regions[u]) for u in bases)
+            x, y = (total(u, T.const(64, self.regions[u].low)) for u in bases)
+            n, m = (self.regions[u].length for u in bases)
             self.path_facts = self.path_facts.apart(x, n, y, m)
         return self.path_facts.decide(relation, a, b)
 
@@ -241,12 +231,11 @@ class Exact(Followed):
 
     def need_inside(self, text: str, region: Any, at: T.Term, n: T.Term) -> None:
         """Refuses n bytes from an offset on that may not be in a region."""
-        start, size = extent(T.const(64, 0), region)
-        at = T.add(64, (1, at), (-1, start))
-        inside = lambda n: (("<=", n, size), ("<=", at, T.add(64, (1, size), (-1, n))))
+        at = total(at, T.const(64, region.low), -1)
+        inside = lambda n: (("<=", n, region.length), ("<=", at, total(region.length, n, -1)))
         if n.op == "const" and region.writable and isinstance(region, Buffer):
             for first, count in self.inside.get(region, ()):
-                behind = base_of(T.add(64, (1, at), (-1, first)))
+                behind = base_of(total(at, first, -1))
                 if behind is not None and 0 <= behind <= count - n.args:
                     return
             most = T.const(64, max(n.args, WRITTEN))
@@ -257,18 +246,12 @@ class Exact(Followed):
 
     # Flags.
 
-    def computed(self, kind: str, f: Callable, x: list, y: list) -> list:
-        """The bytes of a result of two words, and the flags from it."""
-        a, b = T.word(x), T.word(y)
+    def of_secrets(self, f: Callable, a: T.Term, b: T.Term) -> list:
         r = f(a, b)
-        is_public = not (a.taint | b.taint) & ~T.PUBLIC
         if not isinstance(r, T.Term):
-            r = self.new(a.w, "", r) if is_public else T.word(fresh("new", T.SECRET, len(x)))
-        if is_public:
-            self.flags = kind, a, b, r
-        else:
-            self.flags = tuple(["secret"])
-            self.secret_of = self.flags, r
+            r = T.word(fresh("new", T.SECRET, a.w // 8))
+        self.flags = tuple(["secret"])
+        self.secret_of = self.flags, r
         return T.split(r)
 
     def truth(self, compared: Any) -> Any:
@@ -347,19 +330,13 @@ class Exact(Followed):
                 return T.add(a.w, (1, t), (1, u))
         try:
             return T.word([any_of(x, y) if is_secret_byte(x) and is_secret_byte(y) and x != y else
-                           self.or_byte(x, y) for x, y in zip(self.normal(a), self.normal(b))])
+                           T.or_byte(x, y) for x, y in zip(self.normal(a), self.normal(b))])
         except CannotShow:
             if (a.taint | b.taint) & ~T.PUBLIC:
                 raise
             r = self.new(a.w)          # of which only bounds are known
             self.path_facts = self.path_facts.with_or(r, a, b)
             return r
-
-    @staticmethod
-    def or_byte(x: T.Byte, y: T.Byte) -> T.Byte:
-        if 0 in (x, y) or x == y:
-            return y if x == 0 else x
-        return T.split(T.either(8, T.word([x]), T.word([y])))[0]
 
     def divided(self, t: T.Term, m: int) -> Any:
         """A sum as a multiple of m, which is a power of two, and a rest below m; or None."""
@@ -401,19 +378,11 @@ class Exact(Followed):
     def combined(self, name: str, x: list, y: list) -> list:
         """The bytes of a bitwise operation on vectors."""
         if name == "and":
-            return [self.and_byte(*pair) for pair in zip(x, y)]
+            return joined(self.vector_of(lambda p, q: [T.and_byte(*p, *q)], *pair)
+                          for pair in zip(chunks(x, 1), chunks(y, 1)))
         f = self.exclusive if name == "xor" else self.either
         x, y = ([self.norm(b) for b in data] for data in (x, y))
         return joined(T.split(f(T.word(p), T.word(q))) for p, q in zip(chunks(x, 8), chunks(y, 8)))
-
-    def and_byte(self, x: T.Byte, y: T.Byte) -> T.Byte:
-        """An and of numbers, or of bytes of which one is 0 or 255, and otherwise anything."""
-        if isinstance(x, int) and isinstance(y, int):
-            return x & y
-        for p, q in ((x, y), (y, x)):
-            if p in (0, 255):
-                return q if p else 0
-        return self.mixed([x, y])
 
     def vector_of(self, f: Callable, *data: list) -> list:
         """The bytes of an operation on vectors. If there is no rule, nothing is known of them."""
@@ -422,7 +391,7 @@ class Exact(Followed):
         except CannotShow:
             return [self.mixed(joined(data)) for _ in data[0]]
 
-    def mixed(self, data: list) -> Any:
+    def mixed(self, data: list) -> T.Byte:
         return fresh("new", T.SECRET if any(map(is_secret, data)) else T.PUBLIC)[0]
 
     # Memory.
@@ -439,23 +408,17 @@ class Exact(Followed):
         return base, offset, region
 
     def check_aligned(self, region: Cells, offset: T.Term, size: int, address: T.Term) -> None:
-        (unit, start), at = region.alignment if isinstance(region, Cells) else (1, 0), base_of(offset)
+        (unit, start), at = region.alignment, base_of(offset)
         if at is not None and unit % size and self.regions.get(self.stack) is region:
             raise Aligned(size)
         if at is None or unit % size or (start + at) % size:
             raise IsWrong("%r may not be a multiple of %d" % (address, size))
 
     def region_of(self, address: T.Term) -> tuple:
-        need_public(address, "an address")
-        bases = [u for u, k in T.linear(address)[1].items() if u in self.regions and k == 1]
-        if len(bases) != 1:
-            raise CannotShow("no memory is known at %r" % address)
-        self.counts["addresses"] += 1
-        base, = bases
-        offset = T.add(address.w, (1, address), (-1, base))
+        base, offset, region = super().region_of(address)
         if base is self.stack and base_of(offset) is not None and base_of(offset) < self.lowest():
             raise IsWrong("%r is below the stack" % address)
-        return base, offset, self.regions[base]
+        return base, offset, region
 
     def byte_at(self, base: T.Term, offset: int, region: Cells) -> T.Byte:
         """The byte at an offset: a number, or a term in memory that is only read."""
@@ -473,19 +436,16 @@ class Exact(Followed):
         base, offset, region = self.place(address, len(data), aligned)
         self.check_writable(region, address)
         if base_of(offset) is None:
-            self.add_piece(base, offset, region, data, T.const(64, len(data)))
+            self.add_piece((base, offset, region), data, T.const(64, len(data)))
             return
-        self.put(base, offsets(offset, len(data)), self.cleaned(data, False))
+        self.put(base, offsets(offset, len(data)), data)
 
-    def add_piece(self, base: T.Term, offset: T.Term, region: Any, data: Any, length: T.Term, start: Any = 0) -> None:
+    def add_piece(self, place: tuple, data: Any, length: T.Term, start: Any = 0) -> None:
         """Writes bytes of some, or one byte over and over, at an offset that is a term."""
+        base, offset, region = place
         if not isinstance(region, Buffer):
             raise CannotShow("it writes at an offset that is not a number: %r" % offset)
         self.pieces += Piece(base, offset, data, length, start),
-
-    def check_writable(self, region: Any, address: T.Term) -> None:
-        if not region.writable:
-            raise IsWrong("the function writes at %r, which it may only read" % address)
 
     # Functions of the C library.
 
@@ -502,29 +462,17 @@ class Exact(Followed):
         need_public(length, "a length")
         if length is T.const(64, 0):
             return
-        base, offset, region = self.region_of(source)
+        base, offset, region = self.region_inside(source, length)
         if isinstance(region, Cells) and region.writable and base_of(offset) is None:
-            self.copy_from(base, offset, region, to, source, length)
-            return
-        if length.op == "const":
+            low, high = self.bounds(region, offset)[0], self.bounds(region, total(offset, length))[1]
+            if high - low > 256 or base is self.stack and low < self.lowest():
+                raise CannotShow("a copy of %r bytes from %r" % (length, offset))
+            data = [self.byte_at(base, k, region) for k in range(low, high)]
+            self.add_piece(self.written(to, length), data, length, total(offset, T.const(64, low), -1))
+        elif length.op == "const":
             self.store(to, self.load(source, length.args))
-            return
-        self.check_inside(region, offset, length, source)
-        data = [self.byte_at(base, at, region) for at in offsets(offset, self.most(length))]
-        self.write_some(to, data, length)
-
-    def copy_from(self, base: T.Term, offset: T.Term, region: Cells, to: T.Term, source: T.Term,
-                  length: T.Term) -> None:
-        """Copies to a buffer from a place that is not a number."""
-        self.check_inside(region, offset, length, source)
-        from_low = T.add(64, (1, offset), (-1, T.const(64, region.low)))
-        low = region.low + self.path_facts.range(from_low)[0]
-        high = region.low + self.path_facts.range(T.add(64, (1, from_low), (1, length)))[1]
-        if high - low > 256 or base is self.stack and low < self.lowest():
-            raise CannotShow("a copy of %r bytes from %r" % (length, offset))
-        target, at, output = self.written(to, length)
-        self.add_piece(target, at, output, [self.byte_at(base, k, region) for k in range(low, high)],
-                       length, T.add(64, (1, offset), (-1, T.const(64, low))))
+        else:
+            self.write_some(to, [self.byte_at(base, at, region) for at in offsets(offset, self.most(length))], length)
 
     def fill_memory(self, to: T.Term, byte: T.Byte, length: T.Term) -> None:
         need_public(length, "a length")
@@ -534,7 +482,7 @@ class Exact(Followed):
             return
         base, offset, region = self.written(to, length)
         if isinstance(region, Buffer):
-            self.add_piece(base, offset, region, byte, length)
+            self.add_piece((base, offset, region), byte, length)
         elif base_of(offset) is None:
             self.fill_from(base, offset, region, byte, length)
         else:
@@ -542,30 +490,38 @@ class Exact(Followed):
 
     def fill_from(self, base: T.Term, offset: T.Term, region: Cells, byte: T.Byte, length: T.Term) -> None:
         """Fills to an end that is a number, from an offset that is not."""
-        end = T.add(64, (1, offset), (1, length))
-        first = T.const(64, region.low)
-        low, high = (region.low + n for n in self.path_facts.range(T.add(64, (1, offset), (-1, first))))
-        constant, items = T.linear(offset)
-        size = T.add(64, *[(k, u) for u, k in items.items()])
+        end = base_of(total(offset, length))
+        low, high = self.bounds(region, offset)
+        constant = T.linear(offset)[0]
+        size = total(offset, T.const(64, constant), -1)
         # Without a wrap, a place is before the offset if it is less than the number and the rest.
-        if base_of(end) is None or high - low > 128 or not self.is_always("<=", size, 1 << 32) or (
+        if end is None or high - low > 128 or not self.is_always("<=", size, 1 << 32) or (
                 base is self.stack and low < self.lowest()):
             raise CannotShow("a fill of %r bytes at %r" % (length, offset))
-        places = range(low, base_of(end))
+        places = range(low, end)
         self.put(base, places, [below(self, k - signed(64, constant), size,
                                       self.byte_at(base, k, region), byte) for k in places])
 
+    def bounds(self, region: Cells, offset: T.Term) -> list:
+        """A least and a greatest number that an offset may be."""
+        return [region.low + n for n in self.path_facts.range(total(offset, T.const(64, region.low), -1))]
+
+    def region_inside(self, address: T.Term, length: T.Term) -> tuple:
+        """The base, the offset and the region of bytes, all of which must be in it."""
+        base, offset, region = self.region_of(address)
+        self.need_inside("%r bytes at %r may not all be in its memory" % (length, address), region, offset, length)
+        return base, offset, region
+
     def written(self, to: T.Term, length: T.Term) -> tuple:
-        """The base, the offset and the region of bytes that are written."""
-        base, offset, region = self.region_of(to)
-        self.check_inside(region, offset, length, to)
+        """The same of bytes that are written."""
+        base, offset, region = self.region_inside(to, length)
         self.check_writable(region, to)
         return base, offset, region
 
     def write_some(self, to: T.Term, data: list, length: T.Term) -> None:
         base, offset, region = self.written(to, length)
         if base_of(offset) is None:
-            self.add_piece(base, offset, region, data, length)
+            self.add_piece((base, offset, region), data, length)
             return
         places = offsets(offset, len(data))
         self.put(base, places, [below(self, j, length, data[j], self.byte_at(base, at, region))
@@ -576,9 +532,6 @@ class Exact(Followed):
         if length.op != "const" and not self.is_always("<=", length, 256):
             raise CannotShow("a copy of %r bytes" % length)
         return self.path_facts.range(length)[1]
-
-    def check_inside(self, region: Any, offset: T.Term, length: T.Term, address: T.Term) -> None:
-        self.need_inside("%r bytes at %r may not all be in its memory" % (length, address), region, offset, length)
 
 
 def base_of(offset: T.Term) -> Any:
@@ -600,31 +553,16 @@ def is_secret_byte(b: T.Byte) -> bool:
 
 def is_of_key(b: T.Byte) -> bool:
     """Whether a byte is by one of a key, or of its block in a state."""
-    return not isinstance(b, int) and is_secret_byte(b) and T.remembered(_is_of_key, b[0])
+    return not isinstance(b, int) and is_secret_byte(b) and has_key(b[0])
 
 
-def _is_of_key(t: T.Term) -> bool:
-    if t.op == "var" and isinstance(t.args, str):
+@T.remembering
+def has_key(t: T.Term) -> bool:
+    if t.op != "var":
+        return any(map(has_key, T.parts(t)))
+    if isinstance(t.args, str):
         return t.args.startswith(KEYS)
-    if t.op == "var" and t.args[0] == "key":
-        return True
-    inner = t.args[-1] if t.op in ("add", "xor") or t.op == "var" and t.args[0] in ("any", "zero") else t.args
-    parts = [u[0] if isinstance(u, tuple) else u for u in (inner if isinstance(inner, Iterable) else ())]
-    return any(T.remembered(_is_of_key, u) for u in parts if isinstance(u, T.Term))
-
-
-def is_zero(t: Any) -> T.Byte:
-    """A byte that is 1 if a secret word is zero, and otherwise 0."""
-    members: frozenset = frozenset()
-    for b in T.split(t):
-        members |= members_of(b)
-    return (T.var(8, ("zero", members), T.SECRET), 0) if members else 1
-
-
-def members_of(b: T.Byte) -> frozenset:
-    """Bytes that all are zero if and only if this one is."""
-    if b == 0:
-        return frozenset()
-    if isinstance(b, tuple) and b[0].op == "var" and isinstance(b[0].args, tuple) and (b[0].args[0] == "any"):
-        return b[0].args[1]
-    return frozenset([b])
+    kind, *rest = t.args
+    members = rest[0] if kind in ("any", "zero") else rest
+    return kind == "key" or any(has_key(u[0] if isinstance(u, tuple) else u)
+                                for u in members if isinstance(u, (tuple, T.Term)))

@@ -11,7 +11,7 @@ import copy
 from typing import Any, Callable, Iterator
 
 import terms as T
-from machine import WORDWISE, Aligned, Followed, bitwise, joined, need_public
+from machine import WORDWISE, Aligned, Followed, bitwise, joined, need_public, total
 from ranges import OPPOSITE, TOP, VISITS, Ranges, merged_ranges
 from terms import CannotShow, IsWrong
 
@@ -47,14 +47,21 @@ def has_name(b: Any) -> Any:
     return b == secret_bit() or b[0].op == "var" and b[0].taint == T.JUNK
 
 
-class Memory:
-    """Memory from `low` to `high`. `initial` returns the byte at an offset. If it is uniform, offsets don't matter,
-    and what is written to it is secret already."""
+class Cells:
+    """Memory from `low` to `high`. `initial` returns the byte at an offset. Its base is the second number of
+    `alignment` modulo the first. If it is uniform, offsets don't matter, and what is written to it is secret
+    already."""
 
-    def __init__(self, low: int, high: int, initial: Callable, writable: bool = True, uniform: bool = False) -> None:
+    table: Any = None                  # of a table of messages: what returns an entry's bytes
+
+    def __init__(self, low: int, high: int, initial: Callable, writable: bool = True, alignment: tuple = (8, 0),
+                 uniform: bool = False) -> None:
         self.low, self.high, self.initial = low, high, initial
-        self.writable, self.uniform = writable, uniform
-        self.table: Any = None         # of a table of messages: what returns an entry's bytes
+        self.writable, self.alignment, self.uniform = writable, alignment, uniform
+
+    @property
+    def length(self) -> T.Term:
+        return T.const(64, self.high - self.low)
 
 
 def is_secret(b: T.Byte) -> bool:
@@ -68,7 +75,38 @@ def joined_byte(a: T.Byte, b: T.Byte) -> T.Byte:
     return secret() if is_secret(a) or is_secret(b) else unknown()
 
 
-class Taint(Ranges, Followed):
+class Called(Followed):
+    """What the values of whole calls do alike, over terms or over public and secret bytes."""
+
+    of_secrets: Callable               # what computed() returns if a word is secret
+
+    def region_of(self, address: T.Term) -> tuple:
+        """The base, the offset as a term, and the region of an address."""
+        need_public(address, "an address")
+        bases = [u for u, k in T.linear(address)[1].items() if u in self.regions and k == 1]
+        if len(bases) != 1:
+            raise CannotShow("no memory is known at %r" % address)
+        self.counts["addresses"] += 1
+        return bases[0], total(address, bases[0], -1), self.regions[bases[0]]
+
+    @staticmethod
+    def check_writable(region: Any, address: T.Term) -> None:
+        if not region.writable:
+            raise IsWrong("the function writes at %r, which it may only read" % address)
+
+    def computed(self, kind: str, f: Callable, x: list, y: list) -> list:
+        """The bytes of a result of two words, and the flags from it. f returns a term, the range of one, or None."""
+        a, b = T.word(x), T.word(y)
+        if (a.taint | b.taint) & ~T.PUBLIC:
+            return self.of_secrets(f, a, b)
+        r = f(a, b)
+        if not isinstance(r, T.Term):
+            r = self.new(a.w, "", r)
+        self.flags = kind, a, b, r
+        return T.split(r)
+
+
+class Taint(Ranges, Called):
     """Values of which each byte is public or secret."""
 
     KNOWN = ("memory", "ranges")
@@ -116,17 +154,9 @@ class Taint(Ranges, Followed):
 
     # Flags.
 
-    def computed(self, kind: str, f: Callable, x: list, y: list) -> list:
-        """The bytes of a result of two words, and the flags from it. f returns a term, the range of one, or None."""
-        a, b = T.word(x), T.word(y)
-        if (a.taint | b.taint) & ~T.PUBLIC:
-            self.flags = ("secret",)
-            return [secret()] * len(x)
-        r = f(a, b)
-        if not isinstance(r, T.Term):
-            r = self.new(a.w, "", r)
-        self.flags = kind, a, b, r
-        return T.split(r)
+    def of_secrets(self, f: Callable, a: T.Term, b: T.Term) -> list:
+        self.flags = ("secret",)
+        return [secret()] * (a.w // 8)
 
     def compare_again(self, a: list, b: list) -> None:
         """A comparison that is made only if the one before it holds."""
@@ -166,10 +196,8 @@ class Taint(Ranges, Followed):
     def chosen(self, compared: Any, a: list, b: list) -> list:
         """The bytes a if a comparison holds, and otherwise b, without a branch."""
         truth = self.truth(compared)
-        if truth in (True, False):
-            return a if truth else b
-        if truth == "secret":
-            return [secret()] * len(a)
+        if truth is not None:
+            return [secret()] * len(a) if truth == "secret" else a if truth else b
         if a == b:
             return a
         is_followed = compared and "carry" not in compared[0]
@@ -178,7 +206,7 @@ class Taint(Ranges, Followed):
         if not any(map(is_secret, a + b + data)):
             words = T.word(data), T.word(a), T.word(b)
             for t in words[1:]:
-                self.relate(one, other, 0, *(T.add(t.w, (1, u), (-1, t)) for u in words))
+                self.relate(one, other, 0, *(total(u, t, -1) for u in words))
         return data
 
     def relate(self, one: Any, other: Any, visits: int, *words: T.Term) -> None:
@@ -194,10 +222,8 @@ class Taint(Ranges, Followed):
     def bit(self, compared: Any) -> T.Byte:
         """A byte that is 1 if a comparison holds, and otherwise 0."""
         truth = self.truth(compared)
-        if truth in (True, False):
-            return int(truth)
-        if truth == "secret":
-            return secret_bit()
+        if truth is not None:
+            return secret_bit() if truth == "secret" else int(truth)
         x = self.new(8, "", (0, 1, 1))
         if compared and "carry" not in compared[0]:
             self.facts = {**self.facts, x: tuple(((*compared, on),) for on in (False, True))}
@@ -250,15 +276,14 @@ class Taint(Ranges, Followed):
             return r
         return 0, n, n & -n or 1
 
-    def exclusive(self, a: T.Term, b: T.Term) -> None:
-        """An exclusive or, of which nothing is known."""
+    def exclusive(self, *_: Any) -> None:
+        """An exclusive or, and a field of bits: nothing is known of them."""
+
+    bitfield: Any = exclusive
 
     def shifted_right(self, a: T.Term, k: int) -> Any:
         """The range of a word that is shifted to the right."""
         return tuple(n >> k for n in self.unsigned(a)) + (1,)
-
-    def bitfield(self, a: T.Term, low: int, size: int) -> None:
-        """Of such bits nothing is known."""
 
     def combined(self, name: str, x: list, y: list) -> list:
         """The bytes of a bitwise operation on vectors."""
@@ -281,15 +306,7 @@ class Taint(Ranges, Followed):
 
     def place(self, address: T.Term, size: int, aligned: bool) -> tuple:
         """The base, the first and the last offset, and the region of an access."""
-        need_public(address, "an address")
-        constant, items = T.linear(address)
-        bases = [u for u, k in items.items() if u in self.regions and k == 1]
-        if len(bases) != 1:
-            raise CannotShow("no memory is known at %r" % address)
-        base, = bases
-        region = self.regions[base]
-        self.counts["addresses"] += 1
-        rest = T.add(address.w, (1, address), (-1, base))
+        base, rest, region = self.region_of(address)
         low, high, step = self.range_of(rest)
         shift = low + TOP // 2 & -TOP
         low, high, self.step_of_place = low - shift, high - shift, step
@@ -315,12 +332,11 @@ class Taint(Ranges, Followed):
         if low == high:
             return [self.byte(base, k, region) for k in range(low, low + size)]
         data = [self.byte(base, k, region) for k in range(low, high + size)]
-        return [secret() if any(map(is_secret, data)) else unknown()] * size
+        return [self.mixed(data)] * size
 
     def store(self, address: T.Term, data: list, aligned: bool = False) -> None:
         base, low, high, region = self.place(address, len(data), aligned)
-        if not region.writable:
-            raise IsWrong("the function writes at %r, which it may only read" % address)
+        self.check_writable(region, address)
         data = self.cleaned(data, False)
         if region.uniform:
             return
@@ -330,9 +346,9 @@ class Taint(Ranges, Followed):
         else:
             self.smear(base, low, high + len(data), region, data)
 
-    def smear(self, base: T.Term, low: int, high: int, region: Memory, data: list) -> None:
+    def smear(self, base: T.Term, low: int, high: int, region: Cells, data: list) -> None:
         """Writes at a place that is not known: each byte may be an old one or a new one."""
-        new = secret() if any(map(is_secret, data)) else unknown()
+        new = self.mixed(data)
         for k in range(low, high):
             old = self.byte(base, k, region)
             if base is self.stack and is_secret(new) and not isinstance(old, int) and (
@@ -365,8 +381,7 @@ class Taint(Ranges, Followed):
     def write_some(self, to: T.Term, data: list, length: T.Term) -> None:
         """Writes some of these bytes, in any order, over a length that is not known."""
         base, first, _, region = self.place(to, 0, False)
-        if not region.writable:
-            raise IsWrong("the function writes at %r, which it may only read" % to)
+        self.check_writable(region, to)
         if not region.uniform:
             self.smear(base, first, self.end_of(to, length), region, data)
 
@@ -477,7 +492,7 @@ class Taint(Ranges, Followed):
             names = sorted(set(("%s|%s" % (x.args, y.args)).split("|")))
             b = joined_byte(*[self.regions[v].initial(0) if self.regions[v].uniform else unknown() for v in (x, y)])
             x = T.var(t.w, "|".join(names), T.PUBLIC)
-            self.regions[x] = Memory(0, 0, lambda k: b, False, True)
+            self.regions[x] = Cells(0, 0, lambda k: b, False, uniform=True)
         return x
 
     def offset(self, t: T.Term, base: T.Term) -> tuple:

@@ -98,6 +98,11 @@ def remembered(f: Callable, *arguments: Any) -> Any:
     return found
 
 
+def remembering(f: Callable) -> Callable:
+    """A function that computes its result once for the same arguments."""
+    return functools.wraps(f)(functools.partial(remembered, f))
+
+
 def show(t: Any, depth: int) -> str:
     """A term as text, without its deeper parts."""
     if not isinstance(t, (Term, tuple)):
@@ -163,11 +168,11 @@ def need_width(w: int, *terms: Term) -> None:
             raise CannotShow("%r has %d bits instead of %d" % (t, t.w, w))
 
 
-def add(w: int, *parts: tuple) -> Term:
+def add(w: int, *given: tuple) -> Term:
     """The sum of pairs of a coefficient and a term."""
     constant, has_flag = 0, False
     sums: dict = {}
-    for factor, t in parts:
+    for factor, t in given:
         if t.w != w:
             need_width(w, t)
         if t.op == "add":
@@ -179,8 +184,8 @@ def add(w: int, *parts: tuple) -> Term:
         else:
             sums[t] = sums.get(t, 0) + factor
             has_flag |= t.op == "ite"
-    if has_flag and len(parts) == 2:
-        simple = leaves(lambda a, b: parts[0][0] * a + parts[1][0] * b, w, parts[0][1], parts[1][1])
+    if has_flag:
+        simple = leaves(lambda *a: sum(k * n for (k, _), n in zip(given, a)), w, *[t for _, t in given])
         if simple:
             return simple
     mask = (1 << w) - 1
@@ -226,9 +231,6 @@ def _members(terms: tuple) -> tuple:
 def xor(w: int, *terms: Any) -> Term:
     """The exclusive or of terms."""
     need_width(w, *terms)
-    simple = leaves(lambda *a: _xor_all(a), w, *terms)
-    if simple:
-        return simple
     constant, marks, members = _members(terms)
     if not members and not marks:
         return const(w, constant)
@@ -242,10 +244,6 @@ def xor(w: int, *terms: Any) -> Term:
     return _term("xor", w, (constant, tuple(found)), taint_of([u.taint for u in found]))
 
 
-def _xor_all(numbers: Iterable) -> int:
-    return functools.reduce(operator.xor, numbers, 0)
-
-
 def _ror_number(w: int, n: int, k: int) -> int:
     return (n >> k | n << (w - k)) & ((1 << w) - 1)
 
@@ -253,40 +251,32 @@ def _ror_number(w: int, n: int, k: int) -> int:
 def ror(w: int, t: Any, k: int) -> Term:
     """A rotation to the right by k bits."""
     need_width(w, t)
-    return remembered(_ror, w, t, k % w) if k % w else t
+    return _ror(w, t, k % w) if k % w else t
 
 
+@remembering
 def _ror(w: int, t: Term, k: int) -> Term:
-    simple = leaves(lambda a: _ror_number(w, a, k), w, t)
-    if simple:
-        return simple
     if t.op == "xor":
         return xor(w, const(w, _ror_number(w, t.args[0], k)), *[ror(w, u, k) for u in t.args[1]])
     if t.op == "ror":
         return ror(w, t.args[0], t.args[1] + k)
     if t.op == "cat" and k % 8 == 0:
         return word(t.args[k // 8:] + t.args[:k // 8])
-    return _term("ror", w, (t, k), t.taint)
+    return leaves(lambda a: _ror_number(w, a, k), w, t) or _term("ror", w, (t, k), t.taint)
 
 
 def shl(w: int, t: Term, k: int) -> Term:
     """A shift to the left by k bits, 0 < k < w."""
-    simple = leaves(lambda a: a << k, w, t)
-    if simple:
-        return simple
     if k % 8 == 0:
-        return word((0,) * (k // 8) + tuple(split(t))[:(w - k) // 8])
+        return word([0] * (k // 8) + split(t)[:(w - k) // 8])
     return add(w, (1 << k, t))
 
 
 def shr(w: int, t: Term, k: int) -> Term:
     """A logical shift to the right by k bits, 0 < k < w."""
-    simple = leaves(lambda a: a >> k, w, t)
-    if simple:
-        return simple
     if k % 8 == 0:
-        return word(tuple(split(t))[k // 8:] + (0,) * (k // 8))
-    return _term("shr", w, (t, k), t.taint)
+        return word(split(t)[k // 8:] + [0] * (k // 8))
+    return leaves(lambda a: a >> k, w, t) or _term("shr", w, (t, k), t.taint)
 
 
 def rotation(w: int, a: Term, b: Term) -> Term | None:
@@ -301,46 +291,40 @@ def rotation(w: int, a: Term, b: Term) -> Term | None:
 
 def disjoint(a: Term, b: Term) -> Term | None:
     """The bytes of two words of which one is zero in each byte, or None."""
-    result = []
-    for x, y in zip(split(a), split(b)):
-        if x == 0:
-            result.append(y)
-        elif y == 0:
-            result.append(x)
-        else:
-            return None
-    return word(result)
+    pairs = list(zip(split(a), split(b)))
+    return word(y if x == 0 else x for x, y in pairs) if all(0 in pair for pair in pairs) else None
 
 
-def either(w: int, a: Term, b: Term) -> Term | None:
+def either(w: int, a: Term, b: Term) -> Term:
     """The bitwise or of two terms."""
-    if a is b:
-        return a
-    return leaves(operator.or_, w, a, b) or rotation(w, a, b) or _bytewise(a, b, 255, operator.or_)
+    return leaves(operator.or_, w, a, b) or rotation(w, a, b) or word(map(or_byte, split(a), split(b)))
 
 
-def both(w: int, a: Term, b: Term) -> Term | None:
+def both(w: int, a: Term, b: Term) -> Term:
     """The bitwise and of two terms."""
-    if a is b:
-        return a
-    return leaves(operator.and_, w, a, b) or _bytewise(a, b, 0, operator.and_)
+    return leaves(operator.and_, w, a, b) or word(map(and_byte, split(a), split(b)))
 
 
-def _bytewise(a: Term, b: Term, absorbing: int, f: Callable) -> Term:
-    result = []
-    for x, y in zip(split(a), split(b)):
-        if x == absorbing or y == absorbing:
-            result.append(absorbing)
-        elif x == 255 - absorbing or x == y:
-            result.append(y)
-        elif y == 255 - absorbing:
-            result.append(x)
-        else:
-            simple = leaves(f, 8, word((x,)), word((y,)))
-            if not simple:
-                raise CannotShow("there is no rule for the %s of %r and %r" % (f.__name__.strip("_"), a, b))
-            result.append(split(simple)[0])
-    return word(result)
+def or_byte(x: Byte, y: Byte) -> Byte:
+    return _of_bytes(operator.or_, 0, x, y)
+
+
+def and_byte(x: Byte, y: Byte) -> Byte:
+    return _of_bytes(operator.and_, 255, x, y)
+
+
+def _of_bytes(f: Callable, neutral: int, x: Byte, y: Byte) -> Byte:
+    """An or or an and of two bytes, of which one number keeps the other byte, and its complement is the result."""
+    if y in (x, neutral):
+        return x
+    if x == neutral:
+        return y
+    if 255 - neutral in (x, y):
+        return 255 - neutral
+    found = leaves(f, 8, word([x]), word([y]))
+    if not found:
+        raise CannotShow("there is no rule for the %s of %r and %r" % (f.__name__.strip("_"), x, y))
+    return split(found)[0]
 
 
 def split(t: Any) -> list:
@@ -374,15 +358,11 @@ def word(bs: Any) -> Term:
 def _word(bs: tuple) -> Term:
     n = len(bs)
     first = bs[0]
-    if isinstance(first, tuple):
+    if isinstance(first, tuple) and first[0].w >= 8 * n and all(
+            isinstance(b, tuple) and b[0] is first[0] for b in bs):
         t, i = first
-        size = t.w // 8
-        if size == n and all(b == (t, (i + k) % n) for k, b in enumerate(bs) if k):
-            return ror(t.w, t, 8 * i)
-        if size > n and i + n <= size and all(b == (t, i + k) for k, b in enumerate(bs)):
-            return slice_of(t, i, n)
-        least = min((b[1] for b in bs if isinstance(b, tuple)), default=0)
-        if size > n and all(b == (t, least + (i - least + k) % n) for k, b in enumerate(bs)):
+        least = min(k for _, k in bs)
+        if all(b == (t, least + (i - least + k) % n) for k, b in enumerate(bs)):
             return ror(8 * n, slice_of(t, least, n), 8 * (i - least))
     names = {None if isinstance(b, int) else b[0].args[0] if b[0].op == "ite" else b for b in bs}
     names.discard(None)
@@ -392,12 +372,11 @@ def _word(bs: tuple) -> Term:
     return ite(8 * n, names.pop(), number(1), number(2)) if names else const(8 * n, number(0))
 
 
+@remembering
 def slice_of(t: Term, i: int, n: int) -> Term:
     """Bytes i to i + n - 1 of a term."""
-    return remembered(_slice_of, t, i, n)
-
-
-def _slice_of(t: Term, i: int, n: int) -> Term:
+    if t.w == 8 * n:
+        return t
     if t.op == "xor":
         part = lambda u: word(split(u)[i:i + n])
         return xor(8 * n, part(const(t.w, t.args[0])), *[part(u) for u in t.args[1]])
@@ -409,46 +388,68 @@ def _slice_of(t: Term, i: int, n: int) -> Term:
 
 def test(op: str, w: int, t: Term) -> Term:
     """The truth of "zero" or "nonzero" of a term, as 0 or 1 in w bits."""
-    simple = leaves(lambda n: int((n == 0) == (op == "zero")), w, t)
-    if simple:
-        return simple
     if t.op == "nonzero":
         return test(op, w, t.args[0])
     if t.op == "zero":
         return test("nonzero" if op == "zero" else "zero", w, t.args[0])
-    return _term(op, w, (t,), t.taint)
+    return leaves(lambda n: int((n == 0) == (op == "zero")), w, t) or _term(op, w, (t,), t.taint)
+
+
+# The number that a term has by the definition of its operator, from its width, its arguments, and a function that has
+# the number of each part. Its lowest bits count.
+NUMBERS: dict = {
+    "const": lambda w, a, of: a,
+    "add": lambda w, a, of: a[0] + sum(k * of(u) for u, k in a[1]),
+    "xor": lambda w, a, of: functools.reduce(operator.xor, map(of, a[1]), a[0]),
+    "ror": lambda w, a, of: _ror_number(w, of(a[0]), a[1]),
+    "shr": lambda w, a, of: of(a[0]) >> a[1],
+    "slice": lambda w, a, of: of(a[0]) >> 8 * a[1],
+    "cat": lambda w, a, of: sum((b if isinstance(b, int) else of(b[0]) >> 8 * b[1] & 255) << 8 * k
+                                for k, b in enumerate(a)),
+    "zero": lambda w, a, of: int(of(a[0]) == 0),
+    "nonzero": lambda w, a, of: int(of(a[0]) != 0),
+}
+# What makes a term of other parts: the same of terms, in their normal form.
+MADE: dict = {
+    "add": lambda w, a, of: add(w, (1, const(w, a[0])), *[(k, of(u)) for u, k in a[1]]),
+    "xor": lambda w, a, of: xor(w, const(w, a[0]), *map(of, a[1])),
+    "ror": lambda w, a, of: ror(w, of(a[0]), a[1]),
+    "shr": lambda w, a, of: shr(w, of(a[0]), a[1]),
+    "slice": lambda w, a, of: word(split(of(a[0]))[a[1]:a[1] + w // 8]),
+    "cat": lambda w, a, of: word(b if isinstance(b, int) else split(of(b[0]))[b[1]] for b in a),
+    "zero": lambda w, a, of: test("zero", w, of(a[0])),
+    "nonzero": lambda w, a, of: test("nonzero", w, of(a[0])),
+}
 
 
 def value(t: Term, numbers: Any, memo: dict) -> int:
-    """The number that a term has, by the definitions of its operators, where `numbers` has those of the variables and
-    whether each flag is on."""
-    if t in memo:
-        return memo[t]
-    mask = (1 << t.w) - 1
-    of = lambda u: value(u, numbers, memo)
-    a = t.args
-    if t.op == "const":
-        n = a
-    elif t.op == "var":
-        n = numbers[a] & mask
-    elif t.op == "ite":
-        n = a[1] if numbers[a[0]] & 1 else a[2]
-    elif t.op == "add":
-        n = a[0] + sum(k * of(u) for u, k in a[1]) & mask
-    elif t.op == "xor":
-        n = a[0] ^ _xor_all(of(u) for u in a[1])
-    elif t.op == "ror":
-        n = _ror_number(t.w, of(a[0]), a[1])
-    elif t.op == "shr":
-        n = of(a[0]) >> a[1]
-    elif t.op == "slice":
-        n = of(a[0]) >> 8 * a[1] & mask
-    elif t.op in ("zero", "nonzero"):
-        n = int((of(a[0]) == 0) == (t.op == "zero"))
-    else:
-        n = sum((b if isinstance(b, int) else of(b[0]) >> 8 * b[1] & 255) << 8 * k for k, b in enumerate(a))
-    memo[t] = n
-    return n
+    """The number that a term has, where `numbers` has those of the variables and whether each flag is on."""
+    if t not in memo:
+        if t.op == "var":
+            n = numbers[t.args]
+        elif t.op == "ite":
+            n = t.args[1 if numbers[t.args[0]] & 1 else 2]
+        else:
+            n = NUMBERS[t.op](t.w, t.args, lambda u: value(u, numbers, memo))
+        memo[t] = n & (1 << t.w) - 1
+    return memo[t]
+
+
+def substitute(t: Term, mapping: Any, memo: dict) -> Term:
+    """A term with other terms for some variables."""
+    if t not in memo:
+        made = MADE.get(t.op)
+        memo[t] = made(t.w, t.args, lambda u: substitute(u, mapping, memo)) if made else mapping.get(t, t)
+    return memo[t]
+
+
+def parts(t: Term) -> list:
+    """The terms that a term is made of."""
+    if t.op in ("const", "var", "ite"):
+        return []
+    inner = t.args[1] if t.op in ("add", "xor") else t.args
+    found = (part[0] if isinstance(part, tuple) else part for part in inner)
+    return [u for u in found if isinstance(u, Term)]
 
 
 class Numbers(dict):
@@ -488,41 +489,7 @@ def depends(t: Term, taint: int) -> Any:
     return None
 
 
+@remembering
 def variables(t: Term) -> frozenset:
     """The variables of a term, and its flags."""
-    return remembered(_variables, t)
-
-
-def _variables(t: Term) -> frozenset:
-    if t.op in ("const", "var", "ite"):
-        return frozenset() if t.op == "const" else frozenset([t])
-    parts = t.args[1] if t.op in ("add", "xor") else t.args
-    found = (part[0] if isinstance(part, tuple) else part for part in parts)
-    return frozenset().union(*[variables(u) for u in found if isinstance(u, Term)])
-
-
-def substitute(t: Term, mapping: Any, memo: dict) -> Term:
-    """A term with other terms for some variables."""
-    if t in memo:
-        return memo[t]
-    again = lambda u: substitute(u, mapping, memo)
-    if t.op == "var":
-        result = mapping.get(t, t)
-    elif t.op in ("const", "ite"):
-        result = t
-    elif t.op == "add":
-        result = add(t.w, (1, const(t.w, t.args[0])), *[(k, again(u)) for u, k in t.args[1]])
-    elif t.op == "xor":
-        result = xor(t.w, const(t.w, t.args[0]), *[again(u) for u in t.args[1]])
-    elif t.op == "ror":
-        result = ror(t.w, again(t.args[0]), t.args[1])
-    elif t.op == "shr":
-        result = shr(t.w, again(t.args[0]), t.args[1])
-    elif t.op in ("zero", "nonzero"):
-        result = test(t.op, t.w, again(t.args[0]))
-    elif t.op == "slice":
-        result = word(split(again(t.args[0]))[t.args[1]:t.args[1] + t.w // 8])
-    else:
-        result = word([b if isinstance(b, int) else split(again(b[0]))[b[1]] for b in t.args])
-    memo[t] = result
-    return result
+    return frozenset([t] if t.op in ("var", "ite") else ()).union(*map(variables, parts(t)))

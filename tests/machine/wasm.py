@@ -8,7 +8,7 @@ from typing import Any, Callable
 
 import terms as T
 from machine import Processor, bitwise, chunks, joined, lanewise, number, of_numbers, total
-from terms import CannotShow, IsWrong
+from terms import CannotShow
 
 SIZES = {"i32": 4, "i64": 8, "v128": 16}
 LANES = {"i32x4": ("i32", 4), "i64x2": ("i64", 8)}

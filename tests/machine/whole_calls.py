@@ -14,7 +14,8 @@ import program as programs
 import reads
 import terms as T
 from constant_time import OF_C, STACK
-from machine import bitwise, chunks, need_public
+from loops import MOST, Straight
+from machine import bitwise, chunks, joined, need_public
 from symbolic import Buffer, Cells, Undecided, any_of, base_of, below, fresh, is_zero
 from taint import reset
 from terms import CannotShow, IsWrong
@@ -48,31 +49,30 @@ class Terms:
             return x if j < n else y
         return below(self.machine, j, self.word(n), x, y)
 
-    def plus(self, a: T.Byte | T.Term, b: T.Byte | T.Term) -> Any:
-        return a + b if isinstance(a, int) and isinstance(b, int) else T.add(64, (1, self.word(a)), (1, self.word(b)))
+    def plus(self, a: Any, b: Any) -> T.Term:
+        return T.add(64, (1, self.word(a)), (1, self.word(b)))
 
-    def times(self, m: int, k: T.Term | int) -> T.Term | int:
-        return m * k if isinstance(k, int) else T.add(64, (m, k))
+    def minus(self, a: Any, b: Any) -> T.Term:
+        return T.add(64, (1, self.word(a)), (-1, self.word(b)))
 
-    def difference(self, a: T.Term, b: T.Term) -> Any:
-        a, b = self.word(a), self.word(b)
-        is_less = self.machine.path_facts.decide("<", a, b)
-        if is_less is None:
-            raise CannotShow("whether %r < %r is not known" % (a, b))
-        return 0 if is_less else T.add(64, (1, a), (-1, b))
+    def times(self, m: int, k: Any) -> T.Term:
+        return T.add(64, (m, self.word(k)))
 
-    def minus(self, a: Any, b: Any) -> Any:
-        return a - b if isinstance(a, int) and isinstance(b, int) else T.add(
-            64, (1, self.word(a)), (-1, self.word(b)))
+    def holds(self, relation: str, a: Any, b: Any) -> bool:
+        """Whether two words are so related, which must be known."""
+        found = self.machine.path_facts.decide(relation, self.word(a), self.word(b))
+        if found is None:
+            raise CannotShow("whether %r %s %r is not known" % (a, relation, b))
+        return found
+
+    def difference(self, a: Any, b: Any) -> Any:
+        return 0 if self.holds("<", a, b) else self.minus(a, b)
 
     def least(self, most: int, n: Any) -> Any:
         """The number, but at most another."""
-        is_less = self.machine.path_facts.decide("<", self.word(n), T.const(64, most))
-        if is_less is None:
-            raise CannotShow("whether %r < %d is not known" % (n, most))
-        return n if is_less else most
+        return n if self.holds("<", n, most) else most
 
-    def may_be_less(self, a: T.Byte | T.Term, b: T.Term) -> bool:
+    def may_be_less(self, a: Any, b: Any) -> bool:
         """Whether a < b, unless it is known that it is not."""
         return self.machine.path_facts.decide("<", self.word(a), self.word(b)) is not False
 
@@ -80,12 +80,7 @@ class Terms:
         return bitwise(T.xor, list(data), list(other))
 
     def is_zero(self, n: Any) -> bool:
-        if isinstance(n, int):
-            return n == 0
-        is_zero = self.machine.path_facts.decide("==", n, T.const(n.w, 0))
-        if is_zero is None:
-            raise CannotShow("whether %r is 0 is not known" % n)
-        return is_zero
+        return self.holds("==", n, 0)
 
     def is_on(self, n: T.Term | int) -> int:
         return int(not self.is_zero(n))
@@ -107,113 +102,66 @@ class Terms:
                                  self.word(k), self.word(count))
 
 
-class Loop:
-    """A loop that compresses one block in each iteration, by induction over its iterations. The first iteration
-    proposes which words grow by a constant and where the chaining words are. A general iteration, after which j more
-    follow, must agree."""
+class Unmeasured(Exception):
+    """It is not known how much of the stack this function uses: the call is executed again when it is."""
 
-    def __init__(self, calls: Calls, name: str, head: int, last: int, machine: Any) -> None:
-        self.calls, self.name, self.head, self.last, self.start = calls, name, head, last, machine
 
-    def iterate(self, machine: Any) -> tuple:
+class Loop(Straight):
+    """A loop that compresses one block in each iteration. The first iteration also proposes where the chaining words
+    are."""
+
+    def compress(self, machine: Any) -> tuple:
         """The machine after an iteration, the word that is 0 if it is the last one, and the call of the compression
         in it."""
-        calls = self.calls
-        calls.compressed = []
-        ends = calls.run(self.name, machine, self.head, {self.last})
-        if len(ends) != 1 or len(calls.compressed) != 1:
-            raise CannotShow("an iteration has %d paths and %d compressions" % (len(ends), len(calls.compressed)))
-        compared = calls.cpu(ends[0]).condition(calls.code(self.name)[0][self.last])
-        if compared is None or compared[0] != "!=" or compared[1].w != 64:
-            raise CannotShow("the loop goes on by another condition than two words of 64 bits")
-        _, a, b = compared
-        return ends[0], T.add(a.w, (1, a), (-1, b)), calls.compressed[0]
+        self.calls.compressed = []
+        end, left = self.iterate(machine)
+        if len(self.calls.compressed) != 1:
+            raise CannotShow("an iteration has %d compressions" % len(self.calls.compressed))
+        return end, left, self.calls.compressed[0]
 
     def show(self) -> Any:
         """The machine after the loop."""
-        second, left, one = self.iterate(self.start.copy())
-        self.count = T.add(64, (1, left), (1, T.const(64, 1)))
-        self.propose(self.start.cells(), second.cells(), one)
-        kind, size = one["kind"], one["kind"].block
-        if not (self.start.is_always(">", self.count, 0) and
-                self.start.is_always("<=", self.count, ((1 << 64) - 1) // size)):
-            raise CannotShow("the number of blocks is not known: %r" % self.count)
-        j = self.start.new(64)
-        i = T.add(64, (1, left), (-1, j))
-        chain = fresh("chain", T.SECRET, len(one["result"]))
-        general = self.machine(i, chain)
-        if not general.learn("<", j, self.count, True):
+        second, left, one = self.compress(self.start.copy())
+        kind, size, result = one["kind"], one["kind"].block, one["result"]
+        count = T.add(64, (1, left), (1, T.const(64, 1)))
+        if not (self.start.is_always(">", count, 0) and self.start.is_always("<=", count, MOST // size)):
+            raise CannotShow("the number of blocks is not known: %r" % count)
+        at_head = self.proposed(second.cells(), result)
+        j = self.start.new(64)         # the iterations that follow a general one
+        i, chain = T.add(64, (1, left), (-1, j)), fresh("chain", T.SECRET, len(result))
+        general = at_head(i, chain)
+        if not general.learn("<", j, count, True):
             raise CannotShow("no iteration is possible")
-        after, end, call = self.iterate(general)
+        after, end, call = self.compress(general)
         if end is not j:
             raise IsWrong("the loop ends if %r is 0, instead of %r" % (end, j))
-        self.check(after.cells(), i, call)
-        buffer, start, counter = one["region"], one["offset"], one["counter"]
+        self.need(after.cells(), at_head(T.add(64, (1, i), (1, T.const(64, 1))), call["result"]).cells())
+        self.need_block(one, call, i, chain)
+        before = T.add(64, (1, one["counter"]), (-1, T.const(64, size)))
+        words = Terms(self.calls, self.start).compress_all(
+            kind, one["chain"], one["region"], one["offset"], count, before)
+        return self.ended(at_head(count, words), [second, after])
+
+    def proposed(self, second: dict, result: list) -> Callable:
+        """The machine at the head of an iteration, by its number and its chaining words, as the first one proposes."""
+        changed, place = self.changed(second), {b: k for k, b in enumerate(result)}
+        places = {c: place[self.at(second, c)] for c in changed if self.at(second, c) in place}
+        self.rest = self.propose(changed - set(places), self.constant_step(second))
+        return lambda i, words: self.machine(i, {c: words[k] for c, k in places.items()})
+
+    @staticmethod
+    def need_block(first: dict, call: dict, i: T.Term, chain: list) -> None:
+        """Refuses another compression in iteration i than that of the block that is i blocks after the first one."""
+        region, offset, size = call["region"], call["offset"], first["kind"].block
         for what, found, wanted in (
-                ("chaining words", call["chain"], chain), ("buffer", call["region"], buffer),
-                ("block", call["offset"], T.add(64, (1, start), (size, i))),
-                ("counter", call["counter"], T.add(64, (1, counter), (size, i))),
+                ("chaining words", call["chain"], chain), ("buffer", region, first["region"]),
+                ("block", offset, T.add(64, (1, first["offset"]), (size, i))),
+                ("counter", call["counter"], T.add(64, (1, first["counter"]), (size, i))),
                 ("flags", call["flags"], [0, 0])):
             if found != wanted:
                 raise IsWrong("the %s of a block in a loop: %r instead of %r" % (what, found, wanted))
-        if [call["region"].initial(T.add(64, (1, call["offset"]), (1, T.const(64, k))))
-                for k in range(size)] != call["block"]:
+        if [region.initial(T.add(64, (1, offset), (1, T.const(64, k)))) for k in range(size)] != call["block"]:
             raise CannotShow("a block in a loop is not that of its argument")
-        before = T.add(64, (1, counter), (-1, T.const(64, size)))
-        words = Terms(self.calls, self.start).compress_all(kind, one["chain"], buffer, start, self.count, before)
-        end = self.machine(self.count, words)
-        end.uses_stack_of([second, after])
-        if second.pieces + after.pieces != 2 * end.pieces:
-            raise CannotShow("a loop writes at a place that is not a number")
-        return end
-
-    def propose(self, first: dict, second: dict, call: dict) -> None:
-        """The words that grow, the bytes of the chaining words, and the rest of what changes."""
-        places = {b: k for k, b in enumerate(call["result"])}
-        self.grows, self.chain, self.rest = {}, {}, set()
-        changed = {c for c in set(first) | set(second) if self.at(first, c) != self.at(second, c)}
-        self.chain = {c: places[self.at(second, c)] for c in changed if self.at(second, c) in places}
-        words = {(kind, at, k - k % 8) for kind, at, k in changed - set(self.chain)}
-        for kind, at, start in words:
-            group = tuple((kind, at, start + k) for k in range(8))
-            if kind != "vector":
-                a, z = (T.word([self.at(cells, p) for p in group]) for cells in (first, second))
-                step = T.add(64, (1, z), (-1, a))
-                if step.op == "const" and not a.taint & ~T.PUBLIC:
-                    self.grows[group] = a, step.args
-                    continue
-            self.rest |= changed & set(group)
-        self.rest -= set(self.chain)
-
-    def at(self, cells: dict, c: tuple) -> T.Byte:
-        """A byte of a register or of memory, by what was written."""
-        if c in cells:
-            return cells[c]
-        kind, at, k = c
-        if kind != "memory":
-            return getattr(self.start, kind)[at][k]
-        return self.unwritten.setdefault((at, k), self.start.regions[at].initial(k))
-
-    unwritten: dict = {}
-
-    def machine(self, i: T.Term, words: list) -> Any:
-        """The machine at the head of iteration i, with these chaining words."""
-        m = self.start.copy()
-        state = {c: words[k] for c, k in self.chain.items()}
-        for group, (a, step) in self.grows.items():
-            state.update(zip(group, T.split(T.add(64, (1, a), (step, i)))))
-        for part in chunks(sorted(self.rest, key=str), 64):
-            state.update(zip(part, fresh("rest", T.JUNK, len(part))))
-        m.set_cells(state)
-        m.flags = None
-        return m
-
-    def check(self, after: dict, i: T.Term, call: dict) -> None:
-        """What a general iteration leaves must be the next iteration's start."""
-        state = self.machine(T.add(64, (1, i), (1, T.const(64, 1))), call["result"]).cells()
-        for c in set(after) | set(state):
-            if c not in self.rest and self.at(after, c) != self.at(state, c):
-                raise CannotShow("the byte %s is not as expected after an iteration" % (c,))
 
 
 class Calls:
@@ -225,7 +173,7 @@ class Calls:
     compressed: list
     at: Any
     # Of BLAKE2X: where a state has the position, the bytes of a block of the output, and what refuses an
-    # output of which not so many bytes are as they should be.
+    # output of which not so many bytes are as they should be, in the case that is shown.
     place_of_position: int
     block_of_output: int
     need_output: Callable
@@ -240,17 +188,21 @@ class Calls:
         self.frames: dict = {}
         self.forget()
 
-    def measure(self, kind: Kind, are_many: bool = False) -> None:
-        """Finds how much of the stack the functions use that compress one block, or one of each of several messages,
-        before a call."""
-        for name, (other, lanes) in self.listed.items():
-            is_each = are_many and compression.call_of(name) is compression.EachCall
-            if other is kind and (lanes == 1 or is_each):
-                self.frames[name] = compression.frame(self.program, name, kind, lanes)
+    def measure(self, name: str) -> None:
+        """Finds how much of the stack a function uses that compresses. All terms are forgotten."""
+        self.frames[name] = compression.frame(self.program, name, *self.listed[name])
+
+    def frame(self, name: str) -> int:
+        """The same, if it was measured, of a function that compresses one block, or one of each message."""
+        if self.listed[name][1] != 1 and compression.call_of(name) is not compression.EachCall:
+            raise CannotShow("a compression of several messages")
+        if name not in self.frames:
+            raise Unmeasured(name)
+        return self.frames[name]
 
     def forget(self) -> None:
         self.results, self.compressed, self.count = {}, [], 0
-        Loop.unwritten = {}
+        self.need_output = reads.no_output
 
     def result(self, what: str, kind: Kind, *arguments: Any) -> list:
         """The bytes of eight chaining words: the same variables for the same arguments."""
@@ -406,11 +358,16 @@ class Calls:
         if i.name not in ("je", "b.eq") or m.compared_bytes or not all(
                 self.cpu.only_returns(code, pc) for pc in (i.target, i.next)):
             raise IsWrong("a branch depends on secret data")
-        found = []
-        for value, pc in ((1, i.target), (0, i.next)):
-            n = m.copy()
-            n.compared_bytes, n.flags = (is_zero(m.secret_of[1]), value), None
-            found.append((n, pc))
+        same, other = self.both(m, is_zero(m.secret_of[1]))
+        same.flags = other.flags = None
+        return [(same, i.target), (other, i.next)]
+
+    @staticmethod
+    def both(m: Any, byte: T.Byte) -> list:
+        """The machines with the results of a comparison, of which this byte is 1 if nothing differs: 1 and 0."""
+        found = [m.copy(), m.copy()]
+        for n, value in zip(found, (1, 0)):
+            n.compared_bytes = byte, value
         return found
 
     def public_answers(self, m: Any) -> list:
@@ -420,40 +377,40 @@ class Calls:
         byte = self.cpu(m).answer()[0]
         if byte in (0, 1):
             return [m]
-        found = []
-        for value in (1, 0):
-            n = m.copy()
-            self.cpu(n).answer()[0] = value
-            n.compared_bytes = byte, value
-            found.append(n)
+        found = self.both(m, byte)
+        for n in found:
+            self.cpu(n).answer()[0] = n.compared_bytes[1]
         return found
 
     def compress(self, m: Any, kind: Kind, lanes: int) -> None:
         """A call of F: of one message, or of one block of each of several."""
         name = self.program.target(self.at, OF_C)
+        frame = self.frame(name)
         if lanes != 1:
-            self.compress_each(m, name, kind, lanes)
+            self.compress_each(m, kind, lanes)
+            m.compressed(frame)
+            self.cpu(m).clobber(True)
             return
         h, block, counter, last, node = (self.cpu(m).argument(k) for k in range(5))
-        need_public(counter, "the counter")
-        flags = [T.split(t)[0] for t in (last, node)]
-        if any(b not in (0, 1) for b in flags):
-            raise CannotShow("a flag is not known: %r" % (flags,))
         m.check_disjoint("a compression", h, 8 * kind.bytes, block, kind.block)
-        chain, data = m.load(h, 8 * kind.bytes), m.load(block, kind.block)
-        base, offset, region = m.region_of(block)
-        result = Terms(self, m).compress(kind, chain, data, counter, *flags)
-        self.compressed.append({"kind": kind, "chain": chain, "block": data, "counter": counter,
-                                "flags": flags, "region": region, "offset": offset,
-                                "result": result})
-        m.store(h, result)
-        m.compressed(self.frames[name])
+        chain, flags = m.load(h, 8 * kind.bytes), [T.split(t)[0] for t in (last, node)]
+        m.store(h, self.compress_one(m, kind, chain, block, counter, flags))
+        m.compressed(frame)
         self.cpu(m).clobber(True)
 
-    def compress_each(self, m: Any, name: str, kind: Kind, lanes: int) -> None:
+    def compress_one(self, m: Any, kind: Kind, chain: list, at: T.Term, counter: T.Term, flags: list) -> list:
+        """The chaining words after the block at an address."""
+        need_public(counter, "the counter")
+        if any(b not in (0, 1) for b in flags):
+            raise CannotShow("a flag is not known: %r" % (flags,))
+        block, (_, offset, region) = m.load(at, kind.block), m.region_of(at)
+        result = Terms(self, m).compress(kind, chain, block, counter, *flags)
+        self.compressed.append({"kind": kind, "chain": chain, "block": block, "counter": counter, "flags": flags,
+                                "region": region, "offset": offset, "result": result})
+        return result
+
+    def compress_each(self, m: Any, kind: Kind, lanes: int) -> None:
         """The chaining words are in rows of all messages, and what else differs in tables."""
-        if name not in self.frames:
-            raise CannotShow("a compression of several messages")
         rows, *tables = (self.cpu(m).argument(k) for k in range(4))
         size, total = kind.bytes, 8 * kind.bytes * lanes
         words = chunks(m.load(rows, total), size)
@@ -463,13 +420,7 @@ class Calls:
                 kind.block,) * lanes):
             m.check_disjoint("a compression", rows, total, t, n)
         for j in range(lanes):
-            counter = T.word(counters[j])
-            need_public(counter, "the counter")
-            if any(b not in (0, 1) for b in flags[j]):
-                raise CannotShow("a flag is not known: %r" % (flags[j],))
-            chain = [b for k in range(8) for b in words[k * lanes + j]]
-            block = m.load(T.word(pointers[j]), kind.block)
-            result[j::lanes] = chunks(Terms(self, m).compress(kind, chain, block, counter, *flags[j]), size)
-        m.store(rows, [b for word in result for b in word])
-        m.compressed(self.frames[name])
-        self.cpu(m).clobber(True)
+            chain = joined(words[j::lanes])
+            result[j::lanes] = chunks(self.compress_one(
+                m, kind, chain, T.word(pointers[j]), T.word(counters[j]), flags[j]), size)
+        m.store(rows, joined(result))

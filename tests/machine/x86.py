@@ -4,12 +4,14 @@ add one: most are a line of a table, MOVED or COMPUTED for vectors and ARITHMETI
 from __future__ import annotations
 
 import functools
+import operator
 import re
 from typing import Any, Callable
 
 import machine
 import terms as T
-from machine import Operand, Processor, chunks, image, joined, need_public, no_rule, number, of_numbers, total
+from machine import (ON_WORDS, Operand, Processor, chunks, image, joined, lanewise, need_public, no_rule, number,
+                     of_numbers, total, unknown_bit)
 from terms import CannotShow, IsWrong
 
 RAX, RCX, RDX, RBX, RSP, RBP, RSI, RDI = range(8)
@@ -18,7 +20,6 @@ GENERAL = {name: (k, size) for k, names in enumerate((
     "rsi esi si sil", "rdi edi di dil", *("r%d r%dd r%dw r%db" % (k, k, k, k) for k in range(8, 16))))
     for name, size in zip(names.split(), (8, 4, 2, 1))}
 IMAGE = "image"
-SAVED = (RBX, RBP, 12, 13, 14, 15)
 REGISTERS, WIDTH = 32, 64              # the vector registers, and the bytes of each
 UPPER = range(16, REGISTERS)           # those that only code for AVX-512 has
 VECTOR = {"%smm%d" % (letter, k): (k, size) for k in range(REGISTERS)
@@ -90,19 +91,12 @@ class Instruction(machine.Instruction):
             self.operands = [operand(o.strip(), target) for o in rest.split(",")]
 
 
-def product(a: T.Term, b: T.Term) -> T.Term | None:
-    return T.add(a.w, (b.args, a)) if b.op == "const" else None
-
-
-# What instructions on words set, by two words: the kind of the flags, and the function. Of an instruction with one
+# What instructions on words set, by two words: the kind of the flags, and the operation. Of an instruction with one
 # operand, the second is 1.
 ARITHMETIC: dict = {
-    "add": ("add", lambda m, a, b: total(a, b)), "sub": ("sub", lambda m, a, b: total(a, b, -1)),
-    "cmp": ("sub", lambda m, a, b: total(a, b, -1)), "xor": ("logic", lambda m, a, b: m.exclusive(a, b)),
-    "or": ("logic", lambda m, a, b: m.either(a, b)), "and": ("logic", lambda m, a, b: m.masked(a, b)),
-    "test": ("logic", lambda m, a, b: m.masked(a, b)), "neg": ("other", lambda m, a, b: T.add(a.w, (-1, a))),
-    "shl": ("other", lambda m, a, b: m.shifted_left(a, b.args)),
-    "shr": ("other", lambda m, a, b: m.shifted_right(a, b.args)),
+    "add": ("add", "add"), "sub": ("sub", "sub"), "cmp": ("sub", "sub"), "xor": ("logic", "xor"), "or": ("logic", "or"),
+    "and": ("logic", "and"), "test": ("logic", "and"), "neg": ("other", "neg"), "shl": ("other", "shl"),
+    "shr": ("other", "shr"),
 }
 ONLY_FLAGS, SHIFTS = ("cmp", "test"), ("shl", "shr")
 # What is added besides: by instructions that keep the carry, and how often the carry itself.
@@ -140,8 +134,14 @@ def pick(n: int, *places: int) -> Callable:
     return each(16, lambda a, b: joined(chunks(a + b, n)[p] for p in places))
 
 
-def shuffle_four(n: int) -> Callable:
-    return lambda data, imm: joined(chunks(data, n)[imm >> 2 * k & 3] for k in range(4))
+def shuffle(n: int) -> Callable:
+    """Parts of n bytes: the lower half of them are of a, and the upper one of b."""
+    def f(a: list, b: list, imm: int) -> list:
+        x, y = chunks(a, n), chunks(b, n)
+        bits = len(x) // 2
+        places = [imm >> bits * k & len(x) - 1 for k in range(len(x))]
+        return joined((x if k < bits else y)[p] for k, p in enumerate(places))
+    return f
 
 
 def shuffle_bytes(data: list, mask: list) -> list:
@@ -160,11 +160,6 @@ def insertps(a: list, b: list, imm: int) -> list:
     return joined([0] * 4 if imm >> k & 1 else parts[k] for k in range(4))
 
 
-def shufps(a: list, b: list, imm: int) -> list:
-    x, y = chunks(a, 4), chunks(b, 4)
-    return x[imm & 3] + x[imm >> 2 & 3] + y[imm >> 4 & 3] + y[imm >> 6 & 3]
-
-
 def permute_halves(a: list, b: list, imm: int) -> list:
     halves = [a[:16], a[16:], b[:16], b[16:]]
     return joined([0] * 16 if imm >> 4 * k & 8 else halves[imm >> 4 * k & 3] for k in range(2))
@@ -178,20 +173,11 @@ def permute(n: int) -> Callable:
     return f
 
 
-def shuffle_quarters(a: list, b: list, imm: int) -> list:
-    """Quarters, or halves of 32 bytes: the lower ones are of a, and the upper ones of b."""
-    x, y = chunks(a, 16), chunks(b, 16)
-    bits = len(x) // 2
-    places = [imm >> bits * k & len(x) - 1 for k in range(len(x))]
-    return joined((x if k < bits else y)[p] for k, p in enumerate(places))
-
-
-def insert(n: int | None) -> Callable:
-    """n bytes of b, or all, at a place of a."""
+def insert(n: int) -> Callable:
+    """n bytes of b at a place of a."""
     def f(a: list, b: list, imm: int) -> list:
-        part = b[:n]
-        parts = chunks(a, len(part))
-        parts[imm % len(parts)] = part
+        parts = chunks(a, n)
+        parts[imm % len(parts)] = b[:n]
         return joined(parts)
     return f
 
@@ -218,13 +204,14 @@ def blend_by_sign(n: int) -> Callable:
 # The instructions on vectors: how many of the last operands one reads, and what it does with their bytes. MOVED only
 # moves bytes, or has some of zeros.
 MOVED: dict = {
-    "pshufd": (1, each(16, shuffle_four(4))), "permq": (1, each(32, shuffle_four(8))),
+    "pshufd": (1, each(16, lambda a, imm: shuffle(4)(a, a, imm))), "shufps": (2, each(16, shuffle(4))),
+    "permq": (1, each(32, lambda a, imm: shuffle(8)(a, a, imm))), "shufi64x2": (2, shuffle(16)),
     "pshufb": (2, each(16, shuffle_bytes)),
     "palignr": (2, each(16, lambda a, b, imm: (b + a + [0] * 32)[imm:imm + 16])),
     "psrldq": (1, each(16, lambda a, imm: (a + [0] * 16)[min(imm, 16):][:16])),
     "punpcklqdq": (2, pick(8, 0, 2)), "punpckhqdq": (2, pick(8, 1, 3)),
     "punpckldq": (2, pick(4, 0, 4, 1, 5)), "punpckhdq": (2, pick(4, 2, 6, 3, 7)),
-    "pblendw": (2, blend(2)), "pblendd": (2, blend(4)), "shufps": (2, each(16, shufps)), "insertps": (2, insertps),
+    "pblendw": (2, blend(2)), "pblendd": (2, blend(4)), "insertps": (2, insertps),
     "perm2i128": (2, permute_halves), "permd": (2, permute(4)), "alignq": (2, align(8)),
     "pmovqd": (1, lambda a: each(8, lambda part: part[:4])(a) + [0] * 16),
     "movq": (1, lambda a: a[:8] + [0] * 8), "movd": (1, lambda a: a[:4] + [0] * 12), "extractps": (1, extract(4)),
@@ -234,12 +221,7 @@ MOVED: dict = {
     **{"pextr" + c: (1, extract(n)) for c, n in zip("bwdq", (1, 2, 4, 8))},
     **{"pbroadcast" + c: (1, lambda a, n=n: a[:n] * (WIDTH // n)) for c, n in zip("bwdq", (1, 2, 4, 8))},
     **{"pmovzx" + c: (1, each(n, lambda part: part + [0] * len(part))) for c, n in (("wd", 2), ("dq", 4))},
-    **{"inserti" + c: (2, insert(None)) for c in ("128", "32x4", "64x2", "32x8", "64x4")},
-    **{"extracti" + c: (1, extract(n))
-       for c, n in (("128", 16), ("32x4", 16), ("64x2", 16), ("32x8", 32), ("64x4", 32))},
-    **{"broadcasti" + c: (1, lambda a, n=n: a[:n] * (WIDTH // n))
-       for c, n in (("128", 16), ("32x4", 16), ("64x2", 16), ("64x4", 32))},
-    **{"shufi" + c: (2, shuffle_quarters) for c in ("32x4", "64x2")},
+    "inserti128": (2, insert(16)), "extracti128": (1, extract(16)), "broadcasti128": (1, lambda a: a[:16] * 4),
 }
 COMPUTED: dict = {
     "paddq": (2, lanes(8, lambda w, x, y: total(x, y))), "paddd": (2, lanes(4, lambda w, x, y: total(x, y))),
@@ -254,10 +236,8 @@ COMPUTED: dict = {
 # The same for other types of numbers.
 ALIKE = {"permpd": "permq", "unpcklpd": "punpcklqdq", "movlhps": "punpcklqdq", "unpckhpd": "punpckhqdq",
          "unpcklps": "punpckldq", "unpckhps": "punpckhdq", "blendps": "pblendd", "perm2f128": "perm2i128",
-         "permps": "permd", "broadcastss": "pbroadcastd", "broadcastsd": "pbroadcastq", "permi2pd": "permi2q",
-         "permi2ps": "permi2d", "permt2pd": "permt2q", "permt2ps": "permt2d", **{
-             what + "f" + c: what + "i" + c for what in ("insert", "extract", "broadcast", "shuf")
-             for c in ("128", "32x4", "64x2", "32x8", "64x4")}}
+         "permps": "permd", "broadcastss": "pbroadcastd", "broadcastsd": "pbroadcastq", "insertf128": "inserti128",
+         "inserti32x4": "inserti128"}
 BITWISE = {name + end: what for what in ("xor", "or", "and") for name, ends in (("p" + what, ("", "d", "q")), (
     what + "p", ("s", "d"))) for end in ends}
 # Of three operands, by the number: of the first, and of what the second operation makes of the others.
@@ -271,35 +251,24 @@ MASKED = {"movdqu8": 1, "movdqu32": 4, "movdqu64": 8, "pbroadcastd": 4, "pbroadc
 MASK = re.compile(r"k(mov|or|and|shiftl|shiftr)([bwdq])")
 
 
-# Bits of masks: each is 0, 1, a term of 8 bits that is 0 or 1, or None if it is not known.
-
-def bit_of(b: T.Byte, i: int) -> Any:
-    """Bit i of a byte."""
-    t = T.leaves(lambda n: n >> i & 1, 8, T.word([b]))
-    return t.args if t is not None and t.op == "const" else t
+def bit_of(b: T.Byte, k: int) -> list:
+    """Bit k of a byte, as a byte of a mask."""
+    t = T.leaves(lambda n: n >> k & 1, 8, T.word([b]))
+    return unknown_bit() if t is None else T.split(t)
 
 
-def combined_bits(a: Any, b: Any, absorbing: int) -> Any:
-    """The or of two bits, if 1 absorbs the other, or the and, where at least one is a number."""
-    for x, y in ((a, b), (b, a)):
-        if x in (0, 1):
-            return x if x == absorbing else y
-    return None
-
-
-def chosen(bit: Any, on: list, off: list) -> list:
-    """One of two lists of bytes by a bit."""
+def chosen(bit: T.Byte, on: list, off: list) -> list:
+    """One of two lists of bytes by a byte of a mask."""
     if bit in (0, 1):
         return on if bit else off
-    if bit is None:
-        raise CannotShow("a mask is not known")
-    return T.split(of_numbers(8 * len(on), lambda c, a, b: a if c else b, bit, T.word(on), T.word(off)))
+    return T.split(of_numbers(8 * len(on), lambda c, a, b: a if c else b, *map(T.word, ([bit], on, off))))
 
 
 class X86(Processor):
     FILES = {"general": (16, 8), "vector": (REGISTERS, WIDTH)}
     STACK_POINTER = "general", RSP
     ARGUMENTS: tuple = (RDI, RSI, RDX, RCX, 8, 9)
+    SAVED = (RBX, RBP, 12, 13, 14, 15)
     # What a condition compares after `cmp`. Others are not followed: both ways may be taken.
     RELATIONS = {"e": "==", "ne": "!=", "b": "<", "ae": ">=", "a": ">", "be": "<="}
     SIGNED = {"l": "<", "ge": ">=", "g": ">", "le": "<="}
@@ -312,7 +281,7 @@ class X86(Processor):
     def at_entry(self) -> tuple:
         m = self.values
         sp = m.stack_pointer()
-        return T.word(m.load(sp, 8)), sp, [list(m.general[r]) for r in SAVED]
+        return T.word(m.load(sp, 8)), sp, [list(m.general[r]) for r in self.SAVED]
 
     def enter(self) -> T.Term:
         """A call pushes the return address, to which it must return."""
@@ -331,20 +300,12 @@ class X86(Processor):
     def move_stack(self, n: int) -> None:
         self.values.general[RSP] = T.split(T.add(64, (1, self.values.stack_pointer()), (1, T.const(64, n))))
 
-    def clobber(self, is_compression: bool = False) -> None:
-        """What a function may leave in registers that do not belong to its caller. One that compresses leaves zero or
-        what there was where compression.py shows that."""
-        m = self.values
-        for r in range(16):
-            if r not in SAVED + (RSP,):
-                m.general[r] = m.lost(8, is_compression)
-        for j, old in enumerate(m.vector):
-            start = 0 if j in UPPER else 16
-            is_left = not is_compression or m.is_left(j, start)
-            upper = m.lost(WIDTH - start, not is_left)
-            kept = [x if is_compression and x == 0 else y for x, y in zip(old[start:], upper)]
-            m.vector[j] = m.lost(start, is_compression) + kept
-        m.flags = None
+    def lost_vector(self, j: int, old: list, is_compression: bool) -> list:
+        """Zeros above the bytes that belong to the call, and what is as before, stay for all calls that follow."""
+        start = 0 if j in UPPER else 16
+        upper = self.values.lost(WIDTH - start, is_compression and not self.values.is_left(j, start))
+        kept = [x if is_compression and x == 0 else y for x, y in zip(old[start:], upper)]
+        return self.values.lost(start, is_compression) + kept
 
     def need_vectors(self) -> None:
         """Refuses what a call may not leave in vector registers, besides those of its caller."""
@@ -453,16 +414,15 @@ class X86(Processor):
 
     def compute(self, i: Instruction, to: Operand, source: Operand = ONE) -> None:
         """An instruction of ARITHMETIC. A shift by 0 keeps the flags, and is not modelled."""
-        name, (kind, f) = i.name, ARITHMETIC[i.name]
+        name, (kind, operation) = i.name, ARITHMETIC[i.name]
         if name in SHIFTS and (source.kind != "number" or not 0 < source.value < 8 * to.size):
             raise i.unknown()
         if name == "xor" and same(to, source):
             self.write(to, [0] * to.size)
             self.values.flags = ("logic",) + (T.const(8 * to.size, 0),) * 3
             return
-        if name == "test" and same(to, source):
-            f = lambda m, a, b: a
-        self.arithmetic(kind, lambda a, b: f(self.values, a, b), to, source, name not in ONLY_FLAGS)
+        f = lambda a, b: a if name == "test" and same(to, source) else ON_WORDS[operation](self.values, a, b)
+        self.arithmetic(kind, f, to, source, name not in ONLY_FLAGS)
 
     def arithmetic(self, kind: str, f: Callable, to: Operand, source: Operand, keep: bool = True) -> None:
         """Sets a word and the flags, or only the flags."""
@@ -480,13 +440,12 @@ class X86(Processor):
             self.values.flags = ("no carry",) + now[1:]
 
     def do_not(self, i: Instruction, to: Operand) -> None:
-        flags = self.values.flags
-        self.arithmetic("other", lambda a, b: T.add(a.w, (-1, a), (-1, b)), to, ONE)
-        self.values.flags = flags
+        data = self.read(to)
+        self.write(to, self.quietly(lambda a, b: ON_WORDS["not"](self.values, a, b), data, data))
 
     def do_imul(self, i: Instruction, to: Operand, source: Operand) -> None:
         need_public(T.word(self.read(to) + self.read(source, to.size)), "the time of a product")
-        self.arithmetic("product", product, to, source)
+        self.arithmetic("product", lambda a, b: ON_WORDS["mul"](self.values, a, b), to, source)
 
     def with_carry(self, to: Operand, source: Operand, sign: int) -> None:
         """Adds or subtracts the carry too, which must be public."""
@@ -522,13 +481,13 @@ class X86(Processor):
         to, *rest = i.operands
         masks = [self.values.masks[o.index][:bits] for o in rest if o.kind == "mask"]
         if action == "mov" and kinds == ["mask", "general"]:
-            result = [bit_of(b, k) for b in self.read(rest[0])[:bits // 8] for k in range(8)]
+            result = joined(bit_of(b, k) for b in self.read(rest[0])[:bits // 8] for k in range(8))
         elif action in ("or", "and") and len(masks) == 2:
-            result = [combined_bits(x, y, int(action == "or")) for x, y in zip(*masks)]
+            f = operator.or_ if action == "or" else operator.and_
+            result = lanewise(lambda x, y: of_numbers(8, f, x, y), 1, *masks)
         elif action.startswith("shift") and kinds == ["mask", "mask", "number"]:
-            count = min(rest[1].value, bits)
-            zeros = [0] * count
-            result = zeros + masks[0][:bits - count] if action[-1] == "l" else masks[0][count:] + zeros
+            zeros = [0] * min(rest[1].value, bits)
+            result = (zeros + masks[0])[:bits] if action[-1] == "l" else masks[0][len(zeros):] + zeros
         else:
             raise i.unknown()
         self.values.masks[to.index] = result + [0] * (64 - len(result))

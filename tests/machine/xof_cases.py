@@ -3,7 +3,7 @@ each. The length of an output is known in advance in some, and not in others."""
 
 from __future__ import annotations
 
-from typing import Any, Callable, Iterator
+from typing import Any, Callable
 
 import call_cases as C
 import call_specification as S
@@ -11,80 +11,46 @@ import program as programs
 import reads
 import terms as T
 import xof_specification as X
-from call_cases import FREE, MOST, REFUSED, Setup, fail, hold, titled
-from symbolic import Buffer
-from terms import CannotShow
-from whole_calls import Calls, Terms
+from call_cases import FREE, MOST, OFF, ON, Case, refused
+from whole_calls import Terms
 
-NOT_ON, ON = (0, 0), (1, MOST)
+# Whether a read is not the first, whether the node is the last one, and whether the length of the output is known.
+READS = [(reading, node, is_known) for is_known in (True, False)
+         for reading, node in ((OFF, OFF), (OFF, ON), (ON, FREE))]
 
 
 class Cases(C.Cases):
     """The cases of the functions of one of both."""
 
+    zeros = staticmethod(X.zeros)
+
     def __init__(self, program: programs.Program, family: str, pending: Any = None, sizes: Any = None) -> None:
-        """With only some cases of reads, one of each kind, if sizes are given."""
+        """With only some cases of reads and of calls in one, if sizes are given."""
+        super().__init__(program, family, pending, sizes)
         self.is_short = sizes is not None
-        self.calls, self.kind = Calls(program), C.KINDS[family]
-        self.prefix, self.wiped = "vulfsjor_ffi_" + family, X.zeros(self.kind)
-        self.pending = range(self.kind.block + 1) if pending is None else pending
         self.calls.block_of_output = self.kind.w
-        self.calls.measure(self.kind, True)
-        names = self.wiped.FIELDS
-        before = [getattr(self.wiped, name) for name in names[:names.index("position")]]
-        self.calls.place_of_position = sum(len(v) if isinstance(v, list) else 8 for v in before)
+        before = self.wiped.FIELDS[:self.wiped.FIELDS.index("position")]
+        self.calls.place_of_position = len(Case.bytes_of(self.wiped, before))
 
     # States.
 
-    def conditions(self, s: Any, is_known: Any = True) -> list:
-        """When a state is ready; with any length, if nothing was read and it does not matter."""
-        return X.is_ready(self.kind, s, True)[:-2] if is_known is None else X.is_ready(self.kind, s, is_known)
+    def usable(self, case: Case, s: Any) -> bool:
+        """Whether a state is ready, if its position is that of some output."""
+        length = (s.xof_length,), 1, X.unknown(self.kind)
+        return case.holds(X.is_ready(self.kind, s, True)[:-2] + [length])
 
-    def unready(self, rest: Callable, result: T.Term | int = REFUSED) -> Iterator:
-        kind = self.kind
+    def ready(self, case: Case, s: Any, *is_known: bool) -> bool:
+        """With a length that is known, or with one that is not."""
+        if not self.usable(case, s):
+            return False
+        case.is_known = case.one_of(*is_known or (True, False))
+        for condition in X.is_length(self.kind, s.xof_length, case.is_known):
+            case.bound(*condition)
+        return case.holds(X.is_ready(self.kind, s, case.is_known)[-1:])
 
-        def why(s: Any) -> list:
-            """What holds, and a condition that fails: one of all states, or that of the position."""
-            length = (s.xof_length,), 1, X.unknown(kind)
-            found: list = [([], c) for c in X.is_ready(kind, s, True)[:-2] + [length]]
-            return found + [(X.is_length(kind, s.xof_length, is_known), X.is_ready(kind, s, is_known)[-1])
-                            for is_known in (True, False)]
-        for k in range(len(why(self.wiped))):
-            for side in (0, 1):
-                def case(setup: Setup) -> Callable | None:
-                    s = setup.pass_state()
-                    rest(setup)
-                    given, failing = why(s)[k]
-                    hold(setup, given)
-                    return (lambda a: (result, s, [])) if fail(setup, failing, side) else None
-                yield titled("not ready: condition %d, side %d" % (k, side), case)
-
-    def each(self, make: Callable, *choices: tuple) -> Iterator:
-        """With a length that is known, and with one that is not."""
-        return super().each(make, *[choice + (is_known,) for is_known in (True, False) for choice in choices or ((),)])
-
-    def left(self) -> Iterator:
-        def case(setup: Setup, is_known: bool) -> Callable:
-            s = self.add_ready(setup, is_known)
-            length = X.output_length(self.kind, s.xof_length, is_known)
-            return lambda a: (a.minus(length, s.position), s, [])
-        yield from self.each(case)
-        yield from self.unready(lambda setup: None, T.const(64, 0))
-
-    def reset(self) -> Iterator:
-        def case(setup: Setup, is_known: bool) -> Callable:
-            s = self.add_ready(setup, is_known)
-            setup.reads_key = (0, s.start_length),
-            return lambda a: (0, X.reset(self.kind, s), [])
-        yield from self.each(case)
-        yield from self.unready(lambda setup: None)
-
-    # Messages.
-
-    def add_absorbing(self, setup: Setup, **fields: tuple) -> Any:
+    def absorbs(self, case: Case, s: Any) -> bool:
         """The length does not matter, because nothing was read."""
-        return self.add_ready(setup, None, position=NOT_ON, reading=NOT_ON, xof_length=(1, X.unknown(self.kind)),
-                              **fields)
+        return case.holds(X.is_absorbing(s)) and self.usable(case, s)
 
     def keys_read(self, s: Any) -> tuple:
         return (s.counter, T.const(64, 1)), (0, s.start_length)
@@ -92,98 +58,65 @@ class Cases(C.Cases):
     def over(self, s: Any, after: S.State) -> S.State:
         return X.over(s, after)
 
-    def update(self) -> Iterator:
-        yield from super().update()
-        for k in range(2):
-            def reading(setup: Setup, is_known: bool) -> Callable:
-                s = self.add_ready(setup, is_known)
-                self.message(setup, setup.number("n"))
-                fail(setup, X.is_absorbing(s)[k], 1)
-                return lambda a: (REFUSED, s, [])
-            yield from self.each(reading)
+    def left(self, case: Case) -> Callable:
+        s = case.pass_state()
+        if not self.ready(case, s):
+            return refused(s, T.const(64, 0))
+        return lambda a: (a.minus(X.output_length(self.kind, s.xof_length, case.is_known), s.position), s, [])
+
+    def reset(self, case: Case) -> Callable:
+        s = case.pass_state()
+        if not self.ready(case, s):
+            return refused(s)
+        case.reads_key = (0, s.start_length),
+        return lambda a: (0, X.reset(self.kind, s), [])
 
     # Outputs.
 
-    def reads(self, setup: Setup, n: T.Term, is_known: bool, read: Callable, position: Any) -> Callable:
+    def reads(self, case: Case, n: T.Term, is_known: bool, read: Callable, position: Any) -> Callable:
         """What refuses an output of other bytes than those of a state: read(a) is the state."""
         def refuse(m: Any, length: T.Term) -> None:
             a = Terms(self.calls, m)
-            reads.need_output(m, lambda *rest: setup.need(rest[0], m, *rest[1:]), X.stream(
+            reads.need_output(m, lambda *rest: case.need(rest[0], m, *rest[1:]), X.stream(
                 a, self.kind, read(a), is_known), self.kind.w, position, length)
         self.calls.need_output = refuse
         return lambda m: refuse(m, n)
 
-    def squeeze(self) -> Iterator:
+    def squeeze(self, case: Case) -> Callable:
         kind = self.kind
-
-        def case(setup: Setup, reading: tuple, node: tuple, is_known: bool) -> Callable:
-            place = setup.variable("place in a block", 8)
-            setup.bound((place,), 0, kind.w - 1)
-            position = T.add(64, (kind.w, setup.number("block", 0, MOST // kind.w)), (1, reads.of_byte(place)))
-            s = self.add_ready(setup, is_known, reading=reading, last_node=node, position=position)
-            setup.reads_key = (0, s.start_length),
-            n = setup.number("n")
-            self.out(setup, n)
-            hold(setup, X.has_left(X.output_length(kind, s.xof_length, is_known), s.position, n))
-            is_on = reading == ON
-            out = self.reads(setup, n, is_known, lambda a: X.begin(a, kind, s, is_on), s.position)
-            return lambda a: (0, X.squeeze(a, kind, s, n, is_on), out)
-        cases = list(self.each(case, (NOT_ON, NOT_ON), (NOT_ON, ON), (ON, FREE)))
-        yield from cases[1::4] if self.is_short else cases
-
-        def more(setup: Setup, is_known: bool) -> Callable:
-            s = self.add_ready(setup, is_known)
-            n = setup.number("n")
-            self.out(setup, n)
-            length = X.output_length(kind, s.xof_length, is_known)
-            setup.bound(X.has_left(length, s.position, n)[0][0], -2 * MOST, -1)
-            return lambda a: (REFUSED, s, [])
-        yield from self.each(more)
-        yield from self.unready(lambda setup: self.out(setup, setup.number("n")))
+        reading, node, *is_known = case.unless_refused((FREE, FREE), *READS[1::4] if self.is_short else READS)
+        place = case.variable("place in a block", 8)
+        case.bound((place,), 0, kind.w - 1)
+        position = T.add(64, (kind.w, case.number("block", 0, MOST // kind.w)), (1, reads.of_byte(place)))
+        s, n = case.pass_state(position=position), case.number("n")
+        case.pass_out(n)
+        if not self.ready(case, s, *is_known):
+            return refused(s)
+        if not case.holds(X.has_left(X.output_length(kind, s.xof_length, case.is_known), position, n)):
+            return refused(s)
+        case.bound((s.reading,), *reading)
+        case.bound((s.last_node,), *node)
+        case.reads_key = (0, s.start_length),
+        is_on = reading == ON
+        out = self.reads(case, n, case.is_known, lambda a: X.begin(a, kind, s, is_on), position)
+        return lambda a: (0, X.squeeze(a, kind, s, n, is_on), out)
 
     # Inits and the call in one.
 
-    def init_salt_personal(self) -> Iterator:
-        def read(setup: Setup, key: tuple) -> tuple:
-            given, conditions = self.lengths(setup, key)
-            return given, [((given[0],), 1, X.unknown(self.kind))] + conditions[1:]
-        yield from self.made(read, init=X.init)
+    def init_salt_personal(self, case: Case) -> Callable:
+        given, conditions = self.lengths(case)
+        return self.made(case, given, [((given[0],), 1, X.unknown(self.kind))] + conditions[1:], X.init)
 
-    def one_shot(self, derives: bool = False) -> Iterator:
-        kind, block = self.kind, self.kind.block
+    def derive_key(self, case: Case) -> Callable:
+        return self.one_shot(case, ("key", "message"), ON)
 
-        def arguments(setup: Setup, n: T.Term, key: tuple) -> tuple:
-            size = setup.number("size")
-            out, keyed = self.out(setup, size), setup.number("key_size", *key)
-            texts: list = [("message", n), ("key", keyed)]
-            found: dict = {name: setup.pass_buffer(name, length)
-                           for name, length in (reversed(texts) if derives else texts)}
-            return size, found["message"], found["key"], keyed
-        conditions = lambda size, keyed: X.is_length(kind, size, True) + X.admits(kind, keyed, 0, 0)[:1] + (
-            [((keyed,), 1, MOST)] if derives else [])
-        for has_key in (True,) if derives else (False, True):
-            amounts = self.amounts(block if has_key else 0)
-            for amount in amounts[int(has_key):][:1] if self.is_short else amounts:
-                def accepted(setup: Setup) -> Callable:
-                    n, absorb = amount(setup)
-                    size, data, key, keyed = arguments(setup, n, (1, MOST) if has_key else NOT_ON)
-                    setup.reads_key = (0, keyed),
-                    hold(setup, conditions(size, keyed) + S.is_counted(block * has_key, n))
-                    state = lambda a: X.one_shot(a, kind, size, key, keyed, lambda s: absorb(a, s, data))
-                    out = self.reads(setup, size, True, state, T.const(64, 0))
-                    return lambda a: (0, None, out)
-                yield titled("accepted, key %s" % has_key, accepted)
+    def ways_in_one(self, pending: int) -> tuple:
+        return () if not self.is_short else ("blocks",) if pending else ("few",)
 
-        def lengths(setup: Setup) -> list:
-            size, _, _, keyed = arguments(setup, setup.number("n"), FREE)
-            return conditions(size, keyed)
-        yield from self.refused(lengths)
+    def admits_in_one(self, size: T.Term, keyed: T.Term) -> list:
+        return X.is_length(self.kind, size, True) + X.admits(self.kind, keyed, 0, 0)[:1]
 
-        def counted(setup: Setup) -> list:
-            n = setup.number("n")
-            arguments(setup, n, (1, MOST))
-            return S.is_counted(block, n)
-        yield from self.refused(counted)
-
-    def derive_key(self) -> Iterator:
-        yield from self.one_shot(True)
+    def in_one(self, case: Case, size: T.Term, key: Any, keyed: T.Term, absorb: Callable, out: Any) -> Callable:
+        state = lambda a: X.one_shot(a, self.kind, size, key, keyed, lambda s: absorb(a, s))
+        read = self.reads(case, size, True, state, T.const(64, 0))
+        return lambda a: (0, None, read)

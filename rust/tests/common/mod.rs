@@ -88,36 +88,31 @@ impl<'a> Given<'a> {
     }
 }
 
+macro_rules! calls_that_may_be_absent {
+    ($($call:ident($($argument:ident: $type:ty),*))*) => {
+        $(fn $call(&mut self, $($argument: $type),*) -> Outcome<E> {
+            None
+        })*
+    };
+}
+
 /// A hash in pieces.
-pub trait Hash<E> {
+pub trait Hash<E>: Copies<E> {
     fn update(&mut self, message: &[u8]) -> Outcome<E>;
+    calls_that_may_be_absent! {
+        digest() verify(_tag: &[u8]) reset() last(_on: bool) count() left() read(_count: u64)
+        next(_skip: u64, _leaves: &[u8]) absorb(_leaves: &[u8], _message: &[u8])
+    }
+}
+
+/// The copy of a hash, which is its clone.
+pub trait Copies<E> {
     fn copy(&self) -> Box<dyn Hash<E>>;
-    fn digest(&self) -> Outcome<E> {
-        None
-    }
-    fn verify(&self, _tag: &[u8]) -> Outcome<E> {
-        None
-    }
-    fn reset(&mut self) -> Outcome<E> {
-        None
-    }
-    fn last(&mut self, _on: bool) -> Outcome<E> {
-        None
-    }
-    fn count(&self) -> Outcome<E> {
-        None
-    }
-    fn left(&self) -> Outcome<E> {
-        None
-    }
-    fn read(&mut self, _count: u64) -> Outcome<E> {
-        None
-    }
-    fn next(&self, _skip: u64, _leaves: &[u8]) -> Outcome<E> {
-        None
-    }
-    fn absorb(&mut self, _leaves: &[u8], _message: &[u8]) -> Outcome<E> {
-        None
+}
+
+impl<E, T: Hash<E> + Clone + 'static> Copies<E> for T {
+    fn copy(&self) -> Box<dyn Hash<E>> {
+        Box::new(self.clone())
     }
 }
 
@@ -238,8 +233,7 @@ fn folder() -> PathBuf {
     folder
 }
 
-/// The fields of a family's lines of tests/vectors.json, as tests/vectors.py prints them, without
-/// their kind, which is this.
+/// The fields of a family's lines that tests/vectors.py prints, without their kind, which is this.
 pub fn lines(family: &str, kind: &str) -> Vec<Vec<String>> {
     let mut print = Command::new("python3");
     let output = print.arg(script("tests/vectors.py")).args(["--lines", family]).output().expect("python3");
