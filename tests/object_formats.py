@@ -18,7 +18,6 @@ from common import TOP
 
 sys.path.insert(0, os.path.join(TOP, "tests", "machine"))
 import elf as elf_format  # pylint: disable=wrong-import-position
-import macros  # pylint: disable=wrong-import-position
 
 DIST = os.path.join(TOP, "dist")
 HUGE = bool(os.environ.get("VULFSJOR_TEST_HUGE"))
@@ -44,8 +43,7 @@ def symbols_of_object(path, *kinds):
 
 def code_of_elf(path):
     """The bytes of an object's functions, each of which has a section in ELF, by their names."""
-    with open(path, "rb") as file:
-        sections = elf_format.Elf(file.read()).sections
+    sections = elf_format.Elf(path).sections
     return {it.name.removeprefix(".text."): it.data for it in sections if it.flags & elf_format.EXECUTABLE and it.data}
 
 
@@ -96,8 +94,8 @@ def assemble_text(path, arch, system, made):
 def is_read_so(path, arch, room, elf):
     """Whether the text that tests/machine reads is assembled to the same bytes as this object."""
     read = os.path.join(room, "read.s")
-    with open(path, encoding="utf-8") as file, open(read, "w", encoding="utf-8") as to:
-        to.write(macros.expanded(file.read(), arch))
+    with open(read, "w", encoding="utf-8") as to:
+        to.write(elf_format.expanded(path, arch))
     run("clang", f"--target={arch}-{SYSTEMS['linux']}", "-c", read, "-o", f"{read}.o")
     with open(f"{read}.o", "rb") as ours, open(elf, "rb") as theirs:
         return ours.read() == theirs.read()

@@ -1,21 +1,18 @@
 """A model of the AArch64 instructions that the shipped code uses. Any other is an error."""
 
-from __future__ import annotations
-
 import functools
 import re
 from typing import Any, Callable
 
 import machine
 import terms as T
-from machine import (ON_WORDS, Operand, Processor, chunks, image, invert, joined, lanewise, need_public, no_rule,
-                     number, total)
+from machine import (ON_VECTORS, ON_WORDS, Operand, Processor, chunks, image, invert, joined, lanewise, need_public,
+                     no_rule, number, picked, total)
 from terms import CannotShow, IsWrong
 
 SP, ZERO, LINK, PLATFORM = 31, 32, 30, 18
 WIDTHS = {"b": 1, "h": 2, "s": 4, "w": 4, "d": 8, "x": 8, "q": 16}
 CONDITIONS = "eq ne cs cc hi ls mi pl vs vc ge lt gt le".split()
-SIZES = {"b": 1, "h": 2}
 STORES, LOADS = ("str", "stur", "stp"), ("ldr", "ldur", "ldp")
 BITWISE = {"eor": "xor", "orr": "or", "and": "and"}
 
@@ -34,18 +31,19 @@ def operand(text: str) -> Operand:
 
 
 # The kinds of operands by their texts, and what the groups of each say. `general` is a register, `vector` the low bytes
-# of one, `lanes` one by parts of n bytes, of which perhaps only one. `memory` is at a base register plus an offset or
-# another register, which is added for the access only ("at"), or also to the base, "before" or "after" the access.
-# `number` is a constant, `shift` one of the operand before, `word` what an instruction has to know itself, such as a
-# condition, and `value` is in no register.
+# of one, perhaps by parts of n bytes, or only one of these, from `start` on. `memory` is at a base register plus an
+# offset or another register, which is added for the access only ("at"), or also to the base, "before" or "after" the
+# access. `number` is a constant, `shift` one of the operand before, `word` what an instruction has to know itself, such
+# as a condition, and `value` is in no register.
 NUMBER = r"#(-?(?:0x[0-9a-f]+|\d+))"
 OPERANDS: tuple = (
     (r"([xw])(\d+|zr)", lambda m: Operand("general", index=register(m[2]), size=WIDTHS[m[1]])),
     (r"sp", lambda m: Operand("general", index=SP, size=8)),
     (r"([bhsdq])(\d+)", lambda m: Operand("vector", index=int(m[2]), size=WIDTHS[m[1]])),
-    (r"v(\d+)\.(\d*)([bhsd])(?:<(\d+)>)?", lambda m: Operand(
-        "lanes", index=int(m[1]), size=int(m[2] or 0) * WIDTHS[m[3]], n=WIDTHS[m[3]],
-        lane=int(m[4]) if m[4] else None)),
+    (r"v(\d+)\.(\d+)([bhsd])", lambda m: Operand(
+        "vector", index=int(m[1]), size=int(m[2]) * WIDTHS[m[3]], n=WIDTHS[m[3]])),
+    (r"v(\d+)\.([bhsd])<(\d+)>", lambda m: Operand(
+        "vector", index=int(m[1]), size=WIDTHS[m[2]], n=WIDTHS[m[2]], start=WIDTHS[m[2]] * int(m[3]))),
     (NUMBER, lambda m: Operand("number", value=int(m[1], 0))),
     (r"\[(\w+)(?:, (x\d+)|, " + NUMBER + r")?\](!?)", lambda m: Operand(
         "memory", base=operand(m[1]), index=operand(m[2]) if m[2] else None, offset=int(m[3] or "0", 0),
@@ -80,10 +78,14 @@ class Instruction(machine.Instruction):
 # What instructions on words make of two words, besides those that have other names.
 WORDS: dict = {
     **ON_WORDS, **{name: ON_WORDS[other] for name, other in (
-        ("orr", "or"), ("eor", "xor"), ("mvn", "not"), ("lsl", "shl"), ("lsr", "shr"))},
-    "ror": lambda m, a, b: T.ror(a.w, a, b.args), "ubfiz": lambda m, a, b, size: m.bitfield(a, b.args, size),
+        ("orr", "or"), ("eor", "xor"), ("mvn", "not"), ("lsl", "shl"), ("lsr", "shr"), ("madd", "mul"),
+        ("msub", "mul"))},
+    "ror": lambda m, a, b: T.ror(a.w, a, b.args), "ubfiz": lambda m, a, b, size: m.bitfield(a, b.args, size.args),
+    "umulh": lambda m, a, b: None, "udiv": lambda m, a, b: None,
 }
 SHIFTS = ("lsl", "lsr", "ror")
+# Those whose time may depend on their operands, which must be public; what is added to a product, or it is subtracted.
+PRODUCTS, ADDS = ("udiv", "mul", "umulh", "madd", "msub"), {"madd": 1, "msub": -1}
 # Those that set flags: the operation, and the kind of the flags.
 SETS_FLAGS = {"adds": ("add", "add"), "cmn": ("add", "add"), "subs": ("sub", "sub"), "cmp": ("sub", "sub"),
               "ands": ("and", "test"), "tst": ("and", "test")}
@@ -101,32 +103,26 @@ SELECTS: dict = {
 }
 
 
-def accumulate(w: int, k: int) -> Callable:
-    """Adds a word that is shifted to the right. If no bits overlap, the sum is the same as or."""
-    def f(old: T.Term, t: T.Term) -> T.Term:
-        moved = T.shr(w, t, k)
-        return T.rotation(w, old, moved) or T.disjoint(old, moved) or total(old, moved)
-    return f
+def accumulate(n: int, old: list, data: list, k: int) -> list:
+    """Adds words that are shifted to the right. If no bits overlap, the sum is the same as or."""
+    add = lambda a, b: T.rotation(a.w, a, b) or T.disjoint(a, b) or total(a, b)
+    return lanewise(add, n, old, ON_VECTORS["shr"](n, data, k))
 
 
-def reversed_in(size: int) -> Callable:
-    return lambda n, a: joined(joined(reversed(chunks(part, n))) for part in chunks(a, size))
-
-
-# What instructions on vectors make of parts of n bytes of others, and of a number.
+# What instructions make of parts of n bytes of vectors, and of a number.
 VECTORS: dict = {
-    "add": lambda n, a, b: lanewise(total, n, a, b), "uqsub": no_rule, "cmhi": no_rule,
-    "shl": lambda n, a, k: lanewise(lambda t: T.shl(8 * n, t, k), n, a),
-    "usra": lambda n, old, a, k: lanewise(accumulate(8 * n, k), n, old, a),
+    "add": ON_VECTORS["add"], "shl": ON_VECTORS["shl"], "usra": accumulate, "uqsub": no_rule, "cmhi": no_rule,
     "zip1": lambda n, a, b: joined(x + y for x, y in zip(chunks(a, n), chunks(b, n))),
     "zip2": lambda n, a, b: VECTORS["zip1"](n, a[len(a) // 2:], b[len(b) // 2:]),
     "uzp1": lambda n, a, b: joined(chunks(a + b, n)[::2]), "uzp2": lambda n, a, b: joined(chunks(a + b, n)[1::2]),
     "trn2": lambda n, a, b: joined(x + y for x, y in zip(chunks(a, n)[1::2], chunks(b, n)[1::2])),
-    "ext": lambda n, a, b, k: (a + b)[k:],
-    "xtn": lambda n, a: joined(p[:n] for p in chunks(a, 2 * n)),
-    "uxtl": lambda n, a: joined(p + [0] * len(p) for p in chunks(a, n // 2)),
-    "rev64": reversed_in(8), "rev32": reversed_in(4),
-    "tbl": lambda n, table, places: [table[p] if p < 16 else 0 for p in [number([b]) for b in places]],
+    "ext": lambda n, a, b, k: (a + b)[k:], "xtn": lambda n, a: VECTORS["uzp1"](n, a, []),
+    "uxtl": lambda n, a: VECTORS["zip1"](n // 2, a, [0] * 16),
+    "rev64": lambda n, a: picked(n, [k ^ 8 // n - 1 for k in range(len(a) // n)], a),
+    "rev32": lambda n, a: picked(n, [k ^ 4 // n - 1 for k in range(len(a) // n)], a),
+    "tbl": lambda n, table, places: picked(1, [number([b]) for b in places], table),
+    "dup": lambda n, a: a[:n] * (16 // n), "movi": lambda n, k: [k, *[0] * (n - 1)] * (16 // n),
+    **dict.fromkeys(("mov", "fmov"), lambda n, a: a),
 }
 COMPUTES, ACCUMULATES = ("add", "uqsub", "cmhi", "shl", "usra"), ("usra",)
 
@@ -152,8 +148,8 @@ class Arm(Processor):
 
     def at_entry(self) -> tuple:
         m = self.values
-        saved = [list(m.general[r]) for r in self.SAVED] + [m.vector[r][:8] for r in range(8, 16)]
-        return T.word(m.general[LINK]), m.stack_pointer(), saved
+        saved = joined(m.general[r] for r in self.SAVED) + joined(m.vector[r][:8] for r in range(8, 16))
+        return list(m.general[LINK]), T.split(m.stack_pointer()), saved
 
     def enter(self) -> T.Term:
         """A call sets the register of the return address."""
@@ -170,9 +166,6 @@ class Arm(Processor):
         start = 8 if 8 <= j < 16 else 0
         return old[:start] + self.values.lost(16 - start, is_compression)
 
-    def need_vectors(self) -> None:
-        """All but those of at_entry() belong to the call."""
-
     # Operands.
 
     def read(self, o: Operand, size: Any = None) -> list:
@@ -180,26 +173,20 @@ class Arm(Processor):
             return [0] * o.size
         if o.kind == "value":
             return o.data
-        if o.kind != "lanes":
+        if o.start is None:
             return super().read(o, size)
-        data = self.values.vector[o.index]
-        return data[:o.size] if o.lane is None else chunks(data, o.n)[o.lane]
+        return self.values.vector[o.index][o.start:o.start + o.size]
 
     def write(self, o: Operand, data: list) -> None:
-        is_lane = o.kind == "lanes" and o.lane is not None
-        if len(data) != (o.n if is_lane else o.size):
+        if len(data) != o.size:
             raise CannotShow("the result does not fit its operand")
-        data = list(data)
         if o.kind == "general":
             if o.index != ZERO:
                 self.values.general[o.index] = self.values.cleaned(data + [0] * (8 - o.size), True)
             return
-        data = self.values.cleaned(data, False)
-        if is_lane:
-            parts = chunks(self.values.vector[o.index], o.n)
-            parts[o.lane] = data
-            data = joined(parts)
-        self.values.vector[o.index] = data + [0] * (16 - len(data))
+        old = self.values.vector[o.index] if o.start is not None else [0] * 16
+        start = o.start or 0
+        self.values.vector[o.index] = old[:start] + self.values.cleaned(data, False) + old[start + o.size:]
 
     def place_of(self, m: Operand) -> T.Term:
         """The address of an access, before which the base register may move."""
@@ -228,9 +215,7 @@ class Arm(Processor):
             need_public(T.word(data), "a branch")
             if i.name.startswith("tb"):
                 at = i.operands[1].value
-                bit = T.const(8, 1 << at % 8)
-                byte = self.values.norm(data[at // 8])
-                data = self.quietly(self.values.masked, [byte], T.split(bit))
+                data = self.quietly(self.values.masked, [self.values.norm(data[at // 8])], [1 << at % 8])
             t = T.word(data)
             return "==" if i.name.endswith("bz") else "!=", t, T.const(t.w, 0)
         if i.name[2:] not in CONDITIONS or i.name[:2] != "b.":
@@ -247,7 +232,17 @@ class Arm(Processor):
         kind = name.rstrip("bh") if name.endswith(("rb", "rh")) else name
         if kind in LOADS + STORES:
             self.transfer(name, kind, ops)
-        elif not ops or not (self.words(name, ops) if ops[0].kind == "general" else self.vectors(name, ops)):
+        elif name in ("ld1", "ld1r", "ld4", "st1") and len(ops) == 2:
+            self.transfer_lanes(i, *ops)
+        elif name == "ccmp":
+            self.values.compare_again(self.read(ops[0]), self.read(ops[1], ops[0].size))
+        elif ops:
+            data = self.of_words(name, ops) if ops[0].kind == "general" else self.of_vectors(name, ops)
+            if data is None:
+                raise i.unknown()
+            if name not in ONLY_FLAGS:
+                self.write(ops[0], data)
+        else:
             raise i.unknown()
 
     def transfer(self, name: str, kind: str, ops: list) -> None:
@@ -259,7 +254,7 @@ class Arm(Processor):
         if kind in LOADS and len(set(places)) != len(places) or ops[-1].mode != "at" and (
                 ("general", base.index) in places):
             raise CannotShow("what a %s does whose registers are the same differs between processors" % name)
-        size = SIZES.get(name[-1], registers[0].size)
+        size = WIDTHS.get(name[-1], registers[0].size)
         data = [self.read(r)[:size] for r in registers]
         at = self.place_of(ops[-1])
         if kind in STORES:
@@ -270,30 +265,44 @@ class Arm(Processor):
                 self.write(r, part + [0] * (r.size - size))
         self.move_base(ops[-1])
 
-    # Words. Each method returns whether it knows this form of its instruction.
+    def transfer_lanes(self, i: Instruction, to: Operand, memory: Operand) -> None:
+        """A load or a store of one lane, a load of all lanes, or of four vectors whose lanes alternate."""
+        m = re.fullmatch(r"\{v(\d+)\.2d-v(\d+)\.2d\}", to.text or "")
+        if not (m if i.name == "ld4" else to.n and (i.name == "ld1r") == (to.start is None)):
+            raise i.unknown()
+        at = self.place_of(memory)
+        if m:
+            parts = chunks(self.values.load(at, 64), 8)
+            for k in range(4):
+                self.values.vector[int(m[1]) + k] = self.values.cleaned(parts[k] + parts[4 + k], False)
+        elif i.name == "st1":
+            self.values.store(at, self.read(to))
+        else:
+            self.write(to, self.values.load(at, to.n) * (to.size // to.n))
+        self.move_base(memory)
 
-    def words(self, name: str, ops: list) -> bool:
+    # What instructions on words and on vectors write, or None if they are not known.
+
+    def of_words(self, name: str, ops: list) -> list | None:
         to, size = ops[0], ops[0].size
         if ops[-1].kind == "shift" and name != "movk":
             ops = ops[:-2] + [self.shifted(ops[-2], ops[-1], size)]
-        if name in SELECTS:
-            return self.select(name, ops)
+        if name in SELECTS and ops[-1].text in CONDITIONS:
+            compared, data = self.compared(ops[-1].text), [self.read(o, size) for o in ops[1:-1]]
+            if name == "cset":
+                return [self.values.bit(compared)] + [0] * (size - 1)
+            return self.values.chosen(compared, *SELECTS[name](size, *data))
         if name in SETS_FLAGS or name in WORDS:
             return self.compute(name, ops)
         if name == "adrp":
-            self.write(to, T.split(T.add(64, (1, image()), (1, T.const(64, ops[1].value)))))
-        elif name in ("mov", "fmov", "umov"):
-            self.write(to, (self.read(ops[1], size) + [0] * size)[:size])
-        elif name == "movk":
+            return T.split(T.add(64, (1, image()), (1, T.const(64, ops[1].value))))
+        if name in ("mov", "fmov", "umov"):
+            return (self.read(ops[1], size) + [0] * size)[:size]
+        if name == "movk":
             k = ops[2].count // 8 if len(ops) == 3 else 0
-            data = list(self.read(to))
-            data[k:k + 2] = self.read(ops[1], 2)
-            self.write(to, data)
-        elif name == "ccmp":
-            self.values.compare_again(self.read(to), self.read(ops[1], size))
-        else:
-            return self.of_public(name, ops)
-        return True
+            old = self.read(to)
+            return old[:k] + self.read(ops[1], 2) + old[k + 2:]
+        return None
 
     def shifted(self, o: Operand, shift: Operand, size: int) -> Operand:
         """A shifted operand."""
@@ -303,82 +312,35 @@ class Arm(Processor):
         return Operand("value", data=self.quietly(
             lambda a, b: WORDS[shift.name](self.values, a, T.const(a.w, k)), self.read(o, size), [0] * size))
 
-    def compute(self, name: str, ops: list) -> bool:
-        """An instruction of WORDS, perhaps with flags."""
-        m, to, size = self.values, ops[0], ops[0].size
+    def compute(self, name: str, ops: list) -> list | None:
+        """What an instruction of WORDS makes, perhaps with flags."""
+        m, size = self.values, ops[0].size
         operation, flags = SETS_FLAGS.get(name, (name, None))
         sources = ops[name not in ONLY_FLAGS:]
         if operation in SHIFTS and not (sources[1].kind == "number" and 0 < sources[1].value < 8 * size):
-            return False
+            return None
         if name == "cmn" and sources[1].kind == "number" and sources[1].value:      # a comparison with its negative
             operation, flags, sources[1] = "sub", "sub", Operand("number", value=-sources[1].value)
         a, b, *rest = [self.read(o, size) for o in sources] + [[0] * size] * (len(sources) < 2)
-        f = lambda x, y: WORDS[operation](m, x, y, *map(number, rest))
+        if name in PRODUCTS:
+            need_public(T.word(a + b), "the time of a product or a division")
+        words = [] if name in ADDS else list(map(T.word, rest))
+        f = lambda x, y: WORDS[operation](m, x, y, *words)
         data = m.computed(flags, f, a, b) if flags else self.quietly(f, a, b)
-        if name not in ONLY_FLAGS:
-            self.write(to, data)
-        return True
+        return self.quietly(lambda x, y: total(x, y, ADDS[name]), rest[0], data) if name in ADDS else data
 
-    def of_public(self, name: str, ops: list) -> bool:
-        """Products and divisions, whose time may depend on the operands, which must be public."""
-        if name not in ("udiv", "mul", "umulh", "madd", "msub"):
-            return False
-        to, size = ops[0], ops[0].size
-        a, b, *rest = [self.read(o, size) for o in ops[1:]]
-        need_public(T.word(a + b), "the time of a product or a division")
-        times = lambda x, y: None if name == "umulh" else ON_WORDS["mul"](self.values, x, y)
-        data = self.values.anything(size) if name == "udiv" else self.quietly(times, a, b)
-        if rest:
-            data = self.quietly(lambda x, y: total(x, y, 1 if name == "madd" else -1), rest[0], data)
-        self.write(to, data)
-        return True
-
-    def select(self, name: str, ops: list) -> bool:
-        """One of two words, by a condition."""
-        to, size, condition = ops[0], ops[0].size, ops[-1].text
-        if condition not in CONDITIONS:
-            return False
-        compared, data = self.compared(condition), [self.read(o, size) for o in ops[1:-1]]
-        if name == "cset":
-            self.write(to, [self.values.bit(compared)] + [0] * (size - 1))
-        else:
-            self.write(to, self.values.chosen(compared, *SELECTS[name](size, *data)))
-        return True
-
-    # Vectors.
-
-    def vectors(self, name: str, ops: list) -> bool:
-        """Executes an instruction whose result is a vector, if it is one of these."""
+    def of_vectors(self, name: str, ops: list) -> list | None:
         to, m = ops[0], self.values
-        n = to.n or to.size
-        if name in ("ld1", "ld1r", "ld4"):
-            return self.load_lanes(name, ops)
-        if name == "st1" and to.lane is not None:
-            m.store(self.place_of(ops[1]), self.read(to, n))
-            self.move_base(ops[1])
-            return True
-        numbers = [o.value for o in ops[1:] if o.kind == "number"]
-        data = [self.read(o) for o in ops[1:] if o.kind in ("general", "vector", "lanes")]
+        n, numbers = to.n or to.size, [o.value for o in ops[1:] if o.kind == "number"]
+        data = [self.read(o) for o in ops[1:] if o.kind in ("general", "vector")]
         if name in BITWISE and len(data) == 2:
             is_zero = name == "eor" and ops[1].index == ops[2].index
-            self.write(to, [0] * to.size if is_zero else m.combined(BITWISE[name], *data))
-        elif name == "movi":
-            if len(ops) > 2 or numbers[0] and (n == 8 or not 0 <= numbers[0] < 256):
-                return False           # shifted, or all bits of each byte
-            self.write(to, (numbers + [0] * (n - 1)) * (to.size // n))
-        elif name in ("mov", "fmov", "dup"):
-            self.write(to, data[0][:n] * (to.size // n) if name == "dup" else
-                       data[0][:n] if to.lane is not None else data[0])
-        elif name in ("bit", "bif", "bsl"):
-            self.write(to, [self.inserted(name, *p) for p in zip(self.read(to), *data)])
-        elif name in VECTORS and (name not in ("shl", "usra") or 0 < numbers[0] < 8 * n):
-            self.write(to, self.result(name, n, data, numbers, to))
-        else:
-            return False
-        return True
-
-    def result(self, name: str, n: int, data: list, numbers: list, to: Operand) -> list:
-        """The bytes that an instruction of VECTORS makes."""
+            return [0] * to.size if is_zero else m.combined(BITWISE[name], *data)
+        if name in ("bit", "bif", "bsl"):
+            return [self.inserted(name, *p) for p in zip(self.read(to), *data)]
+        if name == "movi" and (len(ops) > 2 or numbers[0] and (n == 8 or not 0 <= numbers[0] < 256)) or (
+                name in ("shl", "usra") and not 0 < numbers[0] < 8 * n) or name not in VECTORS:
+            return None                # a number that is shifted, or of all bits of each byte
         if name in ACCUMULATES:
             data = [self.read(to)] + data
         return self.made(name not in COMPUTES, lambda *sources: VECTORS[name](n, *sources, *numbers)[:to.size], data)
@@ -390,23 +352,6 @@ class Arm(Processor):
             return self.values.vector_of(no_rule, [old, x, y])[0]
         is_x = (mask == 255) != (name == "bif")
         return x if is_x else y if name == "bsl" else old
-
-    def load_lanes(self, name: str, ops: list) -> bool:
-        """Loads of one lane, of all lanes, and of four vectors whose lanes alternate."""
-        to = ops[0]
-        if name == "ld4":
-            m = re.fullmatch(r"\{v(\d+)\.2d-v(\d+)\.2d\}", to.text)
-            if not m:
-                return False
-            parts = chunks(self.values.load(self.place_of(ops[1]), 64), 8)
-            self.move_base(ops[1])
-            for k in range(4):
-                self.values.vector[int(m[1]) + k] = self.values.cleaned(parts[k] + parts[4 + k], False)
-            return True
-        data = self.values.load(self.place_of(ops[1]), to.n)
-        self.move_base(ops[1])
-        self.write(to, data * (to.size // to.n) if name == "ld1r" else data)
-        return True
 
 
 Model = Arm

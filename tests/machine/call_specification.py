@@ -1,58 +1,40 @@
-"""What the exported functions of BLAKE2b and BLAKE2s write and return, from the contracts in
-crates/blake2_ffi and from RFC 7693. In this file a reviewer reads what whole_calls.py shows.
+"""What the exported functions of BLAKE2b and BLAKE2s write and return, from the contracts in crates/blake2_ffi and from
+RFC 7693. In this file a reviewer reads what whole_calls.py shows.
 
-Each function below is that of the export of its name. A state is the struct of vulfsjor.h, with the
-names of its fields. `a` has the operations on bytes: over numbers, and over terms. With numbers,
-check_specification.py compares the digests with hashlib's. With terms, whole_calls.py compares all
-bytes that the machine code writes.
+Each function below is that of the export of its name. A state is the struct of vulfsjor.h, with the names of its
+fields. `a` has the operations on bytes: over numbers, and over terms. With numbers, check_specification.py compares
+the digests with hashlib's. With terms, whole_calls.py compares all bytes that the machine code writes.
 
-A byte string is a list of bytes; one of a length that is no number has as many bytes as it may have
-at most. Words are lists of bytes too, the lowest first (2.4). `a.below(j, n, x, y)` is the byte x if
-j < n, and otherwise y."""
+A byte string is a list of bytes; one of a length that is no number has as many bytes as it may have at most. Words are
+lists of bytes too, the lowest first (2.4). `a.below(j, n, x, y)` is the byte x if j < n, and otherwise y."""
 
 from __future__ import annotations
 
-from typing import Any, Callable, TYPE_CHECKING
+from types import SimpleNamespace
+from typing import Any, Callable
 
-if TYPE_CHECKING:
-    from symbolic import Buffer
-    from rfc7693 import Kind
-    from terms import Term
+from rfc7693 import Kind
+from symbolic import Buffer
+from terms import Term
 
 
-class State:
+class State(SimpleNamespace):
     """A state. The fields from `counter` to `last_node` are numbers, the others lists of bytes."""
-
-    chain: Any
-    first: Any
-    counter: Any
-    pending_length: Any
-    start_length: Any
-    output_size: Any
-    last_node: Any
-    pending: Any
-    start_block: Any
-    FIELDS: tuple = ("chain", "first", "counter", "pending_length", "start_length", "output_size",
-                     "last_node", "pending", "start_block")
-
-    def __init__(self, *values: Any, **changes: Any) -> None:
-        for name, value in zip(self.FIELDS, values):
-            setattr(self, name, value)
-        self.__dict__.update(changes)
 
     def but(self, **changes: Any) -> Any:
         """The state with other values of some fields."""
-        return type(self)(**{**self.__dict__, **changes})
+        return State(**{**vars(self), **changes})
 
 
 def zeros(kind: Kind) -> State:
-    """The wiped state, which is not ready."""
+    """The wiped state, which is not ready. Its fields are in the order of the struct."""
     words, block = [0] * 8 * kind.bytes, [0] * kind.block
-    return State(words, words, 0, 0, 0, 0, 0, block, block)
+    return State(chain=words, first=words, counter=0, pending_length=0, start_length=0, output_size=0, last_node=0,
+                 pending=block, start_block=block)
 
 
-# When a call is accepted. Each condition is (numbers, the least value of their sum, the largest);
-# a call is accepted if all hold. A count is refused from 2^64 on.
+# When a call is accepted. Each condition is (numbers, the least value of their sum, the largest); a call is accepted if
+# all hold. A count is refused from 2^64 on.
 
 MOST_COUNTED = 2 ** 64 - 1
 
@@ -63,7 +45,7 @@ def is_ready(kind: Kind, s: State) -> list:
             ((s.start_length,), 0, kind.block), ((s.counter, s.pending_length), 0, MOST_COUNTED)]
 
 
-def admits(kind: Kind, output_size: Any, key_size: Any, salt_size: Any, persona_size: Any) -> list:
+def admits(kind: Kind, output_size: Any, key_size: Any, salt_size: Any = 0, persona_size: Any = 0) -> list:
     """The lengths that RFC 7693, 2.1, and the BLAKE2 document, 2.8, allow."""
     return [((output_size,), 1, kind.w), ((key_size,), 0, kind.w),
             ((salt_size,), 0, kind.w // 4), ((persona_size,), 0, kind.w // 4)]
@@ -85,21 +67,19 @@ def is_counted(*numbers: Term | int) -> list:
 
 # The states that the inits make.
 
-def parameter_block(a: Any, kind: Kind, output_size: Term, key_size: Any, tree: list | tuple,
-                    salt: list, persona: list) -> list:
-    """The BLAKE2 document, 2.8. Salt and persona are padded with zeros."""
+def parameter_block(a: Any, kind: Kind, output_size: Any, key_size: Any, tree: list | tuple, texts: list) -> list:
+    """The BLAKE2 document, 2.8. The texts are salt and persona, padded with zeros."""
     fanout, depth, leaf_length, node_offset, node_depth, inner_length = tree
     big = kind.w == 64
-    return (a.number(output_size, 1) + a.number(key_size, 1) + a.number(fanout, 1) +
-            a.number(depth, 1) + a.number(leaf_length, 4) + a.number(node_offset, 8 if big else 6) +
-            a.number(node_depth, 1) + a.number(inner_length, 1) + [0] * (14 if big else 0) +
-            salt + persona)
+    return (a.number(output_size, 1) + a.number(key_size, 1) + a.number(fanout, 1) + a.number(depth, 1) +
+            a.number(leaf_length, 4) + a.number(node_offset, 8 if big else 6) + a.number(node_depth, 1) +
+            a.number(inner_length, 1) + [0] * (14 if big else 0) + texts)
 
 
 TREE = ("fanout", "depth", "leaf_length", "node_offset", "node_depth", "inner_length")
 # The struct of tree parameters, with the bytes of each field.
-TREE_FIELDS = (("node_offset", 8), ("leaf_length", 4), ("fanout", 1), ("depth", 1),
-               ("node_depth", 1), ("inner_length", 1))
+TREE_FIELDS = (("node_offset", 8), ("leaf_length", 4), ("fanout", 1), ("depth", 1), ("node_depth", 1),
+               ("inner_length", 1))
 SEQUENTIAL = (1, 1, 0, 0, 0, 0)
 
 
@@ -119,14 +99,12 @@ def from_block(a: Any, kind: Kind, block: list, output_size: Term) -> State:
     return zeros(kind).but(chain=first, first=first, output_size=output_size)
 
 
-def init_tree(a: Any, kind: Kind, output_size: Any, key: Buffer, key_size: Any,
-              salt: Buffer | Callable, salt_size: Term | int, persona: Buffer | Callable,
-              persona_size: Term | int, tree: list | tuple = SEQUENTIAL) -> State:
-    """Under a key, a block of it is pending (2.9, 3.3)."""
-    n = kind.w // 4
-    block = parameter_block(a, kind, output_size, key_size, tree, padded(a, salt, salt_size, n),
-                            padded(a, persona, persona_size, n))
-    s = from_block(a, kind, block, output_size)
+def init(a: Any, kind: Kind, output_size: Any, key: Buffer, key_size: Any, salt: Buffer | Callable = nothing,
+         salt_size: Any = 0, persona: Buffer | Callable = nothing, persona_size: Any = 0,
+         tree: list | tuple = SEQUENTIAL) -> State:
+    """The inits but init_param. Under a key, a block of it is pending (2.9, 3.3)."""
+    texts = padded(a, salt, salt_size, kind.w // 4) + padded(a, persona, persona_size, kind.w // 4)
+    s = from_block(a, kind, parameter_block(a, kind, output_size, key_size, tree, texts), output_size)
     if a.is_zero(key_size):
         return s
     pending = padded(a, key, key_size, kind.block)
@@ -150,14 +128,14 @@ def must_scrub(a: Any, *conditions: tuple) -> bool:
 
 # Messages.
 
-def update_few(a: Any, kind: Kind, s: State, data: Buffer, n: Any) -> State:
+def update_few(a: Any, kind: Kind, s: State, data: Buffer | Callable, n: Any) -> State:
     """n bytes that the pending block has room for: pending_length + n <= block."""
     at = s.pending_length
     pending = s.pending[:at] + [a.below(j, n, data(j), s.pending[at + j]) for j in range(kind.block - at)]
     return s.but(pending=pending, pending_length=a.plus(at, n))
 
 
-def update_many(a: Any, kind: Kind, s: State, data: Buffer, k: Term | int, t: Term) -> State:
+def update_many(a: Any, kind: Kind, s: State, data: Buffer | Callable, k: Any, t: Any) -> State:
     """More bytes: fill + k blocks + t, where 1 <= t <= block and `fill` bytes fill the pending block, or none if
     nothing is pending, when 1 <= k. The last block stays pending (3.3)."""
     fill = kind.block - s.pending_length if s.pending_length else 0
@@ -181,15 +159,13 @@ def digest(a: Any, kind: Kind, s: State) -> list:
 
 
 def final(a: Any, kind: Kind, s: State, out: Buffer) -> tuple:
-    """The output after a call, and the state: the digest, which is as long as the output."""
-    whole = digest(a, kind, s)
-    return [a.below(j, s.output_size, b, out(j)) for j, b in enumerate(whole)], zeros(kind)
+    """The state after a call, and the output: the digest, which is as long as the output."""
+    return zeros(kind), [a.below(j, s.output_size, b, out(j)) for j, b in enumerate(digest(a, kind, s))]
 
 
 def one_shot(a: Any, kind: Kind, output_size: Any, key: Buffer, key_size: Any, absorb: Callable, out: Buffer) -> list:
     """All of it, where `absorb` is one of both updates."""
-    s = init_tree(a, kind, output_size, key, key_size, nothing, 0, nothing, 0)
-    return final(a, kind, absorb(s), out)[0]
+    return final(a, kind, absorb(init(a, kind, output_size, key, key_size)), out)[1]
 
 
 def verify(a: Any, kind: Kind, s: State, tag: Buffer) -> Any:

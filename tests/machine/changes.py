@@ -1,38 +1,39 @@
-"""Changes of the code, each of which must be refused: those of mutations.txt; random ones of each function that
-compresses, in which an instruction becomes another of the same name, or is left out; and a branch of each exported
-function, at its start, on a byte of a secret argument."""
+"""Changes that must be seen. Of the code, where each must be refused: those of mutations.txt; random ones of each
+function that compresses, in which an instruction becomes another of the same name, or is left out; and a branch of each
+exported function, at its start, on a byte of a secret argument. Of the tool: lines that let it accept more, each of
+which one of its own tests must see."""
 
-from __future__ import annotations
-
-import copy
-import functools
 import os
 import random
 import re
-from typing import Any, Callable, NamedTuple
+from typing import Any, Callable, Iterator, NamedTuple
 
+import call_cases
+import check_instructions
+import check_numbers
+import check_specification
 import compression
 import constant_time
-import families
 import functions
-import macros
 import program as programs
-import scrub_stack
+import symbolic
+import taint
 import terms as T
+import whole_calls
+from machine import joined
 
 TABLE = os.path.join(os.path.dirname(os.path.abspath(__file__)), "mutations.txt")
 FILES = {"v4": "dist/x86_64/vulfsjor-v4.s", "v3": "dist/x86_64/vulfsjor-v3.s", "v2": "dist/x86_64/vulfsjor-v2.s",
          "arm": "dist/aarch64/vulfsjor.s", "wasm": "dist/wasm/vulfsjor.wasm", "js": "js/src/wasm.js"}
-ENTRIES = {"one b": functions.ONE_B, "one s": functions.ONE_S, "many b": functions.MANY_B,
-           "many s": functions.MANY_S, "eight b": functions.EIGHT_B, "each b": functions.EACH_B,
-           "each s": functions.EACH_S, "stripes b": functions.STRIPES_B, "stripes s": functions.STRIPES_S}
-LABEL = re.compile(r'"?(?!\.L)([\w.$]+?)_\d+_[a-z0-9]+"?:')
+ENTRIES = {name: getattr(functions, name.upper().replace(" ", "_")) for name in (
+    "one b", "one s", "many b", "many s", "eight b", "each b", "each s", "stripes b", "stripes s")}
 COUNT = 4                              # random changes of each function
-# Changes that change nothing, as (path, function, seed): a shuffle has no byte of that operand, or there is room for
+# Those that change nothing, as (path, function, number): a shuffle has no byte of that operand, or there is room for
 # more on the stack than the check of it needs.
-NEUTRAL = {("dist/wasm/vulfsjor.wasm", "blake2_compress::compress::blake2s::compress", 3),
-           ("js/src/wasm.js", "blake2_parallel::lanes::blake2sp::compress_in_lanes", 1),
-           ("js/src/wasm_blake2s.js", "blake2_compress::compress::blake2s::compress", 0)}
+NEUTRAL = {("dist/wasm/vulfsjor.wasm", "one s", 3), ("js/src/wasm.js", "stripes s", 1),
+           ("js/src/wasm_blake2s.js", "one s", 0)}
+# What no random change is of: what has no other place, and whose change could change nothing.
+FIXED = re.compile(r"rip|adrp|\bret|nop|call|[:<]|^\.|^(bl|end|block|loop|return|br|local.tee|drop)\b|\s\d+[bf]$")
 BRANCH = {"x86_64": "\tcmpb $7, (%%%s)\n\tje 99999f\n99999:\n",
           "aarch64": "\tldrb w9, [%s]\n\tcbz w9, 99999f\n99999:\n"}
 REGISTERS = {"x86_64": "rdi rsi rdx rcx r8 r9".split(), "aarch64": ["x%d" % k for k in range(6)]}
@@ -46,14 +47,14 @@ class NoMatch(Exception):
 
 
 class Row(NamedTuple):
-    """A change of the table."""
+    """A change of the code."""
 
     path: str
     function: str
-    number: str
+    number: int
     old: str
     new: str
-    is_first: bool                     # of its group
+    is_first: bool = False             # of its group
 
     def title(self) -> str:
         return "%s: %s, %s: %s => %s" % ("not called wrong" if self.is_right() else "refused", self.path,
@@ -68,33 +69,58 @@ class Row(NamedTuple):
         export, _, name = rest.partition(" ")
         if what == "scrub":
             scrub = functions.SCRUB_STACK + export
-            return name or scrub, scrub_stack.show, (scrub, int(export))
+            return name or scrub, whole_calls.show_scrub, (scrub, int(export))
         if what == "file":
             return "", look, ()
         if what in ("call", "whole", "right"):
-            export = families.PREFIX + export
-            return name or export, show_call if what == "call" else families.show, (export,)
+            export = call_cases.PREFIX + export
+            return name or export, show_call if what == "call" else call_cases.show, (export,)
         name, *entry = ENTRIES[self.function.removesuffix(" data")]
         name = functions.in_file(self.path, name)
         return name, compression.show, (name, *entry)
 
-    def edit(self, found: Any) -> Any:
-        """An assembly text, or the functions of a module, with the change: of one function, of its constants, which
-        precede it, or of any line."""
-        name, change = self.target()[0], (int(self.number), self.old, self.new)
-        if isinstance(found, dict):
-            return {**found, name: changed(found[name], *change)}
-        lines = found.split("\n")
-        before, start, end = spans(found)[name] if name else (0, -1, len(lines))
-        first, last = (before, start) if self.function.endswith(" data") else (start + 1, end)
-        return "\n".join(lines[:first] + changed(lines[first:last], *change) + lines[last:])
+    def cut(self, source: Any) -> tuple:
+        """What precedes the lines to change, these, and what comes after: the lines of a function, of its constants,
+        which precede it, or of all of a text."""
+        name = self.target()[0]
+        if isinstance(source, dict) or not name:
+            return "", source[name] if name else source.split("\n"), ""
+        m = re.search(r'^"?%s_\d+_[a-z0-9]+"?:.*\n((?s:.*?))^\t\.size\t' % re.escape(name), source, re.M)
+        if not m:
+            raise NoMatch("there is no %s" % name)
+        first, last = m.span(1)
+        if self.function.endswith(" data"):
+            first, last = source.rfind("\n\t.size\t", 0, m.start()) + 1, m.start()
+        return source[:first], source[first:last].split("\n"), source[last:]
+
+    def edit(self, source: Any) -> Any:
+        """An assembly text, or the functions of a module, with the change."""
+        before, lines, after = self.cut(source)
+        lines = self.changed(lines)
+        return {**source, self.target()[0]: lines} if isinstance(source, dict) else before + "\n".join(lines) + after
+
+    def changed(self, lines: list) -> list:
+        """The lines with the change at the match of its number, counted from 1."""
+        clean = cleaned(lines)
+        exact = [k for k, text in enumerate(clean) if text == self.old]
+        found = exact or [k for k, text in enumerate(clean) if re.fullmatch(self.old, text)]
+        if len(found) < self.number:
+            raise NoMatch("%r matches %d lines, fewer than %d" % (self.old, len(found), self.number))
+        at = found[self.number - 1]
+        # The labels of a file are numbers too, from 1 up.
+        new = "; ".join(re.sub(r"(?<![\w$%\\])(\d)(f$|:)", r"9999\1\2", part) for part in self.new.split("; "))
+        text = new if exact else re.sub(self.old, new, clean[at], count=1)
+        if text == clean[at]:
+            raise NoMatch("the change of %r changes nothing" % clean[at])
+        return lines[:at] + [part for part in text.split("; ") if part] + lines[at + 1:]
 
     def check(self) -> tuple:
-        """Whether the change is refused as the table says: a verdict, and why."""
+        """Whether the change is refused as it must be: a verdict, and why."""
         name, show, arguments = self.target()
         try:
             program = programs.Program(self.path, self.edit)
-            if show is compression.show and is_same(program, name):
+            content = show is compression.show and programs.read(self.path).content(name)  # a module's is None
+            if content and program.content(name) == content:
                 return "not ok", "the proof of the old code would be taken for this one"
             show(program, *arguments)
         except NoMatch as e:
@@ -103,34 +129,24 @@ class Row(NamedTuple):
             return "not ok", "the assembler refuses the new instruction: %s" % e
         except T.Refused as e:
             is_ok = not self.is_right() or isinstance(e, T.CannotShow)
-            return "ok" if is_ok else "not ok", "%s: %s" % (T.kind_of(e), e)
+            return "ok" if is_ok else "not ok", "%s: %s" % (e.kind, e)
         return "ok" if self.is_right() else "not ok", "the proof accepts the change"
 
 
+def cleaned(lines: list) -> list:
+    """Lines with single spaces, and without comments."""
+    return [" ".join(re.sub(r"(#\s|//).*", "", line).split()) for line in lines]
+
+
 def table() -> list:
-    """The changes of the table. A comment begins a group."""
-    found, is_first = [], True
+    """The changes of the table."""
+    found = []
     with open(TABLE) as f:
         for line in f:
-            if line.startswith(("#", "\n")):
-                is_first = True
-                continue
-            files, names, number, old, new = (p.strip() for p in re.split(r" \|(?: |$)", line.rstrip("\n"), maxsplit=4))
-            for file in files.split():
-                for name in names.split(", "):
-                    found.append(Row(FILES[file], name, number, old, new, is_first))
-                    is_first = False
+            if not line.startswith(("#", "\n")):
+                file, name, number, old, new = re.split(r" \|(?: |$)", line.lstrip("+ ").rstrip("\n"), maxsplit=4)
+                found.append(Row(FILES[file], name, int(number), old.strip(), new.strip(), line.startswith("+")))
     return found
-
-
-@functools.lru_cache(maxsize=None)
-def original(path: str) -> Any:
-    """What the changes of a file are made in: its text, or the functions of a module."""
-    kind = functions.architecture(path)
-    if kind == "wasm":
-        return programs.read(path).functions
-    with open(os.path.join(programs.ROOT, path), encoding="utf-8") as f:
-        return macros.expanded(f.read(), kind)
 
 
 def check_table(count: int) -> tuple:
@@ -138,41 +154,10 @@ def check_table(count: int) -> tuple:
     rows = table()
     for row in rows:
         try:
-            row.edit(original(row.path))
+            row.edit(programs.source(row.path))
         except (NoMatch, KeyError) as e:
             return "not ok", "%s: %s" % (row.title(), e)
     return "ok" if len(rows) == count else "not ok", "%d changes" % len(rows)
-
-
-def changed(lines: list, number: int, old: str, new: str) -> list:
-    """The lines with the change at the match of this number, counted from 1."""
-    clean = [" ".join(re.sub(r"(#\s|//).*", "", line).split()) for line in lines]
-    exact = [k for k, text in enumerate(clean) if text == old]
-    found = exact or [k for k, text in enumerate(clean) if re.fullmatch(old, text)]
-    if len(found) < number:
-        raise NoMatch("%r matches %d lines, fewer than %d" % (old, len(found), number))
-    at = found[number - 1]
-    # The labels of a file are numbers too, from 1 up.
-    new = "; ".join(re.sub(r"(?<![\w$%\\])(\d)(f$|:)", r"9999\1\2", part) for part in new.split("; "))
-    text = new if exact else re.sub(old, new, clean[at], count=1)
-    if text == clean[at]:
-        raise NoMatch("the change of %r changes nothing" % clean[at])
-    return lines[:at] + [part for part in text.split("; ") if part] + lines[at + 1:]
-
-
-@functools.lru_cache(maxsize=8)
-def spans(text: str) -> dict:
-    """The lines of the functions of an assembly text, by their names without version: the end of the one before, the
-    label, and the end."""
-    found: dict = {}
-    before, name, start = 0, "", 0
-    for k, line in enumerate(text.split("\n")):
-        label = LABEL.match(line)
-        if label:
-            name, start = label[1], k
-        elif line.startswith("\t.size\t"):
-            found[name], before = (before, start, k), k
-    return found
 
 
 def show_call(program: programs.Program, exported: str) -> None:
@@ -189,87 +174,48 @@ def look(program: programs.Program) -> None:
         program.code(name)
 
 
-def is_same(program: programs.Program, name: str) -> bool:
-    """Whether a changed program has the content of the function that it had before. What has no content, or is
-    refused, is not the same."""
-    try:
-        content = program.content(name)
-    except T.Refused:
-        return False
-    return content is not None and content == programs.read(program.path).content(name)
-
-
-def changeable(kind: str, line: str) -> str:
-    """The instruction of a line, or nothing if its address matters, or if a change of it could change nothing."""
-    m = programs.LINE.match(line)
-    text = line if kind == "wasm" else m[3] if m else ""
-    if re.search(r"rip|adrp|<|\bret|nop|^(end|block|loop|return|br|local.tee|drop)\b", text):
-        return ""
-    return text.partition("//")[0].strip()
-
-
-def random_change(kind: str, lines: list, rng: random.Random, is_left_out: bool) -> tuple:
-    """A line of a function, its instruction, and what takes its place: another of the same name, or a no-op."""
-    names: dict = {}
-    for k, text in enumerate(changeable(kind, line) for line in lines):
-        if text:
-            names.setdefault(text.split()[0], []).append((k, text))
-    while True:
-        alike = names[rng.choice(sorted(names))]
-        k, text = rng.choice(alike)
-        others = {"nop"} if is_left_out else {other for _, other in alike} - {text}
-        if others:
-            return k, text, rng.choice(sorted(others))
+def random_changes(path: str, function: str) -> Iterator[Row]:
+    """Changes of random instructions of a function: each becomes another of the same name, or is left out."""
+    row, kind = Row(path, function, 1, "", ""), functions.architecture(path)
+    texts = cleaned(row.cut(programs.source(path))[1])
+    names = {k: text.split()[0] for k, text in enumerate(texts) if text and not FIXED.search(text)}
+    for seed in range(COUNT):
+        rng = random.Random("%s %s %d" % (path, row.target()[0], seed))
+        others: set = set()
+        while not others:
+            name = rng.choice(sorted(set(names.values())))
+            alike = [k for k in names if names[k] == name]
+            k = rng.choice(alike)
+            others = {""} if kind != "wasm" and seed % 2 else {texts[j] for j in alike} - {texts[k]}
+        yield Row(path, function, texts[:k + 1].count(texts[k]), texts[k], rng.choice(sorted(others)))
 
 
 def check_random(path: str, entry: tuple) -> tuple:
     """Whether random changes of a function that compresses are refused: a verdict, and why."""
-    (name, kind, lanes), program, wrong = entry, programs.read(path), 0
-    name = functions.in_file(path, name)
-    for seed in range(COUNT):
-        other, lines = copy.copy(program), list(program.functions[name])
-        rng = random.Random("%s %s %d" % (path, name, seed))
-        k, old, new = random_change(program.kind, lines, rng, program.kind != "wasm" and seed % 2 == 1)
-        lines[k] = lines[k].replace(old, new)
-        other.functions = {**program.functions, name: lines}
-        text = "the change %d: %s => %s" % (seed, " ".join(old.split()), " ".join(new.split()))
-        if program.kind != "wasm" and is_same(other, name):
-            return "not ok", "the proof of the old code would be taken for " + text
-        try:
-            compression.show(other, name, kind, lanes)
-        except T.Refused as e:
-            wrong += isinstance(e, T.IsWrong)
-            continue
-        if (path, name, seed) not in NEUTRAL:
-            return "not ok", "the proof accepts " + text
+    function, wrong = next(name for name in ENTRIES if ENTRIES[name] == entry), 0
+    for k, row in enumerate(random_changes(path, function)):
+        verdict, why = row.check()
+        if verdict != "ok" and (path, function, k) not in NEUTRAL:
+            return verdict, "%d: %s: %s" % (k, row.title(), why)
+        wrong += why.startswith("is wrong")
     return "ok", "%d changes, %d of them are wrong for known inputs" % (COUNT, wrong)
-
-
-def with_branches(text: str, kind: str, k: int) -> str:
-    """A text in which each exported function begins with a branch on the first byte of an argument."""
-    branch = BRANCH[kind] % REGISTERS[kind][k]
-    return re.sub(r'^"?vulfsjor_ffi_\w+"?:.*\n', lambda m: m[0] + branch, text, flags=re.M)
-
-
-def place_of(kinds: tuple, k: int) -> Any:
-    """The kind of the argument whose address is in register k, or None."""
-    registers: list = []
-    for kind in kinds:
-        registers += [kind, None] if kind in BUFFERS else [kind]
-    return registers[k] if k < len(registers) else None
 
 
 def check_branches(path: str, k: int) -> tuple:
     """Whether a branch on argument k is refused in each exported function where it is secret: in taint tracking, and,
     if it is a state, in whole calls."""
-    program = programs.Program(path, lambda text: with_branches(text, functions.architecture(path), k))
-    shown, count = families.names(program), 0
+    kind, count = functions.architecture(path), 0
+    branch = BRANCH[kind] % REGISTERS[kind][k]
+    program = programs.Program(path, lambda text: re.sub(
+        r'^"?vulfsjor_ffi_\w+"?:.*\n', lambda m: m[0] + branch, text, flags=re.M))
+    shown = call_cases.names(program)
     for entry in constant_time.exports(program):
-        if place_of(entry[1], k) not in SECRET:
+        places = joined([place, None] if place in BUFFERS else [place] for place in entry[1])
+        if not set(places[k:k + 1]) & set(SECRET):
             continue
         ways: list[tuple[Callable, tuple]] = [(constant_time.show, entry)] * (path not in constant_time.NOT_FOLLOWED)
-        if entry[0] in shown and k == 0 and entry[1][0] == constant_time.STATE:
-            ways.append((families.show, entry[:1]))
+        if entry[0] in shown and k == 0 and places[0] == constant_time.STATE:
+            ways.append((call_cases.show, entry[:1]))
         for show, arguments in ways:
             try:
                 show(program, *arguments)
@@ -279,3 +225,58 @@ def check_branches(path: str, k: int) -> tuple:
                     return "not ok", "it is refused for another reason: %s" % e
                 count += 1
     return "ok", "%d branches" % count
+
+
+class Planted(NamedTuple):
+    """An attribute that gets a wrong value, made from the right one, and the test that must see it, which returns a
+    verdict and why, or refuses."""
+
+    title: str
+    owner: Any
+    name: str
+    wrong: Callable
+    test: Callable
+    arguments: tuple = ()
+    is_long: bool = False
+
+    def show(self) -> tuple:
+        """Whether it is seen: a verdict, and why."""
+        right = self.owner.__dict__[self.name]
+        setattr(self.owner, self.name, self.wrong(right))
+        try:
+            verdict, why, *_ = self.test(*self.arguments)
+        except T.IsWrong as e:
+            verdict, why = "not ok", str(e)
+        finally:
+            setattr(self.owner, self.name, right)
+            T.reset()
+        return ("ok", why) if verdict == "not ok" else ("not ok", "nothing has seen it")
+
+
+ARM, V3 = FILES["arm"], FILES["v3"]
+_Taint, _X86, S = constant_time.Taint, programs.x86.X86, check_specification.S
+PLANTED = (
+    Planted("an operation that forgets secrets", _Taint, "mixed", lambda _: (
+        lambda self, data: constant_time.unknown()), check_instructions.check, (ARM, "T", 2), True),
+    Planted("a carry that inc sets", _X86, "add_and_keep_carry", lambda _: (
+        lambda self, to, step: self.arithmetic(
+            "other", lambda a, b: programs.x86.total(a, b, step), to, programs.x86.ONE)),
+            check_instructions.check, (V3, "T", 2), True),
+    Planted("a sum whose range is that of one of two paths that meet", _Taint, "relate", lambda right: (
+        lambda self, m, _, visits, *words: right(self, m, m, visits, *words[:2], words[1])),
+            check_numbers.check_secrets, (200,)),
+    Planted("a range that begins between two steps", taint, "aligned", lambda _: (
+        lambda low, high, start, step: (low, high, step)), check_numbers.check_secrets, (200,)),
+    Planted("a test of the models that leaves out a form", check_instructions, "chosen", lambda right: (
+        lambda *arguments: (right(*arguments)[0], [t for t in right(*arguments)[1] if not t[0].startswith("usra")])),
+            check_instructions.check, (ARM, "W", 1), True),
+    Planted("a specification without the flag of the last block", S, "digest", lambda _: (
+        lambda a, kind, s: a.compress(kind, s.chain, s.pending, a.plus(s.counter, s.pending_length), 0, 0)),
+            check_specification.check, (1,)),
+    Planted("a specification that accepts too long an output", S, "admits", lambda right: (
+        lambda kind, size, *rest: [((size,), 1, kind.w + 1)] + right(kind, size, *rest)[1:]),
+            check_specification.compare, (3,)),
+    Planted("a copy of a variable length that chooses the wrong bytes", symbolic, "below", lambda _: (
+        lambda machine, j, n, a, b: symbolic.choice(j, n, b, a)),
+            lambda: call_cases.Cases(programs.read(ARM), "blake2s").show("_final")),
+)

@@ -1,16 +1,14 @@
 #!/usr/bin/env python3
-"""Shows, for the code in dist/ and the modules in js/src/wasm*.js, that each function that compresses computes F of
-RFC 7693 (section 3.2) for all inputs, in constant time; that calls of BLAKE2b, BLAKE2s and BLAKE2X write what the RFC
-and the BLAKE2X document say; and that no branch and no address of a whole call depends on a secret. Prints TAP; the
-status is 1 if something failed. docs/MACHINE.md says what is shown and how to read the output.
+"""Shows that the code in dist/ and js/src/wasm*.js compresses, and calls of it write and return, what RFC 7693 and the
+BLAKE2X document say, in constant time. docs/MACHINE.md says what is shown of which files, and how to read the output.
+Prints TAP; the status is 1 if something failed.
 
     tests/machine/check.py            the proofs: of one message in all files; of several messages, one function of each
-                                      kind, and of each whole call some cases, in one file; some rules of terms,
-                                      instructions on the processor, and changes that must be refused
+                                      kind, and of each whole call some cases, in one file; and some tests of the tool
     tests/machine/check.py --long     also several messages and all cases of whole calls in all files, except those of
-                                      BLAKE2X, all of which are shown in one; all rules and more runs of each
-                                      instruction, whole functions against hashlib, the types of the tool, and all
-                                      changes that must be refused; the same as VULFSJOR_TEST_HUGE=1
+                                      BLAKE2X, all of which are shown in one; all rules of terms, changes that must be
+                                      refused and types of the tool, more runs of each instruction, and whole functions
+                                      against hashlib; the same as VULFSJOR_TEST_HUGE=1
     tests/machine/check.py --forms    writes forms.txt, after a change of the files or the models
     tests/machine/check.py FILE..     only the proofs of these files, by their paths from the root, with all cases
 
@@ -19,13 +17,13 @@ instructions; python3-z3 for whole calls and the rules; node to run the instruct
 skipped.
 """
 
-from __future__ import annotations
-
 import gc
 import glob
+import hashlib
 import multiprocessing
 import os
 import platform
+import random
 import shutil
 import subprocess
 import sys
@@ -34,26 +32,22 @@ from typing import Any, Callable, Iterator, NamedTuple
 
 import call_cases
 import changes
-import check_digests
 import check_instructions
 import check_numbers
 import check_specification
+import check_terms
 import check_wasm_instructions
 import compression
 import constant_time
 import facts
-import families
 import forms
 import functions
-import planted
 import program as programs
-import scrub_stack
 import terms as T
-from machine import joined
+import whole_calls
+from machine import chunks, joined
 
 HUGE = "VULFSJOR_TEST_HUGE"
-HERE = os.path.dirname(os.path.abspath(__file__))
-FAMILIES = {"blake2b": "BLAKE2b", "blake2s": "BLAKE2s"}
 FORMS = {compression.EachCall: " with a counter each", compression.StripesCall: " in stripes"}
 # The files that must be read; how many exported functions each library has of which whole calls are shown; and how
 # many changes mutations.txt has.
@@ -61,22 +55,19 @@ READ, EXPORTS, CHANGES = ("dist/*/vulfsjor*.s", "dist/*/*.wasm", "js/src/wasm*.j
 # The families of exported functions, by the parts in which calls are followed.
 FOLLOWED = {"BLAKE2b": ("blake2b",), "BLAKE2s": ("blake2s", "memcmp", "wipe"), "BLAKE2bp": ("blake2bp",),
             "BLAKE2sp": ("blake2sp",), "BLAKE2X": ("blake2xb", "blake2xs"), "trees": ("tree",)}
-# What there is without --long: one message in all files; one function of several messages of each kind in one of
-# these; each family of calls in one of the first two, but of BLAKE2Xs, which is written as BLAKE2Xb, only secrets,
-# and its number of cases; the tests of the models there; rules of one width; and nothing that takes as long as all
-# others.
+# Without --long: the files in which more than one message is tried; which of them has each kind of function of several
+# messages; in which secrets of each family are followed; and where calls are shown whole, in how many cases. Those of
+# BLAKE2Xs, which is written as BLAKE2Xb, are not.
 SHORT = V3, ARM, JS = "dist/x86_64/vulfsjor-v3.s", "dist/aarch64/vulfsjor.s", "js/src/wasm.js"
 SHORT_MANY = {functions.MANY_B: V3, functions.EACH_S: ARM, functions.STRIPES_B: JS}
 SHORT_FOLLOWED = {part: SHORT[k % 2] for k, part in enumerate(FOLLOWED)}
 SHORT_WRITTEN = {"blake2b": (ARM, 102), "blake2s": (V3, 103), "blake2xb": (V3, 94), "": (V3, 4)}
-SHORT_INSTRUCTIONS = {(path, "F") for path in changes.FILES.values()} | {(ARM, "T"), (V3, "W")}
-# Where --long shows all cases of BLAKE2X. In other files it shows some, and follows secrets.
-ALL_OF_X = V3
-# What takes too long without --long.
-LONG_CALLS = ("vulfsjor_ffi_tree_root", "vulfsjor_ffi_tree_update_leaves")
+SHORT_INSTRUCTIONS = {(path, "W") for path in changes.FILES.values()} | {(ARM, "T")}
+LONG_CALLS = ("vulfsjor_ffi_tree_root", "vulfsjor_ffi_tree_update_leaves")     # which take too long then
+ALL_OF_X = V3                          # where --long shows all cases of BLAKE2X; elsewhere some, and it follows secrets
 # The users of forms.txt, and how often each instruction runs: without --long, and with it.
-USERS = {"F": "that compress", "T": "in which secrets are followed", "W": "that calls execute over variables"}
-ROUNDS = {"F": (3, 12), "T": (1, 6), "W": (2, 8)}
+USERS = {"T": "in which secrets are followed", "W": "that are executed over variables"}
+ROUNDS = {"T": (1, 6), "W": (3, 12)}
 SOLVER = None if facts.z3 else "python3-z3"
 
 
@@ -118,8 +109,8 @@ def not_runnable(path: str) -> str | None:
 def compress(path: str, name: str, kind: Any, lanes: int) -> str:
     """F of one function."""
     runner, seconds = compression.show(programs.read(path), functions.in_file(path, name), kind, lanes)
-    return "%d instructions, %d executed on %d paths, %d branches and %d addresses without a secret, %.1f s" % (
-        len(runner.code), runner.count, runner.paths, runner.branches, runner.addresses, seconds)
+    return "%d instructions, %d executed on %d paths, %.1f s" % (
+        len(runner.code), runner.count, runner.paths, seconds)
 
 
 def search(path: str) -> tuple:
@@ -130,7 +121,7 @@ def search(path: str) -> tuple:
 
 def look(path: str) -> tuple:
     changes.look(programs.read(path))
-    count = len(families.names(programs.read(path)))
+    count = len(call_cases.names(programs.read(path)))
     return "ok" if count == EXPORTS else "not ok", "whole calls of %d functions are shown" % count
 
 
@@ -139,22 +130,19 @@ def scrub(path: str) -> str:
     if not found:
         raise T.CannotShow("there is no such function: see functions.py")
     for name, count in found.items():
-        scrub_stack.show(programs.read(path), name, count)
+        whole_calls.show_scrub(programs.read(path), name, count)
     return "of %s bytes" % ", ".join(map(str, sorted(found.values())))
 
 
-def is_whole(path: str, entry: tuple) -> bool:
-    """Whether it is shown what a function's calls write, in as many cases as of any: constant time is part of that."""
-    name, _, family = entry
-    is_shown = path == ALL_OF_X or "x" not in family if is_long() else (
-        family in SHORT_WRITTEN or family in families.ALONE)
-    return not SOLVER and is_shown and name in families.names(programs.read(path))
-
-
 def to_follow(path: str, part: str) -> list:
-    """The functions of some families that are not shown whole."""
-    return [e for e in constant_time.exports(programs.read(path)) if e[2] in FOLLOWED[part]
-            and (is_long() or e[0] not in LONG_CALLS) and not is_whole(path, e)]
+    """The functions of some families of which it is not shown, with constant time, what their calls write, in as many
+    cases as of any."""
+    program = programs.read(path)
+    whole = () if SOLVER else call_cases.names(program)
+    is_whole = lambda family: path == ALL_OF_X or "x" not in family if is_long() else (
+        family in SHORT_WRITTEN or family in call_cases.ALONE)
+    return [e for e in constant_time.exports(program) if e[2] in FOLLOWED[part]
+            and (is_long() or e[0] not in LONG_CALLS) and not (e[0] in whole and is_whole(e[2]))]
 
 
 def follow(path: str, part: str) -> str:
@@ -167,34 +155,25 @@ def follow(path: str, part: str) -> str:
 
 def write_and_return(path: str, family: str, exports: list, numbers: tuple, wanted: int | None) -> tuple:
     """That whole calls of some functions of a family, or of all, write and return what they must."""
-    cases = families.cases(programs.read(path), family, *numbers)
-    names = exports or families.exports(programs.read(path), family)
+    cases = call_cases.cases(programs.read(path), family, *numbers)
+    names = exports or call_cases.exports(programs.read(path), family)
     count, paths = map(sum, zip(*[cases.show(export) for export in names]))
     return "ok" if wanted in (None, count) else "not ok", "%d cases, %d paths" % (count, paths)
 
 
 def parts_of_calls(path: str, is_short: bool, has_all: bool) -> Iterator[tuple]:
     """What is shown of whole calls of a file: all cases in parts, or some. As the arguments of write_and_return."""
-    for family in families.TITLES:
+    for family in call_cases.TITLES:
         if is_short:
             short, count = SHORT_WRITTEN.get(family, ("", 0))
-            yield from [(path, family, [], families.some(family), count)] * (path == short)
+            yield from [(path, family, [], call_cases.some(family), count)] * (path == short)
         elif "x" in family and path != ALL_OF_X and not has_all or not family:
-            yield path, family, [], families.some(family), None
+            yield path, family, [], call_cases.some(family), None
         else:
             pending = range(call_cases.KINDS[family].block + 1)
-            for export in families.exports(programs.read(path), family):
+            for export in call_cases.exports(programs.read(path), family):
                 parts: list = [(pending[k::4],) for k in range(4)] if export == "_update" else [()]
                 yield from ((path, family, [export], part, None) for part in parts)
-
-
-def can_read(path: str, is_library: bool) -> bool:
-    """Whether a file and its exported functions are known, which is read once for all jobs."""
-    try:
-        program = programs.read(path)
-        return not is_library or bool(list(constant_time.exports(program)))
-    except (T.Refused, programs.NotAssembled):
-        return False
 
 
 def proofs(path: str, has_all: bool) -> Iterator[Job]:
@@ -205,13 +184,18 @@ def proofs(path: str, has_all: bool) -> Iterator[Job]:
     yield job("no other function has a copy of the rounds", search, path)
     if is_library:
         yield job("nothing that runs or is read is writable, and each exported function is known", look, path)
-    if gone or not can_read(path, is_library):
+    if gone:
+        return
+    try:
+        program = programs.read(path)  # once for all jobs
+        list(constant_time.exports(program) if is_library else ())
+    except T.Refused:
         return
     for entry in functions.FILES[path]:
         name, kind, lanes = entry
         if not is_short or lanes == 1 or path == SHORT_MANY.get(entry):
             count = "%d messages" % lanes if lanes > 1 else "one message"
-            yield job("F of %s, %s%s" % (FAMILIES[kind.name], count, FORMS.get(compression.call_of(name), "")),
+            yield job("F of %s, %s%s" % (call_cases.TITLES[kind.name], count, FORMS.get(compression.call_of(name), "")),
                       compress, path, *entry)
     for part in FOLLOWED if is_library and path not in constant_time.NOT_FOLLOWED else ():
         if (not is_short or path == SHORT_FOLLOWED[part]) and to_follow(path, part):
@@ -220,7 +204,7 @@ def proofs(path: str, has_all: bool) -> Iterator[Job]:
         yield job("scrub_stack overwrites its bytes", scrub, path, needs=SOLVER)
         for calls in parts_of_calls(path, is_short, has_all):
             names = " ".join(e.lstrip("_") or "in one" for e in calls[2]) or "all"
-            yield job("what calls of %s write and return: %s" % (families.TITLES[calls[1]], names),
+            yield job("what calls of %s write and return: %s" % (call_cases.TITLES[calls[1]], names),
                       write_and_return, *calls, needs=SOLVER)
 
 
@@ -249,14 +233,45 @@ def all_files() -> tuple:
     return "not ok" if left_out else "ok", " ".join(left_out)
 
 
-def rules(width: int) -> tuple:
-    import check_terms                 # which needs z3
-    return check_terms.check(width, is_long())
+def digests(path: str, entry: tuple, rng: random.Random) -> tuple:
+    """The digests of random messages of one block by the model of a function that compresses, over numbers, and those
+    of hashlib, with both values of the flag of the last node."""
+    name, kind, lanes = entry
+    T.reset()
+    size = rng.randrange(1, kind.block + 1)
+    texts = [rng.randbytes(size) for _ in range(lanes)]
+    nodes = [bool(rng.randrange(2)) for _ in range(lanes)]
+    assumed, numbers = {}, {"counter": size}
+    for j, text in enumerate(texts):
+        assumed.update({"last%d" % j: True, "node%d" % j: nodes[j]})
+        numbers.update({"counter%d" % j: size, "length%d" % j: 1, "h%d.0" % j: kind.iv[0] ^ 0x01010000 ^ kind.w})
+        numbers.update({"h%d.%d" % (j, k): kind.iv[k] for k in range(1, 8)})
+        numbers.update({"m%d.%d" % (j, k): int.from_bytes(word, "little")
+                        for k, word in enumerate(chunks(text.ljust(kind.block, b"\0"), kind.bytes))})
+    program, name = programs.read(path), functions.in_file(path, name)
+    call = compression.call_of(name)(program, name, kind, lanes, assumed, numbers)
+    runner = compression.Runner(program.code(name), call.cpu)
+    runner.run(call.machine, runner.first)
+    words = chunks(call.machine.load(call.pointer(call.h), kind.w * lanes), kind.bytes)
+    return [bytes(joined(words[j::lanes])) for j in range(lanes)], [
+        getattr(hashlib, kind.name)(text, last_node=node).digest() for text, node in zip(texts, nodes)]
+
+
+def check_digests(path: str, count: int) -> tuple:
+    """Whole functions in the model, but those of stripes: their blocks are never the last."""
+    rng, total = random.Random(2), 0
+    for entry in functions.FILES[path]:
+        for _ in range(count if compression.call_of(entry[0]) is not compression.StripesCall else 0):
+            found, wanted = digests(path, entry, rng)
+            total += len(wanted)
+            if found != wanted:
+                return "not ok", "%s: the digest is not that of hashlib" % entry[0]
+    return "ok", "%d digests" % total
 
 
 def types() -> tuple:
     """The type hints of the tool, and what mypy infers from them."""
-    files = sorted(glob.glob(os.path.join(HERE, "*.py")))
+    files = sorted(glob.glob(os.path.join(programs.ROOT, "tests", "machine", "*.py")))
     run = subprocess.run(["mypy", "--disallow-untyped-defs", "--check-untyped-defs", "--ignore-missing-imports",
                           "--cache-dir=" + os.devnull] + files, stdout=subprocess.PIPE, text=True)
     return "not ok" if run.returncode else "ok", run.stdout.strip().split("\n")[-1]
@@ -264,23 +279,23 @@ def types() -> tuple:
 
 def runs_instructions(path: str, user: str) -> bool:
     """Whether the tests of instructions run those of a file for a user of forms.txt."""
-    if not is_long() or user == "F":
-        return is_long() or (path, user) in SHORT_INSTRUCTIONS
-    return path in changes.FILES.values() and functions.architecture(path) != "wasm" and (
-        user == "W" or path not in constant_time.NOT_FOLLOWED)
+    if not is_long():
+        return (path, user) in SHORT_INSTRUCTIONS
+    return user == "W" or functions.architecture(path) != "wasm" and path not in constant_time.NOT_FOLLOWED
 
 
 def tests_of_the_tool() -> Iterator[Job]:
     """The jobs that test the tool itself, but those of one file."""
     few = lambda n, m: n if is_long() else m
     native = not_runnable(check_specification.PATH) or (None if platform.machine() == "x86_64" else "x86-64")
-    assembly = not_runnable(planted.ARM) or not_runnable(planted.V3) or native or SOLVER
+    assembly = not_runnable(changes.ARM) or not_runnable(changes.V3) or native or SOLVER
     for title, gone, show, *arguments in (
-            *[("the rules of terms at %d bits" % width, SOLVER, rules, width) for width in few((64, 32, 16, 8), (16,))],
+            *[("the rules of terms at %d bits" % width, SOLVER, check_terms.check, width, is_long())
+              for width in few((64, 32, 16, 8), (16,))],
             *[("comparisons of whole calls are decided right", SOLVER, check_numbers.check_calls, seed, few(25000, 500))
               for seed in range(few(4, 1))],
             *[("the tool's tests see %s" % change.title, assembly, change.show)
-              for change in planted.ALL if is_long() or not change.is_long],
+              for change in changes.PLANTED if is_long() or not change.is_long],
             ("the specification of whole calls agrees with hashlib", None, check_specification.check, few(400, 10)),
             ("the specification of whole calls agrees with the library", native or SOLVER,
              check_specification.compare, few(10, 2)),
@@ -310,7 +325,7 @@ def tests_of_a_file(path: str) -> Iterator[Job]:
         if is_long() or (path, entry) == (ARM, functions.ONE_S):
             yield job("random changes of %s are refused" % entry[0], gone, changes.check_random, path, entry)
     if is_long():
-        yield job("whole functions in the model agree with hashlib", gone, check_digests.check, path, 5)
+        yield job("whole functions in the model agree with hashlib", gone, check_digests, path, 5)
         is_assembly = path in changes.FILES.values() and functions.architecture(path) != "wasm"
         for k in range(6) if is_assembly else ():
             yield job("branches on argument %d of each exported function are refused" % k, gone or SOLVER,
@@ -325,8 +340,8 @@ def run(job: Job) -> tuple:
     gc.disable()                       # terms have no cycles, and looking for some takes long
     try:
         found = show()
-    except (T.Refused, programs.NotAssembled) as e:
-        return "not ok", title, "%s: %s" % (T.kind_of(e), e)
+    except T.Refused as e:
+        return "not ok", title, "%s: %s" % (e.kind, e)
     except Exception as e:
         return "not ok", title, "cannot show: %s: %s" % (type(e).__name__, e)
     finally:
@@ -344,12 +359,8 @@ def report(results: Any) -> bool:
     for verdict, title, why in results:
         count += 1
         failed += verdict not in ("ok", "skip")
-        if verdict == "skip":
-            print("ok %d - %s # SKIP %s" % (count, title, why), flush=True)
-            continue
-        print("%s %d - %s" % (verdict, count, title), flush=True)
-        if why:
-            print("# " + why, flush=True)
+        more = " # SKIP " + why if verdict == "skip" else "\n# " + why if why else ""
+        print("%s %d - %s%s" % (verdict.replace("skip", "ok"), count, title, more), flush=True)
     print("1..%d" % count)
     return count > 0 and not failed
 
@@ -375,7 +386,7 @@ def main(arguments: list) -> int:
     if set(arguments) & {"-h", "--help"}:
         print(__doc__.strip())
         return 0
-    given = arguments
+    facts.run_with_z3(__file__, arguments)
     if arguments == ["--forms"]:
         return write_forms()
     if arguments == ["--long"]:
@@ -387,7 +398,6 @@ def main(arguments: list) -> int:
     if unknown:
         print("check.py: there is no list of functions for %s" % unknown[0], file=sys.stderr)
         return 2
-    facts.run_with_z3(__file__, given)
     ALL.extend(job for path in arguments or functions.FILES for job in proofs(path, bool(arguments)))
     if not arguments:
         ALL.extend([*tests_of_the_tool(), *joined(map(tests_of_a_file, functions.FILES))])

@@ -1,12 +1,10 @@
 """Runs each form of instruction on the processor (for ARM in qemu-aarch64), over random registers and memory, and
-compares with the model: of the functions that compress, of those that calls execute over variables, and of those in
-which secrets are followed, which are the users F, W and T of forms.txt. What the model has as a number must be that
-number. For T each runs twice, over states that differ only in bytes that are secret: what is public must then be the
-same. Of flags all conditions are compared, also after two instructions, of which the first sets flags, and the second
-keeps some or reads them. What the model accepts at an odd address runs there. check_wasm_instructions.py does it for
-WebAssembly."""
-
-from __future__ import annotations
+compares with the model: of the functions that are executed over variables, and of those in which secrets are followed,
+which are the users W and T of forms.txt. What the model has as a number must be that number; of the functions that
+compress, all are numbers. For T each runs twice, over states that differ only in bytes that are secret: what is public
+must then be the same. Of flags all conditions are compared, also after two instructions, of which the first sets
+flags, and the second keeps some or reads them. What the model accepts at an odd address runs there.
+check_wasm_instructions.py does it for WebAssembly."""
 
 import itertools
 import os
@@ -17,16 +15,16 @@ import subprocess
 import tempfile
 from typing import Any, Iterator, NamedTuple, TYPE_CHECKING
 
+import call_cases
 import constant_time
-import families
 import forms
 import functions
 import terms as T
 import x86
-from machine import Region, Words
+from machine import Cells
 from program import read, TOOLS
 from symbolic import Exact, Undecided
-from taint import Cells, Taint, is_secret, reset, secret
+from taint import Taint, is_secret, secret
 
 if TYPE_CHECKING:
     from program import Program
@@ -35,7 +33,7 @@ BUFFER = 4096                          # bytes on each side of the base of an ac
 SPAN = (-BUFFER, BUFFER)
 # For each user: the seed of its tests, of how many instructions of each form, and how many tenths of all
 # must be compared.
-USERS = {"F": (1, 6, 10), "T": (3, 4, 9), "W": (7, 4, 8)}
+USERS = {"T": (3, 4, 9), "W": (7, 6, 8)}
 OF_ZERO = ("add", "sub", "dec", "xor", "test", "shr", "shl", "cmp", "subs", "tst")
 # A state: 32 general registers, vectors, the zero flag before and all flags afterwards, masks and memory. In place of
 # the last register, which has no name, a test reads its number, shifted, and whether the base of its memory is odd;
@@ -175,7 +173,7 @@ def hidden(rng: Any, size: int) -> set:
         range(MEMORY, SIZE) if rng.random() < 0.5 else ())
 
 
-def reached(program: Program, waiting: list, left_out: list) -> list:
+def reached(program: "Program", waiting: list, left_out: list) -> list:
     """The functions that some functions reach, except those that are left out."""
     found: set = set()
     while waiting:
@@ -190,20 +188,21 @@ def reached(program: Program, waiting: list, left_out: list) -> list:
     return sorted(found)
 
 
-def executed(program: Program, user: str) -> list:
+def compressing(program: "Program") -> list:
+    return [functions.in_file(program.path, name) for name, _, _ in functions.FILES[program.path]]
+
+
+def executed(program: "Program", user: str) -> list:
     """The functions that are executed for a user."""
-    listed = [functions.in_file(program.path, name) for name, _, _ in functions.FILES[program.path]]
-    scrubs = list(functions.scrubs(program))
-    if user == "F":
-        return listed
+    listed, scrubs = compressing(program), list(functions.scrubs(program))
     if user == "W":
-        return reached(program, families.names(program) + scrubs, listed)
+        return listed + reached(program, call_cases.names(program) + scrubs, listed)
     follows = program.path not in constant_time.NOT_FOLLOWED
     names = [e[0] for e in constant_time.exports(program)] if follows else []
     return reached(program, names, listed + scrubs)
 
 
-def chosen(program: Program, user: str, count: int, rng: Any) -> tuple:
+def chosen(program: "Program", user: str, count: int, rng: Any) -> tuple:
     """The forms that are executed for a user, except those that are part of whole functions only, and up to `count`
     instructions of each, as (text, base register)."""
     found: dict = {}
@@ -214,19 +213,17 @@ def chosen(program: Program, user: str, count: int, rng: Any) -> tuple:
     return set(found), [t for f in sorted(found) for t in rng.sample(sorted(found[f]), min(count, len(found[f])))]
 
 
-def machine(program: Program, user: str, text: str, base: int, data: bytes, places: set, odd: int = 0) -> tuple:
+def machine(program: "Program", user: str, text: str, base: int, data: bytes, places: set, odd: int = 0) -> tuple:
     """The machine after the instructions of a text, in which bytes at some places are secret."""
     byte = lambda k: secret() if k in places else data[k]
     word = lambda at, n: [byte(k) for k in range(at, at + n)] if places else list(data[at:at + n])
     memory, cpu = lambda k: byte(MEMORY + BUFFER + odd + k), program.model.Model
     buf = T.var(64, "buffer", T.PUBLIC)
     m: Any
-    if user == "F":
-        m = Words({buf: Region(*SPAN, memory, SPAN, (64, odd))}, cpu, {})
-    elif user == "W":
+    if user == "W":
         m = Exact({buf: Cells(*SPAN, memory, True, (64, odd))}, cpu, (16, 0))
     else:
-        m = Taint({buf: Cells(*SPAN, memory)}, cpu, (16, 0), {}, 128)
+        m = Taint({buf: Cells(*SPAN, memory)}, cpu, (16, 0), 128)
     m.stack = T.var(64, "sp", T.PUBLIC)
     m.general = [word(8 * j, 8) for j in range(len(m.general))]
     m.general[base] = T.split(buf)
@@ -242,7 +239,7 @@ def machine(program: Program, user: str, text: str, base: int, data: bytes, plac
     return m, buf
 
 
-def places_of(program: Program, m: Any, written: dict) -> Iterator:
+def places_of(program: "Program", m: Any, written: dict) -> Iterator:
     """What a test compares of registers, and of what the model has written: places in a state, and bytes."""
     count, size = vectors_of(program.path)
     for j, r in enumerate(m.general[:31]):
@@ -253,7 +250,7 @@ def places_of(program: Program, m: Any, written: dict) -> Iterator:
     yield from ((place, [b]) for place, b in written.items())
 
 
-def difference(program: Program, m: Any, buf: T.Term, before: list, after: list) -> str | None:
+def difference(program: "Program", m: Any, buf: T.Term, before: list, after: list) -> str | None:
     """What is called public and differs between the states after one or two runs, or is another number than in the
     first, or None."""
     one = after[0]
@@ -271,7 +268,7 @@ def difference(program: Program, m: Any, buf: T.Term, before: list, after: list)
             if any(state[at] != one[at] for state in after):
                 return "byte %d depends on a secret" % at
             n = number_of(b)
-            if n != one[at] and (isinstance(n, int) or isinstance(m, Words)):
+            if n != one[at] and isinstance(n, int):
                 return "byte %d is %d, not %s" % (at, one[at], n)
     for old, new in zip(before, after):
         kept = bytearray(new)
@@ -282,7 +279,7 @@ def difference(program: Program, m: Any, buf: T.Term, before: list, after: list)
     return difference_of_flags(program, m, number_of, after)
 
 
-def difference_of_flags(program: Program, m: Any, number_of: Any, after: list) -> str | None:
+def difference_of_flags(program: "Program", m: Any, number_of: Any, after: list) -> str | None:
     """The same of the conditions that the flags say, and of the masks of AVX-512."""
     first, *others = [conditions(program.kind, state) for state in after]
     for name, holds in first.items():
@@ -357,11 +354,11 @@ class Run(NamedTuple):
             yield data[:LAST] + struct.pack("<Q", 2 * self.test + self.odd) + data[VECTORS:]
 
 
-def runs_of(program: Program, user: str, tests: list, rounds: int, rng: Any) -> Iterator:
+def runs_of(program: "Program", user: str, tests: list, rounds: int, rng: Any) -> Iterator:
     """The runs of each test. The first of one that reads or writes a vector is at an odd address, if the model lets
     it."""
     for k, (text, base) in enumerate(tests):
-        has_zero = user == "F" and text.startswith(OF_ZERO)
+        has_zero = user == "W" and text.startswith(OF_ZERO)
         for n in range(rounds + 6 * has_zero):
             data = state(rng, text, k + n // 2 if n % 2 else None)
             fit(program.kind, text, data, rng)
@@ -380,7 +377,7 @@ def runs_of(program: Program, user: str, tests: list, rounds: int, rng: Any) -> 
 
 def accepts(*arguments: Any) -> bool:
     """Whether the model executes what machine() has to."""
-    reset()
+    T.reset()
     try:
         machine(*arguments)
     except T.Refused:
@@ -388,13 +385,20 @@ def accepts(*arguments: Any) -> bool:
     return True
 
 
+def are_known(program: "Program", m: Any, buf: T.Term) -> bool:
+    """Whether the model has a number in each register, and in all that is written."""
+    return all(isinstance(b, int) or T.variables(b[0]) == {buf} for _, data in places_of(program, m, m.memory)
+               for b in data)
+
+
 def check(path: str, user: str, rounds: int) -> tuple:
     """Whether the model agrees with the processor: a verdict, the numbers or what differs, and the forms that were
     run."""
     program, (seed, count, tenths) = read(path), USERS[user]
     rng = random.Random(seed)
-    used, tests = chosen(program, user, count if rounds > 5 else 1 + (user == "F"), rng)
-    extra = EXTRA[program.kind] if user == "F" else list(pairs(program.kind, tests, rng))
+    used, tests = chosen(program, user, count if rounds > 5 else 1 + (user == "W"), rng)
+    exact = {forms.form(program.kind, t) for name in compressing(program) * (user == "W") for t in program.texts(name)}
+    extra = [*EXTRA[program.kind] * (user == "W"), *pairs(program.kind, tests, rng)]
     first, tests = len(tests), tests + extra
     runs = list(runs_of(program, user, tests, rounds, rng))
     after_all = iter(execute(program.kind, tests, vectors_of(path), (x for r in runs for x in r.inputs())))
@@ -402,22 +406,24 @@ def check(path: str, user: str, rounds: int) -> tuple:
     known: set = set()
     for n, r in enumerate(runs):
         if n % 50 == 0:
-            reset()
+            T.reset()
         text, base = tests[r.test]
         after = list(itertools.islice(after_all, len(r.states)))
         if len(after) < len(r.states):
             return "not ok", "%s: the processor faults" % text, set()
+        must = r.test < first and (user == "T" or forms.form(program.kind, text) in exact)
         try:
             m, buf = machine(program, user, text, base, r.states[0], r.places, r.odd)
         except (T.Refused, Undecided):
-            if user == "F" or user == "T" and r.test < first:
+            if must:
                 raise
             continue                   # the flags that it reads are not public, or not known
         why = difference(program, m, buf, r.states, after)
-        if why:
-            return "not ok", "%s: in the model %s" % (text, why), set()
+        is_known = user == "T" or are_known(program, m, buf)
+        if why or must and not is_known:
+            return "not ok", "%s: in the model %s" % (text, why or "the result is not known"), set()
         run.add(r.test)
-        if user != "W" or all(T.substitute(T.word(x), {buf: T.const(64, 0)}, {}).op == "const" for x in m.general):
+        if is_known:
             known.add(r.test)
     if len(known) < len(tests) * tenths // 10:
         return "not ok", "only %d of %d tests can be compared" % (len(known), len(tests)), set()

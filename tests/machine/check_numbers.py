@@ -2,18 +2,16 @@
 computed, compared and chosen, and paths meet. Each word must have the number that its operation has, and be in its
 range, by its step too. No answer may be wrong, and no comparison that is true may be called impossible."""
 
-from __future__ import annotations
-
 import math
 import random
-from typing import Any, Callable
+from typing import Callable
 
 import terms as T
 import x86
 from facts import RELATIONS, Facts
-from ranges import OPPOSITE
 from symbolic import Exact, below
-from taint import Taint, reset
+from taint import Taint
+from terms import OPPOSITE
 
 SMALL, LARGE = (1, -1, 2, 8, 64, 128), (1 << 32, 1 << 62, 1 << 63, -(1 << 62), 3)
 ADDED = (0, 1, 8, 127, -1, -8, -128, -512)
@@ -30,8 +28,10 @@ class Wrong(Exception):
 class Run:
     """A machine, the words that were computed, and the numbers of the variables."""
 
+    compare: Callable                  # asks or learns how two words compare
+
     def __init__(self, rng: random.Random, machine: Callable, factors: tuple) -> None:
-        reset()
+        T.reset()
         self.rng, self.machine, self.factors = rng, machine(), factors
         self.machine.stack = T.var(64, "sp", T.PUBLIC)
         self.numbers = {name: self.number() for name in "xyz"}
@@ -79,10 +79,6 @@ class Run:
     def learn(self, relation: str, a: T.Term, b: T.Term, holds: bool) -> None:
         if not self.machine.learn(relation, a, b, holds):
             raise Wrong("%r %s %r is called impossible" % (a, relation if holds else OPPOSITE[relation], b))
-
-    def compare(self, a: T.Term, b: T.Term) -> None:
-        """Asks or learns how two words compare."""
-        raise NotImplementedError
 
     def run(self) -> int:
         """Computes and compares, with all that follows. Returns how many questions were answered."""
@@ -199,7 +195,7 @@ def check_secrets(count: int) -> tuple:
     """Whether all ranges have their numbers: a verdict, and what was tried."""
     rng = random.Random(5)
     for _ in range(count):
-        run = OfSecrets(rng, lambda: Taint({}, x86.X86, (16, 0), {}, 128, rng.choice((0, 896))), SMALL)
+        run = OfSecrets(rng, lambda: Taint({}, x86.X86, (16, 0), 128, rng.choice((0, 896))), SMALL)
         try:
             run.run()
             if run.meet():

@@ -1,10 +1,9 @@
 """Tests the specification of whole calls over numbers. Its digests must be those of hashlib. And for made-up numbers
-in each case of call_cases.py and xof_cases.py, most of them near a bound, the compiled library must return and write
-what is specified: by the source's proofs, it keeps the contracts of crates/blake2_ffi."""
-
-from __future__ import annotations
+in each case of call_cases.py, most of them near a bound, the compiled library must return and write what is specified:
+by the source's proofs, it keeps the contracts of crates/blake2_ffi."""
 
 import ctypes
+import functools
 import hashlib
 import os
 import random
@@ -16,13 +15,11 @@ from typing import Any, Callable, cast
 import call_cases
 import call_specification as S
 import facts
-import families
-import macros
 import program as programs
 import rfc7693 as R
 import terms as T
 import xof_specification as X
-from call_cases import MOST, REFUSED
+from call_cases import COUNTS, MOST, REFUSED
 from whole_calls import Terms
 
 PATH = "dist/x86_64/vulfsjor-v2.s"     # which each of these processors runs
@@ -43,10 +40,6 @@ class Unlucky(Exception):
 class Numbers(Terms):
     """The operations of call_specification.py over numbers."""
 
-    def __init__(self) -> None:
-        super().__init__(cast(Any, None), SimpleNamespace(
-            path_facts=facts.Facts(), settled=lambda t: t, size_of=lambda t: 8, bytes_of=T.split))
-
     def are_equal(self, x: list, y: list) -> int:
         return int(x == y)
 
@@ -60,7 +53,8 @@ class Numbers(Terms):
         return R.compress_all(kind, chain, data, value(start), value(k), value(count))
 
 
-A: Any = Numbers()
+A: Any = Numbers(cast(Any, None), SimpleNamespace(
+    path_facts=facts.Facts(), settled=lambda t: t, size_of=lambda t: 8, bytes_of=T.split))
 
 
 class Memory:
@@ -73,9 +67,6 @@ class Memory:
     def __call__(self, j: Any) -> int:
         return self.data[value(j)] if value(j) < len(self.data) else 0
 
-    def initial(self, j: int) -> T.Byte:
-        return T.const(8, self(j)), 0
-
     def pointer(self) -> ctypes.c_void_p:
         self.buffer = ctypes.create_string_buffer(self.spare + self.data + self.spare, len(self.data) + 2 * SPARE)
         return ctypes.c_void_p(ctypes.addressof(self.buffer) + SPARE)
@@ -87,21 +78,14 @@ class Memory:
 
 # The digests.
 
-def lengths(rng: random.Random, kind: R.Kind) -> int:
-    """A length near a multiple of the block's."""
-    return max(0, rng.choice((0, 1, 2, 3)) * kind.block + rng.choice((-1, 0, 1, rng.randrange(64))))
-
-
 def absorbed(kind: R.Kind, s: Any, data: bytes) -> Any:
     """The state after the update that the length of the data calls for."""
-    n, size, pending, buffer = len(data), kind.block, value(s.pending_length), cast(Any, Memory(data))
+    pending, buffer = value(s.pending_length), Memory(data)
     s = s.but(pending_length=pending)
-    if pending + n <= size:
-        return S.update_few(A, kind, s, buffer, n)
-    fill = size - pending if pending else 0
-    k: Any = (n - fill - 1) // size
-    rest: Any = n - fill - size * k
-    return S.update_many(A, kind, s, buffer, k, rest)
+    if pending + len(data) <= kind.block:
+        return S.update_few(A, kind, s, buffer, len(data))
+    k, rest = divmod(len(data) - -pending % kind.block - 1, kind.block)
+    return S.update_many(A, kind, s, buffer, k, rest + 1)
 
 
 def digests(rng: random.Random, kind: R.Kind) -> tuple:
@@ -112,9 +96,10 @@ def digests(rng: random.Random, kind: R.Kind) -> tuple:
     tree = [rng.randrange(256), rng.randrange(1, 256), rng.getrandbits(32),
             rng.getrandbits(64 if kind.w == 64 else 48), rng.randrange(256), rng.randrange(kind.w + 1)]
     texts: Any = [x for text in (key, salt, persona) for x in (Memory(text), len(text))]
-    s, message = S.init_tree(A, kind, size, *(texts + [tree])), b""
+    s, message = S.init(A, kind, size, *(texts + [tree])), b""
     for _ in range(rng.randrange(4)):
-        piece = rng.randbytes(lengths(rng, kind))
+        near = rng.randrange(4) * kind.block + rng.choice((-1, 0, 1, rng.randrange(64)))
+        piece = rng.randbytes(max(0, near))
         s, message = absorbed(kind, s, piece), message + piece
     names = ("fanout", "depth", "leaf_size", "node_offset", "node_depth", "inner_size")
     wanted = getattr(hashlib, kind.name)(message, digest_size=size, key=key, salt=salt, person=persona,
@@ -164,39 +149,31 @@ class Made(call_cases.Case):
         if not low <= total <= high:
             raise Unlucky
 
-    def pass_struct(self, name: str, data: list, writable: bool = False) -> Any:
-        memory = self.memories[name] = Memory(bytes(data), self.rng.randbytes(SPARE))
-        self.arguments.append(memory)
-        return memory
+    def pass_struct(self, name: str, data: Any) -> None:
+        self.memories[name] = Memory(bytes(data), self.rng.randbytes(SPARE))
+        self.arguments.append(self.memories[name])
 
-    def pass_buffer(self, name: str, length: Any, taint: int = T.SECRET, writable: bool = False) -> Any:
+    def pass_buffer(self, name: str, length: Any, taint: int = T.SECRET) -> Memory:
         """A buffer that is too long to be made is that of a call that is refused."""
         self.is_long |= value(length) > LONGEST
-        memory = self.pass_struct(name, list(self.rng.randbytes(min(value(length), LONGEST))))
+        self.pass_struct(name, self.rng.randbytes(min(value(length), LONGEST)))
         self.arguments.append(T.const(64, value(length)))
-        return memory
-
-    def make_tag(self) -> None:
-        """Lets a tag be right, or have one wrong bit."""
-        tag = self.memories.get("tag")
-        if tag and 0 < len(tag.data) == value(self.state.output_size):
-            data = bytearray(S.digest(A, self.kind, self.state)[:len(tag.data)])
-            data[self.rng.randrange(len(data))] ^= self.rng.choice((0, 0, 1, 128))
-            tag.data = bytes(data)
-
-    def call(self, f: Any) -> int:
-        """What the library returns."""
-        words = [x.pointer() if isinstance(x, Memory) else ctypes.c_uint64(int.from_bytes(bytes(
-            b if isinstance(b, int) else self.rng.randrange(256) for b in T.split(x)), "little"))
-            for x in self.arguments]
-        return f(*words)
+        return self.memories[name]
 
     def differs(self, f: Any, expected: Callable) -> str | None:
         """What the library does otherwise than the specification says."""
+        tag = self.memories.get("tag")
+        if tag and 0 < len(tag.data) == value(self.state.output_size):     # it is right, or has one wrong bit
+            right = S.digest(A, self.kind, self.state)[:len(tag.data)]
+            right[self.rng.randrange(len(right))] ^= self.rng.choice((0, 0, 1, 128))
+            tag.data = bytes(right)
         result, state, out = expected(A)
         if self.is_long and result is not REFUSED:
             raise Unlucky
-        found = self.call(f)
+        words = [x.pointer() if isinstance(x, Memory) else ctypes.c_uint64(int.from_bytes(bytes(
+            b if isinstance(b, int) else self.rng.randrange(256) for b in T.split(x)), "little"))
+            for x in self.arguments]
+        found = f(*words)
         if callable(result):           # what a comparison returns
             is_same = int(found == 0)
             result = result(SimpleNamespace(compared_bytes=(is_same, is_same)))
@@ -211,21 +188,18 @@ class Made(call_cases.Case):
         return next((name for name, memory in self.memories.items() if not memory.has(wanted[name])), None)
 
 
-def read(case: Made, n: T.Term, is_known: bool, state: Callable, position: T.Term) -> Callable:
-    """The bytes of a read, in place of those that reads.py compares."""
+def read(case: Made, n: T.Term, state: Callable, position: T.Term) -> Callable:
+    """The bytes of a read, in place of those that loops.py compares."""
     def data(_: Any) -> bytes:
-        blocks, w = X.stream(A, case.kind, state(A), is_known), case.kind.w
-        first, start = divmod(value(position), w)
-        return bytes([b for i in range(first, first + (start + value(n) - 1) // w + 1)
-                      for b in blocks(i)][start:start + value(n)])
+        blocks, w = functools.cache(X.stream(A, case.kind, state(A), case.is_known)), case.kind.w
+        return bytes(blocks(k // w)[k % w] for k in range(value(position), value(position) + value(n)))
     return data
 
 
 def library(folder: str) -> Any:
     """The text as a library whose functions can be called by their names."""
     s, so = (os.path.join(folder, "a" + suffix) for suffix in (".s", ".so"))
-    with open(os.path.join(programs.ROOT, PATH)) as f:
-        text = macros.expanded(f.read(), "x86_64")
+    text = programs.source(PATH)
     with open(s, "w") as f:
         f.write("\n".join(line for line in text.split("\n") if not line.startswith("\t.hidden")))
     subprocess.run(programs.TOOLS["x86_64"][0] + ["-shared", "-o", so, s], check=True)
@@ -236,13 +210,11 @@ def compare_case(rng: random.Random, cases: Any, export: str, case: call_cases.C
     """What differs for numbers of a case, or None."""
     for k in range(TRIES):
         T.reset()
-        if k == TRIES // 200 and not cases.filled(export, case.choices).is_possible():
+        if k == TRIES // 200 and not cases.filled(export, case.choices)[0].is_possible():
             return None
         made = Made(rng, cases, case)
         try:
-            expected = cases.fill(export, made)
-            made.make_tag()
-            return made.differs(f, expected)
+            return made.differs(f, cases.fill(export, made))
         except Unlucky:
             pass
         except T.Refused as e:
@@ -257,16 +229,16 @@ def compare(count: int) -> tuple:
     program = programs.read(PATH)
     with tempfile.TemporaryDirectory() as folder:
         lib = library(folder)
-        for family in filter(None, families.TITLES):
-            cases = families.cases(program, family, families.some(family)[0], families.some(family)[1] or None)
+        for family in filter(None, call_cases.TITLES):
+            pending, sizes = call_cases.some(family)
+            cases = call_cases.cases(program, family, pending, sizes or None)
             cases.reads = read
-            for end in families.exports(program, family):
-                f = getattr(lib, "vulfsjor_ffi_%s%s_1_v2" % (family, end))
-                f.restype = ctypes.c_uint64 if end in ("_count", "_left", "_digest_size", "_state_size") else (
-                    ctypes.c_uint32)
-                for case in [case for case in cases.each(end) if case.is_refused == case.fails]:
+            for end in call_cases.exports(program, family):
+                f = getattr(lib, cases.prefix + end + "_1_v2")
+                f.restype = ctypes.c_uint64 if end in COUNTS else ctypes.c_uint32
+                for case in [case for case, _ in cases.each(end, cases.filled) if case.is_refused == case.fails]:
                     total += count
                     why = next(filter(None, (compare_case(rng, cases, end, case, f) for _ in range(count))), None)
                     if why:
-                        return "not ok", "vulfsjor_ffi_%s%s, case %s: %s" % (family, end, case.title(), why)
+                        return "not ok", "%s%s, case %s: %s" % (cases.prefix, end, case.title(), why)
     return "ok", "%d calls" % total

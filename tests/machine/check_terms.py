@@ -2,19 +2,14 @@
 form, at each width and for each number of bits of a shift. With all cases, each pair of forms comes in both orders,
 and each form is shifted by each number of bits. Else only the forms for which a rule exists are."""
 
-from __future__ import annotations
-
 import functools
 import operator
 from typing import Any, Iterable, Iterator
 
-import z3
-
 import terms as T
+from facts import z3
 
 C, D = 0x6a09e667f3bcc908, 0xbb67ae8584caa73b   # any two numbers
-
-
 # What a term of each operator means, from its width, its arguments, and a function that says it of its parts.
 MEANINGS: dict = {
     "const": lambda w, a, of: z3.BitVecVal(a, w),
@@ -65,17 +60,12 @@ def shapes(w: int) -> list:
     ]
 
 
-def shift_counts(w: int, form: T.Term, has_all: bool) -> Iterable:
-    """The numbers of bits by which a term is shifted."""
-    few = not has_all and form.op not in ("const", "var", "xor", "ror")
-    return sorted({1, 8 % w or 7, w // 2, w - 1}) if few else range(1, w)
-
-
 def cases(w: int, has_all: bool) -> Iterator:
     """The rules: a name, what makes a term, the same of its meaning, and the arguments of both."""
     forms, n, x = shapes(w), w // 8, T.var(w, "x", T.SECRET)
     pairs = [(a, b) for k, a in enumerate(forms) for b in (forms if has_all else forms[k:])]
-    shifts = [(a, k) for a in forms for k in shift_counts(w, a, has_all)]
+    shifts = [(a, k) for a in forms for k in range(1, w)
+              if has_all or a.op in ("const", "var", "xor", "ror") or k in (1, 8 % w or 7, w // 2, w - 1)]
     parts = [(a, i, k) for a in forms for i in range(n) for k in range(1, n - i + 1)]
     order = [(5 * k + 2) % (2 * n) for k in range(n)]
     test = lambda f, if_zero: z3.If(f == 0, z3.BitVecVal(if_zero, w), z3.BitVecVal(1 - if_zero, w))

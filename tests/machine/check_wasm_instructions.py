@@ -1,8 +1,6 @@
 """Runs each form of WebAssembly instruction of the compression functions in node, over random operands, and compares
 with the model. Control, calls of locals, and the check of the stack are part of whole functions only."""
 
-from __future__ import annotations
-
 import json
 import random
 import subprocess
@@ -11,8 +9,9 @@ from typing import Any
 import functions
 import terms as T
 import wasm
-from machine import Region, Words
+from machine import Cells
 from program import read, wasm_format
+from symbolic import Exact
 
 SKIPPED = ("block", "loop", "end", "br", "br_if", "return", "unreachable", "local.get",
            "local.set", "local.tee", "global.get", "i64.lt_s")
@@ -83,15 +82,18 @@ def module(text: str) -> bytes:
 def model(text: str, data: bytes) -> bytes:
     """The memory after the instruction in the model."""
     operands, result = signature(text)
-    m = Words({None: Region(0, SIZE, lambda k: data[k], (0, SIZE))}, wasm.Wasm, {})
+    base = T.var(32, "memory", T.PUBLIC)
+    m = Exact({base: Cells(0, SIZE, lambda k: data[k])}, wasm.Wasm, (16, 0))
     m.stack, m.globals = T.var(32, "sp", T.PUBLIC), [[0] * 4]
-    cpu = wasm.Wasm(m)
+    cpu, at = wasm.Wasm(m), lambda n: T.add(32, (1, base), (1, T.const(32, n)))
     for k, kind in enumerate(operands):
         cpu.push(list(data[16 * k:16 * k + wasm.SIZES[kind]]))
+    if ".load" in text or ".store" in text:
+        m.operands[0] = T.split(at(int.from_bytes(data[:4], "little")))
     cpu.follow(wasm.Instruction(0, text))
     if result is not None:
-        m.store(T.const(32, RESULT), cpu.pop())
-    return bytes(m.memory.get((None, k), b) for k, b in enumerate(data))
+        m.store(at(RESULT), cpu.pop())
+    return bytes(m.memory.get((base, k), b) for k, b in enumerate(data))
 
 
 def chosen(path: str, rng: Any, count: int) -> tuple:

@@ -1,19 +1,17 @@
 """Shows that no branch and no address of a whole call depends on a secret: for each function that C programs call,
 all code that it reaches. docs/MACHINE.md says what is shown."""
 
-from __future__ import annotations
-
-import heapq
 import math
 import os
 import re
+from collections import Counter
 from typing import Any, Iterator, TYPE_CHECKING
 
 import functions
 import program as programs
 import terms as T
-from machine import Aligned, image, need_public
-from taint import Cells, Taint, is_secret, reset, secret, unknown
+from machine import Aligned, image, joined, need_public, total
+from taint import TOP, Cells, Taint, is_secret, secret, unknown
 from terms import CannotShow, IsWrong
 
 if TYPE_CHECKING:
@@ -21,7 +19,6 @@ if TYPE_CHECKING:
 
 STACK = 65536
 ROUNDS = 20                            # of a loop, which are unrolled
-
 
 # The arguments of the functions: a state of the family, or the name of another struct; a buffer with its length, of
 # secret or of public bytes; a table of messages with its length; or a public number.
@@ -41,8 +38,8 @@ EXPORTS = tuple(dict.fromkeys(m[2] for m in map(NAME.fullmatch, SIGNATURES) if m
 ANSWERS = ("_verify", "_ffi_memcmp")   # whose result may depend on secrets
 # What the exported functions of a family call, by the end of their names.
 CALLED = {"_final": functions.FINALIZE, "_verify": functions.IS_DIGEST_OF}
-# The block of a family, if it is not that of BLAKE2b, and the longest array of bytes that its calls
-# index, if that is not a block, in bytes.
+# The block of a family, if it is not that of BLAKE2b, and the longest array that its calls index, if that is not a
+# block, in bytes.
 BLOCKS = {"blake2s": 64, "blake2xs": 64, "blake2sp": 64}
 LONGEST = {"blake2bp": 896, "blake2sp": 960}
 FAMILIES = ("blake2b", "blake2s", "blake2bp", "blake2sp")
@@ -51,8 +48,7 @@ FINALIZING, ANSWERING = (tuple(name % family for family in FAMILIES)
 NOT_COMPUTED = ("_many",)              # of these whole_calls.py does not show what they write
 OF_C = programs.OF_C
 NOT_FOLLOWED = ("dist/x86_64/vulfsjor-v4.s",)   # masks of AVX-512 are not followed
-# What is not shown, as pairs of a file and a function: those whose pointers have bounds that are
-# too hard for the ranges.
+# What is not shown, as pairs of a file and a function: pointers have bounds that are too hard for the ranges.
 NOT_SHOWN = {("dist/x86_64/vulfsjor-v3.s", "vulfsjor_ffi_blake2bp")}
 
 
@@ -81,76 +77,65 @@ def kinds_of(family: str, given: str) -> tuple:
     return tuple(kinds)
 
 
-class Call:
-    """A call of an exported function: its memory and its arguments."""
+def argument(m: Taint, kind: str, at: int, family: str, has_key: bool) -> list:
+    """An argument, and its length if it has one. The machine gets its memory."""
+    word, length = (T.var(64, "%s%d" % (name, k), T.PUBLIC) for name, k in ((kind, at), ("length", at + 1)))
+    if kind == NUMBER:
+        return [word]
+    if kind not in (OUT, BYTES, KEY, PUBLIC, TABLE):
+        cells: list = []
+        for size, is_public in layout(family + "_state" if kind == STATE else kind):
+            cells += [secret()] * size if not is_public else T.split(
+                T.var(64, "%s.%d" % (word.args, len(cells)), T.PUBLIC))[:size]
+        m.regions[word] = Cells(0, len(cells), lambda k: cells[k])
+        return [word]
+    b = unknown() if kind == PUBLIC else secret()
+    m.regions[word] = Cells(0, 0, lambda k: b, kind == OUT, uniform=True)
+    if kind == TABLE:
+        text = T.var(64, "message", T.PUBLIC)
+        m.regions[text] = Cells(0, 0, lambda k: secret(), False, uniform=True)
 
-    def __init__(self, program: programs.Program, kinds: tuple, family: str, alignment: tuple, has_key: bool) -> None:
-        self.sp, self.has_key = T.var(64, "sp", T.PUBLIC), has_key
-        self.regions = {image(): Cells(0, 1 << 32, program.constant, False)}
-        self.words: list = []
-        self.ranges: dict = {}
-        self.structs: list = []
-        for kind in kinds:
-            self.add(kind, family)
-        cpu = self.cpu = program.model.Model
-        back = T.var(64, "return address", T.PUBLIC)
-        above = [back] if program.kind == "x86_64" else []
-        above = [b for t in above + self.words[len(cpu.ARGUMENTS):] for b in T.split(t)]
-        self.regions[self.sp] = Cells(-STACK, len(above), lambda k: secret() if k < 0 else above[k])
-        self.machine = Taint(self.regions, cpu, alignment, self.ranges, BLOCKS.get(family, 128),
-                             LONGEST.get(family, 0))
-        cpu(self.machine).start(self.sp, back, self.words)
-
-    def add(self, kind: str, family: str) -> None:
-        """Adds an argument, with its memory and its length if it has them."""
-        word = T.var(64, "%s%d" % (kind, len(self.words)), T.PUBLIC)
-        self.words.append(word)
-        if kind == NUMBER:
-            return
-        if kind not in (OUT, BYTES, KEY, PUBLIC, TABLE):
-            fields = layout(family + "_state" if kind == STATE else kind)
-            cells: list = []
-            for size, is_public in fields:
-                cells += [secret()] * size if not is_public else T.split(
-                    T.var(64, "%s.%d" % (word.args, len(cells)), T.PUBLIC))[:size]
-            self.regions[word] = Cells(0, len(cells), lambda k: cells[k])
-            self.structs.append((word, fields))
-            return
-        b = unknown() if kind == PUBLIC else secret()
-        self.regions[word] = Cells(0, 0, lambda k: b, kind == OUT, uniform=True)
-        length = T.var(64, "length%d" % len(self.words), T.PUBLIC)
-        if kind == KEY and self.has_key:
-            self.ranges[length] = 1, (1 << 64) - 1, 1
-        self.words.append(T.const(64, 0) if kind == KEY and not self.has_key else length)
-        if kind == TABLE:
-            text = T.var(64, "message", T.PUBLIC)
-            self.regions[text] = Cells(0, 0, lambda k: secret(), False, uniform=True)
-            self.regions[word].table = lambda m, low, size: entry(m, text, low, size)
+        def entry(n: Taint, place: tuple, size: int) -> list:
+            """Bytes of the table, which has pairs of an address and a length, from a place on."""
+            if place[2] % 16:
+                raise CannotShow("the place in the table of messages is not known")
+            pair = T.split(total(text, n.new(64, "at"))) + T.split(n.new(64, "length"))
+            return [pair[(place[0] + k) % 16] for k in range(size)]
+        m.regions[word].table = entry
+    if kind == KEY:
+        m.limit(length, 1, TOP - 1)
+    return [word, length if has_key or kind != KEY else T.const(64, 0)]
 
 
-def entry(machine: Any, text: Any, low: int, size: int) -> list:
-    """Bytes of a table of messages: pairs of an address and a length."""
-    if machine.step_of_place % 16:
-        raise CannotShow("the place in the table of messages is not known")
-    pair = T.split(T.add(64, (1, text), (1, machine.new(64, "at")))) + T.split(machine.new(64, "length"))
-    return [pair[(low + k) % 16] for k in range(size)]
+def called(program: programs.Program, kinds: tuple, family: str, alignment: tuple, has_key: bool) -> Taint:
+    """The machine at the entry of an exported function."""
+    cpu: Any = program.model.Model
+    words: list = []
+    m = Taint({image(): Cells(0, 1 << 32, program.constant, False)}, cpu, alignment, BLOCKS.get(family, 128),
+              LONGEST.get(family, 0))
+    for kind in kinds:
+        words += argument(m, kind, len(words), family, has_key)
+    sp, back = (T.var(64, name, T.PUBLIC) for name in ("sp", "return address"))
+    above = joined(map(T.split, [back] * (program.kind == "x86_64") + words[len(cpu.ARGUMENTS):]))
+    m.regions[sp] = Cells(-STACK, len(above), lambda k: secret() if k < 0 else above[k])
+    cpu(m).start(sp, back, words)
+    return m
 
 
 class Walk:
     """The code of a function that is followed: the state at each place, and where all paths meet."""
 
-    def __init__(self, analysis: Any, name: str, machine: Any, path: str) -> None:
-        self.name, self.path, self.cpu = name, path, analysis.cpu
-        self.code, self.starts, self.first = analysis.code(name)
-        self.entry = self.cpu(machine).at_entry()
+    def __init__(self, name: str, path: str, code: list, cpu: Any, machine: Taint) -> None:
+        self.name, self.path, self.cpu, self.entry = name, path, cpu, cpu(machine).at_entry()
+        self.code = {i.address: i for i in code}
+        self.starts = {i.target for i in code if i.target is not None}         # of its blocks
+        # The head of a loop -> its last address.
+        self.loops = {i.target: i.address for i in code if i.target is not None and i.target <= i.address}
         self.states: dict = {}
-        self.visits: dict = {}
-        self.waiting: list = []
+        self.visits: Counter = Counter()
+        self.waiting: set = set()
         self.end: Any = None
-        self.loops: dict = {}          # the head of a loop -> its last address
-        for i in self.code.values():
-            if i.target is not None and i.target <= i.address:
-                self.loops[i.target] = max(i.address, self.loops.get(i.target, 0))
+        self.arrive(code[0].address, machine, -1)
 
     def arrive(self, pc: int, m: Any, origin: int) -> None:
         """A path that comes to a place from another one."""
@@ -159,7 +144,7 @@ class Walk:
         if pc in self.loops:
             m.undecided = frozenset(p for p in m.undecided if not pc <= p <= self.loops[pc])
         key = pc, m.rounds
-        self.visits[key] = self.visits.get(key, 0) + 1
+        self.visits[key] += 1
         if self.visits[key] > 100:
             raise CannotShow("no invariant of a loop is found")
         if key not in self.states:
@@ -167,13 +152,11 @@ class Walk:
         elif not self.states[key].join(m, "%s.%x%s." % (self.path, pc, in_round(m)), self.visits[key],
                                        pc in self.loops and m.longest > m.block):
             return
-        if key not in self.waiting:
-            heapq.heappush(self.waiting, key)
+        self.waiting.add(key)
 
     def check(self, m: Any, first: int = 0) -> None:
         """What a return must find, perhaps not the return address, which is the first of it."""
-        cpu = self.cpu(m)
-        cpu.check_return(cpu.at_entry()[:first] + self.entry[first:])
+        self.cpu(m).check_return(self.entry, first)
 
     def finish(self, m: Any, first: int = 0) -> None:
         self.check(m, first)
@@ -187,40 +170,30 @@ class Walk:
 class Analysis:
     """Follows calls through the functions of a file."""
 
-    codes: dict
-    scrubs: dict
-    reached: set
-    entered: set
-    at: Any
-
-    def __init__(self, program: programs.Program, exported: str = "") -> None:
-        self.program, self.codes = program, {}
+    def __init__(self, program: programs.Program, exported: str) -> None:
+        self.program, self.exported, self.scrubs = program, exported, functions.scrubs(program)
         self.cpu: Any = program.model.Model    # what executes instructions over values
-        self.exported, self.scrubs = exported, functions.scrubs(program)
         self.listed = {functions.in_file(program.path, entry[0]): entry for entry in functions.FILES[program.path]}
-        self.reached, self.entered, self.at = set(), set(), None
+        self.codes: dict = {}
+        self.reached: set = set()
+        self.entered: set = set()
+        self.at: Any = None
 
-    def code(self, name: str) -> tuple:
-        """The instructions of a function by address, and where its blocks begin."""
-        if name not in self.codes:
-            found = self.program.code(name, "T")
-            starts = {i.target for i in found if i.target is not None}
-            self.codes[name] = {i.address: i for i in found}, starts, found[0].address
-        return self.codes[name]
-
-    def run(self, name: str, machine: Any, path: str) -> Any:
+    def run(self, name: str, machine: Any) -> Any:
         """The state after a call of a function, where all paths meet."""
+        if name not in self.codes:
+            self.codes[name] = self.program.code(name, "T")
         machine.rounds, machine.undecided, machine.bounds = (), frozenset(), frozenset()
-        walk = Walk(self, name, machine, path)
-        walk.arrive(walk.first, machine, walk.first - 1)
+        walk = Walk(name, machine.where, self.codes[name], self.cpu, machine)
         while walk.waiting:
-            key = heapq.heappop(walk.waiting)
+            key = min(walk.waiting)
+            walk.waiting.remove(key)
             m, pc = walk.states[key].copy(), key[0]
             while pc is not None:
                 if pc not in walk.code:
                     raise IsWrong("%s goes on behind its end" % name)
                 i = self.at = walk.code[pc]
-                m.where = "%s/%x%s." % (path, pc, in_round(m))
+                m.where = "%s/%x%s." % (walk.path, pc, in_round(m))
                 self.reached.add(pc)
                 pc = self.follow(walk, m, i)
                 if pc in walk.starts:
@@ -232,21 +205,17 @@ class Analysis:
 
     def follow(self, walk: Walk, m: Any, i: Any) -> int | None:
         """Executes an instruction. Returns the address of the next, if it is the only one."""
-        cpu, path = self.cpu(m), walk.path
+        cpu = self.cpu(m)
         if i.is_call:
             link = cpu.enter()
-            self.call(m, i, path)
-            self.cpu(m).leave(link)
+            self.call(m, i)
+            cpu.leave(link)
             m.forget_below()
             return i.next
         if i.is_return:
             walk.finish(m)
         elif i.target is None and not i.is_trap:               # at a trap, the program stops
-            top = m.stack_pointer()
-            cpu.step(i)
-            if m.stack_pointer() is not top:
-                m.forget_below()
-            return i.next
+            return cpu.follow(i)
         elif not i.is_trap:
             self.branch(walk, m, i)
         return None
@@ -257,42 +226,35 @@ class Analysis:
         if not i.is_jump and m.flags == ("secret",) and walk.name.endswith(ANSWERS) and all(
                 cpu.only_returns(code, pc) for pc in (i.target, i.next)):
             m.flags = ("other",) + (m.new(64, "answer"),) * 3
-        ways = [(m, True)] if i.is_jump else list(m.outcomes(cpu.condition(i)))
-        for n, jumps in ways:
-            if not i.is_jump and not m.by_numbers:
-                n.undecided = m.undecided | {i.address}
+        for n, jumps in [(m, True)] if i.is_jump else list(m.outcomes(cpu.condition(i), i.address)):
             pc = i.target if jumps else i.next
             if pc in code:
                 walk.arrive(pc, n, i.address)
             else:
                 walk.check(n)
-                self.call(n, i, walk.path)
+                self.call(n, i)
                 walk.finish(n, 1)
 
-    def call(self, m: Any, i: Any, path: str) -> None:
+    def call(self, m: Any, i: Any) -> None:
         """A call of another function, whose return address is in its place."""
-        name = self.program.target(i, OF_C)
-        arguments = [self.cpu(m).argument(k) for k in range(5)]
-        if name in OF_C:
-            to, source, length = arguments[:3]
-            if name == "memset":
-                m.fill_memory(to, T.split(source)[0], length)
-            else:
-                m.copy_memory(to, source, length)
+        name, cpu = self.program.target(i, OF_C), self.cpu(m)
+        to, source, length, *rest = (cpu.argument(k) for k in range(5))
+        if name == "memset":
+            m.fill_memory(to, T.split(source)[0], length)
+        elif name in OF_C:
+            m.copy_memory(to, source, length)
         elif name in self.listed:
-            compress(m, arguments, *self.listed[name])
+            compress(m, [to, source, length, *rest], *self.listed[name])
         elif name not in self.scrubs:
-            self.enter(m, name, i, path)
+            self.enter(m, name, i)
             return
-        self.cpu(m).clobber()
+        cpu.clobber()
 
-    def enter(self, m: Any, name: str, i: Any, path: str) -> None:
+    def enter(self, m: Any, name: str, i: Any) -> None:
         """A call of a function whose code is followed."""
-        kept = m.rounds, m.undecided, m.bounds
-        found = self.run(name, m, "%s/%x%s" % (path, i.address, in_round(m)))
+        kept = {part: getattr(m, part) for part in ("rounds", "undecided", "bounds")}
+        m.__dict__.update({**self.run(name, m).__dict__, **kept})
         self.at = i
-        m.__dict__.update(found.__dict__)
-        m.rounds, m.undecided, m.bounds = kept
         self.entered.add(name)
         if name in ANSWERING:
             if not self.exported.endswith(ANSWERS):
@@ -319,15 +281,13 @@ def rounds_at(m: Any, head: int, origin: int) -> tuple:
     return tuple(sorted(rounds.items()))
 
 
-def compress(m: Any, arguments: list, name: str, kind: Kind, lanes: int) -> None:
+def compress(m: Any, arguments: list, name: str, kind: "Kind", lanes: int) -> None:
     """A call of a function that compresses, of which compression.py shows what it does."""
-    tables: list = []
+    used, tables = arguments[:4], []
     if lanes == 1:
         used = arguments[:3] + [T.word(T.split(t)[:1]) for t in arguments[3:5]]
-    elif name in (functions.STRIPES_B[0], functions.STRIPES_S[0]):
-        used = arguments[:4]
-    else:
-        used, is_each = arguments[:4], name in (functions.EACH_B[0], functions.EACH_S[0])
+    elif name not in (functions.STRIPES_B[0], functions.STRIPES_S[0]):
+        is_each = name in (functions.EACH_B[0], functions.EACH_S[0])
         tables = [(arguments[1], (8 if is_each else 16) * lanes), (arguments[3], 2 * lanes)]
         tables += [(arguments[2], 8 * lanes)] * is_each
     for t in used:
@@ -353,11 +313,10 @@ def show(program: programs.Program, name: str, kinds: tuple, family: str) -> Ana
     entry = 16, 8 if program.kind == "x86_64" else 0
     waiting = [(entry, has_key) for has_key in ((False, True) if KEY in kinds else (False,))]
     while waiting:
-        reset()
+        T.reset()
         (size, rest), has_key = waiting.pop()
-        call = Call(program, kinds, family, (size, rest), has_key)
         try:
-            check(call, analysis.run(name, call.machine, ""), name)
+            check(analysis.run(name, called(program, kinds, family, (size, rest), has_key)), name)
         except Aligned as e:
             waiting += [((e.need, k), has_key) for k in range(rest, e.need, size)]
         except T.Refused as e:
@@ -386,19 +345,19 @@ def follow(program: programs.Program, entry: tuple) -> Analysis | None:
     return found
 
 
-def check(call: Call, after: Any, name: str) -> None:
+def check(m: Taint, name: str) -> None:
     """What must hold after a call: the result and the public fields of structs do not depend on a secret, so that the
     next call may assume it, and a wiped state is zero."""
-    for word, fields in call.structs:
+    for base, region in m.regions.items():
+        if not region.writable or region.uniform or base is m.stack:
+            continue
         if name.endswith("_wipe"):
-            need_zeros(after, word)
-        at = 0
-        for size, is_public in fields:
-            if is_public and any(is_secret(after.byte(word, at + k, call.regions[word])) for k in range(size)):
-                raise IsWrong("the field at %d of %s depends on a secret" % (at, word.args))
-            at += size
+            need_zeros(m, base)
+        for k in range(region.high):
+            if is_secret(m.byte(base, k, region)) and not is_secret(region.initial(k)):
+                raise IsWrong("byte %d of %s, which is public, depends on a secret" % (k, base.args))
     if not name.endswith(ANSWERS + ("_wipe",)):
-        need_public(T.word(call.cpu(after).answer()[:4]), "the result")
+        need_public(T.word(m.processor(m).answer()[:4]), "the result")
 
 
 def need_zeros(m: Any, state: T.Term) -> None:

@@ -2,8 +2,6 @@
 w bits is an integer from 0 to 2^w - 1, and a sum of words is one up to a multiple of 2^w, which is a variable of its
 own. Nothing else in this tool decides how the numbers of a whole call compare."""
 
-from __future__ import annotations
-
 import atexit
 import functools
 import operator
@@ -13,7 +11,7 @@ import sys
 from typing import Any, Callable, Iterable, Iterator
 
 import terms as T
-from ranges import OPPOSITE, signed
+from terms import OPPOSITE, signed
 
 try:
     import z3
@@ -21,7 +19,7 @@ except ImportError:                    # check.py then skips whole calls
     z3 = None
 
 DEBIAN = "/usr/bin/python3"            # which has the packages of Debian, where another Python is in use
-EFFORT = 100000                        # of Z3 for a question, in its own units; then it is open
+EFFORT, TIME = 100000, 10000           # of Z3 for a question, in its own units and in milliseconds; then it is open
 RELATIONS: dict = {"==": operator.eq, "!=": operator.ne, "<": operator.lt, "<=": operator.le,
                    ">": operator.gt, ">=": operator.ge}
 
@@ -47,7 +45,9 @@ def definition(t: T.Term) -> tuple:
     if t.op == "add":
         inner = [u for u, _ in a[1]]
         total = z3.Sum([a[0]] + [signed(t.w, k) * number(u) for u, k in a[1]])
-        found.append(n == total + (1 << t.w) * variable("wraps %d" % t.serial, 0)[0])
+        wraps, ks = variable("wraps %d" % t.serial, 0)[0], [signed(t.w, k) for _, k in a[1]]
+        found += [n == total + (1 << t.w) * wraps,             # within bounds, without which Z3 may search for long
+                  -sum(k for k in ks if k > 0) <= wraps, wraps <= -sum(k for k in ks if k < 0)]
     elif t.op in ("slice", "shr"):
         start = 8 * a[1] if t.op == "slice" else a[1]
         (low, is_low), (high, is_high) = (variable("%s %d" % (part, t.serial), bits) for part, bits in (
@@ -109,7 +109,7 @@ class Model:
 
     def shown(self) -> str:
         found = sorted("%s = %#x" % pair for pair in self.names().items() if isinstance(pair[0], str))
-        return ", ".join(found[:4]) + ", .." * (len(found) > 4)
+        return ", ".join(found[:4]) + ", .." * (len(found) > 4) or "all inputs"
 
 
 class Facts:
@@ -120,43 +120,42 @@ class Facts:
     solver: Any = None
     asserted: list = []                # the facts that it has, in its order, and how much was defined before each
     defined: dict = {}                 # the terms whose definitions it has, in its order
-    questions = 0
 
-    def __init__(self, claim: Callable | None = None, words: tuple = (), before: Facts | None = None) -> None:
-        self.claim, self.words, self.before = claim, words, before
+    def __init__(self, claim: Callable | None = None, words: tuple = (), before: "Facts | None" = None) -> None:
+        self.claim, self.words = claim, words
+        self.before: tuple = before.before + (before,) if before else ()
         self.answers: dict = {}        # relation, word, word -> whether it follows
         self.ranges: dict = {}
         self.fixed: dict | None = None
         self.models: list = []         # numbers of the variables for which Z3 says that all hold
         self.variables: frozenset = (before.variables if before else frozenset()).union(*map(T.variables, words))
 
-    def plus(self, relation: str, a: T.Term, b: T.Term) -> Facts:
+    def plus(self, relation: str, a: T.Term, b: T.Term) -> "Facts":
         """With one more comparison that holds."""
         after = Facts(lambda of, _: [compared(relation, of(a), of(b), a.w)], (a, b), self)
+        after.answers[relation, a, b] = True
         if after.variables == self.variables:
             after.models = [m for m in self.models if compared(relation, m(a), m(b), a.w)]
         return after
 
-    def between(self, pairs: list, low: int, high: int) -> Facts:
+    def between(self, pairs: list, low: int, high: int) -> "Facts":
         """With the fact that a sum is between two numbers. Its parts are words, sums of words and numbers, each with
         a sign, and all are added as integers."""
-        parts: list = []
+        parts, known = [], 0
         for sign, t in pairs:
             constant, items = (t, {}) if isinstance(t, int) else T.linear(t)
-            parts += [(sign * constant, None)] + [(sign * k, u) for u, k in items.items()]
+            parts += [(sign * k, u) for u, k in items.items()]
+            known += sign * constant
             if any(k >> 63 for k in (constant, *items.values())):
                 raise T.CannotShow("%r may be less than 0" % t)
+        total = lambda of: sum((k * of(u) for k, u in parts), known)
+        return Facts(lambda of, _: [low <= total(of), total(of) <= high], tuple(u for _, u in parts), self)
 
-        def claim(of: Callable, _: Any) -> list:
-            total = sum((k if u is None else k * of(u) for k, u in parts), 0)
-            return [low <= total, total <= high]
-        return Facts(claim, tuple(u for _, u in parts if u is not None), self)
-
-    def with_or(self, r: T.Term, a: T.Term, b: T.Term) -> Facts:
+    def with_or(self, r: T.Term, a: T.Term, b: T.Term) -> "Facts":
         """With the bounds of an or of two words: it is no less than either, and no more than their sum."""
         return Facts(lambda of, _: [of(r) >= of(a), of(r) >= of(b), of(r) <= of(a) + of(b)], (r, a, b), self)
 
-    def apart(self, a: T.Term, n: T.Term, b: T.Term, m: T.Term) -> Facts:
+    def apart(self, a: T.Term, n: T.Term, b: T.Term, m: T.Term) -> "Facts":
         """With the fact that n bytes from a on and m bytes from b on are apart."""
         x, y = (T.add(64, (1, p), (-1, q)) for p, q in ((a, b), (b, a)))
         claim = lambda of, either: [either(of(n) == 0, of(m) == 0, of(x) >= of(m)),
@@ -168,61 +167,50 @@ class Facts:
         """Lets go of the solver."""
         cls.solver, cls.asserted, cls.defined = None, [], {}
 
-    def newest_first(self) -> Iterator:
-        """The facts, the last one first."""
-        f: Facts | None = self
-        while f:
-            yield f
-            f = f.before
-
     def ask(self, claims: Iterable = (), words: Iterable = ()) -> Any:
         """Numbers for which the facts and some claims about words hold, as a function, False if there are none, or
-        None if Z3 does not know."""
+        None if Z3 does not know, or is absent."""
+        if not z3:
+            return None
         if Facts.solver is None:
             Facts.solver = z3.Solver()
             Facts.solver.set("rlimit", EFFORT)
-        solver, asserted, wanted = self.solver, self.asserted, list(self.newest_first())[::-1]
-        common = 0
-        while common < min(len(asserted), len(wanted)) and asserted[common][0] is wanted[common]:
-            common += 1
-        self.pop(len(asserted) - common)
-        for f in wanted[common:]:
+            Facts.solver.set("timeout", TIME)
+        wanted = self.before + (self,)
+        while self.asserted and self.asserted[-1][0] not in wanted:
+            self.pop()
+        for f in wanted[len(self.asserted):]:
             self.push(f, f.claim(number, z3.Or) if f.claim else (), f.words)
         self.push(None, claims, words)
-        answer = solver.check()
+        answer = self.solver.check()
         model: Any = False if answer == z3.unsat else None
         if answer == z3.sat:
-            model = Model(solver.model(), self.variables.union(*map(T.variables, words)))
+            model = Model(self.solver.model(), self.variables.union(*map(T.variables, words)))
             self.models.append(model)
-        self.pop(1)
-        Facts.questions += 1
+        self.pop()
         return model
 
-    def push(self, f: Facts | None, claims: Iterable, words: Iterable) -> None:
+    def push(self, f: "Facts | None", claims: Iterable, words: Iterable) -> None:
         """Tells the solver some claims about words, and what these words are."""
         self.solver.push()
         self.asserted.append((f, len(self.defined)))
-        waiting = [t for t in words if t.op != "const"]
+        told, waiting = [], [t for t in words if t.op != "const"]
         while waiting:
             t = waiting.pop()
             if t not in self.defined:
                 self.defined[t] = True
                 inner, claim = T.remembered(definition, t)
                 waiting += [u for u in inner if u.op != "const"]
-                self.tell(claim)
-        for claim in claims:
-            self.tell(z3.BoolVal(claim) if isinstance(claim, bool) else claim)
+                told.append(claim)
+        for claim in [*told, *(z3.BoolVal(c) if isinstance(c, bool) else c for c in claims)]:
+            z3.Z3_solver_assert(self.solver.ctx.ref(), self.solver.solver, claim.as_ast())
 
-    def tell(self, claim: Any) -> None:
-        z3.Z3_solver_assert(self.solver.ctx.ref(), self.solver.solver, claim.as_ast())
-
-    def pop(self, n: int) -> None:
+    def pop(self) -> None:
         """Takes the last of these back."""
-        self.solver.pop(n)
-        for _, defined in self.asserted[len(self.asserted) - n:][:1]:
-            while len(self.defined) > defined:
-                self.defined.popitem()
-        del self.asserted[len(self.asserted) - n:]
+        self.solver.pop()
+        _, defined = self.asserted.pop()
+        while len(self.defined) > defined:
+            self.defined.popitem()
 
     def are_possible(self) -> bool:
         return bool(self.models) or self.ask() is not False
@@ -235,8 +223,8 @@ class Facts:
         if question not in self.answers:
             other = OPPOSITE[relation]
             known = T.variables(a) | T.variables(b) <= self.variables
-            self.answers[question] = any(f.answers.get(question) for f in self.newest_first()) or not (
-                known and any(compared(other, m(a), m(b), a.w) for m in self.models)
+            self.answers[question] = any(f.answers.get(question) for f in self.before) or not (
+                not z3 or known and any(compared(other, m(a), m(b), a.w) for m in self.models)
                 or self.ask([compared(other, number(a), number(b), a.w)], (a, b)) is not False)
         return self.answers[question]
 
@@ -256,7 +244,7 @@ class Facts:
     def holds_for(self, names: dict) -> Iterator:
         """Whether each fact holds for these numbers of the variables."""
         of = lambda t: T.value(t, names, {})
-        for f in self.newest_first():
+        for f in self.before + (self,):
             yield not f.claim or all(f.claim(of, lambda *conditions: any(conditions)))
 
     def small(self, limit: int | None) -> Any:
@@ -277,7 +265,7 @@ class Facts:
     def values(self) -> dict:
         """The variables of which the value is known."""
         if self.fixed is None:
-            self.fixed = dict(next((f.fixed for f in self.newest_first() if f.fixed), {}))
+            self.fixed = dict(next((f.fixed for f in self.before[::-1] if f.fixed), {}))
             rest = self.variables - set(self.fixed)
             model: Any = self.models[0] if self.models else self.ask()
             found = {t: model(t) for t in rest} if model else {}

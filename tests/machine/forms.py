@@ -1,13 +1,11 @@
-"""The forms of instructions that were run on the processor: forms.txt, which check.py --forms writes
-from the tests of instructions. The models refuse an instruction of any other form.
+"""The forms of instructions that were run on the processor: forms.txt, which check.py --forms writes from the tests of
+instructions. The models refuse an instruction of any other form.
 
-A form is a name, and for each operand its kind and its bytes: g8 is a general register, x, y, z or k a
-vector or a mask, m8 memory, m8* a word that is broadcast, n a number. `=` says that the last two
-operands are the same register. In forms.txt the forms are below their processor and the models that execute
-them: F is the model of the functions that compress, T that of taint tracking, and W that of whole calls. After a
-name, and after operands that end with a comma, are all that follow them there."""
-
-from __future__ import annotations
+A form is a name, and for each operand its kind and its bytes: g8 is a general register, x, y, z or k a vector or a
+mask, m8 memory, m8* a word that is broadcast, n a number. `=` says that the last two operands are the same register. In
+forms.txt the forms are below their processor and the models that execute them: T is that of taint tracking, and W that
+of functions that compress and of whole calls. After a name, and after operands that end with a comma, are all that
+follow them there."""
 
 import functools
 import os
@@ -18,13 +16,13 @@ import x86
 from terms import CannotShow
 
 TABLE = os.path.join(os.path.dirname(os.path.abspath(__file__)), "forms.txt")
-# The numbers of these are added, compared or masked as they are. Those of any other instruction, such
-# as a shift or a shuffle, are part of its form.
+# The numbers of these are added, compared or masked as they are. Those of any other, such as a shift or a shuffle, are
+# part of its form.
 ANY_NUMBER = set("mov movabs add sub cmp and or xor test adc sbb imul push "
                  "adds subs cmn ands tst orr eor movk movn movz movi ccmp".split())
 NUMBER = r"#?-?(?:0x[0-9a-f]+|\d+)"
-# Calls, jumps, returns, and what moves the stack pointer with them, with their operands: these run as
-# parts of whole functions only.
+# Calls, jumps, returns, and what moves the stack pointer with them, with their operands: these run as parts of whole
+# functions only.
 CONTROL = {
     "x86_64": re.compile(r"(call|j[a-z]+) there|ret|ud2|pause|leave|(push|pop) g8|push m8|nop|lea g8,m"),
     "aarch64": re.compile(r"(bl|b|b\.[a-z]+) there|ret|isb|brk .*|nop|adrp x,there|cbn?z [xw],there|"
@@ -51,10 +49,9 @@ def of_x86(name: str, text: str) -> str:
     """The kind of an operand."""
     register, brace, mask = text.partition("{")
     mask = re.sub(r"\d", "", brace + mask)
-    if register in x86.GENERAL:
-        return "g%d" % x86.GENERAL[register][1]
-    if register in x86.VECTOR or re.fullmatch(r"k\d", register):
-        return register[0] + mask
+    if register in x86.REGISTER:
+        o = x86.REGISTER[register]
+        return "g%d" % o.size if o.kind == "general" else register[0] + mask
     m = re.fullmatch(r"(?:([A-Z]+) (PTR|BCST) )?\[(.*)\](.*)", text)
     if m and name == "lea" and not m[3].startswith("rip"):
         return re.sub(r"\br\w+", "r", re.sub(r"(?<!\*)0x[0-9a-f]+", "n", m[3]))

@@ -1,8 +1,6 @@
 """The functions that compress, by the names that the compiler gives them, and which file has which. A crate or a
 module with another name needs a change here and nowhere else."""
 
-from __future__ import annotations
-
 import re
 from typing import Any, TYPE_CHECKING
 
@@ -49,11 +47,10 @@ FILES = {
 }
 
 
-def scrubs(program: Program) -> dict:
+def scrubs(program: "Program") -> dict:
     """The functions of a file that overwrite the stack, with their numbers of bytes."""
-    pattern = re.compile(re.escape(SCRUB_STACK) + r"(\d+)")
-    found = {name: pattern.fullmatch(name) for name in program.functions}
-    return {name: int(m[1]) for name, m in found.items() if m}
+    found = (re.fullmatch(re.escape(SCRUB_STACK) + r"(\d+)", name) for name in program.functions)
+    return {m[0]: int(m[1]) for m in found if m}
 
 
 def architecture(path: str) -> str:
@@ -61,19 +58,13 @@ def architecture(path: str) -> str:
     return next((kind for kind in ("x86_64", "aarch64") if "/%s/" % kind in path), "wasm")
 
 
-def build(path: str) -> Any:
-    """The folder and the end of a file's name, which the same build of other libraries shares."""
-    folder, _, file = path.rpartition("/")
-    return folder, file.partition("-")[2]
-
-
 def in_file(path: str, name: str) -> str:
     """A function's name as the file writes it."""
     return name.replace("..", "::") if architecture(path) == "wasm" else name
 
 
-# G rotates words by 63 bits (BLAKE2b), or by 12 and 7 (BLAKE2s), which are not moves of bytes. So
-# each copy of it has an instruction that rotates, or that shifts to the right by these numbers.
+# G rotates words by 63 bits (BLAKE2b), or by 12 and 7 (BLAKE2s), which are not moves of bytes. So each copy of it has
+# an instruction that rotates, or that shifts to the right by these numbers.
 _ROTATES = {
     "x86_64": re.compile(r"\b(ro[lr]x?|sh[lr]d|v?pro[lr]v?[dq])\b"),
     "aarch64": re.compile(r"\bror\b|\bextr\b|\b(sri|sli|xar)\b"),
@@ -86,15 +77,10 @@ _SHIFTS = {
 }
 
 
-def has_rounds(kind: str, texts: list) -> bool:
-    """Whether a function may have a copy of G, by the texts of its instructions."""
-    text = "\n".join(texts)
-    shifts = {int(n, 0) for n in _SHIFTS[kind].findall(text)}
-    return bool(_ROTATES[kind].search(text)) or 63 in shifts or {7, 12} <= shifts
-
-
-def unlisted(program: Program) -> list:
+def unlisted(program: "Program") -> list:
     """The functions outside of the file's list that may have a copy of G."""
     listed = {in_file(program.path, name) for name, _, _ in FILES[program.path]}
-    return [name for name in program.functions
-            if name not in listed and has_rounds(program.kind, program.texts(name))]
+    texts = {name: "\n".join(program.texts(name)) for name in program.functions if name not in listed}
+    shifts = {name: {int(n, 0) for n in _SHIFTS[program.kind].findall(text)} for name, text in texts.items()}
+    return [name for name, text in texts.items()
+            if _ROTATES[program.kind].search(text) or 63 in shifts[name] or {7, 12} <= shifts[name]]

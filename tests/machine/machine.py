@@ -1,14 +1,10 @@
 """What the models of the processors have in common: lines of objdump, memory, conditions, and operations on bytes."""
 
-from __future__ import annotations
-
 import copy
-import itertools
-from typing import Any, Callable, Iterable, NamedTuple
+from typing import Any, Callable, Iterable
 
 import terms as T
-from ranges import signed
-from terms import CannotShow, IsWrong
+from terms import CannotShow, IsWrong, signed
 
 # Operations on words, by the names of those on vectors.
 WORDWISE: dict = {"xor": T.xor, "or": T.either, "and": T.both}
@@ -21,13 +17,13 @@ ON_WORDS: dict = {
     "mul": lambda m, a, b: T.add(a.w, (b.args, a)) if b.op == "const" else None,
 }
 
-
-class Fork(Exception):
-    """A branch depends on a condition about which nothing is assumed yet."""
-
-    def __init__(self, condition: T.Term | str) -> None:
-        super().__init__("a branch on %r" % (condition,))
-        self.condition = condition
+# What instructions make of the words of n bytes of vectors, and of a number.
+ON_VECTORS: dict = {
+    "add": lambda n, a, b: lanewise(total, n, a, b),
+    "sub": lambda n, a, b: lanewise(lambda x, y: total(x, y, -1), n, a, b),
+    "shl": lambda n, a, k: shifted(T.shl, n, a, k), "shr": lambda n, a, k: shifted(T.shr, n, a, k),
+    "rol": lambda n, a, k: lanewise(lambda t: T.ror(8 * n, t, -k), n, a),
+}
 
 
 def image() -> T.Term:
@@ -35,17 +31,21 @@ def image() -> T.Term:
     return T.var(64, "image", T.PUBLIC)
 
 
-class Region(NamedTuple):
-    """Memory from `low` to `high`, counted from its base, which is a term, or None for 0.
+class Cells:
+    """Memory from `low` to `high`. `initial` returns the byte at an offset. Its base is the second number of
+    `alignment` modulo the first. If it is uniform, offsets don't matter, and what is written to it is secret
+    already."""
 
-    `initial` returns the byte at an offset at the start. The base is the second number of `alignment` modulo the
-    first. `writable` is the part that may be written."""
+    table: Any = None                  # of a table of messages: what returns an entry's bytes
 
-    low: int
-    high: int
-    initial: Callable
-    writable: tuple = (0, 0)
-    alignment: tuple = (1, 0)
+    def __init__(self, low: int, high: int, initial: Callable, writable: bool = True, alignment: tuple = (8, 0),
+                 uniform: bool = False) -> None:
+        self.low, self.high, self.initial = low, high, initial
+        self.writable, self.alignment, self.uniform = writable, alignment, uniform
+
+    @property
+    def length(self) -> T.Term:
+        return T.const(64, self.high - self.low)
 
 
 class Operand:
@@ -84,9 +84,18 @@ class Instruction:
     is_return = property(lambda self: self.name == "ret" and not self.operands)
 
 
+class Aligned(CannotShow):
+    """The stack is aligned to more bytes than is known of it at the entry."""
+
+    def __init__(self, need: Any) -> None:
+        super().__init__("the stack is aligned to %d bytes" % need)
+        self.need = need
+
+
 class Values:
     """The registers and the memory of a machine, and what is known of their values. A subclass says what that is.
-    x86.py, arm.py and wasm.py execute instructions over them."""
+    x86.py, arm.py and wasm.py execute instructions over them. `alignment` is that of the stack: a power of two, and
+    the stack pointer modulo that."""
 
     general: list
     vector: list
@@ -94,25 +103,32 @@ class Values:
     locals: list
     operands: list
     masked: Any                        # the and of two words
+    of_secrets: Callable               # what computed() returns if a word is secret
+    new: Callable                      # a new public variable
+    anything: Callable                 # public bytes of which nothing is known
 
-    def __init__(self, regions: dict, processor: Any) -> None:
-        self.regions, self.processor = regions, processor
+    def __init__(self, regions: dict, processor: Any, alignment: tuple) -> None:
+        self.regions, self.processor, self.alignment = regions, processor, alignment
         self.memory: dict = {}         # (base, offset) -> byte
         self.stack: Any = None         # the base of the stack
         self.flags: Any = None         # a kind of operation, two words, and the result
-        self.counts = {"branches": 0, "addresses": 0}
+        self.labels: list = []         # of the blocks of WebAssembly that are open
         for name, (count, size) in processor.FILES.items():
             setattr(self, name, [list(T.remembered(junk, "%s%d" % (name, j), size)) for j in range(count)])
-        self.masks = [unknown_bit() * 64] * 8
+        self.forget_flags()
         self.at_start = {name: [list(r) for r in getattr(self, name)] for name in processor.FILES}
 
     def copy(self) -> Any:
         """Values that may change without these."""
         other = copy.copy(self)
-        other.memory, other.masks = dict(self.memory), list(self.masks)
+        other.memory, other.masks, other.labels = dict(self.memory), list(self.masks), list(self.labels)
         for name in self.processor.FILES:
             setattr(other, name, [list(r) for r in getattr(self, name)])
         return other
+
+    def forget_flags(self) -> None:
+        """Lets the flags and the masks of AVX-512 be unknown."""
+        self.flags, self.masks = None, [unknown_bit() * 64] * 8
 
     def stack_pointer(self) -> T.Term:
         name, at = self.processor.STACK_POINTER
@@ -135,6 +151,8 @@ class Values:
             else:
                 getattr(self, kind)[at][k] = b
 
+    # The stack.
+
     def lowest(self) -> int:
         """The lowest offset in the stack that the function may use now."""
         constant, items = T.linear(self.stack_pointer())
@@ -147,205 +165,6 @@ class Values:
         constant, items = T.linear(t)
         return items == {self.stack: 1} and self.stack in self.regions and (
             self.regions[self.stack].low <= signed(t.w, constant) <= self.regions[self.stack].high)
-
-    @staticmethod
-    def shifted_left(a: T.Term, k: int) -> T.Term:
-        return T.add(a.w, (1 << k, a))
-
-    def norm(self, b: T.Byte) -> T.Byte:
-        """A byte, by what is known of it."""
-        return b
-
-    def bitfield(self, a: T.Term, low: int, size: int) -> Any:
-        """Some low bits of a word, shifted to the left."""
-        return T.add(a.w, (1 << low, self.masked(a, T.const(a.w, (1 << size) - 1))))
-
-    def anything(self, n: int) -> list:
-        """Public bytes of which nothing is known."""
-        raise CannotShow("a result of which nothing is known")
-
-    def test(self, a: list, b: list) -> None:
-        """Sets flags by an and of two vectors."""
-        raise CannotShow("the flags of an and of vectors are not modelled")
-
-
-class Words(Values):
-    """Terms, in which each byte is exact. Of a branch, the condition must be assumed."""
-
-    LOSSES = itertools.count()         # a number for each time that the stack shrinks
-
-    def __init__(self, regions: dict, processor: Any, assumed: dict) -> None:
-        super().__init__(regions, processor)
-        self.assumed = assumed         # condition -> bool
-        self.labels: list = []         # of the blocks of WebAssembly that are open
-
-    def copy(self) -> Any:
-        """The same, to count from there. The flags are unknown."""
-        other = super().copy()
-        other.counts = dict.fromkeys(self.counts, 0)
-        other.flags, other.masks = None, [unknown_bit() * 64] * 8
-        other.labels = list(self.labels)
-        return other
-
-    def shrink_from(self, before: int) -> None:
-        """Bytes are lost that were above the lowest place of the stack, and are not now: a signal may overwrite them.
-        Only bytes of the stack may be below its pointer."""
-        now, region = self.lowest(), self.regions[self.stack]
-        if not region.low <= now + self.processor.RED_ZONE <= region.high:
-            raise IsWrong("the stack pointer leaves the stack")
-        loss = next(self.LOSSES)
-        for k in range(before, now):
-            self.memory[self.stack, k] = (T.var(8, "lost%d.%d" % (loss, k), T.JUNK), 0)
-
-    # Operations.
-
-    def computed(self, kind: str, f: Callable, x: list, y: list) -> list:
-        """The bytes of a result of two words, and the flags from it."""
-        a, b = T.word(x), T.word(y)
-        r = f(a, b)
-        if r is None:
-            raise CannotShow("the result of %r and %r is not modelled" % (a, b))
-        self.flags = kind, a, b, r
-        return T.split(r)
-
-    def vector_of(self, f: Callable, *data: list) -> list:
-        """The bytes of an operation on vectors."""
-        return f(*data)
-
-    def combined(self, name: str, x: list, y: list) -> list:
-        """The bytes of a bitwise operation on vectors."""
-        return bitwise(WORDWISE[name], x, y)
-
-    def cleaned(self, data: list, is_word: bool) -> list:
-        """Bytes as they are kept."""
-        return data
-
-    def masked(self, a: T.Term, b: T.Term) -> Any:
-        return T.both(a.w, a, b)
-
-    def either(self, a: T.Term, b: T.Term) -> Any:
-        return T.either(a.w, a, b)
-
-    def exclusive(self, a: T.Term, b: T.Term) -> T.Term:
-        return T.xor(a.w, a, b)
-
-    @staticmethod
-    def shifted_left(a: T.Term, k: int) -> T.Term:
-        return T.shl(a.w, a, k)
-
-    def shifted_right(self, a: T.Term, k: int) -> T.Term:
-        return T.shr(a.w, a, k)
-
-    # Memory.
-
-    def place(self, address: T.Term, size: int, aligned: bool) -> tuple:
-        """The base, the offset and the region of an access."""
-        need_public(address, "an address")
-        constant, items = T.linear(address)
-        base = T.add(address.w, *[(k, u) for u, k in items.items()]) if items else None
-        region = self.regions.get(base)
-        if region is None:
-            raise CannotShow("no memory is known at %r" % address)
-        self.counts["addresses"] += 1
-        offset = constant if base is None else signed(address.w, constant)
-        if not region.low <= offset <= region.high - size:
-            raise IsWrong("the access of %d bytes at %r is outside of its memory" % (size, address))
-        if base is self.stack and offset < self.lowest():
-            raise IsWrong("%r is below the stack" % address)
-        if aligned and (region.alignment[0] % size or (region.alignment[1] + offset) % size):
-            raise IsWrong("%r is not a multiple of %d" % (address, size))
-        return base, offset, region
-
-    def load(self, address: T.Term, size: Any, aligned: bool = False) -> list:
-        """The bytes at an address."""
-        base, offset, region = self.place(address, size, aligned)
-        return [self.memory[base, k] if (base, k) in self.memory else region.initial(k)
-                for k in range(offset, offset + size)]
-
-    def store(self, address: T.Term, data: list, aligned: bool = False) -> None:
-        """Writes bytes at an address."""
-        base, offset, region = self.place(address, len(data), aligned)
-        if not region.writable[0] <= offset <= region.writable[1] - len(data):
-            raise IsWrong("the function writes at %r, which it may only read" % address)
-        for k, b in enumerate(data):
-            self.memory[(base, offset + k)] = b
-
-    # Conditions.
-
-    def is_zero(self, t: Any) -> Any:
-        """Whether a word is zero, for a branch."""
-        if t.op in ("zero", "nonzero"):
-            return self.is_zero(t.args[0]) == (t.op == "nonzero")
-        self.counts["branches"] += 1
-        if t.op == "const":
-            return t.args == 0
-        need_public(t, "a branch")
-        if t.op == "ite":
-            condition, on, off = t.args
-            if (on == 0) == (off == 0):
-                return on == 0
-            raise Fork(condition)
-        if t not in self.assumed:
-            raise Fork(t)
-        return self.assumed[t]
-
-    def choose(self, t: T.Term, if_zero: T.Term, if_not: T.Term) -> T.Term:
-        """One of two words by whether t is zero, without a branch."""
-        if t.op == "const":
-            return if_zero if t.args == 0 else if_not
-        return of_numbers(if_zero.w, lambda c, a, b: a if c == 0 else b, t, if_zero, if_not)
-
-    @staticmethod
-    def difference_of(compared: Any) -> T.Term:
-        """The word that is zero if two are the same, of a comparison for that."""
-        if compared is None or compared[0] not in ("==", "!="):
-            raise CannotShow("a condition that is not modelled: %s" % (compared,))
-        return total(compared[1], compared[2], -1)
-
-    def holds(self, compared: Any) -> bool:
-        """Whether a comparison holds, for a branch."""
-        return self.is_zero(self.difference_of(compared)) == (compared[0] == "==")
-
-    def chosen(self, compared: Any, a: list, b: list) -> list:
-        """The bytes a if a comparison holds, and otherwise b, without a branch."""
-        t = self.difference_of(compared)
-        return T.split(self.choose(t, *map(T.word, (a, b) if compared[0] == "==" else (b, a))))
-
-    def bit(self, compared: Any) -> T.Byte:
-        """A byte that is 1 if a comparison holds, and otherwise 0."""
-        return self.chosen(compared, [1], [0])[0]
-
-    def is_left(self, j: int, start: int) -> bool:
-        """Whether a vector register is zero or as at the entry, from a byte on."""
-        data = self.vector[j][start:]
-        return data in ([0] * len(data), self.at_start["vector"][j][start:])
-
-
-class Aligned(CannotShow):
-    """The stack is aligned to more bytes than is known of it at the entry."""
-
-    def __init__(self, need: Any) -> None:
-        super().__init__("the stack is aligned to %d bytes" % need)
-        self.need = need
-
-
-class Followed(Values):
-    """What the values of whole calls have in common. `alignment` is that of the stack: a power of two, and the stack
-    pointer modulo that."""
-
-    def __init__(self, regions: dict, processor: Any, alignment: tuple) -> None:
-        super().__init__(regions, processor)
-        self.alignment = alignment
-
-    def test(self, a: list, b: list) -> None:
-        """Sets flags by an and of two vectors, of which nothing is known but if it is zero."""
-        r = self.new(64) if any(a + b) else T.const(64, 0)
-        is_secret = any(not isinstance(x, int) and x[0].taint & ~T.PUBLIC for x in a + b)
-        self.flags = ("secret",) if is_secret else ("other",) + (r,) * 3
-
-    def new(self, w: int, what: str = "", limits: Any = None) -> T.Term:
-        """A new public variable."""
-        raise NotImplementedError
 
     def is_clear(self, address: T.Term, n: int) -> bool:
         """Whether an address on the stack has none of the lowest bits that are on in a number."""
@@ -368,6 +187,10 @@ class Followed(Values):
             raise Aligned(low)
         return T.add(64, (1, address), (-1, T.const(64, (constant + self.alignment[1]) % low)))
 
+    def move_stack(self) -> None:
+        """The stack pointer has moved."""
+        self.forget_below()
+
     def forget_below(self) -> None:
         """Forgets the stack below its pointer, where a signal and the next call may write."""
         low = self.lowest()
@@ -375,6 +198,64 @@ class Followed(Values):
             raise IsWrong("the stack pointer leaves the stack")
         for key in [k for k in self.memory if k[0] is self.stack and k[1] < low]:
             del self.memory[key]
+
+    # Memory.
+
+    def region_of(self, address: T.Term) -> tuple:
+        """The base, the offset as a term of 64 bits, and the region of an address."""
+        need_public(address, "an address")
+        constant, items = T.linear(address)
+        base = T.add(address.w, *[(k, u) for u, k in items.items()])
+        if base in self.regions:
+            return base, T.const(64, signed(address.w, constant)), self.regions[base]
+        bases = self.bases_of(address)
+        if len(bases) != 1:
+            raise CannotShow("no memory is known at %r" % address)
+        return bases[0], total(address, bases[0], -1), self.regions[bases[0]]
+
+    def bases_of(self, t: T.Term) -> list:
+        """The bases of memory that are parts of a sum."""
+        return [u for u, k in T.linear(t)[1].items() if u in self.regions and k == 1]
+
+    @staticmethod
+    def check_writable(region: Any, address: T.Term) -> None:
+        if not region.writable:
+            raise IsWrong("the function writes at %r, which it may only read" % address)
+
+    # Words.
+
+    def computed(self, kind: str, f: Callable, x: list, y: list) -> list:
+        """The bytes of a result of two words, and the flags from it. f returns a term, the range of one, or None."""
+        a, b = T.word(x), T.word(y)
+        if (a.taint | b.taint) & ~T.PUBLIC:
+            return self.of_secrets(kind, f, a, b)
+        r = f(a, b)
+        if not isinstance(r, T.Term):
+            r = self.new(a.w, "", r)
+        self.flags = kind, a, b, r
+        return T.split(r)
+
+    @staticmethod
+    def shifted_left(a: T.Term, k: int) -> T.Term:
+        return T.shl(a.w, a, k) if a.taint & ~T.PUBLIC else T.add(a.w, (1 << k, a))
+
+    def norm(self, b: T.Byte) -> T.Byte:
+        """A byte, by what is known of it."""
+        return b
+
+    def settler(self) -> Callable:
+        """A function that returns a byte by what the path knows of its variables."""
+        return self.norm
+
+    def bitfield(self, a: T.Term, low: int, size: int) -> Any:
+        """Some low bits of a word, shifted to the left."""
+        return T.add(a.w, (1 << low, self.masked(a, T.const(a.w, (1 << size) - 1))))
+
+    def test(self, a: list, b: list) -> None:
+        """Sets flags by an and of two vectors, of which nothing is known but if it is zero."""
+        r = self.new(64) if any(a + b) else T.const(64, 0)
+        is_secret = any(not isinstance(x, int) and x[0].taint & ~T.PUBLIC for x in a + b)
+        self.flags = ("secret",) if is_secret else ("other",) + (r,) * 3
 
 
 class Processor:
@@ -394,7 +275,7 @@ class Processor:
     step: Callable                     # executes an instruction other than a jump, a call or a return
     condition: Callable                # what a conditional jump compares
     lost_vector: Callable              # what a function may leave in a vector register
-    at_entry: Callable                 # what a return must find: its address, the stack pointer, the caller's registers
+    at_entry: Callable                 # the bytes a return must find: its address, the stack pointer, registers
 
     def __init__(self, values: Any) -> None:
         self.values = values
@@ -463,12 +344,13 @@ class Processor:
         """Executes an instruction other than a call. Returns the address of the next one, or None after a return."""
         if i.is_return:
             return None
-        if i.is_jump:
-            return i.target
         if i.target is None:
+            top = self.values.stack_pointer()
             self.step(i)
+            if self.values.stack_pointer() is not top:
+                self.values.move_stack()
             return i.next
-        return i.target if self.values.holds(self.condition(i)) else i.next
+        return i.target if i.is_jump or self.values.holds(self.condition(i)) else i.next
 
     def need_public_flags(self) -> None:
         if self.values.flags == ("secret",):
@@ -501,11 +383,15 @@ class Processor:
         if (self.values.lowest() + self.values.alignment[1]) % 16:
             raise IsWrong("the stack pointer is not a multiple of 16 at a call")
 
-    def check_return(self, entry: tuple) -> None:
-        """Refuses a return with another address, stack pointer or register of the caller than at the entry."""
-        parts = "return address", "stack pointer", "registers"
-        for what, found, wanted in zip(parts, self.at_entry(), entry):
-            if found != wanted:
+    def need_vectors(self) -> None:
+        """Refuses what a function may not leave in vector registers, besides those of at_entry()."""
+
+    def check_return(self, entry: tuple, first: int = 0) -> None:
+        """Refuses a return with another address, stack pointer or register of the caller than at the entry, from the
+        first of these on."""
+        parts, byte = ("return address", "stack pointer", "registers"), self.values.settler()
+        for what, found, wanted in [*zip(parts, self.at_entry(), entry)][first:]:
+            if [byte(b) for b in found] != [byte(b) for b in wanted]:
                 raise IsWrong("the caller's %s: not as at the entry" % what)
 
 
@@ -546,6 +432,19 @@ def lanewise(f: Callable, n: int, *sources: list) -> list:
     for parts in zip(*[chunks(s, n) for s in sources]):
         result += T.split(f(*[T.word(p) for p in parts]))
     return result
+
+
+def shifted(f: Callable, n: int, data: list, k: int) -> list:
+    """Words of n bytes that are shifted by k bits."""
+    if not 0 <= k < 8 * n:
+        raise CannotShow("a shift by %d is not modelled" % k)
+    return lanewise(lambda t: f(8 * n, t, k), n, data)
+
+
+def picked(n: int, places: Iterable, *sources: list) -> list:
+    """The parts of n bytes at some places of all sources together. Behind these are zeros."""
+    parts = chunks(joined(sources), n)
+    return joined(parts[p] if p < len(parts) else [0] * n for p in places)
 
 
 def bitwise(f: Callable, a: list, b: list) -> list:

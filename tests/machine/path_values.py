@@ -1,13 +1,11 @@
 """Numbers for the variables of a path of a call. Two words that differ for some are not the same."""
 
-from __future__ import annotations
-
 from typing import Any
 
 import rfc7693 as R
 import terms as T
 from machine import chunks
-from terms import CannotShow
+from terms import CannotShow, IsWrong
 
 SEEDS, BLOCKS = 4, 8                   # of random bytes; and the most blocks that are compressed
 KINDS = {kind.name: kind for kind in (R.BLAKE2B, R.BLAKE2S)}
@@ -75,3 +73,18 @@ def difference(facts: Any, results: dict, x: T.Byte, y: T.Byte) -> str | None:
             except CannotShow:
                 break
     return None
+
+
+def need_same(m: Any, results: dict, what: str, found: list, wanted: list) -> None:
+    """Refuses other bytes than are wanted. `results` has the compressions of the path."""
+    if len(found) != len(wanted):
+        raise CannotShow("%s: %d bytes, not %d" % (what, len(found), len(wanted)))
+    memo: dict = {}
+    settle = lambda b: b if isinstance(b, int) else T.split(T.substitute(b[0], m.path_facts.values(), memo))[b[1]]
+    for k, (x, y) in enumerate(zip(found, wanted)):
+        a, b = T.word([x]), T.word([y])
+        if x == y or settle(x) == settle(y) or not (a.taint | b.taint) & ~T.PUBLIC and m.is_always("==", a, b):
+            continue                   # they may be the same by what the path knows of public bytes
+        text = "byte %d of %s is %s, not %s" % (k, what, T.show(x, 4), T.show(y, 4))
+        inputs = difference(m.path_facts, results, x, y)
+        raise IsWrong("%s: for %s" % (text, inputs)) if inputs else CannotShow(text)

@@ -1,8 +1,6 @@
 """Reads the code and the constants of a file: assembles and links it, and disassembles it with objdump; or reads a
 WebAssembly module."""
 
-from __future__ import annotations
-
 import functools
 import os
 import re
@@ -10,18 +8,17 @@ import struct
 import subprocess
 import sys
 import tempfile
-from typing import Any
+from typing import Any, Callable
 
 import arm
 import elf
 import forms
 import functions
-import macros
 import wasm
 import x86
+from elf import ROOT
 from terms import CannotShow, IsWrong
 
-ROOT = os.path.dirname(os.path.dirname(os.path.dirname(os.path.abspath(__file__))))
 sys.path.append(os.path.join(ROOT, "tools"))
 import wasm_format  # noqa: E402
 TOOLS: dict = {"x86_64": ([os.environ.get("CC", "cc")], "", ["-M", "intel"]),
@@ -41,13 +38,11 @@ OF_DATA = frozenset("ascii asciz byte hword long quad short word xword zero".spl
 DIRECTIVE = re.compile(r"(?:^|[;/]|(?<!:lo12):)\s*\.([a-z]\w*)\b(?![\w.$]*\s*:)", re.I | re.M)
 # What the files do not have: what a preprocessor reads, comments, and other values of symbols.
 OTHER = re.compile(r"^\s*#|//|/\*|=", re.M)
-# How instructions begin that processors of the level of a file do not have: those with a prefix of AVX,
-# and of AVX-512.
+# How instructions begin that processors of a file's level do not have: those with a prefix of AVX, and of AVX-512.
 LATER = {"v2.s": re.compile(r"(?:66|67|f[023]|26|2e|36|3e|6[45])*(?:c[45]|62)"),
          "v3.s": re.compile(r"(?:66|67|f[023]|26|2e|36|3e|6[45])*62")}
 OF_C = ("memcpy", "memmove", "memset")            # functions of the C library that the code calls
-# The kinds of relocation that fill in 4 bytes of constants, R_X86_64_PC32 and R_AARCH64_PREL32.
-# Any other fills in at most 8.
+# The kinds of relocation that fill in 4 bytes of constants, R_X86_64_PC32 and R_AARCH64_PREL32. Any other: at most 8.
 OF_FOUR_BYTES = (2, 261)
 # What the linker fills in where the code calls a function or jumps to it.
 OF_CALLS = ("R_X86_64_PLT32", "R_X86_64_PC32", "R_AARCH64_CALL26", "R_AARCH64_JUMP26")
@@ -58,14 +53,21 @@ PREFIX = re.compile(r"66|67|f[023]|26|2e|36|3e|6[45]|4")     # of an instruction
 LINE = re.compile(r"\s*([0-9a-f]+):\t([0-9a-f ]+?)\s*\t(.*)")
 
 
-class NotAssembled(Exception):
+class NotAssembled(CannotShow):
     """The assembler or the linker refuses the file."""
 
 
 @functools.lru_cache(maxsize=None)
-def read(path: str) -> Program:
+def read(path: str) -> "Program":
     """The program of a file, which is read once."""
     return Program(path)
+
+
+@functools.lru_cache(maxsize=None)
+def source(path: str) -> Any:
+    """What is changed in a file: its text for ELF, or the lines of the functions of a module, by their names."""
+    kind = functions.architecture(path)
+    return read(path).functions if kind == "wasm" else elf.expanded(path, kind)
 
 
 def module_of(path: str) -> Any:
@@ -79,22 +81,16 @@ def module_of(path: str) -> Any:
 
 
 class Program:
-    """The functions of a file, by name without version, as lines of text.
+    """The functions of a file, by name without version, as lines of text. `edit` changes its source() first."""
 
-    `edit` changes the text of the file, or the lines of the functions of a module, first."""
-
-    def __init__(self, path: str, edit: Any = None) -> None:
+    def __init__(self, path: str, edit: Callable = lambda source: source) -> None:
         self.path, self.kind = path, functions.architecture(path)
         self.model, self.width = MODELS[self.kind], 64
-        self.codes: dict = {}          # what code() has read, and the lines that it was read from
-        self.extents: dict = {}
-        if self.kind == "wasm":
-            self.read_module(edit)
-        else:
-            with open(os.path.join(ROOT, path), encoding="utf-8") as f:
-                self.read_text(f.read(), edit)
+        self.codes: dict = {}          # what code() has read
+        self.extents: dict = {}        # and extent()
+        (self.read_module if self.kind == "wasm" else self.read_text)(edit)
 
-    def read_module(self, edit: Any) -> None:
+    def read_module(self, edit: Callable) -> None:
         """The functions of a module. One without names has those of the module that it was made from, function by
         function."""
         module = module_of(self.path)
@@ -107,15 +103,11 @@ class Program:
         self.signatures = {names[k]: f for k, f in enumerate(module.functions)}
         if len(self.signatures) != len(module.functions):
             raise CannotShow("two functions of %s have one name" % self.path)
-        self.functions = {n: f.lines for n, f in self.signatures.items()}
-        if edit:
-            self.functions = edit(self.functions)
+        self.functions = edit({n: f.lines for n, f in self.signatures.items()})
 
-    def read_text(self, text: str, edit: Any) -> None:
+    def read_text(self, edit: Callable) -> None:
         """The functions of an assembly text."""
-        text = macros.expanded(text, self.kind)
-        if edit:
-            text = edit(text)
+        text = edit(source(self.path))
         code = re.sub(r'^/\*[^*]*\*/$|"(?:[^"\\\n]|\\.)*"', "", text, flags=re.M)
         if OTHER.search(code):
             raise CannotShow("a comment, or a symbol with a value: %s" % OTHER.split(code)[0].split("\n")[-1])
@@ -127,34 +119,32 @@ class Program:
             s, o, so = (os.path.join(d, "a" + suffix) for suffix in (".s", ".o", ".so"))
             with open(s, "w") as f:
                 f.write(text)
-            for command in (compiler + ["-c", "-o", o, s], [prefix + "ld", "-shared", "-z",
-                                                            "noexecstack", "-q", "-o", so, o]):
+            link = [prefix + "ld", "-shared", "-z", "noexecstack", "-q", "-o", so, o]
+            for command in compiler + ["-c", "-o", o, s], link:
                 found = subprocess.run(command, stderr=subprocess.PIPE, text=True)
                 if found.returncode:
                     raise NotAssembled(found.stderr.strip().split("\n")[-1])
-            with open(o, "rb") as f:
-                self.read_symbols(elf.Elf(f.read()))
-            with open(so, "rb") as f:
-                self.constants = constants(elf.Elf(f.read()))
+            self.read_symbols(elf.Elf(o))
+            self.constants = constants(elf.Elf(so))
             out = subprocess.run([prefix + "objdump", "-dzrt", "--insn-width=16"] + style + [so],
                                  check=True, stdout=subprocess.PIPE, text=True).stdout
         check_data(text)
         # The address, the section, the size and the name of each symbol.
         self.symbols = [(int(m[1], 16), m[2], int(m[3], 16), m[4]) for m in re.finditer(
             r"^([0-9a-f]{16}) .{7} (\S+)\t([0-9a-f]{16})(?: \.\w+)? (.+)$", out, re.M)]
-        self.functions, lines = {}, []
-        for line in out.splitlines():
-            m = re.fullmatch(r"[0-9a-f]+ <(.*)>:", line)
-            if m:
-                lines = self.functions.setdefault(without_version(m[1]), [])
-            elif ":\t" in line or ": R_" in line:
-                lines.append(line)
+        self.functions = {}
+        for name, body in re.findall(r"^[0-9a-f]+ <(.*)>:\n((?:.+\n)*)", out, re.M):
+            self.functions.setdefault(without_version(name), []).extend(
+                line for line in body.splitlines() if ":\t" in line or ": R_" in line)
 
     def read_symbols(self, file: elf.Elf) -> None:
         """The functions that other files may call, and the symbols that they define, of an object file. All that a
         processor sees must be code or constants that nothing writes."""
+        kind, features = MARKS[self.kind]
+        mark = ".note.gnu.property", struct.pack("<3I4s4I", 4, 16, 5, b"GNU", kind, 4, features, 0)
         for s in file.sections:
-            is_kept = s.size and s.flags & elf.ALLOCATED and not self.is_mark(s)
+            is_mark = s.type == elf.NOTE and (s.name, s.data) == mark
+            is_kept = s.size and s.flags & elf.ALLOCATED and not is_mark
             if s.type == elf.GROUP or not s.flags & elf.ALLOCATED and s.flags & elf.EXECUTABLE or (
                     is_kept and (s.type != elf.PROGBITS or not any(
                         s.name.startswith(name) and s.flags == flags for name, flags in SECTIONS))):
@@ -167,28 +157,22 @@ class Program:
                 raise CannotShow("it is not known what linkers do with the section %s" % s.name)
         if STACK_MARK not in [s.name for s in file.sections]:
             raise IsWrong("the file lets the linker make the stack executable")
-        for symbol in file.symbols:
-            if not re.fullmatch(r"[\w.$]*", symbol.name):
-                raise CannotShow("the symbol %s has other characters than names in C" % symbol.name)
-            if symbol.section == elf.UNDEFINED and symbol.name and (
-                    symbol.binding != elf.GLOBAL or symbol.type != elf.NO_TYPE or symbol.name not in OF_C):
-                raise IsWrong("%s may be absent, or is no function of the C library" % symbol.name)
-            if symbol.section != elf.UNDEFINED and without_version(symbol.name) in OF_C:
-                raise IsWrong("%s has the name of a function of the C library" % symbol.name)
-            if symbol.binding != elf.LOCAL and symbol.section != elf.UNDEFINED and (not symbol.is_hidden):
-                raise IsWrong("another file may define %s too" % symbol.name)
-        self.globals = sorted(without_version(s.name) for s in file.symbols
-                              if s.binding != elf.LOCAL and s.section != elf.UNDEFINED)
-        self.external = {s.name for s in file.symbols if s.section == elf.UNDEFINED}
-        self.external -= {s.name for s in file.symbols if s.section != elf.UNDEFINED}
+        undefined = [s for s in file.symbols if s.section == elf.UNDEFINED and s.name]
+        defined = [s for s in file.symbols if s.section != elf.UNDEFINED]
+        for s in undefined:
+            if s.binding != elf.GLOBAL or s.type != elf.NO_TYPE or s.name not in OF_C:
+                raise IsWrong("%s may be absent, or is no function of the C library" % s.name)
+        for s in defined:
+            if not re.fullmatch(r"[\w.$]*", s.name):
+                raise CannotShow("the symbol %s has other characters than names in C" % s.name)
+            if without_version(s.name) in OF_C:
+                raise IsWrong("%s has the name of a function of the C library" % s.name)
+            if s.binding != elf.LOCAL and not s.is_hidden:
+                raise IsWrong("another file may define %s too" % s.name)
+        self.globals = sorted(without_version(s.name) for s in defined if s.binding != elf.LOCAL)
+        self.external = {s.name for s in undefined} - {s.name for s in defined}
         self.callable = {s.name for s in file.symbols
                          if s.type == elf.FUNCTION and s.binding in (elf.LOCAL, elf.GLOBAL)}
-
-    def is_mark(self, section: Any) -> bool:
-        """Whether a section is the note that all code of the object is for branch protection."""
-        kind, features = MARKS[self.kind]
-        note = struct.pack("<3I4s4I", 4, 16, 5, b"GNU", kind, 4, features, 0)
-        return (section.name, section.type, bytes(section.data)) == (".note.gnu.property", elf.NOTE, note)
 
     def target(self, i: Any, external: tuple) -> str:
         """The name without version of the function that a call or a jump goes to: to its start, or to one of these
@@ -210,19 +194,18 @@ class Program:
         if name not in self.functions:
             raise CannotShow("%s has no function %s: the compiler may have inlined it, or it has "
                              "another name now: see tests/machine/functions.py" % (self.path, name))
-        lines = self.functions[name]
-        if name not in self.codes or self.codes[name][0] is not lines:
-            self.codes[name] = lines, wasm.parse(lines) if self.kind == "wasm" else self.instructions(name, lines)
-        for i in self.codes[name][1] if user and self.kind != "wasm" else ():
+        if name not in self.codes:
+            self.codes[name] = wasm.parse(self.functions[name]) if self.kind == "wasm" else self.instructions(name)
+        for i in self.codes[name] if user and self.kind != "wasm" else ():
             forms.check(self.kind, str(user), i.text)
-        return self.codes[name][1]
+        return self.codes[name]
 
-    def instructions(self, name: str, lines: list) -> list:
+    def instructions(self, name: str) -> list:
         """The instructions of an assembly function."""
         start, end = self.extent(name)
-        later = LATER.get(functions.build(self.path)[1])
+        later = LATER.get(self.path.rpartition("-")[2])
         found, filled = [], set()
-        for line in lines:
+        for line in self.functions[name]:
             m = LINE.match(line)
             if not start <= int(m[1] if m else line.partition(":")[0], 16) < end:
                 continue
@@ -257,11 +240,8 @@ class Program:
 
     def extent(self, name: str) -> tuple:
         """Where the code of a function begins and ends. No other symbol may be in it."""
-        if name not in self.extents:
-            self.extents[name] = self.find_extent(name)
-        return self.extents[name]
-
-    def find_extent(self, name: str) -> tuple:
+        if name in self.extents:
+            return self.extents[name]
         found = [s for s in self.symbols if without_version(s[3]) == name]
         if len(found) != 1:
             raise CannotShow("%s has %d symbols %s instead of one" % (self.path, len(found), name))
@@ -273,7 +253,8 @@ class Program:
                   and s[3] not in (symbol, section)]
         if others:
             raise CannotShow("the symbol %s is inside of %s" % (others[0], name))
-        return start, start + size
+        self.extents[name] = start, start + size
+        return self.extents[name]
 
     def check_relocation(self, i: Any, line: str) -> None:
         """Refuses a number that the linker fills in, except the address of a constant of the file, and of the
@@ -297,8 +278,7 @@ class Program:
         if self.kind == "wasm":
             return self.functions[name]
         comment = "#" if self.kind == "x86_64" else "//"
-        texts = [m[3] for m in map(LINE.match, self.functions[name]) if m]
-        return [" ".join(t.partition(comment)[0].split()) for t in texts]
+        return [" ".join(m[3].partition(comment)[0].split()) for m in map(LINE.match, self.functions[name]) if m]
 
     def constant(self, address: int) -> int:
         """The byte of the constants at an address."""
@@ -335,14 +315,9 @@ def without_version(name: str) -> str:
 
 def constants(file: Any) -> Any:
     """The address of a file's constants, and their bytes: None if the linker fills them in."""
-    start = 0
-    found: list = []
+    start, found = {s.name: (s.address, list(s.data)) for s in file.sections}.get(CONSTANTS, (0, []))
     for s in file.sections:
-        if s.name == CONSTANTS:
-            start, found = s.address, list(s.data)
-    for s in file.sections:
-        for entry in range(0, s.size, 24) if s.type == elf.RELOCATIONS else ():
-            place, info = (int.from_bytes(s.data[entry + k:entry + k + 8], "little") for k in (0, 8))
+        for place, info, _ in struct.iter_unpack("<3Q", s.data) if s.type == elf.RELOCATIONS else ():
             end = place + (4 if info & 0xffffffff in OF_FOUR_BYTES else 8)
             for k in range(max(place - start, 0), min(end - start, len(found))):
                 found[k] = None

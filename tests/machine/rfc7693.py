@@ -1,7 +1,5 @@
 """The compression function F of RFC 7693, section 3.2, over terms."""
 
-from __future__ import annotations
-
 from typing import Any, Callable
 
 import terms as T
@@ -68,10 +66,8 @@ def F(kind: Kind, h: list, m: list, low: T.Term, high: T.Term, last: T.Term, las
     zeros or ones; the second is that of the last node (BLAKE2, 2.10)."""
     w = kind.w
     v = list(h) + [T.const(w, n) for n in kind.iv]
-    v[12] = T.xor(w, v[12], low)
-    v[13] = T.xor(w, v[13], high)
-    v[14] = T.xor(w, v[14], last)
-    v[15] = T.xor(w, v[15], last_node)
+    for k, t in enumerate((low, high, last, last_node), 12):
+        v[k] = T.xor(w, v[k], t)
     r1, r2, r3, r4 = kind.rotations
     for i in range(kind.rounds):
         s = SIGMA[i % 10]

@@ -1,17 +1,14 @@
 """The values of whole calls that are executed over variables: no byte is forgotten. What a function of the C library
 copies, if its length is not a number, is a choice byte by byte. A branch that is not decided is taken both ways."""
 
-from __future__ import annotations
-
 import itertools
 from typing import Any, Callable, NamedTuple
 
 import terms as T
-from machine import Aligned, bitwise, chunks, joined, need_public, total
-from facts import Facts
-from ranges import OPPOSITE, signed
-from taint import Called, Cells, is_secret
-from terms import CannotShow, IsWrong
+from facts import RELATIONS, Facts
+from machine import Aligned, Cells, Values, bitwise, chunks, joined, need_public, total
+from taint import is_secret
+from terms import OPPOSITE, CannotShow, IsWrong, signed
 
 KEYS = ("start_block.", "new~", "rest~")      # variables that may be bytes of a key
 WRITTEN = 256                          # bytes of an output that are often written together
@@ -99,7 +96,7 @@ class Piece(NamedTuple):
     start: Any = 0
 
 
-class Exact(Called):
+class Exact(Values):
     """Terms over the variables of a call. Facts decide how public ones compare."""
 
     def __init__(self, regions: dict, processor: Any, alignment: tuple, known: Facts | None = None) -> None:
@@ -108,12 +105,11 @@ class Exact(Called):
         self.apart: frozenset = frozenset()
         self.secret_of: Any = None     # the flags from a secret word, and the word
         self.compared_bytes: Any = None
-        # The lowest place of the stack that was used, the places where a secret may be, also below
-        # the stack pointer, or a byte of a key, and whether scrub_stack has overwritten all below the
-        # frame of the call.
+        # The lowest place of the stack that was used; the places where a secret may be, also below the stack pointer,
+        # each with whether a byte of a key may be there; and whether scrub_stack has overwritten all below the frame
+        # of the call.
         self.deepest, self.is_scrubbed = 0, False
-        self.secrets: set = set()
-        self.keys: set = set()
+        self.secrets: dict = {}
         self.is_kept: Callable = is_secret_byte        # which bytes are secret there
         self.inside: dict = {}         # places of outputs that are known to be inside: offsets and sizes
         self.pieces: tuple = ()        # what was written to buffers at offsets that are terms, in order
@@ -122,34 +118,40 @@ class Exact(Called):
         """Uses the stack down to a place."""
         self.deepest, self.is_scrubbed = min(self.deepest, low), False
 
+    def move_stack(self) -> None:
+        self.deepest = min(self.deepest, self.lowest())
+        super().move_stack()
+
     def compressed(self, frame: int) -> None:
         """A compression has used so many bytes of the stack, for secrets."""
         low = self.lowest()
         self.go_down(low - frame)
-        self.secrets.update(range(low - frame, low))
-        if any(is_of_key(b) for r in self.general + self.vector for b in r):
-            self.keys.update(range(low - frame, low))
+        has_key = any(is_of_key(b) for r in self.general + self.vector for b in r)
+        self.keep_secrets(dict.fromkeys(range(low - frame, low), has_key))
+
+    def keep_secrets(self, others: dict) -> None:
+        """Adds places where a secret may be, each with whether a byte of a key may be there."""
+        self.secrets.update({at: is_key or self.secrets.get(at, False) for at, is_key in others.items()})
 
     def uses_stack_of(self, others: list) -> None:
         """Uses the stack as other paths have used it."""
-        self.deepest = min([self.deepest] + [m.deepest for m in others])
-        self.secrets, self.keys = (set().union(*[getattr(m, name) for m in [self] + others])
-                                   for name in ("secrets", "keys"))
-        self.is_scrubbed = False
+        self.deepest, self.is_scrubbed = min(m.deepest for m in [self] + others), False
+        for m in others:
+            self.keep_secrets(m.secrets)
 
     def put(self, base: T.Term, places: Any, data: list) -> None:
         """Writes bytes at places that are numbers."""
         self.memory.update(((base, at), b) for at, b in zip(places, data))
         if base is self.stack:
             self.is_scrubbed = False
-            kinds: tuple = ((self.secrets, self.is_kept), (self.keys, is_of_key))
-            for found, is_one in kinds:
-                found.difference_update(places)
-                found.update(at for at, b in zip(places, data) if is_one(b))
+            for at, b in zip(places, data):
+                self.secrets.pop(at, None)
+                if self.is_kept(b):
+                    self.secrets[at] = is_of_key(b)
 
     def copy(self) -> Any:
         other = super().copy()
-        other.secrets, other.keys = set(self.secrets), set(self.keys)
+        other.secrets = dict(self.secrets)
         return other
 
     def may_be_left(self, j: int, k: int, b: T.Byte) -> bool:
@@ -157,8 +159,9 @@ class Exact(Called):
         return b in (0, self.at_start["vector"][j][k]) or isinstance(b, tuple) and str(b[0].args).startswith("after~")
 
     def is_left(self, j: int, start: int) -> bool:
-        """Whether each is, from one on."""
-        return all(self.may_be_left(j, k, b) for k, b in enumerate(self.vector[j]) if k >= start)
+        """Whether all are zero, from one on, or each is as at the entry or left by the C library."""
+        data = list(enumerate(self.vector[j]))[start:]
+        return all(b == 0 for _, b in data) or all(b != 0 and self.may_be_left(j, k, b) for k, b in data)
 
     def lost(self, n: int, is_compression: bool = False) -> list:
         """What a function leaves in a register: `after` is what one of the C library leaves."""
@@ -182,7 +185,6 @@ class Exact(Called):
         return T.substitute(t, self.path_facts.values(), {})
 
     def settler(self) -> Callable:
-        """The same for a byte, if it is public."""
         values = self.path_facts.values()
         memo: dict = {}
         return lambda b: b if isinstance(b, int) or b[0].taint != T.PUBLIC else T.split(
@@ -194,14 +196,6 @@ class Exact(Called):
         for name in self.processor.FILES:
             setattr(self, name, [[byte(b) for b in r] for r in getattr(self, name)])
         self.memory = {at: byte(b) for at, b in self.memory.items()}
-
-    def is_as_at(self, entry: tuple, found: tuple, first: int) -> bool:
-        """Whether the return address, the stack pointer and the registers of the caller are those of the entry, from
-        the first of these on."""
-        byte = self.settler()
-        saved = [[byte(b) for b in r] for r in entry[2]]
-        return (first > 0 or found[0] is self.settled(entry[0])) and found[1] is entry[1] and (
-            [[byte(b) for b in r] for r in found[2]] == saved)
 
     def learn(self, relation: str, a: T.Term, b: T.Term, holds: bool) -> bool:
         self.path_facts = self.path_facts.plus(relation if holds else OPPOSITE[relation], a, b)
@@ -246,19 +240,16 @@ class Exact(Called):
 
     # Flags.
 
-    def of_secrets(self, f: Callable, a: T.Term, b: T.Term) -> list:
+    def of_secrets(self, kind: str, f: Callable, a: T.Term, b: T.Term) -> list:
         r = f(a, b)
         if not isinstance(r, T.Term):
             r = T.word(fresh("new", T.SECRET, a.w // 8))
-        self.flags = tuple(["secret"])
-        self.secret_of = self.flags, r
+        if r.taint & ~T.PUBLIC or kind in ("add", "sub"):
+            self.flags = tuple(["secret"])
+            self.secret_of = self.flags, r
+        else:                          # what the flags say is only by the result
+            self.flags = kind, r, r, r
         return T.split(r)
-
-    def truth(self, compared: Any) -> Any:
-        """Whether a comparison holds, or "secret"."""
-        if self.flags == ("secret",):
-            return "secret"
-        return self.decided(compared)
 
     def decided(self, compared: Any) -> bool:
         if compared is None:
@@ -270,19 +261,20 @@ class Exact(Called):
 
     def bit(self, compared: Any) -> T.Byte:
         """A byte that is 1 if a comparison holds, and otherwise 0."""
-        truth = self.truth(compared)
-        if truth != "secret":
-            return int(truth)
+        if self.flags != ("secret",):
+            return self.chosen(compared, [1], [0])[0]
         if compared[0] != "==" or not self.secret_of or self.secret_of[0] is not self.flags:
             return fresh("new", T.SECRET)[0]
         return is_zero(self.secret_of[1])
 
     def chosen(self, compared: Any, a: list, b: list) -> list:
         """The bytes a if a comparison holds, and otherwise b, without a branch."""
-        truth = self.truth(compared)
-        if truth == "secret":
+        if self.flags == ("secret",):
             return fresh("new", T.SECRET, len(a))
-        return a if truth else b
+        choose = lambda x, y, on, off: on if RELATIONS[compared[0]](x, y) else off
+        found = T.leaves(choose, 8 * len(a), *compared[1:], T.word(a), T.word(b)) if (
+            compared and compared[0] in RELATIONS) else None
+        return T.split(found) if found else a if self.decided(compared) else b
 
     def holds(self, compared: Any) -> bool:
         """Whether a comparison holds, for a branch."""
@@ -319,7 +311,7 @@ class Exact(Called):
         return next((n for n in range(most) if self.is_always("<", t, 1 << 8 * n)), most)
 
     def normal(self, t: T.Term) -> list:
-        return [self.norm(b) for b in T.split(t)]
+        return [self.norm(b) for b in T.split(t)] if t.taint & T.PUBLIC else T.split(t)
 
     def exclusive(self, a: T.Term, b: T.Term) -> Any:
         return T.word(bitwise(T.xor, self.normal(a), self.normal(b)))
@@ -328,9 +320,14 @@ class Exact(Called):
         for t, u in ((a, b), (b, a)):
             if t.op == "const" and self.is_clear(u, t.args):
                 return T.add(a.w, (1, t), (1, u))
+        x, y = self.normal(a), self.normal(b)
+        try:
+            return T.word(bitwise(T.either, x, y))
+        except CannotShow:
+            pass
         try:
             return T.word([any_of(x, y) if is_secret_byte(x) and is_secret_byte(y) and x != y else
-                           T.or_byte(x, y) for x, y in zip(self.normal(a), self.normal(b))])
+                           T.or_byte(x, y) for x, y in zip(x, y)])
         except CannotShow:
             if (a.taint | b.taint) & ~T.PUBLIC:
                 raise
@@ -352,7 +349,7 @@ class Exact(Called):
         if a is b:
             return a
         for t, u in ((a, b), (b, a)):
-            if u.op != "const" or t.op == "const":
+            if u.op != "const" or t.op == "const" or t.taint & ~T.PUBLIC:
                 continue
             low = (u.args ^ (1 << t.w) - 1) + 1
             if set(T.linear(t)[1]) == {self.stack}:
@@ -381,7 +378,6 @@ class Exact(Called):
             return joined(self.vector_of(lambda p, q: [T.and_byte(*p, *q)], *pair)
                           for pair in zip(chunks(x, 1), chunks(y, 1)))
         f = self.exclusive if name == "xor" else self.either
-        x, y = ([self.norm(b) for b in data] for data in (x, y))
         return joined(T.split(f(T.word(p), T.word(q))) for p, q in zip(chunks(x, 8), chunks(y, 8)))
 
     def vector_of(self, f: Callable, *data: list) -> list:

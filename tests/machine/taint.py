@@ -1,67 +1,43 @@
-"""Follows secrets through a whole call: an abstract interpretation of the machine code that an
-exported function reaches. Each byte of a register or of memory is public or secret. A branch or an
-address that may depend on a secret is refused.
+"""Follows secrets through a whole call: an abstract interpretation of the machine code that an exported function
+reaches. Each byte of a register or of memory is public or secret. A branch or an address that may depend on a secret is
+refused.
 
-Public words are terms over public variables, of which each has a range. So the offsets of memory
-are known, or within bounds. Where paths meet, what differs becomes a new variable."""
-
-from __future__ import annotations
+Public words are terms over public variables. So the offsets of memory are known, or within bounds: a word has a range
+(low, high, step), and is one of low, low + step and so on up to high, or such a number less a multiple of 2^w, where w
+is its width. Where paths meet, what differs becomes a new variable."""
 
 import copy
+from math import gcd
 from typing import Any, Callable, Iterator
 
 import terms as T
-from machine import WORDWISE, Aligned, Followed, bitwise, joined, need_public, total
-from ranges import OPPOSITE, TOP, VISITS, Ranges, merged_ranges
-from terms import CannotShow, IsWrong
+from machine import WORDWISE, Cells, Values, bitwise, joined, need_public, total
+from terms import OPPOSITE, CannotShow, IsWrong, signed
 
+TOP = 1 << 64
+VISITS = 2                             # of a place, after which ranges are widened
 TABLE_STEP = 64                        # bytes from which an index is into a table, not an array
-_BYTES: list = []                      # a secret byte, a public one, and a secret bit
-
-
-def reset() -> None:
-    """Forgets all terms."""
-    T.reset()
-    _BYTES[:] = [(T.var(8, "secret", T.SECRET), 0), (T.var(8, "public", T.PUBLIC), 0),
-                 (T.var(8, "secret bit", T.SECRET), 0)]
 
 
 def secret() -> T.Byte:
     """A secret byte. All are the same term, because nothing is known about any."""
-    return _BYTES[0]
+    return T.var(8, "secret", T.SECRET), 0
 
 
 def unknown() -> T.Byte:
     """A public byte about which nothing is known."""
-    return _BYTES[1]
+    return T.var(8, "public", T.PUBLIC), 0
 
 
 def secret_bit() -> T.Byte:
     """A secret byte that is 0 or 1."""
-    return _BYTES[2]
+    return T.var(8, "secret bit", T.SECRET), 0
 
 
 def has_name(b: Any) -> Any:
     """Whether a secret byte keeps its name: a bit, and what a register has at the entry, which the call must
     restore."""
     return b == secret_bit() or b[0].op == "var" and b[0].taint == T.JUNK
-
-
-class Cells:
-    """Memory from `low` to `high`. `initial` returns the byte at an offset. Its base is the second number of
-    `alignment` modulo the first. If it is uniform, offsets don't matter, and what is written to it is secret
-    already."""
-
-    table: Any = None                  # of a table of messages: what returns an entry's bytes
-
-    def __init__(self, low: int, high: int, initial: Callable, writable: bool = True, alignment: tuple = (8, 0),
-                 uniform: bool = False) -> None:
-        self.low, self.high, self.initial = low, high, initial
-        self.writable, self.alignment, self.uniform = writable, alignment, uniform
-
-    @property
-    def length(self) -> T.Term:
-        return T.const(64, self.high - self.low)
 
 
 def is_secret(b: T.Byte) -> bool:
@@ -75,53 +51,57 @@ def joined_byte(a: T.Byte, b: T.Byte) -> T.Byte:
     return secret() if is_secret(a) or is_secret(b) else unknown()
 
 
-class Called(Followed):
-    """What the values of whole calls do alike, over terms or over public and secret bytes."""
-
-    of_secrets: Callable               # what computed() returns if a word is secret
-
-    def region_of(self, address: T.Term) -> tuple:
-        """The base, the offset as a term, and the region of an address."""
-        need_public(address, "an address")
-        bases = [u for u, k in T.linear(address)[1].items() if u in self.regions and k == 1]
-        if len(bases) != 1:
-            raise CannotShow("no memory is known at %r" % address)
-        self.counts["addresses"] += 1
-        return bases[0], total(address, bases[0], -1), self.regions[bases[0]]
-
-    @staticmethod
-    def check_writable(region: Any, address: T.Term) -> None:
-        if not region.writable:
-            raise IsWrong("the function writes at %r, which it may only read" % address)
-
-    def computed(self, kind: str, f: Callable, x: list, y: list) -> list:
-        """The bytes of a result of two words, and the flags from it. f returns a term, the range of one, or None."""
-        a, b = T.word(x), T.word(y)
-        if (a.taint | b.taint) & ~T.PUBLIC:
-            return self.of_secrets(f, a, b)
-        r = f(a, b)
-        if not isinstance(r, T.Term):
-            r = self.new(a.w, "", r)
-        self.flags = kind, a, b, r
-        return T.split(r)
+@T.remembering
+def parts(t: T.Term) -> tuple:
+    """A term as the sum of a number and of another term or its negative."""
+    constant, items = T.linear(t)
+    sign = -1 if signed(t.w, next(iter(items.values()), 0)) < 0 else 1
+    return signed(t.w, constant), sign, T.add(t.w, *[(sign * k, u) for u, k in items.items()])
 
 
-class Taint(Ranges, Called):
+def aligned(low: int, high: int, start: int, step: int) -> tuple:
+    """The least range that has all numbers between two that are a start plus multiples of a step, which is 0 if the
+    start is the only one."""
+    if step < 2:
+        return low, high, step
+    return low + (start - low) % step, high - (high - start) % step, step
+
+
+def merged_ranges(a: tuple, b: tuple) -> tuple:
+    """The least range that has the numbers of both."""
+    return min(a[0], b[0]), max(a[1], b[1]), gcd(a[2], b[2], a[0] - b[0])
+
+
+def in_both(a: tuple, b: tuple, w: int) -> tuple | None:
+    """A range that has the words of w bits that two ranges have in common, by the greater step. None if there are
+    none. If they meet at both ends, it is the smaller of both."""
+    size = 1 << w
+    shift = -((b[1] - a[0]) // size) * size          # the least with which b does not end before a
+    if b[0] + shift > a[1]:
+        return None
+    if b[0] + shift + size <= a[1]:
+        return min(a, b, key=lambda r: r[1] - r[0])
+    b = b[0] + shift, b[1] + shift, b[2]
+    if a[2] == 0 or b[2] == 0:
+        return a if a[2] == 0 else b
+    found = aligned(max(a[0], b[0]), min(a[1], b[1]), *max(a, b, key=lambda r: r[2])[::2])
+    return found if found[0] <= found[1] else None
+
+
+class Taint(Values):
     """Values of which each byte is public or secret."""
 
-    KNOWN = ("memory", "ranges")
-    facts: dict
-    bounds: frozenset
-
-    def __init__(self, regions: dict, processor: Any, alignment: tuple, ranges: dict, block: int,
-                 longest: int = 0) -> None:
+    def __init__(self, regions: dict, processor: Any, alignment: tuple, block: int, longest: int = 0) -> None:
         """An index that has no bound, or a greater one than the longest array, stays within a block."""
         super().__init__(regions, processor, alignment)
         self.block, self.longest = block, longest or block
         # Byte -> what holds if it is 0, and what if it is not: comparisons, as for learn().
-        self.facts = {}
-        self.ranges = dict(ranges)
-        self.bounds = frozenset()      # words that a branch of the function has compared
+        self.facts: dict = {}
+        # Of variables, and of sums without a constant that have a smaller range than their parts say.
+        self.ranges: dict = {}
+        self.bounds: frozenset = frozenset()           # words that a branch of the function has compared
+        self.undecided: frozenset = frozenset()        # branches of which numbers have not said where they go
+        self.rounds: tuple = ()        # how often loops were passed by other branches
         self.where = ""                # the path of calls and the instruction, for new variables
 
     def copy(self) -> Any:
@@ -137,24 +117,130 @@ class Taint(Ranges, Called):
         """Public bytes of which nothing is known."""
         return [unknown()] * n
 
-    def cleaned(self, data: list, is_word: bool) -> list:
+    def cleaned(self, data: list, is_word: bool, name: str = "") -> list:
         """Bytes as they are kept: what depends on a secret is only secret. A word of which a byte is not known is a
         new variable."""
         data = [secret() if is_secret(b) and not has_name(b) else b for b in data]
         if not is_word or unknown() not in data:
             return data
         if not any(map(is_secret, data)):
-            return T.split(self.new(8 * len(data), "=%d" % len(data)))
-        fresh = lambda k: (self.new(8, "=%d." % k), 0)
-        return [fresh(k) if b is unknown() else b for k, b in enumerate(data)]
+            return T.split(self.new(8 * len(data), "%s=%d" % (name, len(data))))
+        return [(self.new(8, "%s=%d." % (name, k)), 0) if b == unknown() else b for k, b in enumerate(data)]
 
     def is_bit(self, b: T.Byte) -> bool:
         """Whether a byte is 0 or 1."""
         return b == secret_bit() or not is_secret(b) and self.unsigned(T.word([b]))[1] <= 1
 
+    # Ranges.
+
+    def new(self, w: int, what: str = "", limits: tuple | None = None) -> T.Term:
+        """A public variable of w bits, named by the place of the instruction, that stands for a new value from now
+        on."""
+        x = T.var(w, self.where + what, T.PUBLIC)
+        self.ranges = {t: r for t, r in self.ranges.items() if x not in T.linear(t)[1]}
+        self.facts = {t: f for t, f in self.facts.items() if not any(
+            x in T.variables(u) for u in [t] + [w for _, a, b, _ in f[0] + f[1] for w in (a, b)])}
+        if limits:
+            self.ranges[x] = limits
+        return x
+
+    def range_of(self, t: T.Term) -> tuple:
+        """The range of a term."""
+        if t.op == "const":
+            n = signed(t.w, t.args) if t.w == 64 else t.args
+            return n, n, 0
+        if t.op in ("var", "add"):
+            constant, sign, rest = parts(t)
+            low, high, step = self.range_of_rest(rest)
+            return (constant + low, constant + high, step) if sign > 0 else (constant - high, constant - low, step)
+        bs = T.split(t)
+        while bs and bs[-1] == 0:
+            bs.pop()
+        if bs and not isinstance(bs[0], int) and bs == [(bs[0][0], k) for k in range(len(bs))]:
+            low, high, step = self.range_of(bs[0][0])
+            if 0 <= low and high < 1 << 8 * len(bs):
+                return low, high, step
+        return 0, (1 << 8 * min(len(bs), t.w // 8)) - 1, 1
+
+    def range_of_rest(self, t: T.Term) -> tuple:
+        """The range of a variable, or of a sum without a constant."""
+        known = self.ranges.get(t)
+        if t.op != "add":
+            return known or (self.range_of(t) if t.op != "var" else (0, (1 << t.w) - 1, 1))
+        found = self.range_of_sum(t)
+        return in_both(known, found, t.w) or known if known else found
+
+    def range_of_sum(self, t: T.Term) -> tuple:
+        """The range of a sum by those of its parts."""
+        low = high = step = 0
+        for u, k in t.args[1]:
+            k, (a, b, s) = signed(t.w, k), self.range_of(u)
+            low, high = low + min(k * a, k * b), high + max(k * a, k * b)
+            step = gcd(step, k * s)
+        return low, high, step
+
+    def unsigned(self, t: T.Term) -> tuple:
+        """The range of a term between 0 and 2^w."""
+        (low, high, _), size = self.range_of(t), 1 << t.w
+        return (low % size, high % size) if low // size == high // size else (0, size - 1)
+
+    def limit(self, t: T.Term, low: int, high: int, step: int = 1) -> bool:
+        """Learns that a term is between two numbers, and one of low, low + step and so on. Returns whether that may
+        be."""
+        constant, sign, rest = parts(t)
+        if rest.op not in ("var", "add") or rest in self.regions:
+            return True
+        high -= (high - low) % step
+        low, high = sorted((sign * (low - constant), sign * (high - constant)))
+        found = in_both(self.range_of_rest(rest), (low, high, step), t.w)
+        if found is None:
+            return False
+        self.ranges[rest] = found
+        return rest.op == "var" or self.limit_parts(rest)
+
+    def limit_parts(self, t: T.Term) -> bool:
+        """Learns from the range of a sum what follows for its parts."""
+        low, high, _ = self.ranges[t]
+        first, last, _ = self.range_of_sum(t)
+        for x, k in t.args[1]:
+            k, (a, b, _) = signed(t.w, k), self.range_of(x)
+            p, q = (low - last + b, high - first + a) if k == 1 else (first - high + b, last - low + a)
+            if x.op == "var" and abs(k) == 1 and not self.limit(x, p, q):
+                return False
+        return True
+
+    def assume(self, relation: str, a: T.Term, b: T.Term) -> bool:
+        """Learns that two words are related. Returns whether that may be."""
+        if "carry" in relation:
+            return True                # nothing is learnt
+        (p, q), (r, s) = self.unsigned(a), self.unsigned(b)
+        if relation in (">", ">="):
+            return self.assume({">": "<", ">=": "<="}[relation], b, a)
+        if relation == "==":
+            low, high = max(p, r), min(q, s)
+            return low <= high and self.limit(a, low, high) and self.limit(b, low, high)
+        if relation == "!=":
+            difference, size = T.add(a.w, (1, b), (-1, a)), 1 << a.w
+            low, high, step = self.range_of(difference)
+            first, last = (low % size == 0) * (step or 1), (high % size == 0) * (step or 1)
+            return high - low >= size or low + first <= high - last and self.limit(difference, low + first, high - last)
+        strict = relation == "<"
+        if strict and a is b or p + strict > s:
+            return False
+        may = self.limit(a, p, min(q, s - strict)) and self.limit(b, max(r, p + strict), s)
+        return may and self.limit(T.add(a.w, (1, b), (-1, a)), strict + 0, s - p)
+
+    def widened(self, old: tuple, new: tuple, w: int, visits: int) -> tuple:
+        """A range that stops to grow after some visits. Its end goes to a block's size first."""
+        if new == old or visits <= VISITS:
+            return new
+        low = new[0] if new[0] >= old[0] else 0 if new[0] >= 0 else -TOP
+        top = next((n for n in (self.block, self.longest) if new[1] <= n), TOP if low else (1 << w) - 1)
+        return aligned(low, top if new[1] > old[1] else new[1], new[0], new[2])
+
     # Flags.
 
-    def of_secrets(self, f: Callable, a: T.Term, b: T.Term) -> list:
+    def of_secrets(self, kind: str, f: Callable, a: T.Term, b: T.Term) -> list:
         self.flags = ("secret",)
         return [secret()] * (a.w // 8)
 
@@ -162,10 +248,8 @@ class Taint(Ranges, Called):
         """A comparison that is made only if the one before it holds."""
         old = self.flags
         self.computed("other", lambda x, y: None, a, b)
-        if old == ("secret",):
-            self.flags = old
-        elif self.flags != ("secret",):
-            self.flags = None if old is None else ("ccmp",) + self.flags[1:]
+        if self.flags != ("secret",):
+            self.flags = old if old in (None, ("secret",)) else ("ccmp",) + self.flags[1:]
 
     def learn(self, relation: str, a: T.Term, b: T.Term, holds: bool) -> bool:
         """Learns that a comparison holds or does not, and what made a byte that is now known to be 0 or not. Returns
@@ -177,18 +261,16 @@ class Taint(Ranges, Called):
         return all(self.learn(*other) for other in known)
 
     def supposing(self, compared: Any, holds: bool) -> Any:
-        """This machine with what a comparison says of the ranges if it holds or does not, or None if that may not
-        be."""
-        m = copy.copy(self)
+        """This machine with the ranges if a comparison holds or does not, or None if that may not be."""
+        m: Any = copy.copy(self)
         m.ranges = dict(self.ranges)
-        relation, a, b = compared
-        return m if m.learn(relation, a, b, holds) else None
+        return m if compared is None or m.learn(*compared, holds) else None
 
     def truth(self, compared: Any) -> Any:
         """Whether a comparison holds, if that is known, or "secret"."""
         if self.flags == ("secret",):
             return "secret"
-        for holds in (True, False) if compared and "carry" not in compared[0] else ():
+        for holds in (True, False):
             if self.supposing(compared, holds) is None:
                 return not holds
         return None
@@ -200,8 +282,7 @@ class Taint(Ranges, Called):
             return [secret()] * len(a) if truth == "secret" else a if truth else b
         if a == b:
             return a
-        is_followed = compared and "carry" not in compared[0]
-        one, other = (self.supposing(compared, on) if is_followed else self for on in (True, False))
+        one, other = (self.supposing(compared, on) for on in (True, False))
         data = self.joined(one, other, a, b, "?", 0)
         if not any(map(is_secret, a + b + data)):
             words = T.word(data), T.word(a), T.word(b)
@@ -225,21 +306,19 @@ class Taint(Ranges, Called):
         if truth is not None:
             return secret_bit() if truth == "secret" else int(truth)
         x = self.new(8, "", (0, 1, 1))
-        if compared and "carry" not in compared[0]:
+        if compared:
             self.facts = {**self.facts, x: tuple(((*compared, on),) for on in (False, True))}
         return x, 0
 
-    def outcomes(self, compared: Any) -> Iterator:
-        """The states after a conditional jump, each with whether it jumps."""
-        if compared is not None and "carry" in compared[0]:
-            compared = None
-        if compared is not None:
-            self.bounds |= {t for t in compared[1:] if t.w == 64 and t.op in ("var", "add")}
-        self.by_numbers = compared is not None and compared[1].op == compared[2].op == "const"
-        self.counts["branches"] += 1
+    def outcomes(self, compared: Any, at: int) -> Iterator:
+        """The states after a conditional jump at an address, each with whether it jumps."""
+        words = compared[1:] if compared and "carry" not in compared[0] else ()
+        self.bounds |= {t for t in words if t.w == 64 and t.op in ("var", "add")}
+        if {t.op for t in words} != {"const"}:
+            self.undecided |= {at}
         for jumps in (True, False):
-            m = self.copy()
-            if compared is None or m.learn(*compared, jumps):
+            m = self.copy().supposing(compared, jumps)
+            if m:
                 yield m, jumps
 
     def either(self, a: T.Term, b: T.Term) -> T.Term:
@@ -304,196 +383,144 @@ class Taint(Ranges, Called):
 
     # Memory.
 
-    def place(self, address: T.Term, size: int, aligned: bool) -> tuple:
-        """The base, the first and the last offset, and the region of an access."""
-        base, rest, region = self.region_of(address)
-        low, high, step = self.range_of(rest)
-        shift = low + TOP // 2 & -TOP
-        low, high, self.step_of_place = low - shift, high - shift, step
+    def places(self, address: T.Term, length: T.Term) -> tuple:
+        """The base, the offsets of all bytes that so many at an address may be, and the region. If no bound is known,
+        they are in one block."""
+        base, _, region = self.region_of(address)
+        (low, _, step), (_, end, _) = (self.offset(t, base) for t in (address, total(address, length)))
         if base is self.stack and low < self.lowest():
             raise IsWrong("%r is below the stack" % address)
-        fits = region.low <= low <= high <= region.high - size
-        if not region.uniform and not (fits and (high - low < self.longest or step >= TABLE_STEP)):
-            if low == high or not region.low <= low <= region.high - self.block:
-                raise CannotShow("no bound is known for %r, from %d on" % (address, low))
-            high = low + self.block - size
-        return base, low, high, region
+        if region.uniform:             # one stands for all
+            return base, range(1), region
+        is_index = length.op == "const"
+        least = low + (length.args if is_index else 1)
+        is_bounded = end - least < self.longest or is_index and step >= TABLE_STEP
+        if not is_bounded or is_index and least < end > region.high:
+            end = low + self.block
+        if not region.low <= low <= end <= region.high:
+            raise CannotShow("no bound is known for %r, from %d on" % (address, low))
+        return base, range(low, end), region
 
     def byte(self, base: T.Term, k: int, region: Any) -> T.Byte:
         found = self.memory.get((base, k))
         return region.initial(k) if found is None else found
 
     def load(self, address: T.Term, size: Any, aligned: bool = False) -> list:
-        base, low, high, region = self.place(address, size, aligned)
+        base, places, region = self.places(address, T.const(64, size))
         if region.table:
-            return region.table(self, low, size)
-        if region.uniform:
-            return [region.initial(0)] * size
-        if low == high:
-            return [self.byte(base, k, region) for k in range(low, low + size)]
-        data = [self.byte(base, k, region) for k in range(low, high + size)]
-        return [self.mixed(data)] * size
+            return region.table(self, self.range_of(total(address, base, -1)), size)
+        data = [self.byte(base, k, region) for k in places]
+        return data if len(data) == size else [self.mixed(data)] * size
 
     def store(self, address: T.Term, data: list, aligned: bool = False) -> None:
-        base, low, high, region = self.place(address, len(data), aligned)
-        self.check_writable(region, address)
-        data = self.cleaned(data, False)
+        self.write(address, T.const(64, len(data)), data)
+
+    def write(self, to: T.Term, length: T.Term, data: list) -> None:
+        """Writes bytes. If the place or the length is not known, each byte may be an old one or any of these."""
+        base, places, region = self.places(to, length)
+        self.check_writable(region, to)
         if region.uniform:
             return
-        if low == high:
-            for k, b in enumerate(data):
-                self.memory[base, low + k] = b
-        else:
-            self.smear(base, low, high + len(data), region, data)
-
-    def smear(self, base: T.Term, low: int, high: int, region: Cells, data: list) -> None:
-        """Writes at a place that is not known: each byte may be an old one or a new one."""
-        new = self.mixed(data)
-        for k in range(low, high):
-            old = self.byte(base, k, region)
-            if base is self.stack and is_secret(new) and not isinstance(old, int) and (
-                    not is_secret(old) and old is not unknown()):
-                raise CannotShow("no bound is known for a place: a secret may overwrite %r at %+d of "
-                                 "the stack" % (old[0], k))
-            self.memory[base, k] = joined_byte(old, new)
+        data = self.cleaned(data, False)
+        if length is not T.const(64, len(places)):
+            new, old = self.mixed(data), [self.byte(base, k, region) for k in places]
+            lost = [b for b in old if not (isinstance(b, int) or is_secret(b) or b == unknown())]
+            if base is self.stack and is_secret(new) and lost:
+                raise CannotShow("no bound is known for a place: a secret may overwrite %r on the stack" % lost[0][0])
+            data = [joined_byte(b, new) for b in old]
+        self.memory.update(((base, k), b) for k, b in zip(places, data))
 
     def copy_memory(self, to: T.Term, source: T.Term, length: T.Term) -> None:
         """memcpy and memmove."""
-        need_public(length, "a length")
-        low, high = self.unsigned(length)
-        if low == high:
-            self.store(to, self.load(source, low))
-            return
-        base, first, _, region = self.place(source, 1, False)
-        data = [region.initial(0)] if region.uniform else [
-            self.byte(base, k, region) for k in range(first, self.end_of(source, length))]
-        self.write_some(to, data, length)
+        length = self.length(length)
+        if length.op == "const":
+            self.store(to, self.load(source, length.args))
+        else:
+            base, places, region = self.places(source, length)
+            self.write(to, length, [self.byte(base, k, region) for k in places])
 
     def fill_memory(self, to: T.Term, b: T.Byte, length: T.Term) -> None:
         """memset."""
-        need_public(length, "a length")
-        low, high = self.unsigned(length)
-        if low == high:
-            self.store(to, [b] * low)
-        else:
-            self.write_some(to, [b], length)
+        length = self.length(length)
+        self.write(to, length, [b] * (length.args if length.op == "const" else 1))
 
-    def write_some(self, to: T.Term, data: list, length: T.Term) -> None:
-        """Writes some of these bytes, in any order, over a length that is not known."""
-        base, first, _, region = self.place(to, 0, False)
-        self.check_writable(region, to)
-        if not region.uniform:
-            self.smear(base, first, self.end_of(to, length), region, data)
-
-    def end_of(self, address: T.Term, length: T.Term) -> int:
-        """The end of a range of memory whose length is not known."""
-        base, low, _, region = self.place(address, 0, False)
-        high = self.range_of(T.add(64, (1, address), (1, length), (-1, base)))[1]
-        return high if high <= low + self.longest else low + self.block
+    def length(self, t: T.Term) -> T.Term:
+        """A length, which must be public, as a number if it is known."""
+        need_public(t, "a length")
+        low, high = self.unsigned(t)
+        return T.const(64, low) if low == high else t
 
     # Paths that meet.
 
     def join(self, other: Any, place: str, visits: int, is_loop: bool = False) -> bool:
         """Adds another path to this state. Returns whether anything changed. At the head of a loop, it learns how
         words differ that the loop changes."""
-        old = self.copy()
+        old, words = self.copy(), []
         self.where = place
-        self.join_ranges(other)
+        # What holds on both paths. A range that is missing is not known.
+        ranges = {t: merged_ranges(r, other.ranges[t]) for t, r in self.ranges.items() if t in other.ranges}
+        self.ranges = {t: r for t, r in ranges.items() if r[1] - r[0] <= 2 * TOP}
         self.facts = {t: f for t, f in self.facts.items() if other.facts.get(t) == f}
         self.bounds |= other.bounds
-        words = []
         for name in self.processor.FILES:
             for at, (a, b) in enumerate(zip(getattr(old, name), getattr(other, name))):
                 if a != b:
                     data = self.joined(old, other, a, b, "%s%d" % (name, at), visits)
                     getattr(self, name)[at] = data
-                    words.append((data, a, b))
-        for base, k in self.different(other):
+                    if is_loop and len(data) == 8 and not any(map(is_secret, data + a + b)):
+                        words.append([T.word(d) for d in (data, a, b)])
+        changed = {(base, k & ~7) for (base, k), _ in self.memory.items() ^ other.memory.items()}
+        for base, k in sorted(changed, key=lambda at: (at[0].serial, at[1])):
             a, b = ([m.byte(base, k + j, self.regions[base]) for j in range(8)] for m in (old, other))
             data = self.joined(old, other, a, b, "%s%d" % (base.args, k), visits)
             self.memory.update({(base, k + j): byte for j, byte in enumerate(data)})
-        self.relate_all(old, other, visits, [
-            self.without_base(*map(T.word, t)) for t in words if is_loop
-            and len(t[0]) == 8 and not any(map(is_secret, t[0] + t[1] + t[2]))])
+        self.relate_all(old, other, visits, words)
         if self.flags != other.flags:
             self.flags = None
         return any(getattr(self, name) != getattr(old, name)
-                   for name in tuple(self.processor.FILES) + self.KNOWN + ("facts", "flags"))
+                   for name in (*self.processor.FILES, "memory", "ranges", "facts", "flags"))
 
     def relate_all(self, old: Any, other: Any, visits: int, words: list) -> None:
         """Learns how words that differ on two paths, given as they are after these and on each, differ from each
         other and from words that were compared."""
+        words = [[T.add(64, (1, t), *[(-1, base) for base in self.bases_of(three[0])]) for t in three]
+                 for three in words]
         new = {x for t, _, _ in words for x in T.linear(t)[1] if x not in self.regions}
-        bounds = [t for t in self.bounds if not new & set(T.linear(t)[1])]
+        bounds = [(t, t, t) for t in self.bounds if not new & set(T.linear(t)[1])]
         for k, three in enumerate(words):
-            for t in bounds:
-                self.relate(old, other, visits, *(T.add(64, (1, u), (-1, t)) for u in three))
-            for sign in (1, -1):
-                for pair in words[:k]:
-                    self.relate(old, other, visits, *(T.add(64, (1, u), (sign, v)) for u, v in zip(three, pair)))
-
-    def without_base(self, *words: T.Term) -> tuple:
-        """Words without the base of memory that all of them have, if there is one."""
-        first, *rest = ([u for u in T.linear(t)[1] if u in self.regions] for t in words)
-        if len(first) != 1 or any(found != first for found in rest):
-            return words
-        return tuple(T.add(t.w, (1, t), (-1, first[0])) for t in words)
-
-    def different(self, other: Any) -> list:
-        """The words of memory that are not the same."""
-        keys = {key for key, _ in self.memory.items() ^ other.memory.items()}
-        return sorted({(base, k & ~7) for base, k in keys}, key=lambda p: (p[0].serial, p[1]))
-
-    def join_ranges(self, other: Any) -> None:
-        """What holds on both paths. A range that is missing is not known."""
-        self.ranges = {t: merged_ranges(r, other.ranges[t]) for t, r in self.ranges.items() if t in other.ranges}
-        for t, (low, high, _) in list(self.ranges.items()):
-            if t.op == "var" and high - low > 2 * TOP:
-                self.renew(t, (-TOP, TOP, 1))
+            for sign, others in ((-1, bounds), (1, words[:k]), (-1, words[:k])):
+                for pair in others:
+                    self.relate(old, other, visits, *(total(u, v, sign) for u, v in zip(three, pair)))
 
     def joined(self, old: Any, other: Any, a: list, b: list, name: str, visits: int) -> list:
         """The bytes of a word or a vector that is one of both."""
-        if all(x is secret() for x in a):
-            return a
-        if len(a) > 8:
-            return [joined_byte(x, y) for x, y in zip(a, b)]
+        if len(a) > 8 or any(map(is_secret, a + b)) or unknown() in a + b:
+            data = []
+            for k, (x, y) in enumerate(zip(a, b)):
+                if x != y and len(a) <= 8 and old.is_bit(x) and other.is_bit(y):
+                    x = y = secret_bit() if is_secret(x) or is_secret(y) else (
+                        self.new(8, "%s.%d" % (name, k), (0, 1, 1)), 0)
+                data.append(joined_byte(x, y))
+            return self.cleaned(data, len(a) <= 8 and not name.startswith("sp"), name)
         t, u = T.word(a), T.word(b)
-        if (t.taint | u.taint) & ~T.PUBLIC or unknown() in a + b:
-            return self.cleaned([self.joined_bit(x, y, "%s.%d" % (name, k))
-                                 if x != y and old.is_bit(x) and other.is_bit(y)
-                                 else joined_byte(x, y) for k, (x, y) in enumerate(zip(a, b))],
-                                not name.startswith(("image", "sp")) and len(a) <= 8)
         base = self.common(t, u)
         old_range, new_range = (m.offset(v, base) for m, v in ((old, t), (other, u)))
-        x = self.renew(T.var(t.w, "%s%s" % (self.where, name), T.PUBLIC), self.widened(
-            old_range, merged_ranges(old_range, new_range), t.w, visits))
-        return T.split(T.add(t.w, (1, base), (1, x)))
-
-    def renew(self, x: T.Term, limits: tuple | None) -> T.Term:
-        self.facts = {t: f for t, f in self.facts.items() if not any(
-            x in T.variables(u) for u in [t] + [w for _, a, b, _ in f[0] + f[1] for w in (a, b)])}
-        return super().renew(x, limits)
-
-    def joined_bit(self, a: T.Byte, b: T.Byte, name: str) -> T.Byte:
-        """A byte that is one of two bits."""
-        if is_secret(a) or is_secret(b):
-            return secret_bit()
-        return self.renew(T.var(8, "%s%s" % (self.where, name), T.PUBLIC), (0, 1, 1)), 0
+        x = self.new(t.w, name, self.widened(old_range, merged_ranges(old_range, new_range), t.w, visits))
+        return T.split(total(base, x))
 
     def common(self, t: T.Term, u: T.Term) -> T.Term:
         """The base that two words have in common, or 0. Bases of memory that is only read become a base of both."""
-        found = [[v for v, k in T.linear(s)[1].items() if v in self.regions and k == 1] for s in (t, u)]
-        if any(len(f) != 1 for f in found):
+        found = [self.bases_of(s) for s in (t, u)]
+        is_one = all(len(bases) == 1 for bases in found)
+        if is_one and found[0] == found[1]:
+            return found[0][0]
+        if not is_one or any(self.regions[v].writable for v, in found):
             return T.const(t.w, 0)
-        (x,), (y,) = found
-        if x is not y:
-            if any(self.regions[v].writable for v in (x, y)):
-                return T.const(t.w, 0)
-            names = sorted(set(("%s|%s" % (x.args, y.args)).split("|")))
-            b = joined_byte(*[self.regions[v].initial(0) if self.regions[v].uniform else unknown() for v in (x, y)])
-            x = T.var(t.w, "|".join(names), T.PUBLIC)
-            self.regions[x] = Cells(0, 0, lambda k: b, False, uniform=True)
-        return x
+        names = sorted(set("|".join(str(v.args) for v, in found).split("|")))
+        b = joined_byte(*[r.initial(0) if r.uniform else unknown() for r in (self.regions[v] for v, in found)])
+        base = T.var(t.w, "|".join(names), T.PUBLIC)
+        self.regions[base] = Cells(0, 0, lambda k: b, False, uniform=True)
+        return base
 
     def offset(self, t: T.Term, base: T.Term) -> tuple:
         """The range of a word without its base, if that is known."""
@@ -501,6 +528,6 @@ class Taint(Ranges, Called):
             return self.range_of(t)
         if base not in T.linear(t)[1]:
             return -TOP, TOP, 1
-        low, high, step = self.range_of(T.add(t.w, (1, t), (-1, base)))
+        low, high, step = self.range_of(total(t, base, -1))
         shift = low + TOP // 2 & -TOP
         return low - shift, high - shift, step

@@ -19,19 +19,21 @@ A value in a register or in memory is a list of bytes, the lowest first. A byte 
 pair of a term and of the place of the byte in it. So moves and shuffles only move pairs.
 """
 
-from __future__ import annotations
-
 import functools
 import operator
 import random
 from typing import Any, Callable, Iterable, Tuple, Union
 
 PUBLIC, SECRET, JUNK = 1, 2, 4
+OPPOSITE = {"==": "!=", "!=": "==", "<": ">=", ">=": "<", ">": "<=", "<=": ">",
+            "carry": "no carry", "no carry": "carry"}
 LIMIT, WIDEST = 200000, 128            # of all terms, and of the parts of one
 
 
 class Refused(Exception):
     """The claim is not shown. The subclass says why."""
+
+    kind = "cannot show"
 
 
 class CannotShow(Refused):
@@ -41,21 +43,16 @@ class CannotShow(Refused):
 class IsWrong(Refused):
     """The code breaks the claim. The message has the inputs, if it depends on them."""
 
-
-def kind_of(e: Any) -> Any:
-    """Which of both a refusal is, as text."""
-    return "is wrong" if isinstance(e, IsWrong) else "cannot show"
+    kind = "is wrong"
 
 
 class Term:
     """A word of w bits. Two terms of the same normal form are one object."""
 
     __slots__ = ("op", "w", "args", "serial", "taint")
-    op: str
-    w: int
-    args: Any
-    serial: int
-    taint: int
+
+    def __init__(self, op: str, w: int, args: Any, serial: int, taint: int) -> None:
+        self.op, self.w, self.args, self.serial, self.taint = op, w, args, serial, taint
 
     def __repr__(self) -> str:
         return show(self, 3)
@@ -64,10 +61,8 @@ class Term:
 # A byte: a number, or the byte of a term at a place from its lowest one on.
 Byte = Union[int, Tuple[Term, int]]
 
-
 _table: dict = {}
 _results: dict = {}                          # what remembered() has returned
-_words: dict = {}                            # what word() has returned
 
 
 def _term(op: str, w: int, args: Any, taint: int) -> Term:
@@ -76,17 +71,14 @@ def _term(op: str, w: int, args: Any, taint: int) -> Term:
     if found is None:
         if len(_table) >= LIMIT or op in ("add", "xor") and len(args[1]) > WIDEST:
             raise CannotShow("the terms grow beyond the limit, so they do not match")
-        found = Term()
-        found.op, found.w, found.args, found.taint = op, w, args, taint
-        found.serial = len(_table)
-        _table[key] = found
+        found = _table[key] = Term(op, w, args, len(_table), taint)
     return found
 
 
 def reset() -> None:
     """Forgets all terms. Older terms must not be used with later ones."""
-    for kept in (_table, _results, _words):
-        kept.clear()
+    _table.clear()
+    _results.clear()
 
 
 def remembered(f: Callable, *arguments: Any) -> Any:
@@ -112,10 +104,13 @@ def show(t: Any, depth: int) -> str:
     if depth == 0:
         return ".."
     parts = t if isinstance(t, tuple) else t.args
-    shown = [show(p, depth - 1) for p in parts[:5]]
-    if len(parts) > 5:
-        shown.append(".. %d in all" % len(parts))
+    shown = [show(p, depth - 1) for p in parts[:5]] + [".. %d in all" % len(parts)] * (len(parts) > 5)
     return ("" if isinstance(t, tuple) else "%s%d" % (t.op, t.w)) + "[" + ", ".join(shown) + "]"
+
+
+def signed(w: int, n: int) -> int:
+    """A number of w bits as one from -2^(w-1) on."""
+    return n - (1 << w) if n >> w - 1 else n
 
 
 def const(w: int, n: int) -> Term:
@@ -137,19 +132,11 @@ def ite(w: int, condition: Any, on: int, off: int) -> Term:
 
 def leaves(f: Callable, w: int, *terms: Any) -> Term | None:
     """The result of f on numbers, where each term is a number or depends on one condition."""
-    condition = None
-    for t in terms:
-        if t.op == "ite":
-            if condition not in (None, t.args[0]):
-                return None
-            condition = t.args[0]
-        elif t.op != "const":
-            return None
-    mask = (1 << w) - 1
-    at = lambda k: [t.args if t.op == "const" else t.args[k] for t in terms]
-    if condition is None:
-        return const(w, f(*at(0)))
-    return ite(w, condition, f(*at(1)) & mask, f(*at(2)) & mask)
+    flags = {t.args[0] for t in terms if t.op == "ite"}
+    if len(flags) > 1 or any(t.op not in ("const", "ite") for t in terms):
+        return None
+    number = lambda k: f(*[t.args if t.op == "const" else t.args[k] for t in terms]) & (1 << w) - 1
+    return ite(w, flags.pop(), number(1), number(2)) if flags else const(w, number(0))
 
 
 def linear(t: Term) -> tuple:
@@ -208,12 +195,14 @@ def taint_of(taints: Iterable) -> int:
     return functools.reduce(operator.or_, taints, 0)
 
 
-def _members(terms: tuple) -> tuple:
-    """The constant, the flags' masks and the other members of an exclusive or."""
+def xor(w: int, *terms: Any) -> Term:
+    """The exclusive or of terms."""
+    need_width(w, *terms)
     constant = 0
-    chosen: dict = {}
+    chosen: dict = {}                  # what flags change
     members: set = set()
     for t in terms:
+        constant ^= t.args[0] if t.op == "xor" else 0
         for u in t.args[1] if t.op == "xor" else (t,):
             if u.op == "ite":
                 name, on, off = u.args
@@ -223,15 +212,7 @@ def _members(terms: tuple) -> tuple:
                 constant ^= u.args
             else:
                 members ^= {u}
-        if t.op == "xor":
-            constant ^= t.args[0]
-    return constant, {n: m for n, m in chosen.items() if m}, members
-
-
-def xor(w: int, *terms: Any) -> Term:
-    """The exclusive or of terms."""
-    need_width(w, *terms)
-    constant, marks, members = _members(terms)
+    marks = {n: m for n, m in chosen.items() if m}
     if not members and not marks:
         return const(w, constant)
     if not members and len(marks) == 1:
@@ -248,14 +229,13 @@ def _ror_number(w: int, n: int, k: int) -> int:
     return (n >> k | n << (w - k)) & ((1 << w) - 1)
 
 
-def ror(w: int, t: Any, k: int) -> Term:
+@remembering
+def ror(w: int, t: Term, k: int) -> Term:
     """A rotation to the right by k bits."""
     need_width(w, t)
-    return _ror(w, t, k % w) if k % w else t
-
-
-@remembering
-def _ror(w: int, t: Term, k: int) -> Term:
+    k %= w
+    if k == 0:
+        return t
     if t.op == "xor":
         return xor(w, const(w, _ror_number(w, t.args[0], k)), *[ror(w, u, k) for u in t.args[1]])
     if t.op == "ror":
@@ -305,14 +285,6 @@ def both(w: int, a: Term, b: Term) -> Term:
     return leaves(operator.and_, w, a, b) or word(map(and_byte, split(a), split(b)))
 
 
-def or_byte(x: Byte, y: Byte) -> Byte:
-    return _of_bytes(operator.or_, 0, x, y)
-
-
-def and_byte(x: Byte, y: Byte) -> Byte:
-    return _of_bytes(operator.and_, 255, x, y)
-
-
 def _of_bytes(f: Callable, neutral: int, x: Byte, y: Byte) -> Byte:
     """An or or an and of two bytes, of which one number keeps the other byte, and its complement is the result."""
     if y in (x, neutral):
@@ -325,6 +297,10 @@ def _of_bytes(f: Callable, neutral: int, x: Byte, y: Byte) -> Byte:
     if not found:
         raise CannotShow("there is no rule for the %s of %r and %r" % (f.__name__.strip("_"), x, y))
     return split(found)[0]
+
+
+or_byte = functools.partial(_of_bytes, operator.or_, 0)
+and_byte = functools.partial(_of_bytes, operator.and_, 255)
 
 
 def split(t: Any) -> list:
@@ -348,11 +324,7 @@ def split(t: Any) -> list:
 
 def word(bs: Any) -> Term:
     """The term of a list of bytes."""
-    bs = tuple(bs)
-    found = _words.get(bs)
-    if found is None:
-        found = _words[bs] = _word(bs)
-    return found
+    return remembered(_word, tuple(bs))
 
 
 def _word(bs: tuple) -> Term:
@@ -364,8 +336,7 @@ def _word(bs: tuple) -> Term:
         least = min(k for _, k in bs)
         if all(b == (t, least + (i - least + k) % n) for k, b in enumerate(bs)):
             return ror(8 * n, slice_of(t, least, n), 8 * (i - least))
-    names = {None if isinstance(b, int) else b[0].args[0] if b[0].op == "ite" else b for b in bs}
-    names.discard(None)
+    names = {b[0].args[0] if b[0].op == "ite" else b for b in bs if isinstance(b, tuple)}
     if len(names) > 1 or not all(isinstance(name, str) for name in names):
         return _term("cat", 8 * n, bs, taint_of([b[0].taint for b in bs if isinstance(b, tuple)]))
     number = lambda k: int.from_bytes(bytes(b if isinstance(b, int) else b[0].args[k] for b in bs), "little")
@@ -377,12 +348,11 @@ def slice_of(t: Term, i: int, n: int) -> Term:
     """Bytes i to i + n - 1 of a term."""
     if t.w == 8 * n:
         return t
+    part = lambda u: word(split(u)[i:i + n])
     if t.op == "xor":
-        part = lambda u: word(split(u)[i:i + n])
         return xor(8 * n, part(const(t.w, t.args[0])), *[part(u) for u in t.args[1]])
     if t.op == "add" and i == 0:
-        low = lambda u: word(split(u)[:n])
-        return add(8 * n, (1, const(8 * n, t.args[0])), *[(k, low(u)) for u, k in t.args[1]])
+        return add(8 * n, (1, const(8 * n, t.args[0])), *[(k, part(u)) for u, k in t.args[1]])
     return _term("slice", 8 * n, (t, i), t.taint)
 
 
@@ -465,26 +435,12 @@ class Numbers(dict):
         return number
 
 
-def difference(a: Term, b: Term) -> Any:
-    """Inputs for which two terms differ, as text, or None if no difference is found."""
-    for seed in range(8):
-        numbers = Numbers(seed)
-        x, y = (value(t, numbers, {}) for t in (a, b))
-        if x != y:
-            shown = ["%s = %#x" % pair for pair in list(numbers.items())[:3]]
-            inputs = ", ".join(shown) + (", .." if len(numbers) > 3 else "")
-            return "%#x instead of %#x for %s" % (x, y, inputs if seed else "inputs of zeros")
-    return None
-
-
 def depends(t: Term, taint: int) -> Any:
     """Inputs for which a term changes with a variable of this taint only, as text, or None."""
     changed = [u.args if u.op == "var" else u.args[0] for u in variables(t) if u.taint & taint]
     for seed in range(1, 9):
-        numbers = Numbers(seed)
-        before = value(t, numbers, {})
-        numbers.update({name: Numbers(-seed)[name] for name in changed})
-        if value(t, numbers, {}) != before:
+        other = Numbers(seed, tuple((name, Numbers(-seed)[name]) for name in changed))
+        if value(t, Numbers(seed), {}) != value(t, other, {}):
             return "it changes with %s" % ", ".join(sorted(map(str, changed))[:3])
     return None
 

@@ -1,13 +1,12 @@
 """A model of the WebAssembly instructions that the compression functions use. Any other is an error. Most are a line
 of pure_instructions()."""
 
-from __future__ import annotations
-
 import re
 from typing import Any, Callable
 
+import machine
 import terms as T
-from machine import Processor, bitwise, chunks, joined, lanewise, number, of_numbers, total
+from machine import Processor, bitwise, lanewise, number, of_numbers, picked, shifted, total
 from terms import CannotShow
 
 SIZES = {"i32": 4, "i64": 8, "v128": 16}
@@ -15,14 +14,12 @@ LANES = {"i32x4": ("i32", 4), "i64x2": ("i64", 8)}
 ROOM = 65536                           # bytes that the stack is assumed to have, for every call
 
 
-class Instruction:
+class Instruction(machine.Instruction):
     """A line of text, with the address that a branch to its label goes to."""
 
-    __slots__ = ("address", "next", "name", "numbers", "text", "target")
-
-    def __init__(self, address: int, text: str) -> None:
-        self.address, self.text, self.next, self.target = address, text, address + 1, None
-        self.name, *numbers = text.split()
+    def read(self) -> None:
+        self.next = self.address + 1
+        self.name, *numbers = self.text.split()
         self.numbers: list = [int(n) if n.lstrip("-").isdigit() else n for n in numbers]
 
 
@@ -30,26 +27,20 @@ def parse(lines: list) -> list:
     """The instructions of a function. A branch to a loop goes to the instruction after `loop`, and one to a block
     goes to its `end`."""
     found = [Instruction(k, line) for k, line in enumerate(lines)]
-    opened: list = []
-    waiting: dict = {}                 # the block -> the branches to its end
+    opened: list = []                  # the blocks, each with the branches to its end
     for i in found:
         if i.name in ("block", "loop", "if"):
-            opened.append(i)
+            opened.append((i, []))
         elif i.name == "end" and opened:
-            for branch in waiting.pop(opened.pop(), ()):
+            for branch in opened.pop()[1]:
                 branch.target = i.address
         elif i.name in ("br", "br_if") and i.numbers[0] < len(opened):
-            block = opened[-1 - i.numbers[0]]
+            block, branches = opened[-1 - i.numbers[0]]
             if block.name == "loop":
                 i.target = block.address + 1
             else:
-                waiting.setdefault(block, []).append(i)
+                branches.append(i)
     return found
-
-
-def shift(f: Callable) -> Callable:
-    """A shift by a number modulo the width."""
-    return lambda w, t, k: f(w, t, k % w) if k % w else t
 
 
 def signed_shift(w: int, t: T.Term, k: int) -> T.Term:
@@ -57,55 +48,47 @@ def signed_shift(w: int, t: T.Term, k: int) -> T.Term:
     return of_numbers(w, lambda n: (n >> k) - (n >> w - 1 << w - k), t)
 
 
-def select_bits(a: list, b: list, mask: list) -> list:
-    return lanewise(lambda x, y, m: of_numbers(32, lambda p, q, k: p & k | q & ~k, x, y, m), 4, a, b, mask)
+def select_bits(a: T.Term, b: T.Term, mask: T.Term) -> T.Term:
+    return of_numbers(a.w, lambda p, q, k: p & k | q & ~k, a, b, mask)
 
 
-def replace_lane(n: int) -> Callable:
-    def f(a: list, value: list, k: int) -> list:
-        parts = chunks(a, n)
-        parts[k] = value[:n]
-        return joined(parts)
-    return f
+def of_words(f: Callable) -> Callable:
+    """The bytes of what f makes of words."""
+    return lambda *data: T.split(f(*map(T.word, data)))
 
 
 def pure_instructions() -> dict:
     """The instructions that only change the stack of operands: the types of the operands that each takes, the type of
     the result, and what this is of their bytes, and of the numbers that are part of the instruction."""
     found: dict = {
-        "i32.const": ("", "i32", lambda n: T.split(T.const(32, n))),
-        "i64.const": ("", "i64", lambda n: T.split(T.const(64, n))),
         "v128.const": ("", "v128", lambda *data: list(data)), "i32.wrap_i64": ("i64", "i32", lambda a: a[:4]),
-        "i8x16.shuffle": ("v128 v128", "v128", lambda a, b, *places: [(a + b)[p] for p in places]),
+        "i8x16.shuffle": ("v128 v128", "v128", lambda a, b, *places: picked(1, places, a, b)),
         "v128.xor": ("v128 v128", "v128", lambda a, b: bitwise(T.xor, a, b)),
         "v128.or": ("v128 v128", "v128", lambda a, b: bitwise(T.either, a, b)),
-        "v128.bitselect": ("v128 v128 v128", "v128", select_bits),
+        "v128.bitselect": ("v128 v128 v128", "v128", lambda *data: lanewise(select_bits, 4, *data)),
     }
     words: dict = {
         "add": total, "sub": lambda a, b: total(a, b, -1), "xor": lambda a, b: T.xor(a.w, a, b),
         "and": lambda a, b: T.both(a.w, a, b), "or": lambda a, b: T.either(a.w, a, b),
-        "shl": lambda a, b: shift(T.shl)(a.w, a, number(T.split(b))),
-        "shr_u": lambda a, b: shift(T.shr)(a.w, a, number(T.split(b))),
+        "shl": lambda a, b: T.shl(a.w, a, number(T.split(b)) % a.w),
+        "shr_u": lambda a, b: T.shr(a.w, a, number(T.split(b)) % a.w),
     }
-    for kind in ("i32", "i64"):
+    for kind, w in (("i32", 32), ("i64", 64)):
         two = "%s %s" % (kind, kind)
+        found[kind + ".const"] = "", kind, lambda n, w=w: T.split(T.const(w, n))
         found[kind + ".eqz"] = kind, "i32", of_words(lambda a: T.test("zero", 32, a))
         for name, op in (("eq", "zero"), ("ne", "nonzero")):
             found["%s.%s" % (kind, name)] = two, "i32", of_words(lambda a, b, op=op: T.test(op, 32, total(a, b, -1)))
         found.update({"%s.%s" % (kind, name): (two, kind, of_words(f)) for name, f in words.items()})
     for kind, (lane, n) in LANES.items():
         found[kind + ".splat"] = lane, "v128", lambda a, n=n: a * (16 // n)
-        found[kind + ".replace_lane"] = "v128 " + lane, "v128", replace_lane(n)
+        found[kind + ".replace_lane"] = "v128 " + lane, "v128", lambda a, value, k, n=n: (
+            a[:n * k] + value + a[n * k + n:])
         found[kind + ".add"] = "v128 v128", "v128", lambda a, b, n=n: lanewise(total, n, a, b)
         for name, f in (("shl", T.shl), ("shr_u", T.shr), ("shr_s", signed_shift)):
-            found["%s.%s" % (kind, name)] = "v128 i32", "v128", lambda a, k, f=f, n=n: lanewise(
-                lambda t: shift(f)(8 * n, t, number(k)), n, a)
+            found["%s.%s" % (kind, name)] = "v128 i32", "v128", lambda a, k, f=f, n=n: shifted(
+                f, n, a, number(k) % (8 * n))
     return {name: (types.split(), result, f) for name, (types, result, f) in found.items()}
-
-
-def of_words(f: Callable) -> Callable:
-    """The bytes of what f makes of words."""
-    return lambda *data: T.split(f(*map(T.word, data)))
 
 
 PURE = pure_instructions()
@@ -132,10 +115,7 @@ class Wasm(Processor):
 
     def at_entry(self) -> tuple:
         m = self.values
-        return None, m.stack_pointer(), [list(m.operands), list(m.labels)]
-
-    def need_vectors(self) -> None:
-        """There are none."""
+        return [], T.split(m.stack_pointer()), [len(m.operands), len(m.labels)]
 
     def pop(self) -> list:
         if not self.values.operands:
@@ -163,8 +143,8 @@ class Wasm(Processor):
             b, a = T.word(self.pop()), T.word(self.pop())
             self.push(T.split(self.has_no_room(a, b)))
         elif i.name == "select":
-            condition, b, a = (T.word(self.pop()) for _ in range(3))
-            self.push(T.split(self.values.choose(condition, b, a)))
+            condition, otherwise = self.condition(), self.pop()
+            self.push(self.values.chosen(condition, self.pop(), otherwise))
         elif i.name != "nop" and not self.access(kind, what, i.numbers):
             raise CannotShow("the instruction %s is not modelled: add it to tests/machine/wasm.py, and run "
                              "tests/machine/check.py --long" % i.text)
@@ -180,11 +160,7 @@ class Wasm(Processor):
         elif i.name == "end":
             m.labels.pop()
         elif i.target is not None:
-            # A branch about which nothing is assumed yet leaves the machine as it is.
-            taken = i.name == "br" or not m.is_zero(T.word((m.operands or [[0]])[-1]))
-            if i.name == "br_if":
-                self.pop()
-            if taken:
+            if i.name == "br" or m.holds(self.condition()):
                 if i.numbers[0]:
                     del m.labels[-i.numbers[0]:]
                 del m.operands[m.labels[-1]:]
@@ -192,6 +168,12 @@ class Wasm(Processor):
         else:
             raise CannotShow("%s is not modelled: add it to tests/machine/wasm.py" % i.text)
         return i.next
+
+    def condition(self, i: Any = None) -> tuple:
+        """What the last operand compares, which is true unless it is 0."""
+        t = T.word(self.pop())
+        u = t.args[0] if t.op in ("zero", "nonzero") else t
+        return "==" if t.op == "zero" else "!=", u, T.const(u.w, 0)
 
     def local(self, what: str, k: int) -> None:
         if what != "get":

@@ -2,34 +2,31 @@
 and nothing else. F is a function of which nothing is known here, because compression.py shows what it computes.
 docs/MACHINE.md says what is shown."""
 
-from __future__ import annotations
-
 from typing import Any, Callable, TYPE_CHECKING
 
-import comparisons
 import compression
 import constant_time
 import functions
 import program as programs
-import reads
 import terms as T
 from constant_time import OF_C, STACK
-from loops import MOST, Straight
-from machine import bitwise, chunks, joined, need_public
-from symbolic import Buffer, Cells, Undecided, any_of, base_of, below, fresh, is_zero
-from taint import reset
+from loops import MOST, Differences, Reads, Straight, cycle, no_output
+from machine import bitwise, chunks, image, joined, need_public
+from symbolic import Buffer, Cells, Exact, Undecided, any_of, base_of, below, fresh, is_zero
 from terms import CannotShow, IsWrong
+from x86 import UPPER
 
 if TYPE_CHECKING:
     from rfc7693 import Kind
 
 PATHS, LIMIT = 200, 200000             # of a call: paths at a time, and instructions
+GAP = 64                               # bytes for saved registers between the caller and the zeros
 
 
 class Terms:
     """The operations of call_specification.py over terms, by what a path of a call knows."""
 
-    def __init__(self, calls: Calls, machine: Any) -> None:
+    def __init__(self, calls: "Calls", machine: Any) -> None:
         self.calls, self.machine = calls, machine
 
     def word(self, n: Any) -> T.Term:
@@ -91,10 +88,10 @@ class Terms:
             byte = any_of(byte, self.xor([p], [q])[0])
         return is_zero(T.word([byte]))
 
-    def compress(self, kind: Kind, chain: list, block: list, count: T.Term, last: int, node: int) -> list:
+    def compress(self, kind: "Kind", chain: list, block: list, count: T.Term, last: int, node: int) -> list:
         return self.calls.result("F", kind, tuple(chain), tuple(block), self.word(count), last, node)
 
-    def compress_all(self, kind: Kind, chain: list, data: Buffer, start: T.Term | int,
+    def compress_all(self, kind: "Kind", chain: list, data: Buffer, start: T.Term | int,
                      k: T.Term | int, count: T.Term | int) -> list:
         if k == 0:
             return chain
@@ -135,7 +132,7 @@ class Loop(Straight):
         after, end, call = self.compress(general)
         if end is not j:
             raise IsWrong("the loop ends if %r is 0, instead of %r" % (end, j))
-        self.need(after.cells(), at_head(T.add(64, (1, i), (1, T.const(64, 1))), call["result"]).cells())
+        self.need(after, at_head(T.add(64, (1, i), (1, T.const(64, 1))), call["result"]).cells())
         self.need_block(one, call, i, chain)
         before = T.add(64, (1, one["counter"]), (-1, T.const(64, size)))
         words = Terms(self.calls, self.start).compress_all(
@@ -202,9 +199,9 @@ class Calls:
 
     def forget(self) -> None:
         self.results, self.compressed, self.count = {}, [], 0
-        self.need_output = reads.no_output
+        self.need_output = no_output
 
-    def result(self, what: str, kind: Kind, *arguments: Any) -> list:
+    def result(self, what: str, kind: "Kind", *arguments: Any) -> list:
         """The bytes of eight chaining words: the same variables for the same arguments."""
         n = self.results.setdefault((what, kind.name) + arguments, len(self.results))
         return [b for j in range(8) for b in T.split(T.var(kind.w, "%s%d.%d" % (what, n, j), T.SECRET))]
@@ -221,8 +218,8 @@ class Calls:
                     if name == functions.MEMCMP or self.compresses(body):
                         loops[i.target] = i.address
                     if name in functions.SQUEEZES:         # which is entered in its middle
-                        cycle = reads.cycle(code, i.target)
-                        loops.update(dict.fromkeys(cycle, cycle))
+                        around = cycle(code, i.target)
+                        loops.update(dict.fromkeys(around, around))
             self.codes[name] = code, found[0].address, loops
         return self.codes[name]
 
@@ -270,9 +267,10 @@ class Calls:
         """The machines behind a loop, each with the address."""
         code, _, loops = self.code(name)
         if name in functions.SQUEEZES:
-            return reads.Reads(self, name, head, loops[head], m).show()
-        rule: Any = comparisons.Differences if name == functions.MEMCMP else Loop
-        return [(rule(self, name, head, loops[head], m).show(), code[loops[head]].next)]
+            return Reads(self, name, head, loops[head], m).show()
+        rule: Any = Differences if name == functions.MEMCMP else Loop
+        last = code[loops[head]]
+        return [(rule(self, m, lambda n: self.run(name, n, head, {last.address}), last).show(), last.next)]
 
     def follow(self, name: str, m: Any, i: Any, entry: tuple, waiting: list, ends: list) -> None:
         """Executes an instruction."""
@@ -290,14 +288,7 @@ class Calls:
             ends.append(m)
         elif i.is_trap:
             raise IsWrong("a trap is reached")
-        elif i.target is None:
-            top = m.stack_pointer()
-            cpu.step(i)
-            if m.stack_pointer() is not top:
-                m.deepest = min(m.deepest, m.lowest())
-                m.forget_below()
-            waiting.append((m, i.next))
-        elif name == functions.MEMCMP and not i.is_jump and m.flags == ("secret",):
+        elif name == functions.MEMCMP and i.target is not None and not i.is_jump and m.flags == ("secret",):
             waiting += self.compared(m, i, code)
         else:
             pc = cpu.follow(i)
@@ -311,9 +302,9 @@ class Calls:
 
     def check(self, m: Any, entry: tuple, name: str, first: int = 0) -> None:
         """What a return must find. The return address is the first of it."""
-        if entry is None or not m.is_as_at(entry, self.cpu(m).at_entry(), first):
-            raise IsWrong("the return address, the stack pointer or a register of the caller is "
-                          "not as at the entry of " + name)
+        if entry is None:
+            raise CannotShow("%s returns in a loop" % name)
+        self.cpu(m).check_return(entry, first)
 
     def call(self, m: Any, i: Any) -> list:
         """The machines after a call of another function."""
@@ -382,23 +373,29 @@ class Calls:
             self.cpu(n).answer()[0] = n.compared_bytes[1]
         return found
 
-    def compress(self, m: Any, kind: Kind, lanes: int) -> None:
-        """A call of F: of one message, or of one block of each of several."""
-        name = self.program.target(self.at, OF_C)
-        frame = self.frame(name)
-        if lanes != 1:
-            self.compress_each(m, kind, lanes)
-            m.compressed(frame)
-            self.cpu(m).clobber(True)
-            return
-        h, block, counter, last, node = (self.cpu(m).argument(k) for k in range(5))
-        m.check_disjoint("a compression", h, 8 * kind.bytes, block, kind.block)
-        chain, flags = m.load(h, 8 * kind.bytes), [T.split(t)[0] for t in (last, node)]
-        m.store(h, self.compress_one(m, kind, chain, block, counter, flags))
+    def compress(self, m: Any, kind: "Kind", lanes: int) -> None:
+        """A call of F: of one message, or of one block of each of several, whose chaining words are in rows of all, and
+        what else differs in tables."""
+        frame = self.frame(self.program.target(self.at, OF_C))
+        rows, *others = (self.cpu(m).argument(k) for k in range(5))
+        tables = [(t, n * lanes) for t, n in zip(others, (8, 8, 2))] * (lanes != 1)
+        if tables:
+            pointers, counters, flags = ([chunks(m.load(t, n), n // lanes) for t, n in tables])
+        else:
+            pointers, counters = ([T.split(t)] for t in others[:2])
+            flags = [[T.split(t)[0] for t in others[2:]]]
+        words = chunks(m.load(rows, 8 * kind.bytes * lanes), kind.bytes)
+        for t, n in tables + [(T.word(p), kind.block) for p in pointers]:
+            m.check_disjoint("a compression", rows, 8 * kind.bytes * lanes, t, n)
+        result = list(words)
+        for j in range(lanes):
+            result[j::lanes] = chunks(self.compress_one(
+                m, kind, joined(words[j::lanes]), T.word(pointers[j]), T.word(counters[j]), flags[j]), kind.bytes)
+        m.store(rows, joined(result))
         m.compressed(frame)
         self.cpu(m).clobber(True)
 
-    def compress_one(self, m: Any, kind: Kind, chain: list, at: T.Term, counter: T.Term, flags: list) -> list:
+    def compress_one(self, m: Any, kind: "Kind", chain: list, at: T.Term, counter: T.Term, flags: list) -> list:
         """The chaining words after the block at an address."""
         need_public(counter, "the counter")
         if any(b not in (0, 1) for b in flags):
@@ -409,18 +406,48 @@ class Calls:
                                 "region": region, "offset": offset, "result": result})
         return result
 
-    def compress_each(self, m: Any, kind: Kind, lanes: int) -> None:
-        """The chaining words are in rows of all messages, and what else differs in tables."""
-        rows, *tables = (self.cpu(m).argument(k) for k in range(4))
-        size, total = kind.bytes, 8 * kind.bytes * lanes
-        words = chunks(m.load(rows, total), size)
-        result = list(words)
-        pointers, counters, flags = (chunks(m.load(t, n * lanes), n) for t, n in zip(tables, (8, 8, 2)))
-        for t, n in zip(tables + [T.word(p) for p in pointers], (8 * lanes, 8 * lanes, 2 * lanes) + (
-                kind.block,) * lanes):
-            m.check_disjoint("a compression", rows, total, t, n)
-        for j in range(lanes):
-            chain = joined(words[j::lanes])
-            result[j::lanes] = chunks(self.compress_one(
-                m, kind, chain, T.word(pointers[j]), T.word(counters[j]), flags[j]), size)
-        m.store(rows, joined(result))
+
+class Scrub(Calls):
+    """Executes a scrub_stack."""
+
+    def __init__(self, program: programs.Program, name: str, count: int) -> None:
+        super().__init__(program)
+        self.name, self.wanted, self.is_settled = name, count, False
+
+    def call(self, m: Any, i: Any) -> Any:
+        """A call of memset or of settle, which reads the zeros."""
+        self.is_settled |= self.program.target(i, OF_C) == "%s%d" % (functions.SETTLE, self.wanted)
+        return super().call(m, i)
+
+    def check(self, m: Any, entry: tuple, name: str, first: int = 0) -> None:
+        super().check(m, entry, name, first)
+        if name != self.name:
+            return
+        if not any(m.secrets.keys().isdisjoint(range(end - self.wanted, end)) for end in range(-GAP, 1)):
+            raise IsWrong("there are no %d bytes of zeros next to the caller's frame" % self.wanted)
+        self.cpu(m).need_vectors()
+        old = m.at_start["vector"]
+        if self.program.path.endswith("-v4.s") and any(
+                b not in (0, old[j][k]) for j in UPPER for k, b in enumerate(m.vector[j])):
+            raise IsWrong("a vector register from 16 on is neither zero nor as before")
+
+
+def show_scrub(program: programs.Program, name: str, count: int) -> None:
+    """Shows, over a stack of secrets, that a scrub_stack overwrites its bytes of the stack with zeros, and does nothing
+    else, or raises Refused."""
+    T.reset()
+    calls = Scrub(program, name, count)
+    sp, back = (T.var(64, t, T.PUBLIC) for t in ("sp", "return address"))
+    above = T.split(back) if program.kind == "x86_64" else []
+    stack = Cells(-STACK, len(above), lambda k: above[k] if k >= 0 else fresh(
+        "stack", T.SECRET)[0], True, (16, len(above)))
+    constants = Cells(0, 1 << 32, program.constant, False, (4096, 0))
+    m = Exact({image(): constants, sp: stack}, calls.cpu, (16, len(above)))
+    calls.cpu(m).start(sp, back, [])
+    m.secrets, m.is_kept = dict.fromkeys(range(-STACK, 0), False), lambda b: b != 0
+    try:
+        calls.run(name, m)
+    except T.Refused as e:
+        raise type(e)("%s: at %s: %s" % (name, calls.at and " ".join(calls.at.text.split()) or "the entry", e))
+    if not calls.is_settled:
+        raise IsWrong("settle is not called")

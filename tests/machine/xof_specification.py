@@ -4,31 +4,20 @@ both use: the root hash of the message."""
 
 from __future__ import annotations
 
-from typing import Any, Callable, TYPE_CHECKING
+from typing import Any, Callable
 
 import call_specification as S
-
-if TYPE_CHECKING:
-    from rfc7693 import Kind
-    from symbolic import Buffer
-    from terms import Term
-
-
-class State(S.State):
-    """The state of a root hash, and a reader of the output: the root hash once bytes were read, salt and persona, the
-    length of the output, the bytes that were read, and whether any were."""
-
-    root: Any
-    texts: Any
-    xof_length: Any
-    position: Any
-    reading: Any
-    FIELDS = S.State.FIELDS + ("root", "texts", "xof_length", "position", "reading")
+from call_specification import State
+from rfc7693 import Kind
+from symbolic import Buffer
+from terms import Term
 
 
 def zeros(kind: Kind) -> State:
-    return State(**S.zeros(kind).__dict__, root=[0] * kind.w, texts=[0] * (kind.w // 2), xof_length=0,
-                 position=0, reading=0)
+    """The wiped state: that of the root hash, and a reader of the output: the root hash once bytes were read, salt and
+    persona, the length of the output, the bytes that were read, and whether any were."""
+    return State(**vars(S.zeros(kind)), root=[0] * kind.w, texts=[0] * (kind.w // 2), xof_length=0, position=0,
+                 reading=0)
 
 
 def unknown(kind: Kind) -> int:
@@ -47,10 +36,9 @@ def is_length(kind: Kind, xof_length: Any, is_known: bool) -> list:
     return [((xof_length,), 1, unknown(kind) - 1) if is_known else ((xof_length,), unknown(kind), unknown(kind))]
 
 
-def is_ready(kind: Kind, s: State, is_known: bool) -> list:
-    length = output_length(kind, s.xof_length, is_known)
-    return S.is_ready(kind, s) + [((s.output_size,), kind.w, kind.w)] + is_length(
-        kind, s.xof_length, is_known) + has_left(length, s.position, 0)
+def is_usable(kind: Kind, s: State) -> list:
+    """A state absorbs bytes if these hold and is_absorbing. It is ready if has_left holds for no bytes."""
+    return S.is_ready(kind, s) + [((s.output_size,), kind.w, kind.w), ((s.xof_length,), 1, unknown(kind))]
 
 
 def has_left(length: Any, position: Term, n: Any) -> list:
@@ -63,31 +51,25 @@ def is_absorbing(s: State) -> list:
     return [((s.reading,), 0, 0), ((s.position,), 0, 0)]
 
 
-def admits(kind: Kind, key_size: Any, salt_size: Any, persona_size: Any) -> list:
-    """The other lengths of an init."""
-    return S.admits(kind, kind.w, key_size, salt_size, persona_size)[1:]
+def admits(kind: Kind, xof_length: Any, *others: Any) -> list:
+    """The lengths of an init."""
+    return [((xof_length,), 1, unknown(kind))] + S.admits(kind, kind.w, *others)[1:]
 
 
 # The calls.
 
-def init(a: Any, kind: Kind, xof_length: Any, key: Any, key_size: Any, salt: Any, salt_size: Any,
-         persona: Any, persona_size: Any) -> State:
+def init(a: Any, kind: Kind, xof_length: Any, key: Any, key_size: Any, salt: Any = S.nothing, salt_size: Any = 0,
+         persona: Any = S.nothing, persona_size: Any = 0) -> State:
     """The root hash has the longest digest, and the length of the output in its node offset."""
     tree = (1, 1, 0, a.times(1 << 32, xof_length), 0, 0)
-    root = S.init_tree(a, kind, kind.w, key, key_size, salt, salt_size, persona, persona_size, tree)
-    n = kind.w // 4
-    return over(zeros(kind), root).but(
-        xof_length=xof_length, texts=S.padded(a, salt, salt_size, n) + S.padded(a, persona, persona_size, n))
+    root = S.init(a, kind, kind.w, key, key_size, salt, salt_size, persona, persona_size, tree)
+    texts = S.padded(a, salt, salt_size, kind.w // 4) + S.padded(a, persona, persona_size, kind.w // 4)
+    return zeros(kind).but(**vars(root), xof_length=xof_length, texts=texts)
 
 
-def over(s: State, root: S.State) -> State:
-    """The state with another root hash."""
-    return s.but(**{name: getattr(root, name) for name in S.State.FIELDS})
-
-
-def reset(kind: Kind, s: State) -> State:
+def reset(s: State) -> State:
     """No byte of a root hash that was read is left."""
-    return over(s, S.reset(s)).but(root=[0] * kind.w, position=0, reading=0)
+    return S.reset(s).but(root=[0] * len(s.root), position=0, reading=0)
 
 
 def begin(a: Any, kind: Kind, s: State, is_reading: bool) -> State:
@@ -103,17 +85,14 @@ def squeeze(a: Any, kind: Kind, s: State, n: Any, is_reading: bool) -> State:
 def stream(a: Any, kind: Kind, s: State, is_known: bool) -> Callable:
     """The blocks of the output, by their numbers. Each is the hash of the root hash, without a key, and with
     parameters of its own; the last one may be shorter, so its length has less than a block."""
-    n = kind.w // 4
-
     def block(i: Any) -> list:
         size = a.least(kind.w, a.minus(output_length(kind, s.xof_length, is_known), a.times(kind.w, i)))
         tree = (0, 0, kind.w, a.plus(i, a.times(1 << 32, s.xof_length)), 0, kind.w)
-        first = S.from_block(a, kind, S.parameter_block(a, kind, size, 0, tree, s.texts[:n], s.texts[n:]), size)
+        first = S.from_block(a, kind, S.parameter_block(a, kind, size, 0, tree, s.texts), size)
         return S.digest(a, kind, first.but(pending=s.root + [0] * (kind.block - kind.w), pending_length=kind.w))
     return block
 
 
 def one_shot(a: Any, kind: Kind, size: Any, key: Buffer | Callable, key_size: Any, absorb: Callable) -> State:
     """The state of which all bytes are read, where `absorb` is one of both updates."""
-    s = init(a, kind, size, key, key_size, S.nothing, 0, S.nothing, 0)
-    return begin(a, kind, over(s, absorb(s)), False)
+    return begin(a, kind, absorb(init(a, kind, size, key, key_size)), False)
