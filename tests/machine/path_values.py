@@ -82,9 +82,11 @@ def need_same(m: Any, results: dict, what: str, found: list, wanted: list) -> No
     memo: dict = {}
     settle = lambda b: b if isinstance(b, int) else T.split(T.substitute(b[0], m.path_facts.values(), memo))[b[1]]
     for k, (x, y) in enumerate(zip(found, wanted)):
+        if x == y or settle(x) == settle(y):
+            continue
         a, b = T.word([x]), T.word([y])
-        if x == y or settle(x) == settle(y) or not (a.taint | b.taint) & ~T.PUBLIC and m.is_always("==", a, b):
-            continue                   # they may be the same by what the path knows of public bytes
+        if not (a.taint | b.taint) & ~T.PUBLIC and m.is_always("==", a, b):
+            continue                   # they are the same by what the path knows of public bytes
         text = "byte %d of %s is %s, not %s" % (k, what, T.show(x, 4), T.show(y, 4))
         inputs = difference(m.path_facts, results, x, y)
         raise IsWrong("%s: for %s" % (text, inputs)) if inputs else CannotShow(text)

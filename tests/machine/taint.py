@@ -19,16 +19,19 @@ VISITS = 2                             # of a place, after which ranges are wide
 TABLE_STEP = 64                        # bytes from which an index is into a table, not an array
 
 
+@T.remembering
 def secret() -> T.Byte:
     """A secret byte. All are the same term, because nothing is known about any."""
     return T.var(8, "secret", T.SECRET), 0
 
 
+@T.remembering
 def unknown() -> T.Byte:
     """A public byte about which nothing is known."""
     return T.var(8, "public", T.PUBLIC), 0
 
 
+@T.remembering
 def secret_bit() -> T.Byte:
     """A secret byte that is 0 or 1."""
     return T.var(8, "secret bit", T.SECRET), 0
@@ -494,6 +497,8 @@ class Taint(Values):
 
     def joined(self, old: Any, other: Any, a: list, b: list, name: str, visits: int) -> list:
         """The bytes of a word or a vector that is one of both."""
+        if a == [secret()] * len(a):
+            return a
         if len(a) > 8 or any(map(is_secret, a + b)) or unknown() in a + b:
             data = []
             for k, (x, y) in enumerate(zip(a, b)):

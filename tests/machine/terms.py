@@ -63,6 +63,7 @@ Byte = Union[int, Tuple[Term, int]]
 
 _table: dict = {}
 _results: dict = {}                          # what remembered() has returned
+_words: dict = {}                            # what word() has returned
 
 
 def _term(op: str, w: int, args: Any, taint: int) -> Term:
@@ -77,8 +78,8 @@ def _term(op: str, w: int, args: Any, taint: int) -> Term:
 
 def reset() -> None:
     """Forgets all terms. Older terms must not be used with later ones."""
-    _table.clear()
-    _results.clear()
+    for kept in (_table, _results, _words):
+        kept.clear()
 
 
 def remembered(f: Callable, *arguments: Any) -> Any:
@@ -132,11 +133,19 @@ def ite(w: int, condition: Any, on: int, off: int) -> Term:
 
 def leaves(f: Callable, w: int, *terms: Any) -> Term | None:
     """The result of f on numbers, where each term is a number or depends on one condition."""
-    flags = {t.args[0] for t in terms if t.op == "ite"}
-    if len(flags) > 1 or any(t.op not in ("const", "ite") for t in terms):
-        return None
-    number = lambda k: f(*[t.args if t.op == "const" else t.args[k] for t in terms]) & (1 << w) - 1
-    return ite(w, flags.pop(), number(1), number(2)) if flags else const(w, number(0))
+    condition = None
+    for t in terms:
+        if t.op == "ite":
+            if condition not in (None, t.args[0]):
+                return None
+            condition = t.args[0]
+        elif t.op != "const":
+            return None
+    mask = (1 << w) - 1
+    at = lambda k: [t.args if t.op == "const" else t.args[k] for t in terms]
+    if condition is None:
+        return const(w, f(*at(0)))
+    return ite(w, condition, f(*at(1)) & mask, f(*at(2)) & mask)
 
 
 def linear(t: Term) -> tuple:
@@ -195,14 +204,12 @@ def taint_of(taints: Iterable) -> int:
     return functools.reduce(operator.or_, taints, 0)
 
 
-def xor(w: int, *terms: Any) -> Term:
-    """The exclusive or of terms."""
-    need_width(w, *terms)
+def _members(terms: tuple) -> tuple:
+    """The constant, the flags' masks and the other members of an exclusive or."""
     constant = 0
-    chosen: dict = {}                  # what flags change
+    chosen: dict = {}
     members: set = set()
     for t in terms:
-        constant ^= t.args[0] if t.op == "xor" else 0
         for u in t.args[1] if t.op == "xor" else (t,):
             if u.op == "ite":
                 name, on, off = u.args
@@ -212,7 +219,15 @@ def xor(w: int, *terms: Any) -> Term:
                 constant ^= u.args
             else:
                 members ^= {u}
-    marks = {n: m for n, m in chosen.items() if m}
+        if t.op == "xor":
+            constant ^= t.args[0]
+    return constant, {n: m for n, m in chosen.items() if m}, members
+
+
+def xor(w: int, *terms: Any) -> Term:
+    """The exclusive or of terms."""
+    need_width(w, *terms)
+    constant, marks, members = _members(terms)
     if not members and not marks:
         return const(w, constant)
     if not members and len(marks) == 1:
@@ -229,13 +244,14 @@ def _ror_number(w: int, n: int, k: int) -> int:
     return (n >> k | n << (w - k)) & ((1 << w) - 1)
 
 
-@remembering
-def ror(w: int, t: Term, k: int) -> Term:
+def ror(w: int, t: Any, k: int) -> Term:
     """A rotation to the right by k bits."""
     need_width(w, t)
-    k %= w
-    if k == 0:
-        return t
+    return _ror(w, t, k % w) if k % w else t
+
+
+@remembering
+def _ror(w: int, t: Term, k: int) -> Term:
     if t.op == "xor":
         return xor(w, const(w, _ror_number(w, t.args[0], k)), *[ror(w, u, k) for u in t.args[1]])
     if t.op == "ror":
@@ -324,7 +340,11 @@ def split(t: Any) -> list:
 
 def word(bs: Any) -> Term:
     """The term of a list of bytes."""
-    return remembered(_word, tuple(bs))
+    bs = tuple(bs)
+    found = _words.get(bs)
+    if found is None:
+        found = _words[bs] = _word(bs)
+    return found
 
 
 def _word(bs: tuple) -> Term:
@@ -336,7 +356,8 @@ def _word(bs: tuple) -> Term:
         least = min(k for _, k in bs)
         if all(b == (t, least + (i - least + k) % n) for k, b in enumerate(bs)):
             return ror(8 * n, slice_of(t, least, n), 8 * (i - least))
-    names = {b[0].args[0] if b[0].op == "ite" else b for b in bs if isinstance(b, tuple)}
+    names = {None if isinstance(b, int) else b[0].args[0] if b[0].op == "ite" else b for b in bs}
+    names.discard(None)
     if len(names) > 1 or not all(isinstance(name, str) for name in names):
         return _term("cat", 8 * n, bs, taint_of([b[0].taint for b in bs if isinstance(b, tuple)]))
     number = lambda k: int.from_bytes(bytes(b if isinstance(b, int) else b[0].args[k] for b in bs), "little")
