@@ -2,7 +2,7 @@
 
 import functools
 import re
-from typing import Any, Callable
+from typing import Any
 
 import machine
 import terms as T

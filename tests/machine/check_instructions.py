@@ -402,8 +402,7 @@ def check(path: str, user: str, rounds: int) -> tuple:
     first, tests = len(tests), tests + extra
     runs = list(runs_of(program, user, tests, rounds, rng))
     after_all = iter(execute(program.kind, tests, vectors_of(path), (x for r in runs for x in r.inputs())))
-    run: set = set()
-    known: set = set()
+    done: dict = {}                    # the tests that ran, each with whether the model has known all of a run
     for n, r in enumerate(runs):
         if n % 50 == 0:
             T.reset()
@@ -422,14 +421,13 @@ def check(path: str, user: str, rounds: int) -> tuple:
         is_known = user == "T" or are_known(program, m, buf)
         if why or must and not is_known:
             return "not ok", "%s: in the model %s" % (text, why or "the result is not known"), set()
-        run.add(r.test)
-        if is_known:
-            known.add(r.test)
-    if len(known) < len(tests) * tenths // 10:
-        return "not ok", "only %d of %d tests can be compared" % (len(known), len(tests)), set()
-    forms_run = used & {forms.form(program.kind, part) for k in run for part in tests[k][0].split("; ")}
+        done[r.test] = is_known or done.get(r.test, False)
+    known = sum(done.values())
+    if known < len(tests) * tenths // 10:
+        return "not ok", "only %d of %d tests can be compared" % (known, len(tests)), set()
+    forms_run = used & {forms.form(program.kind, part) for k in done for part in tests[k][0].split("; ")}
     missed = sorted(used - forms_run)
     what = "%d forms, %d instructions, %d more tests, %d runs, %d compared" % (
-        len(used), first, len(extra), len(runs), len(known))
+        len(used), first, len(extra), len(runs), known)
     return "not ok" if missed else "ok", "the form is not run: %s" % missed[0] if missed else what, {
         (program.kind, user, f) for f in forms_run}

@@ -2,7 +2,7 @@
 
 import re
 import time
-from typing import Any, Callable, TYPE_CHECKING
+from typing import Any, TYPE_CHECKING
 
 import rfc7693 as R
 import terms as T

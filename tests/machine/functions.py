@@ -2,7 +2,7 @@
 module with another name needs a change here and nowhere else."""
 
 import re
-from typing import Any, TYPE_CHECKING
+from typing import TYPE_CHECKING
 
 import rfc7693 as R
 

@@ -5,14 +5,13 @@ docs/MACHINE.md says what is shown."""
 from typing import Any, Callable, TYPE_CHECKING
 
 import compression
-import constant_time
 import functions
 import program as programs
 import terms as T
 from constant_time import OF_C, STACK
 from loops import MOST, Differences, Reads, Straight, cycle, no_output
 from machine import bitwise, chunks, image, joined, need_public
-from symbolic import Buffer, Cells, Exact, Undecided, any_of, base_of, below, fresh, is_zero
+from symbolic import Buffer, Cells, Exact, Undecided, any_of, below, fresh, is_zero
 from terms import CannotShow, IsWrong
 from x86 import UPPER
 

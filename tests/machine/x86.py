@@ -3,7 +3,7 @@ add one: most are a line of a table, MOVED or COMPUTED for vectors and ARITHMETI
 
 import functools
 import re
-from typing import Any, Callable
+from typing import Callable
 
 import machine
 import terms as T
