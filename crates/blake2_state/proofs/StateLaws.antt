@@ -1,12 +1,23 @@
 -- The contracts of plain states, from the fields that a call leaves.
-use Rattle.std.proofs.Common.{◌≡◌, ℕ, ◌+◌, ◌≤◌, ◌==◌, Bool, true, false, List, [], ◌∷◌, ◌++◌}
-use Rattle.std.proofs.Common.{length, take, slice_index, Option, Some, None, refl, sym, ap, subst}
+use Rattle.std.proofs.Common.{◌≡◌, ℕ, zero, suc, ◌+◌, ◌-◌, ◌*◌, ◌≤◌, ◌==◌, Bool, true, false, List}
+use Rattle.std.proofs.Common.{[]}
+use Rattle.std.proofs.Common.{◌∷◌, ◌++◌, bit_xor}
+use Rattle.std.proofs.Common.{length, take, drop, replicate, slice_index, Option, Some, None, refl, sym, ap, subst}
 use Rattle.std.proofs.Common.{◌∙◌, rules, arith, length-append}
-use Rattle.std.proofs.lemmas.List.{take_all}
-use Rattle.blake2_simd.specs.Family.{Family, block_bytes, key_bytes}
-use Rattle.blake2_compress.specs.Hash.{Parameters, key_size, key_block, padded, start}
+use Rattle.std.proofs.lemmas.List.{take_all, length-take-le}
+use Rattle.std.proofs.lemmas.Nat.{le_bytes_4, le_bytes_8}
+use Rattle.std.specs.Int.Bits.{xor_assoc, xor_self, xor_zero_l}
+use Rattle.std.specs.Int.{from_le_bytes, to_le_bytes, w32, w64}
+use Rattle.blake2_simd.specs.Family.{Family, blake2b, blake2s, block_bytes, iv, key_bytes, word}
+use Rattle.blake2_simd.specs.Family.{word_bytes}
+use Rattle.blake2_compress.specs.Hash.{Parameters, key_size, key_block, padded, start, Fits}
+use Rattle.blake2_compress.specs.Hash.{AreBytes, words_of, bytes_of, xor_words, parameter_block}
+use Rattle.blake2_compress.specs.Hash.{parameter_words}
+use Rattle.blake2_compress.proofs.ParameterTexts.{padded-append_zeros}
+use Rattle.blake2_compress.proofs.ParameterSizes.{AreBytes-low, length-parameter_block}
 use Rattle.blake2_digest.specs.Blocks.{handed_on, held_back}
 use Rattle.blake2_digest.specs.States.{Meaning, Updated, Fresh, AtStart, NodeSet, StartedAgain}
+use Rattle.blake2_digest.proofs.Texts.{zeros_overwritten}
 use Rattle.blake2_digest.proofs.Cutting.{handed_none, held_all}
 use Rattle.blake2.specs.CoreLaws.{absorbed-nil}
 use Rattle.blake2.specs.Cores.{CoreState, node_parameters, core_made, absorbed}
@@ -16,7 +27,7 @@ use Rattle.blake2.proofs.StateLaws.{block_positive, updated, Updated_by, Fresh_b
 use Rattle.blake2.proofs.StateLaws.{length-key_block_none, length-key_block_some}
 use Rattle.blake2_state.specs.ConstructorArguments.{given_key, given_count, digest_under}
 use Rattle.blake2_state.specs.RawParameterBlocks.{block_start, block_digest}
-use Rattle.blake2_state.specs.States.{meaning_sized}
+use Rattle.blake2_state.specs.States.{meaning_sized, named_key_size}
 
 -- ---- updates
 
@@ -121,6 +132,18 @@ AtStart_set made set = record {
 
 -- ---- constructors
 
+-- A list written over the beginning of zeros, where its length has another name.
+pub padded_over : (n k : ℕ) (xs : List ℕ) → length xs ≡ k
+    → xs ++ drop k (replicate n 0) ≡ padded n xs
+padded_over n k xs e =
+    ap (λ (m : ℕ). xs ++ drop m (replicate n 0)) (sym e) ∙ zeros_overwritten n xs
+
+-- Padding a padded list is padding the list.
+pub padded-padded : (n m : ℕ) (xs : List ℕ) → length xs ≤ m → m ≤ n
+    → padded n (padded m xs) ≡ padded n xs
+unfolding padded
+padded-padded n m xs fits h = padded-append_zeros n xs (m - length xs) (omega (arith, fits, h))
+
 -- A state that starts from these words, after this start block.
 abbrev begun : List ℕ → List ℕ → State
 begun words block = record {
@@ -160,21 +183,34 @@ Fresh_unkeyed f size_of state_of p {core} {words} {new} named made starts size e
     Fresh_made f size_of state_of p None core words [] 0 new named made starts refl
     (length-key_block_none f) size e
 
--- Under a key that is padded to a block.
+-- A key is shorter than a block.
+key_fits : (f : Family) → key_bytes f ≤ block_bytes f
+key_fits blake2b = omega arith
+key_fits blake2s = omega arith
+
+-- Under a key that is padded to a block, and is kept padded to the longest key.
 pub Fresh_keyed : {S : Type 0} (f : Family) (size_of : S → ℕ) (state_of : S → State)
-    (p : Parameters) (key : List ℕ) {core : CoreState} {words block : List ℕ} {new : S}
+    (p : Parameters) (key : List ℕ) {core : CoreState} {words block kept : List ℕ} {new : S}
     → p.key_size ≡ length key → p.key_size ≤ key_bytes f → core ≡ core_made f p
-    → words ≡ core.start → block ≡ padded (block_bytes f) key → size_of new ≡ p.size
-    → state_of new ≡ begun words (take (block_bytes f) block)
+    → words ≡ core.start → block ≡ padded (block_bytes f) kept → kept ≡ padded (key_bytes f) key
+    → size_of new ≡ p.size
+    → state_of new ≡ record (begun words (take (block_bytes f) block)) {
+      start_block = take (block_bytes f) (padded (block_bytes f) kept);
+    }
     → Fresh (meaning_sized f size_of state_of) (digest_under f p (Some key)) (block_bytes f) new
 unfolding key_block
-Fresh_keyed f size_of state_of p key {core} {words} {block} {new} named fits made starts is size e =
-    let whole : length (key_block f (Some key)) ≡ block_bytes f =
+Fresh_keyed f size_of state_of p key {core} {words} {block} {kept} {new} named fits made starts is
+    short size e =
+    let b : ℕ = block_bytes f in
+    let whole : length (key_block f (Some key)) ≡ b =
     length-key_block_some f key (omega (arith, named, fits)) in
-    Fresh_made f size_of state_of p (Some key) core words _ (block_bytes f) new named made starts
-    (ap (take (block_bytes f)) is
-    ∙ take_all (block_bytes f) (key_block f (Some key)) (omega (arith, whole)))
-    whole size e
+    let once : block ≡ padded b key =
+    is ∙ ap (padded b) short
+    ∙ padded-padded b (key_bytes f) key (omega (arith, named, fits)) (key_fits f) in
+    Fresh_made f size_of state_of p (Some key) core words _ b new named made starts
+    (ap (take b) once ∙ take_all b (key_block f (Some key)) (omega (arith, whole)))
+    whole size
+    (e ∙ (λ i. record (begun words (take b block)) { start_block = take b (sym is i) }))
 
 future-begun : (f : Family) (block words : List ℕ) (flag : Bool) (y : List ℕ)
     → words ≡ block_start f block
@@ -222,3 +258,65 @@ pub Fresh-given_some : {S : Type 0} (m : Meaning S) (f : Family) {p q : Paramete
 Fresh-given_some m f [] same e h = absurd (search rules)
 Fresh-given_some m f (x ∷ xs) {s} same e h =
     subst (λ p. Fresh m (digest_under f p (Some (x ∷ xs))) (block_bytes f) s) same h
+
+-- ---- keys
+
+-- The second element of a list is among its first two.
+second : (n : ℕ) (xs : List ℕ) → slice_index (take (suc (suc n)) xs) 1 ≡ slice_index xs 1
+second n [] = refl
+second n (x ∷ []) = refl
+second n (x ∷ y ∷ xs) = refl
+
+-- An xor with a number undoes itself.
+undone : (a x : ℕ) → bit_xor a (bit_xor a x) ≡ x
+undone a x = sym (xor_assoc a a x) ∙ ap (λ (n : ℕ). bit_xor n x) (xor_self a) ∙ xor_zero_l x
+
+-- The words that the run of a block starts from name the length that the block names.
+pub named_by-block : (f : Family) (block : List ℕ) → length block ≡ 8 * word_bytes f
+    → AreBytes (take (word_bytes f) block)
+    → named_key_size f (block_start f block) ≡ slice_index block 1
+unfolding words_of bytes_of xor_words
+named_by-block blake2b block l a =
+    let w : ℕ = from_le_bytes w64 (take 8 block) in
+    let back = ap (λ (n : ℕ). slice_index (to_le_bytes w64 n) 1)
+    (undone 0x6a09e667f3bcc908 w) in
+    let written : to_le_bytes w64 w ≡ take 8 block =
+    le_bytes_8 (take 8 block) w (length-take-le 8 block (omega arith)) a refl in
+    back ∙ ap (λ (bytes : List ℕ). slice_index bytes 1) written ∙ second 6 block
+named_by-block blake2s block l a =
+    let w : ℕ = from_le_bytes w32 (take 4 block) in
+    let back = ap (λ (n : ℕ). slice_index (to_le_bytes w32 n) 1) (undone 0x6a09e667 w) in
+    let written : to_le_bytes w32 w ≡ take 4 block =
+    le_bytes_4 (take 4 block) w (length-take-le 4 block (omega arith)) a refl in
+    back ∙ ap (λ (bytes : List ℕ). slice_index bytes 1) written ∙ second 2 block
+
+-- The first word of a parameter block consists of bytes, whatever salt and persona are.
+first_word : (f : Family) (p : Parameters) → Fits f p
+    → AreBytes (take (word_bytes f) (parameter_block f p))
+unfolding parameter_block
+first_word blake2b p h zero = omega (arith, h.size)
+first_word blake2b p h (suc zero) = omega (arith, h.key_size)
+first_word blake2b p h (suc (suc zero)) = omega (arith, h.tree.fanout)
+first_word blake2b p h (suc (suc (suc zero))) = omega (arith, h.tree.depth)
+first_word blake2b p h (suc (suc (suc (suc k)))) = AreBytes-low 0 4 p.tree.leaf_length k
+first_word blake2s p h zero = omega (arith, h.size)
+first_word blake2s p h (suc zero) = omega (arith, h.key_size)
+first_word blake2s p h (suc (suc zero)) = omega (arith, h.tree.fanout)
+first_word blake2s p h (suc (suc (suc zero))) = omega (arith, h.tree.depth)
+first_word blake2s p h (suc (suc (suc (suc k)))) = omega arith
+
+-- The words that the run of these parameters starts from name their key's length.
+pub named_by-parameters : (f : Family) (p : Parameters) → Fits f p
+    → named_key_size f (start f p) ≡ p.key_size
+unfolding start parameter_words parameter_block
+named_by-parameters f p h = named_by-block f (parameter_block f p) (length-parameter_block f p h)
+    (first_word f p h)
+
+-- The second byte of the first word, xored into IV, is that length.
+pub named_by-first : (f : Family) (first : List ℕ) → 1 ≤ length first
+    → slice_index (to_le_bytes (word f) (bit_xor (slice_index (iv f) 0) (slice_index first 0))) 1
+    ≡ named_key_size f first
+unfolding bytes_of xor_words
+named_by-first f [] h = absurd (omega arith)
+named_by-first blake2b (x ∷ xs) h = refl
+named_by-first blake2s (x ∷ xs) h = refl

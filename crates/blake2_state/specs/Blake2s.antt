@@ -3,17 +3,18 @@
 use Rattle.std.specs.Prelude.{◌≡◌, ℕ, ◌+◌, ◌^◌, ◌<◌, ◌≤◌, take, replicate}
 use Rattle.blake2_simd.specs.Family.{blake2s}
 use Rattle.blake2_digest.specs.States.{Meaning}
+use Rattle.blake2_digest.specs.Texts.{padded}
 use Rattle.blake2.specs.States as Held
 use Rattle.blake2_state.specs.declared.blake2s.State.{State}
-use Rattle.blake2_state.specs.States.{is_on, meaning_sized}
+use Rattle.blake2_state.specs.States.{is_on, meaning_sized, named_key_size}
 
--- The state that a plain state holds. The pending bytes are at the beginning of their field, and so
--- are those of the start block.
+-- The state that a plain state holds. The pending bytes are at the beginning of their field, and
+-- the start block is at the beginning of the key's block, which is the key padded with zeros.
 abbrev pub state_of : State → Held.State
 state_of s = record {
   core = record { h = s.chain; start = s.first; count = s.counter; last_node = is_on s.last_node };
   pending = take s.pending_length s.pending;
-  start_block = take s.start_length s.start_block;
+  start_block = take s.start_length (padded 64 s.key);
 }
 
 -- The meaning of a plain state: the digests that it will return, of the length that it holds, its
@@ -30,6 +31,15 @@ pub record IsReady (s : State) : Type 0 where
   pub start : s.start_length ≤ 64
   pub counted : s.counter + s.pending_length < 2 ^ 64
 
+-- The number of bytes of the state's key, as the parameter block names it from which its run
+-- started.
+abbrev pub key_length : State → ℕ
+key_length s = named_key_size blake2s s.first
+
+-- The state has a key.
+abbrev pub IsKeyed : State → Type 0
+IsKeyed s = 1 ≤ key_length s
+
 -- The state returns digests of `size` bytes.
 abbrev pub IsReadyFor : ℕ → State → Type 0
 IsReadyFor size s = IsReady s × (s.output_size ≡ size)
@@ -45,5 +55,5 @@ zeros = record {
   output_size = 0;
   last_node = 0;
   pending = replicate 64 0;
-  start_block = replicate 64 0;
+  key = replicate 32 0;
 }

@@ -4,3 +4,4 @@ pub mod Blake2s
 pub mod RawParameterBlocks
 pub mod States
 pub mod TreeStates
+pub mod Runs

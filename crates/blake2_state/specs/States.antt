@@ -1,6 +1,7 @@
 -- What states mean that hold the length of their digests.
-use Rattle.std.specs.Prelude.{ℕ, Bool, not, nat_eq}
-use Rattle.blake2_simd.specs.Family.{Family}
+use Rattle.std.specs.Prelude.{ℕ, Bool, List, not, nat_eq, slice_index}
+use Rattle.blake2_simd.specs.Family.{Family, iv}
+use Rattle.blake2_compress.specs.Hash.{bytes_of, xor_words}
 use Rattle.blake2_digest.specs.States.{Meaning}
 use Rattle.blake2.specs.States.{State, future, started, count, start_count}
 
@@ -18,3 +19,9 @@ meaning_sized f size_of state_of = record {
   count = λ s. count (state_of s);
   start_count = λ s. start_count (state_of s);
 }
+
+-- The length in bytes of the key that a parameter block names, by the words that its run starts
+-- from: the block's words xored into the IV. It is the second byte of the block, and 0 without a
+-- key (RFC 7693, 2.5 and 3.3).
+abbrev pub named_key_size : Family → List ℕ → ℕ
+named_key_size f first = slice_index (bytes_of f (xor_words (iv f) first)) 1

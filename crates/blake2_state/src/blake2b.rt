@@ -5,17 +5,19 @@ ghost use Rattle.std.specs.Prelude.{slice_index, None, Some, IfOk, IsErr, IsTrue
 ghost use Rattle.blake2_simd.specs.Family.{blake2b};
 ghost use Rattle.blake2_compress.specs.Hash.{AdmitsTree, sequential};
 ghost use Rattle.blake2_compress.specs.Views.{given_parameters, tree_of};
+ghost use Rattle.blake2_digest.specs.Texts.{padded};
 ghost use Rattle.blake2_digest.specs.States.{Fresh, NodeSet, Updated, StartedAgain, digest_now};
 ghost use Rattle.blake2_state.specs.ConstructorArguments.{AdmitsState, given_count, digest_given};
 ghost use Rattle.blake2_state.specs.ConstructorArguments.{digest_under};
 ghost use Rattle.blake2_state.specs.ConstructorArguments.{parameters_given};
 ghost use Rattle.blake2_state.specs.RawParameterBlocks.{block_digest, AdmitsBlock};
-ghost use Rattle.blake2_state.specs.Blake2b.{IsReady, meaning, zeros};
+ghost use Rattle.blake2_state.specs.Blake2b.{IsKeyed, IsReady, key_length, meaning, zeros};
 ghost use Rattle.blake2_state.specs.States.{is_on};
 
 use crate::StateParameters;
 use blake2::{Blake2bVarCore, Tree};
 use blake2_compress::compress::blake2b::to_words;
+use blake2_compress::consts::BLAKE2B_IV;
 use blake2_compress::params::Parameters;
 use blake2_compress::params::blake2b::{fits, start_of};
 use blake2_digest::{
@@ -36,17 +38,25 @@ pub struct State {
     /// The number of bytes of the blocks that were compressed.
     pub counter: u64,
     /// The number of pending bytes, 0 to 128.
-    pub pending_length: usize,
+    pub pending_length: u32,
     /// The number of bytes that a start leaves pending: 128 of a key's block, or none.
-    pub start_length: usize,
+    pub start_length: u32,
     /// The number of bytes of the digest, 1 to 64.
-    pub output_size: usize,
+    pub output_size: u32,
     /// The last-node flag (the BLAKE2 document, 2.10): 0 is off, and all else on.
-    pub last_node: usize,
+    pub last_node: u32,
     /// The pending bytes, at the beginning.
     pub pending: [u8; 128],
-    /// The bytes that a start leaves pending, at the beginning.
-    pub start_block: [u8; 128],
+    /// The key, padded with zeros. A start leaves bytes of its block pending.
+    pub key: [u8; 64],
+}
+
+// Writes the key's block in its place, so that no copy of the key is left on the stack.
+fn write_padded(block: &mut [u8; 128], key: &[u8; 64])
+    ensures { block.new ≡ padded 128 key.now }
+{
+    *block = [0; 128];
+    block[..64].copy_from_slice(key);
 }
 
 impl State {
@@ -59,6 +69,14 @@ impl State {
             && self.pending_length <= 128
             && self.start_length <= 128
             && self.counter <= u64::MAX - self.pending_length as u64
+    }
+
+    /// Returns whether the state has a key: whether the parameter block that it was initialized
+    /// from names one. Nothing but another initialization or a wipe changes that.
+    pub fn has_key(&self) -> bool
+        ensures { IsTrue result ↔ IsKeyed self.now }
+    {
+        (BLAKE2B_IV[0] ^ self.first[0]).to_le_bytes()[1] != 0
     }
 
     /// Returns the zeroed state, which is not ready.
@@ -74,7 +92,7 @@ impl State {
             output_size: 0,
             last_node: 0,
             pending: [0; 128],
-            start_block: [0; 128],
+            key: [0; 64],
         }
     }
 
@@ -86,7 +104,7 @@ impl State {
     }
 
     // A state from these words that has absorbed nothing, under no key.
-    fn starting_from(first: [u64; 8], output_size: usize) -> Self
+    fn starting_from(first: [u64; 8], output_size: u32) -> Self
         ensures { result
             ≡ record zeros { chain = first; first = first; output_size = output_size } }
     {
@@ -99,7 +117,7 @@ impl State {
             output_size,
             last_node: 0,
             pending: [0; 128],
-            start_block: [0; 128],
+            key: [0; 64],
         }
     }
 
@@ -117,11 +135,12 @@ impl State {
         requires keyless { parameters.now.key_size ≡ 0 }
         ensures ready { IsReady result }
         ensures size { result.output_size ≡ parameters.now.output_size }
+        ensures key { key_length result ≡ parameters.now.key_size }
         ensures fresh { Fresh meaning
             (digest_under blake2b (given_parameters parameters.now) None) 0 result }
     {
         let core = Blake2bVarCore::from_parameters(parameters);
-        Self::starting_from(core.first_words(), parameters.output_size)
+        Self::starting_from(core.first_words(), parameters.output_size as u32)
     }
 
     // A state under this key that has absorbed nothing else.
@@ -130,22 +149,24 @@ impl State {
         requires key_size { parameters.now.key_size ≡ length key.now }
         ensures ready { IsReady result }
         ensures size { result.output_size ≡ parameters.now.output_size }
+        ensures key { key_length result ≡ parameters.now.key_size }
         ensures fresh { Fresh meaning
             (digest_under blake2b (given_parameters parameters.now) (Some key.now)) 128 result }
     {
         let core = Blake2bVarCore::from_parameters(parameters);
         let first = core.first_words();
-        let block = padded::<128>(key);
+        let padded_key = padded::<64>(key);
+        let block = padded::<128>(&padded_key);
         State {
             chain: first,
             first,
             counter: 0,
             pending_length: 128,
             start_length: 128,
-            output_size: parameters.output_size,
+            output_size: parameters.output_size as u32,
             last_node: 0,
             pending: block,
-            start_block: block,
+            key: padded_key,
         }
     }
 
@@ -165,6 +186,7 @@ impl State {
             ↔ ¬ AdmitsState blake2b (parameters_given given.now sequential) }
         ensures ready { IfOk result (λ s. IsReady s) }
         ensures size { IfOk result (λ s. s.output_size ≡ given.now.output_size) }
+        ensures key { IfOk result (λ s. key_length s ≡ length given.now.key.now) }
         ensures fresh { IfOk result (λ s. Fresh meaning
             (digest_given blake2b given.now sequential) (given_count blake2b given.now.key.now) s) }
     {
@@ -193,6 +215,7 @@ impl State {
             ↔ ¬ AdmitsState blake2b (parameters_given given.now (tree_of tree.now)) }
         ensures ready { IfOk result (λ s. IsReady s) }
         ensures size { IfOk result (λ s. s.output_size ≡ given.now.output_size) }
+        ensures key { IfOk result (λ s. key_length s ≡ length given.now.key.now) }
         ensures fresh { IfOk result (λ s. Fresh meaning
             (digest_given blake2b given.now (tree_of tree.now))
             (given_count blake2b given.now.key.now) s) }
@@ -216,6 +239,7 @@ impl State {
         ensures refused { IsErr result ↔ ¬ AdmitsBlock blake2b block.now }
         ensures ready { IfOk result (λ s. IsReady s) }
         ensures size { IfOk result (λ s. s.output_size ≡ slice_index block.now 0) }
+        ensures key { IfOk result (λ s. key_length s ≡ slice_index block.now 1) }
         ensures fresh { IfOk result (λ s. Fresh meaning (block_digest blake2b block.now) 0 s) }
     {
         if block.len() != 64 {
@@ -224,7 +248,7 @@ impl State {
         if block[0] == 0 || block[0] > 64 || block[1] > 64 {
             return Err(InvalidLength);
         }
-        Ok(Self::starting_from(to_words(&start_of(block)), block[0] as usize))
+        Ok(Self::starting_from(to_words(&start_of(block)), block[0] as u32))
     }
 
     // The core that the state holds.
@@ -249,6 +273,7 @@ impl State {
         requires { IsReady self.old }
         ensures ready { IsReady self.new }
         ensures size { self.new.output_size ≡ self.old.output_size }
+        ensures key { key_length self.new ≡ key_length self.old }
         ensures set { NodeSet meaning self.old on self.new }
     {
         self.last_node = if on { 1 } else { 0 };
@@ -263,6 +288,15 @@ impl State {
         self.counter + self.pending_length as u64
     }
 
+    /// Returns how many bytes a start counts: those of the key's block, or none. The state must be
+    /// ready.
+    pub fn start_counted(&self) -> u64
+        requires { IsReady self.now }
+        ensures { result ≡ meaning.start_count self.now }
+    {
+        self.start_length as u64
+    }
+
     // Absorbs one byte that the pending block has room for.
     #[inline(always)]
     fn keep_byte(&mut self, byte: u8)
@@ -271,10 +305,11 @@ impl State {
         requires counted { meaning.count self.old + 1 < 2 ^ 64 }
         ensures ready { IsReady self.new }
         ensures size { self.new.output_size ≡ self.old.output_size }
+        ensures key { key_length self.new ≡ key_length self.old }
         ensures updated { Updated meaning self.old (byte ∷ []) self.new }
     {
         let pos = self.pending_length;
-        self.pending[pos] = byte;
+        self.pending[pos as usize] = byte;
         self.pending_length = pos + 1;
     }
 
@@ -285,12 +320,13 @@ impl State {
         requires counted { meaning.count self.old + length input.now < 2 ^ 64 }
         ensures ready { IsReady self.new }
         ensures size { self.new.output_size ≡ self.old.output_size }
+        ensures key { key_length self.new ≡ key_length self.old }
         ensures updated { Updated meaning self.old input.now self.new }
     {
-        let pos = self.pending_length;
+        let pos = self.pending_length as usize;
         let end = pos + input.len();
         self.pending[pos..end].copy_from_slice(input);
-        self.pending_length = end;
+        self.pending_length = end as u32;
     }
 
     // Absorbs any input.
@@ -299,12 +335,13 @@ impl State {
         requires counted { meaning.count self.old + length input.now < 2 ^ 64 }
         ensures ready { IsReady self.new }
         ensures size { self.new.output_size ≡ self.old.output_size }
+        ensures key { key_length self.new ≡ key_length self.old }
         ensures updated { Updated meaning self.old input.now self.new }
     {
         let mut core = self.core();
-        let pos = self.pending_length;
+        let pos = self.pending_length as usize;
         let held = digest_into(&mut self.pending, pos, input, &mut core);
-        self.pending_length = held;
+        self.pending_length = held as u32;
         self.chain = core.chain_words();
         self.counter = core.counted();
     }
@@ -318,9 +355,10 @@ impl State {
         requires counted { meaning.count self.old + length input.now < 2 ^ 64 }
         ensures ready { IsReady self.new }
         ensures size { self.new.output_size ≡ self.old.output_size }
+        ensures key { key_length self.new ≡ key_length self.old }
         ensures updated { Updated meaning self.old input.now self.new }
     {
-        if input.len() <= 128 - self.pending_length {
+        if input.len() <= 128 - self.pending_length as usize {
             self.keep(input);
         } else {
             self.absorb(input);
@@ -334,6 +372,7 @@ impl State {
         requires counted { meaning.count self.old + length input.now < 2 ^ 64 }
         ensures ready { IsReady self.new }
         ensures size { self.new.output_size ≡ self.old.output_size }
+        ensures key { key_length self.new ≡ key_length self.old }
         ensures updated { Updated meaning self.old input.now self.new }
     {
         // To copy a single byte by a call would cost more than all the rest.
@@ -350,12 +389,13 @@ impl State {
         requires { IsReady self.old }
         ensures ready { IsReady self.new }
         ensures size { self.new.output_size ≡ self.old.output_size }
+        ensures key { key_length self.new ≡ key_length self.old }
         ensures reset { StartedAgain meaning self.old self.new }
     {
         self.chain = self.first;
         self.counter = 0;
         self.pending_length = self.start_length;
-        self.pending = self.start_block;
+        write_padded(&mut self.pending, &self.key);
     }
 
     /// Writes the digest of what was absorbed since the last start at the beginning of `out`,
@@ -367,10 +407,10 @@ impl State {
         ensures { out.new ≡ digest_now meaning self.now ++ drop self.now.output_size out.old }
     {
         let mut core = self.core();
-        let mut buffer = LazyBuffer::<128>::new(&self.pending[..self.pending_length]);
+        let mut buffer = LazyBuffer::<128>::new(&self.pending[..self.pending_length as usize]);
         let mut whole = [0; 64];
         core.finalize_variable_core(&mut buffer, &mut whole);
-        let size = self.output_size;
+        let size = self.output_size as usize;
         out[..size].copy_from_slice(&whole[..size]);
     }
 
@@ -383,6 +423,6 @@ impl State {
     {
         let mut whole = [0; 64];
         self.write_digest(&mut whole);
-        constant_time_eq(tag, &whole[..self.output_size])
+        constant_time_eq(tag, &whole[..self.output_size as usize])
     }
 }

@@ -10,6 +10,7 @@ ghost use Rattle.blake2_state.specs.ConstructorArguments.{parameters_given};
 
 pub mod blake2b;
 pub mod blake2s;
+pub mod runs;
 pub mod tree;
 
 use blake2_compress::params::{Parameters, Tree};

@@ -1,6 +1,6 @@
-//! Streams: sources and sinks of bytes, and `hash_stream`, which reads a source to its end and
-//! writes the digest to a sink. It is proved only from the contracts of `blake2_digest`, for every
-//! hasher and MAC that meets them.
+//! Streams: sources and sinks of bytes, `absorb_stream`, which passes a source to a hasher, to its
+//! end, and `hash_stream`, which then writes the digest to a sink. They are proved only from the
+//! contracts of `blake2_digest`, for every hasher and MAC that meets them.
 
 #![tactic(auto)]
 
@@ -16,4 +16,4 @@ pub use io_sink::IoSink;
 pub use io_source::IoSource;
 pub use slice_sink::SliceSink;
 pub use slice_source::SliceSource;
-pub use stream::{StreamFault, hash_stream, write_whole};
+pub use stream::{StreamFault, absorb_stream, hash_stream, write_whole};

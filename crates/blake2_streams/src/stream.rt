@@ -4,12 +4,12 @@ ghost use Rattle.std.specs.Prelude.{◌≡◌, ◌≢◌, ◌↔◌, ℕ, ◌+�
 ghost use Rattle.std.specs.Prelude.{false, IsTrue, IsErr, IfOk, IfSome, OnOk, OnErr};
 ghost use Rattle.std.specs.Result.{IsErrOf};
 ghost use Rattle.std.specs.Io.KnownBytes.{Consumes, Appends, Keeps};
-ghost use Rattle.blake2_digest.specs.States.{digest_after, digest_now};
+ghost use Rattle.blake2_digest.specs.States.{digest_after, digest_now, Updated};
 ghost use Rattle.blake2_digest.specs.Texts.{AreBytes};
 ghost use Rattle.blake2_streams.specs.Streams.{GivesAll, TakesPart, line_of};
 
 use super::device::{DeviceError, Sink, Source};
-use blake2_digest::{FixedOutput, tell_bytes};
+use blake2_digest::{FixedOutput, Update, tell_bytes};
 
 // The number of bytes that one read requests.
 const PIECE_BYTES: usize = 4096;
@@ -73,6 +73,42 @@ where
         × TakesPart (K.held sink.old) (K.held sink.new)
         (line_of (digest_after H.meaning hasher bytes)) }
 {
+    let total = absorb_stream(source, &mut hasher)?;
+    match write_digest(hasher, sink) {
+        Ok(()) => Ok(total),
+        Err(DeviceError) => Err(StreamFault::Write),
+    }
+}
+
+/// Reads the source to its end, passes its bytes to the hasher, and returns how many it read. The
+/// source must not have failed before.
+///
+/// The error is a `StreamFault`: `Read` if a read returns an error, after which the source is not
+/// tried again, or `TooLong` if the bytes that the hasher counts would be 2^64 or more. After an
+/// error the hasher has absorbed a beginning of the bytes. The call allocates nothing.
+pub fn absorb_stream<H: Update, S: Source>(
+    source: &mut S,
+    hasher: &mut H,
+) -> Result<u64, StreamFault>
+    requires { S.failed source.old ≡ false }
+
+    // When each error comes: `TooLong` if a source that has not failed has so much input that the
+    // count would reach 2^64.
+    ensures read { IsErrOf result StreamFault.Read ↔ IsTrue (S.failed source.new) }
+    ensures fault { result ≢ Err StreamFault.Write }
+    ensures too_long { IfSome (S.left source.old) (λ bytes. IsErrOf result StreamFault.TooLong ↔
+        ((S.failed source.new ≡ false)
+        × (2 ^ 64 ≤ H.meaning.count hasher.old + length bytes))) }
+
+    // What was read and absorbed for each result; a source that has failed says nothing.
+    ensures whole { IfOk result (λ n. (bytes : List ℕ) × (length bytes ≡ n)
+        × GivesAll (S.left source.old) (S.left source.new) bytes
+        × (H.meaning.count hasher.old + n < 2 ^ 64)
+        × Updated H.meaning hasher.old bytes hasher.new) }
+    ensures after_too_long { IsErrOf result StreamFault.TooLong → (bytes : List ℕ) × AreBytes bytes
+        × Consumes (S.left source.old) (S.left source.new) bytes
+        × (2 ^ 64 ≤ H.meaning.count hasher.old + length bytes) }
+{
     let mut buffer = [0u8; PIECE_BYTES];
     let mut total = 0u64;
     let mut room = u64::MAX - hasher.counted();
@@ -92,10 +128,7 @@ where
         total += count as u64;
         room -= count as u64;
     }
-    match write_digest(hasher, sink) {
-        Ok(()) => Ok(total),
-        Err(DeviceError) => Err(StreamFault::Write),
-    }
+    Ok(total)
 }
 
 /// Writes all bytes, and stops at the first write that returns an error or accepts no byte. The

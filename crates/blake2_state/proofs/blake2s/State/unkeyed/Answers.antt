@@ -1,7 +1,9 @@
 -- Made by tools/twins.py from proofs/blake2b/State/unkeyed/Answers.antt.
-use Rattle.std.proofs.Common.{refl}
+use Rattle.std.proofs.Common.{refl, ap, ◌∙◌}
+use Rattle.blake2_simd.specs.Family.{blake2s}
+use Rattle.blake2_state.specs.States.{named_key_size}
 use Rattle.blake2_compress.specs.Views.{given_parameters}
-use Rattle.blake2_state.proofs.StateLaws.{Fresh_unkeyed}
+use Rattle.blake2_state.proofs.StateLaws.{Fresh_unkeyed, named_by-parameters}
 use Rattle.blake2_state.proofs.blake2s.State.unkeyed.Goals as goal
 
 pub returns-clause-fresh : goal.returns-clause-fresh
@@ -9,3 +11,10 @@ returns-clause-fresh c =
     rw c.starting_from.ensures
     (Fresh_unkeyed _ _ _ (given_parameters c.args.parameters.now) c.requires.keyless
     c.from_parameters-core.ensures c.first_words.ensures refl refl)
+
+pub returns-clause-key : goal.returns-clause-key
+returns-clause-key c =
+    let parameters = given_parameters c.args.parameters.now in
+    rw c.starting_from.ensures
+    (ap (named_key_size blake2s) (c.first_words.ensures ∙ ap (λ core. core.start) c.from_parameters-core.ensures)
+    ∙ named_by-parameters blake2s parameters c.requires.admitted.fits)

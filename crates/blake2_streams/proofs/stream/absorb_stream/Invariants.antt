@@ -2,7 +2,7 @@ use Rattle.std.proofs.Common.{◌≡◌, ◌+◌, ◌^◌, ◌-◌, List, ℕ, l
 use Rattle.std.specs.Io.KnownBytes.{Consumes}
 use Rattle.blake2_digest.specs.States.{Updated}
 use Rattle.blake2_digest.specs.Texts.{AreBytes}
-use Rattle.blake2_streams.proofs.stream.hash_stream.Given as goal
+use Rattle.blake2_streams.proofs.stream.absorb_stream.Given as goal
 
 abbrev pub invariant-reading : goal.invariant-reading
 invariant-reading g l = record {

@@ -1,8 +1,8 @@
-use Rattle.std.proofs.Common.{◌∙◌, ap, false, ◌||◌, length-append, arith, take, ◌++◌, rules}
+use Rattle.std.proofs.Common.{◌∙◌, ap, false, ◌||◌, length-append, arith, take, ◌++◌}
 use Rattle.std.proofs.KnownBytes.{Consumes-trans}
 use Rattle.blake2_digest.proofs.Texts.{AreBytes-append}
 use Rattle.blake2_streams.proofs.StreamLemmas.{Updated-trans}
-use Rattle.blake2_streams.proofs.stream.hash_stream.Goals as goal
+use Rattle.blake2_streams.proofs.stream.absorb_stream.Goals as goal
 
 pub returns-then-count-room-clause-after_too_long :
     goal.returns-then-count-room-clause-after_too_long
@@ -14,7 +14,6 @@ returns-then-count-room-clause-after_too_long g c = λ _.
       AreBytes-append before.0 piece before.2 c.tell_bytes.ensures,
       Consumes-trans _ _ _ before.0 piece before.3 read.bytes.0,
       omega (arith, length-append before.0 piece, read.bound.1, before.1, before.4.count),
-      search rules,
     )
 
 pub reading-preserved : goal.reading-preserved
