@@ -18,7 +18,7 @@ use Rattle.blake2_compress.proofs.InputBlocks.{cut-at}
 use Rattle.blake2_compress.proofs.Runs.{whole_blocks}
 
 -- Chunk i of the first k.
-first_chunks-at : (b k i : ℕ) (y : List ℕ) → i < k
+pub first_chunks-at : (b k i : ℕ) (y : List ℕ) → i < k
     → slice_index_or (first_chunks b k y) i [] ≡ take b (drop (i * b) y)
 first_chunks-at b zero i y h = absurd (omega arith)
 first_chunks-at b (suc k) zero y h =
@@ -30,7 +30,7 @@ first_chunks-at b (suc k) (suc i) y h =
     ∙ ap (take b) (drop-drop (i * b) b y ∙ ap (λ (n : ℕ). drop n y) (sym more))
 
 -- Bytes that hold a chunk more than i hold chunk i.
-chunk_below : (f : Family) (m i : ℕ) → (i + 1) * block_bytes f ≤ m → i < m / block_bytes f
+pub chunk_below : (f : Family) (m i : ℕ) → (i + 1) * block_bytes f ≤ m → i < m / block_bytes f
 chunk_below blake2b m i h = omega arith
 chunk_below blake2s m i h = omega arith
 

@@ -20,3 +20,4 @@ pub mod Lanes
 pub mod ManyMessages
 pub mod LaterBlocks
 pub mod MessagePieces
+pub mod WholeMessages

@@ -9,3 +9,4 @@ pub mod Run
 pub mod DigestLaws
 pub mod Lanes
 pub mod MessagePieces
+pub mod Whole

@@ -150,6 +150,13 @@ impl State {
             && self.start_length <= 512
     }
 
+    /// Returns whether the state has a key, whose blocks a start counts.
+    pub fn has_key(&self) -> bool
+        ensures { IsTrue result ↔ (1 ≤ meaning.start_count self.now) }
+    {
+        self.start_length != 0
+    }
+
     // The zeroed state with digests of `output_size` bytes.
     pub(crate) fn zeros_for(output_size: usize) -> Self
         ensures { result ≡ zeros_for output_size }

@@ -1,3 +1,4 @@
+// Made by tools/twins.py from src/compress/blake2b.rt.
 //! BLAKE2s: words of 32 bits, blocks of 64 bytes, ten rounds.
 
 ghost use Rattle.std.specs.Prelude.{◌≡◌, ◌%◌, [], take, drop, slice_index_or};

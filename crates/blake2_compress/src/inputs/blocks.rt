@@ -29,7 +29,7 @@ pub fn counted<const B: usize>(input: &Input<'_>) -> u64
 }
 
 // The length of the key, 0 without one.
-fn key_size(key: &Option<&[u8]>) -> usize
+pub(crate) fn key_size(key: &Option<&[u8]>) -> usize
     ensures { result ≡ Hash.key_size (key_of key.now) }
 {
     match *key {

@@ -1,4 +1,5 @@
 //! Eight messages of BLAKE2s: eight rows hold their chaining words, row k having word k of each.
+// tools/twins.py makes what blake2b/eight.rt has too, except what tools/twins.txt names.
 
 ghost use Rattle.std.specs.Prelude.{◌≡◌, ◌↔◌, ◌<◌, ◌≤◌, ◌+◌, ◌-◌, ◌*◌, ◌^◌, ◌%◌, ℕ, List, [], ◌++◌};
 ghost use Rattle.std.specs.Prelude.{◌⊎◌, IsTrue, length, bit_xor, map, take, drop, slice_index};

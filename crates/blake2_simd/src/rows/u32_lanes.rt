@@ -1,4 +1,5 @@
 //! Rows of BLAKE2s: four words of 32 bits.
+// tools/twins.py makes what u64_lanes.rt has too, except what tools/twins.txt names.
 
 ghost use Rattle.std.specs.Prelude.{◌≡◌, ◌↔◌, ℕ, IsTrue, ◌+◌, ◌%◌, ◌^◌, ◌<◌, List, [], ◌∷◌, length};
 ghost use Rattle.std.specs.Prelude.{slice_index};

@@ -1,5 +1,6 @@
 //! Eight states of BLAKE2s in parallel, one in each lane: sixteen rows hold them, row k having
 //! word k of each.
+// tools/twins.py makes what u64_wide_states.rt has too, except what tools/twins.txt names.
 
 ghost use Rattle.std.specs.Prelude.{◌≡◌, ℕ, ◌<◌, slice_index};
 ghost use Rattle.blake2_simd.specs.Family.{blake2s};

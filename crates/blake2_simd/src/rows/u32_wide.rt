@@ -1,4 +1,5 @@
 //! Rows of BLAKE2s in several states: eight words of 32 bits.
+// tools/twins.py makes what u64_wide.rt has too, except what tools/twins.txt names.
 
 ghost use Rattle.std.specs.Prelude.{◌≡◌, ℕ, ◌+◌, ◌%◌, ◌^◌, ◌<◌, List, [], ◌∷◌};
 ghost use Rattle.std.specs.Prelude.{bit_xor, slice_index};

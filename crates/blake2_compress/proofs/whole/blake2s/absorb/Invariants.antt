@@ -1,0 +1,10 @@
+-- Made by tools/twins.py from proofs/whole/blake2b/absorb/Invariants.antt.
+use Rattle.std.proofs.Common.{◌≡◌}
+use Rattle.blake2_simd.specs.Family.{blake2s}
+use Rattle.blake2_simd.specs.Rows.{eight}
+use Rattle.blake2_compress.specs.Hash.{blocks, chain}
+use Rattle.blake2_compress.proofs.whole.blake2s.absorb.Given as goal
+
+abbrev pub invariant-loop-i : goal.invariant-loop-i
+invariant-loop-i l =
+    eight l.h ≡ chain blake2s (eight l.fn.h) l.fn.counted (blocks blake2s l.fn.message) l.i
