@@ -2,17 +2,19 @@
 //! BLAKE2s with sizes that are chosen at run time.
 
 ghost use Rattle.std.specs.Prelude.{◌≡◌, ◌↔◌, ◌+◌, ◌-◌, ◌^◌, ◌<◌, ◌≤◌, [], length};
-ghost use Rattle.std.specs.Prelude.{slice_index, pos, negsuc, None, IsTrue};
+ghost use Rattle.std.specs.Prelude.{slice_index, pos, negsuc, IsTrue};
 ghost use Rattle.blake2.specs.Cores.{node_parameters};
 ghost use Rattle.blake2.specs.Family.{blake2s};
 ghost use Rattle.blake2.specs.States.{digest_of, node_digest_of};
-ghost use Rattle.blake2_compress.specs.Hash.{AdmitsTree, parameters_of, sequential};
-ghost use Rattle.blake2_compress.specs.Views.{tree_of};
+ghost use Rattle.blake2_compress.specs.Hash.{AdmitsTree, data_bytes, parameters_of, sequential};
+ghost use Rattle.blake2_compress.specs.Inputs.{KeyFits};
+ghost use Rattle.blake2_compress.specs.Views.{key_of, tree_of};
 ghost use Rattle.blake2_digest.specs.States.{Fresh, NodeSet, Updated, StartedAgain, digest_now};
 ghost use Rattle.blake2_state.specs.ConstructorArguments.{given_key, given_count, digest_given};
 ghost use Rattle.blake2_state.specs.ConstructorArguments.{AdmitsState};
 ghost use Rattle.blake2_state.specs.ConstructorArguments.{parameters_given};
-ghost use Rattle.blake2_state.specs.Blake2s.{IsReady, IsReadyFor, meaning, zeros};
+ghost use Rattle.blake2_state.specs.Blake2s.{IsKeyed, IsReady, IsReadyFor, key_length, meaning};
+ghost use Rattle.blake2_state.specs.Blake2s.{zeros};
 ghost use Rattle.blake2_state.specs.RawParameterBlocks.{block_digest, AdmitsBlock};
 ghost use Rattle.blake2_state.specs.States.{is_on};
 ghost use Rattle.blake2_ffi.specs.Status.{Returns};
@@ -21,16 +23,17 @@ ghost use Rattle.blake2_ffi.specs.TreeArguments.{given_tree};
 mod many;
 
 use crate::NodeParameters;
-use blake2::{Blake2s256, Digest, Tree};
-use blake2_digest::scrub_stack;
+use blake2::Tree;
+use blake2_compress::whole::blake2s::hash;
+use blake2_digest::{scrub_stack, tell_bytes};
 use blake2_state::StateParameters;
 use blake2_state::blake2s::State;
 
 // Bytes of the stack that `initialize` and `write_keyed` reach with all that they call, rounded
-// up, as built by LLVM for x86-64-v2, v3 and v4, and for 32-bit ARM.
+// up, as built by LLVM for x86-64-v2, v3 and v4, and for 64-bit ARM.
 const INIT_BYTES: usize = 768;
 
-const WRITE_BYTES: usize = 1536;
+const WRITE_BYTES: usize = 768;
 
 // The same of `absorb`, and of `finalize` and `is_digest_of`.
 const UPDATE_BYTES: usize = 512;
@@ -43,17 +46,35 @@ fn has_key_pending(state: &State) -> bool {
     state.counter < state.start_length as u64
 }
 
-// The digest of 32 bytes under no key, which needs no state.
-fn write_longest(out: &mut [u8], input: &[u8])
-    requires { length out.old ≡ 32 }
-    ensures { out.new ≡ digest_of blake2s 32 [] [] None input.now }
+// Whether a digest and a key of these lengths are accepted. No key has length 0.
+fn admits(output_size: usize, key_size: usize) -> bool
+    ensures { IsTrue result
+        ↔ AdmitsState blake2s (parameters_of output_size key_size [] []) }
 {
-    out.copy_from_slice(&Blake2s256::digest(input));
+    output_size >= 1 && output_size <= 32 && key_size <= 32
+}
+
+// The digest under a key, or none, in one call, which needs no state. A digest of 32 bytes is
+// copied with a length that the compiler knows.
+fn write_digest(out: &mut [u8], input: &[u8], key: Option<&[u8]>)
+    requires size { length out.old ≤ 32 }
+    requires key { KeyFits blake2s (key_of key) }
+    requires counted { length (data_bytes blake2s (key_of key) input.now) < 2 ^ 64 }
+    ensures { out.new ≡ digest_of blake2s (length out.old) [] [] (key_of key.entry) input.now }
+{
+    let size = out.len();
+    let digest = hash(size, key, input);
+    if size == 32 {
+        out.copy_from_slice(&digest);
+        return;
+    }
+    out.copy_from_slice(&digest[..size]);
 }
 
 // What `vulfsjor_ffi_blake2s` does under a key, in a separate frame, which the caller scrubs.
 #[inline(never)]
 fn write_keyed(out: &mut [u8], input: &[u8], key: &[u8]) -> i32
+    requires { 1 ≤ length key.now }
     ensures status { Returns result
         (AdmitsState blake2s (parameters_of (length out.old) (length key.now) [] [])
         × (given_count blake2s key.now + length input.now < 2 ^ 64)) }
@@ -61,17 +82,15 @@ fn write_keyed(out: &mut [u8], input: &[u8], key: &[u8]) -> i32
         → out.new ≡ digest_of blake2s (length out.old) [] [] (given_key key.now) input.now }
     ensures nothing { result ≡ negsuc 0 → out.new ≡ out.old }
 {
-    match State::init_salt_personal(&StateParameters::keyed(out.len(), key)) {
-        Ok(mut run) => {
-            if input.len() as u64 > u64::MAX - run.counted() {
-                return -1;
-            }
-            run.update(input);
-            run.write_digest(out);
-            0
-        }
-        Err(_) => -1,
+    if !admits(out.len(), key.len()) {
+        return -1;
     }
+    if input.len() as u64 > u64::MAX - 64 {
+        return -1;
+    }
+    tell_bytes(key);
+    write_digest(out, input, Some(key));
+    0
 }
 
 /// Writes the digest of the input in all bytes of `out`, 1 to 32, under a key of up to 32 bytes
@@ -86,23 +105,16 @@ pub extern "C" fn vulfsjor_ffi_blake2s(out: &mut [u8], input: &[u8], key: &[u8])
         → out.new ≡ digest_of blake2s (length out.old) [] [] (given_key key.now) input.now }
     ensures nothing { result ≡ negsuc 0 → out.new ≡ out.old }
 {
-    if out.len() == 32 && key.is_empty() {
-        write_longest(out, input);
-        return 0;
-    }
     if !key.is_empty() {
         let status = write_keyed(out, input, key);
         scrub_stack::<WRITE_BYTES>();
         return status;
     }
-    match State::init_salt_personal(&StateParameters::keyed(out.len(), &[])) {
-        Ok(mut run) => {
-            run.update(input);
-            run.write_digest(out);
-            0
-        }
-        Err(_) => -1,
+    if !admits(out.len(), 0) {
+        return -1;
     }
+    write_digest(out, input, None);
+    0
 }
 
 // What `vulfsjor_ffi_blake2s_init_tree` does for tree parameters that are accepted, in a separate
@@ -113,6 +125,7 @@ fn initialize(state: &mut State, given: &StateParameters<'_>, tree: &Tree) -> i3
     ensures status { Returns result
         (AdmitsState blake2s (parameters_given given.now (tree_of tree.now))) }
     ensures ready { result ≡ pos 0 → IsReadyFor given.now.output_size state.new }
+    ensures key { result ≡ pos 0 → key_length state.new ≡ length given.now.key.now }
     ensures fresh { result ≡ pos 0
         → Fresh meaning (digest_given blake2s given.now (tree_of tree.now))
         (given_count blake2s given.now.key.now) state.new }
@@ -140,6 +153,7 @@ pub extern "C" fn vulfsjor_ffi_blake2s_init_salt_personal(
     ensures status { Returns result
         (AdmitsState blake2s (parameters_of output_size (length key.now) salt.now persona.now)) }
     ensures ready { result ≡ pos 0 → IsReadyFor output_size state.new }
+    ensures key { result ≡ pos 0 → key_length state.new ≡ length key.now }
     ensures fresh { result ≡ pos 0 → Fresh meaning
         (node_digest_of blake2s output_size salt.now persona.now (given_key key.now) sequential)
         (given_count blake2s key.now) state.new }
@@ -171,6 +185,7 @@ pub extern "C" fn vulfsjor_ffi_blake2s_init_key(
         ((1 ≤ length key.now)
         × AdmitsState blake2s (parameters_of output_size (length key.now) [] [])) }
     ensures ready { result ≡ pos 0 → IsReadyFor output_size state.new }
+    ensures key { result ≡ pos 0 → key_length state.new ≡ length key.now }
     ensures fresh { result ≡ pos 0 → Fresh meaning
         (node_digest_of blake2s output_size [] [] (given_key key.now) sequential)
         (given_count blake2s key.now) state.new }
@@ -201,6 +216,7 @@ pub extern "C" fn vulfsjor_ffi_blake2s_init_tree(
         (node_parameters output_size (length key.now) salt.now persona.now
         (given_tree tree.now))) }
     ensures ready { result ≡ pos 0 → IsReadyFor output_size state.new }
+    ensures key { result ≡ pos 0 → key_length state.new ≡ length key.now }
     ensures fresh { result ≡ pos 0 → Fresh meaning
         (node_digest_of blake2s output_size salt.now persona.now (given_key key.now)
         (given_tree tree.now))
@@ -234,6 +250,7 @@ pub extern "C" fn vulfsjor_ffi_blake2s_init_tree(
 pub extern "C" fn vulfsjor_ffi_blake2s_init_param(state: &mut State, block: &[u8]) -> i32
     ensures status { Returns result (AdmitsBlock blake2s block.now) }
     ensures ready { result ≡ pos 0 → IsReadyFor (slice_index block.now 0) state.new }
+    ensures key { result ≡ pos 0 → key_length state.new ≡ slice_index block.now 1 }
     ensures fresh { result ≡ pos 0
         → Fresh meaning (block_digest blake2s block.now) 0 state.new }
     ensures zeros { result ≡ negsuc 0 → state.new ≡ zeros }
@@ -252,6 +269,7 @@ fn absorb(state: &mut State, input: &[u8])
     requires ready { IsReady state.old }
     requires counted { meaning.count state.old + length input.now < 2 ^ 64 }
     ensures ready { IsReadyFor state.old.output_size state.new }
+    ensures key { key_length state.new ≡ key_length state.old }
     ensures taken { Updated meaning state.old input.now state.new }
 {
     state.update(input);
@@ -264,6 +282,7 @@ fn absorb_scrubbed(state: &mut State, input: &[u8])
     requires ready { IsReady state.old }
     requires counted { meaning.count state.old + length input.now < 2 ^ 64 }
     ensures ready { IsReadyFor state.old.output_size state.new }
+    ensures key { key_length state.new ≡ key_length state.old }
     ensures taken { Updated meaning state.old input.now state.new }
 {
     absorb(state, input);
@@ -277,6 +296,7 @@ pub extern "C" fn vulfsjor_ffi_blake2s_update(state: &mut State, input: &[u8]) -
     ensures status { Returns result
         (IsReady state.old × (meaning.count state.old + length input.now < 2 ^ 64)) }
     ensures ready { result ≡ pos 0 → IsReadyFor state.old.output_size state.new }
+    ensures key { result ≡ pos 0 → key_length state.new ≡ key_length state.old }
     ensures taken { result ≡ pos 0 → Updated meaning state.old input.now state.new }
     ensures same { result ≡ negsuc 0 → state.new ≡ state.old }
 {
@@ -319,7 +339,7 @@ pub extern "C" fn vulfsjor_ffi_blake2s_final(state: &mut State, out: &mut [u8]) 
     ensures same { result ≡ negsuc 0 → state.new ≡ state.old }
     ensures nothing { result ≡ negsuc 0 → out.new ≡ out.old }
 {
-    if !state.is_ready() || out.len() != state.output_size {
+    if !state.is_ready() || out.len() != state.output_size as usize {
         return -1;
     }
     let has_key = has_key_pending(state);
@@ -340,23 +360,23 @@ fn is_digest_of(state: &State, tag: &[u8]) -> bool
     state.is_digest(tag)
 }
 
-/// Returns 0 if the tag is the whole digest, and -1 if it is not or the state is not ready. It
-/// looks at all bytes of a tag of the digest's length. A state that was ready is then wiped, and
-/// any other stays as it is.
+/// Returns 0 if the tag is the whole digest, and -1 if it is not, the state has no key or it is not
+/// ready. It looks at all bytes of a tag of the digest's length. A ready state with a key is then
+/// wiped, and any other stays as it is: anybody can make the digest of a state without a key.
 #[unsafe(no_mangle)]
 pub extern "C" fn vulfsjor_ffi_blake2s_verify(state: &mut State, tag: &[u8]) -> i32
-    ensures status { Returns result
-        (IsReady state.old × (tag.now ≡ digest_now meaning state.old)) }
-    ensures wiped { IsReady state.old → state.new ≡ zeros }
-    ensures same { (¬ IsReady state.old) → state.new ≡ state.old }
+    ensures status { Returns result (IsReady state.old × IsKeyed state.old
+        × (tag.now ≡ digest_now meaning state.old)) }
+    ensures wiped { IsReady state.old → IsKeyed state.old → state.new ≡ zeros }
+    ensures same { ¬ (IsReady state.old × IsKeyed state.old) → state.new ≡ state.old }
 {
-    let is_ready = state.is_ready();
-    let has_key = has_key_pending(state);
-    let is_digest = is_ready && is_digest_of(state, tag);
-    if is_ready {
-        state.wipe();
+    if !state.is_ready() || !state.has_key() {
+        return -1;
     }
-    if has_key {
+    let is_pending = has_key_pending(state);
+    let is_digest = is_digest_of(state, tag);
+    state.wipe();
+    if is_pending {
         scrub_stack::<FINAL_BYTES>();
     }
     if is_digest { 0 } else { -1 }
@@ -369,6 +389,7 @@ pub extern "C" fn vulfsjor_ffi_blake2s_verify(state: &mut State, tag: &[u8]) -> 
 pub extern "C" fn vulfsjor_ffi_blake2s_set_last_node(state: &mut State, on: u32) -> i32
     ensures status { Returns result (IsReady state.old) }
     ensures ready { result ≡ pos 0 → IsReadyFor state.old.output_size state.new }
+    ensures key { result ≡ pos 0 → key_length state.new ≡ key_length state.old }
     ensures set { result ≡ pos 0 → NodeSet meaning state.old (is_on on) state.new }
     ensures same { result ≡ negsuc 0 → state.new ≡ state.old }
 {
@@ -386,6 +407,7 @@ pub extern "C" fn vulfsjor_ffi_blake2s_set_last_node(state: &mut State, on: u32)
 pub extern "C" fn vulfsjor_ffi_blake2s_reset(state: &mut State) -> i32
     ensures status { Returns result (IsReady state.old) }
     ensures ready { result ≡ pos 0 → IsReadyFor state.old.output_size state.new }
+    ensures key { result ≡ pos 0 → key_length state.new ≡ key_length state.old }
     ensures reset { result ≡ pos 0 → StartedAgain meaning state.old state.new }
     ensures same { result ≡ negsuc 0 → state.new ≡ state.old }
 {
@@ -411,7 +433,7 @@ pub extern "C" fn vulfsjor_ffi_blake2s_digest_size(state: &State) -> usize
     ensures unready { (¬ IsReady state.now) → result ≡ 0 }
 {
     if state.is_ready() {
-        state.output_size
+        state.output_size as usize
     } else {
         0
     }
@@ -429,13 +451,13 @@ pub extern "C" fn vulfsjor_ffi_blake2s_count(state: &State) -> u64
     if !state.is_ready() {
         return 0;
     }
-    state.counted().saturating_sub(state.start_length as u64)
+    state.counted().saturating_sub(state.start_counted())
 }
 
 /// Returns the number of bytes of a state.
 #[unsafe(no_mangle)]
 pub extern "C" fn vulfsjor_ffi_blake2s_state_size() -> usize
-    ensures { result ≡ 232 }
+    ensures { result ≡ 176 }
 {
     size_of::<State>()
 }

@@ -15,7 +15,7 @@ use blake2_digest::scrub_stack;
 use blake2_parallel::blake2sp::State;
 
 // Bytes of the stack that `initialize` and `write` reach with all that they call, rounded up, as
-// built by LLVM for x86-64-v2, v3 and v4, and for 32-bit ARM.
+// built by LLVM for x86-64-v2, v3 and v4, and for 64-bit ARM.
 const INIT_BYTES: usize = 5120;
 
 const WRITE_BYTES: usize = 8704;
@@ -241,23 +241,24 @@ fn is_digest_of(state: &State, tag: &[u8]) -> bool
     state.is_digest(tag)
 }
 
-/// Returns 0 if the tag is the whole digest, and -1 if it is not or the state is not ready. It
-/// looks at all bytes of a tag of the digest's length. A state that was ready is then wiped, and
-/// any other stays as it is.
+/// Returns 0 if the tag is the whole digest, and -1 if it is not, the state has no key or it is not
+/// ready. It looks at all bytes of a tag of the digest's length. A ready state with a key is then
+/// wiped, and any other stays as it is: anybody can make the digest of a state without a key.
 #[unsafe(no_mangle)]
 pub extern "C" fn vulfsjor_ffi_blake2sp_verify(state: &mut State, tag: &[u8]) -> i32
-    ensures status { Returns result
-        (IsReady state.old × (tag.now ≡ digest_now meaning state.old)) }
-    ensures wiped { IsReady state.old → state.new ≡ zeros }
-    ensures same { (¬ IsReady state.old) → state.new ≡ state.old }
+    ensures status { Returns result (IsReady state.old × (1 ≤ meaning.start_count state.old)
+        × (tag.now ≡ digest_now meaning state.old)) }
+    ensures wiped { IsReady state.old → 1 ≤ meaning.start_count state.old → state.new ≡ zeros }
+    ensures same { ¬ (IsReady state.old × (1 ≤ meaning.start_count state.old))
+        → state.new ≡ state.old }
 {
-    let is_ready = state.is_ready();
-    let has_key = has_key_pending(state);
-    let is_digest = is_ready && is_digest_of(state, tag);
-    if is_ready {
-        state.wipe();
+    if !state.is_ready() || !state.has_key() {
+        return -1;
     }
-    if has_key {
+    let is_pending = has_key_pending(state);
+    let is_digest = is_digest_of(state, tag);
+    state.wipe();
+    if is_pending {
         scrub_stack::<FINAL_BYTES>();
     }
     if is_digest { 0 } else { -1 }

@@ -303,7 +303,7 @@ fn message_length(root: &root::State) -> u64
     requires { Root.IsReady root.now }
     ensures { result ≡ Root.meaning.count root.now - Root.meaning.start_count root.now }
 {
-    root.counted().saturating_sub(root.start_length as u64)
+    root.counted().saturating_sub(root.start_counted())
 }
 
 /// Returns the number of bytes of the message that the state has absorbed since its last start,
@@ -324,7 +324,7 @@ pub extern "C" fn vulfsjor_ffi_blake2xb_count(state: &State) -> u64
 /// Returns the number of bytes of a state.
 #[unsafe(no_mangle)]
 pub extern "C" fn vulfsjor_ffi_blake2xb_state_size() -> usize
-    ensures { result ≡ 544 }
+    ensures { result ≡ 464 }
 {
     size_of::<State>()
 }

@@ -19,7 +19,7 @@ use blake2_xof::blake2xs::State;
 use blake2_xof::reader::blake2xs::UNKNOWN_LENGTH;
 
 // Bytes of the stack that `initialize` and `write` reach with all that they call, rounded up, as
-// built by LLVM for x86-64-v2, v3 and v4, and for 32-bit ARM.
+// built by LLVM for x86-64-v2, v3 and v4, and for 64-bit ARM.
 const INIT_BYTES: usize = 2304;
 
 const WRITE_BYTES: usize = 7168;
@@ -304,7 +304,7 @@ fn message_length(root: &root::State) -> u64
     requires { Root.IsReady root.now }
     ensures { result ≡ Root.meaning.count root.now - Root.meaning.start_count root.now }
 {
-    root.counted().saturating_sub(root.start_length as u64)
+    root.counted().saturating_sub(root.start_counted())
 }
 
 /// Returns the number of bytes of the message that the state has absorbed since its last start,
@@ -325,7 +325,7 @@ pub extern "C" fn vulfsjor_ffi_blake2xs_count(state: &State) -> u64
 /// Returns the number of bytes of a state.
 #[unsafe(no_mangle)]
 pub extern "C" fn vulfsjor_ffi_blake2xs_state_size() -> usize
-    ensures { result ≡ 304 }
+    ensures { result ≡ 248 }
 {
     size_of::<State>()
 }

@@ -224,7 +224,7 @@ pub extern "C" fn vulfsjor_ffi_tree_final(state: &mut TreeState, out: &mut [u8])
     ensures same { result ≡ negsuc 0 → state.new ≡ state.old }
     ensures nothing { result ≡ negsuc 0 → out.new ≡ out.old }
 {
-    if !state.is_ready() || out.len() != state.root.output_size {
+    if !state.is_ready() || out.len() != state.root.output_size as usize {
         return -1;
     }
     state.write_root(out);
@@ -247,7 +247,7 @@ pub extern "C" fn vulfsjor_ffi_tree_digest_size(state: &TreeState) -> usize
     ensures unready { (¬ IsReady state.now) → result ≡ 0 }
 {
     if state.is_ready() {
-        state.root.output_size
+        state.root.output_size as usize
     } else {
         0
     }
@@ -282,7 +282,7 @@ pub extern "C" fn vulfsjor_ffi_tree_leaf_length(state: &TreeState) -> u32
 /// Returns the number of bytes of a state.
 #[unsafe(no_mangle)]
 pub extern "C" fn vulfsjor_ffi_tree_state_size() -> usize
-    ensures { result ≡ 912 }
+    ensures { result ≡ 752 }
 {
     size_of::<TreeState>()
 }
