@@ -3,7 +3,7 @@
 
 #![tactic(auto)]
 
-use b2_commands::{Fault, run};
+use b2_commands::{Fault, run_with_notes};
 use blake2::streams::{IoSink, IoSource};
 use std::process::ExitCode;
 use std::rt::Env;
@@ -16,7 +16,7 @@ fn main(rt: HostRuntime) -> ExitCode {
     let status = match arguments(&rt) {
         Ok(words) => {
             let words = words.as_slice();
-            run(rt.alloc(), words, &mut source, &mut sink, &mut notes)
+            run_with_notes(rt.alloc(), words, &mut source, &mut sink, &mut notes)
         }
         Err(_) => Fault::NoMemory.report(&mut sink),
     };

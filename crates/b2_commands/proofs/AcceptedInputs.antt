@@ -39,7 +39,7 @@ counted f (Some key) message fits = padded_counts (block_bytes f) key message
     (key_in_block f (length key) fits.1)
 
 -- The tree parameters of a sequential hash are admitted.
-sequential_admitted : (f : Family) → AdmitsTree f sequential
+pub sequential_admitted : (f : Family) → AdmitsTree f sequential
 sequential_admitted blake2b = grind arith
 sequential_admitted blake2s = grind arith
 

@@ -12,7 +12,9 @@ mod PrintedRoot
 mod RangeBytes
 mod ReadBackLeaves
 mod RootLines
+mod RunLaws
 mod ScriptLemmas
 mod Statuses
+mod SumLaws
 mod TasksWithoutInput
 mod WordLemmas

@@ -1,16 +1,20 @@
 -- When an output is refused, what its key counts for, and what is printed of a whole output.
 use Rattle.std.proofs.Common.{◌≡◌, ℕ, ◌<◌, ◌≤◌, List, [], ◌∷◌, Option, Some, None, Result, Ok, Err}
-use Rattle.std.proofs.Common.{◌+◌, ◌^◌, refl, sym, ap, ◌∙◌, subst, arith, length, take, drop}
+use Rattle.std.proofs.Common.{◌+◌, ◌^◌, ◌++◌, false, refl, sym, ap, ◌∙◌, subst, arith, length, take}
+use Rattle.std.proofs.Common.{drop}
+use Rattle.std.proofs.lemmas.Bool.Decides.{nat_tests}
 use Rattle.std.specs.Prelude.{◌↔◌, IfSome, IsOkUnless, OnOk, unwrap_or}
 use Rattle.std.specs.Io.KnownBytes.{Appends}
-use Rattle.blake2.specs.Family.{Family}
+use Rattle.blake2.specs.Family.{Family, blake2b, blake2s}
 use Rattle.blake2.specs.MacArguments.{key_count, IsRefused}
 use Rattle.blake2.specs.Streams.{line_of}
 use Rattle.blake2_digest.specs.States.{Fresh, Meaning, Updated, digest_now}
 use Rattle.blake2_state.specs.ConstructorArguments.{given_count}
 use Rattle.blake2_xof.specs.Xof.{AdmitsXof, IsKnown, Settings, outputs, settings, unknown_length}
 use Rattle.blake2_xof.specs.Xof.{xof}
-use Rattle.blake2_xof.proofs.KnownOutputs.{whole_output}
+use Rattle.blake2_xof.specs.Xof.{output_length, root_hash, stream}
+use Rattle.blake2_xof.proofs.KnownOutputs.{known_length, whole_output}
+use Rattle.blake2_xof.proofs.OutputBlocks.{length-stream}
 use Rattle.b2_commands.specs.declared.fault.Fault.{Fault}
 use Rattle.b2_commands.specs.declared.fault.Fault.TheVariants.{WriteFailed}
 use Rattle.b2_commands.specs.TaskEnds.{EndsBy}
@@ -89,6 +93,22 @@ start_fresh f m n key salt persona k s p made are fresh =
     ap (given_count f) are.key_is ∙ counts_for f key are.not_empty in
     subst (λ a. Fresh m (outputs f a) (key_count f key) made) (same n key salt persona k s p are)
     (subst (λ c. Fresh m (outputs f (settings n k s p)) c made) count fresh)
+
+some_output : (f : Family) (n : ℕ) → 1 ≤ n → 1 ≤ output_length f n
+some_output blake2b n some = grind (arith, nat_tests)
+some_output blake2s n some = grind (arith, nat_tests)
+
+-- After an update an output has the length that it was made with.
+pub kept_length : {S : Type 0} (f : Family) (m : Meaning S) (a b : Settings) (n : ℕ) (made now : S)
+    (x root : List ℕ) → IsKnown f a.xof_length → 1 ≤ a.xof_length → Fresh m (outputs f a) n made
+    → Updated m made x now → 1 ≤ b.xof_length → m.future now false [] ≡ stream f b root
+    → output_length f b.xof_length ≡ a.xof_length
+kept_length f m a b n made now x root known some fresh updated other is =
+    let size = known_length f a.xof_length known in
+    let same : stream f b root ≡ xof f a (x ++ []) =
+    sym is ∙ updated.future false [] ∙ fresh.future false (x ++ []) in
+    sym (length-stream f b root (some_output f b.xof_length other)) ∙ ap length same
+    ∙ length-stream f a (root_hash f a (x ++ [])) (omega (arith, size)) ∙ size
 
 -- The line of a whole output that was read from its first byte on.
 pub printed_output : {S : Type 0} (f : Family) (m : Meaning S) (a : Settings) (n : ℕ)

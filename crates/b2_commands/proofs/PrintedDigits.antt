@@ -5,19 +5,21 @@ use Rattle.std.proofs.Common.{Option, Some, None, IfSome, refl, sym, ap, ◌∙�
 use Rattle.std.proofs.Math.Seq.{take-add}
 use Rattle.std.proofs.lemmas.List.{drop-drop}
 use Rattle.std.proofs.KnownBytes.{Appends-nil, Appends-trans, Consumes-all}
-use Rattle.std.specs.Io.KnownBytes.{Appends, Consumes, IsAtEnd}
+use Rattle.std.specs.Io.KnownBytes.{Appends}
 use Rattle.hex.specs.Hex.{encode_lower, encode_with, lower_digits}
 use Rattle.blake2_digest.specs.States.{Meaning, Updated}
+use Rattle.blake2_streams.specs.Streams.{GivesAll}
 
--- A source that is at its end gave all that it had left.
-pub absorbed_all : {S : Type 0} (m : Meaning S) (old new : S) (from to : Option (List ℕ))
-    (x : List ℕ) → Consumes from to x → IsAtEnd to → Updated m old x new → m.count new < 2 ^ 64
+-- A stream that was absorbed gave all that it had left.
+pub absorbed_all : {S : Type 0} (m : Meaning S) (old new : S) (from to : Option (List ℕ)) (n : ℕ)
+    → ((bytes : List ℕ) × (length bytes ≡ n) × GivesAll from to bytes × (m.count old + n < 2 ^ 64)
+    × Updated m old bytes new)
     → IfSome from (λ bytes. (m.count old + length bytes < 2 ^ 64) × Updated m old bytes new)
-absorbed_all m old new None to x took end updated short = tt
-absorbed_all m old new (Some all) to x took end updated short =
+absorbed_all m old new None to n all = tt
+absorbed_all m old new (Some left) to n all =
     subst (λ bytes. (m.count old + length bytes < 2 ^ 64) × Updated m old bytes new)
-    (Consumes-all (Some all) to x [] x took end refl)
-    (omega (arith, updated.count, short), updated)
+    (Consumes-all (Some left) to all.0 [] all.0 all.2.given all.2.at_end refl)
+    (omega (arith, all.1, all.3), all.4)
 
 -- The digits of two lists, one after the other.
 encode-append : (t xs ys : List ℕ) → encode_with t (xs ++ ys) ≡ encode_with t xs ++ encode_with t ys

@@ -1,7 +1,7 @@
 //! The arguments of a command, read from left to right.
 
-ghost use Rattle.std.specs.Prelude.{◌≡◌, ◌≢◌, ◌<◌, ◌↔◌, [], length, map, unwrap_or, IsTrue};
-ghost use Rattle.std.specs.Prelude.{IfOk, IfErr, OnOk, IsOkUnless};
+ghost use Rattle.std.specs.Prelude.{◌≡◌, ◌≢◌, ◌<◌, ◌≤◌, ◌↔◌, [], length, map, unwrap_or};
+ghost use Rattle.std.specs.Prelude.{IsTrue, IfOk, IfErr, OnOk, IsOkUnless};
 ghost use Rattle.std.specs.String.{string_bytes};
 ghost use Rattle.blake2.specs.Views.{key_of};
 ghost use Rattle.b2_commands.specs.ArgumentTasks.{hex_value, message_value, IsReadingFault};
@@ -21,6 +21,23 @@ pub(crate) enum Blake2bKind {
     B512,
 }
 
+impl Blake2bKind {
+    ghost use Rattle.b2_commands.specs.Kinds.{blake2b_bytes};
+
+    /// Returns the number of bytes of the digests.
+    pub(crate) fn size(self) -> usize
+        ensures bytes { result ≡ blake2b_bytes self }
+        ensures some { 1 ≤ result }
+        ensures most { result ≤ 64 }
+    {
+        match self {
+            Blake2bKind::B128 => 16,
+            Blake2bKind::B256 => 32,
+            Blake2bKind::B512 => 64,
+        }
+    }
+}
+
 /// The hash functions of BLAKE2s that have a name.
 #[derive(Clone, Copy)]
 pub(crate) enum Blake2sKind {
@@ -28,6 +45,22 @@ pub(crate) enum Blake2sKind {
     S128,
     /// `s256`, whose digests have 32 bytes.
     S256,
+}
+
+impl Blake2sKind {
+    ghost use Rattle.b2_commands.specs.Kinds.{blake2s_bytes};
+
+    /// Returns the number of bytes of the digests.
+    pub(crate) fn size(self) -> usize
+        ensures bytes { result ≡ blake2s_bytes self }
+        ensures some { 1 ≤ result }
+        ensures most { result ≤ 32 }
+    {
+        match self {
+            Blake2sKind::S128 => 16,
+            Blake2sKind::S256 => 32,
+        }
+    }
 }
 
 /// The hash function of a command, which its KIND names.
@@ -38,8 +71,21 @@ pub(crate) enum Kind {
 }
 
 impl Kind {
+    ghost use Rattle.blake2.specs.Family.{output_bytes};
     ghost use Rattle.b2_commands.specs.ArgumentTasks.{kind_of};
     ghost use Rattle.b2_commands.specs.Kinds.{kind_value};
+
+    /// Returns the number of bytes of the digests.
+    pub(crate) fn size(self) -> usize
+        ensures bytes { result ≡ (kind_value self).bytes }
+        ensures some { 1 ≤ result }
+        ensures most { result ≤ output_bytes (kind_value self).family }
+    {
+        match self {
+            Kind::Blake2b(kind) => kind.size(),
+            Kind::Blake2s(kind) => kind.size(),
+        }
+    }
 
     /// Returns the kind of this name. The error is `Fault::WrongWords`, if there is no such kind.
     pub(crate) fn from_word(word: &str) -> Result<Kind, Fault>

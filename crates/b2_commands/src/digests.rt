@@ -1,24 +1,32 @@
 //! `b2 sum`, `b2 script` and `b2 steps` with the hash function that the arguments name.
 
-ghost use Rattle.std.specs.Prelude.{◌≡◌, ◌≤◌, ◌↔◌, false, IfOk, IsErr, IsOkUnless};
-ghost use Rattle.blake2.specs.States.{Fresh};
-ghost use Rattle.blake2.specs.Family.{blake2b, blake2s};
-ghost use Rattle.blake2.specs.Hashers.{blake2b_mac_meaning, blake2s_mac_meaning};
+ghost use Rattle.std.specs.Prelude.{◌≡◌, ◌≢◌, ◌≤◌, ◌↔◌, ℕ, Bool, List, length, false, IfOk, IsErr};
+ghost use Rattle.std.specs.Prelude.{IsTrue, IsOkUnless};
+ghost use Rattle.std.specs.Result.{IsErrOf};
 ghost use Rattle.blake2.specs.MacArguments.{key_count};
+ghost use Rattle.blake2.specs.States.{Fresh};
+ghost use Rattle.blake2.specs.Streams.{line_of};
+ghost use Rattle.blake2_compress.specs.Hash.{sequential};
+ghost use Rattle.blake2_state.specs.ConstructorArguments.{AdmitsState, given_count, digest_given};
+ghost use Rattle.blake2_state.specs.ConstructorArguments.{parameters_given};
+ghost use Rattle.blake2_state.specs.Runs.{meaning, padded_digest};
 ghost use Rattle.b2_commands.specs.ReadOptions.{given_of};
 ghost use Rattle.b2_commands.specs.Tasks.{node_digest_with, IsRefusedBy};
-ghost use Rattle.b2_commands.specs.TaskEnds.{EndsTask};
+ghost use Rattle.b2_commands.specs.TaskEnds.{EndsBy, EndsTask};
 ghost use Rattle.b2_commands.specs.Kinds.{kind_value};
 ghost use Rattle.b2_commands.specs.ReadTasks.{output_task};
-ghost use Rattle.b2_commands.specs.ArgumentTasks.{blake2b_of, blake2s_of};
+ghost use Rattle.b2_commands.specs.ArgumentTasks.Task.{to_steps};
 
-use crate::arguments::{Blake2bKind, Blake2sKind, Kind, Options};
+use crate::arguments::{Kind, Options};
 use crate::fault::Fault;
+use crate::print::print_bytes;
 use crate::script::script;
 use crate::steps::{steps_blake2b, steps_blake2s};
 use crate::task::Output;
-use blake2::streams::{Sink, Source, hash_stream};
-use blake2::{Blake2b, Blake2bMac, Blake2s, Blake2sMac, Digest};
+use blake2::digest::{FixedOutput, InvalidLength};
+use blake2::streams::{Sink, Source, absorb_stream};
+use blake2_state::StateParameters;
+use blake2_state::runs::Run;
 use std::alloc::Global;
 
 /// Prints the output for all that the source returns, with the hash function of this kind under
@@ -41,115 +49,96 @@ pub(crate) fn hash<S: Source, K: Sink>(
         (S.left source.old) (S.failed source.new) (K.failed sink.new)
         (K.held sink.old) (K.held sink.new) }
 {
+    match output {
+        Output::Digest => sum(start(kind, options)?, kind.size(), source, sink),
+        Output::Digests => script(alloc, start(kind, options)?, kind.size(), source, sink),
+        Output::Transcript => steps(alloc, kind, options, source, sink),
+    }
+}
+
+// Returns a run of the hash function of this kind under the options, which has absorbed nothing
+// else. The error is `Fault::WrongLength`, exactly if the hash function does not accept a length of
+// the options.
+fn start(kind: Kind, options: &Options) -> Result<Run, Fault>
+    ensures length { IsErr result ↔ IsRefusedBy (kind_value kind).family (given_of options.now) }
+    ensures fault { IsOkUnless result Fault.WrongLength }
+    ensures fresh { IfOk result (λ run. Fresh meaning (padded_digest (node_digest_with
+        (kind_value kind).family (kind_value kind).bytes (given_of options.now)))
+        (key_count (kind_value kind).family (given_of options.now).key) run) }
+{
+    if options.has_empty_key() {
+        return Err(Fault::WrongLength);
+    }
+    let given = StateParameters {
+        output_size: kind.size(),
+        key: options.key_bytes(),
+        salt: options.salt(),
+        persona: options.persona(),
+    };
+    match start_with(kind, &given) {
+        Ok(run) => Ok(run),
+        Err(_) => Err(Fault::WrongLength),
+    }
+}
+
+// Returns a run of the hash function of this kind with these parameters, which has absorbed no
+// message. The error is `InvalidLength`, exactly if the hash function does not accept a length.
+fn start_with(kind: Kind, given: &StateParameters<'_>) -> Result<Run, InvalidLength>
+    ensures refused { IsErr result
+        ↔ ¬ AdmitsState (kind_value kind).family (parameters_given given.now sequential) }
+    ensures fresh { IfOk result (λ run. Fresh meaning
+        (padded_digest (digest_given (kind_value kind).family given.now sequential))
+        (given_count (kind_value kind).family given.now.key.now) run) }
+{
     match kind {
-        Kind::Blake2b(Blake2bKind::B128) => {
-            hash_blake2b::<S, K, 16>(alloc, output, options, source, sink)
-        }
-        Kind::Blake2b(Blake2bKind::B256) => {
-            hash_blake2b::<S, K, 32>(alloc, output, options, source, sink)
-        }
-        Kind::Blake2b(Blake2bKind::B512) => {
-            hash_blake2b::<S, K, 64>(alloc, output, options, source, sink)
-        }
-        Kind::Blake2s(Blake2sKind::S128) => {
-            hash_blake2s::<S, K, 16>(alloc, output, options, source, sink)
-        }
-        Kind::Blake2s(Blake2sKind::S256) => {
-            hash_blake2s::<S, K, 32>(alloc, output, options, source, sink)
-        }
+        Kind::Blake2b(_) => Run::blake2b(given),
+        Kind::Blake2s(_) => Run::blake2s(given),
     }
 }
 
-fn hash_blake2b<S: Source, K: Sink, const N: usize>(
+// Prints the digest of all that the source returns as a line: the first `size` bytes, at most 64,
+// of what the run returns. Neither device may have failed before. The errors are those of `hash`
+// for a digest, except `WrongLength`.
+fn sum<S: Source, K: Sink>(
+    mut run: Run,
+    size: usize,
+    source: &mut S,
+    sink: &mut K,
+) -> Result<(), Fault>
+    requires size { size ≤ 64 }
+    requires source { S.failed source.old ≡ false }
+    requires sink { K.failed sink.old ≡ false }
+    ensures length { result ≢ Err Fault.WrongLength }
+    ensures memory { result ≢ Err Fault.NoMemory }
+    ensures read { IsErrOf result Fault.ReadFailed ↔ IsTrue (S.failed source.new) }
+    ensures write { IsErrOf result Fault.WriteFailed ↔ IsTrue (K.failed sink.new) }
+    ensures ends { (digest : Bool → List ℕ → List ℕ) (n : ℕ)
+        → Fresh meaning (padded_digest digest) n run
+        → ((y : List ℕ) → length (digest false y) ≡ size)
+        → EndsBy (λ message. line_of (digest false message)) n result (S.left source.old)
+        (K.held sink.old) (K.held sink.new) }
+{
+    absorb_stream(source, &mut run)?;
+    let whole = run.finalize_fixed();
+    print_bytes(&whole[..size], sink)
+}
+
+// Prints the transcript of all that the source returns, as `steps_blake2b` does.
+fn steps<S: Source, K: Sink>(
     alloc: Global,
-    output: Output,
+    kind: Kind,
     options: &Options,
     source: &mut S,
     sink: &mut K,
 ) -> Result<(), Fault>
-    requires size { N ≤ 64 }
     requires source { S.failed source.old ≡ false }
     requires sink { K.failed sink.old ≡ false }
-    ensures { EndsTask (output_task output (blake2b_of N) (given_of options.now)) result
+    ensures { EndsTask (to_steps (kind_value kind) (given_of options.now)) result
         (S.left source.old) (S.failed source.new) (K.failed sink.new)
         (K.held sink.old) (K.held sink.new) }
 {
-    match output {
-        Output::Digest if options.are_empty() => {
-            hash_stream(source, sink, Blake2b::<N>::new())?;
-            Ok(())
-        }
-        Output::Digest => {
-            hash_stream(source, sink, mac_blake2b::<N>(options)?)?;
-            Ok(())
-        }
-        Output::Digests if options.are_empty() => script(alloc, Blake2b::<N>::new(), source, sink),
-        Output::Digests => script(alloc, mac_blake2b::<N>(options)?, source, sink),
-        Output::Transcript => steps_blake2b(alloc, options, N, source, sink),
+    match kind {
+        Kind::Blake2b(kind) => steps_blake2b(alloc, options, kind.size(), source, sink),
+        Kind::Blake2s(kind) => steps_blake2s(alloc, options, kind.size(), source, sink),
     }
-}
-
-// Returns a MAC with the options' key, salt and persona, which has absorbed nothing. The error is
-// `Fault::WrongLength`, if BLAKE2b does not accept the length of one of them.
-fn mac_blake2b<const N: usize>(options: &Options) -> Result<Blake2bMac<N>, Fault>
-    requires size { N ≤ 64 }
-    ensures length { IsErr result ↔ IsRefusedBy blake2b (given_of options.now) }
-    ensures fault { IsOkUnless result Fault.WrongLength }
-    ensures made { IfOk result (λ mac. Fresh (blake2b_mac_meaning N)
-        (node_digest_with blake2b N (given_of options.now))
-        (key_count blake2b (given_of options.now).key) mac) }
-{
-    let mac = Blake2bMac::new_with_salt_and_personal(
-        options.key(),
-        options.salt(),
-        options.persona(),
-    )?;
-    Ok(mac)
-}
-
-fn hash_blake2s<S: Source, K: Sink, const N: usize>(
-    alloc: Global,
-    output: Output,
-    options: &Options,
-    source: &mut S,
-    sink: &mut K,
-) -> Result<(), Fault>
-    requires size { N ≤ 32 }
-    requires source { S.failed source.old ≡ false }
-    requires sink { K.failed sink.old ≡ false }
-    ensures { EndsTask (output_task output (blake2s_of N) (given_of options.now)) result
-        (S.left source.old) (S.failed source.new) (K.failed sink.new)
-        (K.held sink.old) (K.held sink.new) }
-{
-    match output {
-        Output::Digest if options.are_empty() => {
-            hash_stream(source, sink, Blake2s::<N>::new())?;
-            Ok(())
-        }
-        Output::Digest => {
-            hash_stream(source, sink, mac_blake2s::<N>(options)?)?;
-            Ok(())
-        }
-        Output::Digests if options.are_empty() => script(alloc, Blake2s::<N>::new(), source, sink),
-        Output::Digests => script(alloc, mac_blake2s::<N>(options)?, source, sink),
-        Output::Transcript => steps_blake2s(alloc, options, N, source, sink),
-    }
-}
-
-// Returns a MAC with the options' key, salt and persona, which has absorbed nothing. The error is
-// `Fault::WrongLength`, if BLAKE2s does not accept the length of one of them.
-fn mac_blake2s<const N: usize>(options: &Options) -> Result<Blake2sMac<N>, Fault>
-    requires size { N ≤ 32 }
-    ensures length { IsErr result ↔ IsRefusedBy blake2s (given_of options.now) }
-    ensures fault { IsOkUnless result Fault.WrongLength }
-    ensures made { IfOk result (λ mac. Fresh (blake2s_mac_meaning N)
-        (node_digest_with blake2s N (given_of options.now))
-        (key_count blake2s (given_of options.now).key) mac) }
-{
-    let mac = Blake2sMac::new_with_salt_and_personal(
-        options.key(),
-        options.salt(),
-        options.persona(),
-    )?;
-    Ok(mac)
 }

@@ -18,15 +18,36 @@ use crate::outputs::{derive, xof};
 use crate::task::Task;
 use crate::tree::tree;
 use crate::witness::witness;
-use blake2::streams::{Sink, Source};
+use blake2::streams::{Sink, SliceSink, Source};
 use std::alloc::Global;
 
 /// Runs the command that the arguments name, over the source and the sink. The arguments come
 /// without the program's name, and no device may have failed before. Returns the status: 0
 /// for success, 1 if a device or an allocation fails, and 2 for wrong arguments or wrong input.
-/// With a status other than 0 it prints only the line of the error, unless a write fails. If the
-/// arguments name no task, it writes the usage to `notes`; whether that fails changes nothing.
-pub fn run<S: Source, K: Sink, N: Sink>(
+/// With a status other than 0 it prints only the line of the error, unless a write fails.
+pub fn run<S: Source, K: Sink>(alloc: Global, words: &[String], source: &mut S, sink: &mut K) -> u8
+    requires source { S.failed source.old ≡ false }
+    requires sink { K.failed sink.old ≡ false }
+    ensures status { result ≤ 2 }
+    ensures read { IsTrue (S.failed source.new) → result ≡ 1 }
+    ensures write { IsTrue (K.failed sink.new) → result ≡ 1 }
+    // Status 0: the arguments name a task, and the sink accepted its whole output over the input.
+    ensures done { result ≡ 0 → IsOkAnd (task_of (map string_bytes words.now)) (λ task.
+        IsDone task (S.left source.old) (K.held sink.old) (K.held sink.new)) }
+    // Another status: the sink accepted the line of an error that has its cause, and nothing else,
+    // unless a write failed.
+    ensures told { result ≢ 0 → K.failed sink.new ≡ false → IsTold (map string_bytes words.now)
+        (S.left source.old) (S.left source.new) (S.failed source.new) result
+        (K.held sink.old) (K.held sink.new) }
+{
+    // There is no room for notes.
+    let mut notes = SliceSink::new(&mut [], 1, None);
+    run_with_notes(alloc, words, source, sink, &mut notes)
+}
+
+/// Runs the command as [`run`] does. If the arguments name no task, it also writes the usage to
+/// `notes`, which must not have failed before. Whether that fails changes nothing.
+pub fn run_with_notes<S: Source, K: Sink, N: Sink>(
     alloc: Global,
     words: &[String],
     source: &mut S,
@@ -42,8 +63,8 @@ pub fn run<S: Source, K: Sink, N: Sink>(
     // Status 0: the arguments name a task, and the sink accepted its whole output over the input.
     ensures done { result ≡ 0 → IsOkAnd (task_of (map string_bytes words.now)) (λ task.
         IsDone task (S.left source.old) (K.held sink.old) (K.held sink.new)) }
-    // Another status: the sink accepted the line of an error that has its cause, unless a write
-    // failed.
+    // Another status: the sink accepted the line of an error that has its cause, and nothing else,
+    // unless a write failed.
     ensures told { result ≢ 0 → K.failed sink.new ≡ false → IsTold (map string_bytes words.now)
         (S.left source.old) (S.left source.new) (S.failed source.new) result
         (K.held sink.old) (K.held sink.new) }

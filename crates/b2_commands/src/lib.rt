@@ -26,5 +26,5 @@ mod tree_arguments;
 mod witness;
 mod witness_arguments;
 
-pub use dispatch::run;
+pub use dispatch::{run, run_with_notes};
 pub use fault::Fault;

@@ -5,7 +5,7 @@ ghost use Rattle.std.specs.String.{string_bytes};
 ghost use Rattle.blake2.specs.Family.{output_bytes};
 ghost use Rattle.b2_commands.specs.Kinds.{family_value};
 
-use crate::arguments::{Blake2bKind, Blake2sKind, Kind, message_of};
+use crate::arguments::{Kind, message_of};
 use crate::fault::Fault;
 use std::alloc::Global;
 
@@ -46,11 +46,8 @@ impl Compared {
             "s0" => (Family::Blake2s, 0),
             "s8" => (Family::Blake2s, 1),
             _ => match Kind::from_word(word)? {
-                Kind::Blake2b(Blake2bKind::B128) => (Family::Blake2b, 16),
-                Kind::Blake2b(Blake2bKind::B256) => (Family::Blake2b, 32),
-                Kind::Blake2b(Blake2bKind::B512) => (Family::Blake2b, 64),
-                Kind::Blake2s(Blake2sKind::S128) => (Family::Blake2s, 16),
-                Kind::Blake2s(Blake2sKind::S256) => (Family::Blake2s, 32),
+                Kind::Blake2b(kind) => (Family::Blake2b, kind.size()),
+                Kind::Blake2s(kind) => (Family::Blake2s, kind.size()),
             },
         };
         Ok(Compared { family, bytes })

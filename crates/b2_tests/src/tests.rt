@@ -20,7 +20,7 @@ mod tree;
 mod witness;
 
 use b2_commands::run;
-use blake2::streams::{IoSink, SliceSink, SliceSource};
+use blake2::streams::{IoSink, SliceSource};
 use blake2::{Blake2b256, Digest};
 use std::alloc::{AllocError, Global};
 use std::process::Abort;
@@ -45,8 +45,7 @@ fn run_over(
     let words = words_of(alloc, text)?;
     let mut source = SliceSource::new(input, 4096, fail_at);
     let mut sink = IoSink::new(Vec::new(alloc));
-    let mut notes = SliceSink::new(&mut [], 1, None);
-    let status = run(alloc, words.as_slice(), &mut source, &mut sink, &mut notes);
+    let status = run(alloc, words.as_slice(), &mut source, &mut sink);
     Ok((status, sink.into_inner()))
 }
 

@@ -1,8 +1,8 @@
 //! Outputs of BLAKE2Xb.
 
-ghost use Rattle.std.specs.Prelude.{◌≡◌, ◌≢◌, ◌↔◌, ◌⊎◌, ◌+◌, ◌^◌, ◌<◌, ◌≤◌, length, take, drop};
-ghost use Rattle.std.specs.Prelude.{false, IsErr, IsTrue, IfErr, IfOk, IfSome, OnOk, IsOkUnless};
-ghost use Rattle.std.specs.Io.KnownBytes.{Appends, Keeps};
+ghost use Rattle.std.specs.Prelude.{◌≡◌, ◌≢◌, ◌↔◌, ◌+◌, ◌<◌, ◌≤◌, take, drop};
+ghost use Rattle.std.specs.Prelude.{false, IsErr, IsTrue, IfOk, OnOk, IsOkUnless};
+ghost use Rattle.std.specs.Io.KnownBytes.{Appends};
 ghost use Rattle.std.specs.Result.{IsErrOf};
 ghost use Rattle.blake2.specs.Family.{blake2b};
 ghost use Rattle.blake2.specs.MacArguments.{key_count};
@@ -20,11 +20,12 @@ ghost use Rattle.b2_commands.specs.Tasks.{IsRefusedBy, output_with};
 
 use crate::arguments::Options;
 use crate::fault::Fault;
-use crate::input::fill;
-use blake2::streams::{Sink, Source, write_whole};
+use blake2::digest::Update;
+use blake2::streams::{Sink, Source, absorb_stream, write_whole};
 use blake2_xof::blake2xb::State;
+use std::marker::Model;
 
-// The number of bytes that are read, and of the output that are printed, at a time.
+// The number of bytes of the output that are printed at a time.
 const PIECE_BYTES: usize = 4096;
 
 /// Prints the output of `size` bytes for all that the source returns, under the options, as a
@@ -49,9 +50,10 @@ pub(crate) fn print_output<S: Source, K: Sink>(
         (key_count blake2b (given_of options.now).key) result (S.left source.old)
         (K.held sink.old) (K.held sink.new) }
 {
-    let mut state = start(size, options)?;
-    absorb(source, &mut state)?;
-    print_line(&mut state, size, sink)
+    let state = start(size, options)?;
+    let mut absorbing = Absorbing { state };
+    absorb_stream(source, &mut absorbing)?;
+    print_line(&mut absorbing.into_state(), size, sink)
 }
 
 // Returns a state that has absorbed no message, with an output of `size` bytes under the options.
@@ -77,32 +79,43 @@ fn start(size: u64, options: &Options) -> Result<State, Fault>
     }
 }
 
-// Absorbs all that the source returns. It must not have failed before, and the state must absorb
-// bytes. The error is a `Fault`: `ReadFailed` if a read returns an error, `TooLong` if the count
-// would reach 2^64.
-fn absorb<S: Source>(source: &mut S, state: &mut State) -> Result<(), Fault>
-    requires source { S.failed source.old ≡ false }
-    requires absorbing { IsAbsorbing state.old }
-    ensures absorbing { IsAbsorbing state.new }
-    ensures xof_length { state.new.reader.xof_length ≡ state.old.reader.xof_length }
-    ensures read { IsErrOf result Fault.ReadFailed ↔ IsTrue (S.failed source.new) }
-    ensures fault { IfErr result (λ fault. (fault ≡ ReadFailed) ⊎ (fault ≡ TooLong)) }
-    ensures whole { OnOk result (IfSome (S.left source.old) (λ bytes.
-        (meaning.count state.old + length bytes < 2 ^ 64)
-        × Updated meaning state.old bytes state.new)) }
-    ensures too_long { IsErrOf result Fault.TooLong → IfSome (S.left source.old) (λ bytes.
-        2 ^ 64 ≤ meaning.count state.old + length bytes) }
-{
-    let mut buffer = [0u8; PIECE_BYTES];
-    'reading: loop {
-        let filled = fill(source, &mut buffer)?;
-        if filled as u64 > u64::MAX - state.counted() {
-            return Err(Fault::TooLong);
-        }
-        state.update(&buffer[..filled]);
-        if filled < PIECE_BYTES {
-            return Ok(());
-        }
+// A state that absorbs bytes, as what a stream is passed to.
+#[derive(Drop)]
+struct Absorbing {
+    state: State,
+}
+
+impl Model for Absorbing {
+    ghost use Rattle.blake2_xof.specs.declared.blake2xb.State.{State as Held};
+    ghost use Rattle.blake2_xof.specs.Blake2xb.{IsAbsorbing};
+
+    ghost Value = { Held };
+
+    ghost view = { λ absorbing. absorbing.state };
+
+    ghost invariant = { λ absorbing. IsAbsorbing absorbing.state };
+}
+
+impl Absorbing {
+    // Returns the state.
+    fn into_state(self) -> State
+        ensures same { result ≡ self }
+        ensures absorbing { IsAbsorbing result }
+    {
+        let Absorbing { state } = self;
+        state
+    }
+}
+
+impl Update for Absorbing {
+    ghost meaning = { meaning };
+
+    fn update(&mut self, input: &[u8]) {
+        self.state.update(input);
+    }
+
+    fn counted(&self) -> u64 {
+        self.state.counted()
     }
 }
 

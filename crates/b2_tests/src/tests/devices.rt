@@ -28,8 +28,7 @@ fn run_between(
     room.fill(0);
     let mut source = SliceSource::new(command.input, most.max(1), None);
     let mut sink = SliceSink::new(room, most.max(1), fail_at);
-    let mut notes = SliceSink::new(&mut [], 1, None);
-    let status = run(alloc, command.words, &mut source, &mut sink, &mut notes);
+    let status = run(alloc, command.words, &mut source, &mut sink);
     (status, sink.written())
 }
 

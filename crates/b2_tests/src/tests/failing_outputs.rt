@@ -2,7 +2,7 @@
 
 use super::words_of;
 use b2_commands::{Fault, run};
-use blake2::streams::{IoSink, SliceSink, SliceSource};
+use blake2::streams::{IoSink, SliceSource};
 use blake2_test_support::devices::FailsOnce;
 use std::alloc::Global;
 
@@ -15,8 +15,7 @@ fn stops_for_good(alloc: Global, text: &str, input: &[u8], before: usize) -> boo
     for by_error in [true, false] {
         let mut source = SliceSource::new(input, 4096, None);
         let mut sink = IoSink::new(FailsOnce::new(before, by_error));
-        let mut notes = SliceSink::new(&mut [], 1, None);
-        let status = run(alloc, words.as_slice(), &mut source, &mut sink, &mut notes);
+        let status = run(alloc, words.as_slice(), &mut source, &mut sink);
         let output = sink.into_inner();
         if status != 1 || !output.has_failed || output.later != 0 {
             return false;

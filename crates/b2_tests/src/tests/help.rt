@@ -1,6 +1,7 @@
 //! `--help`, `--version`, and what is said of arguments that name no task.
 
-use super::{check_rows, run, words_of};
+use super::{check_rows, words_of};
+use b2_commands::run_with_notes;
 use blake2::streams::{IoSink, SliceSink, SliceSource};
 use blake2_test_support::devices::FailsOnce;
 use std::alloc::{AllocError, Global};
@@ -12,7 +13,7 @@ fn said(alloc: Global, text: &str, of_notes: bool) -> Result<(u8, Vec<u8>), Allo
     let mut source = SliceSource::new(b"", 1, Some(0));
     let mut sink = IoSink::new(Vec::new(alloc));
     let mut notes = IoSink::new(Vec::new(alloc));
-    let status = run(alloc, words.as_slice(), &mut source, &mut sink, &mut notes);
+    let status = run_with_notes(alloc, words.as_slice(), &mut source, &mut sink, &mut notes);
     let (output, notes) = (sink.into_inner(), notes.into_inner());
     Ok((status, if of_notes { notes } else { output }))
 }
@@ -103,7 +104,7 @@ fn failing_notes_change_nothing(rt: HostRuntime) {
     let mut source = SliceSource::new(b"", 1, Some(0));
     let mut sink = SliceSink::new(&mut room, 32, None);
     let mut notes = IoSink::new(FailsOnce::new(3, true));
-    let status = run(alloc, &[], &mut source, &mut sink, &mut notes);
+    let status = run_with_notes(alloc, &[], &mut source, &mut sink, &mut notes);
     let written = sink.written();
     assert!(rt; status == 2 && room.get(..written) == Some(b"b2: wrong words\n".as_slice()));
     assert!(rt; notes.into_inner().later == 0);

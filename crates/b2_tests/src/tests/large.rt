@@ -18,10 +18,12 @@ s256|5b6a9e00d9e93e5e5702a6a6f6853905a79f10243d6883f9d49b5e32c43ff310|\
 f506f03008633ed93b4adae5c5ca1cbb9a51ec0ae2958ae4766f69c7cc268be9\n\
 ";
 
+// The line of `tree b256 1` over the first bytes of the input, of which a piece has 65,537.
+const BYTES_ROOT: &str = "a285c343f3812798625708f036c5546a9b1fb51bf0e60e6706ff2f29d81255af";
+
 // LEAF, and the line of `tree b256` over the input. A piece of the input has many such leaves, a
 // few, or not a whole one.
 pub(super) const ROOTS: &str = "\
-1|f407bf53d3409f308fe0e894fdb3a448e5542b8c651cf28e9d2e90d145595883\n\
 64|1b6af88dbba72489483c4756533e1050f6c780af2f42784787c398987a7c71f5\n\
 1000|4f9e0d1124250152879c91ffa01a972c39f0260fa25ae8f0bc335c1c4659d11e\n\
 4096|a8552846bf0459c5db94f3734e1c20cb4c20cc41d11c96f33157c366f744d3b9\n\
@@ -85,6 +87,13 @@ fn takes_a_large_input_as_a_tree(rt: HostRuntime) {
         let (leaf, root) = row.split_once('|').unwrap_or((row, ""));
         check_command(&rt, "tree b256", leaf, input.as_slice(), root);
     }
+}
+
+#[test]
+fn takes_more_leaves_than_a_piece_has(rt: HostRuntime) {
+    let input = large_input(rt.alloc()).expect(&rt, "memory for the test");
+    let bytes = input.as_slice().get(..65_600).unwrap_or(b"");
+    check_command(&rt, "tree b256", "1", bytes, BYTES_ROOT);
 }
 
 // Returns a script of ten thousand lines, of which the one at `place`, from 0, is `other`.

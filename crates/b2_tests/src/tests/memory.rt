@@ -33,8 +33,7 @@ fn run_with_memory(
     let plug: Vec<u8> = Vec::with_capacity(alloc, SPARE_BYTES - left)?;
     let mut source = SliceSource::new(input, 4096, None);
     let mut sink = SliceSink::new(room, 4096, None);
-    let mut notes = SliceSink::new(&mut [], 1, None);
-    let status = run(alloc, words, &mut source, &mut sink, &mut notes);
+    let status = run(alloc, words, &mut source, &mut sink);
     drop(plug);
     Ok((status, sink.written()))
 }
@@ -149,8 +148,7 @@ fn run_without_memory(
     let refused_before = is_refused(alloc);
     let mut source = SliceSource::new(input, 4096, None);
     let mut sink = SliceSink::new(room, 4096, None);
-    let mut notes = SliceSink::new(&mut [], 1, None);
-    let status = run(alloc, words.as_slice(), &mut source, &mut sink, &mut notes);
+    let status = run(alloc, words.as_slice(), &mut source, &mut sink);
     let refused_after = is_refused(alloc);
     drop(plug);
     drop(hoard);

@@ -156,8 +156,7 @@ fn run_no_digits(alloc: Global, room: &mut [u8]) -> Result<(u8, usize), AllocErr
     words.push(String::new(alloc))?;
     let mut source = SliceSource::new(b"", 4096, Some(0));
     let mut sink = SliceSink::new(room, 4096, None);
-    let mut notes = SliceSink::new(&mut [], 1, None);
-    let status = run(alloc, words.as_slice(), &mut source, &mut sink, &mut notes);
+    let status = run(alloc, words.as_slice(), &mut source, &mut sink);
     Ok((status, sink.written()))
 }
 

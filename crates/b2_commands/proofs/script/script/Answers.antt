@@ -1,13 +1,15 @@
-use Rattle.std.proofs.Common.{◌≡◌, false, map, Ok, IfSome}
+use Rattle.std.proofs.Common.{◌≡◌, ◌⊎◌, ℕ, List, false, map, take, Ok, Err, IfSome}
 use Rattle.std.proofs.KnownBytes.{Keeps-refl}
 use Rattle.blake2.specs.Play.{play_fresh}
 use Rattle.b2_commands.specs.ReadScripts.{call_value, unplaced}
 use Rattle.b2_commands.specs.Scripts.{script_calls, script_digests}
+use Rattle.blake2_state.specs.Runs.{padded_digest}
+use Rattle.b2_commands.proofs.RunLaws.{IsMemory, play_padded, padded_why}
 use Rattle.b2_commands.proofs.ScriptLemmas.{answered, printed, stopped}
 use Rattle.b2_commands.proofs.script.script.Goals as goal
 
 pub returns-in-Ok-clause-ends : goal.returns-in-Ok-clause-ends
-returns-in-Ok-clause-ends g c = λ digest n fresh.
+returns-in-Ok-clause-ends g c = λ digest n fresh long.
     let left = g.S.Source.left c.args.source.now in
     let text = c.in_ok-text.text.items in
     let script = map call_value c.in_ok-script.script.items in
@@ -18,15 +20,17 @@ returns-in-Ok-clause-ends g c = λ digest n fresh.
     c.in_ok-script.ensures.calls in
     let held : map unplaced calls ≡ script = rw c.as_slice-2.ensures.value at c.in_ok-calls.ensures
     in
-    let plays : play_fresh (digest false) n calls ≡ Ok digests =
-    rw c.as_slice-3.ensures.value at c.in-Ok.ensures.fresh digest n fresh in
-    printed (script_digests (digest false) n) text digests c.print_lines.result left
+    let cut : List (List ℕ) = map (take c.args.size) digests in
+    let plays : play_fresh (digest false) n calls ≡ Ok cut =
+    play_padded 64 c.args.size (digest false) n calls digests long
+    (rw c.as_slice-3.ensures.value at c.in-Ok.ensures.fresh (padded_digest digest) n fresh) in
+    printed (script_digests (digest false) n) text cut c.print_lines.result left
     (g.K.Sink.held c.args.sink.now) (g.K.Sink.held c.print_lines.new.sink) whole
-    (answered (digest false) n text script calls digests read held plays)
+    (answered (digest false) n text script calls cut read held plays)
     c.print_lines.ensures.fault (rw c.as_slice-in-Ok.ensures.value at c.print_lines.ensures.lines)
 
 pub returns-clause-ends : goal.returns-clause-ends
-returns-clause-ends g c = λ digest n fresh.
+returns-clause-ends g c = λ digest n fresh long.
     let left = g.S.Source.left c.args.source.now in
     let text = c.in_ok-text.text.items in
     let script = map call_value c.in_ok-script.script.items in
@@ -36,7 +40,11 @@ returns-clause-ends g c = λ digest n fresh.
     c.in_ok-script.ensures.calls in
     let held : map unplaced calls ≡ script = rw c.as_slice-2.ensures.value at c.in_ok-calls.ensures
     in
+    let why : IsMemory c.in-Err.fault ⊎ (play_fresh (digest false) n calls ≡ Err c.in-Err.fault) =
+    padded_why 64 c.args.size (digest false) n calls c.in-Err.fault long
+    (rw c.as_slice-3.ensures.value at c.in-Err.ensures.fresh_fault (padded_digest digest) n
+    fresh) in
     rw c.fault_of.ensures
     (stopped (digest false) n text script calls c.in-Err.fault left (g.K.Sink.held c.args.sink.now)
     (g.K.Sink.held c.args.sink.now) whole read held
-    (rw c.as_slice-3.ensures.value at c.in-Err.ensures.fresh_fault digest n fresh) (Keeps-refl _))
+    why (Keeps-refl _))

@@ -1,4 +1,4 @@
-use Rattle.std.proofs.Common.{◌≡◌, ◌+◌, ◌-◌, ◌∙◌, ◌≤◌, refl, arith, rules, subst, take, drop}
+use Rattle.std.proofs.Common.{◌∙◌, ◌≤◌, refl, arith, rules, subst, take, drop}
 use Rattle.std.specs.Io.KnownBytes.{Appends}
 use Rattle.hex.specs.Hex.{encode_lower}
 use Rattle.blake2_xof.specs.Blake2xb.{output_now}

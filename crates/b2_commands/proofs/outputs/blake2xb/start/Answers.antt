@@ -1,4 +1,4 @@
-use Rattle.std.proofs.Common.{◌≡◌, List, [], Some, ℕ, refl, rules}
+use Rattle.std.proofs.Common.{◌≡◌, [], Some, refl, rules}
 use Rattle.std.proofs.lemmas.Bool.{iff_false}
 use Rattle.std.specs.Prelude.{unwrap_or}
 use Rattle.blake2.specs.Family.{blake2b}

@@ -1,5 +1,5 @@
 -- Made by tools/twins.py from proofs/outputs/blake2xb/print_line/Answers.antt.
-use Rattle.std.proofs.Common.{◌≡◌, ◌+◌, ◌-◌, ◌∙◌, ◌≤◌, refl, arith, rules, subst, take, drop}
+use Rattle.std.proofs.Common.{◌∙◌, ◌≤◌, refl, arith, rules, subst, take, drop}
 use Rattle.std.specs.Io.KnownBytes.{Appends}
 use Rattle.hex.specs.Hex.{encode_lower}
 use Rattle.blake2_xof.specs.Blake2xs.{output_now}

@@ -1,5 +1,5 @@
 -- Made by tools/twins.py from proofs/outputs/blake2xb/start/Answers.antt.
-use Rattle.std.proofs.Common.{◌≡◌, List, [], Some, ℕ, refl, rules}
+use Rattle.std.proofs.Common.{◌≡◌, [], Some, refl, rules}
 use Rattle.std.proofs.lemmas.Bool.{iff_false}
 use Rattle.std.specs.Prelude.{unwrap_or}
 use Rattle.blake2.specs.Family.{blake2s}

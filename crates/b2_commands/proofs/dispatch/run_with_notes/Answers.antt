@@ -2,7 +2,7 @@ use Rattle.std.proofs.Common.{map, rules}
 use Rattle.std.specs.String.{string_bytes}
 use Rattle.b2_commands.specs.ReadTasks.{comparison_task}
 use Rattle.b2_commands.proofs.Statuses.{done_by, told_by}
-use Rattle.b2_commands.proofs.dispatch.run.Goals as goal
+use Rattle.b2_commands.proofs.dispatch.run_with_notes.Goals as goal
 
 pub status_after-requires-in-Ok-Compare : goal.status_after-requires-in-Ok-Compare
 status_after-requires-in-Ok-Compare g c =
