@@ -1,5 +1,6 @@
 -- What open files return.
-use Rattle.std.specs.Prelude.{ℕ, List, Option}
+use Rattle.std.specs.Prelude.{ℕ, ℤ, List, Option}
+use Rattle.std.specs.declared.io.Error.{Error}
 use Rattle.b2sum.specs.declared.disk.Reader.{Reader}
 use Rattle.b2sum.specs.declared.disk.Reader.TheVariants.{File, Input}
 
@@ -8,3 +9,14 @@ abbrev pub rest_of : {F I : Type 0} → (F → Option (List ℕ)) → (I → Opt
     → Option (List ℕ)
 rest_of left unread (File file) = left file
 rest_of left unread (Input input) = unread input
+
+-- A read of an open file, or of standard input, may return this error.
+abbrev pub may_fail : {F I : Type 0} → (F → Error → Type 0) → (I → Error → Type 0) → Reader F I
+    → Error → Type 0
+may_fail fails breaks (File file) = fails file
+may_fail fails breaks (Input input) = breaks input
+
+-- The number of an open file, or of standard input.
+abbrev pub number_of : {F I : Type 0} → (F → Option ℤ) → (I → Option ℤ) → Reader F I → Option ℤ
+number_of number other (File file) = number file
+number_of number other (Input input) = other input

@@ -1,10 +1,15 @@
 //! The files of the system, by names of any bytes.
 
-ghost use Rattle.std.specs.Prelude.{◌≡◌, ◌||◌, ◌∷◌, [], None, true, false, is_some, is_err};
-ghost use Rattle.std.specs.Prelude.{IfOk};
+ghost use Rattle.std.specs.Prelude.{◌≡◌, ◌||◌, ◌∷◌, [], ℕ, ℤ, List, Option, None, Some};
+ghost use Rattle.std.specs.Prelude.{true, false, is_some, is_err, IfErr, IfOk, IfSome, IsErr};
+ghost use Rattle.std.specs.Prelude.{encode_utf8, string_bytes};
+ghost use Rattle.std.specs.List.{flat_map};
 ghost use Rattle.std.specs.Io.{ReadsAtMost};
+ghost use Rattle.std.specs.Io.KnownBytes.{ReadConsumes};
+ghost use Rattle.std.specs.declared.io.Error.{Error};
 ghost use Rattle.blake2_streams.specs.Devices.{Gives};
-ghost use Rattle.b2sum.specs.FileReads.{rest_of};
+ghost use Rattle.b2sum.specs.FilePaths.{character_of, path_of};
+ghost use Rattle.b2sum.specs.FileReads.{may_fail, number_of, rest_of};
 
 use b2sum_commands::{Disk, OpenFile, Output};
 use blake2::streams::{DeviceError, Sink};
@@ -12,6 +17,83 @@ use std::alloc::{AllocError, Global};
 use std::fs::{File, Files};
 use std::io::{self, Read, Stdin, Write};
 use std::os::fd::AsRawFd;
+
+/// What the system reads: a file, or standard input.
+pub trait Source {
+    // The bytes that reads will return from here on, if that is known.
+    ghost left: { Self → Option (List ℕ) };
+
+    // A read may return this error.
+    ghost fails: { Self → Error → Type 0 };
+
+    // The number by which the system knows it, if that is known.
+    ghost number: { Self → Option ℤ };
+
+    /// Reads the next bytes into the front of the buffer, and returns how many, as `io::Read` does.
+    fn take(&mut self, buf: &mut [u8]) -> io::Result<usize>
+        ensures bound { ReadsAtMost result buf.new }
+        ensures bytes { ReadConsumes (left self.old) (left self.new) result buf.new }
+        ensures error { IfErr result (fails self.old) };
+
+    /// Returns the number by which the system knows it.
+    fn number(&self) -> i32
+        ensures { IfSome (number self.now) (λ number. result ≡ number) };
+}
+
+// What std reads. Its contracts do not say which errors a read returns.
+impl<T: Read + AsRawFd> Source for T {
+    ghost use Rattle.std.specs.Prelude.{⊤};
+
+    ghost left = { T.remaining };
+
+    ghost fails = { λ _ _. ⊤ };
+
+    ghost number = { T.raw_fd };
+
+    fn take(&mut self, buf: &mut [u8]) -> io::Result<usize> {
+        self.read(buf)
+    }
+
+    fn number(&self) -> i32 {
+        self.as_raw_fd()
+    }
+}
+
+/// What opens files by their paths.
+pub trait Paths {
+    // The bytes of the file of a path, if that is known.
+    ghost holds: { Self → List ℕ → Option (List ℕ) };
+
+    // It may be that the file of a path cannot be opened, with this error.
+    ghost refuses: { Self → List ℕ → Error → Type 0 };
+
+    /// An open file.
+    type File: Source + Drop;
+
+    /// Opens the file of this path for reading. The error says why it cannot be opened.
+    fn open_path(&self, path: &str) -> io::Result<Self::File>
+        ensures refused { IfErr result (refuses self.now path.now) }
+        ensures bytes { IfOk result (λ file. IfSome (holds self.now path.now)
+            (λ _. Self.File.left file ≡ holds self.now path.now)) };
+}
+
+// The files of std. Its contracts do not say what the system answers.
+impl<R: Files> Paths for R
+where
+    R::File: AsRawFd,
+{
+    ghost use Rattle.std.specs.Prelude.{⊤, None};
+
+    ghost holds = { λ _ _. None };
+
+    ghost refuses = { λ _ _ _. ⊤ };
+
+    type File = R::File;
+
+    fn open_path(&self, path: &str) -> io::Result<R::File> {
+        File::open(self, path)
+    }
+}
 
 /// The files of a runtime.
 #[derive(Clone, Copy)]
@@ -37,7 +119,7 @@ pub struct Opened<F, I> {
     error: Option<io::Error>,
 }
 
-impl<F: Read + AsRawFd, I: Read + AsRawFd + Drop> Opened<F, I> {
+impl<F: Source, I: Source + Drop> Opened<F, I> {
     /// Returns standard input, which has not failed, by the name `-`. The error is that of the
     /// allocator, for the name.
     pub fn input(alloc: Global, input: I) -> Result<Opened<F, I>, AllocError>
@@ -45,8 +127,8 @@ impl<F: Read + AsRawFd, I: Read + AsRawFd + Drop> Opened<F, I> {
             (λ file. ⟦<Opened<F, I> as OpenFile>⟧.failed file ≡ false) }
         ensures named { IfOk result
             (λ file. ⟦<Opened<F, I> as OpenFile>⟧.named file ≡ 45 ∷ []) }
-        ensures reader { IfOk result (λ file. rest_of F.remaining I.remaining file.reader
-            ≡ I.remaining input) }
+        ensures reader { IfOk result (λ file. rest_of F.left I.left file.reader
+            ≡ I.left input) }
     {
         let name = Vec::from_slice(alloc, b"-")?;
         Ok(fresh(Reader::Input(input), name))
@@ -66,13 +148,17 @@ fn fresh<F, I>(reader: Reader<F, I>, name: Vec<u8>) -> Opened<F, I>
     }
 }
 
-impl<F: Read + AsRawFd, I: Read + AsRawFd> OpenFile for Opened<F, I> {
+impl<F: Source, I: Source> OpenFile for Opened<F, I> {
     ghost use Rattle.std.specs.Prelude.{is_some};
-    ghost use Rattle.b2sum.specs.FileReads.{rest_of};
+    ghost use Rattle.b2sum.specs.FileReads.{number_of, rest_of};
 
-    ghost left = { λ s. rest_of F.remaining I.remaining s.reader };
+    ghost left = { λ s. rest_of F.left I.left s.reader };
 
     ghost failed = { λ s. is_some s.error };
+
+    ghost failure = { λ s. s.error };
+
+    ghost descriptor = { λ s. number_of F.number I.number s.reader };
 
     ghost named = { λ s. s.name.items };
 
@@ -82,12 +168,16 @@ impl<F: Read + AsRawFd, I: Read + AsRawFd> OpenFile for Opened<F, I> {
         ensures name { self.new.name.items ≡ self.old.name.items }
 
         // It returns the next bytes of the file or of standard input, and none only at the end.
-        ensures bytes { Gives (rest_of F.remaining I.remaining self.old.reader)
-            (rest_of F.remaining I.remaining self.new.reader) result buf.new }
+        ensures bytes { Gives (rest_of F.left I.left self.old.reader)
+            (rest_of F.left I.left self.new.reader) result buf.new }
+
+        // It keeps the error that the system returned.
+        ensures error { IsErr result → IfSome self.new.error
+            (may_fail F.fails I.fails self.old.reader) }
     {
         let result = match &mut self.reader {
-            Reader::File(file) => file.read(buf),
-            Reader::Input(input) => input.read(buf),
+            Reader::File(file) => file.take(buf),
+            Reader::Input(input) => input.take(buf),
         };
         match result {
             Ok(count) => Ok(count),
@@ -103,17 +193,24 @@ impl<F: Read + AsRawFd, I: Read + AsRawFd> OpenFile for Opened<F, I> {
     }
 
     fn reason(&self) -> io::Error {
-        match self.error {
-            Some(error) => error,
-            None => io::Error::from(io::ErrorKind::Other),
-        }
+        error_or_other(self.error)
     }
 
     fn number(&self) -> i32 {
         match &self.reader {
-            Reader::File(file) => file.as_raw_fd(),
-            Reader::Input(input) => input.as_raw_fd(),
+            Reader::File(file) => file.number(),
+            Reader::Input(input) => input.number(),
         }
+    }
+}
+
+// Returns the error, if there is one.
+fn error_or_other(error: Option<io::Error>) -> io::Error
+    ensures { IfSome error (λ e. result ≡ e) }
+{
+    match error {
+        Some(error) => error,
+        None => io::Error::from(io::ErrorKind::Other),
     }
 }
 
@@ -126,20 +223,27 @@ fn hide_memory() {}
 #[inline(never)]
 fn show_progress() {}
 
-impl<R: Files> Disk for System<R>
-where
-    R::File: AsRawFd,
-{
-    ghost files = { λ _. record {
-      holds = λ _. None;
-      refuses = λ _. true;
-      lacks = λ _. true;
+impl<R: Paths> Disk for System<R> {
+    ghost use Rattle.std.specs.Prelude.{⊤, ◌≡◌, ◌⊎◌, true};
+    ghost use Rattle.std.specs.IoError.{error_kind};
+    ghost use Rattle.std.specs.declared.io.ErrorKind.TheVariants.{OutOfMemory};
+    ghost use Rattle.b2sum.specs.FilePaths.{path_of};
+
+    // Opening a file takes memory for its path and its name.
+    ghost files = { λ s. record {
+      holds = λ name. R.holds s.files (path_of name);
+      refuses = λ name error.
+          R.refuses s.files (path_of name) error ⊎ (error_kind error ≡ OutOfMemory);
+      describes = λ _ _. ⊤;
     } };
+
+    ghost hides = { λ _. true };
 
     type File = Opened<R::File, Stdin>;
 
-    fn hide_memory(&self) {
+    fn hide_memory(&self) -> bool {
         hide_memory();
+        true
     }
 
     fn show_progress(&self) {
@@ -149,22 +253,49 @@ where
     fn open(&self, alloc: Global, name: &[u8]) -> io::Result<Opened<R::File, Stdin>> {
         let path = text_of(alloc, name)?;
         let name = Vec::from_slice(alloc, name)?;
-        let file = File::open(&self.files, path.as_str())?;
+        let file = self.files.open_path(path.as_str())?;
         Ok(fresh(Reader::File(file), name))
     }
+
+    fn reason_of(&self, alloc: Global, error: io::Error) -> Result<String, AllocError> {
+        reason_of(alloc, error)
+    }
+}
+
+// Returns the text of an error, without the number that std prints after it.
+fn reason_of(alloc: Global, error: io::Error) -> Result<String, AllocError> {
+    let text = format!(in alloc; "{error}").map_err(|_| AllocError)?;
+    let Some((reason, _)) = text.split_once(" (os error ") else {
+        return Ok(text);
+    };
+    let mut short = String::new(alloc);
+    short.push_str(reason)?;
+    Ok(short)
 }
 
 // Returns the text that a name is opened by. `open` of `c/b2sum.c` reads it: a name that is UTF-8
 // stands as it is, and in another each byte from 0x80 on is the character U+10FF00 more. A name
 // with the first byte of such characters is one of the others too.
-fn text_of(alloc: Global, name: &[u8]) -> Result<String, AllocError> {
-    let mut text = String::new(alloc);
-    if !name.contains(&0xF4)
-        && let Ok(plain) = std::str::from_utf8(name)
-    {
-        text.push_str(plain)?;
-        return Ok(text);
+fn text_of(alloc: Global, name: &[u8]) -> Result<String, AllocError>
+    ensures { IfOk result (λ text. string_bytes text ≡ path_of name.now) }
+{
+    if name.contains(&0xF4) {
+        return escaped(alloc, name);
     }
+    let Ok(plain) = std::str::from_utf8(name) else {
+        return escaped(alloc, name);
+    };
+    let mut text = String::new(alloc);
+    text.push_str(plain)?;
+    Ok(text)
+}
+
+// Returns the characters of the bytes of a name.
+fn escaped(alloc: Global, name: &[u8]) -> Result<String, AllocError>
+    ensures { IfOk result
+        (λ text. string_bytes text ≡ flat_map (λ b. encode_utf8 (character_of b)) name.now) }
+{
+    let mut text = String::new(alloc);
     for byte in name {
         text.push(character_of(*byte))?;
     }
@@ -172,7 +303,9 @@ fn text_of(alloc: Global, name: &[u8]) -> Result<String, AllocError> {
 }
 
 // Returns the character of a byte: the byte itself if it is ASCII.
-fn character_of(byte: u8) -> char {
+fn character_of(byte: u8) -> char
+    ensures { result ≡ character_of byte }
+{
     if byte < 0x80 {
         return byte as char;
     }
@@ -227,10 +360,9 @@ impl<W: Write> Sink for Writer<W> {
 }
 
 impl<W: Write> Output for Writer<W> {
+    ghost failure = { λ s. s.error };
+
     fn reason(&self) -> io::Error {
-        match self.error {
-            Some(error) => error,
-            None => io::Error::from(io::ErrorKind::Other),
-        }
+        error_or_other(self.error)
     }
 }

@@ -1,7 +1,7 @@
 -- Lines that are checked as they are read.
 use Rattle.std.proofs.Common.{◌≡◌, ◌≢◌, ℕ, ◌<◌, ◌==◌, Bool, true, false, List, [], ◌∷◌, ◌++◌}
 use Rattle.std.proofs.Common.{Option, Some, None, Result, Ok, Err, if◌then◌else◌, refl, ap, ◌∙◌, sym, subst, length}
-use Rattle.std.proofs.Common.{append_assoc, append-nil, is_none, inr, arith}
+use Rattle.std.proofs.Common.{append_assoc, append-nil, is_none, inl, inr, arith}
 use Rattle.std.proofs.KnownBytes.{Consumes-nil, Consumes-trans}
 use Rattle.std.proofs.lemmas.List.Splits.{slice_split_at, slice_split_none, length-slice_split}
 use Rattle.std.specs.Io.KnownBytes.{Consumes, IsAtEnd}
@@ -15,19 +15,20 @@ use Rattle.b2sum_commands.specs.declared.check.Verdict.{Verdict}
 use Rattle.b2sum_commands.specs.declared.check.Verdict.TheVariants.{Equal, Different, Unread}
 use Rattle.b2sum_commands.specs.declared.check.Verdict.TheVariants.{Skipped, Malformed, Unmet, Comment}
 use Rattle.b2sum_commands.specs.declared.options.Options.{Options}
-use Rattle.b2sum_commands.specs.World.{Streams}
-use Rattle.b2sum_commands.specs.World.{World, HasFailed, InTurn, IsQuiet}
-use Rattle.b2sum_commands.specs.PrintedSums.{is_dash, ReadsAs, LeavesInput}
-use Rattle.b2sum_commands.specs.Manifests.{item, checkable, trimmed, meets, IsItem}
-use Rattle.b2sum_commands.specs.Manifests.{IsLine, IsVerdict, holds_by}
+use Rattle.b2sum_commands.specs.LineNeeds.{lacks_of, meets}
+use Rattle.b2sum_commands.specs.Messages.{is_dash}
+use Rattle.b2sum_commands.specs.World.{Streams, World, HasFailed, InTurn, OnlyTells, TellsText}
+use Rattle.b2sum_commands.specs.PrintedSums.{ReadsAs, LeavesInput}
+use Rattle.b2sum_commands.specs.Manifests.{item, checkable, trimmed, IsItem, IsLine, IsVerdict}
+use Rattle.b2sum_commands.specs.Manifests.{TellsUnread}
 use Rattle.b2sum_commands.specs.LineReads.{IsOneLine, IsCutOff, IsAfter, source_left}
-use Rattle.b2sum_commands.specs.Reports.{AreCounted, Adds, IsReported}
+use Rattle.b2sum_commands.specs.Reports.{AreCounted, Adds, TellsEnd}
 use Rattle.b2sum_commands.specs.ManifestChecks.{read_to, AreRead, EndsAt, IsText, IsBeginning}
-use Rattle.b2sum_commands.specs.ManifestChecks.{IsJudged, IsCutShort}
+use Rattle.b2sum_commands.specs.ManifestChecks.{GoesOn, TellsUnopened}
 use Rattle.b2sum_commands.specs.declared.check.Counts.{Counts}
 use Rattle.b2sum_commands.specs.declared.line_reader.LineEnd.{LineEnd}
 use Rattle.b2sum_commands.specs.declared.line_reader.LineEnd.TheVariants.{Newline, Last, Failure}
-use Rattle.b2sum_commands.proofs.VerdictCounts.{count_step}
+use Rattle.b2sum_commands.proofs.VerdictCounts.{count_step, counted_holds}
 
 -- ---- lines
 
@@ -74,7 +75,8 @@ checked_other o None = tt
 checked_other o (Some e) = go (is_dash e.name) (meets o e) refl
   where
     go : (dash met : Bool) → is_dash e.name ≡ dash
-        → IsOther (Some (if dash then Err Malformed else if met then Ok e else Err Unmet))
+        → IsOther (Some (if dash then Err Malformed
+        else if met then Ok e else Err (Unmet (lacks_of o e))))
     go true met is = tt
     go false true is = is
     go false false is = tt
@@ -106,11 +108,17 @@ verdict_moved w o left after now (Ok e) Different found other is = (
   is.3,
 )
 verdict_moved w o left after now (Ok e) Unread found other is =
-    (subst (λ (b : Bool). LeavesInput b now now) (sym other) refl, is.1)
-verdict_moved w o left after now (Ok e) Skipped found other is = (is.0, is.1, refl, is.3, is.4)
+    (subst (λ (b : Bool). LeavesInput b now now) (sym other) refl, is.1, is.2)
+verdict_moved w o left after now (Ok e) Skipped found other is = (is.0, is.1, refl, is.3)
 verdict_moved w o left after now (Ok e) Malformed found other is = absurd is
-verdict_moved w o left after now (Ok e) Unmet found other is = absurd is
+verdict_moved w o left after now (Ok e) (Unmet lacks) found other is = absurd is
 verdict_moved w o left after now (Ok e) Comment found other is = absurd is
+
+unread_moved : (w : World) (o : Options) (left : Option (List ℕ)) (i : Result Line Verdict)
+    (old new : Streams) → TellsUnread w o i old new
+    → TellsUnread w o i (read_to true left old) (read_to true left new)
+unread_moved w o left (Err verdict) old new told = told
+unread_moved w o left (Ok e) old new told = told
 
 item_moved : (w : World) (o : Options) (left : Option (List ℕ)) (i : Option (Result Line Verdict))
     (old new : Streams) (v : Verdict) → IsOther i → IsItem w o i old new v
@@ -118,14 +126,15 @@ item_moved : (w : World) (o : Options) (left : Option (List ℕ)) (i : Option (R
 item_moved w o left None old new v other is = (is.0, ap (read_to true left) is.1)
 item_moved w o left (Some i) old new v other is =
     let moved = verdict_moved w o old.left new.left left i v is.1.0 other is.1.1 in
-    (is.0, (is.1.0, moved, is.1.2), is.2, is.3)
+    let told = λ (bad : v ≡ Unread). unread_moved w o left i old new (is.2.0 bad) in
+    (is.0, (is.1.0, moved, is.1.2), (told, is.2.1, is.2.2))
 
 -- The check of a line does not depend on how far its manifest is read.
 line_moved : (w : World) (o : Options) (input : Bool) (line : List ℕ) (left : Option (List ℕ))
     (old new : Streams) (v : Verdict) → IsLine w o input line old new v
     → IsLine w o input line (read_to input left old) (read_to input left new) v
 line_moved w o true line left old new v is =
-    item_moved w o left (item o true old.spacing line) old new v (item_other o old.spacing line) is
+    item_moved w o left (item o true old.place.spacing line) old new v (item_other o old.place.spacing line) is
 line_moved w o false line left old new v is = is
 
 reads_left : (dash : Bool) (held left after : Option (List ℕ)) (text : List ℕ)
@@ -145,7 +154,7 @@ verdict_left w o left after (Ok e) Unread found other is =
     subst (λ (b : Bool). LeavesInput b left after) other is.0
 verdict_left w o left after (Ok e) Skipped found other is = is.2
 verdict_left w o left after (Ok e) Malformed found other is = absurd is
-verdict_left w o left after (Ok e) Unmet found other is = absurd is
+verdict_left w o left after (Ok e) (Unmet lacks) found other is = absurd is
 verdict_left w o left after (Ok e) Comment found other is = absurd is
 
 item_left : (w : World) (o : Options) (i : Option (Result Line Verdict)) (old new : Streams)
@@ -161,7 +170,7 @@ pub line_left : {F : Type 0} (left : F → Option (List ℕ)) (file : Option F) 
     → source_left left file old.left ≡ source_left left file new.left
 line_left left (Some file) w o input line old new v same is = refl
 line_left left None w o true line old new v same is =
-    sym (item_left w o (item o true old.spacing line) old new v (item_other o old.spacing line) is)
+    sym (item_left w o (item o true old.place.spacing line) old new v (item_other o old.place.spacing line) is)
 line_left left None w o false line old new v same is = absurd (grind (arith, same))
 
 -- ---- as far as a manifest is read
@@ -391,17 +400,17 @@ read_at named failed end before left unread line unread' now first same read = (
 
 -- ---- the check of a manifest
 
-is_text : (dash : Bool) (held left : Option (List ℕ)) (opened : Streams) (after : Option (List ℕ))
-    (text : List ℕ) (before rest at : Option (List ℕ)) → before ≡ (if dash then left else held)
-    → opened.left ≡ left → Consumes before rest text → rest ≡ at → IsAtEnd at
-    → (dash ≡ true → at ≡ after) → IsText dash held left (read_to dash after opened).left text
-is_text true held left opened after text before rest at from same passed is ends input = (
+is_text : (dash : Bool) (held left after : Option (List ℕ)) (text : List ℕ)
+    (before rest at : Option (List ℕ)) → before ≡ (if dash then left else held)
+    → Consumes before rest text → rest ≡ at → IsAtEnd at → (dash ≡ true → at ≡ after)
+    → IsText dash held left (if dash then after else left) text
+is_text true held left after text before rest at from passed is ends input = (
   subst (λ (l : Option (List ℕ)). Consumes l after text) from
       (subst (λ (l : Option (List ℕ)). Consumes before l text) (is ∙ input refl) passed),
   subst IsAtEnd (input refl) ends,
 )
-is_text false held left opened after text before rest at from same passed is ends input = (
-  same,
+is_text false held left after text before rest at from passed is ends input = (
+  refl,
   rest,
   subst (λ (l : Option (List ℕ)). Consumes l rest text) from passed,
   subst IsAtEnd (sym is) ends,
@@ -415,48 +424,55 @@ is_begun true held left text before rest from passed =
 is_begun false held left text before rest from passed =
     (rest, subst (λ (l : Option (List ℕ)). Consumes l rest text) from passed)
 
-pub quiet_to : (dash : Bool) (left : Option (List ℕ)) (old opened : Streams) → IsQuiet old opened
-    → IsQuiet old (read_to dash left opened)
-quiet_to true left old opened quiet = record { held = quiet.held; spacing = quiet.spacing }
-quiet_to false left old opened quiet = quiet
-
--- A manifest that was read to its end.
-pub is_judged : (w : World) (o : Options) (name : List ℕ) (old opened mid new : Streams)
-    (vs : List Verdict) (result : Bool) (before rest at : Option (List ℕ))
+-- A manifest that is read to its end, or as far as a read failed, and its last messages. `at` is
+-- what it has left then.
+pub manifest_ended : (w : World) (o : Options) (name : List ℕ) (old mid new : Streams)
+    (vs : List Verdict) (found : Option Counts) (holds : Bool) (before rest at : Option (List ℕ))
     → before ≡ (if is_dash name then old.left else w.files.holds name)
-    → IsQuiet old opened → opened.left ≡ old.left
-    → AreRead w o (is_dash name) before rest opened mid vs → rest ≡ at → IsAtEnd at
-    → (is_dash name ≡ true → at ≡ mid.left) → IsQuiet mid new → new.left ≡ mid.left
-    → result ≡ holds_by o.is_strict vs → IsReported w o name vs mid new
-    → IsJudged w o name old new result
-is_judged w o name old opened mid new vs result before rest at from quiet same read is ends input told left holds reported = record {
-  text = read.text;
-  start = read_to (is_dash name) mid.left opened;
-  verdicts = vs;
-  is_text = is_text (is_dash name) (w.files.holds name) old.left opened mid.left read.text before rest
-      at from same read.passed is ends input;
-  quiet = quiet_to (is_dash name) mid.left old opened quiet;
-  are_judged = record { end = mid; lines = read.lines; quiet = told; left = left };
-  is_result = holds;
-  reported = reported;
-}
+    → AreRead w o (is_dash name) before rest old mid vs
+    → EndsAt found vs rest at (w.breaks name) → (is_dash name ≡ true → at ≡ mid.left)
+    → OnlyTells mid new → TellsEnd w.program o name found holds (TellsText mid new)
+    → GoesOn w o name old new (Some holds)
+manifest_ended w o name old mid new vs None holds before rest at from read broken input last told =
+    inl (
+      told.0,
+      record {
+        text = read.text;
+        left = (read_to (is_dash name) mid.left old).left;
+        verdicts = vs;
+        begins = is_begun (is_dash name) (w.files.holds name) old.left read.text before rest from
+            read.passed;
+        are_judged = record { end = mid; lines = read.lines; last = last };
+        told = inr (broken, told.1);
+      },
+    )
+manifest_ended w o name old mid new vs (Some counts) holds before rest at from read ends input last told =
+    inr (record {
+      text = read.text;
+      left = (read_to (is_dash name) mid.left old).left;
+      verdicts = vs;
+      is_text = is_text (is_dash name) (w.files.holds name) old.left mid.left read.text before rest
+          at from read.passed ends.1 ends.2 input;
+      are_judged = record { end = mid; lines = read.lines; last = last };
+      is_result = told.0 ∙ counted_holds o.is_strict vs counts ends.0;
+      reported = record { counts = counts; are_counted = ends.0; told = told.1 };
+    })
 
--- A manifest of which a read failed.
-pub is_cut_short : (w : World) (o : Options) (name : List ℕ) (old opened mid new : Streams)
-    (vs : List Verdict) (before rest : Option (List ℕ))
-    → before ≡ (if is_dash name then old.left else w.files.holds name)
-    → IsQuiet old opened → AreRead w o (is_dash name) before rest opened mid vs → w.breaks name
-    → IsQuiet mid new → new.left ≡ mid.left → IsCutShort w o name old new
-is_cut_short w o name old opened mid new vs before rest from quiet read broken told left = record {
-  text = read.text;
-  start = read_to (is_dash name) mid.left opened;
-  verdicts = vs;
-  cause = inr broken;
-  begins = is_begun (is_dash name) (w.files.holds name) old.left read.text before rest from
-      read.passed;
-  quiet = quiet_to (is_dash name) mid.left old opened quiet;
-  are_judged = record { end = mid; lines = read.lines; quiet = told; left = left };
-}
+-- A manifest that cannot be opened.
+pub unopened : (w : World) (o : Options) (name : List ℕ) (old new : Streams) → OnlyTells old new
+    → TellsUnopened w name old new → GoesOn w o name old new (Some false)
+unopened w o name old new last told = inl (
+  refl,
+  record {
+    text = [];
+    left = old.left;
+    verdicts = [];
+    begins = is_begun (is_dash name) (w.files.holds name) old.left []
+        (if is_dash name then old.left else w.files.holds name) _ refl (Consumes-nil _);
+    are_judged = record { end = old; lines = refl; last = last };
+    told = inl told;
+  },
+)
 
 -- What is left of a manifest on standard input is what is left of that.
 pub source_at : {F : Type 0} (left : F → Option (List ℕ)) (file : Option F)

@@ -7,16 +7,14 @@ use Rattle.std.proofs.KnownBytes.{Consumes-nil, Consumes-trans}
 use Rattle.std.specs.Io.KnownBytes.{Consumes, IsAtEnd}
 use Rattle.text_lines.specs.Cuts.{lines_of, last_line}
 use Rattle.b2sum_lines.specs.ManifestLines.{Line}
-use Rattle.b2sum_lines.specs.declared.entry.Spacing.{Spacing}
 use Rattle.b2sum_commands.specs.declared.check.Counts.{Counts}
 use Rattle.b2sum_commands.specs.declared.check.Verdict.{Verdict}
 use Rattle.b2sum_commands.specs.declared.line_reader.LineEnd.{LineEnd}
 use Rattle.b2sum_commands.specs.declared.line_reader.LineEnd.TheVariants.{Newline, Last, Failure}
 use Rattle.b2sum_commands.specs.declared.options.Options.{Options}
-use Rattle.b2sum_commands.specs.World.{Streams}
-use Rattle.b2sum_commands.specs.World.{World, IsQuiet, StopsIn}
-use Rattle.b2sum_commands.specs.PrintedSums.{is_dash, LeavesInput, ReadsAs, IsSum, printed}
-use Rattle.b2sum_commands.specs.PrintedSums.{entry_of}
+use Rattle.b2sum_commands.specs.Messages.{is_dash}
+use Rattle.b2sum_commands.specs.World.{Place, Streams, World, StopsIn}
+use Rattle.b2sum_commands.specs.PrintedSums.{LeavesInput}
 use Rattle.b2sum_commands.specs.Manifests.{item, IsVerdict, verdict_lines, BeginsVerdict}
 use Rattle.b2sum_commands.specs.Manifests.{BeginsItem, BeginsLine}
 use Rattle.b2sum_commands.specs.LineReads.{IsOneLine, IsCutOff, IsAfter}
@@ -24,7 +22,7 @@ use Rattle.b2sum_commands.specs.ManifestChecks.{read_to, AreRead, EndsAt, AreWho
 use Rattle.b2sum_commands.specs.ManifestChecks.{manifest_bytes}
 use Rattle.b2sum_commands.specs.ManifestChecks.{GoesOn}
 use Rattle.b2sum_commands.proofs.CheckedLines.{Reading, line_first, line_only, IsOther, item_other}
-use Rattle.b2sum_commands.proofs.CheckedLines.{verdict_moved, quiet_to}
+use Rattle.b2sum_commands.proofs.CheckedLines.{verdict_moved}
 
 -- What holds if a call fails.
 pub on_err : {A E : Type 0} (r : Result A E) (P : Type 0) → P → OnErr r P
@@ -44,14 +42,6 @@ some_of P found x is holds = subst (λ f. IfSome f P) is holds
 
 -- ---- lines
 
--- A part of the line of a file is printed, or nothing.
-pub sum_stops : (w : World) (o : Options) (name : List ℕ) (old new : Streams) (text : List ℕ)
-    → ReadsAs (is_dash name) (w.files.holds name) old.left new.left text
-    → StopsIn old.held new.held (printed o.shape o.ends_zero (entry_of w o name text))
-    → IsSum w o name old new None
-sum_stops w o name old new text read (inl same) = inl same
-sum_stops w o name old new text read (inr part) = inr (text, read, part)
-
 -- A part of the line of a verdict is printed, or nothing.
 pub verdict_stops : (w : World) (o : Options) (i : Result Line Verdict) (old new : Streams) (v : Verdict)
     (found : List ℕ) → IsVerdict w o old.left i v found new.left
@@ -67,10 +57,10 @@ unprinted w o (Some i) old new same = inl same
 
 -- An error ended the check of an entry, and so of its line.
 pub entry_stops : (w : World) (o : Options) (input : Bool) (line : List ℕ) (old mid new : Streams)
-    (e : Line) (spacing : Spacing) → item o input old.spacing line ≡ Some (Ok e)
-    → mid ≡ record old { spacing = spacing } → BeginsVerdict w o (Ok e) mid new
+    (e : Line) (place : Place) → item o input old.place.spacing line ≡ Some (Ok e)
+    → mid ≡ record old { place = place } → BeginsVerdict w o (Ok e) mid new
     → BeginsLine w o input line old new
-entry_stops w o input line old mid new e spacing is at begun =
+entry_stops w o input line old mid new e place is at begun =
     subst (λ (i : Option (Result Line Verdict)). BeginsItem w o i old new) (sym is)
     (subst (λ (s : Streams). BeginsVerdict w o (Ok e) s new) at begun)
 
@@ -91,7 +81,7 @@ item_moved_to w o (Some i) old new other (inr part) = inr (
 line_moved_to : (w : World) (o : Options) (input : Bool) (line : List ℕ) (old new : Streams)
     → BeginsLine w o input line old new → BeginsLine w o input line (read_to input new.left old) new
 line_moved_to w o true line old new is =
-    item_moved_to w o (item o true old.spacing line) old new (item_other o old.spacing line) is
+    item_moved_to w o (item o true old.place.spacing line) old new (item_other o old.place.spacing line) is
 line_moved_to w o false line old new is = is
 
 -- A line that is not empty has bytes.
@@ -117,10 +107,6 @@ left_same : (input : Bool) (left : Option (List ℕ)) → LeavesInput input left
 left_same true left = tt
 left_same false left = refl
 
-held_to : (input : Bool) (left : Option (List ℕ)) (s : Streams) → (read_to input left s).held ≡ s.held
-held_to true left s = refl
-held_to false left s = refl
-
 -- An error came before the next line.
 pub stopped_between : (w : World) (o : Options) (name : List ℕ) (input : Bool) (before : Option (List ℕ))
     (old : Streams) (unread : List ℕ) (rest : Option (List ℕ)) (now new : Streams)
@@ -133,9 +119,8 @@ stopped_between w o name input before old unread rest now new vs r same =
       rest = first.0;
       passed = first.1;
       whole = inl r.cuts;
-      start = read_to input now.left old;
-      quiet = quiet_to input now.left old old (record { held = refl; spacing = refl });
-      left = left_to input now.left old;
+      left = (read_to input now.left old).left;
+      leaves = left_to input now.left old;
       lines = record {
         done = lines_of r.done;
         rest = [];
@@ -143,7 +128,7 @@ stopped_between w o name input before old unread rest now new vs r same =
         results = vs;
         mid = read_to input now.left now;
         are_done = r.lines now.left;
-        next = same ∙ sym (held_to input now.left now);
+        next = same;
       };
     }
 
@@ -160,9 +145,8 @@ stopped_line w o name input before old unread rest now vs line text rest' mid ne
   rest = rest';
   passed = passed;
   whole = whole;
-  start = read_to input new.left old;
-  quiet = quiet_to input new.left old old (record { held = refl; spacing = refl });
-  left = left_to input new.left old;
+  left = (read_to input new.left old).left;
+  leaves = left_to input new.left old;
   lines = record {
     done = lines_of r.done;
     rest = line ∷ [];
@@ -249,9 +233,8 @@ unstarted w o name old new same = record {
   rest = manifest_bytes w old.left name;
   passed = Consumes-nil (manifest_bytes w old.left name);
   whole = inl (λ more. refl);
-  start = old;
-  quiet = record { held = refl; spacing = refl };
-  left = left_same (is_dash name) old.left;
+  left = old.left;
+  leaves = left_same (is_dash name) old.left;
   lines = record {
     done = [];
     rest = [];
@@ -262,29 +245,6 @@ unstarted w o name old new same = record {
     next = same;
   };
 }
-
--- An error came in the check of a manifest that was opened before.
-pub stopped_opened : (w : World) (o : Options) (name : List ℕ) (old opened new : Streams)
-    (input : Bool) (before : Option (List ℕ)) → input ≡ is_dash name
-    → before ≡ manifest_bytes w old.left name → IsQuiet old opened → opened.left ≡ old.left
-    → AreStopped w o name input before opened new → GoesOn w o name old new None
-stopped_opened w o name old opened new input before is from quiet same stopped =
-    let s : AreStopped w o name (is_dash name) (manifest_bytes w old.left name) opened new =
-    subst (λ (b : Bool). AreStopped w o name b (manifest_bytes w old.left name) opened new) is
-    (subst (λ (l : Option (List ℕ)). AreStopped w o name input l opened new) from stopped) in
-    record {
-      text = s.text;
-      rest = s.rest;
-      passed = s.passed;
-      whole = s.whole;
-      start = s.start;
-      quiet = record {
-        held = s.quiet.held ∙ quiet.held;
-        spacing = s.quiet.spacing ∙ quiet.spacing;
-      };
-      left = subst (λ (l : Option (List ℕ)). LeavesInput (is_dash name) l s.start.left) same s.left;
-      lines = s.lines;
-    }
 
 ends_all : (found : Option Counts) (vs : List Verdict) (rest at : Option (List ℕ)) (failed : Type 0)
     → EndsAt found vs rest at failed → IsAtEnd rest ⊎ failed
@@ -301,9 +261,8 @@ stopped_after w o name input before rest at old mid new vs found read ends same 
   rest = rest;
   passed = read.passed;
   whole = inr (ends_all found vs rest at (w.breaks name) ends);
-  start = read_to input mid.left old;
-  quiet = quiet_to input mid.left old old (record { held = refl; spacing = refl });
-  left = left_to input mid.left old;
+  left = (read_to input mid.left old).left;
+  leaves = left_to input mid.left old;
   lines = record {
     done = lines_of read.text;
     rest = [];

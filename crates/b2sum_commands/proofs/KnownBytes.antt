@@ -111,8 +111,7 @@ seen_stopped dash held w o name input before old new s = record {
   rest = seen dash held s.rest;
   passed = seen_passed dash held before s.rest s.text s.passed;
   whole = seen_whole dash held s.text s.rest (w.breaks name) s.whole;
-  start = s.start;
-  quiet = s.quiet;
   left = s.left;
+  leaves = s.leaves;
   lines = s.lines;
 }

@@ -14,3 +14,5 @@ pub mod ManifestMessages
 pub mod StopsOfParts
 pub mod LastPathPart
 pub mod CommandLines
+pub mod KeyFiles
+pub mod OpenedManifests

@@ -1,12 +1,12 @@
 -- The messages at the end of a manifest.
-use Rattle.std.proofs.Common.{◌≡◌, ℕ, ◌==◌, ◌&&◌, Bool, true, false, not, List, [], ◌++◌, Option, inr, codes}
+use Rattle.std.proofs.Common.{◌≡◌, ℕ, ◌==◌, ◌&&◌, Bool, true, false, not, List, [], ◌++◌, Option, inr}
 use Rattle.std.proofs.Common.{sym, subst}
 use Rattle.std.proofs.KnownBytes.{Appends-nil}
 use Rattle.b2sum_commands.specs.declared.check.Counts.{Counts}
 use Rattle.b2sum_commands.specs.declared.options.Options.{Options}
 use Rattle.b2sum_commands.specs.Manifests.{is_nothing}
-use Rattle.b2sum_commands.specs.Reports.{has_no_entry, message, message_if, report_text}
-use Rattle.b2sum_commands.specs.Reports.{warnings}
+use Rattle.b2sum_commands.specs.Messages.{LinesNeed, Message, VerifiesNone, message, message_if}
+use Rattle.b2sum_commands.specs.Reports.{has_no_entry, report_text, warnings}
 use Rattle.b2sum_commands.specs.World.{IsWritten}
 use Rattle.b2sum_commands.proofs.MessagesInTurn.{both_written}
 
@@ -15,19 +15,17 @@ pub no_line : (b : Bool) (x : Option (List ℕ)) → IsWritten b b x x []
 no_line b x = record { stays = λ failed. failed; accepted = inr (Appends-nil x) }
 
 -- A message for which there is no cause.
-pub unsaid : (b : Bool) (x : Option (List ℕ)) (cause : Bool) (program first second third : List ℕ)
-    → cause ≡ false → IsWritten b b x x (message_if cause program first second third)
-unsaid b x cause program first second third is =
-    subst (λ (c : Bool). IsWritten b b x x (message_if c program first second third)) (sym is)
-    (no_line b x)
+pub unsaid : (b : Bool) (x : Option (List ℕ)) (cause : Bool) (program : List ℕ) (said : Message)
+    → cause ≡ false → IsWritten b b x x (message_if cause program said)
+unsaid b x cause program said is =
+    subst (λ (c : Bool). IsWritten b b x x (message_if c program said)) (sym is) (no_line b x)
 
 -- A message for which there is cause.
-pub told : (a b : Bool) (x y : Option (List ℕ)) (cause : Bool) (program first second third : List ℕ)
-    → cause ≡ true → IsWritten a b x y (message program first second third)
-    → IsWritten a b x y (message_if cause program first second third)
-told a b x y cause program first second third is written =
-    subst (λ (c : Bool). IsWritten a b x y (message_if c program first second third)) (sym is)
-    written
+pub told : (a b : Bool) (x y : Option (List ℕ)) (cause : Bool) (program : List ℕ) (said : Message)
+    → cause ≡ true → IsWritten a b x y (message program said)
+    → IsWritten a b x y (message_if cause program said)
+told a b x y cause program said is written =
+    subst (λ (c : Bool). IsWritten a b x y (message_if c program said)) (sym is) written
 
 -- Four texts, one after the other.
 pub four_written : (a b c d e : Bool) (v w x y z : Option (List ℕ))
@@ -40,16 +38,14 @@ four_written a b c d e v w x y z first second third fourth p q r s =
     (both_written c d e x y z third fourth r s))
 
 -- The messages at the end of a manifest, one after the other.
-pub reported : (a b c d : Bool) (w x y z : Option (List ℕ)) (program title : List ℕ) (o : Options)
-    (counts : Counts) (needs : List ℕ) → has_no_entry counts ≡ false → is_nothing o.report ≡ false
-    → IsWritten a b w x
-    (message_if (not (counts.unmet == 0)) program title (codes ": lines need") needs)
+pub reported : (a b c d : Bool) (w x y z : Option (List ℕ)) (program name : List ℕ) (o : Options)
+    (counts : Counts) → has_no_entry counts ≡ false → is_nothing o.report ≡ false
+    → IsWritten a b w x (message_if (not (counts.unmet == 0)) program (LinesNeed name counts.lacks))
     → IsWritten b c x y (warnings program counts)
-    → IsWritten c d y z (message_if (o.ignores_missing && (counts.equal == 0)) program title
-    (codes ": no file was verified") [])
-    → IsWritten a d w z (report_text program title o counts needs)
-reported a b c d w x y z program title o counts needs some wanted p q r =
-    let last = message_if (o.ignores_missing && (counts.equal == 0)) program title
-    (codes ": no file was verified") [] in
+    → IsWritten c d y z
+    (message_if (o.ignores_missing && (counts.equal == 0)) program (VerifiesNone name))
+    → IsWritten a d w z (report_text program name o counts)
+reported a b c d w x y z program name o counts some wanted p q r =
+    let last = message_if (o.ignores_missing && (counts.equal == 0)) program (VerifiesNone name) in
     rw (some, wanted) (both_written a b d w x z _ (warnings program counts ++ last) p
     (both_written b c d x y z (warnings program counts) last q r))

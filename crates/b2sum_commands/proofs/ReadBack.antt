@@ -24,15 +24,16 @@ use Rattle.b2sum_commands.specs.declared.check.Verdict.TheVariants.{Skipped, Mal
 use Rattle.b2sum_commands.specs.declared.options.Options.{Options}
 use Rattle.b2sum_commands.specs.declared.options.Shape.{Shape}
 use Rattle.b2sum_commands.specs.declared.options.Shape.TheVariants.{Named}
-use Rattle.b2sum_commands.specs.World.{Streams}
-use Rattle.b2sum_commands.specs.World.{World, InTurn, AllInTurn, Ends}
-use Rattle.b2sum_commands.specs.PrintedSums.{entry_of, ended_line, is_dash, printed}
+use Rattle.b2sum_commands.specs.LineNeeds.{has_demanded_length}
+use Rattle.b2sum_commands.specs.Messages.{is_dash}
+use Rattle.b2sum_commands.specs.World.{Place, Streams, World, InTurn, AllInTurn, Ends}
+use Rattle.b2sum_commands.specs.PrintedSums.{entry_of, ended_line, printed}
 use Rattle.b2sum_commands.specs.PrintedSums.{printed_function, IsSum}
 use Rattle.b2sum_commands.specs.PrintedSums.{ReadsAs}
-use Rattle.b2sum_commands.specs.Manifests.{checkable, has_demanded_length, item, spacing_after}
+use Rattle.b2sum_commands.specs.Manifests.{checkable, item, spacing_after, spacing_past}
 use Rattle.b2sum_commands.specs.Manifests.{trimmed, listed_function, IsItem, IsLine, IsVerdict}
 use Rattle.b2sum_commands.specs.LineReads.{IsOneLine}
-use Rattle.b2sum_commands.specs.ReadBack.{items, spacing_past, AreReadAs, IsEntry, entries_in}
+use Rattle.b2sum_commands.specs.ReadBack.{items, AreReadAs, IsEntry, entries_in}
 use Rattle.b2sum_commands.specs.ReadBack.{AreReadable, AcceptsPrinted, AreNames, IsManifest}
 use Rattle.b2sum_commands.specs.ReadBack.{AreKept, HaveSameDigests, is_kept}
 use Rattle.b2sum_commands.proofs.CheckedLines.{line_first}
@@ -223,13 +224,13 @@ verdict_kept w c left after e Different found kept is =
 verdict_kept w c left after e Unread found kept is = refl
 verdict_kept w c left after e Skipped found kept is = refl
 verdict_kept w c left after e Malformed found kept is = absurd is
-verdict_kept w c left after e Unmet found kept is = absurd is
+verdict_kept w c left after e (Unmet lacks) found kept is = absurd is
 verdict_kept w c left after e Comment found kept is = absurd is
 
 -- The lines of entries whose files are the same have verdicts that say so.
 verdicts_kept : (w : World) (c : Options) (input : Bool) (es : List Line) (lines : List (List ℕ))
     (before after : Streams) (vs : List Verdict) → AllByRecursion (Readable c input) es
-    → AllByRecursion (Kept w c) es → before.spacing ≢ One
+    → AllByRecursion (Kept w c) es → before.place.spacing ≢ One
     → lines ≡ lines_of (flat_map (ended_line false) es)
     → InTurn (IsLine w c input) lines before after vs
     → (list_all is_kept vs ≡ true) × (length vs ≡ length es)
@@ -249,7 +250,7 @@ verdicts_kept w c input (e ∷ es) lines before after vs all kept two are done =
     some : (vs : List Verdict)
         → InTurn (IsLine w c input)
         (entry_line e ∷ lines_of (flat_map (ended_line false) es)) before after vs
-        → ((ws : List Verdict) (mid : Streams) → mid.spacing ≢ One
+        → ((ws : List Verdict) (mid : Streams) → mid.place.spacing ≢ One
         → InTurn (IsLine w c input) (lines_of (flat_map (ended_line false) es)) mid after ws
         → (list_all is_kept ws ≡ true) × (length ws ≡ length es))
         → (list_all is_kept vs ≡ true) × (length vs ≡ length (e ∷ es))
@@ -257,9 +258,9 @@ verdicts_kept w c input (e ∷ es) lines before after vs all kept two are done =
     some (v ∷ vs) done again =
         let is : IsItem w c (Some (Ok e)) before done.0 v =
         subst (λ (i : Option (Result Line Verdict)). IsItem w c i before done.0 v)
-        (line_item c input before.spacing e all.0 two) done.1 in
-        let spaced : done.0.spacing ≢ One =
-        λ one. two_after before.spacing e.style two all.0.marked (sym is.0 ∙ one) in
+        (line_item c input before.place.spacing e all.0 two) done.1 in
+        let spaced : done.0.place.spacing ≢ One =
+        λ one. two_after before.place.spacing e.style two all.0.marked (sym (ap (λ (p : Place). p.spacing) is.0) ∙ one) in
         let rest = again vs done.0 spaced done.2 in
         let one : is_kept v ≡ true =
         verdict_kept w c before.left done.0.left e v is.1.0 kept.0 is.1.1 in

@@ -1,7 +1,7 @@
 -- The name of standard input.
 use Rattle.std.proofs.Common.{◌≡◌, ◌∙◌, ℕ, true, List, [], ◌∷◌, sym}
 use Rattle.std.proofs.lemmas.Slice.Eq.{bytes_eq-Decides}
-use Rattle.b2sum_commands.specs.PrintedSums.{is_dash}
+use Rattle.b2sum_commands.specs.Messages.{is_dash}
 
 -- A source with the name of standard input has the name `-`.
 pub dash_name : (name named : List ℕ) → named ≡ 45 ∷ [] → is_dash name ≡ true → named ≡ name

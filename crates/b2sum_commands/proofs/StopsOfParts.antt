@@ -14,7 +14,7 @@ use Rattle.b2sum_commands.specs.CommandLine.{with_option, read_any, read_long, r
 use Rattle.b2sum_commands.specs.World.{Streams}
 use Rattle.b2sum_commands.specs.CommandLineViews.{StopsBy, IsPrinted}
 use Rattle.b2sum_commands.specs.World.{World}
-use Rattle.b2sum_commands.specs.ProgramRuns.{DoesLine, DoesChoice, RefusesLine}
+use Rattle.b2sum_commands.specs.ProgramRuns.{DoesLine, DoesChoice}
 use Rattle.b2sum_commands.specs.AcceptedOptions.{AreArguments, AreOptions, command_line}
 use Rattle.b2sum_commands.specs.declared.options.Arguments.{Arguments}
 
@@ -54,15 +54,15 @@ letters_stop s word rest result whole front first alone is h =
 
 -- An error that comes before all else ends what any command line means.
 pub nothing_done : (w : World) (help version : List ℕ)
-    (r : Result (Choice × List (List ℕ)) End) (old new : Streams) → RefusesLine old new None
+    (r : Result (Choice × List (List ℕ)) End) (old new : Streams) → new ≡ old
     → DoesLine w help version r old new None
-nothing_done w help version (Ok read) old new none = inr none.0
-nothing_done w help version (Err Helped) old new none = inl none.0
-nothing_done w help version (Err Versioned) old new none = inl none.0
+nothing_done w help version (Ok read) old new none = inr (ap (λ (s : Streams). s.held) none)
+nothing_done w help version (Err Helped) old new none = inl (ap (λ (s : Streams). s.held) none)
+nothing_done w help version (Err Versioned) old new none = inl (ap (λ (s : Streams). s.held) none)
 nothing_done w help version (Err Refused) old new none = none
 
 no_memory : (w : World) (help version : List ℕ) (r : Result (Choice × List (List ℕ)) End)
-    (old new : Streams) (end : Option Bool) → end ≡ None → RefusesLine old new None
+    (old new : Streams) (end : Option Bool) → end ≡ None → new ≡ old
     → DoesLine w help version r old new end
 no_memory w help version r old new end is none =
     subst (DoesLine w help version r old new) (sym is) (nothing_done w help version r old new none)
@@ -70,7 +70,7 @@ no_memory w help version r old new end is none =
 -- A stop prints what the command line means.
 pub stop_does : (w : World) (help version : List ℕ) (r : Result (Choice × List (List ℕ)) End)
     (old new : Streams) (stop : Stop) (end : Option Bool) → StopsBy r stop
-    → IsPrinted help version old new stop end → DoesLine w help version r old new end
+    → IsPrinted w help version old new stop end → DoesLine w help version r old new end
 stop_does w help version r old new Help end by is =
     subst (λ r. DoesLine w help version r old new end) (sym by) is
 stop_does w help version r old new Version end by is =

@@ -1,14 +1,17 @@
 -- The counts of verdicts.
 use Rattle.std.proofs.Common.{◌≡◌, ℕ, ◌+◌, ◌==◌, ◌&&◌, ◌||◌, nat_lt, Bool, true, false, not, if◌then◌else◌}
-use Rattle.std.proofs.Common.{List, [], ◌∷◌, ◌++◌, refl, ap, ◌∙◌, sym, arith, zero, suc}
+use Rattle.std.proofs.Common.{List, [], ◌∷◌, ◌++◌, fold, refl, ap, ◌∙◌, sym, arith, zero, suc}
 use Rattle.std.proofs.lemmas.Bool.{ne_eqb, lt-ltb}
 use Rattle.std.proofs.lemmas.List.Sums.{sum_by-append, sum_by-cons}
 use Rattle.std.specs.List.{list_all, list_any, count_by}
 use Rattle.b2sum_commands.specs.Manifests.{is_different, is_equal, is_fine, is_formed, holds_by}
-use Rattle.b2sum_commands.specs.Reports.{AreCounted, Adds, capped, holds_counted, more_if}
+use Rattle.b2sum_commands.specs.LineNeeds.{no_lacks}
+use Rattle.b2sum_commands.specs.Manifests.{capped}
+use Rattle.b2sum_commands.specs.Reports.{AreCounted, Adds, also_lack, holds_counted, more_if}
 use Rattle.b2sum_commands.specs.Reports.{is_unread, is_skipped, is_malformed, is_unmet}
 use Rattle.b2sum_commands.specs.declared.check.Counts.{Counts}
 use Rattle.b2sum_commands.specs.declared.check.Verdict.{Verdict}
+use Rattle.b2sum_commands.specs.declared.line_needs.Lacks.{Lacks}
 use Rattle.b2sum_commands.specs.declared.check.Verdict.TheVariants.{Equal, Different, Unread}
 use Rattle.b2sum_commands.specs.declared.check.Verdict.TheVariants.{Skipped, Malformed, Unmet, Comment}
 
@@ -36,6 +39,11 @@ kind_step kind vs v old new was is =
     capped_more (kind v) (count_by kind vs) old new was is
     ∙ ap capped (sym (one_more kind vs v))
 
+lacks_more : (l : Lacks) (vs : List Verdict) (v : Verdict)
+    → fold also_lack l (vs ++ (v ∷ [])) ≡ also_lack (fold also_lack l vs) v
+lacks_more l [] v = refl
+lacks_more l (u ∷ vs) v = lacks_more (also_lack l u) vs v
+
 -- The counts with one more verdict.
 pub count_step : (vs : List Verdict) (v : Verdict) (old new : Counts) → AreCounted vs old
     → Adds v old new → AreCounted (vs ++ (v ∷ [])) new
@@ -46,6 +54,7 @@ count_step vs v old new c a = record {
   skipped = kind_step is_skipped vs v old.skipped new.skipped c.skipped a.skipped;
   malformed = kind_step is_malformed vs v old.malformed new.malformed c.malformed a.malformed;
   unmet = kind_step is_unmet vs v old.unmet new.unmet c.unmet a.unmet;
+  lacks = a.lacks ∙ ap (λ (l : Lacks). also_lack l v) c.lacks ∙ sym (lacks_more no_lacks vs v);
 }
 
 -- ---- whether a manifest holds
@@ -113,7 +122,7 @@ all_fine (Different ∷ vs) = refl
 all_fine (Unread ∷ vs) = sym (and_false (none_of is_different vs))
 all_fine (Skipped ∷ vs) = all_fine vs
 all_fine (Malformed ∷ vs) = all_fine vs
-all_fine (Unmet ∷ vs) = sym (ap (λ b. none_of is_different vs && b)
+all_fine (Unmet lacks ∷ vs) = sym (ap (λ b. none_of is_different vs && b)
     (and_false (none_of is_unread vs)) ∙ and_false (none_of is_different vs))
 all_fine (Comment ∷ vs) = all_fine vs
 
@@ -123,7 +132,7 @@ formed_is Different = refl
 formed_is Unread = refl
 formed_is Skipped = refl
 formed_is Malformed = refl
-formed_is Unmet = refl
+formed_is (Unmet lacks) = refl
 formed_is Comment = refl
 
 all_formed : (vs : List Verdict) → list_all is_formed vs ≡ none_of is_malformed vs

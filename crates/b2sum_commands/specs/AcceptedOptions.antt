@@ -19,7 +19,7 @@ use Rattle.b2sum_commands.specs.declared.options.Shape.TheVariants.{Named, Digit
 use Rattle.b2sum_commands.specs.declared.options.Report.TheVariants.{Each, Warnings, Failures}
 use Rattle.b2sum_commands.specs.declared.options.Report.TheVariants.{Nothing}
 use Rattle.b2sum_commands.specs.CommandLine.{Choice, End, Refused, reading}
-use Rattle.b2sum_commands.specs.PrintedSums.{is_dash}
+use Rattle.b2sum_commands.specs.Messages.{is_dash}
 
 -- The algorithm has trees.
 abbrev pub has_trees : Algorithm → Bool

@@ -7,7 +7,7 @@ use Rattle.b2sum_commands.specs.declared.options.Stop.TheVariants.{Help, Version
 use Rattle.b2sum_commands.specs.declared.options.Stop.TheVariants.{Value}
 use Rattle.b2sum_commands.specs.declared.options.Next as next
 use Rattle.b2sum_commands.specs.declared.options.Next.TheVariants.{Any, Awaited, File}
-use Rattle.b2sum_commands.specs.World.{Streams}
+use Rattle.b2sum_commands.specs.World.{Streams, World}
 use Rattle.b2sum_commands.specs.ProgramRuns.{PrintsText, RefusesLine}
 use Rattle.b2sum_commands.specs.CommandLine.{Choice, End, Helped, Versioned, Refused}
 use Rattle.b2sum_commands.specs.CommandLine.{Next, Anything, ValueOf, OnlyFile, ReadWords}
@@ -81,9 +81,10 @@ IsUnfit test NoMemory = ⊤
 
 -- What is printed if the program stops, with whether the command line is right: the help, the
 -- version, or only a message. There is no result if an error ended it.
-abbrev pub IsPrinted : List ℕ → List ℕ → Streams → Streams → stop.Stop → Option Bool → Type 0
-IsPrinted help version old new Help end = PrintsText help old new end
-IsPrinted help version old new Version end = PrintsText version old new end
-IsPrinted help version old new (Usage line) end = RefusesLine old new end
-IsPrinted help version old new (Value first second) end = RefusesLine old new end
-IsPrinted help version old new NoMemory end = (end ≡ None) × RefusesLine old new None
+abbrev pub IsPrinted : World → List ℕ → List ℕ → Streams → Streams → stop.Stop → Option Bool
+    → Type 0
+IsPrinted w help version old new Help end = PrintsText help old new end
+IsPrinted w help version old new Version end = PrintsText version old new end
+IsPrinted w help version old new (Usage line) end = RefusesLine w old new end
+IsPrinted w help version old new (Value first second) end = RefusesLine w old new end
+IsPrinted w help version old new NoMemory end = (end ≡ None) × (new ≡ old)

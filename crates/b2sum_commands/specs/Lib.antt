@@ -1,3 +1,5 @@
+pub mod Messages
+pub mod LineNeeds
 pub mod World
 pub mod ProgramName
 pub mod PrintedSums

@@ -1,7 +1,9 @@
 -- The lines of what a source returns.
 use Rattle.std.specs.Prelude.{◌≡◌, ℕ, ◌==◌, false, List, [], ◌∷◌, ◌++◌, Option, Some, None}
+use Rattle.std.specs.Prelude.{IfSome, is_none}
 use Rattle.std.specs.Io.KnownBytes.{IsAtEnd}
 use Rattle.std.specs.List.{All}
+use Rattle.b2sum_commands.specs.Messages.{is_dash}
 use Rattle.b2sum_commands.specs.declared.line_reader.LineEnd.{LineEnd}
 use Rattle.b2sum_commands.specs.declared.line_reader.LineEnd.TheVariants.{Newline, Last, Failure}
 
@@ -33,3 +35,13 @@ abbrev pub source_left : {F : Type 0} → (F → Option (List ℕ)) → Option F
     → Option (List ℕ)
 source_left left None input = input
 source_left left (Some file) input = left file
+
+-- The manifest of this name is open, and nothing of it is read: it is standard input, which has
+-- `input` left, or a file that has all that it holds, if that is known.
+pub record IsOpenManifest {F : Type 0} (named : F → List ℕ) (left : F → Option (List ℕ))
+    (held input : Option (List ℕ)) (name : List ℕ) (file : Option F) (lines : List ℕ) : Type 0
+  where
+    pub is_input : is_none file ≡ is_dash name
+    pub is_named : source_name named file ≡ name
+    pub unread : lines ≡ []
+    pub whole : is_dash name ≡ false → IfSome held (λ _. source_left left file input ≡ held)

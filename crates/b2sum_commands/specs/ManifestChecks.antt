@@ -2,6 +2,7 @@
 use Rattle.std.specs.Prelude.{◌≡◌, ◌⊎◌, ℕ, Bool, true, false, List, ⊤}
 use Rattle.std.specs.Prelude.{Option, Some, None, Result, Ok, Err, ◌++◌, if◌then◌else◌}
 use Rattle.std.specs.Io.KnownBytes.{Consumes, IsAtEnd}
+use Rattle.std.specs.declared.io.Error.{Error}
 use Rattle.text_lines.specs.Cuts.{lines_of}
 use Rattle.b2sum_lines.specs.EntryViews.{entry_value}
 use Rattle.b2sum_lines.specs.ManifestLines.{Line}
@@ -12,10 +13,10 @@ use Rattle.b2sum_commands.specs.declared.check.Item.TheVariants.{Comment, Listed
 use Rattle.b2sum_commands.specs.declared.check.Verdict.{Verdict}
 use Rattle.b2sum_commands.specs.declared.check.Verdict.TheVariants as verdict
 use Rattle.b2sum_commands.specs.declared.options.Options.{Options}
-use Rattle.b2sum_commands.specs.World.{Streams}
-use Rattle.b2sum_commands.specs.World.{World, InTurn, IsQuiet, IsStopped}
-use Rattle.b2sum_commands.specs.PrintedSums.{is_dash, CannotGet, LeavesInput}
-use Rattle.b2sum_commands.specs.Manifests.{IsLine, BeginsLine, first_spacing, holds_by}
+use Rattle.b2sum_commands.specs.Messages.{BreaksOff, Cannot, is_dash}
+use Rattle.b2sum_commands.specs.World.{World, Streams, InTurn, IsStopped, OnlyTells, Tells}
+use Rattle.b2sum_commands.specs.PrintedSums.{LeavesInput}
+use Rattle.b2sum_commands.specs.Manifests.{IsLine, BeginsLine, first_place, holds_by}
 use Rattle.b2sum_commands.specs.Reports.{AreCounted, IsReported}
 
 -- What a line is, as `item` has it.
@@ -23,7 +24,7 @@ abbrev pub item_value : Item → Option (Result Line Verdict)
 item_value Comment = None
 item_value (Listed e) = Some (Ok (entry_value e))
 item_value Malformed = Some (Err verdict.Malformed)
-item_value (Unmet lacks) = Some (Err verdict.Unmet)
+item_value (Unmet lacks) = Some (Err (verdict.Unmet lacks))
 
 -- Whether the entry of this line has the property. A line without an entry has it.
 abbrev pub IfListed : Item → (Entry → Type 0) → Type 0
@@ -45,8 +46,7 @@ IsBeginning false held left text = (rest : Option (List ℕ)) × Consumes held r
 
 -- Streams of which this is left of standard input, if the manifest is that.
 abbrev pub read_to : Bool → Option (List ℕ) → Streams → Streams
-read_to true left s = record s { left = left }
-read_to false left s = s
+read_to input left s = record s { left = if input then left else s.left }
 
 -- The lines of what a manifest returned are checked, with these verdicts. Before that, it had
 -- `before` left, and after that, `rest`. No entry of a manifest on standard input reads that, so
@@ -65,37 +65,48 @@ EndsAt None vs rest left failed = failed
 EndsAt (Some counts) vs rest left failed =
     AreCounted vs counts × (rest ≡ left) × IsAtEnd left
 
--- The lines of a text are checked one after the other, with these verdicts, and nothing else is
--- printed but messages. `input` says that the text is standard input, up to where `old` is.
+-- The lines of a text are checked one after the other, with these verdicts, and then only messages
+-- are told. `input` says that the text is standard input, up to where `old` is.
 pub record AreJudged (w : World) (o : Options) (input : Bool) (text : List ℕ)
     (old new : Streams) (verdicts : List Verdict) : Type 0 where
   pub end : Streams
   pub lines : InTurn (IsLine w o input) (lines_of text) old end verdicts
-  pub quiet : IsQuiet end new
-  pub left : new.left ≡ end.left
+  pub last : OnlyTells end new
 
 -- A manifest that was read is checked by the options, with this result: whether it holds. The last
 -- messages are those of its counts.
 pub record IsJudged (w : World) (o : Options) (name : List ℕ) (old new : Streams) (result : Bool)
     : Type 0 where
   pub text : List ℕ
-  pub start : Streams
+  pub left : Option (List ℕ)
   pub verdicts : List Verdict
-  pub is_text : IsText (is_dash name) (w.files.holds name) old.left start.left text
-  pub quiet : IsQuiet old start
-  pub are_judged : AreJudged w o (is_dash name) text start new verdicts
+  pub is_text : IsText (is_dash name) (w.files.holds name) old.left left text
+  pub are_judged :
+      AreJudged w o (is_dash name) text (record old { left = left }) new verdicts
   pub is_result : result ≡ holds_by o.is_strict verdicts
   pub reported : IsReported w o name verdicts are_judged.end new
 
--- A manifest was not read to its end, for a cause. Then the lines of its beginning are checked.
+-- A message says why the manifest of this name cannot be opened.
+abbrev pub TellsUnopened : World → List ℕ → Streams → Streams → Type 0
+TellsUnopened w name old new = (is_dash name ≡ false) × (e : Error)
+    × w.files.refuses name e × (reason : List ℕ) × w.files.describes e reason
+    × Tells w old new (Cannot name reason)
+
+-- A message says why a manifest was not read to its end: it cannot be opened, or a read failed.
+abbrev pub TellsCut : World → List ℕ → Streams → Streams → Type 0
+TellsCut w name old new =
+    TellsUnopened w name old new ⊎ (w.breaks name × Tells w old new (BreaksOff name))
+
+-- A manifest was not read to its end, as the last message says. Then the lines of its beginning are
+-- checked.
 pub record IsCutShort (w : World) (o : Options) (name : List ℕ) (old new : Streams) : Type 0 where
   pub text : List ℕ
-  pub start : Streams
+  pub left : Option (List ℕ)
   pub verdicts : List Verdict
-  pub cause : CannotGet w name
   pub begins : IsBeginning (is_dash name) (w.files.holds name) old.left text
-  pub quiet : IsQuiet old start
-  pub are_judged : AreJudged w o (is_dash name) text start new verdicts
+  pub are_judged :
+      AreJudged w o (is_dash name) text (record old { left = left }) new verdicts
+  pub told : TellsCut w name are_judged.end new
 
 -- The lines of a text are whole: they stay the same, whatever comes after it.
 abbrev pub AreWholeLines : List ℕ → Type 0
@@ -109,10 +120,10 @@ pub record AreStopped (w : World) (o : Options) (name : List ℕ) (input : Bool)
   pub rest : Option (List ℕ)
   pub passed : Consumes before rest text
   pub whole : AreWholeLines text ⊎ (IsAtEnd rest ⊎ w.breaks name)
-  pub start : Streams
-  pub quiet : IsQuiet old start
-  pub left : LeavesInput input old.left start.left
-  pub lines : IsStopped (IsLine w o input) (BeginsLine w o input) (lines_of text) start new
+  pub left : Option (List ℕ)
+  pub leaves : LeavesInput input old.left left
+  pub lines : IsStopped (IsLine w o input) (BeginsLine w o input) (lines_of text)
+      (record old { left = left }) new
 
 -- What the manifest of this name has: what is left of standard input for `-`.
 abbrev pub manifest_bytes : World → Option (List ℕ) → List ℕ → Option (List ℕ)
@@ -126,8 +137,8 @@ GoesOn w o name old new (Some result) =
 GoesOn w o name old new None =
     AreStopped w o name (is_dash name) (manifest_bytes w old.left name) old new
 
--- The manifest of this name is checked. Which spacing its lines have does not depend on other
--- manifests.
+-- The manifest of this name is checked. Which spacing its lines have, and their numbers, do not
+-- depend on other manifests.
 abbrev pub IsChecked : World → Options → List ℕ → Streams → Streams → Option Bool → Type 0
 IsChecked w o name old new end =
-    GoesOn w o name (record old { spacing = first_spacing o }) new end
+    GoesOn w o name (record old { place = first_place o name }) new end

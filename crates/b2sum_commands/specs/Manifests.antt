@@ -1,17 +1,14 @@
 -- The check of a manifest: its lines, what becomes of each, and when it holds.
-use Rattle.std.specs.Prelude.{◌≡◌, ◌≢◌, ℕ, ◌+◌, ◌-◌, ◌==◌, ◌&&◌, ◌||◌, Bool, true, false, not}
-use Rattle.std.specs.Prelude.{if◌then◌else◌, List, [], ◌∷◌, ◌++◌, length, take, get_or, codes}
-use Rattle.std.specs.Prelude.{Option, Some, None, Result, Ok, Err, ◌⊎◌}
+use Rattle.std.specs.Prelude.{◌≡◌, ◌≢◌, ℕ, ◌+◌, ◌-◌, ◌^◌, ◌==◌, ◌&&◌, ◌||◌, min, Bool, true}
+use Rattle.std.specs.Prelude.{false, not, if◌then◌else◌, List, [], ◌∷◌, ◌++◌, length, take, get_or}
+use Rattle.std.specs.Prelude.{codes, Option, Some, None, Result, Ok, Err, ◌⊎◌}
 use Rattle.std.specs.Io.KnownBytes.{Appends}
 use Rattle.hex.specs.Hex.{encode_lower}
 use Rattle.std.specs.List.{list_any, list_all}
+use Rattle.std.specs.declared.io.Error.{Error}
 use Rattle.std.specs.Option.{option_map}
 use Rattle.blake2_streams.specs.Streams.{TakesPart}
 use Rattle.b2sum_lines.specs.ManifestLines.{Line, escaped, line_entry}
-use Rattle.b2sum_lines.specs.declared.entry.Algorithm.{Algorithm}
-use Rattle.b2sum_lines.specs.declared.entry.Algorithm.TheVariants.{Blake2b, Blake2s, Blake2bp}
-use Rattle.b2sum_lines.specs.declared.entry.Algorithm.TheVariants.{Blake2sp, Tree}
-use Rattle.b2sum_lines.specs.declared.entry.Needs.{Needs}
 use Rattle.b2sum_lines.specs.declared.entry.Spacing.{Spacing}
 use Rattle.b2sum_lines.specs.declared.entry.Spacing.TheVariants.{Open, Two, One}
 use Rattle.b2sum_lines.specs.declared.entry.Style.{Style}
@@ -21,13 +18,16 @@ use Rattle.b2sum_commands.specs.declared.check.Verdict.TheVariants.{Equal, Diffe
 use Rattle.b2sum_commands.specs.declared.check.Verdict.TheVariants.{Skipped, Malformed, Unmet}
 use Rattle.b2sum_commands.specs.declared.check.Verdict.TheVariants.{Comment}
 use Rattle.b2sum_commands.specs.declared.hashes.Function.{Function}
+use Rattle.b2sum_commands.specs.declared.line_needs.Lacks.{Lacks}
 use Rattle.b2sum_commands.specs.declared.options.Options.{Options}
 use Rattle.b2sum_commands.specs.declared.options.Report.{Report}
 use Rattle.b2sum_commands.specs.declared.options.Report.TheVariants.{Each, Warnings, Failures}
 use Rattle.b2sum_commands.specs.declared.options.Report.TheVariants.{Nothing}
-use Rattle.b2sum_commands.specs.World.{Streams}
-use Rattle.b2sum_commands.specs.World.{World, IsTold}
-use Rattle.b2sum_commands.specs.PrintedSums.{is_dash, ReadsAs, LeavesInput, CannotSum}
+use Rattle.b2sum_commands.specs.LineNeeds.{lacks_of, meets}
+use Rattle.b2sum_commands.specs.Messages.{Improper, is_dash, message_if}
+use Rattle.b2sum_commands.specs.World.{Place, Streams, World, TellsText}
+use Rattle.b2sum_commands.specs.PrintedSums.{ReadsAs, LeavesInput, CannotSum, IsMissing}
+use Rattle.b2sum_commands.specs.PrintedSums.{TellsCause}
 
 -- ---- lines
 
@@ -46,60 +46,13 @@ abbrev pub trimmed : List ℕ → Option (List ℕ)
 trimmed [] = None
 trimmed (b ∷ line) = if b == 35 then None else not_empty (without_return (b ∷ line))
 
--- The length of a digest is the one that the options demand, if they demand one.
-abbrev pub has_demanded_length : Options → List ℕ → Bool
-has_demanded_length o digest = not o.demands_length || length digest == o.bytes
-
--- Two truth values are the same.
-abbrev pub is_equal_to : Bool → Bool → Bool
-is_equal_to true b = b
-is_equal_to false b = not b
-
--- Two digests need the same besides a file.
-abbrev pub same_needs : Needs → Needs → Bool
-same_needs a b =
-    is_equal_to a.key b.key && (is_equal_to a.salt b.salt && is_equal_to a.personal b.personal)
-
--- A number for each algorithm.
-abbrev pub algorithm_number : Algorithm → ℕ
-algorithm_number Blake2b = 0
-algorithm_number Blake2s = 1
-algorithm_number Blake2bp = 2
-algorithm_number Blake2sp = 3
-algorithm_number (Tree leaf) = 4 + leaf
-
--- The line of a digest says what the options have: all that a tagged line needs, and nothing else.
--- Other lines do not say what they need.
-abbrev pub has_needs : Options → Style → Bool
-has_needs o (Tagged needs) = same_needs needs o.needs
-has_needs o Text = true
-has_needs o Binary = true
-has_needs o Bare = true
-
--- There is a key, a salt or a personalization.
-abbrev pub has_any : Needs → Bool
-has_any needs = needs.key || (needs.salt || needs.personal)
-
--- A digest is of the algorithm of the options, if they demand that, or have a key, a salt or a
--- personalization, which is for that algorithm. Otherwise it is of any.
-abbrev pub has_algorithm : Options → Algorithm → Bool
-has_algorithm o a =
-    not (o.demands_algorithm || has_any o.needs)
-    || (algorithm_number a == algorithm_number o.algorithm)
-
--- The options are those that an entry needs: its digest has the length and the algorithm that they
--- demand, and needs what they have.
-abbrev pub meets : Options → Line → Bool
-meets o e =
-    has_demanded_length o e.digest && (has_needs o e.style && has_algorithm o e.algorithm)
-
 -- The entry of a line that can be checked, or the verdict on a line that cannot. Standard input
 -- that has the manifest, or had the key, is no file.
 abbrev pub checkable : Options → Bool → Option Line → Result Line Verdict
 checkable o input None = Err Malformed
 checkable o input (Some e) =
     if (input || o.input_is_key) && is_dash e.name then Err Malformed
-    else if meets o e then Ok e else Err Unmet
+    else if meets o e then Ok e else Err (Unmet (lacks_of o e))
 
 -- The hash function of an entry: the algorithm, and the length of the digest.
 abbrev pub listed_function : Line → Function
@@ -117,14 +70,28 @@ spacing_after s Text = Two
 spacing_after s Binary = Two
 spacing_after s Bare = One
 
--- The spacing after a line that is no comment.
-abbrev pub next_spacing : Spacing → Result Line Verdict → Spacing
-next_spacing s (Err v) = s
-next_spacing s (Ok e) = spacing_after s e.style
+-- The spacing after a line, of which this is read.
+abbrev pub spacing_past : Spacing → Option (Result Line Verdict) → Spacing
+spacing_past s None = s
+spacing_past s (Some (Err v)) = s
+spacing_past s (Some (Ok e)) = spacing_after s e.style
 
--- The spacing with which a manifest begins: any, but under a key only that of two bytes.
-abbrev pub first_spacing : Options → Spacing
-first_spacing o = if o.needs.key then Two else Open
+-- A number as 64 bits count it, which stop at the greatest.
+abbrev pub capped : ℕ → ℕ
+capped n = min n (2 ^ 64 - 1)
+
+-- The place after one more line, of which this is read.
+abbrev pub next_place : Place → Option (Result Line Verdict) → Place
+next_place p i = record p {
+  spacing = spacing_past p.spacing i;
+  number = capped (p.number + 1);
+}
+
+-- The place at which the manifest of this name begins. Its spacing is any, but under a key only
+-- that of two bytes.
+abbrev pub first_place : Options → List ℕ → Place
+first_place o name =
+    record { name = name; spacing = if o.needs.key then Two else Open; number = 0 }
 
 -- ---- verdicts
 
@@ -141,13 +108,18 @@ IsVerdict w o left (Ok e) Different found after =
     (text : List ℕ) × ReadsAs (is_dash e.name) (w.files.holds e.name) left after text
     × (found ≡ w.hashing.digest o (listed_function e) text) × (found ≢ e.digest)
 IsVerdict w o left (Ok e) Unread found after =
-    LeavesInput (is_dash e.name) left after × CannotSum w o (listed_function e) e.name
+    LeavesInput (is_dash e.name) left after
+    × (x : Error) × CannotSum w o (listed_function e) e.name x
 IsVerdict w o left (Ok e) Skipped found after =
     (o.ignores_missing ≡ true) × (is_dash e.name ≡ false) × (after ≡ left)
-    × (w.files.refuses e.name ≡ true) × (w.files.lacks e.name ≡ true)
+    × IsMissing w.files e.name
 IsVerdict w o left (Ok e) Malformed found after = ⊥
-IsVerdict w o left (Ok e) Unmet found after = ⊥
+IsVerdict w o left (Ok e) (Unmet lacks) found after = ⊥
 IsVerdict w o left (Ok e) Comment found after = ⊥
+
+-- The line does not need other options.
+abbrev pub IsMet : Verdict → Type 0
+IsMet v = (lacks : Lacks) → v ≢ Unmet lacks
 
 -- ---- when a manifest holds
 
@@ -158,7 +130,7 @@ is_equal Different = false
 is_equal Unread = false
 is_equal Skipped = false
 is_equal Malformed = false
-is_equal Unmet = false
+is_equal (Unmet lacks) = false
 is_equal Comment = false
 
 -- The file has another digest.
@@ -168,7 +140,7 @@ is_different Different = true
 is_different Unread = false
 is_different Skipped = false
 is_different Malformed = false
-is_different Unmet = false
+is_different (Unmet lacks) = false
 is_different Comment = false
 
 -- The verdict does not fail a check that is not strict.
@@ -178,7 +150,7 @@ is_fine Different = false
 is_fine Unread = false
 is_fine Skipped = true
 is_fine Malformed = true
-is_fine Unmet = false
+is_fine (Unmet lacks) = false
 is_fine Comment = true
 
 -- The line is that of an entry.
@@ -188,7 +160,7 @@ is_formed Different = true
 is_formed Unread = true
 is_formed Skipped = true
 is_formed Malformed = false
-is_formed Unmet = true
+is_formed (Unmet lacks) = true
 is_formed Comment = true
 
 -- A manifest holds: a file has its digest, none has another or cannot be read, no line needs other
@@ -213,7 +185,7 @@ outcome Warnings Unread = codes ": FAILED open or read\n"
 outcome Failures Unread = codes ": FAILED open or read\n"
 outcome r Skipped = []
 outcome r Malformed = []
-outcome r Unmet = []
+outcome r (Unmet lacks) = []
 outcome r Comment = []
 
 -- The digests of a file that has another one than its entry, a line each.
@@ -228,6 +200,13 @@ is_nothing Each = false
 is_nothing Warnings = false
 is_nothing Failures = false
 is_nothing Nothing = true
+
+-- Lines that are not properly formatted have messages.
+abbrev pub is_warnings : Report → Bool
+is_warnings Each = false
+is_warnings Warnings = true
+is_warnings Failures = false
+is_warnings Nothing = false
 
 -- The digests are printed after a verdict: the file has another one, and its line is printed.
 abbrev pub are_shown : Options → Verdict → Bool
@@ -253,14 +232,14 @@ abbrev pub verdict_lines : Options → Result Line Verdict → Verdict → List 
 verdict_lines o (Err verdict) v found = []
 verdict_lines o (Ok e) v found = with_name e.name (full_outcome o v e.digest found)
 
--- The verdict has no message.
+-- The verdict has no message of its own.
 abbrev pub is_silent : Verdict → Bool
 is_silent Equal = true
 is_silent Different = true
 is_silent Unread = false
 is_silent Skipped = true
 is_silent Malformed = false
-is_silent Unmet = false
+is_silent (Unmet lacks) = true
 is_silent Comment = true
 
 -- A sink accepted this much of the lines of a verdict that is right.
@@ -270,19 +249,32 @@ HasVerdict accepts w o i old new v =
     (found : List ℕ) × IsVerdict w o old.left i v found new.left
     × accepts old.held new.held (verdict_lines o i v found)
 
+-- A message says why the file of an entry has no digest.
+abbrev pub TellsUnread : World → Options → Result Line Verdict → Streams → Streams → Type 0
+TellsUnread w o (Err verdict) old new = ⊥
+TellsUnread w o (Ok e) old new = TellsCause w o (listed_function e) e.name old new
+
+-- What is told of a line with this verdict: why its file cannot be read, that it is not properly
+-- formatted, if the options warn of that, or nothing.
+abbrev pub TellsVerdict : World → Options → Result Line Verdict → Streams → Streams → Verdict
+    → Type 0
+TellsVerdict w o i old new v = (v ≡ Unread → TellsUnread w o i old new)
+    × (v ≡ Malformed → TellsText old new (message_if (is_warnings o.report) w.program
+    (Improper new.place.name new.place.number o.algorithm)))
+    × (is_silent v ≡ true → new.told ≡ old.told)
+
 -- A line is checked: its entry has a verdict, or the line has one that cannot be checked, and the
--- lines of that are printed. A file that cannot be read has a message, and one that was read has
--- none.
+-- lines of that are printed.
 abbrev pub IsItem : World → Options → Option (Result Line Verdict) → Streams → Streams → Verdict
     → Type 0
-IsItem w o None old new v = (v ≡ Comment) × (new ≡ old)
-IsItem w o (Some i) old new v =
-    (new.spacing ≡ next_spacing old.spacing i) × HasVerdict Appends w o i old new v
-    × (v ≡ Unread → IsTold old new) × (is_silent v ≡ true → new.told ≡ old.told)
+IsItem w o None old new v =
+    (v ≡ Comment) × (new ≡ record old { place = next_place old.place None })
+IsItem w o (Some i) old new v = (new.place ≡ next_place old.place (Some i))
+    × HasVerdict Appends w o i old new v × TellsVerdict w o i old new v
 
 -- A line of a manifest is checked. `input` says that the manifest is standard input.
 abbrev pub IsLine : World → Options → Bool → List ℕ → Streams → Streams → Verdict → Type 0
-IsLine w o input line old new v = IsItem w o (item o input old.spacing line) old new v
+IsLine w o input line old new v = IsItem w o (item o input old.place.spacing line) old new v
 
 -- Nothing is printed for an entry, or a part of the lines of a verdict that is right.
 abbrev pub BeginsVerdict : World → Options → Result Line Verdict → Streams → Streams → Type 0
@@ -296,4 +288,4 @@ BeginsItem w o (Some i) old new = BeginsVerdict w o i old new
 
 -- An error ended the check of a line of a manifest.
 abbrev pub BeginsLine : World → Options → Bool → List ℕ → Streams → Streams → Type 0
-BeginsLine w o input line old new = BeginsItem w o (item o input old.spacing line) old new
+BeginsLine w o input line old new = BeginsItem w o (item o input old.place.spacing line) old new

@@ -1,8 +1,10 @@
 -- What is read of a file, and the line that is printed for it.
 use Rattle.std.specs.Prelude.{◌≡◌, ℕ, Bool, true, false, List, [], ◌∷◌, ◌++◌, Option, Some, None, ⊤}
 use Rattle.std.specs.Prelude.{if◌then◌else◌, ◌⊎◌}
-use Rattle.std.specs.Str.{bytes_eq}
 use Rattle.std.specs.Io.KnownBytes.{Appends}
+use Rattle.std.specs.IoError.{error_kind}
+use Rattle.std.specs.declared.io.Error.{Error}
+use Rattle.std.specs.declared.io.ErrorKind.TheVariants.{NotFound}
 use Rattle.blake2_streams.specs.Streams.{GivesAll, TakesPart}
 use Rattle.b2sum_lines.specs.ManifestLines.{Line, entry_line, plain_line}
 use Rattle.hex.specs.Hex.{encode_lower}
@@ -10,12 +12,8 @@ use Rattle.b2sum_commands.specs.declared.hashes.Function.{Function}
 use Rattle.b2sum_commands.specs.declared.options.Options.{Options}
 use Rattle.b2sum_commands.specs.declared.options.Shape.{Shape}
 use Rattle.b2sum_commands.specs.declared.options.Shape.TheVariants.{Named, Digits, Bytes}
-use Rattle.b2sum_commands.specs.World.{Streams}
-use Rattle.b2sum_commands.specs.World.{World, IsTold}
-
--- The name of standard input.
-abbrev pub is_dash : List ℕ → Bool
-is_dash name = bytes_eq name (45 ∷ [])
+use Rattle.b2sum_commands.specs.Messages.{Cannot, is_dash}
+use Rattle.b2sum_commands.specs.World.{Files, Streams, World, Tells}
 
 -- A source returned this text up to its end: standard input, which had `left` before and has
 -- `after` then, or a file that holds `held`. If that is not known, the text is some bytes.
@@ -29,14 +27,25 @@ abbrev pub LeavesInput : Bool → Option (List ℕ) → Option (List ℕ) → Ty
 LeavesInput true left after = ⊤
 LeavesInput false left after = after ≡ left
 
--- The file of this name is not read to its end: it cannot be opened, or a read of it failed.
-abbrev pub CannotGet : World → List ℕ → Type 0
-CannotGet w name =
-    ((is_dash name ≡ false) × (w.files.refuses name ≡ true)) ⊎ w.breaks name
+-- The file of this name is not read to its end: opening it or a read of it returned this error.
+abbrev pub CannotGet : World → List ℕ → Error → Type 0
+CannotGet w name e =
+    ((is_dash name ≡ false) × w.files.refuses name e) ⊎ w.fails name e
+
+-- There is no file of this name.
+abbrev pub IsMissing : Files → List ℕ → Type 0
+IsMissing files name =
+    (e : Error) × files.refuses name e × (error_kind e ≡ NotFound)
 
 -- A file has no digest: it is not read to its end, or the hash function refuses it.
-abbrev pub CannotSum : World → Options → Function → List ℕ → Type 0
-CannotSum w o f name = CannotGet w name ⊎ (w.hashing.rejects o f ≡ true)
+abbrev pub CannotSum : World → Options → Function → List ℕ → Error → Type 0
+CannotSum w o f name e = CannotGet w name e ⊎ (w.hashing.rejects o f ≡ true)
+
+-- A message says why the file of this name has no digest: it names the file, and the error.
+abbrev pub TellsCause : World → Options → Function → List ℕ → Streams → Streams → Type 0
+TellsCause w o f name old new = (e : Error) × CannotSum w o f name e
+    × (reason : List ℕ) × w.files.describes e reason
+    × Tells w old new (Cannot name reason)
 
 -- The hash function of the digests that are printed.
 abbrev pub printed_function : Options → Function
@@ -74,14 +83,15 @@ HasSum accepts w o name old new =
     × accepts old.held new.held (printed o.shape o.ends_zero (entry_of w o name text))
 
 -- The line of the file of this name is printed, and no message. If the result is false, nothing is
--- printed, since the file cannot be read, as a message says; if files that do not exist are
--- ignored, there may be none. If there is no result, an error ended it, and nothing or a part of
--- the line is printed.
+-- printed, since the file cannot be read, as a message says; if it does not exist, and that is to
+-- be ignored, there is none. If there is no result, an error ended it, and nothing or a part of the
+-- line is printed.
 abbrev pub IsSum : World → Options → List ℕ → Streams → Streams → Option Bool → Type 0
 IsSum w o name old new (Some true) =
     HasSum Appends w o name old new × (new.told ≡ old.told)
 IsSum w o name old new (Some false) =
     LeavesInput (is_dash name) old.left new.left × (new.held ≡ old.held)
-    × CannotSum w o (printed_function o) name
-    × (o.ignores_missing ≡ false → IsTold old new)
+    × (TellsCause w o (printed_function o) name old new
+    ⊎ ((o.ignores_missing ≡ true) × (is_dash name ≡ false) × IsMissing w.files name
+    × (new.told ≡ old.told)))
 IsSum w o name old new None = (new.held ≡ old.held) ⊎ HasSum TakesPart w o name old new

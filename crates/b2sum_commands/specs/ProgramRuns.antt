@@ -1,13 +1,14 @@
 -- What a run did for its command line.
-use Rattle.std.specs.Prelude.{◌≡◌, ℕ, Bool, true, false, if◌then◌else◌, List, ◌++◌, codes, Option}
-use Rattle.std.specs.Prelude.{Result, Ok, Err, Some, None, IfSome, ◌⊎◌}
+use Rattle.std.specs.Prelude.{◌≡◌, ◌==◌, ◌&&◌, not, ℕ, Bool, true, false, if◌then◌else◌, List}
+use Rattle.std.specs.Prelude.{◌++◌, nat_le, codes, Option, Result, Ok, Err, Some, None, IfSome, ◌⊎◌}
 use Rattle.std.specs.Io.KnownBytes.{Appends, Consumes, IsAtEnd}
+use Rattle.std.specs.declared.io.Error.{Error}
 use Rattle.b2sum_lines.specs.ManifestLines.{max_bytes}
 use Rattle.b2sum_commands.specs.declared.options.Options.{Options}
-use Rattle.b2sum_commands.specs.World.{Streams}
-use Rattle.b2sum_commands.specs.World.{World, AllInTurn, IsKey, IsNoKey, IsTold}
-use Rattle.b2sum_commands.specs.World.{StopsIn, IsEnded, HasMore}
-use Rattle.b2sum_commands.specs.PrintedSums.{IsSum, is_dash, CannotGet}
+use Rattle.b2sum_commands.specs.Messages.{Cannot, ShortMacs, Usage, Value, is_dash, message}
+use Rattle.b2sum_commands.specs.World.{Files, World, Streams, AllInTurn, IsKey, IsNoKey, Tells}
+use Rattle.b2sum_commands.specs.World.{StopsIn, IsEnded, OnlyTells, TellsText}
+use Rattle.b2sum_commands.specs.PrintedSums.{IsSum, CannotGet}
 use Rattle.b2sum_commands.specs.ManifestChecks.{IsChecked}
 use Rattle.b2sum_commands.specs.CommandLine.{Choice, End, Helped, Versioned, Refused}
 use Rattle.b2sum_commands.specs.AcceptedOptions.{AreOptions, is_input}
@@ -20,14 +21,14 @@ AreDone true w o names old new end = AllInTurn (IsChecked w o) names old new end
 AreDone false w o names old new end = AllInTurn (IsSum w o) names old new end
 
 -- The bytes of the key file of this name: those that are left of standard input for `-`.
-abbrev pub key_file_bytes : World → Option (List ℕ) → List ℕ → Option (List ℕ)
-key_file_bytes w left name = if is_dash name then left else w.files.holds name
+abbrev pub key_file_bytes : Files → Option (List ℕ) → List ℕ → Option (List ℕ)
+key_file_bytes files left name = if is_dash name then left else files.holds name
 
 -- The key of the options is that of the key file, if the choice has one.
 abbrev pub HasKey : World → Option (List ℕ) → Choice → Options → Type 0
 HasKey w left c o =
     IfSome c.key_file (λ name.
-    IsKey (key_file_bytes w left name) (max_bytes o.algorithm) o.key.items)
+    IsKey (key_file_bytes w.files left name) (max_bytes o.algorithm) o.key.items)
 
 -- Standard input is at its end after the key, if that is there, and else as it was.
 abbrev pub IsPastKey : Bool → Option (List ℕ) → Option (List ℕ) → Type 0
@@ -39,25 +40,49 @@ abbrev pub AfterKey : Option (List ℕ) → Streams → Streams → Type 0
 AfterKey file old new = (left : Option (List ℕ)) × (new ≡ record old { left = left })
     × IsPastKey (is_input file) old.left left
 
--- The key file of this name has no key: it is not read to its end, or has too few bytes or too
--- many.
-abbrev pub LacksKey : World → Option (List ℕ) → ℕ → List ℕ → Type 0
-LacksKey w left most name = CannotGet w name ⊎ IsNoKey (key_file_bytes w left name) most
+-- Why a file has no key of at most this many bytes.
+abbrev pub key_reason : ℕ → List ℕ
+key_reason most = if most == 64 then codes "a key has 1 to 64 bytes"
+    else codes "a key of BLAKE2s or BLAKE2sp has 1 to 32 bytes"
+
+-- The key file of this name has no key, for this reason: it is not read to its end, or has too few
+-- bytes or too many.
+abbrev pub LacksKey : World → Option (List ℕ) → ℕ → List ℕ → List ℕ → Type 0
+LacksKey w left most name reason =
+    ((e : Error) × CannotGet w name e × w.files.describes e reason)
+    ⊎ (IsNoKey (key_file_bytes w.files left name) most × (reason ≡ key_reason most))
+
+-- A message says that the file of this name has no key, and why.
+abbrev pub TellsNoKey : World → List ℕ → ℕ → Streams → Streams → Type 0
+TellsNoKey w name most old new = (reason : List ℕ) × LacksKey w old.left most name reason
+    × Tells w old new (Cannot name reason)
 
 -- There is a key file, and it has no key, as a message says. Nothing is printed.
 pub record IsKeyless (w : World) (file : Option (List ℕ)) (most : ℕ) (old new : Streams) : Type 0
   where
     pub name : List ℕ
     pub named : file ≡ Some name
-    pub cause : LacksKey w old.left most name
+    pub told : TellsNoKey w name most old new
     pub kept : new.held ≡ old.held
-    pub told : IsTold old new
 
--- The task of a choice is done for the files of these names.
+-- The digests are MACs of fewer than 128 bits.
+abbrev pub are_short_macs : Options → Bool
+are_short_macs o = o.needs.key && not (nat_le 16 o.bytes)
+
+-- The program of this name warns of short MACs, if there are any. Otherwise it says nothing.
+abbrev pub WarnsOfMacs : Bool → List ℕ → Streams → Streams → Type 0
+WarnsOfMacs true program old new =
+    OnlyTells old new × TellsText old new (message program ShortMacs)
+WarnsOfMacs false program old new = new ≡ old
+
+-- The task of a choice is done for the files of these names: the key is read, and then a warning
+-- says that MACs are short, before any file is read.
 abbrev pub DoesTask : World → Choice → List (List ℕ) → Streams → Streams → Option Bool → Type 0
 DoesTask w c names old new end =
     (o : Options) × AreOptions c o × HasKey w old.left c o
-    × (keyed : Streams) × AfterKey c.key_file old keyed × AreDone o.checks w o names keyed new end
+    × (keyed : Streams) × AfterKey c.key_file old keyed
+    × (warned : Streams) × WarnsOfMacs (are_short_macs o) w.program keyed warned
+    × AreDone o.checks w o names warned new end
 
 -- The task of a choice is not begun: its key file has no key, or an error came before, and nothing
 -- is printed.
@@ -80,12 +105,16 @@ abbrev pub PrintsText : List ℕ → Streams → Streams → Option Bool → Typ
 PrintsText text old new (Some well) = (well ≡ true) × Appends old.held new.held text
 PrintsText text old new None = StopsIn old.held new.held text
 
--- Nothing is printed but a message. If there is no result, an error ended it, and there may be
--- none.
-abbrev pub RefusesLine : Streams → Streams → Option Bool → Type 0
-RefusesLine old new (Some well) = (well ≡ false) × (new.held ≡ old.held) × IsTold old new
-RefusesLine old new None = (new.held ≡ old.held)
-    × HasMore old.messages_failed new.messages_failed old.told new.told
+-- A message says what is wrong with the command line.
+abbrev pub TellsRefusal : World → Streams → Streams → Type 0
+TellsRefusal w old new = ((text : List ℕ) × Tells w old new (Usage text))
+    ⊎ ((first : List ℕ) × (second : List ℕ) × Tells w old new (Value first second))
+
+-- Nothing is printed but such a message. If there is no result, an error came before.
+abbrev pub RefusesLine : World → Streams → Streams → Option Bool → Type 0
+RefusesLine w old new (Some well) =
+    (well ≡ false) × (new.held ≡ old.held) × TellsRefusal w old new
+RefusesLine w old new None = new ≡ old
 
 -- What a command line means is done, and all went well or not: the help, the version or only a
 -- message is printed, or a task is done, unless its key file has no key. If there is no result, an
@@ -94,17 +123,16 @@ abbrev pub DoesLine : World → List ℕ → List ℕ → Result (Choice × List
     → Streams → Option Bool → Type 0
 DoesLine w help version (Err Helped) old new end = PrintsText help old new end
 DoesLine w help version (Err Versioned) old new end = PrintsText version old new end
-DoesLine w help version (Err Refused) old new end = RefusesLine old new end
+DoesLine w help version (Err Refused) old new end = RefusesLine w old new end
 DoesLine w help version (Ok read) old new end = DoesChoice w read.0 read.1 old new end
 
--- A run of the program of this name did what its command line means, or an error ended that, as
--- the last message says.
-abbrev pub RunsLine : List ℕ → World → List ℕ → List ℕ → Result (Choice × List (List ℕ)) End
+-- A run did what its command line means, or an error ended that, as the last message says.
+abbrev pub RunsLine : World → List ℕ → List ℕ → Result (Choice × List (List ℕ)) End
     → Streams → Streams → Option Bool → Type 0
-RunsLine name w help version line old new (Some well) =
+RunsLine w help version line old new (Some well) =
     DoesLine w help version line old new (Some well)
-RunsLine name w help version line old new None =
-    (mid : Streams) × DoesLine w help version line old mid None × IsEnded name mid new
+RunsLine w help version line old new None =
+    (mid : Streams) × DoesLine w help version line old mid None × IsEnded w mid new
 
 -- The status of a run: 0 if all went well.
 abbrev pub status_of : Option Bool → ℕ

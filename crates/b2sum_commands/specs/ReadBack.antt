@@ -15,15 +15,11 @@ use Rattle.b2sum_commands.specs.declared.check.Verdict.TheVariants.{Skipped, Mal
 use Rattle.b2sum_commands.specs.declared.check.Verdict.TheVariants.{Comment}
 use Rattle.b2sum_commands.specs.declared.hashes.Function.{Function}
 use Rattle.b2sum_commands.specs.declared.options.Options.{Options}
-use Rattle.b2sum_commands.specs.World.{Streams}
-use Rattle.b2sum_commands.specs.World.{World, InTurn}
-use Rattle.b2sum_commands.specs.PrintedSums.{is_dash, ReadsAs, IsSum, entry_of, printed_function}
-use Rattle.b2sum_commands.specs.Manifests.{item, next_spacing, has_needs, has_algorithm, IsLine}
-
--- The spacing after a line, of which this is read.
-abbrev pub spacing_past : Spacing → Option (Result Line Verdict) → Spacing
-spacing_past s None = s
-spacing_past s (Some i) = next_spacing s i
+use Rattle.b2sum_commands.specs.LineNeeds.{has_needs, has_algorithm}
+use Rattle.b2sum_commands.specs.Messages.{is_dash}
+use Rattle.b2sum_commands.specs.World.{Streams, World, InTurn}
+use Rattle.b2sum_commands.specs.PrintedSums.{ReadsAs, IsSum, entry_of, printed_function}
+use Rattle.b2sum_commands.specs.Manifests.{item, spacing_past, IsLine}
 
 -- What a check reads of lines, one after the other.
 abbrev pub items : Options → Bool → Spacing → List (List ℕ) → List (Option (Result Line Verdict))
@@ -93,7 +89,7 @@ is_kept Different = false
 is_kept Unread = true
 is_kept Skipped = true
 is_kept Malformed = false
-is_kept Unmet = false
+is_kept (Unmet lacks) = false
 is_kept Comment = false
 
 -- A manifest is printed for these names: one entry for each file that was read, in order. A check
@@ -111,6 +107,6 @@ pub record IsManifest (w : World) (o : Options) (names : List (List ℕ)) (old n
       → AreReadAs c input s (lines_of text) (entries_in found)
   pub kept : (c : Options) (input : Bool) (before after : Streams) (verdicts : List Verdict)
       → AreReadable w o → AcceptsPrinted c o → HaveSameDigests w c o
-      → AreNames (input || c.input_is_key) names → AreKept w names → before.spacing ≢ One
+      → AreNames (input || c.input_is_key) names → AreKept w names → before.place.spacing ≢ One
       → InTurn (IsLine w c input) (lines_of text) before after verdicts
       → (list_all is_kept verdicts ≡ true) × (length verdicts ≡ length (entries_in found))

@@ -1,18 +1,19 @@
 -- The messages at the end of a manifest that was read: how many lines had which verdict.
-use Rattle.std.specs.Prelude.{◌≡◌, ◌+◌, ◌-◌, ◌^◌, ◌==◌, ◌&&◌, ◌||◌, nat_lt, min, ℕ, Bool, true}
-use Rattle.std.specs.Prelude.{false, not}
-use Rattle.std.specs.Prelude.{if◌then◌else◌, List, [], ◌∷◌, ◌++◌, codes, decimal}
+use Rattle.std.specs.Prelude.{◌≡◌, ◌+◌, ◌==◌, ◌&&◌, ◌||◌, nat_lt, ℕ, Bool, true, false, not}
+use Rattle.std.specs.Prelude.{if◌then◌else◌, List, [], ◌++◌, codes, fold, Option, Some, None}
 use Rattle.std.specs.List.{count_by}
 use Rattle.b2sum_commands.specs.declared.check.Counts.{Counts}
 use Rattle.b2sum_commands.specs.declared.check.Verdict.{Verdict}
 use Rattle.b2sum_commands.specs.declared.check.Verdict.TheVariants.{Equal, Different, Unread}
 use Rattle.b2sum_commands.specs.declared.check.Verdict.TheVariants.{Skipped, Malformed, Unmet}
 use Rattle.b2sum_commands.specs.declared.check.Verdict.TheVariants.{Comment}
+use Rattle.b2sum_commands.specs.declared.line_needs.Lacks.{Lacks}
 use Rattle.b2sum_commands.specs.declared.options.Options.{Options}
-use Rattle.b2sum_commands.specs.Manifests.{is_different, is_equal, is_nothing}
-use Rattle.b2sum_commands.specs.Quoting.{quoted_name}
-use Rattle.b2sum_commands.specs.PrintedSums.{is_dash}
-use Rattle.b2sum_commands.specs.World.{World, Streams, IsWritten}
+use Rattle.b2sum_commands.specs.LineNeeds.{both_lack, no_lacks}
+use Rattle.b2sum_commands.specs.Manifests.{capped, is_different, is_equal, is_nothing}
+use Rattle.b2sum_commands.specs.Messages.{BreaksOff, HasNoEntry, HaveCount, LinesNeed}
+use Rattle.b2sum_commands.specs.Messages.{VerifiesNone, message, message_if}
+use Rattle.b2sum_commands.specs.World.{World, Streams, TellsText}
 
 -- ---- counts
 
@@ -23,7 +24,7 @@ is_unread Different = false
 is_unread Unread = true
 is_unread Skipped = false
 is_unread Malformed = false
-is_unread Unmet = false
+is_unread (Unmet lacks) = false
 is_unread Comment = false
 
 -- The file does not exist, which is ignored.
@@ -33,7 +34,7 @@ is_skipped Different = false
 is_skipped Unread = false
 is_skipped Skipped = true
 is_skipped Malformed = false
-is_skipped Unmet = false
+is_skipped (Unmet lacks) = false
 is_skipped Comment = false
 
 -- The line is not that of an entry.
@@ -43,7 +44,7 @@ is_malformed Different = false
 is_malformed Unread = false
 is_malformed Skipped = false
 is_malformed Malformed = true
-is_malformed Unmet = false
+is_malformed (Unmet lacks) = false
 is_malformed Comment = false
 
 -- The line needs other options.
@@ -53,12 +54,18 @@ is_unmet Different = false
 is_unmet Unread = false
 is_unmet Skipped = false
 is_unmet Malformed = false
-is_unmet Unmet = true
+is_unmet (Unmet lacks) = true
 is_unmet Comment = false
 
--- A number as 64 bits count it, which stop at the greatest.
-abbrev pub capped : ℕ → ℕ
-capped n = min n (2 ^ 64 - 1)
+-- What lines lack, with one more that has this verdict.
+abbrev pub also_lack : Lacks → Verdict → Lacks
+also_lack l Equal = l
+also_lack l Different = l
+also_lack l Unread = l
+also_lack l Skipped = l
+also_lack l Malformed = l
+also_lack l (Unmet lacks) = both_lack l lacks
+also_lack l Comment = l
 
 -- The counts are those of verdicts.
 pub record AreCounted (vs : List Verdict) (counts : Counts) : Type 0 where
@@ -68,6 +75,7 @@ pub record AreCounted (vs : List Verdict) (counts : Counts) : Type 0 where
   pub skipped : counts.skipped ≡ capped (count_by is_skipped vs)
   pub malformed : counts.malformed ≡ capped (count_by is_malformed vs)
   pub unmet : counts.unmet ≡ capped (count_by is_unmet vs)
+  pub lacks : counts.lacks ≡ fold also_lack no_lacks vs
 
 -- A count with one more, if that is of its kind.
 abbrev pub more_if : Bool → ℕ → ℕ
@@ -82,6 +90,7 @@ pub record Adds (v : Verdict) (old new : Counts) : Type 0 where
   pub skipped : new.skipped ≡ more_if (is_skipped v) old.skipped
   pub malformed : new.malformed ≡ more_if (is_malformed v) old.malformed
   pub unmet : new.unmet ≡ more_if (is_unmet v) old.unmet
+  pub lacks : new.lacks ≡ also_lack old.lacks v
 
 -- A manifest holds by its counts: a file has its digest, and no line fails the check.
 abbrev pub holds_counted : Bool → Counts → Bool
@@ -92,24 +101,10 @@ holds_counted strict c =
 
 -- ---- messages
 
--- The line of a message of the program of this name, in three parts.
-abbrev pub message : List ℕ → List ℕ → List ℕ → List ℕ → List ℕ
-message program a b c = program ++ codes ": " ++ a ++ b ++ c ++ (10 ∷ [])
-
--- The line of a message, if there is cause for it.
-abbrev pub message_if : Bool → List ℕ → List ℕ → List ℕ → List ℕ → List ℕ
-message_if true program a b c = message program a b c
-message_if false program a b c = []
-
 -- The warning of a count, with a text for one and a text for several. None is no warning.
 abbrev pub count_line : List ℕ → ℕ → List ℕ → List ℕ → List ℕ
 count_line program n one several =
-    message_if (not (n == 0)) program (codes "WARNING: ") (decimal n)
-    (if n == 1 then one else several)
-
--- The name of a manifest in messages.
-abbrev pub title_of : List ℕ → List ℕ
-title_of name = quoted_name (if is_dash name then codes "standard input" else name)
+    message_if (not (n == 0)) program (HaveCount n one several)
 
 -- No line is that of an entry.
 abbrev pub has_no_entry : Counts → Bool
@@ -129,22 +124,26 @@ warnings program c =
     ++ count_line program c.different (codes " computed checksum did NOT match")
     (codes " computed checksums did NOT match")))
 
--- The messages at the end of a manifest with this title, of which lines need these options.
-abbrev pub report_text : List ℕ → List ℕ → Options → Counts → List ℕ → List ℕ
-report_text program title o c needs =
-    if has_no_entry c
-    then message program title (codes ": no properly formatted checksum lines found") []
+-- The messages at the end of a manifest of this name.
+abbrev pub report_text : List ℕ → List ℕ → Options → Counts → List ℕ
+report_text program name o c =
+    if has_no_entry c then message program (HasNoEntry name)
     else if is_nothing o.report then []
-    else message_if (not (c.unmet == 0)) program title (codes ": lines need") needs
+    else message_if (not (c.unmet == 0)) program (LinesNeed name c.lacks)
     ++ (warnings program c
-    ++ message_if (o.ignores_missing && (c.equal == 0)) program title
-    (codes ": no file was verified") [])
+    ++ message_if (o.ignores_missing && (c.equal == 0)) program (VerifiesNone name))
+
+-- The last messages of a manifest of this name are told, which holds or not: those of its counts,
+-- or, if there are none, that a read failed.
+abbrev pub TellsEnd : List ℕ → Options → List ℕ → Option Counts → Bool → (List ℕ → Type 0) → Type 0
+TellsEnd program o name None holds told =
+    (holds ≡ false) × told (message program (BreaksOff name))
+TellsEnd program o name (Some c) holds told =
+    (holds ≡ holds_counted o.is_strict c) × told (report_text program name o c)
 
 -- The messages of a manifest of this name, whose lines had these verdicts, are printed.
 pub record IsReported (w : World) (o : Options) (name : List ℕ) (vs : List Verdict)
     (old new : Streams) : Type 0 where
   pub counts : Counts
   pub are_counted : AreCounted vs counts
-  pub needs : List ℕ
-  pub written : IsWritten old.messages_failed new.messages_failed old.told new.told
-      (report_text w.program (title_of name) o counts needs)
+  pub told : TellsText old new (report_text w.program name o counts)

@@ -1,19 +1,21 @@
 -- What a run finds, and what goes on from one file to the next.
 use Rattle.std.specs.Prelude.{◌≡◌, ℕ, Bool, true, List, [], ◌∷◌, Option, ◌⊎◌, ◌<◌}
-use Rattle.std.specs.Prelude.{◌≤◌, ◌++◌, length, codes, Some, None}
+use Rattle.std.specs.Prelude.{◌≤◌, ◌++◌, length, Some, None}
 use Rattle.std.specs.Io.KnownBytes.{Appends, Consumes, IsAtEnd}
 use Rattle.std.specs.List.{list_all}
+use Rattle.std.specs.declared.io.Error.{Error}
 use Rattle.blake2_streams.specs.Streams.{TakesPart}
 use Rattle.b2sum_lines.specs.declared.entry.Spacing.{Spacing}
 use Rattle.b2sum_commands.specs.declared.hashes.Function.{Function}
 use Rattle.b2sum_commands.specs.declared.options.Options.{Options}
+use Rattle.b2sum_commands.specs.Messages.{Message, NoMemory, WriteFailed, message}
 
 -- Files by their names: the bytes of a file, if that is known, whether it may be that the file
--- cannot be opened, and whether it may be that there is none.
-pub record Files : Type 0 where
+-- cannot be opened, with this error, and whether an error may have this text.
+pub record Files : Type 1 where
   pub holds : List ℕ → Option (List ℕ)
-  pub refuses : List ℕ → Bool
-  pub lacks : List ℕ → Bool
+  pub refuses : List ℕ → Error → Type 0
+  pub describes : Error → List ℕ → Type 0
 
 -- Hash functions, with the parameters of options: the digest of a text, and whether a digest may be
 -- refused.
@@ -21,36 +23,53 @@ pub record Hashing : Type 0 where
   pub digest : Options → Function → List ℕ → List ℕ
   pub rejects : Options → Function → Bool
 
+-- The manifest that is checked, as far as it is read: its name, the spacing of its lines, how many
+-- they are, at most 2^64 - 1.
+pub record Place : Type 0 where
+  pub name : List ℕ
+  pub spacing : Spacing
+  pub number : ℕ
+
 -- What goes on from one file to the next: the bytes that are left of standard input, the bytes that
 -- standard output holds and those of messages, if that is known, whether a write to either failed,
--- and the spacing of the lines of manifests.
+-- the error of that of standard output, and the place in manifests.
 pub record Streams : Type 0 where
   pub left : Option (List ℕ)
   pub held : Option (List ℕ)
   pub told : Option (List ℕ)
   pub output_failed : Bool
+  pub output_error : Option Error
   pub messages_failed : Bool
-  pub spacing : Spacing
+  pub place : Place
 
 -- There is an open file of this name of which a read failed.
 abbrev pub HasFailed : {F : Type 0} → (F → List ℕ) → (F → Bool) → List ℕ → Type 0
 HasFailed {F} named failed name = (file : F) × (named file ≡ name) × (failed file ≡ true)
 
--- What a run finds: the name of the program, the files, the hash functions, and whether there is an
--- open file of a name of which a read failed.
+-- A read of an open file of this name returned this error.
+abbrev pub HasError : {F : Type 0} → (F → List ℕ) → (F → Bool) → (F → Option Error) → List ℕ
+    → Error → Type 0
+HasError {F} named failed failure name e = (file : F) × (named file ≡ name)
+    × (failed file ≡ true) × (failure file ≡ Some e)
+
+-- What a run finds: the name of the program, the files, the hash functions, and whether a read of
+-- an open file of a name failed, and with which error.
 pub record World : Type 1 where
   pub program : List ℕ
   pub files : Files
   pub hashing : Hashing
   pub breaks : List ℕ → Type 0
+  pub fails : List ℕ → Error → Type 0
 
 -- The world of the program of this name, with open files that have names and may have failed.
-abbrev pub world_of : {F : Type 0} → List ℕ → (F → List ℕ) → (F → Bool) → Files → Hashing → World
-world_of program named failed files hashing = record {
+abbrev pub world_of : {F : Type 0} → List ℕ → (F → List ℕ) → (F → Bool) → (F → Option Error)
+    → Files → Hashing → World
+world_of program named failed failure files hashing = record {
   program = program;
   files = files;
   hashing = hashing;
   breaks = HasFailed named failed;
+  fails = HasError named failed failure;
 }
 
 -- The bytes are all those of a file, which holds `held` if that is known, and at least one and at
@@ -73,37 +92,45 @@ pub record IsWritten (was_failed is_failed : Bool) (old new : Option (List ℕ))
   pub stays : was_failed ≡ true → is_failed ≡ true
   pub accepted : (is_failed ≡ true) ⊎ Appends old new line
 
--- A sink accepted a message, or it has failed. A sink that has failed stays so.
-abbrev pub HasMessage : Bool → Bool → Option (List ℕ) → Option (List ℕ) → Type 0
-HasMessage was_failed is_failed old new =
-    (line : List ℕ) × (0 < length line) × IsWritten was_failed is_failed old new line
+-- A text is told: the sink of messages accepted it, or it has failed.
+abbrev pub TellsText : Streams → Streams → List ℕ → Type 0
+TellsText old new text =
+    IsWritten old.messages_failed new.messages_failed old.told new.told text
 
--- A message is printed, or messages cannot be.
-abbrev pub IsTold : Streams → Streams → Type 0
-IsTold old new = HasMessage old.messages_failed new.messages_failed old.told new.told
+-- This is said.
+abbrev pub Tells : World → Streams → Streams → Message → Type 0
+Tells w old new said = TellsText old new (message w.program said)
 
--- A sink accepted some messages or none, or it has failed. A sink that has failed stays so.
-abbrev pub HasMore : Bool → Bool → Option (List ℕ) → Option (List ℕ) → Type 0
-HasMore was_failed is_failed old new =
-    (lines : List ℕ) × IsWritten was_failed is_failed old new lines
+-- Only messages are told.
+abbrev pub OnlyTells : Streams → Streams → Type 0
+OnlyTells old new =
+    new ≡ record old { told = new.told; messages_failed = new.messages_failed }
 
 -- A sink accepted nothing, or a beginning of a text, and not all of it.
 abbrev pub StopsIn : Option (List ℕ) → Option (List ℕ) → List ℕ → Type 0
 StopsIn old new text = (new ≡ old) ⊎ TakesPart old new text
 
--- An error ended a run of the program of this name, as one more message says: an allocation failed,
--- or a write to the output, with the reason. Nothing else is printed.
-pub record IsEnded (name : List ℕ) (old new : Streams) : Type 0 where
-  pub line : List ℕ
-  pub cause : (line ≡ name ++ codes ": memory exhausted\n") ⊎ ((new.output_failed ≡ true)
-      × (reason : List ℕ) × (line ≡ name ++ codes ": write error" ++ reason ++ (10 ∷ [])))
-  pub told : IsWritten old.messages_failed new.messages_failed old.told new.told line
+-- The message of a write that failed with this error, with its text if there is memory for that.
+abbrev pub IsWriteError : Files → Error → Message → Type 0
+IsWriteError files e said = (said ≡ WriteFailed None) ⊎ ((reason : List ℕ)
+    × files.describes e reason × (said ≡ WriteFailed (Some reason)))
+
+-- Why an error ended a run: an allocation failed, or a write to the output, with that error.
+abbrev pub IsEndOf : World → Streams → Message → Type 0
+IsEndOf w s said = (said ≡ NoMemory) ⊎ ((s.output_failed ≡ true)
+    × (e : Error) × (s.output_error ≡ Some e) × IsWriteError w.files e said)
+
+-- An error ended a run, as one more message says. Nothing else is printed.
+pub record IsEnded (w : World) (old new : Streams) : Type 0 where
+  pub said : Message
+  pub cause : IsEndOf w new said
+  pub told : Tells w old new said
   pub held : new.held ≡ old.held
 
--- Nothing is printed but messages.
-pub record IsQuiet (old new : Streams) : Type 0 where
+-- Standard output, and the place in manifests, stay the same.
+pub record KeepsOutput (old new : Streams) : Type 0 where
   pub held : new.held ≡ old.held
-  pub spacing : new.spacing ≡ old.spacing
+  pub place : new.place ≡ old.place
 
 -- Something is done for each of these, one after the other, with these results.
 abbrev pub InTurn : {X Y : Type 0} → (X → Streams → Streams → Y → Type 0) → List X → Streams

@@ -10,42 +10,43 @@ ghost use Rattle.hex.specs.Hex.{encode_lower};
 ghost use Rattle.std.specs.Option.{option_map};
 ghost use Rattle.std.specs.Result.{result_ok};
 ghost use Rattle.b2sum_lines.specs.EntryViews.{entry_value};
-ghost use Rattle.b2sum_commands.specs.World.{world_of, AllInTurn, IsQuiet, IsTold, StopsIn};
-ghost use Rattle.b2sum_commands.specs.World.{HasFailed, IsWritten};
-ghost use Rattle.b2sum_commands.specs.PrintedSums.{is_dash};
+ghost use Rattle.b2sum_commands.specs.Messages.{Improper, VerifiesNone, message_if};
+ghost use Rattle.b2sum_commands.specs.World.{world_of, AllInTurn, KeepsOutput, OnlyTells, StopsIn};
+ghost use Rattle.b2sum_commands.specs.World.{HasFailed, IsWritten, TellsText};
 ghost use Rattle.b2sum_commands.specs.LineReads.{IsCutOff, IsAfter, source_left, source_name};
+ghost use Rattle.b2sum_commands.specs.LineReads.{IsOpenManifest};
 ghost use Rattle.b2sum_commands.specs.Manifests.{trimmed, item, spacing_after, IsVerdict};
-ghost use Rattle.b2sum_commands.specs.Manifests.{IsLine};
+ghost use Rattle.b2sum_commands.specs.Manifests.{IsLine, IsMet, TellsUnread, next_place};
 ghost use Rattle.b2sum_commands.specs.Manifests.{BeginsLine, BeginsVerdict};
-ghost use Rattle.b2sum_commands.specs.Quoting.{quoted_name};
-ghost use Rattle.b2sum_commands.specs.Reports.{AreCounted, Adds, has_no_entry, title_of, warnings};
-ghost use Rattle.b2sum_commands.specs.Reports.{holds_counted, message_if, report_text};
+ghost use Rattle.b2sum_commands.specs.Reports.{AreCounted, Adds, has_no_entry, warnings};
+ghost use Rattle.b2sum_commands.specs.Reports.{holds_counted, report_text, TellsEnd};
 ghost use Rattle.b2sum_commands.specs.Manifests.{outcome, with_name, verdict_lines, is_nothing};
 ghost use Rattle.b2sum_commands.specs.Manifests.{are_shown, digest_lines, full_outcome, HasVerdict};
+ghost use Rattle.b2sum_commands.specs.Manifests.{is_warnings};
 ghost use Rattle.b2sum_commands.specs.ManifestChecks.{item_value, IfListed, IsChecked, GoesOn};
-ghost use Rattle.b2sum_commands.specs.ManifestChecks.{AreRead, EndsAt, AreStopped};
+ghost use Rattle.b2sum_commands.specs.ManifestChecks.{AreRead, EndsAt, AreStopped, TellsUnopened};
 ghost use Rattle.b2sum_commands.specs.declared.line_reader.LineEnd.TheVariants.{Failure};
 ghost use Rattle.b2sum_commands.specs.declared.check.Verdict.TheVariants.{Equal, Different};
 ghost use Rattle.b2sum_commands.specs.declared.check.Verdict.TheVariants.{Skipped, Malformed};
-ghost use Rattle.b2sum_commands.specs.declared.check.Verdict.TheVariants.{Unmet};
 ghost use Rattle.b2sum_commands.specs.declared.check.Verdict.TheVariants.{Unread, Comment};
 ghost use Rattle.b2sum_commands.specs.declared.check.Verdict as verdict;
 ghost use Rattle.b2sum_commands.specs.declared.sums.Read.TheVariants.{Whole, Missing, Failed};
 
 use crate::devices::{Disk, Fault, OpenFile, Output, put};
 use crate::hashes::{Function, Hashes};
-use crate::line_needs::{Lacks, meets, tell_lacks};
+use crate::line_needs::{Lacks, meets};
 use crate::line_reader::{LineEnd, LineReader};
-use crate::messages::{warn, warn_of_count, warn_of_file};
+use crate::messages::{
+    warn_of_count, warn_of_file, warn_of_line, warn_of_needs, warn_of_no_entry, warn_of_none,
+    warn_of_read,
+};
 use crate::options::{Options, Report};
-use crate::quoting::quoted_name;
 use crate::session::{Host, Program, Session};
 use crate::sums::{Read, digest_file, is_dash};
 use b2sum_lines::{Entry, Spacing, Style, push_escaped, read_line};
 use blake2_digest::constant_time_eq;
 use blake2_streams::Sink;
 use std::alloc::{AllocError, Global};
-use text_lines::push_decimal;
 
 /// What the check of a line came to.
 #[derive(Clone, Copy, Debug, PartialEq, Eq)]
@@ -61,12 +62,12 @@ pub enum Verdict {
     /// The line is not that of an entry.
     Malformed,
     /// The line is that of an entry that needs other options.
-    Unmet,
+    Unmet(Lacks),
     /// The line is a comment, or has nothing.
     Comment,
 }
 
-/// How many lines of a manifest came to what. Each count stops at 2^64 - 1.
+/// How many lines of a manifest came to what, and what some need. Each count stops at 2^64 - 1.
 #[derive(Clone, Copy, Debug, PartialEq, Eq)]
 pub struct Counts {
     /// Lines of files that have the digest.
@@ -81,6 +82,8 @@ pub struct Counts {
     pub malformed: u64,
     /// Lines that need other options.
     pub unmet: u64,
+    /// What these lines need.
+    pub lacks: Lacks,
 }
 
 impl Counts {
@@ -94,6 +97,7 @@ impl Counts {
             skipped: 0,
             malformed: 0,
             unmet: 0,
+            lacks: Lacks::none(),
         }
     }
 
@@ -107,7 +111,10 @@ impl Counts {
             Verdict::Unread => self.unread = self.unread.saturating_add(1),
             Verdict::Skipped => self.skipped = self.skipped.saturating_add(1),
             Verdict::Malformed => self.malformed = self.malformed.saturating_add(1),
-            Verdict::Unmet => self.unmet = self.unmet.saturating_add(1),
+            Verdict::Unmet(lacks) => {
+                self.unmet = self.unmet.saturating_add(1);
+                self.lacks.add(lacks);
+            }
             Verdict::Comment => {}
         }
     }
@@ -143,7 +150,7 @@ pub fn check_manifests<H: Hashes, D: Disk, K: Output, E: Sink>(
     names: &[Vec<u8>],
 ) -> Result<bool, Fault>
     ensures checked { AllInTurn (IsChecked
-        (world_of host.now.program.name.items D.File.named D.File.failed
+        (world_of host.now.program.name.items D.File.named D.File.failed D.File.failure
         (D.files host.now.disk) H.hashing) options.now)
         (map (λ name. name.items) names.now) session.old session.new (result_ok result) }
     ensures write { IsErrOf result Fault.WriteFailed → session.new.output_failed ≡ true }
@@ -166,47 +173,42 @@ pub fn check_manifest<H: Hashes, D: Disk, K: Output, E: Sink>(
     session: &mut Session<D::File, K, E>,
     name: &[u8],
 ) -> Result<bool, Fault>
-    ensures checked { IsChecked (world_of host.now.program.name.items D.File.named D.File.failed
+    ensures checked { IsChecked
+        (world_of host.now.program.name.items D.File.named D.File.failed D.File.failure
         (D.files host.now.disk) H.hashing)
         options.now name.now session.old session.new (result_ok result) }
     ensures write { IsErrOf result Fault.WriteFailed → session.new.output_failed ≡ true }
 {
-    session.begin_manifest(options);
-    check_on(host, options, session, name)
+    session.begin_manifest(host.program.alloc, options, name)?;
+    let Some(manifest) = open_manifest(host, session, name)? else {
+        return Ok(false);
+    };
+    check_open(host, options, session, manifest, name)
 }
 
-// Checks the manifest of this name, with the spacing that the session has.
-fn check_on<H: Hashes, D: Disk, K: Output, E: Sink>(
+// Checks a manifest that is open, of this name, at the place that the session has.
+fn check_open<H: Hashes, D: Disk, K: Output, E: Sink>(
     host: &Host<H, D>,
     options: &Options,
     session: &mut Session<D::File, K, E>,
+    mut manifest: Manifest<D::File>,
     name: &[u8],
 ) -> Result<bool, Fault>
-    ensures checked { GoesOn (world_of host.now.program.name.items D.File.named D.File.failed
+    requires { IsOpenManifest D.File.named D.File.left ((D.files host.now.disk).holds name.now)
+        session.old.left name.now manifest.file manifest.lines }
+    ensures checked { GoesOn
+        (world_of host.now.program.name.items D.File.named D.File.failed D.File.failure
         (D.files host.now.disk) H.hashing)
         options.now name.now session.old session.new (result_ok result) }
     ensures write { IsErrOf result Fault.WriteFailed → session.new.output_failed ≡ true }
 {
-    let Some(mut manifest) = open_manifest(host, session, name)? else {
-        return Ok(false);
-    };
     let found = check_lines(host, options, session, &mut manifest)?;
-    let title = manifest.title.as_slice();
-    let lacks = session.lacks;
-    let messages = &mut session.messages;
-    let Some(counts) = found else {
-        warn(&host.program, messages, title, b": ", b"read error")?;
-        return Ok(false);
-    };
-    report(&host.program, options, title, &counts, lacks, messages)?;
-    Ok(counts.holds(options.is_strict))
+    end_manifest(&host.program, options, &mut session.messages, name, found)
 }
 
 // A manifest that is open.
 #[derive(Drop)]
 struct Manifest<F> {
-    // The name as messages have it.
-    title: Vec<u8>,
     // The file, or `None` for standard input.
     file: Option<F>,
     lines: LineReader,
@@ -230,7 +232,6 @@ impl<F: OpenFile> Manifest<F> {
             (HasFailed F.named F.failed (source_name F.named self.old.file))) }
         ensures same { is_none self.new.file ≡ is_none self.old.file }
         ensures name { source_name F.named self.new.file ≡ source_name F.named self.old.file }
-        ensures title { self.new.title ≡ self.old.title }
         ensures input { F.named input.new ≡ 45 ∷ [] }
         ensures other { is_none self.old.file ≡ false → input.new ≡ input.old }
     {
@@ -242,57 +243,35 @@ impl<F: OpenFile> Manifest<F> {
 }
 
 // Opens the manifest of this name. The result is `None` if it cannot be opened, after a message.
-fn open_manifest<H, D: Disk, K: Output, E: Sink>(
+fn open_manifest<H: Hashes, D: Disk, K: Output, E: Sink>(
     host: &Host<H, D>,
     session: &mut Session<D::File, K, E>,
     name: &[u8],
 ) -> Result<Option<Manifest<D::File>>, Fault>
-    ensures quiet { IsQuiet session.old session.new }
-    ensures left { session.new.left ≡ session.old.left }
-    ensures none { IfOk result (λ found. found ≡ None
-        → (is_dash name.now ≡ false) × ((D.files host.now.disk).refuses name.now ≡ true)) }
-    ensures input { IfOk result (λ found. IfSome found
-        (λ m. is_none m.file ≡ is_dash name.now)) }
-    ensures name { IfOk result (λ found. IfSome found
-        (λ m. source_name D.File.named m.file ≡ name.now)) }
-    ensures title { IfOk result (λ found. IfSome found
-        (λ m. m.title.items ≡ title_of name.now)) }
-    ensures start { IfOk result (λ found. IfSome found (λ m. (m.lines ≡ [])
-        × (is_dash name.now ≡ false → IfSome ((D.files host.now.disk).holds name.now)
-        (λ _. source_left D.File.left m.file session.old.left
-        ≡ (D.files host.now.disk).holds name.now)))) }
+    ensures opened { IfOk result (λ found. IfSome found (λ m.
+        (session.new ≡ session.old) × IsOpenManifest D.File.named D.File.left
+        ((D.files host.now.disk).holds name.now) session.new.left name.now m.file m.lines)) }
+    ensures cut { IfOk result (λ found. found ≡ None → OnlyTells session.old session.new
+        × TellsUnopened
+        (world_of host.now.program.name.items D.File.named D.File.failed D.File.failure
+        (D.files host.now.disk) H.hashing)
+        name.now session.old session.new) }
+    ensures held { session.new.held ≡ session.old.held }
     ensures memory { IsOkUnless result Fault.NoMemory }
 {
-    let title = quoted_name(host.program.alloc, title_of(name))?;
     let lines = LineReader::new(host.program.alloc)?;
     if is_dash(name) {
-        return Ok(Some(Manifest {
-            title,
-            file: None,
-            lines,
-        }));
+        return Ok(Some(Manifest { file: None, lines }));
     }
     match host.disk.open(host.program.alloc, name) {
         Ok(file) => Ok(Some(Manifest {
-            title,
             file: Some(file),
             lines,
         })),
         Err(error) => {
-            warn_of_file(&host.program, error, &mut session.messages, name)?;
+            warn_of_file(host, error, &mut session.messages, name)?;
             Ok(None)
         }
-    }
-}
-
-// Returns the name of a manifest as messages have it, before it is quoted.
-fn title_of(name: &[u8]) -> &[u8]
-    ensures { quoted_name result.now ≡ title_of name.now }
-{
-    if is_dash(name) {
-        b"standard input"
-    } else {
-        name
     }
 }
 
@@ -306,7 +285,8 @@ fn check_lines<H: Hashes, D: Disk, K: Output, E: Sink>(
 ) -> Result<Option<Counts>, Fault>
     requires { manifest.old.lines ≡ [] }
     ensures lines { IfOk result (λ found. (rest : Option (List ℕ)) × (vs : List verdict.Verdict)
-        × AreRead (world_of host.now.program.name.items D.File.named D.File.failed
+        × AreRead
+        (world_of host.now.program.name.items D.File.named D.File.failed D.File.failure
         (D.files host.now.disk) H.hashing) options.now
         (is_none manifest.old.file)
         (source_left D.File.left manifest.old.file session.old.left) rest
@@ -314,22 +294,21 @@ fn check_lines<H: Hashes, D: Disk, K: Output, E: Sink>(
         × EndsAt found vs rest (source_left D.File.left manifest.new.file session.new.left)
         (HasFailed D.File.named D.File.failed (source_name D.File.named manifest.old.file))) }
     ensures stopped { IsErr result → AreStopped
-        (world_of host.now.program.name.items D.File.named D.File.failed
+        (world_of host.now.program.name.items D.File.named D.File.failed D.File.failure
         (D.files host.now.disk) H.hashing) options.now
         (source_name D.File.named manifest.old.file) (is_none manifest.old.file)
         (source_left D.File.left manifest.old.file session.old.left) session.old session.new }
     ensures file { is_none manifest.new.file ≡ is_none manifest.old.file }
-    ensures title { manifest.new.title ≡ manifest.old.title }
     ensures write { IsErrOf result Fault.WriteFailed → session.new.output_failed ≡ true }
 {
     let mut counts = Counts::none();
     let mut line = Vec::new(host.program.alloc);
-    for number in 1..u64::MAX {
+    'number: for _ in 0..u64::MAX {
         let end = manifest.read_line(&mut session.input, &mut line)?;
         if end != LineEnd::Newline && line.is_empty() {
             return Ok(counted(end, counts));
         }
-        let verdict = check_line(host, options, session, manifest, line.as_slice(), number)?;
+        let verdict = check_line(host, options, session, manifest.is_input(), line.as_slice())?;
         counts.add(verdict);
         if end != LineEnd::Newline {
             return Ok(counted(end, counts));
@@ -350,43 +329,68 @@ fn counted(end: LineEnd, counts: Counts) -> Option<Counts>
     }
 }
 
-// Checks a line of a manifest, the one of this number.
+// Checks the next line of a manifest. `is_input` says that the manifest is standard input.
 fn check_line<H: Hashes, D: Disk, K: Output, E: Sink>(
     host: &Host<H, D>,
     options: &Options,
     session: &mut Session<D::File, K, E>,
-    manifest: &Manifest<D::File>,
+    is_input: bool,
     line: &[u8],
-    number: u64,
 ) -> Result<Verdict, Fault>
     ensures checked { IfOk result (IsLine
-        (world_of host.now.program.name.items D.File.named D.File.failed
+        (world_of host.now.program.name.items D.File.named D.File.failed D.File.failure
         (D.files host.now.disk) H.hashing)
-        options.now (is_none manifest.now.file) line.now session.old session.new) }
+        options.now is_input line.now session.old session.new) }
     ensures begun { IsErr result → BeginsLine
-        (world_of host.now.program.name.items D.File.named D.File.failed
+        (world_of host.now.program.name.items D.File.named D.File.failed D.File.failure
         (D.files host.now.disk) H.hashing)
-        options.now (is_none manifest.now.file) line.now session.old session.new }
+        options.now is_input line.now session.old session.new }
     ensures write { IsErrOf result Fault.WriteFailed → session.new.output_failed ≡ true }
 {
-    let is_input = manifest.is_input();
-    let item = read_item(host.program.alloc, options, session.spacing, is_input, line)?;
+    let spacing = session.spacing();
+    let item = read_item(host.program.alloc, options, spacing, is_input, line)?;
+    pass_line(session, &item);
     match item {
         Item::Comment => Ok(Verdict::Comment),
         Item::Malformed => {
-            let title = manifest.title.as_slice();
-            warn_of_line(&host.program, options, title, number, &mut session.messages)?;
+            warn_if_wanted(&host.program, options, session)?;
             Ok(Verdict::Malformed)
         }
-        Item::Unmet(lacks) => {
-            session.lacks.add(lacks);
-            Ok(Verdict::Unmet)
-        }
-        Item::Listed(entry) => {
-            session.spacing = spacing_after(session.spacing, entry.style);
-            check_entry(host, options, session, &entry)
-        }
+        Item::Unmet(lacks) => Ok(Verdict::Unmet(lacks)),
+        Item::Listed(entry) => check_entry(host, options, session, &entry),
     }
+}
+
+// Moves the place past a line, which is this.
+fn pass_line<F: OpenFile, K: Output, E: Sink>(session: &mut Session<F, K, E>, item: &Item)
+    ensures { session.new ≡ record session.old {
+      place = next_place session.old.place (item_value item.now);
+    } }
+{
+    if let Item::Listed(entry) = item {
+        session.place.spacing = spacing_after(session.place.spacing, entry.style);
+    }
+    session.place.number = session.place.number.saturating_add(1);
+}
+
+// Prints the message of a line that is not properly formatted, if the options want it.
+fn warn_if_wanted<F: OpenFile, K: Output, E: Sink>(
+    program: &Program,
+    options: &Options,
+    session: &mut Session<F, K, E>,
+) -> Result<(), AllocError>
+    ensures told { OnOk result (TellsText session.old session.new
+        (message_if (is_warnings options.now.report) program.now.name.items
+        (Improper session.old.place.name session.old.place.number options.now.algorithm))) }
+    ensures only { OnlyTells session.old session.new }
+{
+    if options.report != Report::Warnings {
+        return Ok(());
+    }
+    let (place, messages) = (&session.place, &mut session.messages);
+    let name = place.name.as_slice();
+    warn_of_line(program, messages, name, place.number, options.algorithm)?;
+    Ok(())
 }
 
 // What a line of a manifest is.
@@ -470,16 +474,19 @@ fn check_entry<H: Hashes, D: Disk, K: Output, E: Sink>(
 ) -> Result<Verdict, Fault>
     requires { length entry.now.digest.items ≤ 64 }
     ensures verdict { IfOk result (HasVerdict Appends
-        (world_of host.now.program.name.items D.File.named D.File.failed
+        (world_of host.now.program.name.items D.File.named D.File.failed D.File.failure
         (D.files host.now.disk) H.hashing) options.now
         (Ok (entry_value entry.now)) session.old session.new) }
-    ensures told { IfOk result (λ v. v ≡ Unread → IsTold session.old session.new) }
+    ensures told { IfOk result (λ v. v ≡ Unread → TellsUnread
+        (world_of host.now.program.name.items D.File.named D.File.failed D.File.failure
+        (D.files host.now.disk) H.hashing) options.now
+        (Ok (entry_value entry.now)) session.old session.new) }
     ensures silent { IfOk result (λ v. v ≢ Unread → session.new.told ≡ session.old.told) }
     ensures begun { IsErr result → BeginsVerdict
-        (world_of host.now.program.name.items D.File.named D.File.failed
+        (world_of host.now.program.name.items D.File.named D.File.failed D.File.failure
         (D.files host.now.disk) H.hashing) options.now
         (Ok (entry_value entry.now)) session.old session.new }
-    ensures spacing { session.new.spacing ≡ session.old.spacing }
+    ensures place { session.new.place ≡ session.old.place }
     ensures write { IsErrOf result Fault.WriteFailed → session.new.output_failed ≡ true }
 {
     let mut digest = [0u8; 64];
@@ -502,13 +509,16 @@ fn judge_entry<H: Hashes, D: Disk, K: Output, E: Sink>(
 ) -> Result<Verdict, Fault>
     requires { length entry.now.digest.items ≤ 64 }
     ensures verdict { IfOk result (λ v. IsVerdict
-        (world_of host.now.program.name.items D.File.named D.File.failed
+        (world_of host.now.program.name.items D.File.named D.File.failed D.File.failure
         (D.files host.now.disk) H.hashing) options.now session.old.left
         (Ok (entry_value entry.now)) v (take (length entry.now.digest.items) out.new)
         session.new.left) }
-    ensures told { IfOk result (λ v. v ≡ Unread → IsTold session.old session.new) }
+    ensures told { IfOk result (λ v. v ≡ Unread → TellsUnread
+        (world_of host.now.program.name.items D.File.named D.File.failed D.File.failure
+        (D.files host.now.disk) H.hashing) options.now
+        (Ok (entry_value entry.now)) session.old session.new) }
     ensures silent { IfOk result (λ v. v ≢ Unread → session.new.told ≡ session.old.told) }
-    ensures quiet { IsQuiet session.old session.new }
+    ensures output { KeepsOutput session.old session.new }
     ensures memory { IsOkUnless result Fault.NoMemory }
 {
     let size = entry.digest.len();
@@ -531,7 +541,7 @@ fn verdict_of(read: Read, digest: &[u8], listed: &[u8]) -> Verdict
     ensures skipped { result ≡ Skipped → read ≡ Missing }
     ensures unread { result ≡ Unread → read ≡ Failed }
     ensures formed { result ≢ Malformed }
-    ensures met { result ≢ Unmet }
+    ensures met { IsMet result }
     ensures entry { result ≢ Comment }
 {
     match read {
@@ -647,59 +657,71 @@ fn print_outcome<K: Sink>(
     Ok(())
 }
 
-// Prints the message of a line that is not properly formatted, if the options want it.
-fn warn_of_line<E: Sink>(
+// Prints the last messages of a manifest of this name, and returns whether it holds: that a read
+// failed, or what its lines need, and how many came to what.
+fn end_manifest<E: Sink>(
     program: &Program,
     options: &Options,
-    title: &[u8],
-    number: u64,
     messages: &mut E,
-) -> Result<(), Fault>
+    name: &[u8],
+    found: Option<Counts>,
+) -> Result<bool, Fault>
+    ensures told { IfOk result (λ holds. TellsEnd program.now.name.items options.now name.now found
+        holds (IsWritten (E.failed messages.old) (E.failed messages.new) (E.held messages.old)
+        (E.held messages.new))) }
     ensures memory { IsOkUnless result Fault.NoMemory }
 {
-    if options.report != Report::Warnings {
-        return Ok(());
-    }
-    let mut place = Vec::new(program.alloc);
-    place.extend_from_slice(b": ")?;
-    push_decimal(&mut place, number)?;
-    place.extend_from_slice(b": improperly formatted ")?;
-    place.extend_from_slice(options.algorithm.tag(program.alloc)?.as_slice())?;
-    warn(
-        program,
-        messages,
-        title,
-        place.as_slice(),
-        b" checksum line",
-    )?;
-    Ok(())
+    let Some(counts) = found else {
+        warn_of_read(program, messages, name)?;
+        return Ok(false);
+    };
+    report(program, options, messages, name, &counts)?;
+    Ok(counts.holds(options.is_strict))
 }
 
 // Prints the messages of a manifest that was read: what its lines need, and how many came to what.
 fn report<E: Sink>(
     program: &Program,
     options: &Options,
-    title: &[u8],
-    counts: &Counts,
-    lacks: Lacks,
     messages: &mut E,
+    name: &[u8],
+    counts: &Counts,
 ) -> Result<(), Fault>
-    ensures told { OnOk result ((needs : List ℕ) × IsWritten (E.failed messages.old)
-        (E.failed messages.new) (E.held messages.old) (E.held messages.new)
-        (report_text program.now.name.items title.now options.now counts.now needs)) }
+    ensures told { OnOk result (IsWritten (E.failed messages.old) (E.failed messages.new)
+        (E.held messages.old) (E.held messages.new)
+        (report_text program.now.name.items name.now options.now counts.now)) }
     ensures memory { IsOkUnless result Fault.NoMemory }
 {
     if counts.has_no_entry() {
-        let text = b": no properly formatted checksum lines found";
-        warn(program, messages, title, text, b"")?;
+        warn_of_no_entry(program, messages, name)?;
         return Ok(());
     }
     if is_nothing(options.report) {
         return Ok(());
     }
-    tell_lacks(program, title, counts.unmet, lacks, messages)?;
+    warn_of_needs(program, messages, name, counts.unmet, counts.lacks)?;
     warn_of_counts(program, counts, messages)?;
-    warn_of_none(program, options, title, counts, messages)?;
+    warn_if_none(program, options, messages, name, counts)?;
+    Ok(())
+}
+
+// Prints the message that no file was verified, if files that do not exist are ignored.
+fn warn_if_none<E: Sink>(
+    program: &Program,
+    options: &Options,
+    messages: &mut E,
+    name: &[u8],
+    counts: &Counts,
+) -> Result<(), AllocError>
+    ensures { OnOk result (IsWritten (E.failed messages.old) (E.failed messages.new)
+        (E.held messages.old) (E.held messages.new)
+        (message_if (options.now.ignores_missing && (counts.now.equal == 0))
+        program.now.name.items (VerifiesNone name.now))) }
+{
+    if !options.ignores_missing || counts.equal != 0 {
+        return Ok(());
+    }
+    warn_of_none(program, messages, name)?;
     Ok(())
 }
 
@@ -708,26 +730,6 @@ fn is_nothing(report: Report) -> bool
     ensures { result ≡ is_nothing report }
 {
     matches!(report, Report::Nothing)
-}
-
-// Prints the message that no file was verified, if files that do not exist are ignored.
-fn warn_of_none<E: Sink>(
-    program: &Program,
-    options: &Options,
-    title: &[u8],
-    counts: &Counts,
-    messages: &mut E,
-) -> Result<(), AllocError>
-    ensures { OnOk result (IsWritten (E.failed messages.old) (E.failed messages.new)
-        (E.held messages.old) (E.held messages.new)
-        (message_if (options.now.ignores_missing && (counts.now.equal == 0))
-        program.now.name.items title.now (codes ": no file was verified") [])) }
-{
-    if !options.ignores_missing || counts.equal != 0 {
-        return Ok(());
-    }
-    warn(program, messages, title, b": no file was verified", b"")?;
-    Ok(())
 }
 
 // Prints a warning for each count of lines that failed.

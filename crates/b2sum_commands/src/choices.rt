@@ -15,7 +15,7 @@ ghost use Rattle.b2sum_commands.specs.AcceptedOptions.{goes_with_files};
 ghost use Rattle.b2sum_commands.specs.AcceptedOptions.{chosen_needs, chosen_style, chosen_shape};
 ghost use Rattle.b2sum_commands.specs.AcceptedOptions.{has_bytes, has_trees, with_leaf, AreOptions};
 ghost use Rattle.b2sum_commands.specs.AcceptedOptions.{has_one_persona, is_input};
-ghost use Rattle.b2sum_commands.specs.PrintedSums.{is_dash};
+ghost use Rattle.b2sum_commands.specs.Messages.{is_dash};
 ghost use Rattle.b2sum_commands.specs.CommandLineViews.{choice_of, IsUnfit};
 
 use crate::options::{Arguments, Options, Reader, Report, Shape, Stop, joined};

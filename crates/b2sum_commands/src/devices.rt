@@ -1,12 +1,11 @@
 //! Files by name, and what is printed where.
 
-ghost use Rattle.std.specs.Prelude.{◌≡◌, ◌||◌, ℕ, List, Option, Bool, IfOk, IfErr, IfSome};
-ghost use Rattle.std.specs.Prelude.{true, false, IsErr, OnOk, OnErr, is_err};
+ghost use Rattle.std.specs.Prelude.{◌≡◌, ◌||◌, ℕ, ℤ, List, Option, Some, Bool, IfOk, IfErr, IfSome};
+ghost use Rattle.std.specs.Prelude.{true, false, IsErr, OnOk, OnErr, is_err, string_bytes};
 ghost use Rattle.std.specs.Io.{ReadsAtMost};
+ghost use Rattle.std.specs.declared.io.Error.{Error};
 ghost use Rattle.blake2_streams.specs.Devices.{Gives};
 ghost use Rattle.std.specs.Io.KnownBytes.{Appends};
-ghost use Rattle.std.specs.IoError.{error_kind};
-ghost use Rattle.std.specs.declared.io.ErrorKind.TheVariants.{NotFound};
 ghost use Rattle.b2sum_commands.specs.World.{IsWritten, StopsIn};
 ghost use Rattle.b2sum_commands.specs.declared.devices.Fault.TheVariants.{NoMemory, WriteFailed};
 
@@ -21,6 +20,12 @@ pub trait OpenFile {
 
     // A read has returned an error.
     ghost failed: { Self → Bool };
+
+    // The error of the last read that failed.
+    ghost failure: { Self → Option Error };
+
+    // The number by which the system knows the file.
+    ghost descriptor: { Self → Option ℤ };
 
     // The name by which the file was opened, and `-` for standard input.
     ghost named: { Self → List ℕ };
@@ -39,16 +44,22 @@ pub trait OpenFile {
         ensures { result ≡ failed self.now };
 
     /// Returns the error of the last read that failed.
-    fn reason(&self) -> io::Error;
+    fn reason(&self) -> io::Error
+        ensures { failed self.now ≡ true → failure self.now ≡ Some result };
 
     /// Returns the number by which the system knows the file.
-    fn number(&self) -> i32;
+    fn number(&self) -> i32
+        ensures { IfSome (descriptor self.now) (λ number. result ≡ number) };
 }
 
 /// Sinks that know why a write failed.
 pub trait Output: Sink {
+    // The error of the last write that failed.
+    ghost failure: { Self → Option Error };
+
     /// Returns the error of the last write that failed.
-    fn reason(&self) -> io::Error;
+    fn reason(&self) -> io::Error
+        ensures { Self.failed self.now ≡ true → failure self.now ≡ Some result };
 }
 
 /// Files that are opened by names of any bytes.
@@ -61,9 +72,13 @@ pub trait Disk {
     /// An open file.
     type File: OpenFile + Drop;
 
-    /// Keeps what the program holds from now on from others, as far as the system can. It is called
-    /// before a key is read.
-    fn hide_memory(&self);
+    // The system can keep memory from others.
+    ghost hides: { Self → Bool };
+
+    /// Keeps what the program holds from now on from others, as far as the system can. Returns
+    /// whether it can. It is called before a key is read.
+    fn hide_memory(&self) -> bool
+        ensures { result ≡ hides self.now };
 
     /// Shows the progress of long reads from now on, as far as the system can. It is called before
     /// a file is opened.
@@ -71,13 +86,16 @@ pub trait Disk {
 
     /// Opens the file of this name for reading. The error says why it cannot be opened.
     fn open(&self, alloc: Global, name: &[u8]) -> io::Result<Self::File>
-        ensures refused { IsErr result → (files self.now).refuses name.now ≡ true }
-        ensures missing { IfErr result (λ error. error_kind error ≡ NotFound
-            → (files self.now).lacks name.now ≡ true) }
+        ensures refused { IfErr result ((files self.now).refuses name.now) }
         ensures bytes { IfOk result (λ file. IfSome ((files self.now).holds name.now)
             (λ _. Self.File.left file ≡ (files self.now).holds name.now)) }
         ensures unfailed { IfOk result (λ file. Self.File.failed file ≡ false) }
         ensures named { IfOk result (λ file. Self.File.named file ≡ name.now) };
+
+    /// Returns the text of an error.
+    fn reason_of(&self, alloc: Global, error: io::Error) -> Result<String, AllocError>
+        ensures { IfOk result
+            (λ text. (files self.now).describes error (string_bytes text)) };
 }
 
 /// Why a command ends early.

@@ -34,7 +34,7 @@ pub fn print_manifest<H: Hashes, D: Disk, K: Output, E: Sink>(
     requires named { options.now.shape ≡ Named }
     requires lines { options.now.ends_zero ≡ false }
     ensures manifest { IfOk result (IsManifest
-        (world_of host.now.program.name.items D.File.named D.File.failed
+        (world_of host.now.program.name.items D.File.named D.File.failed D.File.failure
         (D.files host.now.disk) H.hashing) options.now
         (map (λ name. name.items) names.now) session.old session.new) }
     ensures write { IsErrOf result Fault.WriteFailed → session.new.output_failed ≡ true }

@@ -23,6 +23,7 @@ mod values;
 pub use check::{Counts, Verdict, check_manifest, check_manifests};
 pub use devices::{Disk, Fault, OpenFile, Output};
 pub use hashes::{Function, Hashes};
+pub use line_needs::Lacks;
 pub use options::{Options, Report, Shape};
 pub use program::run;
 pub use session::{Host, Program, Session};

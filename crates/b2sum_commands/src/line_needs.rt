@@ -1,17 +1,16 @@
 //! What a line needs, next to what the options have.
 
-ghost use Rattle.std.specs.Prelude.{◌≡◌, ◌==◌, ℕ, List, codes, not, OnOk};
+ghost use Rattle.std.specs.Prelude.{◌≡◌, ◌++◌, [], OnOk, if◌then◌else◌};
 ghost use Rattle.b2sum_lines.specs.EntryViews.{entry_value};
-ghost use Rattle.b2sum_commands.specs.Manifests.{algorithm_number, has_algorithm, has_needs, meets};
-ghost use Rattle.b2sum_commands.specs.Manifests.{has_any, has_demanded_length, same_needs};
-ghost use Rattle.b2sum_commands.specs.Reports.{message_if};
-ghost use Rattle.b2sum_commands.specs.World.{IsWritten};
+ghost use Rattle.b2sum_commands.specs.LineNeeds.{algorithm_number, has_algorithm, has_needs, meets};
+ghost use Rattle.b2sum_commands.specs.LineNeeds.{has_any, has_demanded_length, same_needs};
+ghost use Rattle.b2sum_commands.specs.LineNeeds.{both_lack, either, lacks_of, needs_of, no_lacks};
+ghost use Rattle.b2sum_commands.specs.LineNeeds.{algorithm_text, lacks_text, length_text};
+ghost use Rattle.b2sum_commands.specs.LineNeeds.{length_for, needs_algorithm, needs_length};
+ghost use Rattle.b2sum_commands.specs.LineNeeds.{needs_options, without};
 
-use crate::messages::warn;
 use crate::options::Options;
-use crate::session::Program;
 use b2sum_lines::{Algorithm, Entry, Needs, Style};
-use blake2_streams::Sink;
 use std::alloc::AllocError;
 use text_lines::push_decimal;
 
@@ -78,20 +77,22 @@ fn number_of(algorithm: Algorithm) -> u64
 
 /// What the options have to be for lines of a manifest.
 #[derive(Clone, Copy, Debug, PartialEq, Eq)]
-pub(crate) struct Lacks {
-    // A key, a salt, a personalization that lines need, and the options do not have.
-    missing: Needs,
-    // Those that the options have, and lines do not need.
-    unwanted: Needs,
-    // The algorithm of the first line that is of another.
-    algorithm: Option<Algorithm>,
-    // The number of bytes of the first digest that has another length.
-    bytes: Option<usize>,
+pub struct Lacks {
+    /// A key, a salt, a personalization that lines need, and the options do not have.
+    pub missing: Needs,
+    /// Those that the options have, and lines do not need.
+    pub unwanted: Needs,
+    /// The algorithm of the first line that is of another.
+    pub algorithm: Option<Algorithm>,
+    /// The number of bytes of the first digest that has another length.
+    pub bytes: Option<usize>,
 }
 
 impl Lacks {
     /// Returns that nothing is lacking.
-    pub(crate) fn none() -> Lacks {
+    pub(crate) fn none() -> Lacks
+        ensures { result ≡ no_lacks }
+    {
         let none = Needs {
             key: false,
             salt: false,
@@ -106,56 +107,80 @@ impl Lacks {
     }
 
     /// Returns what the options have to be for this entry.
-    pub(crate) fn of(options: &Options, entry: &Entry) -> Lacks {
-        let needs = match entry.style {
-            Style::Tagged(needs) => needs,
-            Style::Text | Style::Binary | Style::Bare => options.needs,
-        };
-        let is_other = number_of(entry.algorithm) != number_of(options.algorithm);
-        let algorithm = if is_other && (options.demands_algorithm || has_any(needs)) {
-            Some(entry.algorithm)
-        } else {
-            None
-        };
-        let unwanted = without(options.needs, needs);
-        let bytes = entry.digest.len();
-        let has_length = unwanted.key
-            || !(options.demands_length || needs.key)
-            || bytes == bytes_for(options, entry.algorithm, algorithm.is_some());
+    pub(crate) fn of(options: &Options, entry: &Entry) -> Lacks
+        ensures { result ≡ lacks_of options.now (entry_value entry.now) }
+    {
+        let needs = needs_of(options, entry.style);
         Lacks {
             missing: without(needs, options.needs),
-            unwanted,
-            algorithm,
-            bytes: if has_length { None } else { Some(bytes) },
+            unwanted: without(options.needs, needs),
+            algorithm: if needs_algorithm(options, entry) {
+                Some(entry.algorithm)
+            } else {
+                None
+            },
+            bytes: if needs_length(options, entry) {
+                Some(entry.digest.len())
+            } else {
+                None
+            },
         }
     }
 
     /// Adds what another line lacks.
-    pub(crate) fn add(&mut self, other: Lacks) {
+    pub(crate) fn add(&mut self, other: Lacks)
+        ensures { self.new ≡ both_lack self.old other }
+    {
         self.missing = either(self.missing, other.missing);
         self.unwanted = either(self.unwanted, other.unwanted);
         self.algorithm = self.algorithm.or(other.algorithm);
         self.bytes = self.bytes.or(other.bytes);
     }
 
-    // Appends the options that are lacking, with a space before each.
-    fn push_options(self, text: &mut Vec<u8>) -> Result<(), AllocError> {
+    /// Appends the options that are lacking, with a space before each.
+    pub(crate) fn push_options(self, text: &mut Vec<u8>) -> Result<(), AllocError>
+        ensures { OnOk result (text.new.items ≡ text.old.items ++ lacks_text self) }
+    {
         push_needs(text, b" ", self.missing)?;
         push_needs(text, b" no ", self.unwanted)?;
-        match self.algorithm {
-            Some(algorithm) => push_algorithm(text, algorithm)?,
-            None => {}
-        }
-        let Some(bytes) = self.bytes else {
-            return Ok(());
-        };
-        text.extend_from_slice(b" --length ")?;
-        push_decimal(text, (bytes as u64).saturating_mul(8))
+        push_algorithm(text, self.algorithm)?;
+        push_length(text, self.bytes)
     }
 }
 
+// Returns what a line of this style needs. One without a tag does not say it.
+fn needs_of(options: &Options, style: Style) -> Needs
+    ensures { result ≡ needs_of options.now style }
+{
+    match style {
+        Style::Tagged(needs) => needs,
+        Style::Text | Style::Binary | Style::Bare => options.needs,
+    }
+}
+
+// Returns whether an entry is of another algorithm, and cannot be checked without that.
+fn needs_algorithm(options: &Options, entry: &Entry) -> bool
+    ensures { result ≡ needs_algorithm options.now (entry_value entry.now) }
+{
+    number_of(entry.algorithm) != number_of(options.algorithm)
+        && (options.demands_algorithm || has_any(needs_of(options, entry.style)))
+}
+
+// Returns whether an entry's digest has another length than the one that is demanded, or would be
+// under a key that the line needs.
+fn needs_length(options: &Options, entry: &Entry) -> bool
+    ensures { result ≡ needs_length options.now (entry_value entry.now) }
+{
+    let needs = needs_of(options, entry.style);
+    !(options.needs.key && !needs.key)
+        && (options.demands_length || needs.key)
+        && entry.digest.len() != length_for(options, entry)
+}
+
 // Returns what the first has, and the second has not.
-fn without(first: Needs, second: Needs) -> Needs {
+fn without(first: Needs, second: Needs) -> Needs
+    ensures { result ≡ without first second }
+{
     Needs {
         key: first.key && !second.key,
         salt: first.salt && !second.salt,
@@ -164,7 +189,9 @@ fn without(first: Needs, second: Needs) -> Needs {
 }
 
 // Returns what one of both has.
-fn either(first: Needs, second: Needs) -> Needs {
+fn either(first: Needs, second: Needs) -> Needs
+    ensures { result ≡ either first second }
+{
     Needs {
         key: first.key || second.key,
         salt: first.salt || second.salt,
@@ -172,69 +199,69 @@ fn either(first: Needs, second: Needs) -> Needs {
     }
 }
 
-// Returns the length in bytes that the options demand of an algorithm. If they are given another
-// algorithm, the longest is that of this one.
-fn bytes_for(options: &Options, algorithm: Algorithm, is_changed: bool) -> usize {
+// Returns the length in bytes that the options demand: with the algorithm of the entry, if they are
+// to have that, the longest if they have the longest of their own.
+fn length_for(options: &Options, entry: &Entry) -> usize
+    ensures { result ≡ length_for options.now (entry_value entry.now) }
+{
     let is_longest = options.bytes == options.algorithm.max_bytes();
-    if !options.demands_length || (is_changed && is_longest) {
-        algorithm.max_bytes()
+    if !options.demands_length || (needs_algorithm(options, entry) && is_longest) {
+        entry.algorithm.max_bytes()
     } else {
         options.bytes
     }
 }
 
 // Appends the options of a key, a salt and a personalization, with these bytes before each.
-fn push_needs(text: &mut Vec<u8>, before: &[u8], needs: Needs) -> Result<(), AllocError> {
-    if needs.key {
-        text.extend_from_slice(before)?;
-        text.extend_from_slice(b"--key-file")?;
-    }
-    if needs.salt {
-        text.extend_from_slice(before)?;
-        text.extend_from_slice(b"--salt")?;
-    }
-    if needs.personal {
-        text.extend_from_slice(before)?;
-        text.extend_from_slice(b"--personal")?;
-    }
-    Ok(())
-}
-
-// Appends the option of an algorithm, with a space before it.
-fn push_algorithm(text: &mut Vec<u8>, algorithm: Algorithm) -> Result<(), AllocError> {
-    let option: &[u8] = match algorithm {
-        Algorithm::Blake2b => b" --algorithm blake2b",
-        Algorithm::Blake2s => b" --algorithm blake2s",
-        Algorithm::Blake2bp => b" --algorithm blake2bp",
-        Algorithm::Blake2sp => b" --algorithm blake2sp",
-        Algorithm::Tree(_) => b" --tree ",
-    };
-    text.extend_from_slice(option)?;
-    match algorithm {
-        Algorithm::Tree(leaf) => push_decimal(text, u64::from(leaf)),
-        _ => Ok(()),
-    }
-}
-
-/// Prints the message of so many lines of the manifest of this title that need other options, which
-/// it names. For no lines it prints nothing.
-pub(crate) fn tell_lacks<E: Sink>(
-    program: &Program,
-    title: &[u8],
-    count: u64,
-    lacks: Lacks,
-    messages: &mut E,
-) -> Result<(), AllocError>
-    ensures { OnOk result ((needs : List ℕ) × IsWritten (E.failed messages.old)
-        (E.failed messages.new) (E.held messages.old) (E.held messages.new)
-        (message_if (not (count == 0)) program.now.name.items title.now (codes ": lines need")
-        needs)) }
+fn push_needs(text: &mut Vec<u8>, before: &[u8], needs: Needs) -> Result<(), AllocError>
+    ensures { OnOk result (text.new.items ≡ text.old.items ++ needs_options before.now needs) }
 {
-    if count == 0 {
+    push_if(text, needs.key, before, b"--key-file")?;
+    push_if(text, needs.salt, before, b"--salt")?;
+    push_if(text, needs.personal, before, b"--personal")
+}
+
+// Appends an option with these bytes before it, if it is to be there.
+fn push_if(
+    text: &mut Vec<u8>,
+    is_there: bool,
+    before: &[u8],
+    option: &[u8],
+) -> Result<(), AllocError>
+    ensures { OnOk result (text.new.items
+        ≡ text.old.items ++ (if is_there then before.now ++ option.now else [])) }
+{
+    if !is_there {
         return Ok(());
     }
-    let mut text = Vec::new(program.alloc);
-    lacks.push_options(&mut text)?;
-    warn(program, messages, title, b": lines need", text.as_slice())?;
-    Ok(())
+    text.extend_from_slice(before)?;
+    text.extend_from_slice(option)
+}
+
+// Appends the option of an algorithm, if there is one, with a space before it.
+fn push_algorithm(text: &mut Vec<u8>, algorithm: Option<Algorithm>) -> Result<(), AllocError>
+    ensures { OnOk result (text.new.items ≡ text.old.items ++ algorithm_text algorithm) }
+{
+    match algorithm {
+        None => Ok(()),
+        Some(Algorithm::Blake2b) => text.extend_from_slice(b" --algorithm blake2b"),
+        Some(Algorithm::Blake2s) => text.extend_from_slice(b" --algorithm blake2s"),
+        Some(Algorithm::Blake2bp) => text.extend_from_slice(b" --algorithm blake2bp"),
+        Some(Algorithm::Blake2sp) => text.extend_from_slice(b" --algorithm blake2sp"),
+        Some(Algorithm::Tree(leaf)) => {
+            text.extend_from_slice(b" --tree ")?;
+            push_decimal(text, u64::from(leaf))
+        }
+    }
+}
+
+// Appends the option of digests of so many bytes, if there is one, with a space before it.
+fn push_length(text: &mut Vec<u8>, bytes: Option<usize>) -> Result<(), AllocError>
+    ensures { OnOk result (text.new.items ≡ text.old.items ++ length_text bytes) }
+{
+    let Some(bytes) = bytes else {
+        return Ok(());
+    };
+    text.extend_from_slice(b" --length ")?;
+    push_decimal(text, (bytes as u64).saturating_mul(8))
 }

@@ -1,30 +1,30 @@
 //! The run of the program.
 
-ghost use Rattle.std.specs.Prelude.{◌≡◌, ◌≤◌, map, None, Err, IfOk, IfSome, OnOk};
-ghost use Rattle.std.specs.Prelude.{IsErrOf, IsOkUnless, true};
-ghost use Rattle.std.specs.Prelude.{ℕ, Bool, Option, List, [], ◌∷◌, ◌++◌, codes};
+ghost use Rattle.std.specs.Prelude.{◌≡◌, ◌⊎◌, ◌≤◌, map, None, Err, IfOk, IfSome};
+ghost use Rattle.std.specs.Prelude.{IsErrOf, IsOkUnless, Bool, Option, true};
 ghost use Rattle.std.specs.Option.{option_map};
 ghost use Rattle.std.specs.Result.{result_ok};
 ghost use Rattle.b2sum_commands.specs.CommandLine.{Choice, Refused};
 ghost use Rattle.b2sum_commands.specs.AcceptedOptions.{AreOptions, command_line};
-ghost use Rattle.b2sum_commands.specs.World.{world_of, HasMessage, HasMore, IsTold, IsWritten};
+ghost use Rattle.b2sum_commands.specs.World.{world_of, IsEnded};
 ghost use Rattle.b2sum_commands.specs.ProgramRuns.{DoesChoice, DoesLine, HasKey, AfterKey};
-ghost use Rattle.b2sum_commands.specs.ProgramRuns.{IsKeyless};
+ghost use Rattle.b2sum_commands.specs.ProgramRuns.{IsKeyless, TellsRefusal};
 ghost use Rattle.b2sum_commands.specs.ProgramRuns.{RunsLine, help_of, status_of};
+ghost use Rattle.b2sum_commands.specs.ProgramRuns.{WarnsOfMacs, are_short_macs};
 ghost use Rattle.b2sum_lines.specs.ManifestLines.{max_bytes};
 ghost use Rattle.b2sum_commands.specs.CommandLineViews.{IsPrinted};
 
 use crate::check::check_manifests;
-use crate::devices::{Disk, Fault, OpenFile, Output, put, tell};
+use crate::devices::{Disk, Fault, OpenFile, Output, put};
 use crate::hashes::Hashes;
-use crate::key::{read_key, read_key_from};
-use crate::messages::{reason_of, tell_named, warn};
+use crate::key::read_key;
+use crate::messages::{
+    warn_of_memory, warn_of_short_macs, warn_of_usage, warn_of_value, warn_of_write,
+};
 use crate::options::{Arguments, Options, Stop, joined, read_arguments};
 use crate::session::{Host, Program, Session};
-use crate::sums::{is_dash, print_sums};
+use crate::sums::print_sums;
 use blake2_streams::Sink;
-use std::alloc::AllocError;
-use std::io;
 
 // What comes after `Usage: ` and the program's name.
 const HELP: &[u8] = b" [OPTION].. [FILE]..
@@ -64,6 +64,9 @@ options, or output that cannot be written.
 
 const VERSION: &[u8] = b"b2sum (Vulfsjor) 0.1.0\n";
 
+// The bytes of the shortest MACs that nobody guesses.
+const MAC_BYTES: usize = 16;
+
 /// Runs the command line, without the program's name. Returns the status: 0 for success, 1 if the
 /// options are wrong, a file cannot be read, a digest differs, a write fails or an allocation
 /// fails. Messages begin with the name of the host's program.
@@ -74,41 +77,29 @@ pub fn run<H: Hashes, D: Disk, K: Output, E: Sink>(
 ) -> u8
     ensures status { result ≤ 1 }
     ensures line { (end : Option Bool) × (result ≡ status_of end) × RunsLine
-        host.now.program.name.items (world_of host.now.program.name.items D.File.named D.File.failed
+        (world_of host.now.program.name.items D.File.named D.File.failed D.File.failure
         (D.files host.now.disk) H.hashing)
         (help_of host.now.program.name.items HELP.now) VERSION.now
         (command_line (map (λ word. word.items) words.now)) session.old session.new end }
     ensures refused { command_line (map (λ word. word.items) words.now) ≡ Err Refused
-        → (result ≡ 1) × (session.new.held ≡ session.old.held)
-        × IsTold session.old session.new }
+        → (result ≡ 1) × (session.new.held ≡ session.old.held) × (TellsRefusal
+        (world_of host.now.program.name.items D.File.named D.File.failed D.File.failure
+        (D.files host.now.disk) H.hashing) session.old session.new ⊎ IsEnded
+        (world_of host.now.program.name.items D.File.named D.File.failed D.File.failure
+        (D.files host.now.disk) H.hashing) session.old session.new) }
 {
     match run_words(host, session, words) {
         Ok(true) => 0,
         Ok(false) => 1,
         Err(Fault::WriteFailed) => {
-            let reason = session.output.reason();
-            warn_of_write(&host.program, reason, &mut session.messages);
+            let error = session.output.reason();
+            warn_of_write(host, error, &mut session.messages);
             1
         }
         Err(Fault::NoMemory) => {
-            let text = b": memory exhausted\n";
-            tell_named(&host.program, &mut session.messages, text);
+            warn_of_memory(&host.program, &mut session.messages);
             1
         }
-    }
-}
-
-// Prints the message of a write that failed.
-fn warn_of_write<E: Sink>(program: &Program, error: io::Error, messages: &mut E)
-    ensures { (reason : List ℕ) × IsWritten (E.failed messages.old) (E.failed messages.new)
-        (E.held messages.old) (E.held messages.new)
-        (program.now.name.items ++ codes ": write error" ++ reason ++ (10 ∷ [])) }
-{
-    let Ok(reason) = reason_of(program.alloc, error) else {
-        return tell_named(program, messages, b": write error\n");
-    };
-    if warn(program, messages, b"write error: ", reason.as_bytes(), b"").is_err() {
-        tell_named(program, messages, b": write error\n");
     }
 }
 
@@ -118,7 +109,7 @@ fn run_words<H: Hashes, D: Disk, K: Output, E: Sink>(
     words: &[Vec<u8>],
 ) -> Result<bool, Fault>
     ensures line { DoesLine
-        (world_of host.now.program.name.items D.File.named D.File.failed
+        (world_of host.now.program.name.items D.File.named D.File.failed D.File.failure
         (D.files host.now.disk) H.hashing)
         (help_of host.now.program.name.items HELP.now) VERSION.now
         (command_line (map (λ word. word.items) words.now)) session.old session.new
@@ -127,21 +118,25 @@ fn run_words<H: Hashes, D: Disk, K: Output, E: Sink>(
 {
     match read_arguments(host.program.alloc, words) {
         Ok(arguments) => run_task(host, session, arguments),
-        Err(stop) => print_stop(&host.program, session, stop),
+        Err(stop) => print_stop(host, session, stop),
     }
 }
 
 // Prints what a command line without a task asks for: the help, the version or a message. Returns
 // whether it is right.
-fn print_stop<F: OpenFile, K: Output, E: Sink>(
-    program: &Program,
-    session: &mut Session<F, K, E>,
+fn print_stop<H: Hashes, D: Disk, K: Output, E: Sink>(
+    host: &Host<H, D>,
+    session: &mut Session<D::File, K, E>,
     stop: Stop,
 ) -> Result<bool, Fault>
-    ensures printed { IsPrinted (help_of program.now.name.items HELP.now) VERSION.now session.old
-        session.new stop (result_ok result) }
+    ensures printed { IsPrinted
+        (world_of host.now.program.name.items D.File.named D.File.failed D.File.failure
+        (D.files host.now.disk) H.hashing)
+        (help_of host.now.program.name.items HELP.now) VERSION.now session.old session.new stop
+        (result_ok result) }
     ensures write { IsErrOf result Fault.WriteFailed → session.new.output_failed ≡ true }
 {
+    let program = &host.program;
     match stop {
         Stop::Help => {
             let help = joined(program.alloc, b"Usage: ", program.name.as_slice(), HELP)?;
@@ -153,51 +148,16 @@ fn print_stop<F: OpenFile, K: Output, E: Sink>(
             Ok(true)
         }
         Stop::Usage(text) => {
-            tell_usage(program, text.as_slice(), &mut session.messages)?;
+            warn_of_usage(program, &mut session.messages, text.as_slice())?;
             Ok(false)
         }
         Stop::Value(first, second) => {
             let (first, second) = (first.as_slice(), second.as_slice());
-            tell_value(program, first, second, &mut session.messages)?;
+            warn_of_value(program, &mut session.messages, first, second)?;
             Ok(false)
         }
         Stop::NoMemory => Err(Fault::NoMemory),
     }
-}
-
-// Prints the message of wrong options, and the pointer to `--help`.
-fn tell_usage<E: Sink>(program: &Program, text: &[u8], messages: &mut E) -> Result<(), AllocError>
-    ensures told { OnOk result (HasMessage (E.failed messages.old) (E.failed messages.new)
-        (E.held messages.old) (E.held messages.new)) }
-    ensures more { HasMore (E.failed messages.old) (E.failed messages.new)
-        (E.held messages.old) (E.held messages.new) }
-{
-    let name = program.name.as_slice();
-    let rest = b" --help' for more information.\n";
-    let pointer = joined(program.alloc, b"Try '", name, rest)?;
-    warn(program, messages, text, b"", b"")?;
-    tell(messages, pointer.as_slice());
-    Ok(())
-}
-
-// Prints the messages of a wrong value: one, or two.
-fn tell_value<E: Sink>(
-    program: &Program,
-    first: &[u8],
-    second: &[u8],
-    messages: &mut E,
-) -> Result<(), AllocError>
-    ensures told { OnOk result (HasMessage (E.failed messages.old) (E.failed messages.new)
-        (E.held messages.old) (E.held messages.new)) }
-    ensures more { HasMore (E.failed messages.old) (E.failed messages.new)
-        (E.held messages.old) (E.held messages.new) }
-{
-    warn(program, messages, first, b"", b"")?;
-    if second.is_empty() {
-        return Ok(());
-    }
-    warn(program, messages, second, b"", b"")?;
-    Ok(())
 }
 
 // Does what the arguments say. Returns whether all went well.
@@ -209,7 +169,7 @@ fn run_task<H: Hashes, D: Disk, K: Output, E: Sink>(
     requires { arguments.options.bytes ≤ 64 }
     ensures choice { (c : Choice) → AreOptions c arguments.options
         → option_map (λ name. name.items) arguments.key_file ≡ c.key_file
-        → DoesChoice (world_of host.now.program.name.items D.File.named D.File.failed
+        → DoesChoice (world_of host.now.program.name.items D.File.named D.File.failed D.File.failure
         (D.files host.now.disk) H.hashing) c
         (map (λ name. name.items) arguments.files.items) session.old session.new
         (result_ok result) }
@@ -226,12 +186,27 @@ fn run_task<H: Hashes, D: Disk, K: Output, E: Sink>(
     let Some(options) = with_key(host, session, options, key_file)? else {
         return Ok(false);
     };
+    warn_if_short(&host.program, &options, session);
     session.make_room(host.program.alloc, host.hashes.piece_bytes(&options))?;
     let names = files.as_slice();
     if options.checks {
         check_manifests(host, &options, session, names)
     } else {
         print_sums(host, &options, session, names)
+    }
+}
+
+// Warns of MACs that are short enough to be guessed.
+fn warn_if_short<F: OpenFile, K: Output, E: Sink>(
+    program: &Program,
+    options: &Options,
+    session: &mut Session<F, K, E>,
+)
+    ensures { WarnsOfMacs (are_short_macs options.now) program.now.name.items session.old
+        session.new }
+{
+    if options.needs.key && options.bytes < MAC_BYTES {
+        warn_of_short_macs(program, &mut session.messages);
     }
 }
 
@@ -246,15 +221,15 @@ fn with_key<H: Hashes, D: Disk, K: Output, E: Sink>(
     ensures options { (c : Choice) → AreOptions c options
         → option_map (λ name. name.items) key_file ≡ c.key_file
         → IfOk result (λ found. IfSome found (λ o. AreOptions c o
-        × HasKey (world_of host.now.program.name.items D.File.named D.File.failed
-        (D.files host.now.disk) H.hashing) session.old.left
-        c o)) }
+        × HasKey (world_of host.now.program.name.items D.File.named D.File.failed D.File.failure
+        (D.files host.now.disk) H.hashing)
+        session.old.left c o)) }
     ensures bytes { IfOk result (λ found. IfSome found (λ o. o.bytes ≡ options.bytes)) }
     ensures held { session.new.held ≡ session.old.held }
     ensures kept { IfOk result (λ found. IfSome found (λ _. AfterKey
         (option_map (λ name. name.items) key_file) session.old session.new)) }
     ensures keyless { IfOk result (λ found. found ≡ None → IsKeyless
-        (world_of host.now.program.name.items D.File.named D.File.failed
+        (world_of host.now.program.name.items D.File.named D.File.failed D.File.failure
         (D.files host.now.disk) H.hashing)
         (option_map (λ name. name.items) key_file) (max_bytes options.algorithm)
         session.old session.new) }
@@ -264,15 +239,8 @@ fn with_key<H: Hashes, D: Disk, K: Output, E: Sink>(
         return Ok(Some(options));
     };
     let most = options.algorithm.max_bytes();
-    let name = name.as_slice();
-    host.disk.hide_memory();
-    let messages = &mut session.messages;
-    let found = if is_dash(name) {
-        read_key_from(&host.program, &mut session.input, name, most, messages)?
-    } else {
-        read_key(&host.program, &host.disk, name, most, messages)?
-    };
-    let Some(key) = found else {
+    let is_hidden = host.disk.hide_memory();
+    let Some(key) = read_key(host, session, name.as_slice(), most, is_hidden)? else {
         return Ok(None);
     };
     options.key = key;

@@ -1,12 +1,11 @@
 //! What a run works with.
 
-ghost use Rattle.std.specs.Prelude.{◌≡◌, ◌<◌, ◌≤◌, ◌^◌, ◌∷◌, [], length, IfOk};
-ghost use Rattle.b2sum_commands.specs.Manifests.{first_spacing};
+ghost use Rattle.std.specs.Prelude.{◌≡◌, ◌<◌, ◌≤◌, ◌^◌, ◌∷◌, [], length, IfOk, IsErr, OnOk};
+ghost use Rattle.b2sum_commands.specs.Manifests.{first_place};
 ghost use Rattle.b2sum_commands.specs.ProgramName.{last_part, program_name};
 ghost use Rattle.b2sum_lines.specs.declared.entry.Spacing.TheVariants.{Open};
 
 use crate::devices::{OpenFile, Output};
-use crate::line_needs::Lacks;
 use crate::options::Options;
 use b2sum_lines::Spacing;
 use blake2_streams::Sink;
@@ -70,10 +69,18 @@ pub struct Session<F: OpenFile, K: Output, E: Sink> {
     pub(crate) messages: E,
     // What each read is for.
     pub(crate) buffer: Vec<u8>,
-    // The spacing of the lines of manifests so far.
+    pub(crate) place: Place,
+}
+
+/// The manifest that is checked, as far as it is read.
+#[derive(Drop)]
+pub(crate) struct Place {
+    /// Its name.
+    pub(crate) name: Vec<u8>,
+    /// The spacing of its lines.
     pub(crate) spacing: Spacing,
-    // What lines of the manifest that is checked need.
-    pub(crate) lacks: Lacks,
+    /// How many lines were read, at most 2^64 - 1.
+    pub(crate) number: u64,
 }
 
 impl<F: OpenFile, K: Output, E: Sink> Model for Session<F, K, E> {
@@ -87,8 +94,13 @@ impl<F: OpenFile, K: Output, E: Sink> Model for Session<F, K, E> {
       held = K.held s.output;
       told = E.held s.messages;
       output_failed = K.failed s.output;
+      output_error = K.failure s.output;
       messages_failed = E.failed s.messages;
-      spacing = s.spacing;
+      place = record {
+        name = s.place.name.items;
+        spacing = s.place.spacing;
+        number = s.place.number;
+      };
     } };
 
     ghost invariant = { λ s. (0 < length s.buffer.items) × (length s.buffer.items ≤ 2 ^ 24)
@@ -105,8 +117,9 @@ impl<F: OpenFile + Drop, K: Output + Drop, E: Sink + Drop> Session<F, K, E> {
           held = K.held output;
           told = E.held messages;
           output_failed = K.failed output;
+          output_error = K.failure output;
           messages_failed = E.failed messages;
-          spacing = Open;
+          place = record { name = []; spacing = Open; number = 0 };
         }) }
     {
         let buffer = vec![in alloc; 0u8; PIECE_BYTES]?;
@@ -115,24 +128,47 @@ impl<F: OpenFile + Drop, K: Output + Drop, E: Sink + Drop> Session<F, K, E> {
             output,
             messages,
             buffer,
-            spacing: Spacing::Open,
-            lacks: Lacks::none(),
+            place: Place {
+                name: Vec::new(alloc),
+                spacing: Spacing::Open,
+                number: 0,
+            },
         })
     }
 }
 
 impl<F: OpenFile, K: Output, E: Sink> Session<F, K, E> {
-    /// Begins the check of a manifest, whose spacing is not known yet. Under a key it has two bytes
-    /// before each name.
-    pub(crate) fn begin_manifest(&mut self, options: &Options)
-        ensures { self.new ≡ record self.old { spacing = first_spacing options.now } }
+    /// Begins the check of the manifest of this name, whose spacing is not known yet. Under a key
+    /// it has two bytes before each name.
+    pub(crate) fn begin_manifest(
+        &mut self,
+        alloc: Global,
+        options: &Options,
+        name: &[u8],
+    ) -> Result<(), AllocError>
+        ensures begun { OnOk result
+            (self.new ≡ record self.old { place = first_place options.now name.now }) }
+        ensures unbegun { IsErr result → self.new ≡ self.old }
     {
-        self.spacing = if options.needs.key {
+        let name = Vec::from_slice(alloc, name)?;
+        let spacing = if options.needs.key {
             Spacing::Two
         } else {
             Spacing::Open
         };
-        self.lacks = Lacks::none();
+        self.place = Place {
+            name,
+            spacing,
+            number: 0,
+        };
+        Ok(())
+    }
+
+    /// Returns the spacing of the lines of the manifest that is checked.
+    pub(crate) fn spacing(&self) -> Spacing
+        ensures { result ≡ self.now.place.spacing }
+    {
+        self.place.spacing
     }
 
     /// Makes room for reads of this many bytes.

@@ -4,12 +4,14 @@ ghost use Rattle.std.specs.Prelude.{◌++◌, ◌∷◌, []};
 ghost use Rattle.hex.specs.Hex.{encode_lower};
 ghost use Rattle.b2sum_commands.specs.PrintedSums.{printed, end_of};
 ghost use Rattle.std.specs.Prelude.{◌≡◌, ◌≢◌, ℕ, ◌≤◌, List, length, map, take, true, false, IfOk};
-ghost use Rattle.std.specs.Prelude.{IsErrOf, IsOkUnless};
+ghost use Rattle.std.specs.Prelude.{IsErrOf, IsOkUnless, IfErr, OnOk, Some, ◌⊎◌, ◌<◌, ◌^◌};
+ghost use Rattle.blake2_streams.specs.Streams.{GivesAll};
 ghost use Rattle.std.specs.Result.{result_ok};
 ghost use Rattle.b2sum_commands.specs.declared.sums.Read.TheVariants.{Whole, Missing, Failed};
-ghost use Rattle.b2sum_commands.specs.World.{world_of, AllInTurn, IsQuiet, IsTold};
-ghost use Rattle.b2sum_commands.specs.PrintedSums.{is_dash, ReadsAs, LeavesInput, CannotSum, IsSum};
-ghost use Rattle.b2sum_commands.specs.PrintedSums.{ended_line};
+ghost use Rattle.b2sum_commands.specs.Messages.{is_dash};
+ghost use Rattle.b2sum_commands.specs.World.{world_of, AllInTurn, KeepsOutput};
+ghost use Rattle.b2sum_commands.specs.PrintedSums.{ReadsAs, LeavesInput, IsMissing, IsSum};
+ghost use Rattle.b2sum_commands.specs.PrintedSums.{ended_line, TellsCause};
 
 use crate::devices::{Disk, Fault, OpenFile, Output, put};
 use crate::hashes::{Function, Hashes};
@@ -47,31 +49,25 @@ pub(crate) fn digest_file<H: Hashes, D: Disk, K: Output, E: Sink>(
         session.old.left session.new.left text
         × (take function.bytes out.new ≡ H.hashing.digest options.now function text)) }
     ensures missing { IfOk result (λ read. read ≡ Missing → (options.now.ignores_missing ≡ true)
-        × (is_dash name.now ≡ false) × ((D.files host.now.disk).refuses name.now ≡ true)
-        × ((D.files host.now.disk).lacks name.now ≡ true)) }
-    ensures failed { IfOk result (λ read. read ≡ Failed → CannotSum
-        (world_of host.now.program.name.items D.File.named D.File.failed
+        × (is_dash name.now ≡ false) × IsMissing (D.files host.now.disk) name.now) }
+    ensures told { IfOk result (λ read. read ≡ Failed → TellsCause
+        (world_of host.now.program.name.items D.File.named D.File.failed D.File.failure
         (D.files host.now.disk) H.hashing)
-        options.now function name.now) }
-    ensures told { IfOk result (λ read. read ≡ Failed → IsTold session.old session.new) }
+        options.now function name.now session.old session.new) }
     ensures silent { IfOk result (λ read. read ≢ Failed → session.new.told ≡ session.old.told) }
     ensures leaves { LeavesInput (is_dash name.now) session.old.left session.new.left }
-    ensures quiet { IsQuiet session.old session.new }
+    ensures output { KeepsOutput session.old session.new }
     ensures memory { IsOkUnless result Fault.NoMemory }
 {
+    let hashes = &host.hashes;
     if is_dash(name) {
         let input = &mut session.input;
-        if !input.failed()
-            && host
-                .hashes
-                .digest_source(options, function, input, session.buffer.as_mut_slice(), out)
-                .is_ok()
-        {
-            return Ok(Read::Whole);
+        let buffer = session.buffer.as_mut_slice();
+        if let Err(error) = digest_open(hashes, options, function, input, buffer, out) {
+            warn_of_file(host, error, &mut session.messages, name)?;
+            return Ok(Read::Failed);
         }
-        let reason = session.input.reason();
-        warn_of_file(&host.program, reason, &mut session.messages, name)?;
-        return Ok(Read::Failed);
+        return Ok(Read::Whole);
     }
     let mut file = match host.disk.open(host.program.alloc, name) {
         Ok(file) => file,
@@ -79,20 +75,48 @@ pub(crate) fn digest_file<H: Hashes, D: Disk, K: Output, E: Sink>(
             if options.ignores_missing && error.kind() == io::ErrorKind::NotFound {
                 return Ok(Read::Missing);
             }
-            warn_of_file(&host.program, error, &mut session.messages, name)?;
+            warn_of_file(host, error, &mut session.messages, name)?;
             return Ok(Read::Failed);
         }
     };
     let buffer = session.buffer.as_mut_slice();
-    if host
-        .hashes
-        .digest_source(options, function, &mut file, buffer, out)
+    if let Err(error) = digest_open(hashes, options, function, &mut file, buffer, out) {
+        warn_of_file(host, error, &mut session.messages, name)?;
+        return Ok(Read::Failed);
+    }
+    Ok(Read::Whole)
+}
+
+// Writes the digest of what is left of an open file, by this function, at the front of `out`. The
+// error is that of a read, now or before, or any if the hash function refuses the file.
+fn digest_open<H: Hashes, F: OpenFile>(
+    hashes: &H,
+    options: &Options,
+    function: Function,
+    source: &mut F,
+    buffer: &mut [u8],
+    out: &mut [u8; 64],
+) -> io::Result<()>
+    requires room { 0 < length buffer.old }
+    requires most { length buffer.old ≤ 2 ^ 24 }
+    ensures whole { OnOk result ((text : List ℕ)
+        × GivesAll (F.left source.old) (F.left source.new) text
+        × (take function.bytes out.new ≡ H.hashing.digest options.now function text)) }
+    ensures error { IfErr result (λ e. ((F.failed source.new ≡ true)
+        × (F.failure source.new ≡ Some e))
+        ⊎ (H.hashing.rejects options.now function ≡ true)) }
+    ensures name { F.named source.new ≡ F.named source.old }
+{
+    if source.failed() {
+        return Err(source.reason());
+    }
+    if hashes
+        .digest_source(options, function, source, buffer, out)
         .is_ok()
     {
-        return Ok(Read::Whole);
+        return Ok(());
     }
-    warn_of_file(&host.program, file.reason(), &mut session.messages, name)?;
-    Ok(Read::Failed)
+    Err(source.reason())
 }
 
 /// Prints the line of each file, and nothing else. Returns whether all were read. A file that
@@ -107,7 +131,7 @@ pub fn print_sums<H: Hashes, D: Disk, K: Output, E: Sink>(
 ) -> Result<bool, Fault>
     requires { options.now.bytes ≤ 64 }
     ensures lines { AllInTurn (IsSum
-        (world_of host.now.program.name.items D.File.named D.File.failed
+        (world_of host.now.program.name.items D.File.named D.File.failed D.File.failure
         (D.files host.now.disk) H.hashing) options.now)
         (map (λ name. name.items) names.now) session.old session.new (result_ok result) }
     ensures write { IsErrOf result Fault.WriteFailed → session.new.output_failed ≡ true }
@@ -128,7 +152,8 @@ fn print_sum<H: Hashes, D: Disk, K: Output, E: Sink>(
     name: &[u8],
 ) -> Result<bool, Fault>
     requires { options.now.bytes ≤ 64 }
-    ensures line { IsSum (world_of host.now.program.name.items D.File.named D.File.failed
+    ensures line { IsSum
+        (world_of host.now.program.name.items D.File.named D.File.failed D.File.failure
         (D.files host.now.disk) H.hashing)
         options.now name.now session.old session.new (result_ok result) }
     ensures write { IsErrOf result Fault.WriteFailed → session.new.output_failed ≡ true }

@@ -10,7 +10,8 @@ use Rattle.b2sum_commands.proofs.check.check_entry.Goals as goal
 pub returns-in_err-print_verdict-clause-begun : goal.returns-in_err-print_verdict-clause-begun
 returns-in_err-print_verdict-clause-begun g c = λ error.
     let w = world_of c.args.host.now.program.name.items
-    g.D.File.OpenFile.named g.D.File.OpenFile.failed (g.D.Disk.files c.args.host.now.disk)
+    g.D.File.OpenFile.named g.D.File.OpenFile.failed
+    g.D.File.OpenFile.failure (g.D.Disk.files c.args.host.now.disk)
     g.H.Hashes.hashing in
     let o = c.args.options.now in
     let i : Result Line Verdict = Ok (entry_value c.args.entry.now) in
@@ -27,7 +28,7 @@ returns-in_err-print_verdict-clause-begun g c = λ error.
     subst (λ (s : Streams). IsVerdict w o old.left i v found s.left) (sym c.session.view_is)
     c.in_ok-verdict.ensures.verdict in
     let same : begun ≡ old.held =
-    ap (λ (s : Streams). s.held) c.session.view_is ∙ c.in_ok-verdict.ensures.quiet.held in
+    ap (λ (s : Streams). s.held) c.session.view_is ∙ c.in_ok-verdict.ensures.output.held in
     let whole : c.len.result ≡ length c.args.entry.now.digest.items = search rules in
     let part : StopsIn begun new.held (verdict_lines o i v found) =
     subst (λ (n : ℕ). StopsIn begun new.held (verdict_lines o i v (take n out))) whole

@@ -1,58 +1,78 @@
-use Rattle.std.proofs.Common.{◌≡◌, Some, Ok, is_none, ap, ◌∙◌, sym}
+use Rattle.std.proofs.Common.{◌≡◌, ℕ, Bool, List, Option, Some, Ok, Result, ap, sym, ◌∙◌}
 use Rattle.b2sum_lines.specs.EntryViews.{entry_value}
-use Rattle.b2sum_commands.specs.World.{Streams}
-use Rattle.b2sum_commands.specs.World.{world_of}
-use Rattle.b2sum_commands.specs.Manifests.{item, spacing_after}
+use Rattle.b2sum_lines.specs.ManifestLines.{Line}
+use Rattle.b2sum_lines.specs.declared.entry.Spacing.{Spacing}
 use Rattle.b2sum_commands.specs.ManifestChecks.{item_value}
-use Rattle.b2sum_commands.proofs.Verdicts.{entry_line}
+use Rattle.b2sum_commands.specs.Manifests.{item, next_place}
+use Rattle.b2sum_commands.specs.World.{Streams, world_of}
+use Rattle.b2sum_commands.specs.declared.check.Item.{Item}
+use Rattle.b2sum_commands.specs.declared.check.Verdict.{Verdict}
+use Rattle.b2sum_commands.specs.declared.options.Options.{Options}
 use Rattle.b2sum_commands.proofs.EndedByErrors.{entry_stops}
+use Rattle.b2sum_commands.proofs.Verdicts.{comment_line, entry_line, unmet_line}
 use Rattle.b2sum_commands.proofs.check.check_line.Goals as goal
+
+-- The line is what was read of it, and the place is past it.
+record Passed (o : Options) (input : Bool) (line : List ℕ) (old mid : Streams)
+    (i : Option (Result Line Verdict)) : Type 0 where
+  is : item o input old.place.spacing line ≡ i
+  at : mid ≡ record old { place = next_place old.place i }
+
+passed : (o : Options) (input : Bool) (line : List ℕ) (old mid : Streams) (spacing : Spacing)
+    (read : Item) (i : Option (Result Line Verdict)) → spacing ≡ old.place.spacing
+    → item_value read ≡ item o input spacing line
+    → mid ≡ record old { place = next_place old.place (item_value read) } → item_value read ≡ i
+    → Passed o input line old mid i
+passed o input line old mid spacing read i same value at is = record {
+  is = ap (λ (s : Spacing). item o input s line) (sym same) ∙ sym value ∙ is;
+  at = at ∙ ap (λ (x : Option (Result Line Verdict)). record old { place = next_place old.place x }) is;
+}
+
+pub returns-in-Comment-clause-checked : goal.returns-in-Comment-clause-checked
+returns-in-Comment-clause-checked g c =
+    let w = world_of c.args.host.now.program.name.items g.D.File.OpenFile.named
+    g.D.File.OpenFile.failed g.D.File.OpenFile.failure (g.D.Disk.files c.args.host.now.disk)
+    g.H.Hashes.hashing in
+    let p = passed c.args.options.now c.args.is_input c.args.line.now c.args.session.now
+    c.pass_line.new.session c.spacing-spacing.result c.in_ok-item.item _ c.spacing-spacing.ensures
+    c.in_ok-item.ensures.is c.pass_line.ensures (ap item_value c.in-Comment.is) in
+    comment_line w c.args.options.now c.args.is_input c.args.line.now c.args.session.now
+    c.pass_line.new.session p.is p.at
+
+pub returns-in-Unmet-clause-checked : goal.returns-in-Unmet-clause-checked
+returns-in-Unmet-clause-checked g c =
+    let w = world_of c.args.host.now.program.name.items g.D.File.OpenFile.named
+    g.D.File.OpenFile.failed g.D.File.OpenFile.failure (g.D.Disk.files c.args.host.now.disk)
+    g.H.Hashes.hashing in
+    let p = passed c.args.options.now c.args.is_input c.args.line.now c.args.session.now
+    c.pass_line.new.session c.spacing-spacing.result c.in_ok-item.item _ c.spacing-spacing.ensures
+    c.in_ok-item.ensures.is c.pass_line.ensures (ap item_value c.in-Unmet.is) in
+    unmet_line w c.args.options.now c.args.is_input c.args.line.now c.args.session.now
+    c.pass_line.new.session c.in-Unmet.lacks p.is p.at
 
 pub returns-in-Listed-clause-checked : goal.returns-in-Listed-clause-checked
 returns-in-Listed-clause-checked g c =
-    let w = world_of c.args.host.now.program.name.items
-    g.D.File.OpenFile.named g.D.File.OpenFile.failed (g.D.Disk.files c.args.host.now.disk)
+    let w = world_of c.args.host.now.program.name.items g.D.File.OpenFile.named
+    g.D.File.OpenFile.failed g.D.File.OpenFile.failure (g.D.Disk.files c.args.host.now.disk)
     g.H.Hashes.hashing in
-    let o = c.args.options.now in
-    let input = is_none c.args.manifest.now.file in
-    let line = c.args.line.now in
-    let old = c.args.session.now in
-    let entry = c.in-Listed.entry in
-    let spacing : c.session.inside.spacing ≡ old.spacing =
-    ap (λ (s : Streams). s.spacing) c.session.view_is in
-    let is : item o input old.spacing line ≡ Some (Ok (entry_value entry)) =
-    ap (λ s. item o input s line) (sym spacing)
-    ∙ ap (λ b. item o b c.session.inside.spacing line) (sym c.is_input-is_input.ensures)
-    ∙ sym c.in_ok-item.ensures.is
-    ∙ ap item_value c.in-Listed.is in
-    let spaced = c.spacing_after-session-inside.result in
-    entry_line w o input line old _ c.check_entry.new.session (entry_value entry)
-    c.check_entry.result is
-    (ap (λ (s : Streams). record s { spacing = spaced }) c.session.view_is
-    ∙ ap (λ s. record old { spacing = s }) (c.spacing_after-session-inside.ensures
-    ∙ ap (λ s. spacing_after s entry.style) spacing))
-    c.check_entry.ensures.verdict c.check_entry.ensures.told
-    c.check_entry.ensures.silent
-    c.check_entry.ensures.spacing
+    let p = passed c.args.options.now c.args.is_input c.args.line.now c.args.session.now
+    c.pass_line.new.session c.spacing-spacing.result c.in_ok-item.item
+    (Some (Ok (entry_value c.in-Listed.entry))) c.spacing-spacing.ensures
+    c.in_ok-item.ensures.is c.pass_line.ensures (ap item_value c.in-Listed.is) in
+    entry_line w c.args.options.now c.args.is_input c.args.line.now c.args.session.now
+    c.pass_line.new.session c.check_entry.new.session (entry_value c.in-Listed.entry)
+    c.check_entry.result p.is p.at c.check_entry.ensures.place c.check_entry.ensures.verdict
+    c.check_entry.ensures.told c.check_entry.ensures.silent
 
 pub returns-in-Listed-clause-begun : goal.returns-in-Listed-clause-begun
 returns-in-Listed-clause-begun g c = λ error.
-    let w = world_of c.args.host.now.program.name.items
-    g.D.File.OpenFile.named g.D.File.OpenFile.failed (g.D.Disk.files c.args.host.now.disk)
+    let w = world_of c.args.host.now.program.name.items g.D.File.OpenFile.named
+    g.D.File.OpenFile.failed g.D.File.OpenFile.failure (g.D.Disk.files c.args.host.now.disk)
     g.H.Hashes.hashing in
-    let o = c.args.options.now in
-    let input = is_none c.args.manifest.now.file in
-    let line = c.args.line.now in
-    let old = c.args.session.now in
-    let entry = c.in-Listed.entry in
-    let spacing : c.session.inside.spacing ≡ old.spacing =
-    ap (λ (s : Streams). s.spacing) c.session.view_is in
-    let is : item o input old.spacing line ≡ Some (Ok (entry_value entry)) =
-    ap (λ s. item o input s line) (sym spacing)
-    ∙ ap (λ b. item o b c.session.inside.spacing line) (sym c.is_input-is_input.ensures)
-    ∙ sym c.in_ok-item.ensures.is
-    ∙ ap item_value c.in-Listed.is in
-    let spaced = c.spacing_after-session-inside.result in
-    entry_stops w o input line old _ c.check_entry.new.session (entry_value entry) _ is
-    (ap (λ (s : Streams). record s { spacing = spaced }) c.session.view_is)
+    let p = passed c.args.options.now c.args.is_input c.args.line.now c.args.session.now
+    c.pass_line.new.session c.spacing-spacing.result c.in_ok-item.item
+    (Some (Ok (entry_value c.in-Listed.entry))) c.spacing-spacing.ensures
+    c.in_ok-item.ensures.is c.pass_line.ensures (ap item_value c.in-Listed.is) in
+    entry_stops w c.args.options.now c.args.is_input c.args.line.now c.args.session.now
+    c.pass_line.new.session c.check_entry.new.session (entry_value c.in-Listed.entry) _ p.is p.at
     (c.check_entry.ensures.begun error)

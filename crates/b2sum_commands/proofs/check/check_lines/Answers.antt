@@ -15,11 +15,10 @@ use Rattle.b2sum_commands.proofs.check.check_lines.Goals.{
 }
 use Rattle.b2sum_commands.proofs.check.check_lines.Goals as goal
 
-pub loop-number-init : goal.loop-number-init
-loop-number-init g c = record {
+pub number-init : goal.number-init
+number-init g c = record {
   file = refl;
   name = refl;
-  title = refl;
   read = (
     [],
     reading_start _ _ _ _ _ _ c.requires,
@@ -29,39 +28,40 @@ loop-number-init g c = record {
 
 pub returns-then-is_empty-clause-lines : goal.returns-then-is_empty-clause-lines
 returns-then-is_empty-clause-lines g c =
-    let before = c.loop-number.invariant.read in
+    let before = c.number.invariant.read in
     let left = g.D.File.OpenFile.left in
-    let now = c.loop-number.session in
+    let now = c.number.session in
     let at : left c.session.inside.input ≡ now.left =
     ap (λ (s : Streams). s.left) c.session.view_is in
     let read = read_at g.D.File.OpenFile.named g.D.File.OpenFile.failed _ _ _ _ _ _ _
-    (source_name g.D.File.OpenFile.named c.args.manifest.now.file) c.loop-number.invariant.name
+    (source_name g.D.File.OpenFile.named c.args.manifest.now.file) c.number.invariant.name
     c.in_ok-end.ensures.passes in
     let same = same_streams (is_none c.args.manifest.now.file) _ now (left c.read_line.new.input)
     (ap (λ (s : Streams). record s { left = left c.read_line.new.input }) c.session.view_is)
-    (λ file. ap left (c.in_ok-end.ensures.other (c.loop-number.invariant.file ∙ file)) ∙ at) in
+    (λ file. ap left (c.in_ok-end.ensures.other (c.number.invariant.file ∙ file)) ∙ at) in
     found_end _ _ _ _ c.args.session.now _ _ now before.0 c.in_ok-end.end read.0
-    c.read_line.new.line.items _ read.1 _ _ _ c.loop-number.counts c.counted.result before.1
+    c.read_line.new.line.items _ read.1 _ _ _ c.number.counts c.counted.result before.1
     before.2 (subst (λ (l : Option (List ℕ)). Consumes
-    (source_left left c.loop-number.manifest.file l) read.1 read.0) at read.2) read.3 read.4
+    (source_left left c.number.manifest.file l) read.1 read.0) at read.2) read.3 read.4
     (λ is. search (rules, is)) (no_bytes _ (search rules))
     (record { last = c.counted.ensures.last; failure = c.counted.ensures.failure }) same
 
 pub returns-then-ne-2-clause-lines : goal.returns-then-ne-2-clause-lines
 returns-then-ne-2-clause-lines g c =
-    let before = c.loop-number.invariant.read in
+    let before = c.number.invariant.read in
     let left = g.D.File.OpenFile.left in
-    let now = c.loop-number.session in
+    let now = c.number.session in
     let at : left c.session.inside.input ≡ now.left =
     ap (λ (s : Streams). s.left) c.session.view_is in
     let read = read_at g.D.File.OpenFile.named g.D.File.OpenFile.failed _ _ _ _ _ _ _
-    (source_name g.D.File.OpenFile.named c.args.manifest.now.file) c.loop-number.invariant.name
+    (source_name g.D.File.OpenFile.named c.args.manifest.now.file) c.number.invariant.name
     c.in_ok-end.ensures.passes in
     let same = same_streams (is_none c.args.manifest.now.file) _ now (left c.read_line.new.input)
     (ap (λ (s : Streams). record s { left = left c.read_line.new.input }) c.session.view_is)
-    (λ file. ap left (c.in_ok-end.ensures.other (c.loop-number.invariant.file ∙ file)) ∙ at) in
+    (λ file. ap left (c.in_ok-end.ensures.other (c.number.invariant.file ∙ file)) ∙ at) in
     let w = world_of c.args.host.now.program.name.items
-    g.D.File.OpenFile.named g.D.File.OpenFile.failed (g.D.Disk.files c.args.host.now.disk)
+    g.D.File.OpenFile.named g.D.File.OpenFile.failed
+    g.D.File.OpenFile.failure (g.D.Disk.files c.args.host.now.disk)
     g.H.Hashes.hashing in
     let o = c.args.options.now in
     let input : Bool = is_none c.args.manifest.now.file in
@@ -70,17 +70,22 @@ returns-then-ne-2-clause-lines g c =
       held = g.K.Sink.held c.session.inside.output;
       told = g.E.Sink.held c.session.inside.messages;
       output_failed = g.K.Sink.failed c.session.inside.output;
+      output_error = g.K.Output.failure c.session.inside.output;
       messages_failed = g.E.Sink.failed c.session.inside.messages;
-      spacing = c.session.inside.spacing;
+      place = record {
+        name = c.session.inside.place.name.items;
+        spacing = c.session.inside.place.spacing;
+        number = c.session.inside.place.number;
+      };
     } in
     let new : Streams = c.check_line.new.session in
     let v = c.in_ok-verdict.verdict in
     let items : List ℕ = c.read_line.new.line.items in
     let file : is_none c.read_line.new.self.file ≡ input =
-    c.in_ok-end.ensures.same ∙ c.loop-number.invariant.file in
+    c.in_ok-end.ensures.same ∙ c.number.invariant.file in
     let line : IsLine w o input items mid new v =
     subst (λ (xs : List ℕ). IsLine w o input xs mid new v) c.as_slice.ensures.value
-    (subst (λ (b : Bool). IsLine w o b c.as_slice.result.now mid new v) file
+    (subst (λ (b : Bool). IsLine w o b c.as_slice.result.now mid new v) (c.is_input.ensures ∙ file)
     c.in_ok-verdict.ensures.checked) in
     let some : 0 < length c.read_line.new.line.items = elim c.else-ne.branch [
       | else-ne-via-then-ne+else-is_empty w ↦ search (rules, w.is_empty.ensures, w.if-is_empty)
@@ -89,9 +94,9 @@ returns-then-ne-2-clause-lines g c =
     let stays = line_left left c.read_line.new.self.file w o input items mid new v file line in
     found_last w o input _ c.args.session.now _ _ now before.0 c.in_ok-end.end read.0
     items c.read_line.new.self.lines read.1 _ _ mid new v
-    c.loop-number.counts c.add.new.self c.counted-then-ne-2.result before.1
+    c.number.counts c.add.new.self c.counted-then-ne-2.result before.1
     before.2 (subst (λ (l : Option (List ℕ)). Consumes
-    (source_left left c.loop-number.manifest.file l) read.1 read.0) at read.2) read.3
+    (source_left left c.number.manifest.file l) read.1 read.0) at read.2) read.3
     (subst (λ (l : Option (List ℕ)). IsAfter c.in_ok-end.end read.1 l
     (HasFailed g.D.File.OpenFile.named g.D.File.OpenFile.failed
     (source_name g.D.File.OpenFile.named c.args.manifest.now.file))) stays read.4)
@@ -100,21 +105,22 @@ returns-then-ne-2-clause-lines g c =
       failure = c.counted-then-ne-2.ensures.failure;
     }) same line c.add.ensures
 
-pub loop-number-preserved : goal.loop-number-preserved
-loop-number-preserved g c =
-    let before = c.loop-number.invariant.read in
+pub number-preserved : goal.number-preserved
+number-preserved g c =
+    let before = c.number.invariant.read in
     let left = g.D.File.OpenFile.left in
-    let now = c.loop-number.session in
+    let now = c.number.session in
     let at : left c.session.inside.input ≡ now.left =
     ap (λ (s : Streams). s.left) c.session.view_is in
     let read = read_at g.D.File.OpenFile.named g.D.File.OpenFile.failed _ _ _ _ _ _ _
-    (source_name g.D.File.OpenFile.named c.args.manifest.now.file) c.loop-number.invariant.name
+    (source_name g.D.File.OpenFile.named c.args.manifest.now.file) c.number.invariant.name
     c.in_ok-end.ensures.passes in
     let same = same_streams (is_none c.args.manifest.now.file) _ now (left c.read_line.new.input)
     (ap (λ (s : Streams). record s { left = left c.read_line.new.input }) c.session.view_is)
-    (λ file. ap left (c.in_ok-end.ensures.other (c.loop-number.invariant.file ∙ file)) ∙ at) in
+    (λ file. ap left (c.in_ok-end.ensures.other (c.number.invariant.file ∙ file)) ∙ at) in
     let w = world_of c.args.host.now.program.name.items
-    g.D.File.OpenFile.named g.D.File.OpenFile.failed (g.D.Disk.files c.args.host.now.disk)
+    g.D.File.OpenFile.named g.D.File.OpenFile.failed
+    g.D.File.OpenFile.failure (g.D.Disk.files c.args.host.now.disk)
     g.H.Hashes.hashing in
     let o = c.args.options.now in
     let input : Bool = is_none c.args.manifest.now.file in
@@ -123,28 +129,32 @@ loop-number-preserved g c =
       held = g.K.Sink.held c.session.inside.output;
       told = g.E.Sink.held c.session.inside.messages;
       output_failed = g.K.Sink.failed c.session.inside.output;
+      output_error = g.K.Output.failure c.session.inside.output;
       messages_failed = g.E.Sink.failed c.session.inside.messages;
-      spacing = c.session.inside.spacing;
+      place = record {
+        name = c.session.inside.place.name.items;
+        spacing = c.session.inside.place.spacing;
+        number = c.session.inside.place.number;
+      };
     } in
     let new : Streams = c.check_line.new.session in
     let v = c.in_ok-verdict.verdict in
     let items : List ℕ = c.read_line.new.line.items in
     let file : is_none c.read_line.new.self.file ≡ input =
-    c.in_ok-end.ensures.same ∙ c.loop-number.invariant.file in
+    c.in_ok-end.ensures.same ∙ c.number.invariant.file in
     let line : IsLine w o input items mid new v =
     subst (λ (xs : List ℕ). IsLine w o input xs mid new v) c.as_slice.ensures.value
-    (subst (λ (b : Bool). IsLine w o b c.as_slice.result.now mid new v) file
+    (subst (λ (b : Bool). IsLine w o b c.as_slice.result.now mid new v) (c.is_input.ensures ∙ file)
     c.in_ok-verdict.ensures.checked) in
     let stays = line_left left c.read_line.new.self.file w o input items mid new v file line in
     record {
       file = file;
-      name = c.in_ok-end.ensures.name ∙ c.loop-number.invariant.name;
-      title = c.in_ok-end.ensures.title ∙ c.loop-number.invariant.title;
+      name = c.in_ok-end.ensures.name ∙ c.number.invariant.name;
       read = found_line w o input _ c.args.session.now _ _ now before.0 c.in_ok-end.end read.0
           items _ read.1 _ _ mid new v
-          c.loop-number.counts c.add.new.self before.1
+          c.number.counts c.add.new.self before.1
           before.2 (subst (λ (l : Option (List ℕ)). Consumes
-          (source_left left c.loop-number.manifest.file l) read.1 read.0) at read.2) read.3
+          (source_left left c.number.manifest.file l) read.1 read.0) at read.2) read.3
           (subst (λ (l : Option (List ℕ)). IsAfter c.in_ok-end.end read.1 l
           (HasFailed g.D.File.OpenFile.named g.D.File.OpenFile.failed
           (source_name g.D.File.OpenFile.named c.args.manifest.now.file))) stays read.4)
@@ -153,25 +163,26 @@ loop-number-preserved g c =
 
 pub returns-in_err-end-clause-stopped : goal.returns-in_err-end-clause-stopped
 returns-in_err-end-clause-stopped g c = λ _.
-    let before = c.loop-number.invariant.read in
-    stopped_between _ _ _ _ _ c.args.session.now _ _ c.loop-number.session _ before.0 before.1
+    let before = c.number.invariant.read in
+    stopped_between _ _ _ _ _ c.args.session.now _ _ c.number.session _ before.0 before.1
     (ap (λ (s : Streams). s.held) c.session.view_is)
 
 pub returns-in_err-verdict-clause-stopped : goal.returns-in_err-verdict-clause-stopped
 returns-in_err-verdict-clause-stopped g c = λ _.
-    let before = c.loop-number.invariant.read in
+    let before = c.number.invariant.read in
     let left = g.D.File.OpenFile.left in
-    let now = c.loop-number.session in
+    let now = c.number.session in
     let at : left c.session.inside.input ≡ now.left =
     ap (λ (s : Streams). s.left) c.session.view_is in
     let read = read_at g.D.File.OpenFile.named g.D.File.OpenFile.failed _ _ _ _ _ _ _
-    (source_name g.D.File.OpenFile.named c.args.manifest.now.file) c.loop-number.invariant.name
+    (source_name g.D.File.OpenFile.named c.args.manifest.now.file) c.number.invariant.name
     c.in_ok-end.ensures.passes in
     let same = same_streams (is_none c.args.manifest.now.file) _ now (left c.read_line.new.input)
     (ap (λ (s : Streams). record s { left = left c.read_line.new.input }) c.session.view_is)
-    (λ file. ap left (c.in_ok-end.ensures.other (c.loop-number.invariant.file ∙ file)) ∙ at) in
+    (λ file. ap left (c.in_ok-end.ensures.other (c.number.invariant.file ∙ file)) ∙ at) in
     let w = world_of c.args.host.now.program.name.items
-    g.D.File.OpenFile.named g.D.File.OpenFile.failed (g.D.Disk.files c.args.host.now.disk)
+    g.D.File.OpenFile.named g.D.File.OpenFile.failed
+    g.D.File.OpenFile.failure (g.D.Disk.files c.args.host.now.disk)
     g.H.Hashes.hashing in
     let o = c.args.options.now in
     let input : Bool = is_none c.args.manifest.now.file in
@@ -180,16 +191,22 @@ returns-in_err-verdict-clause-stopped g c = λ _.
       held = g.K.Sink.held c.session.inside.output;
       told = g.E.Sink.held c.session.inside.messages;
       output_failed = g.K.Sink.failed c.session.inside.output;
+      output_error = g.K.Output.failure c.session.inside.output;
       messages_failed = g.E.Sink.failed c.session.inside.messages;
-      spacing = c.session.inside.spacing;
+      place = record {
+        name = c.session.inside.place.name.items;
+        spacing = c.session.inside.place.spacing;
+        number = c.session.inside.place.number;
+      };
     } in
     let new : Streams = c.check_line.new.session in
     let items : List ℕ = c.read_line.new.line.items in
     let file : is_none c.read_line.new.self.file ≡ input =
-    c.in_ok-end.ensures.same ∙ c.loop-number.invariant.file in
+    c.in_ok-end.ensures.same ∙ c.number.invariant.file in
     let begun : BeginsLine w o input items mid new =
     subst (λ (xs : List ℕ). BeginsLine w o input xs mid new) c.as_slice.ensures.value
-    (subst (λ (b : Bool). BeginsLine w o b c.as_slice.result.now mid new) file
+    (subst (λ (b : Bool). BeginsLine w o b c.as_slice.result.now mid new)
+    (c.is_input.ensures ∙ file)
     (c.in_err-verdict.ensures.begun refl)) in
     let len : c.read_line.new.line.len ≡ length c.read_line.new.line.items =
     search (rules, c.read_line.new.line.ok) in
@@ -202,10 +219,10 @@ returns-in_err-verdict-clause-stopped g c = λ _.
     stopped_in w o _ input _ c.args.session.now _ _ now before.0 c.in_ok-end.end read.0 items
     c.read_line.new.self.lines read.1 _ mid new before.1
     (subst (λ (l : Option (List ℕ)). Consumes
-    (source_left left c.loop-number.manifest.file l) read.1 read.0) at read.2) read.3 read.4 some
+    (source_left left c.number.manifest.file l) read.1 read.0) at read.2) read.3 read.4 some
     same begun
 
 pub returns-clause-stopped : goal.returns-clause-stopped
 returns-clause-stopped g c = λ _.
-    let before = c.loop-number.invariant.read in
-    stopped_between _ _ _ _ _ c.args.session.now _ _ c.loop-number.session _ before.0 before.1 refl
+    let before = c.number.invariant.read in
+    stopped_between _ _ _ _ _ c.args.session.now _ _ c.number.session _ before.0 before.1 refl

@@ -6,14 +6,14 @@ use Rattle.b2sum_commands.specs.declared.check.Verdict.{Verdict}
 use Rattle.b2sum_commands.proofs.CheckedLines.{Reading}
 use Rattle.b2sum_commands.proofs.check.check_lines.Given as goal
 
-abbrev pub invariant-loop-number : goal.invariant-loop-number
-invariant-loop-number g l = record {
+abbrev pub invariant-number : goal.invariant-number
+invariant-number g l = record {
   file : is_none l.manifest.file ≡ is_none l.fn.manifest.file;
   name : source_name g.D.File.OpenFile.named l.manifest.file
       ≡ source_name g.D.File.OpenFile.named l.fn.manifest.file;
-  title : l.manifest.title ≡ l.fn.manifest.title;
   read : (vs : List Verdict) × Reading (world_of l.host.program.name.items
-      g.D.File.OpenFile.named g.D.File.OpenFile.failed (g.D.Disk.files l.host.disk) g.H.Hashes.hashing) l.options (is_none l.fn.manifest.file)
+      g.D.File.OpenFile.named g.D.File.OpenFile.failed
+      g.D.File.OpenFile.failure (g.D.Disk.files l.host.disk) g.H.Hashes.hashing) l.options (is_none l.fn.manifest.file)
       (source_left g.D.File.OpenFile.left l.fn.manifest.file l.fn.session.left) l.fn.session
       l.manifest.lines (source_left g.D.File.OpenFile.left l.manifest.file l.session.left) l.session vs
       × AreCounted vs l.counts;

@@ -33,7 +33,8 @@ returns-clause-checked g c =
 pub returns-in_err-holds-clause-checked : goal.returns-in_err-holds-clause-checked
 returns-in_err-holds-clause-checked g c =
     let w = world_of c.args.host.now.program.name.items
-    g.D.File.OpenFile.named g.D.File.OpenFile.failed (g.D.Disk.files c.args.host.now.disk)
+    g.D.File.OpenFile.named g.D.File.OpenFile.failed
+    g.D.File.OpenFile.failure (g.D.Disk.files c.args.host.now.disk)
     g.H.Hashes.hashing in
     let does = IsChecked w c.args.options.now in
     let names = c.args.names.now in

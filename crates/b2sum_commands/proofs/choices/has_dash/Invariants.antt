@@ -1,6 +1,6 @@
 use Rattle.std.proofs.Common.{◌≡◌, drop, map}
 use Rattle.std.specs.List.{list_any}
-use Rattle.b2sum_commands.specs.PrintedSums.{is_dash}
+use Rattle.b2sum_commands.specs.Messages.{is_dash}
 use Rattle.b2sum_commands.proofs.choices.has_dash.Given as goal
 
 abbrev pub invariant-loop-file : goal.invariant-loop-file

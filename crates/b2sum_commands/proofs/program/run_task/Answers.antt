@@ -9,9 +9,10 @@ use Rattle.b2sum_commands.specs.ManifestChecks.{IsChecked}
 use Rattle.b2sum_commands.specs.AcceptedOptions.{AreOptions}
 use Rattle.std.specs.Option.{option_map}
 use Rattle.b2sum_commands.specs.ProgramRuns.{HasKey, AfterKey, IsKeyless, DoesChoice}
+use Rattle.b2sum_commands.specs.ProgramRuns.{are_short_macs}
 use Rattle.b2sum_commands.proofs.EndedByErrors.{stops}
 use Rattle.b2sum_commands.proofs.DoneInTurn.{items_of}
-use Rattle.b2sum_commands.proofs.DoneTasks.{checks_done, sums_done}
+use Rattle.b2sum_commands.proofs.DoneTasks.{checks_done, sums_done, unprinted_warning}
 use Rattle.b2sum_commands.proofs.program.run_task.Goals as goal
 
 pub returns-in_default-clause-choice : goal.returns-in_default-clause-choice
@@ -20,7 +21,8 @@ returns-in_default-clause-choice g c = λ ch are given. inr (
   c.args.arguments.options,
   are,
   subst (λ file. IsKeyless (world_of c.args.host.now.program.name.items
-      g.D.File.OpenFile.named g.D.File.OpenFile.failed (g.D.Disk.files c.args.host.now.disk)
+      g.D.File.OpenFile.named g.D.File.OpenFile.failed
+      g.D.File.OpenFile.failure (g.D.Disk.files c.args.host.now.disk)
       g.H.Hashes.hashing) file (max_bytes c.args.arguments.options.algorithm) c.args.session.now
       c.with_key.new.session) given (c.in_ok-options.ensures.keyless (search rules)),
 )
@@ -28,7 +30,8 @@ returns-in_default-clause-choice g c = λ ch are given. inr (
 pub returns-then-options-2-clause-choice : goal.returns-then-options-2-clause-choice
 returns-then-options-2-clause-choice g c = λ ch are given.
     let w = world_of c.args.host.now.program.name.items
-    g.D.File.OpenFile.named g.D.File.OpenFile.failed (g.D.Disk.files c.args.host.now.disk)
+    g.D.File.OpenFile.named g.D.File.OpenFile.failed
+    g.D.File.OpenFile.failure (g.D.Disk.files c.args.host.now.disk)
     g.H.Hashes.hashing in
     let o = c.in-Some.options in
     let old = c.args.session.now in
@@ -40,11 +43,12 @@ returns-then-options-2-clause-choice g c = λ ch are given.
     (subst (λ found. IfSome found (λ (x : Options). AfterKey
     (option_map (λ (n : Vec ℕ Global). n.items) c.args.arguments.key_file) old keyed)) c.in-Some.is
     c.in_ok-options.ensures.kept) in
-    let begun : c.make_room.new.self ≡ keyed = c.make_room.ensures in
+    let warned = c.warn_if_short.new.session in
+    let begun : c.make_room.new.self ≡ warned = c.make_room.ensures in
     let end = result_ok c.check_manifests.result in
     inl (checks_done w ch o
-    (items_of c.args.arguments.files.items) old keyed c.make_room.new.self
-    c.check_manifests.new.session end chosen after c.if-options-2.true begun
+    (items_of c.args.arguments.files.items) old keyed warned c.make_room.new.self
+    c.check_manifests.new.session end chosen after c.warn_if_short.ensures c.if-options-2.true begun
     (subst (λ (ns : List (Vec ℕ Global)). AllInTurn (IsChecked w o) (items_of ns)
     c.make_room.new.self c.check_manifests.new.session end) c.as_slice-names.ensures.value
     c.check_manifests.ensures.checked))
@@ -52,7 +56,8 @@ returns-then-options-2-clause-choice g c = λ ch are given.
 pub returns-clause-choice : goal.returns-clause-choice
 returns-clause-choice g c = λ ch are given.
     let w = world_of c.args.host.now.program.name.items
-    g.D.File.OpenFile.named g.D.File.OpenFile.failed (g.D.Disk.files c.args.host.now.disk)
+    g.D.File.OpenFile.named g.D.File.OpenFile.failed
+    g.D.File.OpenFile.failure (g.D.Disk.files c.args.host.now.disk)
     g.H.Hashes.hashing in
     let o = c.in-Some.options in
     let old = c.args.session.now in
@@ -64,11 +69,12 @@ returns-clause-choice g c = λ ch are given.
     (subst (λ found. IfSome found (λ (x : Options). AfterKey
     (option_map (λ (n : Vec ℕ Global). n.items) c.args.arguments.key_file) old keyed)) c.in-Some.is
     c.in_ok-options.ensures.kept) in
-    let begun : c.make_room.new.self ≡ keyed = c.make_room.ensures in
+    let warned = c.warn_if_short.new.session in
+    let begun : c.make_room.new.self ≡ warned = c.make_room.ensures in
     let end = result_ok c.print_sums.result in
     inl (sums_done w ch o
-    (items_of c.args.arguments.files.items) old keyed c.make_room.new.self
-    c.print_sums.new.session end chosen after c.if-options-2.false begun
+    (items_of c.args.arguments.files.items) old keyed warned c.make_room.new.self
+    c.print_sums.new.session end chosen after c.warn_if_short.ensures c.if-options-2.false begun
     (subst (λ (ns : List (Vec ℕ Global)). AllInTurn (IsSum w o) (items_of ns)
     c.make_room.new.self c.print_sums.new.session end) c.as_slice-names.ensures.value
     c.print_sums.ensures.lines))
@@ -76,7 +82,8 @@ returns-clause-choice g c = λ ch are given.
 pub returns-in_err-options-clause-choice : goal.returns-in_err-options-clause-choice
 returns-in_err-options-clause-choice g c = λ ch are given.
     let w = world_of c.args.host.now.program.name.items
-    g.D.File.OpenFile.named g.D.File.OpenFile.failed (g.D.Disk.files c.args.host.now.disk)
+    g.D.File.OpenFile.named g.D.File.OpenFile.failed
+    g.D.File.OpenFile.failure (g.D.Disk.files c.args.host.now.disk)
     g.H.Hashes.hashing in
     stops (DoesChoice w ch (items_of c.args.arguments.files.items) c.args.session.now
     c.with_key.new.session) _ _ c.from_residual.ensures.1
@@ -85,8 +92,11 @@ returns-in_err-options-clause-choice g c = λ ch are given.
 pub returns-in_err-make_room-clause-choice : goal.returns-in_err-make_room-clause-choice
 returns-in_err-make_room-clause-choice g c = λ ch are given.
     let w = world_of c.args.host.now.program.name.items
-    g.D.File.OpenFile.named g.D.File.OpenFile.failed (g.D.Disk.files c.args.host.now.disk)
+    g.D.File.OpenFile.named g.D.File.OpenFile.failed
+    g.D.File.OpenFile.failure (g.D.Disk.files c.args.host.now.disk)
     g.H.Hashes.hashing in
     stops (DoesChoice w ch (items_of c.args.arguments.files.items) c.args.session.now
     c.make_room.new.self) _ _ c.from_residual-in_err-make_room.ensures.1
-    (inr (ap (λ (s : Streams). s.held) c.make_room.ensures ∙ c.in_ok-options.ensures.held))
+    (inr (ap (λ (s : Streams). s.held) c.make_room.ensures
+    ∙ unprinted_warning (are_short_macs c.in-Some.options) w.program c.with_key.new.session
+    c.warn_if_short.new.session c.warn_if_short.ensures ∙ c.in_ok-options.ensures.held))

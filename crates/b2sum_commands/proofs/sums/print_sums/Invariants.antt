@@ -8,6 +8,7 @@ use Rattle.b2sum_commands.proofs.sums.print_sums.Given as goal
 abbrev pub invariant-loop-name : goal.invariant-loop-name
 invariant-loop-name g l =
     (each : List Bool) × Sofar (Ends (IsSum (world_of l.host.program.name.items
-    g.D.File.OpenFile.named g.D.File.OpenFile.failed (g.D.Disk.files l.host.disk) g.H.Hashes.hashing) l.options)) (items_of l.names) l.fn.session
+    g.D.File.OpenFile.named g.D.File.OpenFile.failed
+    g.D.File.OpenFile.failure (g.D.Disk.files l.host.disk) g.H.Hashes.hashing) l.options)) (items_of l.names) l.fn.session
     (items_of (drop l.name-index l.names)) l.session each
     × (l.are_read ≡ list_all (λ well. well) each)

@@ -1,0 +1,56 @@
+-- The key of a key file.
+use Rattle.std.proofs.Common.{◌≡◌, ◌⊎◌, ℕ, Bool, true, false, List, Option, Some, None, Result, Ok, Err}
+use Rattle.std.proofs.Common.{IfOk, IfSome, if◌then◌else◌, inl, inr, sym, subst}
+use Rattle.std.specs.declared.io.Error.{Error}
+use Rattle.b2sum_commands.specs.Messages.{Cannot, is_dash}
+use Rattle.b2sum_commands.specs.ProgramRuns.{LacksKey, TellsNoKey, key_reason}
+use Rattle.b2sum_commands.specs.World.{IsNoKey, Streams, Tells, World}
+use Rattle.b2sum_commands.proofs.KnownBytes.{IsKnown, no_key_known}
+
+-- What holds of what two calls found, if it follows from two facts.
+pub both_found : {A E : Type 0} (r : Result (Option A) E) (P Q R : A → Type 0)
+    → ((x : A) → P x → Q x → R x) → IfOk r (λ k. IfSome k P) → IfOk r (λ k. IfSome k Q)
+    → IfOk r (λ k. IfSome k R)
+both_found (Ok (Some x)) P Q R f p q = f x p q
+both_found (Ok None) P Q R f p q = tt
+both_found (Err e) P Q R f p q = tt
+
+pub none_found : {A E : Type 0} (r : Result (Option A) E) (X Y : Type 0) → (X → Y)
+    → IfOk r (λ k. k ≡ None → X) → IfOk r (λ k. k ≡ None → Y)
+none_found (Ok k) X Y f h = λ is. f (h is)
+none_found (Err e) X Y f h = tt
+
+-- An open file of this name, of which so much is left, has no key, as a message says.
+abbrev pub OpenLacks : World → List ℕ → ℕ → Option (List ℕ) → Streams → Streams → Type 0
+OpenLacks w name most left old new = (reason : List ℕ)
+    × (((e : Error) × w.fails name e × w.files.describes e reason)
+    ⊎ (IsNoKey left most × (reason ≡ key_reason most)))
+    × Tells w old new (Cannot name reason)
+
+-- Standard input has no key.
+pub input_lacks : (w : World) (name : List ℕ) (most : ℕ) (old new : Streams) → is_dash name ≡ true
+    → OpenLacks w name most old.left old new → TellsNoKey w name most old new
+input_lacks w name most old new dash told = (told.0, go told.1, told.2)
+  where
+    go : ((e : Error) × w.fails name e × w.files.describes e told.0)
+        ⊎ (IsNoKey old.left most × (told.0 ≡ key_reason most)) → LacksKey w old.left most name told.0
+    go (inl broken) = inl (broken.0, inr broken.1, broken.2)
+    go (inr none) = inr (
+      subst (λ (b : Bool). IsNoKey (if b then old.left else w.files.holds name) most) (sym dash) none.0,
+      none.1,
+    )
+
+-- A file has no key.
+pub file_lacks : (w : World) (name : List ℕ) (most : ℕ) (left : Option (List ℕ))
+    (old new : Streams) → is_dash name ≡ false → IsKnown (w.files.holds name) left
+    → OpenLacks w name most left old new → TellsNoKey w name most old new
+file_lacks w name most left old new other known told = (told.0, go told.1, told.2)
+  where
+    go : ((e : Error) × w.fails name e × w.files.describes e told.0)
+        ⊎ (IsNoKey left most × (told.0 ≡ key_reason most)) → LacksKey w old.left most name told.0
+    go (inl broken) = inl (broken.0, inr broken.1, broken.2)
+    go (inr none) = inr (
+      subst (λ (b : Bool). IsNoKey (if b then old.left else w.files.holds name) most) (sym other)
+          (no_key_known (w.files.holds name) left most known none.0),
+      none.1,
+    )

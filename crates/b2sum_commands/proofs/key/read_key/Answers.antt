@@ -1,0 +1,71 @@
+use Rattle.std.proofs.Common.{◌≡◌, ℕ, Bool, List, Option, true, false, ap, refl, rules, subst, sym}
+use Rattle.b2sum_commands.specs.Messages.{is_dash}
+use Rattle.b2sum_commands.specs.ProgramRuns.{IsPastKey}
+use Rattle.b2sum_commands.specs.World.{Streams, world_of}
+use Rattle.b2sum_commands.proofs.KeyFiles.{OpenLacks, both_found, file_lacks, input_lacks, none_found}
+use Rattle.b2sum_commands.proofs.StandardInputName.{dash_name}
+use Rattle.b2sum_commands.proofs.key.read_key.Goals as goal
+
+pub read_key_from-requires : goal.read_key_from-requires
+read_key_from-requires g c =
+    dash_name c.args.name.now (g.D.File.OpenFile.named c.session.inside.input) c.session.invariant.2
+    (search (rules, c.if-is_dash.true, c.is_dash.ensures))
+
+pub returns-then-is_dash-clause-told : goal.returns-then-is_dash-clause-told
+returns-then-is_dash-clause-told g c =
+    let w = world_of c.args.host.now.program.name.items g.D.File.OpenFile.named
+    g.D.File.OpenFile.failed g.D.File.OpenFile.failure (g.D.Disk.files c.args.host.now.disk)
+    g.H.Hashes.hashing in
+    let name : List ℕ = c.args.name.now in
+    let old : Streams = c.args.session.now in
+    let new : Streams = record old {
+      told = g.E.Sink.held c.read_key_from.new.messages;
+      messages_failed = g.E.Sink.failed c.read_key_from.new.messages;
+    } in
+    let dash : is_dash name ≡ true = search (rules, c.if-is_dash.true, c.is_dash.ensures) in
+    none_found c.read_key_from.result _ _ (λ told. input_lacks w name c.args.most old new dash
+    (subst (λ (s : Streams). OpenLacks w name c.args.most s.left s new) c.session.view_is told))
+    c.read_key_from.ensures.told
+
+pub returns-then-is_dash-clause-kept : goal.returns-then-is_dash-clause-kept
+returns-then-is_dash-clause-kept g c =
+    let name : List ℕ = c.args.name.now in
+    let old : Streams = c.args.session.now in
+    let left : Option (List ℕ) = g.D.File.OpenFile.left c.read_key_from.new.file in
+    let dash : is_dash name ≡ true = search (rules, c.if-is_dash.true, c.is_dash.ensures) in
+    both_found c.read_key_from.result _ _ _ (λ key past same. (
+      left,
+      search (rules, same, c.session.view_is),
+      subst (λ (b : Bool). IsPastKey b old.left left) (sym dash)
+          (subst (λ (l : Option (List ℕ)). IsPastKey true l left)
+          (ap (λ (s : Streams). s.left) c.session.view_is) past),
+    )) c.read_key_from.ensures.end c.read_key_from.ensures.kept
+
+pub returns-in-Ok-clause-told : goal.returns-in-Ok-clause-told
+returns-in-Ok-clause-told g c =
+    let w = world_of c.args.host.now.program.name.items g.D.File.OpenFile.named
+    g.D.File.OpenFile.failed g.D.File.OpenFile.failure (g.D.Disk.files c.args.host.now.disk)
+    g.H.Hashes.hashing in
+    let name : List ℕ = c.args.name.now in
+    let old : Streams = c.args.session.now in
+    let new : Streams = record old {
+      told = g.E.Sink.held c.read_key_from-in-Ok.new.messages;
+      messages_failed = g.E.Sink.failed c.read_key_from-in-Ok.new.messages;
+    } in
+    let left : Option (List ℕ) = g.D.File.OpenFile.left c.in-Ok.file in
+    let other : is_dash name ≡ false = search (rules, c.if-is_dash.false, c.is_dash.ensures) in
+    none_found c.read_key_from-in-Ok.result _ _ (λ told. file_lacks w name c.args.most left old new
+    other c.in-Ok.ensures.bytes
+    (subst (λ (s : Streams). OpenLacks w name c.args.most left s new) c.session.view_is told))
+    c.read_key_from-in-Ok.ensures.told
+
+pub returns-in-Ok-clause-kept : goal.returns-in-Ok-clause-kept
+returns-in-Ok-clause-kept g c =
+    let name : List ℕ = c.args.name.now in
+    let old : Streams = c.args.session.now in
+    let other : is_dash name ≡ false = search (rules, c.if-is_dash.false, c.is_dash.ensures) in
+    both_found c.read_key_from-in-Ok.result _ _ _ (λ key past same. (
+      old.left,
+      search (rules, same, c.session.view_is),
+      subst (λ (b : Bool). IsPastKey b old.left old.left) (sym other) refl,
+    )) c.read_key_from-in-Ok.ensures.end c.read_key_from-in-Ok.ensures.kept
