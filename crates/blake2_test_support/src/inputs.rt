@@ -1,5 +1,5 @@
 //! A key, lengths, tree parameters, messages and pieces that several tests share; and inputs,
-//! entries, steps and readings. Only this file makes values of several fields.
+//! entries, steps and readings.
 
 ghost use Rattle.std.specs.Prelude.{◌≡◌, ◌≤◌, [], length};
 
