@@ -52,6 +52,12 @@ LEAVES = [f"blake2_parallel..lanes..{it}p..Lanes..{what}" for it in FAMILIES for
 FOUR = "blake2_compress..many..blake2b..compress_blocks"
 EIGHT = "blake2_compress..many..blake2b..eight..compress_blocks"
 PARALLEL = {"v2": [], "v3": [FOUR], "v4": [FOUR, EIGHT], "arm": [FOUR]}
+# How many shuffles the compression of several messages has: one for each rotation by 32, 24, 16 or 8 bits. On x86-64-v2
+# a row is in two registers. Without tools/rotations.sed LLVM makes one more in each G.
+SHUFFLE = {"blake2b": re.compile(r"\tv?pshuf[bd]\t"), "blake2s": re.compile(r"\tv?pshufb\t")}
+SHUFFLES = {"v2": {"blake2s": 2 * 2 * 80}, "v3": {"blake2b": 3 * 96, "blake2s": 2 * 80}}
+SEVERAL = ("compress..many..{0}..compress_blocks", "compress..many..{0}..compress_each",
+           "parallel..lanes..{0}p..compress_in_lanes")
 # What a line takes from the stack: bytes, pages of 4,096 bytes, and for an alignment at most that less 1.
 TAKES = [(re.compile(r"pushq\t%\w+$"), lambda m: 8),
          (re.compile(r"subq\t\$(\d+), %rsp$"), lambda m: int(m[1])),
@@ -169,6 +175,15 @@ def check_arm(it):
                len(several) == 1 and count_vectors(code[several[0]]) > 3000)
 
 
+def check_shuffles(it):
+    """Whether the compression of several messages has a shuffle for each rotation by whole bytes, and no other."""
+    for family, wanted in SHUFFLES[it.build].items():
+        kernels = [it.code.get(f"blake2_{name.format(family)}_{it.end}", []) for name in SEVERAL]
+        found = [sum(bool(SHUFFLE[family].match(line)) for line in code) for code in kernels]
+        holds = found == [wanted] * len(SEVERAL)
+        yield f"{family}: several messages are compressed with {wanted} shuffles{'' if holds else found}", holds
+
+
 def frame_of(lines):
     """The most bytes that a function takes from the stack for itself."""
     taken = 0
@@ -242,7 +257,8 @@ def main():
     for name, build in TEXTS.items():
         it = Text(name, build)
         checks = [check_text, check_hashing, *([check_stack] if it.is_library else []),
-                  *([check_arm] if build == "arm" else []), *([check_upper] if build == "v4" else [])]
+                  *([check_arm] if build == "arm" else []), *([check_upper] if build == "v4" else []),
+                  *([check_shuffles] if build in SHUFFLES else [])]
         for words, holds in (statement for check in checks for statement in check(it)):
             tap.result(holds, f"{name}: {words}")
     tap.finish()

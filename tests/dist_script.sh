@@ -14,7 +14,8 @@ repository=$work/a\ repository
 mkdir -p "$repository"/{tools,tests,c/include,dist}
 cp "$top"/tools/*.{sh,py,sed,csv,txt,c,rs} "$repository/tools/"
 cp "$top/tests/tap.sh" "$repository/tests/"
-printf '%s\n' '/* A header' ' * of one function. */' 'int f(void); /* here */' \
+printf '%s\n' '/* A header' ' * of one function. */' 'int vulfsjor_ffi_f(' '    char c); /* here */' 'int g(void);' \
+    'typedef struct vulfsjor_s {' '    short s; /* one */' '} vulfsjor_s;' 'int vulfsjor_ffi_h(void);' 'int i(void);' \
     '#define VULFSJOR_VERSION "1.2.3"' >"$repository/c/include/vulfsjor.h"
 echo '#define CODE "7"' >"$repository/c/choose.c"
 printf '%s\n' blake2_state: b2_commands: "blake2_ffi staticlib: blake2_state" \
@@ -32,11 +33,14 @@ of_script() {
 }
 made=$(of_script 'printf "%s\n" "${files[@]}"')
 files="$made $(of_script 'printf "%s\n" "${by_hand[@]}"')"
-for file in $files; do mkdir -p "$(dirname "dist/$file")" && echo "$file" >"dist/$file"; done
+around=$(of_script 'printf "%s\n" "${around[@]}"')
+for file in $files $around; do
+    mkdir -p "$(dirname "dist/$file")" && { [ -e "dist/$file" ] || echo "$file" >"dist/$file"; }
+done
 (
     echo "# kit: kit 1"
     echo "# sources: $(of_script sources)"
-    cd dist && sha256sum $files
+    cd dist && sha256sum $files $around
 ) >dist/MANIFEST
 
 dist() { tools/dist.sh "$@" >"$work/shown" 2>&1; }
@@ -46,14 +50,19 @@ ends() {
     [ $? -eq "$1" ] && grep -qF -- "$2" "$work/shown"
 }
 # Whether a change of a file, made by sed, is found by `current`, or another command, (1) or not (0); it is taken back.
+# One of what is around dist/ is found, and after `sums` only if it is a source too (1+) and not otherwise (1-).
 changed() {
-    local file=$2 status
-    cp "$file" "$work/kept"
+    local file=$2 status wanted=$1
+    cp "$file" "$work/kept" && cp dist/MANIFEST "$work/sums"
     sed -i "$3" "$file"
+    if [[ $1 == 1? ]]; then
+        ! dist current && grep -qx "dist.sh: not as in dist/MANIFEST: $file" "$work/shown" && dist sums || return
+        wanted=0 && [ "$1" = 1- ] || wanted=1
+    fi
     dist "${4:-current}"
     status=$?
-    cp "$work/kept" "$file"
-    [ "$status" -eq "$1" ]
+    cp "$work/kept" "$file" && cp "$work/sums" dist/MANIFEST
+    [ "$status" = "$wanted" ]
 }
 
 check "dist/ with its MANIFEST is current" dist current
@@ -80,6 +89,8 @@ changes() {
     done
 }
 check "a change of a file of dist/ is found" changes < <(printf '1 dist/%s $a more\n' $files)
+check "so is one of what is around it, until it is noted" changes < <(printf '1- %s $a /* more */\n' ${around//..\//})
+check "but sums notes no file that is made" changed 1 dist/x86_64/b2.s '$a more' sums
 check "a change of a source is found, and no other" changes < <(
     printf '1 crates/%s/src/lib.rt $a fn more() {} // more\n' b2 b2sum b2_commands blake2_ffi blake2_state
     printf '1 %s $a # more\n' tools/{plain_names,clear_registers,object_formats,wasm_{format,values,body,to_c}}.py \
@@ -87,10 +98,13 @@ check "a change of a source is found, and no other" changes < <(
     cat <<'END'
 0 crates/b2/src/lib.rt 1i\ \ // more
 0 crates/beside/src/lib.rt $a fn more() {}
-1 c/include/vulfsjor.h s/int/long/
-0 c/include/vulfsjor.h s/ of one / of a /;s/here/there/
-1 c/choose.c s/"7"/"8"/
-0 c/include/vulfsjor.h s/"1\.2\.3"/"1.2.4"/
+1+ c/include/vulfsjor.h s/int vulfsjor_ffi_f/long vulfsjor_ffi_f/
+1+ c/include/vulfsjor.h s/char/int/
+1+ c/include/vulfsjor.h s/short/long/
+1+ c/include/vulfsjor.h s/ffi_h(void)/ffi_h(int i)/
+1- c/include/vulfsjor.h s/ of one / of a /;s/here/there/;s/one/two/;s/int [gi](/long &/
+1+ c/choose.c s/"7"/"8"/
+1- c/include/vulfsjor.h s/"1\.2\.3"/"1.2.4"/
 1 dist/MANIFEST /  aarch64\/b2\.s$/d
 1 dist/MANIFEST s|^.\(.*  aarch64/b2\.s\)$|\1|
 END
@@ -118,7 +132,7 @@ compares_files() {
     done
 }
 check "files that were made are compared byte for byte" compares_files
-check "MANIFEST names every file of dist/ but itself and a page" diff <(cd "$top" && git ls-files dist | sort) \
+check "MANIFEST names every file of dist/ but itself and a page" diff <(cd "$top" && find dist ! -type d | sort) \
     <(printf '%s\n' MANIFEST README.md $files | sed 's|^|dist/|' | sort)
 check "make needs rt" ends 1 "the toolchain's command rt is not on the PATH" make
 check "help" ends 0 "tools/dist.sh current" --help

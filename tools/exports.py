@@ -1,7 +1,8 @@
 #!/usr/bin/env python3
-"""Writes the lists of functions in c/choose.c and c/thunks.h from the prototypes of c/include/vulfsjor.h, and c/abi.txt
-and c/vulfsjor.map, and compares those prototypes and structs with the exports of crates/blake2_ffi and with
-rust/src/library.rs: names, types and order. With --check it also compares the four files, and writes nothing.
+"""Writes the lists of functions in c/choose.c and c/thunks.h from the prototypes of c/include/vulfsjor.h, c/abi.txt and
+c/vulfsjor.map, and the signatures of the functions that rust/src/library.rs names. Compares those prototypes with the
+exports of crates/blake2_ffi, and structs with those there and in library.rs: names, types and order. With --check it
+also compares the five files, and writes nothing.
 
 A function that is new in c/abi.txt gets the node of this version. If a line of an earlier version has changed or is
 gone, the library needs another soname, and nothing is written.
@@ -10,6 +11,7 @@ usage: tools/exports.py [--check]
 """
 import os
 import re
+import subprocess
 import sys
 import textwrap
 
@@ -17,9 +19,10 @@ from read_sources import TOP, items, modules, read, version
 
 HEADER, CHOOSE, CALLS, LIBRARY = "c/include/vulfsjor.h", "c/choose.c", "c/thunks.h", "rust/src/library.rs"
 ABI, MAP = "c/abi.txt", "c/vulfsjor.map"
-# The function of the shared library that is not in the assembly.
-IN_C = "uint32_t vulfsjor_library_version(void)"
-NUMBERS = {"uint8_t": "u8", "uint32_t": "u32", "uint64_t": "u64", "int32_t": "i32", "size_t": "usize", "void": ""}
+# The functions of the shared library that are not in the assembly.
+IN_C = "uint32_t vulfsjor_library_version(void)", "const char *vulfsjor_library_build(void)"
+NUMBERS = {"uint8_t": "u8", "uint16_t": "u16", "uint32_t": "u32", "uint64_t": "u64", "int32_t": "i32",
+           "size_t": "usize", "void": ""}
 # The structs of the header, by their names without vulfsjor_: the file of Rattle that has each, its name there, and its
 # name in Rust if its fields are there too.
 STRUCTS = {
@@ -41,6 +44,11 @@ NAMES = {"NodeParameters": "tree", "Text": "message", "Tree": "tree", "TreeState
 # Names that differ: C's are those of the BLAKE2 document.
 SAME = {"persona": "personal", "persona_length": "personal_length", "messages_length": "count",
         "bytes_length": "length"}
+
+OF_RUST = {"personal": "persona", "personal_length": "persona_length"}
+# What library.rs calls the structs.
+IN_RUST = {**{f"blake2{name}_state": f"Blake2{name}State" for name in ("b", "s", "bp", "sp", "xb", "xs")},
+           "tree_state": "TreeState", **{name: rust for name, (_, _, rust) in STRUCTS.items() if rust}}
 
 
 def without_comments(text):
@@ -103,12 +111,29 @@ def rattle_exports():
                 yield signature(" ".join(" ".join(item.head).split()), state)
 
 
-def functions_of_rust():
-    """The functions of the crate for Rust, by the names of the header."""
-    text = re.search(r"^functions! \{$(.*?)^\}$", read(LIBRARY), re.MULTILINE | re.DOTALL)[1]
-    for head in re.findall(r"fn .*?;", " ".join(without_comments(text).split())):
-        name, found = signature(head, "")
-        yield "vulfsjor_ffi_" + name, found
+def in_rust(words):
+    """A parameter of C as library.rs has it: structs are references, except in arrays of them."""
+    name, type_ = of_c(words)
+    star, _, struct = type_.rpartition(" ")
+    if struct in IN_RUST:
+        array = "*const " if struct == "message" else {"*mut": "&mut ", "*const": "&"}[star]
+        type_ = array + IN_RUST[struct]
+    return f"{OF_RUST.get(name, name)}: {type_}"
+
+
+def rust_signatures():
+    """rust/src/library.rs, in which each function that it names has the signature of the header."""
+    wanted = prototypes()
+
+    def signature_of(match):
+        result, given, _ = wanted.get("vulfsjor_ffi_" + match[1]) or sys.exit(f"{LIBRARY}: {HEADER} has no {match[1]}")
+        words, end = [in_rust(one) for one in given], f" -> {NUMBERS[result]};" if NUMBERS[result] else ";"
+        line = f"    fn {match[1]}({', '.join(words)}){end}"
+        if len(line) <= 96:
+            return line
+        return f"    fn {match[1]}(\n" + "".join(f"        {one},\n" for one in words) + f"    ){end}"
+
+    return re.sub(r"(?m)^    fn (\w+)\([^)]*\)[^;]*;$", signature_of, read(LIBRARY))
 
 
 def fields_of(text, name):
@@ -128,8 +153,6 @@ def differences_from_header():
                 for name, (given, _) in wanted.items() if is_packed(given))
     yield from (f"crates/blake2_ffi: {name} is not as in {HEADER}" for name in sorted({*wanted, *found})
                 if found.get(name) != wanted.get(name))
-    yield from (f"{LIBRARY}: {name} is not as in {HEADER}" for name, each in functions_of_rust()
-                if each != wanted.get(name))
     header = without_comments(read(HEADER))
     for name, (file, rattle, rust) in STRUCTS.items():
         body = re.search(rf"typedef struct vulfsjor_{name} \{{(.*?)\}}", header, re.DOTALL)[1]
@@ -147,7 +170,7 @@ def is_packed(given):
     """Whether Apple's convention on ARM, which packs arguments on the stack, has one of these elsewhere than Arm's."""
     end = 0
     for place, (_, type_) in enumerate(given[8:]):
-        size = {"u8": 1, "u32": 4}.get(type_, 8)
+        size = {"u8": 1, "u16": 2, "u32": 4}.get(type_, 8)
         end = -(-end // size) * size + size
         if end != 8 * place + size:
             return True
@@ -182,7 +205,7 @@ def interface_lines():
     """The lines of c/abi.txt for functions and structs, in the order of the versions that added them."""
     of_functions = [(f"{result} {name}", ", ".join(re.sub(r" ?\w+$", "", one) for one in given) or "void")
                     for name, (result, given, _) in prototypes().items()]
-    words = [IN_C, *(f"{head}({given})" for head, given in of_functions),
+    words = [*IN_C, *(f"{head}({given})" for head, given in of_functions),
              *(f"struct {head}: {fields_}" for head, fields_ in layout_lines())]
     added = {line.partition(" ")[2]: line.partition(" ")[0] for line in read(ABI).split("\n")}
     here = f"VULFSJOR_{version().rpartition('.')[0]}"
@@ -220,6 +243,7 @@ def generated_lists():
     head = re.match(r"(?:#.*\n|\n)*", read(ABI))[0]
     yield ABI, head + "\n".join(interface_lines()) + "\n"
     yield MAP, version_script()
+    yield LIBRARY, rust_signatures()
 
 
 def main():
@@ -235,6 +259,8 @@ def main():
         else:
             with open(os.path.join(TOP, path), "w", encoding="utf-8") as file:
                 file.write(text)
+    if not sys.argv[1:]:
+        subprocess.run([os.path.join(TOP, "tools", "dist.sh"), "sums"], check=True)
     sys.exit("\n".join(wrong) or 0)
 
 

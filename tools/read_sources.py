@@ -17,10 +17,10 @@ class Unreadable(Exception):
 
 @functools.cache
 def read(path):
-    """The text of a file of the repository, or an empty one if there is none."""
+    """The text of a file of the repository, with the ends of its lines, or an empty one if there is none."""
     if not os.path.exists(os.path.join(TOP, path)):
         return ""
-    with open(os.path.join(TOP, path), encoding="utf-8") as file:
+    with open(os.path.join(TOP, path), encoding="utf-8", newline="") as file:
         return file.read()
 
 

@@ -74,6 +74,7 @@ def write(version):
         text = match.string[:match.start(2)] + wanted + match.string[match.end(2):]
         (TOP / path).write_text(text, encoding="utf-8")
     subprocess.run([TOP / "tools" / "manual.py"], check=True)
+    subprocess.run([TOP / "tools" / "dist.sh", "sums"], check=True)
 
 
 if sys.argv[1:] == ["--check"]:
