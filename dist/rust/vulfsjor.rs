@@ -1212,12 +1212,198 @@ unsafe fn compress_compress_blake2b_compress(mut v0: u64, mut v1: u64, mut v2: u
  return;
 }
 
+// blake2_ffi::blake2b::write_digest
+#[inline(never)]
+unsafe fn ffi_blake2b_write_digest(mut v0: u64, mut v1: u64, mut v2: u64, mut v3: u64, mut v4: u64)
+        {
+ let mut v5: u64;
+ let mut v6: u64;
+ let mut v7: u64;
+ let mut v8: u32;
+ let mut frame = [0_u64; 50];
+ let top = (address!(frame)).plus(400) & !15;
+ v5 = top.minus(384);
+ 'l1: loop {
+ v6 = load64(v4.plus(16));
+ v7 = load64(v4.plus(8));
+ fill(v5, 0, 64);
+ v8 = load8(v4);
+ store64(v5 + 120, 0x5be0cd19137e2179);
+ store64(v5 + 112, 0x1f83d9abfb41bd6b);
+ store64(v5 + 104, 0x9b05688c2b3e6c1f);
+ store64(v5 + 96, 0x510e527fade682d1);
+ store64(v5 + 88, 0xa54ff53a5f1d36f1);
+ store64(v5 + 80, 0x3c6ef372fe94f82b);
+ store64(v5 + 72, 0xbb67ae8584caa73b);
+ store64(v5 + 64, (((if v8 != 0 { ((((v6 as u32) << 8) & 0xff00) | 0x1010000) } else { 0x1010000 })
+   | ((v1 as u32) & 255)) as u64) ^ 0x6a09e667f3bcc908);
+ 'l3: loop {
+ 'l4: loop {
+ if v8 != 0 { break 'l4; }
+ 'l5: loop {
+ v7 = v3.minus(((v3 != 0) as u32) as u64);
+ v6 = v7 >> 7;
+ if v6 == 0 { break 'l5; }
+ v4 = 128;
+ 'l6: loop {
+ compress_compress_blake2b_compress(v5.plus(64), v2.plus(v4).minus(128), v4, 0, 0);
+ v4 = v4.plus(128);
+ v6 = v6.minus(1);
+ if v6 != 0 { continue 'l6; }
+ break 'l6; }
+ break 'l5; }
+ fill(v5.plus(256), 0, 128);
+ 'l7: loop {
+ v4 = v7 & 0xffffffffffffff80;
+ v6 = v3.minus(v4);
+ if v6 == 0 { break 'l7; }
+ copy(v5.plus(256), v2.plus(v4), v6);
+ break 'l7; }
+ compress_compress_blake2b_compress(v5.plus(64), v5.plus(256), v3, 1, 0);
+ break 'l3;
+ }
+ fill(v5.plus(128), 0, 128);
+ 'l8: loop {
+ if v6 == 0 { break 'l8; }
+ copy(v5.plus(128), v7, v6);
+ break 'l8; }
+ 'l9: loop {
+ if v3 != 0 { break 'l9; }
+ compress_compress_blake2b_compress(v5.plus(64), v5.plus(128), 128, 1, 0);
+ break 'l3;
+ }
+ compress_compress_blake2b_compress(v5.plus(64), v5.plus(128), 128, 0, 0);
+ 'l10: loop {
+ v7 = v3.minus(1);
+ v6 = v7 >> 7;
+ if v6 == 0 { break 'l10; }
+ v4 = 256;
+ 'l11: loop {
+ compress_compress_blake2b_compress(v5.plus(64), v2.plus(v4).minus(256), v4, 0, 0);
+ v4 = v4.plus(128);
+ v6 = v6.minus(1);
+ if v6 != 0 { continue 'l11; }
+ break 'l11; }
+ break 'l10; }
+ fill(v5.plus(256), 0, 128);
+ 'l12: loop {
+ v4 = v7 & 0xffffffffffffff80;
+ v6 = v3.minus(v4);
+ if v6 == 0 { break 'l12; }
+ copy(v5.plus(256), v2.plus(v4), v6);
+ break 'l12; }
+ compress_compress_blake2b_compress(v5.plus(64), v5.plus(256), v3.plus(128), 1, 0);
+ break 'l3; }
+ store64(v5 + 56, load64(v5 + 120));
+ store64(v5 + 48, load64(v5 + 112));
+ store64(v5 + 40, load64(v5 + 104));
+ store64(v5 + 32, load64(v5 + 96));
+ store64(v5 + 24, load64(v5 + 88));
+ store64(v5 + 16, load64(v5 + 80));
+ store64(v5 + 8, load64(v5 + 72));
+ store64(v5, load64(v5 + 64));
+ 'l13: loop {
+ if v1 != 64 { break 'l13; }
+ store64(v0 + 56, load64(v5 + 56));
+ store64(v0 + 48, load64(v5 + 48));
+ store64(v0 + 40, load64(v5 + 40));
+ store64(v0 + 32, load64(v5 + 32));
+ store64(v0 + 24, load64(v5 + 24));
+ store64(v0 + 16, load64(v5 + 16));
+ store64(v0 + 8, load64(v5 + 8));
+ store64(v0, load64(v5));
+ break 'l1;
+ }
+ if v1 == 0 { break 'l1; }
+ copy(v0, v5, v1);
+ break 'l1;
+ }
+}
+
+// blake2_ffi::blake2b::write_keyed
+#[inline(never)]
+unsafe fn ffi_blake2b_write_keyed(mut v0: u64, mut v1: u64, mut v2: u64, mut v3: u64, mut v4: u64,
+        mut v5: u64) -> u32 {
+ let mut v6: u64;
+ let mut v7: u32;
+ let mut frame = [0_u64; 6];
+ let top = (address!(frame)).plus(48) & !15;
+ v6 = top.minus(32);
+ v7 = 0xffffffff;
+ 'l2: loop {
+ if v3 > 0xffffffffffffff7f { break 'l2; }
+ if v1.minus(65) < 0xffffffffffffffc0 { break 'l2; }
+ if v5 >= 65 { break 'l2; }
+ store64(v6 + 24, v5);
+ store64(v6 + 16, v4);
+ store64(v6 + 8, 1);
+ ffi_blake2b_write_digest(v0, v1, v2, v3, v6.plus(8));
+ v7 = 0;
+ break 'l2; }
+ return v7;
+}
+
+// Overwrites the stack below the caller.
+#[inline(never)]
+unsafe fn digest_wiping_scrub_stack_1536() {
+    let mut room = [0_u64; 448];
+    for word in room.iter_mut() {
+        core::ptr::write_volatile(word, 0);
+    }
+}
+
+// rattle::export vulfsjor_ffi_blake2b
+#[inline(never)]
+unsafe fn exported_blake2b(mut v0: u64, mut v1: u64, mut v2: u64, mut v3: u64, mut v4: u64, mut v5:
+        u64) -> u32 {
+ let mut v6: u64;
+ let mut v7: u32;
+ let mut frame = [0_u64; 6];
+ let top = (address!(frame)).plus(48) & !15;
+ v6 = top.minus(32);
+ v2 = v2.plus(if v2 == 0 { 4096_u64 } else { 0 });
+ v0 = v0.plus(if v0 == 0 { 4096_u64 } else { 0 });
+ fill(v6 + 16, 0, 16);
+ 'l2: loop {
+ 'l3: loop {
+ if v5 == 0 { break 'l3; }
+ v7 = ffi_blake2b_write_keyed(v0, v1, v2, v3, v4.plus(if v4 == 0 { 4096_u64 } else { 0 }), v5);
+ digest_wiping_scrub_stack_1536();
+ break 'l2;
+ }
+ v7 = 0xffffffff;
+ if v1.minus(1) > 63 { break 'l2; }
+ store64(v6 + 8, 0);
+ ffi_blake2b_write_digest(v0, v1, v2, v3, v6.plus(8));
+ v7 = 0;
+ break 'l2; }
+ return v7;
+}
+
+// __multi3
+#[inline(never)]
+unsafe fn multi3(mut v0: u64, mut v1: u64, mut v2: u64, mut v3: u64, mut v4: u64) {
+ let mut v5: u64;
+ let mut v6: u64;
+ let mut t0: u64;
+ v5 = v3 >> 32;
+ v6 = v1 >> 32;
+ t0 = v5.times(v6).plus(v2.times(v3)).plus(v4.times(v1));
+ v3 &= 0xffffffff;
+ v1 &= 0xffffffff;
+ v2 = v3.times(v1);
+ v3 = (v2 >> 32).plus(v3.times(v6));
+ v1 = (v3 & 0xffffffff).plus(v5.times(v1));
+ store64(v0 + 8, t0.plus(v3 >> 32).plus(v1 >> 32));
+ store64(v0, (v1 << 32) | (v2 & 0xffffffff));
+}
+
 // blake2_state::blake2b::State::write_digest
 #[inline(never)]
 unsafe fn state_blake2b_State_write_digest(mut v0: u64, mut v1: u64) {
  let mut v2: u64;
  let mut v3: u64;
- let mut v4: u64;
+ let mut v4: u32;
  let mut v5: u64;
  let mut v6: u64;
  let mut v7: u64;
@@ -1234,12 +1420,11 @@ unsafe fn state_blake2b_State_write_digest(mut v0: u64, mut v1: u64) {
  let mut v18: u64;
  let mut v19: u64;
  let mut v20: u32;
- let mut v21: u32;
  let mut frame = [0_u64; 78];
  let top = (address!(frame)).plus(624) & !15;
  v2 = top.minus(608);
  v3 = load64(v0.plus(128));
- v4 = load64(v0.plus(160));
+ v4 = load32(v0.plus(148));
  v5 = load64(v0.plus(64));
  v6 = load64(v0.plus(72));
  v7 = load64(v0.plus(80));
@@ -1271,27 +1456,27 @@ unsafe fn state_blake2b_State_write_digest(mut v0: u64, mut v1: u64) {
  store64(v2 + 224, v14);
  store64(v2 + 216, v13);
  store64(v2 + 208, v12);
- v20 = (v4 != 0) as u32;
- store64(v2 + 344, v20 as u64);
- v4 = load64(v0.plus(136));
+ v4 = (v4 != 0) as u32;
+ store64(v2 + 344, v4 as u64);
+ v5 = load32(v0.plus(136)) as u64;
  fill(v2.plus(352), 0, 128);
  'l2: loop {
- v21 = (v4 == 0) as u32;
- if v21 != 0 { break 'l2; }
- copy(v2.plus(352), v0.plus(168), v4);
+ v20 = (v5 == 0) as u32;
+ if v20 != 0 { break 'l2; }
+ copy(v2.plus(352), v0.plus(152), v5);
  break 'l2; }
  copy(v2.plus(72), v2.plus(352), 128);
  store64(v2 + 8, 0);
- store64(v2 + 200, v4);
+ store64(v2 + 200, v5);
  fill(v2 + 16, 0, 56);
- v3 = v4.plus(v3);
+ v3 = v3.plus(v5);
  store64(v2 + 336, v3);
  fill(v2.plus(480), 0, 128);
  'l3: loop {
- if v21 != 0 { break 'l3; }
- copy(v2.plus(480), v2.plus(72), v4);
+ if v20 != 0 { break 'l3; }
+ copy(v2.plus(480), v2.plus(72), v5);
  break 'l3; }
- compress_compress_blake2b_compress(v2.plus(208), v2.plus(480), v3, 1, v20);
+ compress_compress_blake2b_compress(v2.plus(208), v2.plus(480), v3, 1, v4);
  store64(v2 + 64, load64(v2 + 264));
  store64(v2 + 56, load64(v2 + 256));
  store64(v2 + 48, load64(v2 + 248));
@@ -1301,7 +1486,7 @@ unsafe fn state_blake2b_State_write_digest(mut v0: u64, mut v1: u64) {
  store64(v2 + 16, load64(v2 + 216));
  store64(v2 + 8, load64(v2 + 208));
  'l4: loop {
- v0 = load64(v0.plus(152));
+ v0 = load32(v0.plus(144)) as u64;
  if v0 == 0 { break 'l4; }
  copy(v1, v2.plus(8), v0);
  break 'l4; }
@@ -1474,7 +1659,7 @@ unsafe fn digest_buffer_digest_into_33c1e97afcdf8a5d(mut v0: u64, mut v1: u64, m
 unsafe fn state_blake2b_State_take(mut v0: u64, mut v1: u64, mut v2: u64) {
  let mut v3: u64;
  let mut v4: u64;
- let mut v5: u64;
+ let mut v5: u32;
  let mut v6: u64;
  let mut v7: u64;
  let mut v8: u64;
@@ -1501,54 +1686,55 @@ unsafe fn state_blake2b_State_take(mut v0: u64, mut v1: u64, mut v2: u64) {
  'l2: loop {
  'l3: loop {
  v3 = v0.plus(136);
- v5 = load64(v3);
- if v2 > 128_u64.minus(v5) { break 'l3; }
+ v5 = load32(v3);
+ v6 = v5 as u64;
+ if v2 > 128_u64.minus(v6) { break 'l3; }
  'l4: loop {
  'l5: loop {
- v6 = v0.plus(v5);
- v3 = v6.plus(168);
+ v7 = v0.plus(v6);
+ v3 = v7.plus(152);
  if v3.minus(v1) >= v2 { break 'l5; }
- v7 = v2 & 3;
- v8 = 0;
+ v8 = v2 & 3;
+ v9 = 0;
  'l6: loop {
  if v2 < 4 { break 'l6; }
- v9 = v2 & 0xfffffffffffffffc;
- v8 = 0;
+ v10 = v2 & 0xfffffffffffffffc;
+ v9 = 0;
  'l7: loop {
- v3 = v6.plus(v8);
- v10 = v1.plus(v8);
- store8(v3.plus(168), load8(v10) as u64);
- store8(v3.plus(169), load8(v10.plus(1)) as u64);
- store8(v3.plus(170), load8(v10.plus(2)) as u64);
- store8(v3.plus(171), load8(v10.plus(3)) as u64);
- v8 = v8.plus(4);
- if v9 != v8 { continue 'l7; }
+ v3 = v7.plus(v9);
+ v11 = v1.plus(v9);
+ store8(v3.plus(152), load8(v11) as u64);
+ store8(v3.plus(153), load8(v11.plus(1)) as u64);
+ store8(v3.plus(154), load8(v11.plus(2)) as u64);
+ store8(v3.plus(155), load8(v11.plus(3)) as u64);
+ v9 = v9.plus(4);
+ if v10 != v9 { continue 'l7; }
  break 'l7; }
- if v7 == 0 { break 'l4; }
+ if v8 == 0 { break 'l4; }
  break 'l6; }
- v3 = v1.plus(v8);
- v8 = v8.plus(v5).plus(v0).plus(168);
+ v3 = v1.plus(v9);
+ v9 = v9.plus(v6).plus(v0).plus(152);
  'l8: loop {
- store8(v8, load8(v3) as u64);
- v8 = v8.plus(1);
+ store8(v9, load8(v3) as u64);
+ v9 = v9.plus(1);
  v3 = v3.plus(1);
- v7 = v7.minus(1);
- if v7 != 0 { continue 'l8; }
+ v8 = v8.minus(1);
+ if v8 != 0 { continue 'l8; }
  break 'l4;
  }
  }
  if v2 == 0 { break 'l4; }
  copy(v3, v1, v2);
  break 'l4; }
- store64(v0.plus(136), v5.plus(v2));
+ store32(v0.plus(136), v5.plus(v2 as u32) as u64);
  break 'l2;
  }
- v8 = load64(v0.plus(160));
- v10 = v0.plus(128);
- v7 = load64(v10);
- v6 = load64(v0.plus(64));
- v9 = load64(v0.plus(72));
- v11 = load64(v0.plus(80));
+ v5 = load32(v0.plus(148));
+ v9 = v0.plus(128);
+ v11 = load64(v9);
+ v8 = load64(v0.plus(64));
+ v7 = load64(v0.plus(72));
+ v10 = load64(v0.plus(80));
  v12 = load64(v0.plus(88));
  v13 = load64(v0.plus(96));
  v14 = load64(v0.plus(104));
@@ -1566,9 +1752,9 @@ unsafe fn state_blake2b_State_take(mut v0: u64, mut v1: u64, mut v2: u64) {
  store64(v4 + 104, v14);
  store64(v4 + 96, v13);
  store64(v4 + 88, v12);
- store64(v4 + 80, v11);
- store64(v4 + 72, v9);
- store64(v4 + 64, v6);
+ store64(v4 + 80, v10);
+ store64(v4 + 72, v7);
+ store64(v4 + 64, v8);
  store64(v4 + 56, v23);
  store64(v4 + 48, v22);
  store64(v4 + 40, v21);
@@ -1577,10 +1763,10 @@ unsafe fn state_blake2b_State_take(mut v0: u64, mut v1: u64, mut v2: u64) {
  store64(v4 + 16, v18);
  store64(v4 + 8, v17);
  store64(v4, v16);
- store64(v4 + 128, v7);
- store64(v4 + 136, ((v8 != 0) as u32) as u64);
- t0 = digest_buffer_digest_into_33c1e97afcdf8a5d(v0.plus(168), v5, v1, v2, v4);
- store64(v3, t0);
+ store64(v4 + 128, v11);
+ store64(v4 + 136, ((v5 != 0) as u32) as u64);
+ t0 = digest_buffer_digest_into_33c1e97afcdf8a5d(v0.plus(152), v6, v1, v2, v4);
+ store32(v3, t0);
  store64(v0 + 56, load64(v4 + 56));
  store64(v0 + 48, load64(v4 + 48));
  store64(v0 + 40, load64(v4 + 40));
@@ -1589,267 +1775,9 @@ unsafe fn state_blake2b_State_take(mut v0: u64, mut v1: u64, mut v2: u64) {
  store64(v0 + 16, load64(v4 + 16));
  store64(v0 + 8, load64(v4 + 8));
  store64(v0, load64(v4));
- store64(v10, load64(v4 + 128));
+ store64(v9, load64(v4 + 128));
  break 'l2; }
  return;
-}
-
-// Overwrites the stack below the caller.
-#[inline(never)]
-unsafe fn digest_wiping_scrub_stack_3072() {
-    let mut room = [0_u64; 640];
-    for word in room.iter_mut() {
-        core::ptr::write_volatile(word, 0);
-    }
-}
-
-// blake2_ffi::blake2b::write_keyed
-#[inline(never)]
-unsafe fn ffi_blake2b_write_keyed(mut v0: u64, mut v1: u64, mut v2: u64, mut v3: u64, mut v4: u64,
-        mut v5: u64) -> u32 {
- let mut v6: u64;
- let mut v7: u64;
- let mut v8: u32;
- let mut v9: u64;
- let mut frame = [0_u64; 104];
- let top = (address!(frame)).plus(832) & !15;
- v6 = top.minus(816);
- 'l1: loop {
- 'l2: loop {
- 'l4: loop {
- if v1.minus(1) > 63 { break 'l4; }
- if v5 > 64 { break 'l4; }
- v7 = 0;
- v8 = v1 as u32;
- 'l5: loop {
- if v5 != 0 { break 'l5; }
- fill(v6.plus(560), 0, 128);
- fill(v6.plus(688), 0, 128);
- v4 = ((v8 | 0x1010000) as u64) ^ 0x6a09e667f3bcc908;
- break 'l2;
- }
- v7 = 128;
- 'l6: loop {
- v9 = 128_u64.minus(v5);
- if v9 == 0 { break 'l6; }
- fill(v6.plus(688).plus(v5), 0, v9);
- break 'l6; }
- 'l7: loop {
- if v5 == 0 { break 'l7; }
- copy(v6.plus(688), v4, v5);
- break 'l7; }
- copy(v6.plus(560), v6.plus(688), 128);
- v4 = ((((v5 as u32) << 8) | v8 | 0x1010000) as u64) ^ 0x6a09e667f3bcc908;
- break 'l2;
- }
- v8 = 0xffffffff;
- break 'l1;
- }
- copy(v6.plus(8), v6.plus(560), 128);
- store64(v6 + 296, 0);
- store64(v6 + 288, v1);
- store64(v6 + 280, v7);
- store64(v6 + 272, v7);
- store64(v6 + 264, 0);
- store64(v6 + 256, 0x5be0cd19137e2179);
- store64(v6 + 248, 0x1f83d9abfb41bd6b);
- store64(v6 + 240, 0x9b05688c2b3e6c1f);
- store64(v6 + 232, 0x510e527fade682d1);
- store64(v6 + 224, 0xa54ff53a5f1d36f1);
- store64(v6 + 216, 0x3c6ef372fe94f82b);
- store64(v6 + 208, 0xbb67ae8584caa73b);
- store64(v6 + 200, v4);
- store64(v6 + 192, 0x5be0cd19137e2179);
- store64(v6 + 184, 0x1f83d9abfb41bd6b);
- store64(v6 + 176, 0x9b05688c2b3e6c1f);
- store64(v6 + 168, 0x510e527fade682d1);
- store64(v6 + 160, 0xa54ff53a5f1d36f1);
- store64(v6 + 152, 0x3c6ef372fe94f82b);
- store64(v6 + 144, 0xbb67ae8584caa73b);
- store64(v6 + 136, v4);
- v1 = v6.plus(304);
- copy(v1, v6.plus(8), 128);
- copy(v6.plus(432), v6.plus(688), 128);
- v8 = 0xffffffff;
- if v3 > (!v7) { break 'l1; }
- 'l8: loop {
- 'l9: loop {
- if v3 == 1 { break 'l9; }
- state_blake2b_State_take(v6.plus(136), v2, v3);
- break 'l8;
- }
- 'l10: loop {
- if v5 == 0 { break 'l10; }
- state_blake2b_State_take(v6.plus(136), v2, 1);
- break 'l8;
- }
- store8(v1.plus(v7), load8(v2) as u64);
- store64(v6 + 272, v7 | 1);
- break 'l8; }
- state_blake2b_State_write_digest(v6.plus(136), v0);
- v8 = 0;
- break 'l1; }
- return v8;
-}
-
-// rattle::export vulfsjor_ffi_blake2b
-#[inline(never)]
-unsafe fn exported_blake2b(mut v0: u64, mut v1: u64, mut v2: u64, mut v3: u64, mut v4: u64, mut v5:
-        u64) -> u32 {
- let mut v6: u64;
- let mut v7: u64;
- let mut v8: u64;
- let mut v9: u32;
- let mut v10: u32;
- let mut frame = [0_u64; 72];
- let top = (address!(frame)).plus(576) & !15;
- v6 = top.minus(560);
- v7 = v2.plus(if v2 == 0 { 4096_u64 } else { 0 });
- v8 = v0.plus(if v0 == 0 { 4096_u64 } else { 0 });
- 'l2: loop {
- 'l3: loop {
- 'l4: loop {
- 'l5: loop {
- if v1 != 64 { break 'l5; }
- if v5 != 0 { break 'l4; }
- store64(v6 + 128, 0x5be0cd19137e2179);
- store64(v6 + 120, 0x1f83d9abfb41bd6b);
- store64(v6 + 112, 0x9b05688c2b3e6c1f);
- store64(v6 + 104, 0x510e527fade682d1);
- store64(v6 + 96, 0xa54ff53a5f1d36f1);
- store64(v6 + 88, 0x3c6ef372fe94f82b);
- store64(v6 + 80, 0xbb67ae8584caa73b);
- store64(v6 + 72, 0x6a09e667f2bdc948);
- store64(v6 + 64, 0x5be0cd19137e2179);
- store64(v6 + 56, 0x1f83d9abfb41bd6b);
- store64(v6 + 48, 0x9b05688c2b3e6c1f);
- store64(v6 + 40, 0x510e527fade682d1);
- store64(v6 + 32, 0xa54ff53a5f1d36f1);
- store64(v6 + 24, 0x3c6ef372fe94f82b);
- store64(v6 + 16, 0xbb67ae8584caa73b);
- store64(v6 + 8, 0x6a09e667f2bdc948);
- fill(v6.plus(8).plus(128), 0, 152);
- v5 = v6.plus(152);
- 'l6: loop {
- 'l7: loop {
- if v3 > 128 { break 'l7; }
- 'l8: loop {
- if v3 == 0 { break 'l8; }
- copy(v5, v7, v3);
- break 'l8; }
- v2 = 0;
- v9 = 0;
- break 'l6;
- }
- v4 = v3.minus(1);
- v0 = v4 >> 7;
- v2 = v7;
- 'l9: loop {
- v1 = load64(v6 + 136).plus(128);
- store64(v6 + 136, v1);
- compress_compress_blake2b_compress(v6.plus(8), v2, v1, 0, 0);
- v2 = v2.plus(128);
- v0 = v0.minus(1);
- if v0 != 0 { continue 'l9; }
- break 'l9; }
- fill(v5, 0, 128);
- 'l10: loop {
- v2 = v4 & 0xffffffffffffff80;
- v3 = v3.minus(v2);
- if v3 == 0 { break 'l10; }
- copy(v5, v7.plus(v2), v3);
- break 'l10; }
- v9 = load8(v6 + 144);
- v2 = load64(v6 + 136);
- break 'l6; }
- store64(v6 + 280, v3);
- v2 = v3.plus(v2);
- store64(v6 + 136, v2);
- v10 = 0;
- fill(v6.plus(432), 0, 128);
- 'l11: loop {
- if v3 == 0 { break 'l11; }
- copy(v6.plus(432), v5, v3);
- break 'l11; }
- fill(v5, 0, 136);
- compress_compress_blake2b_compress(v6.plus(8), v6.plus(432), v2, 1, v9);
- v2 = load64(v6 + 8);
- v0 = load64(v6 + 16);
- v1 = load64(v6 + 24);
- v3 = load64(v6 + 32);
- v5 = load64(v6 + 40);
- v4 = load64(v6 + 48);
- v7 = load64(v6 + 56);
- store64(v8 + 56, load64(v6 + 64));
- store64(v8 + 48, v7);
- store64(v8 + 40, v4);
- store64(v8 + 32, v5);
- store64(v8 + 24, v3);
- store64(v8 + 16, v1);
- store64(v8 + 8, v0);
- store64(v8, v2);
- break 'l2;
- }
- if v5 == 0 { break 'l3; }
- break 'l4; }
- v10 = ffi_blake2b_write_keyed(v8, v1, v7, v3, v4.plus(if v4 == 0 { 4096_u64 } else { 0 }), v5);
- digest_wiping_scrub_stack_3072();
- break 'l2;
- }
- v10 = 0xffffffff;
- if v1.minus(1) > 63 { break 'l2; }
- store64(v6 + 136, 0);
- store64(v6 + 128, 0x5be0cd19137e2179);
- store64(v6 + 120, 0x1f83d9abfb41bd6b);
- store64(v6 + 112, 0x9b05688c2b3e6c1f);
- store64(v6 + 104, 0x510e527fade682d1);
- store64(v6 + 96, 0xa54ff53a5f1d36f1);
- store64(v6 + 88, 0x3c6ef372fe94f82b);
- store64(v6 + 80, 0xbb67ae8584caa73b);
- store64(v6 + 64, 0x5be0cd19137e2179);
- store64(v6 + 56, 0x1f83d9abfb41bd6b);
- store64(v6 + 48, 0x9b05688c2b3e6c1f);
- store64(v6 + 40, 0x510e527fade682d1);
- store64(v6 + 32, 0xa54ff53a5f1d36f1);
- store64(v6 + 24, 0x3c6ef372fe94f82b);
- store64(v6 + 16, 0xbb67ae8584caa73b);
- fill(v6 + 144, 0, 16);
- v2 = (((v1 as u32) | 0x1010000) as u64) ^ 0x6a09e667f3bcc908;
- store64(v6 + 72, v2);
- store64(v6 + 8, v2);
- store64(v6 + 160, v1);
- fill(v6.plus(168), 0, 264);
- 'l12: loop {
- 'l13: loop {
- if v3 == 1 { break 'l13; }
- state_blake2b_State_take(v6.plus(8), v7, v3);
- break 'l12;
- }
- store64(v6 + 144, 1);
- store8(v6 + 176, load8(v7) as u64);
- break 'l12; }
- state_blake2b_State_write_digest(v6.plus(8), v8);
- v10 = 0;
- break 'l2; }
- return v10;
-}
-
-// __multi3
-#[inline(never)]
-unsafe fn multi3(mut v0: u64, mut v1: u64, mut v2: u64, mut v3: u64, mut v4: u64) {
- let mut v5: u64;
- let mut v6: u64;
- let mut t0: u64;
- v5 = v3 >> 32;
- v6 = v1 >> 32;
- t0 = v5.times(v6).plus(v2.times(v3)).plus(v4.times(v1));
- v3 &= 0xffffffff;
- v1 &= 0xffffffff;
- v2 = v3.times(v1);
- v3 = (v2 >> 32).plus(v3.times(v6));
- v1 = (v3 & 0xffffffff).plus(v5.times(v1));
- store64(v0 + 8, t0.plus(v3 >> 32).plus(v1 >> 32));
- store64(v0, (v1 << 32) | (v2 & 0xffffffff));
 }
 
 // blake2_ffi::blake2b::many::write_all
@@ -1871,134 +1799,154 @@ unsafe fn ffi_blake2b_many_write_all(mut v0: u64, mut v1: u64, mut v2: u64, mut 
  let mut v18: u64;
  let mut v19: u64;
  let mut v20: u64;
- let mut v21: u64;
- let mut v22: u64;
- let mut frame = [0_u64; 94];
- let top = (address!(frame)).plus(752) & !15;
+ let mut v21: u32;
+ let mut v22: u32;
+ let mut v23: u64;
+ let mut v24: u64;
+ let mut frame = [0_u64; 74];
+ let top = (address!(frame)).plus(592) & !15;
  let _ = v1;
  v5 = top;
- v5 = v5.minus(704) & 0xffffffffffffffe0;
+ v5 = v5.minus(544) & 0xffffffffffffffe0;
  'l2: loop {
  if v4 == 0 { break 'l2; }
- v7 = v5.plus(576) | 16;
- v8 = v5.plus(320);
- v9 = v5.plus(192);
- v10 = 0;
+ v7 = v5.plus(352) | 16;
+ v8 = v5.plus(480);
+ v9 = v5.plus(288);
+ v10 = v5.plus(160);
+ v11 = 0;
  'l3: loop {
  'l4: loop {
- v11 = load64(v2);
- if v11.minus(1) > 63 { break 'l4; }
- v12 = load64(v2.plus(16));
- if v12 > 64 { break 'l4; }
- v13 = load64(v2.plus(32));
- if v13 > 16 { break 'l4; }
- v14 = load64(v2.plus(48));
+ v12 = load64(v2);
+ if v12.minus(1) > 63 { break 'l4; }
+ v13 = load64(v2.plus(16));
+ if v13 > 64 { break 'l4; }
+ v14 = load64(v2.plus(32));
  if v14 > 16 { break 'l4; }
- v15 = v11.times(v10);
- v16 = load64(v3.plus(8));
- v17 = load64(v3);
- v18 = load64(v2.plus(40));
- v19 = load64(v2.plus(24));
- v20 = 0;
+ v15 = load64(v2.plus(48));
+ if v15 > 16 { break 'l4; }
+ v16 = v12.times(v11);
+ v17 = load64(v3.plus(8));
+ v18 = load64(v3);
+ v19 = load64(v2.plus(40));
+ v20 = load64(v2.plus(24));
  'l5: loop {
  'l6: loop {
- if v12 != 0 { break 'l6; }
- fill(v5 + 576, 0, 32);
+ if v13 != 0 { break 'l6; }
+ fill(v5 + 352, 0, 32);
  'l7: loop {
- if v13 == 0 { break 'l7; }
- copy(v5.plus(576), v19, v13);
+ if v14 == 0 { break 'l7; }
+ copy(v5.plus(352), v20, v14);
  break 'l7; }
  'l8: loop {
- if v14 == 0 { break 'l8; }
- copy(v7, v18, v14);
+ if v15 == 0 { break 'l8; }
+ copy(v7, v19, v15);
  break 'l8; }
- v21 = load64(v5 + 576);
- v19 = load64(v5 + 584);
- v18 = load64(v5 + 592);
- v14 = load64(v5 + 600);
- fill(v5.plus(448), 0, 128);
- fill(v5.plus(576), 0, 128);
- v13 = (((v11 as u32) | 0x1010000) as u64) ^ 0x6a09e667f3bcc908;
+ v20 = load64(v5 + 352);
+ v19 = load64(v5 + 360);
+ v15 = load64(v5 + 368);
+ v14 = load64(v5 + 376);
+ v21 = 0;
+ fill(v5.plus(416), 0, 128);
+ fill(v5 + 352, 0, 64);
+ v22 = v12 as u32;
+ v12 = ((v22 | 0x1010000) as u64) ^ 0x6a09e667f3bcc908;
  v14 ^= 0x5be0cd19137e2179;
- v18 ^= 0x1f83d9abfb41bd6b;
+ v15 ^= 0x1f83d9abfb41bd6b;
  v19 ^= 0x9b05688c2b3e6c1f;
- v21 ^= 0x510e527fade682d1;
+ v20 ^= 0x510e527fade682d1;
  break 'l5;
  }
- v22 = load64(v2.plus(8));
- fill(v5 + 576, 0, 32);
+ v23 = load64(v2.plus(8));
+ fill(v5 + 352, 0, 32);
  'l9: loop {
- if v13 == 0 { break 'l9; }
- copy(v5.plus(576), v19, v13);
+ if v14 == 0 { break 'l9; }
+ copy(v5.plus(352), v20, v14);
  break 'l9; }
  'l10: loop {
- if v14 == 0 { break 'l10; }
- copy(v7, v18, v14);
+ if v15 == 0 { break 'l10; }
+ copy(v7, v19, v15);
  break 'l10; }
- v20 = 128;
- v21 = load64(v5 + 576);
- v19 = load64(v5 + 584);
- v18 = load64(v5 + 592);
- v14 = load64(v5 + 600);
+ v20 = load64(v5 + 352);
+ v19 = load64(v5 + 360);
+ v15 = load64(v5 + 368);
+ v14 = load64(v5 + 376);
  'l11: loop {
- v13 = 128_u64.minus(v12);
- if v13 == 0 { break 'l11; }
- fill(v5.plus(576).plus(v12), 0, v13);
+ v24 = if v13 > 63 { 0 } else { 64_u64.minus(v13) };
+ if v24 == 0 { break 'l11; }
+ fill(v5.plus(352).plus(v13), 0, v24);
  break 'l11; }
  'l12: loop {
- if v12 == 0 { break 'l12; }
- copy(v5.plus(576), v22, v12);
+ if v13 == 0 { break 'l12; }
+ copy(v5.plus(352), v23, v13);
  break 'l12; }
- copy(v5.plus(448), v5.plus(576), 128);
- v13 = ((((v12 as u32) << 8) | (v11 as u32) | 0x1010000) as u64) ^ 0x6a09e667f3bcc908;
+ fill(v8, 0, 64);
+ store64(v5 + 416, load64(v5 + 352));
+ store64(v5 + 424, load64(v5 + 360));
+ store64(v5 + 432, load64(v5 + 368));
+ store64(v5 + 440, load64(v5 + 376));
+ store64(v5 + 448, load64(v5 + 384));
+ store64(v5 + 456, load64(v5 + 392));
+ store64(v5 + 464, load64(v5 + 400));
+ store64(v5 + 472, load64(v5 + 408));
+ v22 = v12 as u32;
+ v12 = ((((v13 as u32) << 8) | v22 | 0x1010000) as u64) ^ 0x6a09e667f3bcc908;
  v14 ^= 0x5be0cd19137e2179;
- v18 ^= 0x1f83d9abfb41bd6b;
+ v15 ^= 0x1f83d9abfb41bd6b;
  v19 ^= 0x9b05688c2b3e6c1f;
- v21 ^= 0x510e527fade682d1;
+ v20 ^= 0x510e527fade682d1;
+ v21 = 128;
  break 'l5; }
- v15 = v0.plus(v15);
- store64(v5 + 184, 0);
- store64(v5 + 176, v11);
- store64(v5 + 168, v20);
- store64(v5 + 160, v20);
- store64(v5 + 152, 0);
- store64(v5 + 144, v14);
- store64(v5 + 136, v18);
- store64(v5 + 128, v19);
- store64(v5 + 120, v21);
- store64(v5 + 112, 0xa54ff53a5f1d36f1);
- store64(v5 + 104, 0x3c6ef372fe94f82b);
- store64(v5 + 96, 0xbb67ae8584caa73b);
- store64(v5 + 88, v13);
- store64(v5 + 80, v14);
- store64(v5 + 72, v18);
- store64(v5 + 64, v19);
- store64(v5 + 56, v21);
- store64(v5 + 48, 0xa54ff53a5f1d36f1);
- store64(v5 + 40, 0x3c6ef372fe94f82b);
- store64(v5 + 32, 0xbb67ae8584caa73b);
- store64(v5 + 24, v13);
- copy(v9, v5.plus(448), 128);
- copy(v8, v5.plus(576), 128);
+ v16 = v0.plus(v16);
+ store32(v5 + 156, 0);
+ store32(v5 + 152, v22 as u64);
+ store32(v5 + 148, v21 as u64);
+ store32(v5 + 144, v21 as u64);
+ store64(v5 + 136, 0);
+ store64(v5 + 128, v14);
+ store64(v5 + 120, v15);
+ store64(v5 + 112, v19);
+ store64(v5 + 104, v20);
+ store64(v5 + 96, 0xa54ff53a5f1d36f1);
+ store64(v5 + 88, 0x3c6ef372fe94f82b);
+ store64(v5 + 80, 0xbb67ae8584caa73b);
+ store64(v5 + 72, v12);
+ store64(v5 + 64, v14);
+ store64(v5 + 56, v15);
+ store64(v5 + 48, v19);
+ store64(v5 + 40, v20);
+ store64(v5 + 32, 0xa54ff53a5f1d36f1);
+ store64(v5 + 24, 0x3c6ef372fe94f82b);
+ store64(v5 + 16, 0xbb67ae8584caa73b);
+ store64(v5 + 8, v12);
+ copy(v10, v5.plus(416), 128);
+ store64(v9 + 56, load64(v5 + 408));
+ store64(v9 + 48, load64(v5 + 400));
+ store64(v9 + 40, load64(v5 + 392));
+ store64(v9 + 32, load64(v5 + 384));
+ store64(v9 + 24, load64(v5 + 376));
+ store64(v9 + 16, load64(v5 + 368));
+ store64(v9 + 8, load64(v5 + 360));
+ store64(v9, load64(v5 + 352));
  'l13: loop {
  'l14: loop {
- if v16 == 1 { break 'l14; }
- state_blake2b_State_take(v5.plus(24), v17, v16);
+ if v17 == 1 { break 'l14; }
+ state_blake2b_State_take(v5.plus(8), v18, v17);
  break 'l13;
  }
  'l15: loop {
- if v12 == 0 { break 'l15; }
- state_blake2b_State_take(v5.plus(24), v17, 1);
+ if v13 == 0 { break 'l15; }
+ state_blake2b_State_take(v5.plus(8), v18, 1);
  break 'l13;
  }
- store8(v9.plus(v20), load8(v17) as u64);
- store64(v5 + 160, v20 | 1);
+ store8(v10.plus(v21 as u64), load8(v18) as u64);
+ store32(v5 + 144, (v21 | 1) as u64);
  break 'l13; }
- state_blake2b_State_write_digest(v5.plus(24), v15);
+ state_blake2b_State_write_digest(v5.plus(8), v16);
  break 'l4; }
  v3 = v3.plus(16);
- v10 = v10.plus(1);
- if v4 != v10 { continue 'l3; }
+ v11 = v11.plus(1);
+ if v4 != v11 { continue 'l3; }
  break 'l3; }
  break 'l2; }
  return;
@@ -2085,7 +2033,9 @@ unsafe fn ffi_blake2b_initialize(mut v0: u64, mut v1: u64, mut v2: u64) -> u32 {
  let mut v18: u32;
  let mut v19: u32;
  let mut v20: u32;
- let mut v21: u64;
+ let mut v21: u32;
+ let mut t0: u32;
+ let mut t1: u32;
  let mut frame = [0_u64; 58];
  let top = (address!(frame)).plus(464) & !15;
  v3 = top;
@@ -2113,98 +2063,123 @@ unsafe fn ffi_blake2b_initialize(mut v0: u64, mut v1: u64, mut v2: u64) -> u32 {
  v18 = load16(v2 + 4);
  v19 = load8(v2 + 16);
  v20 = load8(v2);
- v2 = 0;
  'l3: loop {
  'l4: loop {
  if v6 != 0 { break 'l4; }
- fill(v3 + 256, 0, 32);
+ fill(v3 + 192, 0, 32);
  'l5: loop {
  if v7 == 0 { break 'l5; }
- copy(v3.plus(256), v12, v7);
+ copy(v3.plus(192), v12, v7);
  break 'l5; }
  'l6: loop {
  if v8 == 0 { break 'l6; }
- copy(v3.plus(256) | 16, v11, v8);
+ copy(v3.plus(192) | 16, v11, v8);
  break 'l6; }
- v21 = load64(v3 + 256);
- v12 = load64(v3 + 264);
- v11 = load64(v3 + 272);
- v8 = load64(v3 + 280);
- fill(v3.plus(128), 0, 128);
- fill(v3, 0, 128);
- v1 = ((((v20 << 16) | (v5 as u32)).plus(v9 << 24) as u64) | ((((v18 & 0xffff) | (v17 << 16)) as
-   u64) << 32)) ^ 0x6a09e667f3bcc908;
- v7 = ((((v16 & 0xffff) | (v15 << 16)) as u64) | ((((v14 & 0xffff) | (v13 << 16)) as u64) << 32)) ^
+ v11 = load64(v3 + 192);
+ v12 = load64(v3 + 200);
+ v8 = load64(v3 + 208);
+ v7 = load64(v3 + 216);
+ v21 = 0;
+ fill(v3.plus(64), 0, 128);
+ fill(v3, 0, 64);
+ t0 = (v20 << 16) | (v9 << 24);
+ v9 = v5 as u32;
+ v2 = (((t0 | v9) as u64) | ((((v18 & 0xffff) | (v17 << 16)) as u64) << 32)) ^ 0x6a09e667f3bcc908;
+ v1 = ((((v16 & 0xffff) | (v15 << 16)) as u64) | ((((v14 & 0xffff) | (v13 << 16)) as u64) << 32)) ^
    0xbb67ae8584caa73b;
  v6 = ((((v10 << 8) | (v19 & 255)) & 0xffff) as u64) ^ 0x3c6ef372fe94f82b;
- v8 ^= 0x5be0cd19137e2179;
- v11 ^= 0x1f83d9abfb41bd6b;
- v12 ^= 0x9b05688c2b3e6c1f;
- v21 ^= 0x510e527fade682d1;
+ v7 ^= 0x5be0cd19137e2179;
+ v8 ^= 0x1f83d9abfb41bd6b;
+ v5 = v12 ^ 0x9b05688c2b3e6c1f;
+ v11 ^= 0x510e527fade682d1;
  break 'l3;
  }
- v1 = load64(v1.plus(8));
- fill(v3 + 256, 0, 32);
+ v2 = load64(v1.plus(8));
+ fill(v3 + 192, 0, 32);
  'l7: loop {
  if v7 == 0 { break 'l7; }
- copy(v3.plus(256), v12, v7);
+ copy(v3.plus(192), v12, v7);
  break 'l7; }
  'l8: loop {
  if v8 == 0 { break 'l8; }
- copy(v3.plus(256) | 16, v11, v8);
+ copy(v3.plus(192) | 16, v11, v8);
  break 'l8; }
- v2 = 128;
- v21 = load64(v3 + 256);
- v12 = load64(v3 + 264);
- v11 = load64(v3 + 272);
- v8 = load64(v3 + 280);
+ v11 = load64(v3 + 192);
+ v12 = load64(v3 + 200);
+ v8 = load64(v3 + 208);
+ v7 = load64(v3 + 216);
  'l9: loop {
- v7 = 128_u64.minus(v6);
- if v7 == 0 { break 'l9; }
- fill(v3.plus(288).plus(v6), 0, v7);
+ v1 = if v6 > 63 { 0 } else { 64_u64.minus(v6) };
+ if v1 == 0 { break 'l9; }
+ fill(v3.plus(224).plus(v6), 0, v1);
  break 'l9; }
  'l10: loop {
  if v6 == 0 { break 'l10; }
- copy(v3.plus(288), v1, v6);
+ copy(v3.plus(224), v2, v6);
  break 'l10; }
- copy(v3.plus(128), v3.plus(288), 128);
- copy(v3, v3.plus(288), 128);
- v7 = ((((v16 & 0xffff) | (v15 << 16)) as u64) | ((((v14 & 0xffff) | (v13 << 16)) as u64) << 32)) ^
+ fill(v3 + 352, 0, 64);
+ store64(v3 + 288, load64(v3 + 224));
+ store64(v3 + 296, load64(v3 + 232));
+ store64(v3 + 304, load64(v3 + 240));
+ store64(v3 + 312, load64(v3 + 248));
+ store64(v3 + 320, load64(v3 + 256));
+ store64(v3 + 328, load64(v3 + 264));
+ store64(v3 + 336, load64(v3 + 272));
+ store64(v3 + 344, load64(v3 + 280));
+ copy(v3.plus(64), v3.plus(288), 128);
+ store64(v3 + 56, load64(v3 + 280));
+ store64(v3 + 48, load64(v3 + 272));
+ store64(v3 + 40, load64(v3 + 264));
+ store64(v3 + 32, load64(v3 + 256));
+ store64(v3 + 24, load64(v3 + 248));
+ store64(v3 + 16, load64(v3 + 240));
+ store64(v3 + 8, load64(v3 + 232));
+ store64(v3, load64(v3 + 224));
+ v1 = ((((v16 & 0xffff) | (v15 << 16)) as u64) | ((((v14 & 0xffff) | (v13 << 16)) as u64) << 32)) ^
    0xbb67ae8584caa73b;
- v1 = ((((((v6 as u32) << 8) & 0xff00) | (v5 as u32)).plus(v20 << 16).plus(v9 << 24) as u64) |
-   ((((v18 & 0xffff) | (v17 << 16)) as u64) << 32)) ^ 0x6a09e667f3bcc908;
+ t1 = (v20 << 16) | (((v6 as u32) << 8) & 0xff00) | (v9 << 24);
+ v9 = v5 as u32;
+ v2 = (((t1 | v9) as u64) | ((((v18 & 0xffff) | (v17 << 16)) as u64) << 32)) ^ 0x6a09e667f3bcc908;
  v6 = ((((v10 << 8) | (v19 & 255)) & 0xffff) as u64) ^ 0x3c6ef372fe94f82b;
- v8 ^= 0x5be0cd19137e2179;
- v11 ^= 0x1f83d9abfb41bd6b;
- v12 ^= 0x9b05688c2b3e6c1f;
- v21 ^= 0x510e527fade682d1;
+ v7 ^= 0x5be0cd19137e2179;
+ v8 ^= 0x1f83d9abfb41bd6b;
+ v5 = v12 ^ 0x9b05688c2b3e6c1f;
+ v11 ^= 0x510e527fade682d1;
+ v21 = 128;
  break 'l3; }
- store64(v0 + 160, 0);
- store64(v0 + 152, v5);
- store64(v0 + 144, v2);
- store64(v0 + 136, v2);
+ store32(v0 + 148, 0);
+ store32(v0 + 144, v9 as u64);
+ store32(v0 + 140, v21 as u64);
+ store32(v0 + 136, v21 as u64);
  store64(v0 + 128, 0);
- store64(v0 + 120, v8);
- store64(v0 + 112, v11);
- store64(v0 + 104, v12);
- store64(v0 + 96, v21);
+ store64(v0 + 120, v7);
+ store64(v0 + 112, v8);
+ store64(v0 + 104, v5);
+ store64(v0 + 96, v11);
  store64(v0 + 88, 0xa54ff53a5f1d36f1);
  store64(v0 + 80, v6);
- store64(v0 + 72, v7);
- store64(v0 + 64, v1);
- store64(v0 + 56, v8);
- store64(v0 + 48, v11);
- store64(v0 + 40, v12);
- store64(v0 + 32, v21);
+ store64(v0 + 72, v1);
+ store64(v0 + 64, v2);
+ store64(v0 + 56, v7);
+ store64(v0 + 48, v8);
+ store64(v0 + 40, v5);
+ store64(v0 + 32, v11);
  store64(v0 + 24, 0xa54ff53a5f1d36f1);
  store64(v0 + 16, v6);
- store64(v0 + 8, v7);
- store64(v0, v1);
- copy(v0.plus(168), v3.plus(128), 128);
- copy(v0.plus(296), v3, 128);
+ store64(v0 + 8, v1);
+ store64(v0, v2);
+ copy(v0.plus(152), v3.plus(64), 128);
+ store64(v0 + 336, load64(v3 + 56));
+ store64(v0 + 328, load64(v3 + 48));
+ store64(v0 + 320, load64(v3 + 40));
+ store64(v0 + 312, load64(v3 + 32));
+ store64(v0 + 304, load64(v3 + 24));
+ store64(v0 + 296, load64(v3 + 16));
+ store64(v0 + 288, load64(v3 + 8));
+ store64(v0 + 280, load64(v3));
  return 0;
  }
- fill(v0, 0, 424);
+ fill(v0, 0, 344);
  return 0xffffffff;
 }
 
@@ -2256,7 +2231,7 @@ unsafe fn exported_blake2b_init_key(mut v0: u64, mut v1: u64, mut v2: u64, mut v
  'l1: loop {
  'l2: loop {
  if v3 != 0 { break 'l2; }
- fill(v0, 0, 424);
+ fill(v0, 0, 344);
  v5 = 0xffffffff;
  break 'l1;
  }
@@ -2304,7 +2279,7 @@ unsafe fn exported_blake2b_init_tree(mut v0: u64, mut v1: u64, mut v2: u64, mut 
  if v11 == 0 { break 'l4; }
  if (v10 & 255) < 65 { break 'l3; }
  break 'l4; }
- fill(v0, 0, 424);
+ fill(v0, 0, 344);
  v11 = 0xffffffff;
  break 'l2;
  }
@@ -2355,7 +2330,7 @@ unsafe fn exported_blake2b_init_param(mut v0: u64, mut v1: u64, mut v2: u64) -> 
  store64(v0 + 72, v1);
  store64(v0 + 80, v8);
  store64(v0 + 88, v7);
- fill(v0 + 128, 0, 24);
+ fill(v0 + 128, 0, 16);
  store64(v0, v9);
  v1 = v6 ^ 0x510e527fade682d1;
  store64(v0 + 32, v1);
@@ -2369,18 +2344,18 @@ unsafe fn exported_blake2b_init_param(mut v0: u64, mut v1: u64, mut v2: u64) -> 
  store64(v0 + 104, v5);
  store64(v0 + 112, v4);
  store64(v0 + 120, v3);
- store64(v0 + 152, v2 & 255);
- fill(v0.plus(160), 0, 264);
+ store32(v0 + 144, ((v2 as u32) & 255) as u64);
+ fill(v0.plus(148), 0, 196);
  return 0;
  }
- fill(v0, 0, 424);
+ fill(v0, 0, 344);
  return 0xffffffff;
 }
 
 // blake2_ffi::blake2b::absorb
 #[inline(never)]
 unsafe fn ffi_blake2b_absorb(mut v0: u64, mut v1: u64, mut v2: u64) {
- let mut v4: u64;
+ let mut v4: u32;
  let mut v5: u32;
  'l2: loop {
  if v2 == 1 { break 'l2; }
@@ -2388,15 +2363,15 @@ unsafe fn ffi_blake2b_absorb(mut v0: u64, mut v1: u64, mut v2: u64) {
  return;
  }
  'l3: loop {
- v4 = v0.plus(136);
- v2 = load64(v4);
- if v2 < 128 { break 'l3; }
+ v2 = v0.plus(136);
+ v4 = load32(v2);
+ if v4 < 128 { break 'l3; }
  state_blake2b_State_take(v0, v1, 1);
  return;
  }
  v5 = load8(v1);
- store64(v4, v2.plus(1));
- store8(v0.plus(v2).plus(168), v5 as u64);
+ store32(v2, v4.plus(1) as u64);
+ store8(v0.plus(v4 as u64).plus(152), v5 as u64);
  return;
 }
 
@@ -2421,24 +2396,27 @@ unsafe fn ffi_blake2b_absorb_scrubbed(mut v0: u64, mut v1: u64, mut v2: u64) {
 #[inline(never)]
 unsafe fn exported_blake2b_update(mut v0: u64, mut v1: u64, mut v2: u64) -> u32 {
  let mut v4: u32;
- let mut v5: u64;
- let mut v6: u64;
+ let mut v5: u32;
+ let mut v6: u32;
  let mut v7: u64;
+ let mut v8: u64;
  'l1: loop {
  'l2: loop {
  'l3: loop {
  v4 = 0xffffffff;
- if load64(v0.plus(152)).minus(1) > 63 { break 'l1; }
- v5 = load64(v0.plus(136));
+ if load32(v0.plus(144)).minus(1) > 63 { break 'l1; }
+ v5 = load32(v0.plus(136));
  if v5 > 128 { break 'l1; }
- v6 = load64(v0.plus(144));
+ v6 = load32(v0.plus(140));
  if v6 > 128 { break 'l1; }
+ v4 = 0xffffffff;
  v7 = load64(v0.plus(128));
- if v7 > (!v5) { break 'l1; }
- if v2 > (!v7.plus(v5)) { break 'l1; }
+ if v7 > sign64((!v5) as u64, 0x80000000) { break 'l1; }
+ v8 = v5 as u64;
+ if v2 > (!v7.plus(v8)) { break 'l1; }
  v1 = v1.plus(if v1 == 0 { 4096_u64 } else { 0 });
  'l5: loop {
- if v7 >= v6 { break 'l5; }
+ if v7 >= (v6 as u64) { break 'l5; }
  ffi_blake2b_absorb_scrubbed(v0, v1, v2);
  break 'l2;
  }
@@ -2452,8 +2430,8 @@ unsafe fn exported_blake2b_update(mut v0: u64, mut v1: u64, mut v2: u64) -> u32 
  break 'l2;
  }
  v4 = load8(v1);
- store64(v0.plus(136), v5.plus(1));
- store8(v0.plus(v5).plus(168), v4 as u64);
+ store32(v0.plus(136), v5.plus(1) as u64);
+ store8(v0.plus(v8).plus(152), v4 as u64);
  break 'l2; }
  v4 = 0;
  break 'l1; }
@@ -2464,7 +2442,7 @@ unsafe fn exported_blake2b_update(mut v0: u64, mut v1: u64, mut v2: u64) -> u32 
 #[inline(never)]
 unsafe fn ffi_blake2b_finalize(mut v0: u64, mut v1: u64) {
  state_blake2b_State_write_digest(v0, v1);
- fill(v0, 0, 424);
+ fill(v0, 0, 344);
  return;
 }
 
@@ -2481,23 +2459,25 @@ unsafe fn digest_wiping_scrub_stack_1664() {
 #[inline(never)]
 unsafe fn exported_blake2b_final(mut v0: u64, mut v1: u64, mut v2: u64) -> u32 {
  let mut v4: u32;
- let mut v5: u64;
- let mut v6: u64;
- let mut v7: u64;
+ let mut v5: u32;
+ let mut v6: u32;
+ let mut v7: u32;
+ let mut v8: u64;
  v4 = 0xffffffff;
  'l2: loop {
- v5 = load64(v0.plus(152));
+ v5 = load32(v0.plus(144));
  if v5.minus(1) > 63 { break 'l2; }
- v6 = load64(v0.plus(136));
+ v6 = load32(v0.plus(136));
  if v6 > 128 { break 'l2; }
- v7 = load64(v0.plus(144));
+ v7 = load32(v0.plus(140));
  if v7 > 128 { break 'l2; }
- if v2 != v5 { break 'l2; }
- v2 = load64(v0.plus(128));
- if v2 > (!v6) { break 'l2; }
+ v4 = 0xffffffff;
+ v8 = load64(v0.plus(128));
+ if v8 > sign64((!v6) as u64, 0x80000000) { break 'l2; }
+ if v2 != (v5 as u64) { break 'l2; }
  ffi_blake2b_finalize(v0, v1.plus(if v1 == 0 { 4096_u64 } else { 0 }));
  v4 = 0;
- if v2 >= v7 { break 'l2; }
+ if v8 >= (v7 as u64) { break 'l2; }
  digest_wiping_scrub_stack_1664();
  break 'l2; }
  return v4;
@@ -2519,7 +2499,7 @@ unsafe fn ffi_blake2b_is_digest_of(mut v0: u64, mut v1: u64, mut v2: u64) -> u32
  state_blake2b_State_write_digest(v0, v4);
  'l2: loop {
  'l3: loop {
- if v2 == load64(v0.plus(152)) { break 'l3; }
+ if v2 == (load32(v0.plus(144)) as u64) { break 'l3; }
  v5 = 0;
  break 'l2;
  }
@@ -2568,61 +2548,47 @@ unsafe fn ffi_blake2b_is_digest_of(mut v0: u64, mut v1: u64, mut v2: u64) -> u32
 // rattle::export vulfsjor_ffi_blake2b_verify
 #[inline(never)]
 unsafe fn exported_blake2b_verify(mut v0: u64, mut v1: u64, mut v2: u64) -> u32 {
- let mut v4: u64;
- let mut v5: u64;
- let mut v6: u64;
- let mut v7: u32;
- 'l1: loop {
+ let mut v4: u32;
+ let mut v5: u32;
+ let mut v6: u32;
+ let mut v7: u64;
+ v4 = 0xffffffff;
  'l2: loop {
+ if load32(v0.plus(144)).minus(1) > 63 { break 'l2; }
+ v5 = load32(v0.plus(136));
+ if v5 > 128 { break 'l2; }
+ v6 = load32(v0.plus(140));
+ if v6 > 128 { break 'l2; }
+ v4 = 0xffffffff;
+ v7 = load64(v0.plus(128));
+ if v7 > sign64((!v5) as u64, 0x80000000) { break 'l2; }
+ if ((load8(v0.plus(65)) as u64) << 8) == 0xc900 { break 'l2; }
+ v4 = ffi_blake2b_is_digest_of(v0, v1.plus(if v1 == 0 { 4096_u64 } else { 0 }), v2);
+ fill(v0, 0, 344);
  'l3: loop {
- 'l4: loop {
- 'l6: loop {
- 'l7: loop {
- if load64(v0.plus(152)).minus(1) > 63 { break 'l7; }
- v4 = load64(v0.plus(136));
- if v4 > 128 { break 'l7; }
- v5 = load64(v0.plus(144));
- if v5 < 129 { break 'l6; }
- break 'l7; }
- if load64(v0.plus(128)) >= load64(v0.plus(144)) { break 'l1; }
- break 'l2;
- }
- 'l8: loop {
- v6 = load64(v0.plus(128));
- if v6 <= (!v4) { break 'l8; }
- if v6 < v5 { break 'l2; }
- break 'l1;
- }
- v7 = ffi_blake2b_is_digest_of(v0, v1.plus(if v1 == 0 { 4096_u64 } else { 0 }), v2);
- fill(v0, 0, 424);
- if v6 < v5 { break 'l4; }
- if v7 == 0 { break 'l1; }
- break 'l3;
- }
+ if v7 >= (v6 as u64) { break 'l3; }
  digest_wiping_scrub_stack_1664();
- if v7 == 0 { break 'l1; }
  break 'l3; }
- return 0;
- }
- digest_wiping_scrub_stack_1664();
- break 'l1; }
- return 0xffffffff;
+ v4 = v4.minus(1);
+ break 'l2; }
+ return v4;
 }
 
 // rattle::export vulfsjor_ffi_blake2b_set_last_node
 #[inline(never)]
 unsafe fn exported_blake2b_set_last_node(mut v0: u64, mut v1: u32) -> u32 {
  let mut v2: u32;
- let mut v3: u64;
+ let mut v3: u32;
  v2 = 0xffffffff;
  'l2: loop {
- if load64(v0.plus(152)).minus(1) > 63 { break 'l2; }
- v3 = load64(v0.plus(136));
+ if load32(v0.plus(144)).minus(1) > 63 { break 'l2; }
+ v3 = load32(v0.plus(136));
  if v3 > 128 { break 'l2; }
- if load64(v0.plus(144)) > 128 { break 'l2; }
- if load64(v0.plus(128)) > (!v3) { break 'l2; }
+ if load32(v0.plus(140)) > 128 { break 'l2; }
+ v2 = 0xffffffff;
+ if load64(v0.plus(128)) > sign64((!v3) as u64, 0x80000000) { break 'l2; }
  v2 = 0;
- store64(v0.plus(160), ((v1 != 0) as u32) as u64);
+ store32(v0.plus(148), ((v1 != 0) as u32) as u64);
  break 'l2; }
  return v2;
 }
@@ -2631,19 +2597,20 @@ unsafe fn exported_blake2b_set_last_node(mut v0: u64, mut v1: u32) -> u32 {
 #[inline(never)]
 unsafe fn exported_blake2b_reset(mut v0: u64) -> u32 {
  let mut v1: u32;
- let mut v2: u64;
- let mut v3: u64;
+ let mut v2: u32;
+ let mut v3: u32;
  let mut v4: u64;
  v1 = 0xffffffff;
  'l2: loop {
- if load64(v0.plus(152)).minus(1) > 63 { break 'l2; }
- v2 = load64(v0.plus(136));
+ if load32(v0.plus(144)).minus(1) > 63 { break 'l2; }
+ v2 = load32(v0.plus(136));
  if v2 > 128 { break 'l2; }
- v3 = load64(v0.plus(144));
+ v3 = load32(v0.plus(140));
  if v3 > 128 { break 'l2; }
+ v1 = 0xffffffff;
  v4 = v0.plus(128);
- if load64(v4) > (!v2) { break 'l2; }
- store64(v0.plus(136), v3);
+ if load64(v4) > sign64((!v2) as u64, 0x80000000) { break 'l2; }
+ store32(v0.plus(136), v3 as u64);
  store64(v4, 0);
  store64(v0 + 56, load64(v0.plus(120)));
  store64(v0 + 48, load64(v0.plus(112)));
@@ -2653,7 +2620,22 @@ unsafe fn exported_blake2b_reset(mut v0: u64) -> u32 {
  store64(v0 + 16, load64(v0.plus(80)));
  store64(v0 + 8, load64(v0.plus(72)));
  store64(v0, load64(v0.plus(64)));
- copy(v0.plus(168), v0.plus(296), 128);
+ store64(v0.plus(272), 0);
+ store64(v0.plus(264), 0);
+ store64(v0.plus(256), 0);
+ store64(v0.plus(248), 0);
+ store64(v0.plus(240), 0);
+ store64(v0.plus(232), 0);
+ store64(v0.plus(224), 0);
+ store64(v0.plus(216), 0);
+ store64(v0.plus(208), load64(v0.plus(336)));
+ store64(v0.plus(200), load64(v0.plus(328)));
+ store64(v0.plus(192), load64(v0.plus(320)));
+ store64(v0.plus(184), load64(v0.plus(312)));
+ store64(v0.plus(176), load64(v0.plus(304)));
+ store64(v0.plus(168), load64(v0.plus(296)));
+ store64(v0.plus(160), load64(v0.plus(288)));
+ store64(v0.plus(152), load64(v0.plus(280)));
  v1 = 0;
  break 'l2; }
  return v1;
@@ -2665,23 +2647,23 @@ unsafe fn exported_blake2b_wipe(mut v0: u64) {
  'l1: loop {
  break 'l1;
  }
- fill(v0, 0, 424);
+ fill(v0, 0, 344);
 }
 
 // rattle::export vulfsjor_ffi_blake2b_digest_size
 #[inline(never)]
 unsafe fn exported_blake2b_digest_size(mut v0: u64) -> u64 {
  let mut v1: u64;
- let mut v2: u64;
- let mut v3: u64;
+ let mut v2: u32;
+ let mut v3: u32;
  v1 = 0;
  'l2: loop {
- v2 = load64(v0.plus(152));
+ v2 = load32(v0.plus(144));
  if v2.minus(1) > 63 { break 'l2; }
- v3 = load64(v0.plus(136));
+ v3 = load32(v0.plus(136));
  if v3 > 128 { break 'l2; }
- if load64(v0.plus(144)) > 128 { break 'l2; }
- v1 = if load64(v0.plus(128)) > (!v3) { 0 } else { v2 };
+ if load32(v0.plus(140)) > 128 { break 'l2; }
+ v1 = if load64(v0.plus(128)) > sign64((!v3) as u64, 0x80000000) { 0 } else { (v2 as u64) };
  break 'l2; }
  return v1;
 }
@@ -2690,19 +2672,19 @@ unsafe fn exported_blake2b_digest_size(mut v0: u64) -> u64 {
 #[inline(never)]
 unsafe fn exported_blake2b_count(mut v0: u64) -> u64 {
  let mut v1: u64;
- let mut v2: u64;
- let mut v3: u64;
+ let mut v2: u32;
+ let mut v3: u32;
  v1 = 0;
  'l2: loop {
- if load64(v0.plus(152)).minus(1) > 63 { break 'l2; }
- v2 = load64(v0.plus(136));
+ if load32(v0.plus(144)).minus(1) > 63 { break 'l2; }
+ v2 = load32(v0.plus(136));
  if v2 > 128 { break 'l2; }
- v3 = load64(v0.plus(144));
+ v3 = load32(v0.plus(140));
  if v3 > 128 { break 'l2; }
  v0 = load64(v0.plus(128));
- if v0 > (!v2) { break 'l2; }
- v0 = v0.plus(v2);
- v1 = v0.minus(v3);
+ if v0 > sign64((!v2) as u64, 0x80000000) { break 'l2; }
+ v0 = v0.plus(v2 as u64);
+ v1 = v0.minus(v3 as u64);
  v1 = if v1 > v0 { 0 } else { v1 };
  break 'l2; }
  return v1;
@@ -2723,7 +2705,16 @@ unsafe fn module_blake2b_state_size() -> u64 {
  break 'l1;
  }
  exported_blake2b_state_size();
- return 424;
+ return 344;
+}
+
+// Overwrites the stack below the caller.
+#[inline(never)]
+unsafe fn digest_wiping_scrub_stack_768() {
+    let mut room = [0_u64; 352];
+    for word in room.iter_mut() {
+        core::ptr::write_volatile(word, 0);
+    }
 }
 
 // blake2_compress::compress::blake2s::compress
@@ -3584,6 +3575,163 @@ unsafe fn compress_compress_blake2s_compress(mut v0: u64, mut v1: u64, mut v2: u
  return;
 }
 
+// blake2_ffi::blake2s::write_digest
+#[inline(never)]
+unsafe fn ffi_blake2s_write_digest(mut v0: u64, mut v1: u64, mut v2: u64, mut v3: u64, mut v4: u64)
+        {
+ let mut v5: u64;
+ let mut v6: u64;
+ let mut v7: u64;
+ let mut v8: u32;
+ let mut frame = [0_u64; 26];
+ let top = (address!(frame)).plus(208) & !15;
+ v5 = top.minus(192);
+ 'l1: loop {
+ v6 = load64(v4.plus(16));
+ v7 = load64(v4.plus(8));
+ fill(v5 + 27, 0, 5);
+ v8 = load8(v4);
+ store32(v5 + 60, 0x5be0cd19);
+ store64(v5 + 52, 0x1f83d9ab9b05688c);
+ store64(v5 + 44, 0x510e527fa54ff53a);
+ store64(v5 + 36, 0x3c6ef372bb67ae85);
+ store32(v5 + 32, (((if v8 != 0 { ((((v6 as u32) << 8) & 0xff00) | 0x1010000) } else { 0x1010000 })
+   | ((v1 as u32) & 255)) ^ 0x6a09e667) as u64);
+ 'l3: loop {
+ 'l4: loop {
+ if v8 != 0 { break 'l4; }
+ 'l5: loop {
+ v7 = v3.minus(((v3 != 0) as u32) as u64);
+ v6 = v7 >> 6;
+ if v6 == 0 { break 'l5; }
+ v4 = 64;
+ 'l6: loop {
+ compress_compress_blake2s_compress(v5.plus(32), v2.plus(v4).minus(64), v4, 0, 0);
+ v4 = v4.plus(64);
+ v6 = v6.minus(1);
+ if v6 != 0 { continue 'l6; }
+ break 'l6; }
+ break 'l5; }
+ fill(v5 + 128, 0, 64);
+ 'l7: loop {
+ v4 = v7 & 0xffffffffffffffc0;
+ v6 = v3.minus(v4);
+ if v6 == 0 { break 'l7; }
+ copy(v5.plus(128), v2.plus(v4), v6);
+ break 'l7; }
+ compress_compress_blake2s_compress(v5.plus(32), v5.plus(128), v3, 1, 0);
+ break 'l3;
+ }
+ fill(v5 + 64, 0, 64);
+ 'l8: loop {
+ if v6 == 0 { break 'l8; }
+ copy(v5.plus(64), v7, v6);
+ break 'l8; }
+ 'l9: loop {
+ if v3 != 0 { break 'l9; }
+ compress_compress_blake2s_compress(v5.plus(32), v5.plus(64), 64, 1, 0);
+ break 'l3;
+ }
+ compress_compress_blake2s_compress(v5.plus(32), v5.plus(64), 64, 0, 0);
+ 'l10: loop {
+ v7 = v3.minus(1);
+ v6 = v7 >> 6;
+ if v6 == 0 { break 'l10; }
+ v4 = 128;
+ 'l11: loop {
+ compress_compress_blake2s_compress(v5.plus(32), v2.plus(v4).minus(128), v4, 0, 0);
+ v4 = v4.plus(64);
+ v6 = v6.minus(1);
+ if v6 != 0 { continue 'l11; }
+ break 'l11; }
+ break 'l10; }
+ fill(v5 + 128, 0, 64);
+ 'l12: loop {
+ v4 = v7 & 0xffffffffffffffc0;
+ v6 = v3.minus(v4);
+ if v6 == 0 { break 'l12; }
+ copy(v5.plus(128), v2.plus(v4), v6);
+ break 'l12; }
+ compress_compress_blake2s_compress(v5.plus(32), v5.plus(128), v3.plus(64), 1, 0);
+ break 'l3; }
+ store64(v5, load64(v5 + 32));
+ store64(v5 + 8, load64(v5 + 40));
+ store64(v5 + 16, load64(v5 + 48));
+ store64(v5 + 24, load64(v5 + 56));
+ 'l13: loop {
+ if v1 != 32 { break 'l13; }
+ store64(v0 + 24, load64(v5 + 24));
+ store64(v0 + 16, load64(v5 + 16));
+ store64(v0 + 8, load64(v5 + 8));
+ store64(v0, load64(v5));
+ break 'l1;
+ }
+ if v1 == 0 { break 'l1; }
+ copy(v0, v5, v1);
+ break 'l1;
+ }
+}
+
+// blake2_ffi::blake2s::write_keyed
+#[inline(never)]
+unsafe fn ffi_blake2s_write_keyed(mut v0: u64, mut v1: u64, mut v2: u64, mut v3: u64, mut v4: u64,
+        mut v5: u64) -> u32 {
+ let mut v6: u64;
+ let mut v7: u32;
+ let mut frame = [0_u64; 6];
+ let top = (address!(frame)).plus(48) & !15;
+ v6 = top.minus(32);
+ v7 = 0xffffffff;
+ 'l2: loop {
+ if v3 > 0xffffffffffffffbf { break 'l2; }
+ if v1.minus(33) < 0xffffffffffffffe0 { break 'l2; }
+ if v5 >= 33 { break 'l2; }
+ store64(v6 + 24, v5);
+ store64(v6 + 16, v4);
+ store64(v6 + 8, 1);
+ ffi_blake2s_write_digest(v0, v1, v2, v3, v6.plus(8));
+ v7 = 0;
+ break 'l2; }
+ return v7;
+}
+
+// rattle::export vulfsjor_ffi_blake2s
+#[inline(never)]
+unsafe fn exported_blake2s(mut v0: u64, mut v1: u64, mut v2: u64, mut v3: u64, mut v4: u64, mut v5:
+        u64) -> u32 {
+ let mut v6: u64;
+ let mut v7: u32;
+ let mut frame = [0_u64; 6];
+ let top = (address!(frame)).plus(48) & !15;
+ v6 = top.minus(32);
+ v2 = v2.plus(if v2 == 0 { 4096_u64 } else { 0 });
+ v0 = v0.plus(if v0 == 0 { 4096_u64 } else { 0 });
+ fill(v6 + 16, 0, 16);
+ 'l2: loop {
+ 'l3: loop {
+ if v5 == 0 { break 'l3; }
+ v7 = ffi_blake2s_write_keyed(v0, v1, v2, v3, v4.plus(if v4 == 0 { 4096_u64 } else { 0 }), v5);
+ digest_wiping_scrub_stack_768();
+ break 'l2;
+ }
+ v7 = 0xffffffff;
+ if v1.minus(1) > 31 { break 'l2; }
+ store64(v6 + 8, 0);
+ ffi_blake2s_write_digest(v0, v1, v2, v3, v6.plus(8));
+ v7 = 0;
+ break 'l2; }
+ return v7;
+}
+
+// Overwrites the stack below the caller.
+#[inline(never)]
+unsafe fn digest_wiping_scrub_stack_5632() {
+    let mut room = [0_u64; 960];
+    for word in room.iter_mut() {
+        core::ptr::write_volatile(word, 0);
+    }
+}
+
 // blake2_state::blake2s::State::write_digest
 #[inline(never)]
 unsafe fn state_blake2s_State_write_digest(mut v0: u64, mut v1: u64) {
@@ -3604,14 +3752,14 @@ unsafe fn state_blake2s_State_write_digest(mut v0: u64, mut v1: u64) {
  store64(v2 + 152, load64(v0.plus(40)));
  store64(v2 + 160, load64(v0.plus(48)));
  store64(v2 + 168, load64(v0.plus(56)));
- v3 = (load64(v0.plus(96)) != 0) as u32;
+ v3 = (load16(v0.plus(78)) != 0) as u32;
  store64(v2 + 184, v3 as u64);
  v4 = load64(v0.plus(64));
  'l2: loop {
- v5 = load64(v0.plus(72));
+ v5 = load16(v0.plus(72)) as u64;
  v6 = (v5 == 0) as u32;
  if v6 != 0 { break 'l2; }
- copy(v2.plus(192), v0.plus(104), v5);
+ copy(v2.plus(192), v0.plus(80), v5);
  break 'l2; }
  store64(v2 + 104, v5);
  fill(v2 + 8, 0, 32);
@@ -3624,7 +3772,7 @@ unsafe fn state_blake2s_State_write_digest(mut v0: u64, mut v1: u64) {
  store64(v2 + 48, load64(v2 + 200));
  store64(v2 + 40, load64(v2 + 192));
  store64(v2 + 256, 0);
- v4 = v5.plus(v4);
+ v4 = v4.plus(v5);
  store64(v2 + 176, v4);
  fill(v2 + 264, 0, 56);
  'l3: loop {
@@ -3637,17 +3785,19 @@ unsafe fn state_blake2s_State_write_digest(mut v0: u64, mut v1: u64) {
  store64(v2 + 24, load64(v2 + 128));
  store64(v2 + 32, load64(v2 + 136));
  'l4: loop {
- v0 = load64(v0.plus(88));
+ v0 = load16(v0.plus(76)) as u64;
  if v0 == 0 { break 'l4; }
  copy(v1, v2.plus(8), v0);
  break 'l4; }
  return;
 }
 
-// blake2_digest::buffer::digest_into::<#288ea74a914fd90c>
+// blake2_state::blake2s::State::take
 #[inline(never)]
-unsafe fn digest_buffer_digest_into_288ea74a914fd90c(mut v0: u64, mut v1: u64, mut v2: u64, mut v3:
-        u64, mut v4: u64) -> u64 {
+unsafe fn state_blake2s_State_take(mut v0: u64, mut v1: u64, mut v2: u64) {
+ let mut v3: u64;
+ let mut v4: u32;
+ let mut v5: u64;
  let mut v6: u64;
  let mut v7: u64;
  let mut v8: u64;
@@ -3655,486 +3805,175 @@ unsafe fn digest_buffer_digest_into_288ea74a914fd90c(mut v0: u64, mut v1: u64, m
  let mut v10: u64;
  let mut v11: u64;
  let mut v12: u64;
- let mut t0: u64;
- let mut t1: u64;
- 'l1: loop {
- 'l2: loop {
- 'l3: loop {
- 'l5: loop {
- 'l6: loop {
- 'l7: loop {
- 'l8: loop {
- v6 = 64_u64.minus(v1);
- if v3 <= v6 { break 'l8; }
- if v1 == 0 { break 'l5; }
- v7 = v0.plus(v1);
- if v7.minus(v2) >= v6 { break 'l7; }
- v8 = v6 & 3;
- v9 = 0;
- 'l9: loop {
- if v1.minus(61) < 3 { break 'l9; }
- v10 = v6 & 0xfffffffffffffffc;
- v9 = 0;
- 'l10: loop {
- v11 = v7.plus(v9);
- v12 = v2.plus(v9);
- store8(v11, load8(v12) as u64);
- store8(v11.plus(1), load8(v12.plus(1)) as u64);
- store8(v11.plus(2), load8(v12.plus(2)) as u64);
- store8(v11.plus(3), load8(v12.plus(3)) as u64);
- v9 = v9.plus(4);
- if v10 != v9 { continue 'l10; }
- break 'l10; }
- if v8 == 0 { break 'l6; }
- break 'l9; }
- v11 = v2.plus(v9);
- v9 = v0.plus(v9.plus(v1));
- 'l11: loop {
- store8(v9, load8(v11) as u64);
- v9 = v9.plus(1);
- v11 = v11.plus(1);
- v8 = v8.minus(1);
- if v8 != 0 { continue 'l11; }
- break 'l6;
- }
- }
- 'l12: loop {
- 'l13: loop {
- v8 = v0.plus(v1);
- if v8.minus(v2) >= v3 { break 'l13; }
- v12 = v3 & 3;
- v4 = 0;
- 'l14: loop {
- if v3 < 4 { break 'l14; }
- v7 = v3 & 0xfffffffffffffffc;
- v4 = 0;
- 'l15: loop {
- v11 = v8.plus(v4);
- v9 = v2.plus(v4);
- store8(v11, load8(v9) as u64);
- store8(v11.plus(1), load8(v9.plus(1)) as u64);
- store8(v11.plus(2), load8(v9.plus(2)) as u64);
- store8(v11.plus(3), load8(v9.plus(3)) as u64);
- v4 = v4.plus(4);
- if v7 != v4 { continue 'l15; }
- break 'l15; }
- if v12 == 0 { break 'l12; }
- break 'l14; }
- v11 = v2.plus(v4);
- v4 = v0.plus(v4.plus(v1));
- 'l16: loop {
- store8(v4, load8(v11) as u64);
- v4 = v4.plus(1);
- v11 = v11.plus(1);
- v12 = v12.minus(1);
- if v12 != 0 { continue 'l16; }
- break 'l12;
- }
- }
- if v3 == 0 { break 'l12; }
- copy(v8, v2, v3);
- break 'l12; }
- return v3.plus(v1);
- }
- if v6 == 0 { break 'l6; }
- copy(v7, v2, v6);
- break 'l6; }
- v3 = v3.minus(v6);
- v2 = v2.plus(v6);
- v11 = v4.plus(64);
- t0 = v11;
- v11 = load64(v11).plus(64);
- store64(t0, v11);
- compress_compress_blake2s_compress(v4, v0, v11, 0, 0);
- break 'l5; }
- v11 = v3.minus(((v3 != 0) as u32) as u64);
- v1 = v11 & 0xffffffffffffffc0;
- 'l17: loop {
- v9 = v11 >> 6;
- if v9 == 0 { break 'l17; }
- v11 = v2;
- 'l18: loop {
- v12 = v4.plus(64);
- t1 = v12;
- v12 = load64(v12).plus(64);
- store64(t1, v12);
- compress_compress_blake2s_compress(v4, v11, v12, 0, 0);
- v11 = v11.plus(64);
- v9 = v9.minus(1);
- if v9 != 0 { continue 'l18; }
- break 'l18; }
- break 'l17; }
- fill(v0, 0, 64);
- 'l19: loop {
- v8 = v2.plus(v1);
- v7 = v3.minus(v1);
- if v0.minus(v8) >= v7 { break 'l19; }
- v12 = v3 & 3;
- v4 = 0;
- if v1.minus(v3) > 0xfffffffffffffffc { break 'l2; }
- v3 = (v3 & 0xfffffffffffffffc).minus(v1);
- v4 = 0;
- 'l20: loop {
- v11 = v0.plus(v4);
- v9 = v8.plus(v4);
- store8(v11, load8(v9) as u64);
- store8(v11.plus(1), load8(v9.plus(1)) as u64);
- store8(v11.plus(2), load8(v9.plus(2)) as u64);
- store8(v11.plus(3), load8(v9.plus(3)) as u64);
- v4 = v4.plus(4);
- if v3 != v4 { continue 'l20; }
- break 'l3;
- }
- }
- if v7 == 0 { break 'l1; }
- copy(v0, v8, v7);
- return v7;
- }
- if v12 == 0 { break 'l1; }
- break 'l2; }
- v11 = v0.plus(v4);
- v4 = v2.plus(v4.plus(v1));
- 'l21: loop {
- store8(v11, load8(v4) as u64);
- v11 = v11.plus(1);
- v4 = v4.plus(1);
- v12 = v12.minus(1);
- if v12 != 0 { continue 'l21; }
- break 'l21; }
- break 'l1; }
- return v7;
-}
-
-// blake2_state::blake2s::State::take
-#[inline(never)]
-unsafe fn state_blake2s_State_take(mut v0: u64, mut v1: u64, mut v2: u64) {
- let mut v3: u64;
- let mut v4: u64;
- let mut v5: u64;
- let mut v6: u64;
- let mut v7: u64;
- let mut v8: u64;
- let mut v9: u64;
- let mut v10: u64;
- let mut t0: u64;
+ let mut v13: u64;
+ let mut v14: u64;
  let mut frame = [0_u64; 12];
  let top = (address!(frame)).plus(96) & !15;
  v3 = top.minus(80);
- v4 = v3;
  'l2: loop {
  'l3: loop {
- v3 = v0.plus(72);
- v5 = load64(v3);
- if v2 > 64_u64.minus(v5) { break 'l3; }
+ v4 = load16(v0.plus(72));
+ v5 = (v4 as u64) & 0xffff;
+ v6 = 64_u64.minus(v5);
+ if v2 > v6 { break 'l3; }
  'l4: loop {
  'l5: loop {
- v6 = v0.plus(v5);
- v3 = v6.plus(104);
- if v3.minus(v1) >= v2 { break 'l5; }
- v7 = v2 & 3;
- v8 = 0;
+ v7 = v0.plus(v5);
+ v8 = v7.plus(80);
+ if v8.minus(v1) >= v2 { break 'l5; }
+ v9 = v2 & 3;
+ v10 = 0;
  'l6: loop {
  if v2 < 4 { break 'l6; }
- v9 = v2 & 0xfffffffffffffffc;
- v8 = 0;
+ v11 = v2 & 0xfffffffffffffffc;
+ v10 = 0;
  'l7: loop {
- v3 = v6.plus(v8);
- v10 = v1.plus(v8);
- store8(v3.plus(104), load8(v10) as u64);
- store8(v3.plus(105), load8(v10.plus(1)) as u64);
- store8(v3.plus(106), load8(v10.plus(2)) as u64);
- store8(v3.plus(107), load8(v10.plus(3)) as u64);
- v8 = v8.plus(4);
- if v9 != v8 { continue 'l7; }
+ v8 = v7.plus(v10);
+ v12 = v1.plus(v10);
+ store8(v8.plus(80), load8(v12) as u64);
+ store8(v8.plus(81), load8(v12.plus(1)) as u64);
+ store8(v8.plus(82), load8(v12.plus(2)) as u64);
+ store8(v8.plus(83), load8(v12.plus(3)) as u64);
+ v10 = v10.plus(4);
+ if v11 != v10 { continue 'l7; }
  break 'l7; }
- if v7 == 0 { break 'l4; }
+ if v9 == 0 { break 'l4; }
  break 'l6; }
- v3 = v1.plus(v8);
- v8 = v8.plus(v5).plus(v0).plus(104);
+ v8 = v1.plus(v10);
+ v10 = v10.plus(v5).plus(v0).plus(80);
  'l8: loop {
- store8(v8, load8(v3) as u64);
+ store8(v10, load8(v8) as u64);
+ v10 = v10.plus(1);
  v8 = v8.plus(1);
- v3 = v3.plus(1);
- v7 = v7.minus(1);
- if v7 != 0 { continue 'l8; }
+ v9 = v9.minus(1);
+ if v9 != 0 { continue 'l8; }
  break 'l4;
  }
  }
  if v2 == 0 { break 'l4; }
- copy(v3, v1, v2);
+ copy(v8, v1, v2);
  break 'l4; }
- store64(v0.plus(72), v5.plus(v2));
+ store16(v0.plus(72), v4.plus(v2 as u32) as u64);
  break 'l2;
  }
- store64(v4, load64(v0));
- store64(v4 + 8, load64(v0 + 8));
- store64(v4 + 16, load64(v0 + 16));
- store64(v4 + 24, load64(v0 + 24));
- v8 = v0.plus(64);
- store64(v4 + 64, load64(v8));
- store64(v4 + 32, load64(v0.plus(32)));
- store64(v4 + 40, load64(v0.plus(40)));
- store64(v4 + 48, load64(v0.plus(48)));
- store64(v4 + 56, load64(v0.plus(56)));
- store64(v4 + 72, ((load64(v0.plus(96)) != 0) as u32) as u64);
- t0 = digest_buffer_digest_into_288ea74a914fd90c(v0.plus(104), v5, v1, v2, v4);
- store64(v3, t0);
- store64(v0 + 24, load64(v4 + 24));
- store64(v0 + 16, load64(v4 + 16));
- store64(v0 + 8, load64(v4 + 8));
- store64(v0, load64(v4));
- store64(v8, load64(v4 + 64));
+ store64(v3, load64(v0));
+ store64(v3 + 8, load64(v0 + 8));
+ store64(v3 + 16, load64(v0 + 16));
+ store64(v3 + 24, load64(v0 + 24));
+ v13 = load64(v0.plus(64));
+ store64(v3 + 64, v13);
+ store64(v3 + 32, load64(v0.plus(32)));
+ store64(v3 + 40, load64(v0.plus(40)));
+ store64(v3 + 48, load64(v0.plus(48)));
+ store64(v3 + 56, load64(v0.plus(56)));
+ store64(v3 + 72, ((load16(v0.plus(78)) != 0) as u32) as u64);
+ v7 = v0.plus(80);
+ 'l9: loop {
+ if (v4 & 0xffff) == 0 { break 'l9; }
+ 'l10: loop {
+ 'l11: loop {
+ v8 = v7.plus(v5);
+ if v8.minus(v1) >= v6 { break 'l11; }
+ v9 = v6 & 3;
+ v10 = 0;
+ 'l12: loop {
+ if (v4.minus(61) & 0xffff) < 3 { break 'l12; }
+ v11 = v0.plus(v5);
+ v14 = v6 & 0xfffffffffffffffc;
+ v10 = 0;
+ 'l13: loop {
+ v8 = v11.plus(v10);
+ v12 = v1.plus(v10);
+ store8(v8.plus(80), load8(v12) as u64);
+ store8(v8.plus(81), load8(v12.plus(1)) as u64);
+ store8(v8.plus(82), load8(v12.plus(2)) as u64);
+ store8(v8.plus(83), load8(v12.plus(3)) as u64);
+ v10 = v10.plus(4);
+ if v14 != v10 { continue 'l13; }
+ break 'l13; }
+ if v9 == 0 { break 'l10; }
+ break 'l12; }
+ v8 = v1.plus(v10);
+ v10 = v10.plus(v5).plus(v0).plus(80);
+ 'l14: loop {
+ store8(v10, load8(v8) as u64);
+ v10 = v10.plus(1);
+ v8 = v8.plus(1);
+ v9 = v9.minus(1);
+ if v9 != 0 { continue 'l14; }
+ break 'l10;
+ }
+ }
+ if v6 == 0 { break 'l10; }
+ copy(v8, v1, v6);
+ break 'l10; }
+ v2 = v2.minus(v6);
+ v1 = v1.plus(v6);
+ v8 = v13.plus(64);
+ store64(v3 + 64, v8);
+ compress_compress_blake2s_compress(v3, v7, v8, 0, 0);
+ break 'l9; }
+ v8 = v2.minus(((v2 != 0) as u32) as u64);
+ v14 = v8 & 0xffffffffffffffc0;
+ 'l15: loop {
+ v10 = v8 >> 6;
+ if v10 == 0 { break 'l15; }
+ v8 = v1;
+ 'l16: loop {
+ v12 = load64(v3 + 64).plus(64);
+ store64(v3 + 64, v12);
+ compress_compress_blake2s_compress(v3, v8, v12, 0, 0);
+ v8 = v8.plus(64);
+ v10 = v10.minus(1);
+ if v10 != 0 { continue 'l16; }
+ break 'l16; }
+ break 'l15; }
+ fill(v7, 0, 64);
+ 'l17: loop {
+ 'l18: loop {
+ v11 = v1.plus(v14);
+ v6 = v2.minus(v14);
+ if v7.minus(v11) >= v6 { break 'l18; }
+ v9 = v2 & 3;
+ v10 = 0;
+ 'l19: loop {
+ if v14.minus(v2) > 0xfffffffffffffffc { break 'l19; }
+ v2 = (v2 & 0xfffffffffffffffc).minus(v14);
+ v10 = 0;
+ 'l20: loop {
+ v8 = v0.plus(v10);
+ v12 = v11.plus(v10);
+ store8(v8.plus(80), load8(v12) as u64);
+ store8(v8.plus(81), load8(v12.plus(1)) as u64);
+ store8(v8.plus(82), load8(v12.plus(2)) as u64);
+ store8(v8.plus(83), load8(v12.plus(3)) as u64);
+ v10 = v10.plus(4);
+ if v2 != v10 { continue 'l20; }
+ break 'l20; }
+ if v9 == 0 { break 'l17; }
+ break 'l19; }
+ v8 = v10.plus(v0).plus(80);
+ v10 = v1.plus(v10.plus(v14));
+ 'l21: loop {
+ store8(v8, load8(v10) as u64);
+ v8 = v8.plus(1);
+ v10 = v10.plus(1);
+ v9 = v9.minus(1);
+ if v9 != 0 { continue 'l21; }
+ break 'l17;
+ }
+ }
+ if v6 == 0 { break 'l17; }
+ copy(v7, v11, v6);
+ break 'l17; }
+ store64(v0 + 24, load64(v3 + 24));
+ store64(v0 + 16, load64(v3 + 16));
+ store64(v0 + 8, load64(v3 + 8));
+ store64(v0, load64(v3));
+ store16(v0.plus(72), v6);
+ store64(v0.plus(64), load64(v3 + 64));
  break 'l2; }
  return;
-}
-
-// blake2_ffi::blake2s::write_keyed
-#[inline(never)]
-unsafe fn ffi_blake2s_write_keyed(mut v0: u64, mut v1: u64, mut v2: u64, mut v3: u64, mut v4: u64,
-        mut v5: u64) -> u32 {
- let mut v6: u64;
- let mut v7: u64;
- let mut v8: u32;
- let mut v9: u64;
- let mut frame = [0_u64; 56];
- let top = (address!(frame)).plus(448) & !15;
- v6 = top.minus(432);
- 'l1: loop {
- 'l2: loop {
- 'l4: loop {
- if v1.minus(33) < 0xffffffffffffffe0 { break 'l4; }
- if v5 > 32 { break 'l4; }
- v7 = 0;
- v8 = v1 as u32;
- 'l5: loop {
- if v5 != 0 { break 'l5; }
- fill(v6 + 304, 0, 128);
- v8 = (v8 | 0x1010000) ^ 0x6a09e667;
- break 'l2;
- }
- v7 = 64;
- 'l6: loop {
- v9 = 64_u64.minus(v5);
- if v9 == 0 { break 'l6; }
- fill(v6.plus(368).plus(v5), 0, v9);
- break 'l6; }
- 'l7: loop {
- if v5 == 0 { break 'l7; }
- copy(v6.plus(368), v4, v5);
- break 'l7; }
- store64(v6 + 360, load64(v6 + 424));
- store64(v6 + 352, load64(v6 + 416));
- store64(v6 + 344, load64(v6 + 408));
- store64(v6 + 336, load64(v6 + 400));
- store64(v6 + 328, load64(v6 + 392));
- store64(v6 + 320, load64(v6 + 384));
- store64(v6 + 312, load64(v6 + 376));
- store64(v6 + 304, load64(v6 + 368));
- v8 = (((v5 as u32) << 8) | v8 | 0x1010000) ^ 0x6a09e667;
- break 'l2;
- }
- v8 = 0xffffffff;
- break 'l1;
- }
- store64(v6 + 64, load64(v6 + 360));
- store64(v6 + 56, load64(v6 + 352));
- store64(v6 + 48, load64(v6 + 344));
- store64(v6 + 40, load64(v6 + 336));
- store64(v6 + 32, load64(v6 + 328));
- store64(v6 + 24, load64(v6 + 320));
- store64(v6 + 16, load64(v6 + 312));
- store64(v6 + 8, load64(v6 + 304));
- store64(v6 + 168, 0);
- store64(v6 + 160, v1);
- store64(v6 + 152, v7);
- store64(v6 + 144, v7);
- store64(v6 + 136, 0);
- store64(v6 + 128, 0x5be0cd191f83d9ab);
- store64(v6 + 120, 0x9b05688c510e527f);
- store32(v6 + 116, 0xa54ff53a);
- store32(v6 + 112, 0x3c6ef372);
- store32(v6 + 108, 0xbb67ae85);
- store32(v6 + 104, v8 as u64);
- store64(v6 + 96, 0x5be0cd191f83d9ab);
- store64(v6 + 88, 0x9b05688c510e527f);
- store32(v6 + 84, 0xa54ff53a);
- store32(v6 + 80, 0x3c6ef372);
- store32(v6 + 76, 0xbb67ae85);
- store32(v6 + 72, v8 as u64);
- store64(v6 + 232, load64(v6 + 64));
- store64(v6 + 224, load64(v6 + 56));
- store64(v6 + 216, load64(v6 + 48));
- store64(v6 + 208, load64(v6 + 40));
- store64(v6 + 200, load64(v6 + 32));
- store64(v6 + 192, load64(v6 + 24));
- store64(v6 + 184, load64(v6 + 16));
- store64(v6 + 176, load64(v6 + 8));
- store64(v6 + 240, load64(v6 + 368));
- store64(v6 + 248, load64(v6 + 376));
- store64(v6 + 256, load64(v6 + 384));
- store64(v6 + 264, load64(v6 + 392));
- store64(v6 + 272, load64(v6 + 400));
- store64(v6 + 280, load64(v6 + 408));
- store64(v6 + 288, load64(v6 + 416));
- store64(v6 + 296, load64(v6 + 424));
- v8 = 0xffffffff;
- if v3 > (!v7) { break 'l1; }
- 'l8: loop {
- 'l9: loop {
- if v3 == 1 { break 'l9; }
- state_blake2s_State_take(v6.plus(72), v2, v3);
- break 'l8;
- }
- 'l10: loop {
- if v5 == 0 { break 'l10; }
- state_blake2s_State_take(v6.plus(72), v2, 1);
- break 'l8;
- }
- store8(v6.plus(176).plus(v7), load8(v2) as u64);
- store64(v6 + 144, v7 | 1);
- break 'l8; }
- state_blake2s_State_write_digest(v6.plus(72), v0);
- v8 = 0;
- break 'l1; }
- return v8;
-}
-
-// Overwrites the stack below the caller.
-#[inline(never)]
-unsafe fn digest_wiping_scrub_stack_1536() {
-    let mut room = [0_u64; 448];
-    for word in room.iter_mut() {
-        core::ptr::write_volatile(word, 0);
-    }
-}
-
-// rattle::export vulfsjor_ffi_blake2s
-#[inline(never)]
-unsafe fn exported_blake2s(mut v0: u64, mut v1: u64, mut v2: u64, mut v3: u64, mut v4: u64, mut v5:
-        u64) -> u32 {
- let mut v6: u64;
- let mut v7: u64;
- let mut v8: u64;
- let mut v9: u32;
- let mut v10: u32;
- let mut frame = [0_u64; 40];
- let top = (address!(frame)).plus(320) & !15;
- v6 = top.minus(304);
- v7 = v2.plus(if v2 == 0 { 4096_u64 } else { 0 });
- v8 = v0.plus(if v0 == 0 { 4096_u64 } else { 0 });
- 'l2: loop {
- 'l3: loop {
- 'l4: loop {
- 'l5: loop {
- if v1 != 32 { break 'l5; }
- if v5 != 0 { break 'l4; }
- store64(v6 + 56, 0x5be0cd191f83d9ab);
- store64(v6 + 48, 0x9b05688c510e527f);
- store64(v6 + 40, 0xa54ff53a3c6ef372);
- store64(v6 + 32, 0xbb67ae856b08e647);
- store64(v6 + 24, 0x5be0cd191f83d9ab);
- store64(v6 + 16, 0x9b05688c510e527f);
- store64(v6 + 8, 0xa54ff53a3c6ef372);
- store64(v6, 0xbb67ae856b08e647);
- fill(v6.plus(64), 0, 88);
- v5 = v6.plus(80);
- 'l6: loop {
- 'l7: loop {
- if v3 > 64 { break 'l7; }
- 'l8: loop {
- if v3 == 0 { break 'l8; }
- copy(v5, v7, v3);
- break 'l8; }
- v2 = 0;
- v9 = 0;
- break 'l6;
- }
- v4 = v3.minus(1);
- v0 = v4 >> 6;
- v2 = v7;
- 'l9: loop {
- v1 = load64(v6 + 64).plus(64);
- store64(v6 + 64, v1);
- compress_compress_blake2s_compress(v6, v2, v1, 0, 0);
- v2 = v2.plus(64);
- v0 = v0.minus(1);
- if v0 != 0 { continue 'l9; }
- break 'l9; }
- fill(v5, 0, 64);
- 'l10: loop {
- v2 = v4 & 0xffffffffffffffc0;
- v3 = v3.minus(v2);
- if v3 == 0 { break 'l10; }
- copy(v5, v7.plus(v2), v3);
- break 'l10; }
- v9 = load8(v6 + 72);
- v2 = load64(v6 + 64);
- break 'l6; }
- store64(v6 + 144, v3);
- v2 = v3.plus(v2);
- store64(v6 + 64, v2);
- fill(v6 + 240, 0, 64);
- 'l11: loop {
- if v3 == 0 { break 'l11; }
- copy(v6.plus(240), v5, v3);
- break 'l11; }
- v10 = 0;
- fill(v5, 0, 72);
- compress_compress_blake2s_compress(v6, v6.plus(240), v2, 1, v9);
- v2 = load64(v6);
- v0 = load64(v6 + 8);
- v1 = load64(v6 + 16);
- store64(v8 + 24, load64(v6 + 24));
- store64(v8 + 16, v1);
- store64(v8 + 8, v0);
- store64(v8, v2);
- break 'l2;
- }
- if v5 == 0 { break 'l3; }
- break 'l4; }
- v10 = ffi_blake2s_write_keyed(v8, v1, v7, v3, v4.plus(if v4 == 0 { 4096_u64 } else { 0 }), v5);
- digest_wiping_scrub_stack_1536();
- break 'l2;
- }
- v10 = 0xffffffff;
- if v1.minus(33) < 0xffffffffffffffe0 { break 'l2; }
- store64(v6 + 64, 0);
- store64(v6 + 56, 0x5be0cd191f83d9ab);
- store64(v6 + 48, 0x9b05688c510e527f);
- store32(v6 + 44, 0xa54ff53a);
- store64(v6 + 36, 0x3c6ef372bb67ae85);
- store64(v6 + 24, 0x5be0cd191f83d9ab);
- store64(v6 + 16, 0x9b05688c510e527f);
- store32(v6 + 12, 0xa54ff53a);
- store64(v6 + 4, 0x3c6ef372bb67ae85);
- fill(v6 + 72, 0, 16);
- store64(v6 + 88, v1);
- v10 = ((v1 as u32) | 0x1010000) ^ 0x6a09e667;
- store32(v6 + 32, v10 as u64);
- store32(v6, v10 as u64);
- fill(v6.plus(96), 0, 136);
- 'l12: loop {
- 'l13: loop {
- if v3 == 1 { break 'l13; }
- state_blake2s_State_take(v6, v7, v3);
- break 'l12;
- }
- store64(v6 + 72, 1);
- store8(v6 + 104, load8(v7) as u64);
- break 'l12; }
- state_blake2s_State_write_digest(v6, v8);
- v10 = 0;
- break 'l2; }
- return v10;
-}
-
-// Overwrites the stack below the caller.
-#[inline(never)]
-unsafe fn digest_wiping_scrub_stack_5632() {
-    let mut room = [0_u64; 960];
-    for word in room.iter_mut() {
-        core::ptr::write_volatile(word, 0);
-    }
 }
 
 // blake2_ffi::blake2s::many::write_all
@@ -4162,150 +4001,144 @@ unsafe fn ffi_blake2s_many_write_all(mut v0: u64, mut v1: u64, mut v2: u64, mut 
  let mut v23: u32;
  let mut v24: u32;
  let mut v25: u32;
- let mut v26: u64;
- let mut frame = [0_u64; 50];
- let top = (address!(frame)).plus(400) & !15;
+ let mut v26: u32;
+ let mut v27: u64;
+ let mut frame = [0_u64; 38];
+ let top = (address!(frame)).plus(304) & !15;
  let _ = v1;
- v5 = top.minus(384);
+ v5 = top.minus(288);
  'l2: loop {
  if v4 == 0 { break 'l2; }
- v6 = v5.plus(304) | 8;
- v7 = v5.plus(320) | 8;
- v8 = v5.plus(176);
- v9 = v5.plus(112);
- v10 = 0;
+ v6 = v5.plus(176) | 8;
+ v7 = v5.plus(224).plus(32);
+ v8 = v5.plus(192) | 8;
+ v9 = v5.plus(144);
+ v10 = v5.plus(80);
+ v11 = 0;
  'l3: loop {
  'l4: loop {
- v11 = load64(v2);
- if v11.minus(33) < 0xffffffffffffffe0 { break 'l4; }
- v12 = load64(v2.plus(16));
- if v12 > 32 { break 'l4; }
- v13 = load64(v2.plus(32));
- if v13 > 8 { break 'l4; }
- v14 = load64(v2.plus(48));
+ v12 = load64(v2);
+ if v12.minus(33) < 0xffffffffffffffe0 { break 'l4; }
+ v13 = load64(v2.plus(16));
+ if v13 > 32 { break 'l4; }
+ v14 = load64(v2.plus(32));
  if v14 > 8 { break 'l4; }
- v15 = v11.times(v10);
- v16 = load64(v3.plus(8));
- v17 = load64(v3);
- v18 = load64(v2.plus(40));
- v19 = load64(v2.plus(24));
- v20 = 0;
+ v15 = load64(v2.plus(48));
+ if v15 > 8 { break 'l4; }
+ v16 = v12.times(v11);
+ v17 = load64(v3.plus(8));
+ v18 = load64(v3);
+ v19 = load64(v2.plus(40));
+ v20 = load64(v2.plus(24));
  'l5: loop {
  'l6: loop {
- if v12 != 0 { break 'l6; }
- fill(v5 + 304, 0, 16);
+ if v13 != 0 { break 'l6; }
+ fill(v5 + 176, 0, 16);
  'l7: loop {
- if v13 == 0 { break 'l7; }
- copy(v5.plus(304), v19, v13);
+ if v14 == 0 { break 'l7; }
+ copy(v5.plus(176), v20, v14);
  break 'l7; }
  'l8: loop {
- if v14 == 0 { break 'l8; }
- copy(v6, v18, v14);
+ if v15 == 0 { break 'l8; }
+ copy(v6, v19, v15);
  break 'l8; }
- fill(v5 + 240, 0, 64);
- fill(v5 + 320, 0, 64);
- v21 = ((v11 as u32) | 0x1010000) ^ 0x6a09e667;
- v22 = load32(v5 + 316) ^ 0x5be0cd19;
- v23 = load32(v5 + 312) ^ 0x1f83d9ab;
- v24 = load32(v5 + 308) ^ 0x9b05688c;
- v25 = load32(v5 + 304) ^ 0x510e527f;
+ fill(v5 + 192, 0, 96);
+ v21 = ((v12 as u32) | 0x1010000) ^ 0x6a09e667;
+ v22 = load32(v5 + 188) ^ 0x5be0cd19;
+ v23 = load32(v5 + 184) ^ 0x1f83d9ab;
+ v24 = load32(v5 + 180) ^ 0x9b05688c;
+ v25 = load32(v5 + 176) ^ 0x510e527f;
+ v26 = 0;
  break 'l5;
  }
- v26 = load64(v2.plus(8));
- fill(v5 + 320, 0, 16);
+ v27 = load64(v2.plus(8));
+ fill(v5 + 192, 0, 16);
  'l9: loop {
- if v13 == 0 { break 'l9; }
- copy(v5.plus(320), v19, v13);
+ if v14 == 0 { break 'l9; }
+ copy(v5.plus(192), v20, v14);
  break 'l9; }
  'l10: loop {
- if v14 == 0 { break 'l10; }
- copy(v7, v18, v14);
+ if v15 == 0 { break 'l10; }
+ copy(v8, v19, v15);
  break 'l10; }
- v20 = 64;
- v25 = load32(v5 + 320);
- v24 = load32(v5 + 324);
- v23 = load32(v5 + 328);
- v22 = load32(v5 + 332);
+ v26 = load32(v5 + 192);
+ v24 = load32(v5 + 196);
+ v23 = load32(v5 + 200);
+ v22 = load32(v5 + 204);
  'l11: loop {
- v13 = 64_u64.minus(v12);
- if v13 == 0 { break 'l11; }
- fill(v5.plus(320).plus(v12), 0, v13);
+ v14 = if v13 > 31 { 0 } else { 32_u64.minus(v13) };
+ if v14 == 0 { break 'l11; }
+ fill(v5.plus(192).plus(v13), 0, v14);
  break 'l11; }
  'l12: loop {
- if v12 == 0 { break 'l12; }
- copy(v5.plus(320), v26, v12);
+ if v13 == 0 { break 'l12; }
+ copy(v5.plus(192), v27, v13);
  break 'l12; }
- store64(v5 + 296, load64(v5 + 376));
- store64(v5 + 288, load64(v5 + 368));
- store64(v5 + 280, load64(v5 + 360));
- store64(v5 + 272, load64(v5 + 352));
- store64(v5 + 264, load64(v5 + 344));
- store64(v5 + 256, load64(v5 + 336));
- store64(v5 + 248, load64(v5 + 328));
- store64(v5 + 240, load64(v5 + 320));
- v21 = (((v12 as u32) << 8) | (v11 as u32) | 0x1010000) ^ 0x6a09e667;
+ fill(v7, 0, 32);
+ store64(v5 + 224, load64(v5 + 192));
+ store64(v5 + 232, load64(v5 + 200));
+ store64(v5 + 240, load64(v5 + 208));
+ store64(v5 + 248, load64(v5 + 216));
+ v21 = (((v13 as u32) << 8) | (v12 as u32) | 0x1010000) ^ 0x6a09e667;
  v22 ^= 0x5be0cd19;
  v23 ^= 0x1f83d9ab;
  v24 ^= 0x9b05688c;
- v25 ^= 0x510e527f;
+ v25 = v26 ^ 0x510e527f;
+ v26 = 64;
  break 'l5; }
- v13 = v0.plus(v15);
- store64(v5 + 104, 0);
- store64(v5 + 96, v11);
- store64(v5 + 88, v20);
- store64(v5 + 80, v20);
- store64(v5 + 72, 0);
- store32(v5 + 68, v22 as u64);
- store32(v5 + 64, v23 as u64);
- store32(v5 + 60, v24 as u64);
- store32(v5 + 56, v25 as u64);
- store32(v5 + 52, 0xa54ff53a);
- store32(v5 + 48, 0x3c6ef372);
- store32(v5 + 44, 0xbb67ae85);
- store32(v5 + 40, v21 as u64);
- store32(v5 + 36, v22 as u64);
- store32(v5 + 32, v23 as u64);
- store32(v5 + 28, v24 as u64);
- store32(v5 + 24, v25 as u64);
- store32(v5 + 20, 0xa54ff53a);
- store32(v5 + 16, 0x3c6ef372);
- store32(v5 + 12, 0xbb67ae85);
- store32(v5 + 8, v21 as u64);
- store64(v9 + 56, load64(v5 + 296));
- store64(v9 + 48, load64(v5 + 288));
- store64(v9 + 40, load64(v5 + 280));
- store64(v9 + 32, load64(v5 + 272));
- store64(v9 + 24, load64(v5 + 264));
- store64(v9 + 16, load64(v5 + 256));
- store64(v9 + 8, load64(v5 + 248));
- store64(v9, load64(v5 + 240));
- store64(v8, load64(v5 + 320));
- store64(v8 + 8, load64(v5 + 328));
- store64(v8 + 16, load64(v5 + 336));
- store64(v8 + 24, load64(v5 + 344));
- store64(v8 + 32, load64(v5 + 352));
- store64(v8 + 40, load64(v5 + 360));
- store64(v8 + 48, load64(v5 + 368));
- store64(v8 + 56, load64(v5 + 376));
+ v14 = v0.plus(v16);
+ store16(v5 + 78, 0);
+ store16(v5 + 76, v12);
+ store16(v5 + 74, v26 as u64);
+ store16(v5 + 72, v26 as u64);
+ store64(v5 + 64, 0);
+ store32(v5 + 60, v22 as u64);
+ store32(v5 + 56, v23 as u64);
+ store32(v5 + 52, v24 as u64);
+ store32(v5 + 48, v25 as u64);
+ store32(v5 + 44, 0xa54ff53a);
+ store32(v5 + 40, 0x3c6ef372);
+ store32(v5 + 36, 0xbb67ae85);
+ store32(v5 + 32, v21 as u64);
+ store32(v5 + 28, v22 as u64);
+ store32(v5 + 24, v23 as u64);
+ store32(v5 + 20, v24 as u64);
+ store32(v5 + 16, v25 as u64);
+ store32(v5 + 12, 0xa54ff53a);
+ store32(v5 + 8, 0x3c6ef372);
+ store32(v5 + 4, 0xbb67ae85);
+ store32(v5, v21 as u64);
+ store64(v10 + 56, load64(v5 + 280));
+ store64(v10 + 48, load64(v5 + 272));
+ store64(v10 + 40, load64(v5 + 264));
+ store64(v10 + 32, load64(v5 + 256));
+ store64(v10 + 24, load64(v5 + 248));
+ store64(v10 + 16, load64(v5 + 240));
+ store64(v10 + 8, load64(v5 + 232));
+ store64(v10, load64(v5 + 224));
+ store64(v9, load64(v5 + 192));
+ store64(v9 + 8, load64(v5 + 200));
+ store64(v9 + 16, load64(v5 + 208));
+ store64(v9 + 24, load64(v5 + 216));
  'l13: loop {
  'l14: loop {
- if v16 == 1 { break 'l14; }
- state_blake2s_State_take(v5.plus(8), v17, v16);
+ if v17 == 1 { break 'l14; }
+ state_blake2s_State_take(v5, v18, v17);
  break 'l13;
  }
  'l15: loop {
- if v12 == 0 { break 'l15; }
- state_blake2s_State_take(v5.plus(8), v17, 1);
+ if v13 == 0 { break 'l15; }
+ state_blake2s_State_take(v5, v18, 1);
  break 'l13;
  }
- store8(v9.plus(v20), load8(v17) as u64);
- store64(v5 + 80, v20 | 1);
+ store8(v10.plus(v26 as u64), load8(v18) as u64);
+ store16(v5 + 72, (v26 | 1) as u64);
  break 'l13; }
- state_blake2s_State_write_digest(v5.plus(8), v13);
+ state_blake2s_State_write_digest(v5, v14);
  break 'l4; }
  v3 = v3.plus(16);
- v10 = v10.plus(1);
- if v4 != v10 { continue 'l3; }
+ v11 = v11.plus(1);
+ if v4 != v11 { continue 'l3; }
  break 'l3; }
  break 'l2; }
  return;
@@ -4363,15 +4196,6 @@ unsafe fn exported_blake2s_many(mut v0: u64, mut v1: u64, mut v2: u64, mut v3: u
  return v12;
 }
 
-// Overwrites the stack below the caller.
-#[inline(never)]
-unsafe fn digest_wiping_scrub_stack_768() {
-    let mut room = [0_u64; 352];
-    for word in room.iter_mut() {
-        core::ptr::write_volatile(word, 0);
-    }
-}
-
 // blake2_ffi::blake2s::initialize
 #[inline(never)]
 unsafe fn ffi_blake2s_initialize(mut v0: u64, mut v1: u64, mut v2: u64) -> u32 {
@@ -4393,9 +4217,6 @@ unsafe fn ffi_blake2s_initialize(mut v0: u64, mut v1: u64, mut v2: u64) -> u32 {
  let mut v18: u32;
  let mut v19: u32;
  let mut v20: u32;
- let mut v21: u64;
- let mut v22: u64;
- let mut v23: u64;
  let mut frame = [0_u64; 28];
  let top = (address!(frame)).plus(224) & !15;
  v3 = top.minus(208);
@@ -4421,128 +4242,118 @@ unsafe fn ffi_blake2s_initialize(mut v0: u64, mut v1: u64, mut v2: u64) -> u32 {
  v14 = load16(v2 + 4);
  v15 = load8(v2 + 16);
  v16 = load8(v2);
- v2 = 0;
  'l4: loop {
  'l5: loop {
  if v5 != 0 { break 'l5; }
- fill(v3 + 128, 0, 16);
+ fill(v3 + 96, 0, 16);
  'l6: loop {
  if v6 == 0 { break 'l6; }
- copy(v3.plus(128), v12, v6);
+ copy(v3.plus(96), v12, v6);
  break 'l6; }
  'l7: loop {
  if v7 == 0 { break 'l7; }
- copy(v3.plus(128) | 8, v11, v7);
+ copy(v3.plus(96) | 8, v11, v7);
  break 'l7; }
- fill(v3, 0, 128);
+ fill(v3, 0, 96);
  v13 = ((v14 & 0xffff) | (v13 << 16)) ^ 0xbb67ae85;
- v8 = ((v16 << 16) | (v4 as u32) | (v8 << 24)) ^ 0x6a09e667;
+ v14 = ((v16 << 16) | (v4 as u32) | (v8 << 24)) ^ 0x6a09e667;
  v9 = ((((v10 >> 32) as u32) & 0xffff) | ((v9 << 24) | ((v15 & 255) << 16))) ^ 0xa54ff53a;
- v14 = (v10 as u32) ^ 0x3c6ef372;
- v15 = load32(v3 + 140) ^ 0x5be0cd19;
- v16 = load32(v3 + 136) ^ 0x1f83d9ab;
- v17 = load32(v3 + 132) ^ 0x9b05688c;
- v18 = load32(v3 + 128) ^ 0x510e527f;
+ v15 = (v10 as u32) ^ 0x3c6ef372;
+ v16 = load32(v3 + 108) ^ 0x5be0cd19;
+ v17 = load32(v3 + 104) ^ 0x1f83d9ab;
+ v18 = load32(v3 + 100) ^ 0x9b05688c;
+ v19 = load32(v3 + 96) ^ 0x510e527f;
+ v20 = 0;
  break 'l4;
  }
  v1 = load64(v1.plus(8));
- fill(v3 + 128, 0, 16);
+ fill(v3 + 96, 0, 16);
  'l8: loop {
  if v6 == 0 { break 'l8; }
- copy(v3.plus(128), v12, v6);
+ copy(v3.plus(96), v12, v6);
  break 'l8; }
  'l9: loop {
  if v7 == 0 { break 'l9; }
- copy(v3.plus(128) | 8, v11, v7);
+ copy(v3.plus(96) | 8, v11, v7);
  break 'l9; }
- v2 = 64;
- v18 = load32(v3 + 128);
- v17 = load32(v3 + 132);
- v19 = load32(v3 + 136);
- v20 = load32(v3 + 140);
+ v19 = load32(v3 + 96);
+ v18 = load32(v3 + 100);
+ v17 = load32(v3 + 104);
+ v20 = load32(v3 + 108);
  'l10: loop {
- v6 = 64_u64.minus(v5);
- if v6 == 0 { break 'l10; }
- fill(v3.plus(144).plus(v5), 0, v6);
+ v2 = if v5 > 31 { 0 } else { 32_u64.minus(v5) };
+ if v2 == 0 { break 'l10; }
+ fill(v3.plus(112).plus(v5), 0, v2);
  break 'l10; }
  'l11: loop {
  if v5 == 0 { break 'l11; }
- copy(v3.plus(144), v1, v5);
+ copy(v3.plus(112), v1, v5);
  break 'l11; }
- v1 = load64(v3 + 200);
- store64(v3 + 120, v1);
- v6 = load64(v3 + 192);
- store64(v3 + 112, v6);
- v7 = load64(v3 + 184);
- store64(v3 + 104, v7);
- v11 = load64(v3 + 176);
- store64(v3 + 96, v11);
- v12 = load64(v3 + 168);
- store64(v3 + 88, v12);
- v21 = load64(v3 + 160);
- store64(v3 + 80, v21);
- v22 = load64(v3 + 152);
- store64(v3 + 72, v22);
- v23 = load64(v3 + 144);
- store64(v3 + 64, v23);
- store64(v3, v23);
- store64(v3 + 8, v22);
- store64(v3 + 16, v21);
- store64(v3 + 24, v12);
- store64(v3 + 32, v11);
- store64(v3 + 40, v7);
+ fill(v3 + 176, 0, 32);
+ fill(v3 + 64, 0, 32);
+ v1 = load64(v3 + 112);
+ store64(v3 + 144, v1);
+ v2 = load64(v3 + 120);
+ store64(v3 + 152, v2);
+ v6 = load64(v3 + 128);
+ store64(v3 + 160, v6);
+ v7 = load64(v3 + 136);
+ store64(v3 + 168, v7);
+ store64(v3 + 32, v1);
+ store64(v3 + 40, v2);
  store64(v3 + 48, v6);
- store64(v3 + 56, v1);
+ store64(v3 + 56, v7);
+ store64(v3 + 24, load64(v3 + 136));
+ store64(v3 + 16, load64(v3 + 128));
+ store64(v3 + 8, load64(v3 + 120));
+ store64(v3, load64(v3 + 112));
  v13 = ((v14 & 0xffff) | (v13 << 16)) ^ 0xbb67ae85;
  v9 = ((((v10 >> 32) as u32) & 0xffff) | ((v9 << 24) | ((v15 & 255) << 16))) ^ 0xa54ff53a;
- v8 = ((v16 << 16) | ((((v5 as u32) << 8) & 0xff00) | (v4 as u32))).plus(v8 << 24) ^ 0x6a09e667;
- v14 = (v10 as u32) ^ 0x3c6ef372;
- v15 = v20 ^ 0x5be0cd19;
- v16 = v19 ^ 0x1f83d9ab;
- v17 ^= 0x9b05688c;
- v18 ^= 0x510e527f;
+ v14 = ((v16 << 16) | ((((v5 as u32) << 8) & 0xff00) | (v4 as u32))).plus(v8 << 24) ^ 0x6a09e667;
+ v15 = (v10 as u32) ^ 0x3c6ef372;
+ v16 = v20 ^ 0x5be0cd19;
+ v17 ^= 0x1f83d9ab;
+ v18 ^= 0x9b05688c;
+ v19 ^= 0x510e527f;
+ v20 = 64;
  break 'l4; }
- store64(v0 + 96, 0);
- store64(v0 + 88, v4);
- store64(v0 + 80, v2);
- store64(v0 + 72, v2);
- store64(v0 + 64, 0);
- store32(v0 + 60, v15 as u64);
- store32(v0 + 56, v16 as u64);
- store32(v0 + 52, v17 as u64);
- store32(v0 + 48, v18 as u64);
- store32(v0 + 44, v9 as u64);
- store32(v0 + 40, v14 as u64);
- store32(v0 + 36, v13 as u64);
- store32(v0 + 32, v8 as u64);
- store32(v0 + 28, v15 as u64);
- store32(v0 + 24, v16 as u64);
- store32(v0 + 20, v17 as u64);
- store32(v0 + 16, v18 as u64);
- store32(v0 + 12, v9 as u64);
- store32(v0 + 8, v14 as u64);
- store32(v0 + 4, v13 as u64);
- store32(v0, v8 as u64);
- store64(v0 + 160, load64(v3 + 120));
- store64(v0 + 152, load64(v3 + 112));
- store64(v0 + 144, load64(v3 + 104));
- store64(v0 + 136, load64(v3 + 96));
- store64(v0 + 128, load64(v3 + 88));
- store64(v0 + 120, load64(v3 + 80));
- store64(v0 + 112, load64(v3 + 72));
- store64(v0 + 104, load64(v3 + 64));
- store64(v0 + 224, load64(v3 + 56));
- store64(v0 + 216, load64(v3 + 48));
- store64(v0 + 208, load64(v3 + 40));
- store64(v0 + 200, load64(v3 + 32));
- store64(v0 + 192, load64(v3 + 24));
- store64(v0 + 184, load64(v3 + 16));
- store64(v0 + 176, load64(v3 + 8));
- store64(v0 + 168, load64(v3));
  v8 = 0;
+ store16(v0 + 78, 0);
+ store16(v0 + 76, v4);
+ store16(v0 + 74, v20 as u64);
+ store16(v0 + 72, v20 as u64);
+ store64(v0 + 64, 0);
+ store32(v0 + 60, v16 as u64);
+ store32(v0 + 56, v17 as u64);
+ store32(v0 + 52, v18 as u64);
+ store32(v0 + 48, v19 as u64);
+ store32(v0 + 44, v9 as u64);
+ store32(v0 + 40, v15 as u64);
+ store32(v0 + 36, v13 as u64);
+ store32(v0 + 32, v14 as u64);
+ store32(v0 + 28, v16 as u64);
+ store32(v0 + 24, v17 as u64);
+ store32(v0 + 20, v18 as u64);
+ store32(v0 + 16, v19 as u64);
+ store32(v0 + 12, v9 as u64);
+ store32(v0 + 8, v15 as u64);
+ store32(v0 + 4, v13 as u64);
+ store32(v0, v14 as u64);
+ store64(v0 + 136, load64(v3 + 88));
+ store64(v0 + 128, load64(v3 + 80));
+ store64(v0 + 120, load64(v3 + 72));
+ store64(v0 + 112, load64(v3 + 64));
+ store64(v0 + 104, load64(v3 + 56));
+ store64(v0 + 96, load64(v3 + 48));
+ store64(v0 + 88, load64(v3 + 40));
+ store64(v0 + 80, load64(v3 + 32));
+ store64(v0 + 144, load64(v3));
+ store64(v0 + 152, load64(v3 + 8));
+ store64(v0 + 160, load64(v3 + 16));
+ store64(v0 + 168, load64(v3 + 24));
  break 'l1;
  }
- fill(v0, 0, 232);
+ fill(v0, 0, 176);
  v8 = 0xffffffff;
  break 'l1;
  }
@@ -4588,7 +4399,7 @@ unsafe fn exported_blake2s_init_key(mut v0: u64, mut v1: u64, mut v2: u64, mut v
  'l1: loop {
  'l2: loop {
  if v3 != 0 { break 'l2; }
- fill(v0, 0, 232);
+ fill(v0, 0, 176);
  v5 = 0xffffffff;
  break 'l1;
  }
@@ -4639,7 +4450,7 @@ unsafe fn exported_blake2s_init_tree(mut v0: u64, mut v1: u64, mut v2: u64, mut 
  if v10 > 0xffffffffffff { break 'l4; }
  if (v11 & 255) < 33 { break 'l3; }
  break 'l4; }
- fill(v0, 0, 232);
+ fill(v0, 0, 176);
  v12 = 0xffffffff;
  break 'l2;
  }
@@ -4692,32 +4503,32 @@ unsafe fn exported_blake2s_init_param(mut v0: u64, mut v1: u64, mut v2: u64) -> 
  store32(v0 + 36, v10 as u64);
  store32(v0 + 40, v9 as u64);
  store32(v0 + 44, v8 as u64);
- fill(v0 + 64, 0, 24);
+ fill(v0 + 64, 0, 12);
+ store16(v0 + 76, (v7 & 255) as u64);
  store32(v0, v11 as u64);
- v6 ^= 0x510e527f;
- store32(v0 + 16, v6 as u64);
+ v7 = v6 ^ 0x510e527f;
+ store32(v0 + 16, v7 as u64);
  v5 ^= 0x9b05688c;
  store32(v0 + 20, v5 as u64);
  v4 ^= 0x1f83d9ab;
  store32(v0 + 24, v4 as u64);
  v3 ^= 0x5be0cd19;
  store32(v0 + 28, v3 as u64);
- store32(v0 + 48, v6 as u64);
+ store32(v0 + 48, v7 as u64);
  store32(v0 + 52, v5 as u64);
  store32(v0 + 56, v4 as u64);
  store32(v0 + 60, v3 as u64);
- store64(v0 + 88, (v7 as u64) & 255);
- fill(v0.plus(96), 0, 136);
+ fill(v0.plus(78), 0, 98);
  return 0;
  }
- fill(v0, 0, 232);
+ fill(v0, 0, 176);
  return 0xffffffff;
 }
 
 // blake2_ffi::blake2s::absorb
 #[inline(never)]
 unsafe fn ffi_blake2s_absorb(mut v0: u64, mut v1: u64, mut v2: u64) {
- let mut v4: u64;
+ let mut v4: u32;
  let mut v5: u32;
  'l2: loop {
  if v2 == 1 { break 'l2; }
@@ -4725,15 +4536,15 @@ unsafe fn ffi_blake2s_absorb(mut v0: u64, mut v1: u64, mut v2: u64) {
  return;
  }
  'l3: loop {
- v4 = v0.plus(72);
- v2 = load64(v4);
- if v2 < 64 { break 'l3; }
+ v2 = v0.plus(72);
+ v4 = load16(v2);
+ if v4 < 64 { break 'l3; }
  state_blake2s_State_take(v0, v1, 1);
  return;
  }
  v5 = load8(v1);
- store64(v4, v2.plus(1));
- store8(v0.plus(v2).plus(104), v5 as u64);
+ store16(v2, v4.plus(1) as u64);
+ store8(v0.plus(v4 as u64).plus(80), v5 as u64);
  return;
 }
 
@@ -4758,21 +4569,24 @@ unsafe fn ffi_blake2s_absorb_scrubbed(mut v0: u64, mut v1: u64, mut v2: u64) {
 #[inline(never)]
 unsafe fn exported_blake2s_update(mut v0: u64, mut v1: u64, mut v2: u64) -> u32 {
  let mut v4: u32;
- let mut v5: u64;
+ let mut v5: u32;
  let mut v6: u64;
  let mut v7: u64;
+ let mut v8: u64;
  'l1: loop {
  'l2: loop {
  'l3: loop {
  v4 = 0xffffffff;
- if load64(v0.plus(88)).minus(1) > 31 { break 'l1; }
- v5 = load64(v0.plus(72));
+ if (load16(v0.plus(76)).minus(1) & 0xffff) > 31 { break 'l1; }
+ v5 = load16(v0.plus(72));
  if v5 > 64 { break 'l1; }
- v6 = load64(v0.plus(80));
+ v6 = load16(v0.plus(74)) as u64;
  if v6 > 64 { break 'l1; }
+ v4 = 0xffffffff;
  v7 = load64(v0.plus(64));
- if v7 > (!v5) { break 'l1; }
- if v2 > (!v7.plus(v5)) { break 'l1; }
+ if v7 > sign64((!v5) as u64, 0x8000) { break 'l1; }
+ v8 = v5 as u64;
+ if v2 > (!v7.plus(v8)) { break 'l1; }
  v1 = v1.plus(if v1 == 0 { 4096_u64 } else { 0 });
  'l5: loop {
  if v7 >= v6 { break 'l5; }
@@ -4789,8 +4603,8 @@ unsafe fn exported_blake2s_update(mut v0: u64, mut v1: u64, mut v2: u64) -> u32 
  break 'l2;
  }
  v4 = load8(v1);
- store64(v0.plus(72), v5.plus(1));
- store8(v0.plus(v5).plus(104), v4 as u64);
+ store16(v0.plus(72), v5.plus(1) as u64);
+ store8(v0.plus(v8).plus(80), v4 as u64);
  break 'l2; }
  v4 = 0;
  break 'l1; }
@@ -4801,7 +4615,7 @@ unsafe fn exported_blake2s_update(mut v0: u64, mut v1: u64, mut v2: u64) -> u32 
 #[inline(never)]
 unsafe fn ffi_blake2s_finalize(mut v0: u64, mut v1: u64) {
  state_blake2s_State_write_digest(v0, v1);
- fill(v0, 0, 232);
+ fill(v0, 0, 176);
  return;
 }
 
@@ -4809,23 +4623,25 @@ unsafe fn ffi_blake2s_finalize(mut v0: u64, mut v1: u64) {
 #[inline(never)]
 unsafe fn exported_blake2s_final(mut v0: u64, mut v1: u64, mut v2: u64) -> u32 {
  let mut v4: u32;
- let mut v5: u64;
- let mut v6: u64;
+ let mut v5: u32;
+ let mut v6: u32;
  let mut v7: u64;
+ let mut v8: u64;
  v4 = 0xffffffff;
  'l2: loop {
- v5 = load64(v0.plus(88));
- if v5.minus(1) > 31 { break 'l2; }
- v6 = load64(v0.plus(72));
+ v5 = load16(v0.plus(76));
+ if (v5.minus(1) & 0xffff) > 31 { break 'l2; }
+ v6 = load16(v0.plus(72));
  if v6 > 64 { break 'l2; }
- v7 = load64(v0.plus(80));
+ v7 = load16(v0.plus(74)) as u64;
  if v7 > 64 { break 'l2; }
- if v2 != v5 { break 'l2; }
- v2 = load64(v0.plus(64));
- if v2 > (!v6) { break 'l2; }
+ v4 = 0xffffffff;
+ v8 = load64(v0.plus(64));
+ if v8 > sign64((!v6) as u64, 0x8000) { break 'l2; }
+ if v2 != ((v5 as u64) & 0xffff) { break 'l2; }
  ffi_blake2s_finalize(v0, v1.plus(if v1 == 0 { 4096_u64 } else { 0 }));
  v4 = 0;
- if v2 >= v7 { break 'l2; }
+ if v8 >= v7 { break 'l2; }
  digest_wiping_scrub_stack_768();
  break 'l2; }
  return v4;
@@ -4847,7 +4663,7 @@ unsafe fn ffi_blake2s_is_digest_of(mut v0: u64, mut v1: u64, mut v2: u64) -> u32
  state_blake2s_State_write_digest(v0, v4);
  'l2: loop {
  'l3: loop {
- if v2 == load64(v0.plus(88)) { break 'l3; }
+ if v2 == (load16(v0.plus(76)) as u64) { break 'l3; }
  v5 = 0;
  break 'l2;
  }
@@ -4896,61 +4712,47 @@ unsafe fn ffi_blake2s_is_digest_of(mut v0: u64, mut v1: u64, mut v2: u64) -> u32
 // rattle::export vulfsjor_ffi_blake2s_verify
 #[inline(never)]
 unsafe fn exported_blake2s_verify(mut v0: u64, mut v1: u64, mut v2: u64) -> u32 {
- let mut v4: u64;
- let mut v5: u64;
+ let mut v4: u32;
+ let mut v5: u32;
  let mut v6: u64;
- let mut v7: u32;
- 'l1: loop {
+ let mut v7: u64;
+ v4 = 0xffffffff;
  'l2: loop {
+ if (load16(v0.plus(76)).minus(1) & 0xffff) > 31 { break 'l2; }
+ v5 = load16(v0.plus(72));
+ if v5 > 64 { break 'l2; }
+ v6 = load16(v0.plus(74)) as u64;
+ if v6 > 64 { break 'l2; }
+ v4 = 0xffffffff;
+ v7 = load64(v0.plus(64));
+ if v7 > sign64((!v5) as u64, 0x8000) { break 'l2; }
+ if (load8(v0.plus(33)) << 8) == 0xe600 { break 'l2; }
+ v4 = ffi_blake2s_is_digest_of(v0, v1.plus(if v1 == 0 { 4096_u64 } else { 0 }), v2);
+ fill(v0, 0, 176);
  'l3: loop {
- 'l4: loop {
- 'l6: loop {
- 'l7: loop {
- if load64(v0.plus(88)).minus(1) > 31 { break 'l7; }
- v4 = load64(v0.plus(72));
- if v4 > 64 { break 'l7; }
- v5 = load64(v0.plus(80));
- if v5 < 65 { break 'l6; }
- break 'l7; }
- if load64(v0.plus(64)) >= load64(v0.plus(80)) { break 'l1; }
- break 'l2;
- }
- 'l8: loop {
- v6 = load64(v0.plus(64));
- if v6 <= (!v4) { break 'l8; }
- if v6 < v5 { break 'l2; }
- break 'l1;
- }
- v7 = ffi_blake2s_is_digest_of(v0, v1.plus(if v1 == 0 { 4096_u64 } else { 0 }), v2);
- fill(v0, 0, 232);
- if v6 < v5 { break 'l4; }
- if v7 == 0 { break 'l1; }
- break 'l3;
- }
+ if v7 >= v6 { break 'l3; }
  digest_wiping_scrub_stack_768();
- if v7 == 0 { break 'l1; }
  break 'l3; }
- return 0;
- }
- digest_wiping_scrub_stack_768();
- break 'l1; }
- return 0xffffffff;
+ v4 = v4.minus(1);
+ break 'l2; }
+ return v4;
 }
 
 // rattle::export vulfsjor_ffi_blake2s_set_last_node
 #[inline(never)]
 unsafe fn exported_blake2s_set_last_node(mut v0: u64, mut v1: u32) -> u32 {
  let mut v2: u32;
- let mut v3: u64;
+ let mut v3: u32;
  v2 = 0xffffffff;
  'l2: loop {
- if load64(v0.plus(88)).minus(1) > 31 { break 'l2; }
- v3 = load64(v0.plus(72));
+ if (load16(v0.plus(76)).minus(1) & 0xffff) > 31 { break 'l2; }
+ v3 = load16(v0.plus(72));
  if v3 > 64 { break 'l2; }
- if load64(v0.plus(80)) > 64 { break 'l2; }
- if load64(v0.plus(64)) > (!v3) { break 'l2; }
+ if load16(v0.plus(74)) > 64 { break 'l2; }
+ v2 = 0xffffffff;
+ if load64(v0.plus(64)) > sign64((!v3) as u64, 0x8000) { break 'l2; }
  v2 = 0;
- store64(v0.plus(96), ((v1 != 0) as u32) as u64);
+ store16(v0.plus(78), ((v1 != 0) as u32) as u64);
  break 'l2; }
  return v2;
 }
@@ -4959,32 +4761,33 @@ unsafe fn exported_blake2s_set_last_node(mut v0: u64, mut v1: u32) -> u32 {
 #[inline(never)]
 unsafe fn exported_blake2s_reset(mut v0: u64) -> u32 {
  let mut v1: u32;
- let mut v2: u64;
- let mut v3: u64;
+ let mut v2: u32;
+ let mut v3: u32;
  let mut v4: u64;
  v1 = 0xffffffff;
  'l2: loop {
- if load64(v0.plus(88)).minus(1) > 31 { break 'l2; }
- v2 = load64(v0.plus(72));
+ if (load16(v0.plus(76)).minus(1) & 0xffff) > 31 { break 'l2; }
+ v2 = load16(v0.plus(72));
  if v2 > 64 { break 'l2; }
- v3 = load64(v0.plus(80));
+ v3 = load16(v0.plus(74));
  if v3 > 64 { break 'l2; }
+ v1 = 0xffffffff;
  v4 = v0.plus(64);
- if load64(v4) > (!v2) { break 'l2; }
- store64(v0.plus(72), v3);
+ if load64(v4) > sign64((!v2) as u64, 0x8000) { break 'l2; }
+ store64(v0.plus(112), 0);
+ store16(v0.plus(72), v3 as u64);
  store64(v4, 0);
+ store64(v0.plus(120), 0);
+ store64(v0.plus(128), 0);
+ store64(v0.plus(136), 0);
  store64(v0 + 24, load64(v0.plus(56)));
  store64(v0 + 16, load64(v0.plus(48)));
  store64(v0 + 8, load64(v0.plus(40)));
  store64(v0, load64(v0.plus(32)));
+ store64(v0.plus(80), load64(v0.plus(144)));
+ store64(v0.plus(88), load64(v0.plus(152)));
+ store64(v0.plus(96), load64(v0.plus(160)));
  store64(v0.plus(104), load64(v0.plus(168)));
- store64(v0.plus(112), load64(v0.plus(176)));
- store64(v0.plus(120), load64(v0.plus(184)));
- store64(v0.plus(128), load64(v0.plus(192)));
- store64(v0.plus(136), load64(v0.plus(200)));
- store64(v0.plus(144), load64(v0.plus(208)));
- store64(v0.plus(152), load64(v0.plus(216)));
- store64(v0.plus(160), load64(v0.plus(224)));
  v1 = 0;
  break 'l2; }
  return v1;
@@ -4996,23 +4799,23 @@ unsafe fn exported_blake2s_wipe(mut v0: u64) {
  'l1: loop {
  break 'l1;
  }
- fill(v0, 0, 232);
+ fill(v0, 0, 176);
 }
 
 // rattle::export vulfsjor_ffi_blake2s_digest_size
 #[inline(never)]
 unsafe fn exported_blake2s_digest_size(mut v0: u64) -> u64 {
  let mut v1: u64;
- let mut v2: u64;
- let mut v3: u64;
+ let mut v2: u32;
+ let mut v3: u32;
  v1 = 0;
  'l2: loop {
- v2 = load64(v0.plus(88));
- if v2.minus(1) > 31 { break 'l2; }
- v3 = load64(v0.plus(72));
+ v2 = load16(v0.plus(76));
+ if (v2.minus(1) & 0xffff) > 31 { break 'l2; }
+ v3 = load16(v0.plus(72));
  if v3 > 64 { break 'l2; }
- if load64(v0.plus(80)) > 64 { break 'l2; }
- v1 = if load64(v0.plus(64)) > (!v3) { 0 } else { v2 };
+ if load16(v0.plus(74)) > 64 { break 'l2; }
+ v1 = if load64(v0.plus(64)) > sign64((!v3) as u64, 0x8000) { 0 } else { ((v2 as u64) & 0xffff) };
  break 'l2; }
  return v1;
 }
@@ -5021,18 +4824,18 @@ unsafe fn exported_blake2s_digest_size(mut v0: u64) -> u64 {
 #[inline(never)]
 unsafe fn exported_blake2s_count(mut v0: u64) -> u64 {
  let mut v1: u64;
- let mut v2: u64;
+ let mut v2: u32;
  let mut v3: u64;
  v1 = 0;
  'l2: loop {
- if load64(v0.plus(88)).minus(1) > 31 { break 'l2; }
- v2 = load64(v0.plus(72));
+ if (load16(v0.plus(76)).minus(1) & 0xffff) > 31 { break 'l2; }
+ v2 = load16(v0.plus(72));
  if v2 > 64 { break 'l2; }
- v3 = load64(v0.plus(80));
+ v3 = load16(v0.plus(74)) as u64;
  if v3 > 64 { break 'l2; }
  v0 = load64(v0.plus(64));
- if v0 > (!v2) { break 'l2; }
- v0 = v0.plus(v2);
+ if v0 > sign64((!v2) as u64, 0x8000) { break 'l2; }
+ v0 = v0.plus(v2 as u64);
  v1 = v0.minus(v3);
  v1 = if v1 > v0 { 0 } else { v1 };
  break 'l2; }
@@ -5054,7 +4857,7 @@ unsafe fn module_blake2s_state_size() -> u64 {
  break 'l1;
  }
  exported_blake2s_state_size();
- return 232;
+ return 176;
 }
 
 // blake2_parallel::lanes::blake2bp::compress_one_by_one
@@ -8054,6 +7857,15 @@ unsafe fn ffi_blake2bp_absorb(mut v0: u64, mut v1: u64, mut v2: u64) {
  return;
 }
 
+// Overwrites the stack below the caller.
+#[inline(never)]
+unsafe fn digest_wiping_scrub_stack_3072() {
+    let mut room = [0_u64; 640];
+    for word in room.iter_mut() {
+        core::ptr::write_volatile(word, 0);
+    }
+}
+
 // blake2_ffi::blake2bp::absorb_scrubbed
 #[inline(never)]
 unsafe fn ffi_blake2bp_absorb_scrubbed(mut v0: u64, mut v1: u64, mut v2: u64) {
@@ -8211,36 +8023,25 @@ unsafe fn ffi_blake2bp_is_digest_of(mut v0: u64, mut v1: u64, mut v2: u64) -> u3
 #[inline(never)]
 unsafe fn exported_blake2bp_verify(mut v0: u64, mut v1: u64, mut v2: u64) -> u32 {
  let mut v4: u32;
- let mut v5: u32;
+ let mut v5: u64;
  let mut v6: u64;
- let mut v7: u32;
- v4 = 0;
- v5 = 0;
+ v4 = 0xffffffff;
  'l2: loop {
  if load64(v0.plus(1496)).minus(1) > 63 { break 'l2; }
- v5 = 0;
- v6 = load64(v0.plus(264));
- if v6 > 896 { break 'l2; }
- v5 = 0;
- if load64(v0.plus(256)) > ((!v6) >> 2) { break 'l2; }
- v5 = (load64(v0.plus(1488)) < 513) as u32;
- break 'l2; }
- 'l3: loop {
- if load64(v0.plus(256)) != 0 { break 'l3; }
- v4 = (load64(v0.plus(1488)) != 0) as u32;
- break 'l3; }
- v7 = 0xffffffff;
- 'l4: loop {
- if v5 == 0 { break 'l4; }
- v5 = ffi_blake2bp_is_digest_of(v0, v1.plus(if v1 == 0 { 4096_u64 } else { 0 }), v2);
+ v5 = load64(v0.plus(264));
+ if v5 > 896 { break 'l2; }
+ v6 = load64(v0.plus(256));
+ if v6 > ((!v5) >> 2) { break 'l2; }
+ if load64(v0.plus(1488)).minus(513) < 0xfffffffffffffe00 { break 'l2; }
+ v4 = ffi_blake2bp_is_digest_of(v0, v1.plus(if v1 == 0 { 4096_u64 } else { 0 }), v2);
  fill(v0, 0, 1632);
- v7 = v5.minus(1);
- break 'l4; }
- 'l5: loop {
- if v4 == 0 { break 'l5; }
+ 'l3: loop {
+ if v6 != 0 { break 'l3; }
  digest_wiping_scrub_stack_5632();
- break 'l5; }
- return v7;
+ break 'l3; }
+ v4 = v4.minus(1);
+ break 'l2; }
+ return v4;
 }
 
 // blake2_ffi::blake2bp::start_again
@@ -11286,36 +11087,25 @@ unsafe fn ffi_blake2sp_is_digest_of(mut v0: u64, mut v1: u64, mut v2: u64) -> u3
 #[inline(never)]
 unsafe fn exported_blake2sp_verify(mut v0: u64, mut v1: u64, mut v2: u64) -> u32 {
  let mut v4: u32;
- let mut v5: u32;
+ let mut v5: u64;
  let mut v6: u64;
- let mut v7: u32;
- v4 = 0;
- v5 = 0;
+ v4 = 0xffffffff;
  'l2: loop {
  if load64(v0.plus(1528)).minus(1) > 31 { break 'l2; }
- v5 = 0;
- v6 = load64(v0.plus(264));
- if v6 > 960 { break 'l2; }
- v5 = 0;
- if load64(v0.plus(256)) > ((!v6) >> 3) { break 'l2; }
- v5 = (load64(v0.plus(1520)) < 513) as u32;
- break 'l2; }
- 'l3: loop {
- if load64(v0.plus(256)) != 0 { break 'l3; }
- v4 = (load64(v0.plus(1520)) != 0) as u32;
- break 'l3; }
- v7 = 0xffffffff;
- 'l4: loop {
- if v5 == 0 { break 'l4; }
- v5 = ffi_blake2sp_is_digest_of(v0, v1.plus(if v1 == 0 { 4096_u64 } else { 0 }), v2);
+ v5 = load64(v0.plus(264));
+ if v5 > 960 { break 'l2; }
+ v6 = load64(v0.plus(256));
+ if v6 > ((!v5) >> 3) { break 'l2; }
+ if load64(v0.plus(1520)).minus(513) < 0xfffffffffffffe00 { break 'l2; }
+ v4 = ffi_blake2sp_is_digest_of(v0, v1.plus(if v1 == 0 { 4096_u64 } else { 0 }), v2);
  fill(v0, 0, 1600);
- v7 = v5.minus(1);
- break 'l4; }
- 'l5: loop {
- if v4 == 0 { break 'l5; }
+ 'l3: loop {
+ if v6 != 0 { break 'l3; }
  digest_wiping_scrub_stack_5632();
- break 'l5; }
- return v7;
+ break 'l3; }
+ v4 = v4.minus(1);
+ break 'l2; }
+ return v4;
 }
 
 // blake2_ffi::blake2sp::start_again
@@ -11570,15 +11360,15 @@ unsafe fn xof_blake2xb_State_squeeze(mut v0: u64, mut v1: u64, mut v2: u64) {
  let top = (address!(frame)).plus(272) & !15;
  v3 = top.minus(256);
  'l2: loop {
- v4 = v0.plus(536);
+ v4 = v0.plus(456);
  if load64(v4) != 0 { break 'l2; }
- state_blake2b_State_write_digest(v0, v0.plus(424));
+ state_blake2b_State_write_digest(v0, v0.plus(344));
  store64(v4, 1);
  break 'l2; }
  'l3: loop {
  if v2 == 0 { break 'l3; }
- v4 = v0.plus(424);
- v5 = load64(v0.plus(528));
+ v4 = v0.plus(344);
+ v5 = load64(v0.plus(448));
  v6 = v3.plus(128).plus(64);
  v7 = 0;
  'l4: loop {
@@ -11593,11 +11383,11 @@ unsafe fn xof_blake2xb_State_squeeze(mut v0: u64, mut v1: u64, mut v2: u64) {
  store64(v3 + 168, load64(v4 + 40));
  store64(v3 + 176, load64(v4 + 48));
  store64(v3 + 184, load64(v4 + 56));
- store64(v3 + 120, load64(v0.plus(512)) ^ 0x5be0cd19137e2179);
- store64(v3 + 112, load64(v0.plus(504)) ^ 0x1f83d9abfb41bd6b);
- store64(v3 + 104, load64(v0.plus(496)) ^ 0x9b05688c2b3e6c1f);
- store64(v3 + 96, load64(v0.plus(488)) ^ 0x510e527fade682d1);
- v8 = load64(v0.plus(520));
+ store64(v3 + 120, load64(v0.plus(432)) ^ 0x5be0cd19137e2179);
+ store64(v3 + 112, load64(v0.plus(424)) ^ 0x1f83d9abfb41bd6b);
+ store64(v3 + 104, load64(v0.plus(416)) ^ 0x9b05688c2b3e6c1f);
+ store64(v3 + 96, load64(v0.plus(408)) ^ 0x510e527fade682d1);
+ v8 = load64(v0.plus(440));
  store64(v3 + 72, (v8 << 32).plus(v5 >> 6) ^ 0xbb67ae8584caa73b);
  v8 = if v8 == 0xffffffff { 0x4000000000 } else { v8 };
  v9 = v8.minus(v5 & 0xffffffffffffffc0);
@@ -11620,7 +11410,7 @@ unsafe fn xof_blake2xb_State_squeeze(mut v0: u64, mut v1: u64, mut v2: u64) {
  if v8 == 0 { break 'l5; }
  copy(v1.plus(v7), v3.plus(v9), v8);
  break 'l5; }
- v5 = v0.plus(528);
+ v5 = v0.plus(448);
  t0 = v5;
  v5 = load64(v5).plus(v8);
  store64(t0, v5);
@@ -11637,96 +11427,110 @@ unsafe fn ffi_blake2xb_write(mut v0: u64, mut v1: u64, mut v2: u64, mut v3: u64,
         v5: u64) -> u32 {
  let mut v6: u64;
  let mut v7: u32;
- let mut v8: u64;
+ let mut v8: u32;
  let mut v9: u32;
  let mut v10: u32;
  let mut v11: u64;
  let mut v12: u64;
  let mut v13: u64;
- let mut frame = [0_u64; 134];
- let top = (address!(frame)).plus(1072) & !15;
- v6 = top.minus(1056);
+ let mut frame = [0_u64; 100];
+ let top = (address!(frame)).plus(800) & !15;
+ v6 = top.minus(784);
  v7 = 0xffffffff;
  'l2: loop {
  if v1 >= 0xffffffff { break 'l2; }
  if v1 == 0 { break 'l2; }
  if v5 > 64 { break 'l2; }
- v8 = 0;
- v9 = ((v1 >> 16) & 0xffff) as u32;
- v10 = v1 as u32;
+ v8 = ((v1 >> 16) & 0xffff) as u32;
+ v9 = v1 as u32;
  'l3: loop {
  'l4: loop {
  if v5 != 0 { break 'l4; }
- fill(v6.plus(672), 0, 128);
- fill(v6.plus(800), 0, 128);
- v4 = ((((v10 & 0xffff) | (v9 << 16)) as u64) << 32) ^ 0xbb67ae8584caa73b;
+ v10 = 0;
+ fill(v6.plus(528), 0, 128);
+ fill(v6 + 464, 0, 64);
+ v4 = ((((v9 & 0xffff) | (v8 << 16)) as u64) << 32) ^ 0xbb67ae8584caa73b;
  v11 = 0xa54ff53a5f1d36f1;
  v12 = 0x3c6ef372fe94f82b;
  v13 = 0x6a09e667f2bdc948;
  break 'l3;
  }
- v8 = 128;
  'l5: loop {
- v11 = 128_u64.minus(v5);
+ v11 = if v5 > 63 { 0 } else { 64_u64.minus(v5) };
  if v11 == 0 { break 'l5; }
- fill(v6.plus(800).plus(v5), 0, v11);
+ fill(v6.plus(464).plus(v5), 0, v11);
  break 'l5; }
  'l6: loop {
  if v5 == 0 { break 'l6; }
- copy(v6.plus(800), v4, v5);
+ copy(v6.plus(464), v4, v5);
  break 'l6; }
- copy(v6.plus(672), v6.plus(800), 128);
- v4 = ((((v10 & 0xffff) | (v9 << 16)) as u64) << 32) ^ 0xbb67ae8584caa73b;
+ fill(v6 + 592, 0, 64);
+ store64(v6 + 528, load64(v6 + 464));
+ store64(v6 + 536, load64(v6 + 472));
+ store64(v6 + 544, load64(v6 + 480));
+ store64(v6 + 552, load64(v6 + 488));
+ store64(v6 + 560, load64(v6 + 496));
+ store64(v6 + 568, load64(v6 + 504));
+ store64(v6 + 576, load64(v6 + 512));
+ store64(v6 + 584, load64(v6 + 520));
+ v4 = ((((v9 & 0xffff) | (v8 << 16)) as u64) << 32) ^ 0xbb67ae8584caa73b;
  v13 = ((((v5 as u32) << 8) | 0x1010040) as u64) ^ 0x6a09e667f3bcc908;
+ v10 = 128;
  v11 = 0xa54ff53a5f1d36f1;
  v12 = 0x3c6ef372fe94f82b;
  break 'l3; }
- fill(v6 + 960, 0, 96);
- copy(v6, v6.plus(672), 128);
- store64(v6 + 288, 0);
- store64(v6 + 280, 64);
- store64(v6 + 272, v8);
- store64(v6 + 264, v8);
- store64(v6 + 256, 0);
- store64(v6 + 248, 0x5be0cd19137e2179);
- store64(v6 + 240, 0x1f83d9abfb41bd6b);
- store64(v6 + 232, 0x9b05688c2b3e6c1f);
- store64(v6 + 224, 0x510e527fade682d1);
- store64(v6 + 216, v11);
- store64(v6 + 208, v12);
- store64(v6 + 200, v4);
- store64(v6 + 192, v13);
- store64(v6 + 184, 0x5be0cd19137e2179);
- store64(v6 + 176, 0x1f83d9abfb41bd6b);
- store64(v6 + 168, 0x9b05688c2b3e6c1f);
- store64(v6 + 160, 0x510e527fade682d1);
- store64(v6 + 152, v11);
- store64(v6 + 144, v12);
- store64(v6 + 136, v4);
- store64(v6 + 128, v13);
- v4 = v6.plus(296);
- copy(v4, v6, 128);
- copy(v6.plus(424), v6.plus(800), 128);
- copy(v6.plus(552), v6.plus(960), 96);
- store64(v6 + 656, 0);
- store64(v6 + 648, v1);
- store64(v6 + 664, 0);
- if v3 > (!v8) { break 'l2; }
+ fill(v6 + 688, 0, 96);
+ store64(v6, v13);
+ store64(v6 + 8, v4);
+ store64(v6 + 16, v12);
+ store64(v6 + 24, v11);
+ store64(v6 + 32, 0x510e527fade682d1);
+ store64(v6 + 40, 0x9b05688c2b3e6c1f);
+ store64(v6 + 48, 0x1f83d9abfb41bd6b);
+ store64(v6 + 56, 0x5be0cd19137e2179);
+ store64(v6 + 64, v13);
+ store64(v6 + 72, v4);
+ store64(v6 + 80, v12);
+ store64(v6 + 88, v11);
+ store64(v6 + 96, 0x510e527fade682d1);
+ store64(v6 + 104, 0x9b05688c2b3e6c1f);
+ store64(v6 + 112, 0x1f83d9abfb41bd6b);
+ store64(v6 + 120, 0x5be0cd19137e2179);
+ store64(v6 + 128, 0);
+ store32(v6 + 136, v10 as u64);
+ store32(v6 + 140, v10 as u64);
+ store64(v6 + 144, 64);
+ v4 = v6.plus(152);
+ copy(v4, v6.plus(528), 128);
+ store64(v6 + 336, load64(v6 + 520));
+ store64(v6 + 328, load64(v6 + 512));
+ store64(v6 + 320, load64(v6 + 504));
+ store64(v6 + 312, load64(v6 + 496));
+ store64(v6 + 304, load64(v6 + 488));
+ store64(v6 + 296, load64(v6 + 480));
+ store64(v6 + 288, load64(v6 + 472));
+ store64(v6 + 280, load64(v6 + 464));
+ copy(v6.plus(344), v6.plus(688), 96);
+ store64(v6 + 448, 0);
+ store64(v6 + 440, v1);
+ store64(v6 + 456, 0);
+ v11 = v10 as u64;
+ if v3 > (!v11) { break 'l2; }
  'l7: loop {
  'l8: loop {
  if v3 == 1 { break 'l8; }
- state_blake2b_State_take(v6.plus(128), v2, v3);
+ state_blake2b_State_take(v6, v2, v3);
  break 'l7;
  }
  'l9: loop {
  if v5 == 0 { break 'l9; }
- state_blake2b_State_take(v6.plus(128), v2, 1);
+ state_blake2b_State_take(v6, v2, 1);
  break 'l7;
  }
- store8(v4.plus(v8), load8(v2) as u64);
- store64(v6 + 264, v8 | 1);
+ store8(v4.plus(v11), load8(v2) as u64);
+ store32(v6 + 136, (v10 | 1) as u64);
  break 'l7; }
- xof_blake2xb_State_squeeze(v6.plus(128), v0, v1);
+ xof_blake2xb_State_squeeze(v6, v0, v1);
  v7 = 0;
  break 'l2; }
  return v7;
@@ -11775,139 +11579,152 @@ unsafe fn exported_blake2xb_derive_key(mut v0: u64, mut v1: u64, mut v2: u64, mu
 unsafe fn ffi_blake2xb_initialize(mut v0: u64, mut v1: u64, mut v2: u64, mut v3: u64, mut v4: u64,
         mut v5: u64, mut v6: u64, mut v7: u64) -> u32 {
  let mut v8: u64;
- let mut v10: u64;
+ let mut v10: u32;
  let mut v11: u32;
- let mut v12: u32;
+ let mut v12: u64;
  let mut v13: u64;
  let mut v14: u64;
- let mut v15: u64;
+ let mut v15: u32;
  let mut v16: u64;
  let mut v17: u64;
  let mut v18: u64;
- let mut frame = [0_u64; 74];
- let top = (address!(frame)).plus(592) & !15;
+ let mut frame = [0_u64; 50];
+ let top = (address!(frame)).plus(400) & !15;
  v8 = top;
- v8 = v8.minus(544) & 0xffffffffffffffe0;
+ v8 = v8.minus(352) & 0xffffffffffffffe0;
  'l2: loop {
  if v1.minus(1) > 0xfffffffe { break 'l2; }
  if v3 > 64 { break 'l2; }
  if v5 > 16 { break 'l2; }
  if v7 > 16 { break 'l2; }
- v10 = 0;
- v11 = ((v1 >> 16) & 0xffff) as u32;
- v12 = v1 as u32;
+ v10 = ((v1 >> 16) & 0xffff) as u32;
+ v11 = v1 as u32;
  'l3: loop {
  'l4: loop {
  if v3 != 0 { break 'l4; }
- fill(v8 + 384, 0, 32);
+ fill(v8 + 192, 0, 32);
  'l5: loop {
  if v5 == 0 { break 'l5; }
- copy(v8.plus(384), v4, v5);
+ copy(v8.plus(192), v4, v5);
  break 'l5; }
  'l6: loop {
  if v7 == 0 { break 'l6; }
- copy(v8.plus(384) | 16, v6, v7);
+ copy(v8.plus(192) | 16, v6, v7);
  break 'l6; }
- v3 = load64(v8 + 384);
- v13 = load64(v8 + 392);
- v14 = load64(v8 + 400);
- v15 = load64(v8 + 408);
- fill(v8.plus(128), 0, 128);
- fill(v8.plus(256), 0, 128);
- v2 = ((((v12 & 0xffff) | (v11 << 16)) as u64) << 32) ^ 0xbb67ae8584caa73b;
- v15 ^= 0x5be0cd19137e2179;
- v14 ^= 0x1f83d9abfb41bd6b;
- v13 ^= 0x9b05688c2b3e6c1f;
+ v3 = load64(v8 + 192);
+ v12 = load64(v8 + 200);
+ v13 = load64(v8 + 208);
+ v14 = load64(v8 + 216);
+ v15 = 0;
+ fill(v8.plus(64), 0, 128);
+ fill(v8, 0, 64);
+ v2 = ((((v11 & 0xffff) | (v10 << 16)) as u64) << 32) ^ 0xbb67ae8584caa73b;
+ v14 ^= 0x5be0cd19137e2179;
+ v13 ^= 0x1f83d9abfb41bd6b;
+ v12 ^= 0x9b05688c2b3e6c1f;
  v16 = v3 ^ 0x510e527fade682d1;
  v3 = 0xa54ff53a5f1d36f1;
  v17 = 0x3c6ef372fe94f82b;
  v18 = 0x6a09e667f2bdc948;
  break 'l3;
  }
- fill(v8 + 384, 0, 32);
+ fill(v8 + 192, 0, 32);
  'l7: loop {
  if v5 == 0 { break 'l7; }
- copy(v8.plus(384), v4, v5);
+ copy(v8.plus(192), v4, v5);
  break 'l7; }
  'l8: loop {
  if v7 == 0 { break 'l8; }
- copy(v8.plus(384) | 16, v6, v7);
+ copy(v8.plus(192) | 16, v6, v7);
  break 'l8; }
- v10 = 128;
- v16 = load64(v8 + 384);
- v13 = load64(v8 + 392);
- v14 = load64(v8 + 400);
- v15 = load64(v8 + 408);
+ v16 = load64(v8 + 192);
+ v12 = load64(v8 + 200);
+ v13 = load64(v8 + 208);
+ v14 = load64(v8 + 216);
  'l9: loop {
- v17 = 128_u64.minus(v3);
+ v17 = if v3 > 63 { 0 } else { 64_u64.minus(v3) };
  if v17 == 0 { break 'l9; }
- fill(v8.plus(256).plus(v3), 0, v17);
+ fill(v8.plus(v3), 0, v17);
  break 'l9; }
  'l10: loop {
  if v3 == 0 { break 'l10; }
- copy(v8.plus(256), v2, v3);
+ copy(v8, v2, v3);
  break 'l10; }
- copy(v8.plus(128), v8.plus(256), 128);
- v2 = ((((v12 & 0xffff) | (v11 << 16)) as u64) << 32) ^ 0xbb67ae8584caa73b;
- v15 ^= 0x5be0cd19137e2179;
- v14 ^= 0x1f83d9abfb41bd6b;
- v13 ^= 0x9b05688c2b3e6c1f;
+ fill(v8 + 128, 0, 64);
+ store64(v8 + 64, load64(v8));
+ store64(v8 + 72, load64(v8 + 8));
+ store64(v8 + 80, load64(v8 + 16));
+ store64(v8 + 88, load64(v8 + 24));
+ store64(v8 + 96, load64(v8 + 32));
+ store64(v8 + 104, load64(v8 + 40));
+ store64(v8 + 112, load64(v8 + 48));
+ store64(v8 + 120, load64(v8 + 56));
+ v2 = ((((v11 & 0xffff) | (v10 << 16)) as u64) << 32) ^ 0xbb67ae8584caa73b;
+ v14 ^= 0x5be0cd19137e2179;
+ v13 ^= 0x1f83d9abfb41bd6b;
+ v12 ^= 0x9b05688c2b3e6c1f;
  v16 ^= 0x510e527fade682d1;
  v18 = ((((v3 as u32) << 8) | 0x1010040) as u64) ^ 0x6a09e667f3bcc908;
+ v15 = 128;
  v3 = 0xa54ff53a5f1d36f1;
  v17 = 0x3c6ef372fe94f82b;
  break 'l3; }
- fill(v8 + 512, 0, 16);
+ fill(v8 + 320, 0, 16);
  'l11: loop {
  if v5 == 0 { break 'l11; }
- copy(v8.plus(512), v4, v5);
+ copy(v8.plus(320), v4, v5);
  break 'l11; }
- store64(v8 + 392, load64(v8 + 520));
- store64(v8 + 384, load64(v8 + 512));
- fill(v8 + 528, 0, 16);
+ store64(v8 + 200, load64(v8 + 328));
+ store64(v8 + 192, load64(v8 + 320));
+ fill(v8 + 336, 0, 16);
  'l12: loop {
  if v7 == 0 { break 'l12; }
- copy(v8.plus(528), v6, v7);
+ copy(v8.plus(336), v6, v7);
  break 'l12; }
- v5 = load64(v8 + 528);
- store64(v8 + 512, v5);
- fill(v8 + 416, 0, 64);
- store64(v8 + 400, v5);
- store64(v8 + 504, load64(v8 + 536));
- store64(v8 + 496, v5);
- store64(v8 + 488, load64(v8 + 392));
- store64(v8 + 480, load64(v8 + 384));
- copy(v8, v8.plus(128), 128);
- store64(v0 + 160, 0);
- store64(v0 + 152, 64);
- store64(v0 + 144, v10);
- store64(v0 + 136, v10);
+ v5 = load64(v8 + 336);
+ store64(v8 + 320, v5);
+ fill(v8 + 224, 0, 64);
+ store64(v8 + 208, v5);
+ store64(v8 + 312, load64(v8 + 344));
+ store64(v8 + 304, v5);
+ store64(v8 + 296, load64(v8 + 200));
+ store64(v8 + 288, load64(v8 + 192));
+ store64(v0 + 144, 64);
+ store32(v0 + 140, v15 as u64);
+ store32(v0 + 136, v15 as u64);
  store64(v0 + 128, 0);
- store64(v0 + 120, v15);
- store64(v0 + 112, v14);
- store64(v0 + 104, v13);
+ store64(v0 + 120, v14);
+ store64(v0 + 112, v13);
+ store64(v0 + 104, v12);
  store64(v0 + 96, v16);
  store64(v0 + 88, v3);
  store64(v0 + 80, v17);
  store64(v0 + 72, v2);
  store64(v0 + 64, v18);
- store64(v0 + 56, v15);
- store64(v0 + 48, v14);
- store64(v0 + 40, v13);
+ store64(v0 + 56, v14);
+ store64(v0 + 48, v13);
+ store64(v0 + 40, v12);
  store64(v0 + 32, v16);
  store64(v0 + 24, v3);
  store64(v0 + 16, v17);
  store64(v0 + 8, v2);
  store64(v0, v18);
- copy(v0.plus(168), v8, 128);
- copy(v0.plus(296), v8.plus(256), 128);
- copy(v0.plus(424), v8.plus(416), 96);
- store64(v0 + 528, 0);
- store64(v0 + 520, v1);
- store64(v0 + 536, 0);
+ copy(v0.plus(152), v8.plus(64), 128);
+ store64(v0 + 336, load64(v8 + 56));
+ store64(v0 + 328, load64(v8 + 48));
+ store64(v0 + 320, load64(v8 + 40));
+ store64(v0 + 312, load64(v8 + 32));
+ store64(v0 + 304, load64(v8 + 24));
+ store64(v0 + 296, load64(v8 + 16));
+ store64(v0 + 288, load64(v8 + 8));
+ store64(v0 + 280, load64(v8));
+ copy(v0.plus(344), v8.plus(224), 96);
+ store64(v0 + 448, 0);
+ store64(v0 + 440, v1);
+ store64(v0 + 456, 0);
  return 0;
  }
- fill(v0, 0, 544);
+ fill(v0, 0, 464);
  return 0xffffffff;
 }
 
@@ -11937,7 +11754,7 @@ unsafe fn exported_blake2xb_init_salt_personal(mut v0: u64, mut v1: u64, mut v2:
 // blake2_ffi::blake2xb::absorb
 #[inline(never)]
 unsafe fn ffi_blake2xb_absorb(mut v0: u64, mut v1: u64, mut v2: u64) {
- let mut v4: u64;
+ let mut v4: u32;
  let mut v5: u32;
  'l2: loop {
  if v2 == 1 { break 'l2; }
@@ -11945,15 +11762,15 @@ unsafe fn ffi_blake2xb_absorb(mut v0: u64, mut v1: u64, mut v2: u64) {
  return;
  }
  'l3: loop {
- v4 = v0.plus(136);
- v2 = load64(v4);
- if v2 < 128 { break 'l3; }
+ v2 = v0.plus(136);
+ v4 = load32(v2);
+ if v4 < 128 { break 'l3; }
  state_blake2b_State_take(v0, v1, 1);
  return;
  }
  v5 = load8(v1);
- store64(v4, v2.plus(1));
- store8(v0.plus(v2).plus(168), v5 as u64);
+ store32(v2, v4.plus(1) as u64);
+ store8(v0.plus(v4 as u64).plus(152), v5 as u64);
  return;
 }
 
@@ -11961,35 +11778,37 @@ unsafe fn ffi_blake2xb_absorb(mut v0: u64, mut v1: u64, mut v2: u64) {
 #[inline(never)]
 unsafe fn exported_blake2xb_update(mut v0: u64, mut v1: u64, mut v2: u64) -> u32 {
  let mut v4: u32;
- let mut v5: u64;
- let mut v6: u64;
- let mut v7: u64;
+ let mut v5: u32;
+ let mut v6: u32;
+ let mut v7: u32;
  let mut v8: u64;
  let mut v9: u64;
+ let mut v10: u64;
  v4 = 0xffffffff;
  'l2: loop {
- v5 = load64(v0.plus(152));
+ v5 = load32(v0.plus(144));
  if v5.minus(1) > 63 { break 'l2; }
- v6 = load64(v0.plus(136));
+ v6 = load32(v0.plus(136));
  if v6 > 128 { break 'l2; }
- v7 = load64(v0.plus(144));
+ v7 = load32(v0.plus(140));
  if v7 > 128 { break 'l2; }
+ v4 = 0xffffffff;
  if v5 != 64 { break 'l2; }
  v8 = load64(v0.plus(128));
- if v8 > (!v6) { break 'l2; }
- v5 = load64(v0.plus(520));
- if v5.minus(1) > 0xfffffffe { break 'l2; }
- v9 = load64(v0.plus(528));
- if v9 > (if v5 == 0xffffffff { 0x4000000000 } else { v5 }) { break 'l2; }
- if (load64(v0.plus(536)) | v9) != 0 { break 'l2; }
- if v2 > (!v8.plus(v6)) { break 'l2; }
- v5 = v1.plus(if v1 == 0 { 4096_u64 } else { 0 });
+ if v8 > sign64((!v6) as u64, 0x80000000) { break 'l2; }
+ v9 = load64(v0.plus(440));
+ if v9.minus(1) > 0xfffffffe { break 'l2; }
+ v10 = load64(v0.plus(448));
+ if v10 > (if v9 == 0xffffffff { 0x4000000000 } else { v9 }) { break 'l2; }
+ if (load64(v0.plus(456)) | v10) != 0 { break 'l2; }
+ if v2 > (!v8.plus(v6 as u64)) { break 'l2; }
+ v1 = v1.plus(if v1 == 0 { 4096_u64 } else { 0 });
  'l3: loop {
  if v8 == 0 { break 'l3; }
- ffi_blake2xb_absorb(v0, v5, v2);
+ ffi_blake2xb_absorb(v0, v1, v2);
  return 0;
  }
- ffi_blake2xb_absorb(v0, v5, v2);
+ ffi_blake2xb_absorb(v0, v1, v2);
  v4 = 0;
  if v7 == 0 { break 'l2; }
  digest_wiping_scrub_stack_3072();
@@ -12017,25 +11836,28 @@ unsafe fn digest_wiping_scrub_stack_4096() {
 #[inline(never)]
 unsafe fn exported_blake2xb_squeeze(mut v0: u64, mut v1: u64, mut v2: u64) -> u32 {
  let mut v4: u32;
- let mut v5: u64;
- let mut v6: u64;
- let mut v7: u64;
+ let mut v5: u32;
+ let mut v6: u32;
+ let mut v7: u32;
+ let mut v8: u64;
+ let mut v9: u64;
  v4 = 0xffffffff;
  'l2: loop {
- v5 = load64(v0.plus(152));
+ v5 = load32(v0.plus(144));
  if v5.minus(1) > 63 { break 'l2; }
- v6 = load64(v0.plus(136));
+ v6 = load32(v0.plus(136));
  if v6 > 128 { break 'l2; }
- v7 = load64(v0.plus(144));
+ v7 = load32(v0.plus(140));
  if v7 > 128 { break 'l2; }
+ v4 = 0xffffffff;
  if v5 != 64 { break 'l2; }
- if load64(v0.plus(128)) > (!v6) { break 'l2; }
- v5 = load64(v0.plus(520));
- if v5.minus(1) > 0xfffffffe { break 'l2; }
- v5 = if v5 == 0xffffffff { 0x4000000000 } else { v5 };
- v6 = load64(v0.plus(528));
- if v5 < v6 { break 'l2; }
- if v5.minus(v6) < v2 { break 'l2; }
+ if load64(v0.plus(128)) > sign64((!v6) as u64, 0x80000000) { break 'l2; }
+ v8 = load64(v0.plus(440));
+ if v8.minus(1) > 0xfffffffe { break 'l2; }
+ v8 = if v8 == 0xffffffff { 0x4000000000 } else { v8 };
+ v9 = load64(v0.plus(448));
+ if v8 < v9 { break 'l2; }
+ if v8.minus(v9) < v2 { break 'l2; }
  ffi_blake2xb_read(v0, v1.plus(if v1 == 0 { 4096_u64 } else { 0 }), v2);
  v4 = 0;
  if v7 == 0 { break 'l2; }
@@ -12047,6 +11869,7 @@ unsafe fn exported_blake2xb_squeeze(mut v0: u64, mut v1: u64, mut v2: u64) -> u3
 // blake2_ffi::blake2xb::start_again
 #[inline(never)]
 unsafe fn ffi_blake2xb_start_again(mut v0: u64) {
+ let mut v1: u32;
  store64(v0.plus(128), 0);
  store64(v0 + 56, load64(v0.plus(120)));
  store64(v0 + 48, load64(v0.plus(112)));
@@ -12056,18 +11879,34 @@ unsafe fn ffi_blake2xb_start_again(mut v0: u64) {
  store64(v0 + 16, load64(v0.plus(80)));
  store64(v0 + 8, load64(v0.plus(72)));
  store64(v0, load64(v0.plus(64)));
- store64(v0.plus(136), load64(v0.plus(144)));
- copy(v0.plus(168), v0.plus(296), 128);
- store64(v0.plus(480), 0);
- store64(v0.plus(472), 0);
- store64(v0.plus(464), 0);
+ v1 = load32(v0.plus(140));
+ store64(v0.plus(272), 0);
+ store32(v0.plus(136), v1 as u64);
+ store64(v0.plus(264), 0);
+ store64(v0.plus(256), 0);
+ store64(v0.plus(248), 0);
+ store64(v0.plus(240), 0);
+ store64(v0.plus(232), 0);
+ store64(v0.plus(224), 0);
+ store64(v0.plus(216), 0);
+ store64(v0.plus(208), load64(v0.plus(336)));
+ store64(v0.plus(200), load64(v0.plus(328)));
+ store64(v0.plus(192), load64(v0.plus(320)));
+ store64(v0.plus(184), load64(v0.plus(312)));
+ store64(v0.plus(176), load64(v0.plus(304)));
+ store64(v0.plus(168), load64(v0.plus(296)));
+ store64(v0.plus(160), load64(v0.plus(288)));
+ store64(v0.plus(152), load64(v0.plus(280)));
+ store64(v0.plus(400), 0);
+ store64(v0.plus(392), 0);
+ store64(v0.plus(384), 0);
+ store64(v0.plus(376), 0);
+ store64(v0.plus(368), 0);
+ store64(v0.plus(360), 0);
+ store64(v0.plus(352), 0);
+ store64(v0.plus(344), 0);
  store64(v0.plus(456), 0);
  store64(v0.plus(448), 0);
- store64(v0.plus(440), 0);
- store64(v0.plus(432), 0);
- store64(v0.plus(424), 0);
- store64(v0.plus(528), 0);
- store64(v0.plus(536), 0);
  return;
 }
 
@@ -12075,22 +11914,24 @@ unsafe fn ffi_blake2xb_start_again(mut v0: u64) {
 #[inline(never)]
 unsafe fn exported_blake2xb_reset(mut v0: u64) -> u32 {
  let mut v2: u32;
- let mut v3: u64;
- let mut v4: u64;
- let mut v5: u64;
+ let mut v3: u32;
+ let mut v4: u32;
+ let mut v5: u32;
+ let mut v6: u64;
  v2 = 0xffffffff;
  'l2: loop {
- v3 = load64(v0.plus(152));
+ v3 = load32(v0.plus(144));
  if v3.minus(1) > 63 { break 'l2; }
- v4 = load64(v0.plus(136));
+ v4 = load32(v0.plus(136));
  if v4 > 128 { break 'l2; }
- v5 = load64(v0.plus(144));
+ v5 = load32(v0.plus(140));
  if v5 > 128 { break 'l2; }
+ v2 = 0xffffffff;
  if v3 != 64 { break 'l2; }
- if load64(v0.plus(128)) > (!v4) { break 'l2; }
- v3 = load64(v0.plus(520));
- if v3.minus(1) > 0xfffffffe { break 'l2; }
- if load64(v0.plus(528)) > (if v3 == 0xffffffff { 0x4000000000 } else { v3 }) { break 'l2; }
+ if load64(v0.plus(128)) > sign64((!v4) as u64, 0x80000000) { break 'l2; }
+ v6 = load64(v0.plus(440));
+ if v6.minus(1) > 0xfffffffe { break 'l2; }
+ if load64(v0.plus(448)) > (if v6 == 0xffffffff { 0x4000000000 } else { v6 }) { break 'l2; }
  ffi_blake2xb_start_again(v0);
  v2 = 0;
  if v5 == 0 { break 'l2; }
@@ -12105,28 +11946,29 @@ unsafe fn exported_blake2xb_wipe(mut v0: u64) {
  'l1: loop {
  break 'l1;
  }
- fill(v0, 0, 544);
+ fill(v0, 0, 464);
 }
 
 // rattle::export vulfsjor_ffi_blake2xb_left
 #[inline(never)]
 unsafe fn exported_blake2xb_left(mut v0: u64) -> u64 {
  let mut v1: u64;
- let mut v2: u64;
- let mut v3: u64;
+ let mut v2: u32;
+ let mut v3: u32;
+ let mut v4: u64;
  v1 = 0;
  'l2: loop {
- v2 = load64(v0.plus(152));
+ v2 = load32(v0.plus(144));
  if v2.minus(1) > 63 { break 'l2; }
- v3 = load64(v0.plus(136));
+ v3 = load32(v0.plus(136));
  if v3 > 128 { break 'l2; }
- if load64(v0.plus(144)) > 128 { break 'l2; }
+ if load32(v0.plus(140)) > 128 { break 'l2; }
  if v2 != 64 { break 'l2; }
- if load64(v0.plus(128)) > (!v3) { break 'l2; }
- v2 = load64(v0.plus(520));
- if v2.minus(1) > 0xfffffffe { break 'l2; }
- v1 = if v2 == 0xffffffff { 0x4000000000 } else { v2 };
- v0 = v1.minus(load64(v0.plus(528)));
+ if load64(v0.plus(128)) > sign64((!v3) as u64, 0x80000000) { break 'l2; }
+ v4 = load64(v0.plus(440));
+ if v4.minus(1) > 0xfffffffe { break 'l2; }
+ v1 = if v4 == 0xffffffff { 0x4000000000 } else { v4 };
+ v0 = v1.minus(load64(v0.plus(448)));
  v1 = if v0 > v1 { 0 } else { v0 };
  break 'l2; }
  return v1;
@@ -12136,26 +11978,27 @@ unsafe fn exported_blake2xb_left(mut v0: u64) -> u64 {
 #[inline(never)]
 unsafe fn exported_blake2xb_count(mut v0: u64) -> u64 {
  let mut v1: u64;
- let mut v2: u64;
- let mut v3: u64;
- let mut v4: u64;
+ let mut v2: u32;
+ let mut v3: u32;
+ let mut v4: u32;
  let mut v5: u64;
+ let mut v6: u64;
  v1 = 0;
  'l2: loop {
- v2 = load64(v0.plus(152));
+ v2 = load32(v0.plus(144));
  if v2.minus(1) > 63 { break 'l2; }
- v3 = load64(v0.plus(136));
+ v3 = load32(v0.plus(136));
  if v3 > 128 { break 'l2; }
- v4 = load64(v0.plus(144));
+ v4 = load32(v0.plus(140));
  if v4 > 128 { break 'l2; }
  if v2 != 64 { break 'l2; }
  v5 = load64(v0.plus(128));
- if v5 > (!v3) { break 'l2; }
- v2 = load64(v0.plus(520));
- if v2.minus(1) > 0xfffffffe { break 'l2; }
- if load64(v0.plus(528)) > (if v2 == 0xffffffff { 0x4000000000 } else { v2 }) { break 'l2; }
- v0 = v5.plus(v3);
- v1 = v0.minus(v4);
+ if v5 > sign64((!v3) as u64, 0x80000000) { break 'l2; }
+ v6 = load64(v0.plus(440));
+ if v6.minus(1) > 0xfffffffe { break 'l2; }
+ if load64(v0.plus(448)) > (if v6 == 0xffffffff { 0x4000000000 } else { v6 }) { break 'l2; }
+ v0 = v5.plus(v3 as u64);
+ v1 = v0.minus(v4 as u64);
  v1 = if v1 > v0 { 0 } else { v1 };
  break 'l2; }
  return v1;
@@ -12176,7 +12019,7 @@ unsafe fn module_blake2xb_state_size() -> u64 {
  break 'l1;
  }
  exported_blake2xb_state_size();
- return 544;
+ return 464;
 }
 
 // blake2_xof::blake2xs::State::squeeze
@@ -12194,15 +12037,15 @@ unsafe fn xof_blake2xs_State_squeeze(mut v0: u64, mut v1: u64, mut v2: u64) {
  let top = (address!(frame)).plus(144) & !15;
  v3 = top.minus(128);
  'l2: loop {
- v4 = v0.plus(296);
+ v4 = v0.plus(240);
  if load64(v4) != 0 { break 'l2; }
- state_blake2s_State_write_digest(v0, v0.plus(232));
+ state_blake2s_State_write_digest(v0, v0.plus(176));
  store64(v4, 1);
  break 'l2; }
  'l3: loop {
  if v2 == 0 { break 'l3; }
- v4 = v0.plus(232);
- v5 = load64(v0.plus(288));
+ v4 = v0.plus(176);
+ v5 = load64(v0.plus(232));
  v6 = v3.plus(64).plus(32);
  v7 = 0;
  'l4: loop {
@@ -12212,11 +12055,11 @@ unsafe fn xof_blake2xs_State_squeeze(mut v0: u64, mut v1: u64, mut v2: u64) {
  store64(v3 + 72, load64(v4 + 8));
  store64(v3 + 80, load64(v4 + 16));
  store64(v3 + 88, load64(v4 + 24));
- store32(v3 + 60, (load32(v0.plus(276)) ^ 0x5be0cd19) as u64);
- store32(v3 + 56, (load32(v0.plus(272)) ^ 0x1f83d9ab) as u64);
- store32(v3 + 52, (load32(v0.plus(268)) ^ 0x9b05688c) as u64);
- store32(v3 + 48, (load32(v0.plus(264)) ^ 0x510e527f) as u64);
- v8 = load64(v0.plus(280));
+ store32(v3 + 60, (load32(v0.plus(220)) ^ 0x5be0cd19) as u64);
+ store32(v3 + 56, (load32(v0.plus(216)) ^ 0x1f83d9ab) as u64);
+ store32(v3 + 52, (load32(v0.plus(212)) ^ 0x9b05688c) as u64);
+ store32(v3 + 48, (load32(v0.plus(208)) ^ 0x510e527f) as u64);
+ v8 = load64(v0.plus(224));
  v9 = (v8 << 32).plus(v5 >> 5);
  store32(v3 + 40, ((v9 as u32) ^ 0x3c6ef372) as u64);
  store32(v3 + 44, (((((v9 >> 32) as u32) & 0xffff) | 0x20000000) ^ 0xa54ff53a) as u64);
@@ -12237,7 +12080,7 @@ unsafe fn xof_blake2xs_State_squeeze(mut v0: u64, mut v1: u64, mut v2: u64) {
  if v8 == 0 { break 'l5; }
  copy(v1.plus(v7), v3.plus(v9), v8);
  break 'l5; }
- v5 = v0.plus(288);
+ v5 = v0.plus(232);
  t0 = v5;
  v5 = load64(v5).plus(v8);
  store64(t0, v5);
@@ -12255,116 +12098,101 @@ unsafe fn ffi_blake2xs_write(mut v0: u64, mut v1: u64, mut v2: u64, mut v3: u64,
  let mut v6: u64;
  let mut v7: u32;
  let mut v8: u64;
- let mut v9: u64;
+ let mut v9: u32;
  let mut v10: u32;
  let mut v11: u32;
  let mut v12: u32;
  let mut v13: u32;
  let mut v14: u64;
- let mut frame = [0_u64; 64];
- let top = (address!(frame)).plus(512) & !15;
- v6 = top.minus(496);
+ let mut frame = [0_u64; 46];
+ let top = (address!(frame)).plus(368) & !15;
+ v6 = top.minus(352);
  v7 = 0xffffffff;
  'l2: loop {
  if v1 >= 0xffff { break 'l2; }
  if v1 == 0 { break 'l2; }
  if v5 > 32 { break 'l2; }
  v8 = v1 << 32;
- v9 = 0;
  'l3: loop {
  'l4: loop {
  if v5 != 0 { break 'l4; }
- fill(v6 + 368, 0, 128);
- v10 = (v8 as u32) ^ 0x3c6ef372;
- v11 = (((v8 >> 32) as u32) & 0xffff) ^ 0xa54ff53a;
+ fill(v6 + 256, 0, 96);
+ v9 = (v8 as u32) ^ 0x3c6ef372;
+ v10 = (((v8 >> 32) as u32) & 0xffff) ^ 0xa54ff53a;
+ v11 = 0;
  v12 = 0xbb67ae85;
  v13 = 0x6b08e647;
  break 'l3;
  }
- v9 = 64;
  'l5: loop {
- v14 = 64_u64.minus(v5);
+ v14 = if v5 > 31 { 0 } else { 32_u64.minus(v5) };
  if v14 == 0 { break 'l5; }
- fill(v6.plus(432).plus(v5), 0, v14);
+ fill(v6.plus(256).plus(v5), 0, v14);
  break 'l5; }
  'l6: loop {
  if v5 == 0 { break 'l6; }
- copy(v6.plus(432), v4, v5);
+ copy(v6.plus(256), v4, v5);
  break 'l6; }
- store64(v6 + 424, load64(v6 + 488));
- store64(v6 + 416, load64(v6 + 480));
- store64(v6 + 408, load64(v6 + 472));
- store64(v6 + 400, load64(v6 + 464));
- store64(v6 + 392, load64(v6 + 456));
- store64(v6 + 384, load64(v6 + 448));
- store64(v6 + 376, load64(v6 + 440));
- store64(v6 + 368, load64(v6 + 432));
- v10 = (v8 as u32) ^ 0x3c6ef372;
- v11 = (((v8 >> 32) as u32) & 0xffff) ^ 0xa54ff53a;
+ fill(v6 + 320, 0, 32);
+ store64(v6 + 288, load64(v6 + 256));
+ store64(v6 + 296, load64(v6 + 264));
+ store64(v6 + 304, load64(v6 + 272));
+ store64(v6 + 312, load64(v6 + 280));
+ v9 = (v8 as u32) ^ 0x3c6ef372;
+ v10 = (((v8 >> 32) as u32) & 0xffff) ^ 0xa54ff53a;
  v13 = (((v5 as u32) << 8) | 0x1010020) ^ 0x6a09e667;
+ v11 = 64;
  v12 = 0xbb67ae85;
  break 'l3; }
- store64(v6 + 56, load64(v6 + 424));
- store64(v6 + 48, load64(v6 + 416));
- store64(v6 + 40, load64(v6 + 408));
- store64(v6 + 32, load64(v6 + 400));
- store64(v6 + 24, load64(v6 + 392));
- store64(v6 + 16, load64(v6 + 384));
- store64(v6 + 8, load64(v6 + 376));
- store64(v6, load64(v6 + 368));
- store64(v6 + 160, 0);
- store64(v6 + 152, 32);
- store64(v6 + 144, v9);
- store64(v6 + 136, v9);
- store64(v6 + 128, 0);
- store64(v6 + 120, 0x5be0cd191f83d9ab);
- store64(v6 + 112, 0x9b05688c510e527f);
- store32(v6 + 108, v11 as u64);
- store32(v6 + 104, v10 as u64);
- store32(v6 + 100, v12 as u64);
- store32(v6 + 96, v13 as u64);
- store64(v6 + 88, 0x5be0cd191f83d9ab);
- store64(v6 + 80, 0x9b05688c510e527f);
- store32(v6 + 76, v11 as u64);
- store32(v6 + 72, v10 as u64);
- store32(v6 + 68, v12 as u64);
- store32(v6 + 64, v13 as u64);
- store64(v6 + 224, load64(v6 + 56));
- store64(v6 + 216, load64(v6 + 48));
- store64(v6 + 208, load64(v6 + 40));
- store64(v6 + 200, load64(v6 + 32));
- store64(v6 + 192, load64(v6 + 24));
- store64(v6 + 184, load64(v6 + 16));
- store64(v6 + 176, load64(v6 + 8));
- store64(v6 + 168, load64(v6));
- store64(v6 + 232, load64(v6 + 432));
- store64(v6 + 240, load64(v6 + 440));
- store64(v6 + 248, load64(v6 + 448));
- store64(v6 + 256, load64(v6 + 456));
- store64(v6 + 264, load64(v6 + 464));
- store64(v6 + 272, load64(v6 + 472));
- store64(v6 + 280, load64(v6 + 480));
- store64(v6 + 288, load64(v6 + 488));
- fill(v6 + 296, 0, 48);
- store64(v6 + 360, 0);
- store64(v6 + 344, v1);
- store64(v6 + 352, 0);
- if v3 > (!v9) { break 'l2; }
+ store32(v6 + 84, 32);
+ store16(v6 + 82, v11 as u64);
+ store16(v6 + 80, v11 as u64);
+ store64(v6 + 72, 0);
+ store64(v6 + 64, 0x5be0cd191f83d9ab);
+ store64(v6 + 56, 0x9b05688c510e527f);
+ store32(v6 + 52, v10 as u64);
+ store32(v6 + 48, v9 as u64);
+ store32(v6 + 44, v12 as u64);
+ store32(v6 + 40, v13 as u64);
+ store64(v6 + 32, 0x5be0cd191f83d9ab);
+ store64(v6 + 24, 0x9b05688c510e527f);
+ store32(v6 + 20, v10 as u64);
+ store32(v6 + 16, v9 as u64);
+ store32(v6 + 12, v12 as u64);
+ store32(v6 + 8, v13 as u64);
+ store64(v6 + 88, load64(v6 + 288));
+ store64(v6 + 96, load64(v6 + 296));
+ store64(v6 + 104, load64(v6 + 304));
+ store64(v6 + 112, load64(v6 + 312));
+ store64(v6 + 120, load64(v6 + 320));
+ store64(v6 + 128, load64(v6 + 328));
+ store64(v6 + 136, load64(v6 + 336));
+ store64(v6 + 144, load64(v6 + 344));
+ fill(v6 + 184, 0, 48);
+ store64(v6 + 240, 0);
+ store64(v6 + 232, v1);
+ store64(v6 + 248, 0);
+ store64(v6 + 176, load64(v6 + 280));
+ store64(v6 + 168, load64(v6 + 272));
+ store64(v6 + 160, load64(v6 + 264));
+ store64(v6 + 152, load64(v6 + 256));
+ v4 = v11 as u64;
+ if v3 > (!v4) { break 'l2; }
  'l7: loop {
  'l8: loop {
  if v3 == 1 { break 'l8; }
- state_blake2s_State_take(v6.plus(64), v2, v3);
+ state_blake2s_State_take(v6.plus(8), v2, v3);
  break 'l7;
  }
  'l9: loop {
  if v5 == 0 { break 'l9; }
- state_blake2s_State_take(v6.plus(64), v2, 1);
+ state_blake2s_State_take(v6.plus(8), v2, 1);
  break 'l7;
  }
- store8(v6.plus(168).plus(v9), load8(v2) as u64);
- store64(v6 + 136, v9 | 1);
+ store8(v6.plus(88).plus(v4), load8(v2) as u64);
+ store16(v6 + 80, (v11 | 1) as u64);
  break 'l7; }
- xof_blake2xs_State_squeeze(v6.plus(64), v0, v1);
+ xof_blake2xs_State_squeeze(v6.plus(8), v0, v1);
  v7 = 0;
  break 'l2; }
  return v7;
@@ -12405,7 +12233,7 @@ unsafe fn ffi_blake2xs_initialize(mut v0: u64, mut v1: u64, mut v2: u64, mut v3:
         mut v5: u64, mut v6: u64, mut v7: u64) -> u32 {
  let mut v8: u64;
  let mut v9: u64;
- let mut v10: u64;
+ let mut v10: u32;
  let mut v11: u32;
  let mut v12: u32;
  let mut v13: u32;
@@ -12415,151 +12243,129 @@ unsafe fn ffi_blake2xs_initialize(mut v0: u64, mut v1: u64, mut v2: u64, mut v3:
  let mut v17: u32;
  let mut v18: u32;
  let mut v19: u64;
- let mut frame = [0_u64; 28];
- let top = (address!(frame)).plus(224) & !15;
- v8 = top.minus(208);
- 'l1: loop {
- 'l3: loop {
- if v1.minus(1) > 0xfffe { break 'l3; }
- if v3 > 32 { break 'l3; }
- if v5 > 8 { break 'l3; }
- if v7 > 8 { break 'l3; }
+ let mut frame = [0_u64; 16];
+ let top = (address!(frame)).plus(128) & !15;
+ v8 = top.minus(112);
+ 'l2: loop {
+ if v1.minus(1) > 0xfffe { break 'l2; }
+ if v3 > 32 { break 'l2; }
+ if v5 > 8 { break 'l2; }
+ if v7 > 8 { break 'l2; }
  v9 = v1 << 32;
- v10 = 0;
+ 'l3: loop {
  'l4: loop {
+ if v3 != 0 { break 'l4; }
+ fill(v8, 0, 16);
  'l5: loop {
- if v3 != 0 { break 'l5; }
- fill(v8 + 128, 0, 16);
+ if v5 == 0 { break 'l5; }
+ copy(v8, v4, v5);
+ break 'l5; }
  'l6: loop {
- if v5 == 0 { break 'l6; }
- copy(v8.plus(128), v4, v5);
+ if v7 == 0 { break 'l6; }
+ copy(v8 | 8, v6, v7);
  break 'l6; }
- 'l7: loop {
- if v7 == 0 { break 'l7; }
- copy(v8.plus(128) | 8, v6, v7);
- break 'l7; }
- fill(v8 + 64, 0, 64);
- fill(v8 + 144, 0, 64);
- v11 = (v9 as u32) ^ 0x3c6ef372;
- v12 = (((v9 >> 32) as u32) & 0xffff) ^ 0xa54ff53a;
- v13 = load32(v8 + 140) ^ 0x5be0cd19;
- v14 = load32(v8 + 136) ^ 0x1f83d9ab;
- v15 = load32(v8 + 132) ^ 0x9b05688c;
- v16 = load32(v8 + 128) ^ 0x510e527f;
+ fill(v8 + 16, 0, 96);
+ v10 = (v9 as u32) ^ 0x3c6ef372;
+ v11 = (((v9 >> 32) as u32) & 0xffff) ^ 0xa54ff53a;
+ v12 = load32(v8 + 12) ^ 0x5be0cd19;
+ v13 = load32(v8 + 8) ^ 0x1f83d9ab;
+ v14 = load32(v8 + 4) ^ 0x9b05688c;
+ v15 = load32(v8) ^ 0x510e527f;
+ v16 = 0;
  v17 = 0xbb67ae85;
  v18 = 0x6b08e647;
- break 'l4;
+ break 'l3;
  }
- fill(v8 + 128, 0, 16);
+ fill(v8, 0, 16);
+ 'l7: loop {
+ if v5 == 0 { break 'l7; }
+ copy(v8, v4, v5);
+ break 'l7; }
  'l8: loop {
- if v5 == 0 { break 'l8; }
- copy(v8.plus(128), v4, v5);
+ if v7 == 0 { break 'l8; }
+ copy(v8 | 8, v6, v7);
  break 'l8; }
+ v15 = load32(v8);
+ v14 = load32(v8 + 4);
+ v13 = load32(v8 + 8);
+ v12 = load32(v8 + 12);
  'l9: loop {
- if v7 == 0 { break 'l9; }
- copy(v8.plus(128) | 8, v6, v7);
+ v19 = if v3 > 31 { 0 } else { 32_u64.minus(v3) };
+ if v19 == 0 { break 'l9; }
+ fill(v8.plus(16).plus(v3), 0, v19);
  break 'l9; }
- v10 = 64;
- v16 = load32(v8 + 128);
- v15 = load32(v8 + 132);
- v14 = load32(v8 + 136);
- v13 = load32(v8 + 140);
  'l10: loop {
- v19 = 64_u64.minus(v3);
- if v19 == 0 { break 'l10; }
- fill(v8.plus(144).plus(v3), 0, v19);
+ if v3 == 0 { break 'l10; }
+ copy(v8.plus(16), v2, v3);
  break 'l10; }
- 'l11: loop {
- if v3 == 0 { break 'l11; }
- copy(v8.plus(144), v2, v3);
- break 'l11; }
- store64(v8 + 120, load64(v8 + 200));
- store64(v8 + 112, load64(v8 + 192));
- store64(v8 + 104, load64(v8 + 184));
- store64(v8 + 96, load64(v8 + 176));
- store64(v8 + 88, load64(v8 + 168));
- store64(v8 + 80, load64(v8 + 160));
- store64(v8 + 72, load64(v8 + 152));
- store64(v8 + 64, load64(v8 + 144));
- v11 = (v9 as u32) ^ 0x3c6ef372;
- v12 = (((v9 >> 32) as u32) & 0xffff) ^ 0xa54ff53a;
+ fill(v8 + 80, 0, 32);
+ store64(v8 + 48, load64(v8 + 16));
+ store64(v8 + 56, load64(v8 + 24));
+ store64(v8 + 64, load64(v8 + 32));
+ store64(v8 + 72, load64(v8 + 40));
+ v10 = (v9 as u32) ^ 0x3c6ef372;
+ v11 = (((v9 >> 32) as u32) & 0xffff) ^ 0xa54ff53a;
  v18 = (((v3 as u32) << 8) | 0x1010020) ^ 0x6a09e667;
- v13 ^= 0x5be0cd19;
- v14 ^= 0x1f83d9ab;
- v15 ^= 0x9b05688c;
- v16 ^= 0x510e527f;
+ v12 ^= 0x5be0cd19;
+ v13 ^= 0x1f83d9ab;
+ v14 ^= 0x9b05688c;
+ v15 ^= 0x510e527f;
+ v16 = 64;
  v17 = 0xbb67ae85;
- break 'l4; }
- store64(v8 + 128, 0);
+ break 'l3; }
+ store64(v8, 0);
+ 'l11: loop {
+ if v5 == 0 { break 'l11; }
+ copy(v8, v4, v5);
+ break 'l11; }
+ v3 = load64(v8);
+ store64(v8, 0);
  'l12: loop {
- if v5 == 0 { break 'l12; }
- copy(v8.plus(128), v4, v5);
+ if v7 == 0 { break 'l12; }
+ copy(v8, v6, v7);
  break 'l12; }
- v3 = load64(v8 + 128);
- store64(v8 + 128, 0);
- 'l13: loop {
- if v7 == 0 { break 'l13; }
- copy(v8.plus(128), v6, v7);
- break 'l13; }
- store64(v8, load64(v8 + 64));
- store64(v8 + 8, load64(v8 + 72));
- store64(v8 + 16, load64(v8 + 80));
- store64(v8 + 24, load64(v8 + 88));
- store64(v8 + 32, load64(v8 + 96));
- store64(v8 + 40, load64(v8 + 104));
- store64(v8 + 48, load64(v8 + 112));
- store64(v8 + 56, load64(v8 + 120));
- v5 = load64(v8 + 128);
- store64(v0 + 96, 0);
- store64(v0 + 88, 32);
- store64(v0 + 80, v10);
- store64(v0 + 72, v10);
+ v5 = load64(v8);
+ store32(v0 + 76, 32);
+ store16(v0 + 74, v16 as u64);
+ store16(v0 + 72, v16 as u64);
  store64(v0 + 64, 0);
- store32(v0 + 60, v13 as u64);
- store32(v0 + 56, v14 as u64);
- store32(v0 + 52, v15 as u64);
- store32(v0 + 48, v16 as u64);
- store32(v0 + 44, v12 as u64);
- store32(v0 + 40, v11 as u64);
+ store32(v0 + 60, v12 as u64);
+ store32(v0 + 56, v13 as u64);
+ store32(v0 + 52, v14 as u64);
+ store32(v0 + 48, v15 as u64);
+ store32(v0 + 44, v11 as u64);
+ store32(v0 + 40, v10 as u64);
  store32(v0 + 36, v17 as u64);
  store32(v0 + 32, v18 as u64);
- store32(v0 + 28, v13 as u64);
- store32(v0 + 24, v14 as u64);
- store32(v0 + 20, v15 as u64);
- store32(v0 + 16, v16 as u64);
- store32(v0 + 12, v12 as u64);
- store32(v0 + 8, v11 as u64);
+ store32(v0 + 28, v12 as u64);
+ store32(v0 + 24, v13 as u64);
+ store32(v0 + 20, v14 as u64);
+ store32(v0 + 16, v15 as u64);
+ store32(v0 + 12, v11 as u64);
+ store32(v0 + 8, v10 as u64);
  store32(v0 + 4, v17 as u64);
  store32(v0, v18 as u64);
- store64(v0 + 160, load64(v8 + 56));
- store64(v0 + 152, load64(v8 + 48));
- store64(v0 + 144, load64(v8 + 40));
- store64(v0 + 136, load64(v8 + 32));
- store64(v0 + 128, load64(v8 + 24));
- store64(v0 + 120, load64(v8 + 16));
- store64(v0 + 112, load64(v8 + 8));
- store64(v0 + 104, load64(v8));
- store64(v0 + 224, load64(v8 + 200));
- store64(v0 + 216, load64(v8 + 192));
- store64(v0 + 208, load64(v8 + 184));
- store64(v0 + 200, load64(v8 + 176));
- store64(v0 + 192, load64(v8 + 168));
- store64(v0 + 184, load64(v8 + 160));
- store64(v0 + 176, load64(v8 + 152));
- store64(v0 + 168, load64(v8 + 144));
- fill(v0 + 232, 0, 32);
- store64(v0 + 280, v1);
- store64(v0 + 272, v5);
- store64(v0 + 264, v3);
- fill(v0 + 288, 0, 16);
- v11 = 0;
- break 'l1;
+ store64(v0 + 136, load64(v8 + 104));
+ store64(v0 + 128, load64(v8 + 96));
+ store64(v0 + 120, load64(v8 + 88));
+ store64(v0 + 112, load64(v8 + 80));
+ store64(v0 + 104, load64(v8 + 72));
+ store64(v0 + 96, load64(v8 + 64));
+ store64(v0 + 88, load64(v8 + 56));
+ store64(v0 + 80, load64(v8 + 48));
+ store64(v0 + 144, load64(v8 + 16));
+ store64(v0 + 152, load64(v8 + 24));
+ store64(v0 + 160, load64(v8 + 32));
+ store64(v0 + 168, load64(v8 + 40));
+ fill(v0 + 176, 0, 32);
+ store64(v0 + 224, v1);
+ store64(v0 + 216, v5);
+ store64(v0 + 208, v3);
+ fill(v0 + 232, 0, 16);
+ return 0;
  }
- fill(v0, 0, 304);
- v11 = 0xffffffff;
- break 'l1;
- }
- return v11;
+ fill(v0, 0, 248);
+ return 0xffffffff;
 }
 
 // rattle::export vulfsjor_ffi_blake2xs_init_salt_personal
@@ -12579,7 +12385,7 @@ unsafe fn exported_blake2xs_init_salt_personal(mut v0: u64, mut v1: u64, mut v2:
 // blake2_ffi::blake2xs::absorb
 #[inline(never)]
 unsafe fn ffi_blake2xs_absorb(mut v0: u64, mut v1: u64, mut v2: u64) {
- let mut v4: u64;
+ let mut v4: u32;
  let mut v5: u32;
  'l2: loop {
  if v2 == 1 { break 'l2; }
@@ -12587,15 +12393,15 @@ unsafe fn ffi_blake2xs_absorb(mut v0: u64, mut v1: u64, mut v2: u64) {
  return;
  }
  'l3: loop {
- v4 = v0.plus(72);
- v2 = load64(v4);
- if v2 < 64 { break 'l3; }
+ v2 = v0.plus(72);
+ v4 = load16(v2);
+ if v4 < 64 { break 'l3; }
  state_blake2s_State_take(v0, v1, 1);
  return;
  }
  v5 = load8(v1);
- store64(v4, v2.plus(1));
- store8(v0.plus(v2).plus(104), v5 as u64);
+ store16(v2, v4.plus(1) as u64);
+ store8(v0.plus(v4 as u64).plus(80), v5 as u64);
  return;
 }
 
@@ -12603,35 +12409,37 @@ unsafe fn ffi_blake2xs_absorb(mut v0: u64, mut v1: u64, mut v2: u64) {
 #[inline(never)]
 unsafe fn exported_blake2xs_update(mut v0: u64, mut v1: u64, mut v2: u64) -> u32 {
  let mut v4: u32;
- let mut v5: u64;
- let mut v6: u64;
- let mut v7: u64;
+ let mut v5: u32;
+ let mut v6: u32;
+ let mut v7: u32;
  let mut v8: u64;
  let mut v9: u64;
+ let mut v10: u64;
  v4 = 0xffffffff;
  'l2: loop {
- v5 = load64(v0.plus(88));
- if v5.minus(1) > 31 { break 'l2; }
- v6 = load64(v0.plus(72));
+ v5 = load16(v0.plus(76));
+ if (v5.minus(1) & 0xffff) > 31 { break 'l2; }
+ v6 = load16(v0.plus(72));
  if v6 > 64 { break 'l2; }
- v7 = load64(v0.plus(80));
+ v7 = load16(v0.plus(74));
  if v7 > 64 { break 'l2; }
- if v5 != 32 { break 'l2; }
+ v4 = 0xffffffff;
+ if (v5 & 0xffff) != 32 { break 'l2; }
  v8 = load64(v0.plus(64));
- if v8 > (!v6) { break 'l2; }
- v5 = load64(v0.plus(280));
- if v5.minus(1) > 0xfffe { break 'l2; }
- v9 = load64(v0.plus(288));
- if v9 > (if v5 == 0xffff { 0x2000000000 } else { v5 }) { break 'l2; }
- if (load64(v0.plus(296)) | v9) != 0 { break 'l2; }
- if v2 > (!v8.plus(v6)) { break 'l2; }
- v5 = v1.plus(if v1 == 0 { 4096_u64 } else { 0 });
+ if v8 > sign64((!v6) as u64, 0x8000) { break 'l2; }
+ v9 = load64(v0.plus(224));
+ if v9.minus(1) > 0xfffe { break 'l2; }
+ v10 = load64(v0.plus(232));
+ if v10 > (if v9 == 0xffff { 0x2000000000 } else { v9 }) { break 'l2; }
+ if (load64(v0.plus(240)) | v10) != 0 { break 'l2; }
+ if v2 > (!v8.plus(v6 as u64)) { break 'l2; }
+ v1 = v1.plus(if v1 == 0 { 4096_u64 } else { 0 });
  'l3: loop {
  if v8 == 0 { break 'l3; }
- ffi_blake2xs_absorb(v0, v5, v2);
+ ffi_blake2xs_absorb(v0, v1, v2);
  return 0;
  }
- ffi_blake2xs_absorb(v0, v5, v2);
+ ffi_blake2xs_absorb(v0, v1, v2);
  v4 = 0;
  if v7 == 0 { break 'l2; }
  digest_wiping_scrub_stack_3072();
@@ -12650,25 +12458,28 @@ unsafe fn ffi_blake2xs_read(mut v0: u64, mut v1: u64, mut v2: u64) {
 #[inline(never)]
 unsafe fn exported_blake2xs_squeeze(mut v0: u64, mut v1: u64, mut v2: u64) -> u32 {
  let mut v4: u32;
- let mut v5: u64;
- let mut v6: u64;
- let mut v7: u64;
+ let mut v5: u32;
+ let mut v6: u32;
+ let mut v7: u32;
+ let mut v8: u64;
+ let mut v9: u64;
  v4 = 0xffffffff;
  'l2: loop {
- v5 = load64(v0.plus(88));
- if v5.minus(1) > 31 { break 'l2; }
- v6 = load64(v0.plus(72));
+ v5 = load16(v0.plus(76));
+ if (v5.minus(1) & 0xffff) > 31 { break 'l2; }
+ v6 = load16(v0.plus(72));
  if v6 > 64 { break 'l2; }
- v7 = load64(v0.plus(80));
+ v7 = load16(v0.plus(74));
  if v7 > 64 { break 'l2; }
- if v5 != 32 { break 'l2; }
- if load64(v0.plus(64)) > (!v6) { break 'l2; }
- v5 = load64(v0.plus(280));
- if v5.minus(1) > 0xfffe { break 'l2; }
- v5 = if v5 == 0xffff { 0x2000000000 } else { v5 };
- v6 = load64(v0.plus(288));
- if v5 < v6 { break 'l2; }
- if v5.minus(v6) < v2 { break 'l2; }
+ v4 = 0xffffffff;
+ if (v5 & 0xffff) != 32 { break 'l2; }
+ if load64(v0.plus(64)) > sign64((!v6) as u64, 0x8000) { break 'l2; }
+ v8 = load64(v0.plus(224));
+ if v8.minus(1) > 0xfffe { break 'l2; }
+ v8 = if v8 == 0xffff { 0x2000000000 } else { v8 };
+ v9 = load64(v0.plus(232));
+ if v8 < v9 { break 'l2; }
+ if v8.minus(v9) < v2 { break 'l2; }
  ffi_blake2xs_read(v0, v1.plus(if v1 == 0 { 4096_u64 } else { 0 }), v2);
  v4 = 0;
  if v7 == 0 { break 'l2; }
@@ -12681,25 +12492,25 @@ unsafe fn exported_blake2xs_squeeze(mut v0: u64, mut v1: u64, mut v2: u64) -> u3
 #[inline(never)]
 unsafe fn ffi_blake2xs_start_again(mut v0: u64) {
  store64(v0.plus(64), 0);
+ store64(v0.plus(112), 0);
+ store64(v0.plus(120), 0);
+ store64(v0.plus(128), 0);
+ store64(v0.plus(136), 0);
  store64(v0 + 24, load64(v0.plus(56)));
  store64(v0 + 16, load64(v0.plus(48)));
  store64(v0 + 8, load64(v0.plus(40)));
  store64(v0, load64(v0.plus(32)));
- store64(v0.plus(72), load64(v0.plus(80)));
+ store16(v0.plus(72), load16(v0.plus(74)) as u64);
+ store64(v0.plus(80), load64(v0.plus(144)));
+ store64(v0.plus(88), load64(v0.plus(152)));
+ store64(v0.plus(96), load64(v0.plus(160)));
  store64(v0.plus(104), load64(v0.plus(168)));
- store64(v0.plus(112), load64(v0.plus(176)));
- store64(v0.plus(120), load64(v0.plus(184)));
- store64(v0.plus(128), load64(v0.plus(192)));
- store64(v0.plus(136), load64(v0.plus(200)));
- store64(v0.plus(144), load64(v0.plus(208)));
- store64(v0.plus(152), load64(v0.plus(216)));
- store64(v0.plus(160), load64(v0.plus(224)));
- store64(v0.plus(256), 0);
- store64(v0.plus(248), 0);
- store64(v0.plus(240), 0);
+ store64(v0.plus(200), 0);
+ store64(v0.plus(192), 0);
+ store64(v0.plus(184), 0);
+ store64(v0.plus(176), 0);
  store64(v0.plus(232), 0);
- store64(v0.plus(296), 0);
- store64(v0.plus(288), 0);
+ store64(v0.plus(240), 0);
  return;
 }
 
@@ -12707,22 +12518,24 @@ unsafe fn ffi_blake2xs_start_again(mut v0: u64) {
 #[inline(never)]
 unsafe fn exported_blake2xs_reset(mut v0: u64) -> u32 {
  let mut v2: u32;
- let mut v3: u64;
- let mut v4: u64;
- let mut v5: u64;
+ let mut v3: u32;
+ let mut v4: u32;
+ let mut v5: u32;
+ let mut v6: u64;
  v2 = 0xffffffff;
  'l2: loop {
- v3 = load64(v0.plus(88));
- if v3.minus(1) > 31 { break 'l2; }
- v4 = load64(v0.plus(72));
+ v3 = load16(v0.plus(76));
+ if (v3.minus(1) & 0xffff) > 31 { break 'l2; }
+ v4 = load16(v0.plus(72));
  if v4 > 64 { break 'l2; }
- v5 = load64(v0.plus(80));
+ v5 = load16(v0.plus(74));
  if v5 > 64 { break 'l2; }
- if v3 != 32 { break 'l2; }
- if load64(v0.plus(64)) > (!v4) { break 'l2; }
- v3 = load64(v0.plus(280));
- if v3.minus(1) > 0xfffe { break 'l2; }
- if load64(v0.plus(288)) > (if v3 == 0xffff { 0x2000000000 } else { v3 }) { break 'l2; }
+ v2 = 0xffffffff;
+ if (v3 & 0xffff) != 32 { break 'l2; }
+ if load64(v0.plus(64)) > sign64((!v4) as u64, 0x8000) { break 'l2; }
+ v6 = load64(v0.plus(224));
+ if v6.minus(1) > 0xfffe { break 'l2; }
+ if load64(v0.plus(232)) > (if v6 == 0xffff { 0x2000000000 } else { v6 }) { break 'l2; }
  ffi_blake2xs_start_again(v0);
  v2 = 0;
  if v5 == 0 { break 'l2; }
@@ -12737,28 +12550,29 @@ unsafe fn exported_blake2xs_wipe(mut v0: u64) {
  'l1: loop {
  break 'l1;
  }
- fill(v0, 0, 304);
+ fill(v0, 0, 248);
 }
 
 // rattle::export vulfsjor_ffi_blake2xs_left
 #[inline(never)]
 unsafe fn exported_blake2xs_left(mut v0: u64) -> u64 {
  let mut v1: u64;
- let mut v2: u64;
- let mut v3: u64;
+ let mut v2: u32;
+ let mut v3: u32;
+ let mut v4: u64;
  v1 = 0;
  'l2: loop {
- v2 = load64(v0.plus(88));
- if v2.minus(1) > 31 { break 'l2; }
- v3 = load64(v0.plus(72));
+ v2 = load16(v0.plus(76));
+ if (v2.minus(1) & 0xffff) > 31 { break 'l2; }
+ v3 = load16(v0.plus(72));
  if v3 > 64 { break 'l2; }
- if load64(v0.plus(80)) > 64 { break 'l2; }
- if v2 != 32 { break 'l2; }
- if load64(v0.plus(64)) > (!v3) { break 'l2; }
- v2 = load64(v0.plus(280));
- if v2.minus(1) > 0xfffe { break 'l2; }
- v1 = if v2 == 0xffff { 0x2000000000 } else { v2 };
- v0 = v1.minus(load64(v0.plus(288)));
+ if load16(v0.plus(74)) > 64 { break 'l2; }
+ if (v2 & 0xffff) != 32 { break 'l2; }
+ if load64(v0.plus(64)) > sign64((!v3) as u64, 0x8000) { break 'l2; }
+ v4 = load64(v0.plus(224));
+ if v4.minus(1) > 0xfffe { break 'l2; }
+ v1 = if v4 == 0xffff { 0x2000000000 } else { v4 };
+ v0 = v1.minus(load64(v0.plus(232)));
  v1 = if v0 > v1 { 0 } else { v0 };
  break 'l2; }
  return v1;
@@ -12768,25 +12582,26 @@ unsafe fn exported_blake2xs_left(mut v0: u64) -> u64 {
 #[inline(never)]
 unsafe fn exported_blake2xs_count(mut v0: u64) -> u64 {
  let mut v1: u64;
- let mut v2: u64;
- let mut v3: u64;
+ let mut v2: u32;
+ let mut v3: u32;
  let mut v4: u64;
  let mut v5: u64;
+ let mut v6: u64;
  v1 = 0;
  'l2: loop {
- v2 = load64(v0.plus(88));
- if v2.minus(1) > 31 { break 'l2; }
- v3 = load64(v0.plus(72));
+ v2 = load16(v0.plus(76));
+ if (v2.minus(1) & 0xffff) > 31 { break 'l2; }
+ v3 = load16(v0.plus(72));
  if v3 > 64 { break 'l2; }
- v4 = load64(v0.plus(80));
+ v4 = load16(v0.plus(74)) as u64;
  if v4 > 64 { break 'l2; }
- if v2 != 32 { break 'l2; }
+ if (v2 & 0xffff) != 32 { break 'l2; }
  v5 = load64(v0.plus(64));
- if v5 > (!v3) { break 'l2; }
- v2 = load64(v0.plus(280));
- if v2.minus(1) > 0xfffe { break 'l2; }
- if load64(v0.plus(288)) > (if v2 == 0xffff { 0x2000000000 } else { v2 }) { break 'l2; }
- v0 = v5.plus(v3);
+ if v5 > sign64((!v3) as u64, 0x8000) { break 'l2; }
+ v6 = load64(v0.plus(224));
+ if v6.minus(1) > 0xfffe { break 'l2; }
+ if load64(v0.plus(232)) > (if v6 == 0xffff { 0x2000000000 } else { v6 }) { break 'l2; }
+ v0 = v5.plus(v3 as u64);
  v1 = v0.minus(v4);
  v1 = if v1 > v0 { 0 } else { v1 };
  break 'l2; }
@@ -12808,7 +12623,7 @@ unsafe fn module_blake2xs_state_size() -> u64 {
  break 'l1;
  }
  exported_blake2xs_state_size();
- return 304;
+ return 248;
 }
 
 // blake2_tree::nodes::Nodes::leaf_digest
@@ -12897,11 +12712,11 @@ unsafe fn tree_nodes_Nodes_leaf_digest(mut v0: u64, mut v1: u64, mut v2: u64, mu
 unsafe fn state_tree_TreeState_close_leaf(mut v0: u64, mut v1: u64, mut v2: u64, mut v3: u64) {
  let mut v4: u64;
  let mut v6: u64;
- let mut v7: u64;
+ let mut v7: u32;
  let mut v8: u64;
- let mut v9: u32;
- let mut v10: u64;
- let mut v11: u32;
+ let mut v9: u64;
+ let mut v10: u32;
+ let mut v11: u64;
  let mut v12: u32;
  let mut v13: u64;
  let mut v14: u64;
@@ -12915,10 +12730,11 @@ unsafe fn state_tree_TreeState_close_leaf(mut v0: u64, mut v1: u64, mut v2: u64,
  'l2: loop {
  'l3: loop {
  v6 = v1.plus(128);
- v7 = load64(v1.plus(136));
- v8 = load64(v1.plus(856)).minus(load64(v6).plus(v7));
- if v8 == 1 { break 'l3; }
- state_blake2b_State_take(v1, v2, v8);
+ v7 = load32(v1.plus(136));
+ v8 = v7 as u64;
+ v9 = load64(v1.plus(696)).minus(load64(v6).plus(v8));
+ if v9 == 1 { break 'l3; }
+ state_blake2b_State_take(v1, v2, v9);
  break 'l2;
  }
  'l4: loop {
@@ -12926,81 +12742,81 @@ unsafe fn state_tree_TreeState_close_leaf(mut v0: u64, mut v1: u64, mut v2: u64,
  state_blake2b_State_take(v1, v2, 1);
  break 'l2;
  }
- v9 = load8(v2);
- store64(v1.plus(136), v7.plus(1));
- store8(v1.plus(v7).plus(168), v9 as u64);
+ v10 = load8(v2);
+ store32(v1.plus(136), v7.plus(1) as u64);
+ store8(v1.plus(v8).plus(152), v10 as u64);
  break 'l2; }
  fill(v4 + 64, 0, 16);
- v9 = load32(v1.plus(856));
- v7 = load64(v1.plus(872));
+ v7 = load32(v1.plus(696));
+ v8 = load64(v1.plus(712));
  'l5: loop {
- v10 = load64(v1.plus(864));
- v11 = (v10 == 0) as u32;
- if v11 != 0 { break 'l5; }
- copy(v4.plus(64), v1.plus(880), v10);
+ v11 = load64(v1.plus(704));
+ v10 = (v11 == 0) as u32;
+ if v10 != 0 { break 'l5; }
+ copy(v4.plus(64), v1.plus(720), v11);
  break 'l5; }
  fill(v4 + 80, 0, 16);
  'l6: loop {
- v12 = (v7 == 0) as u32;
+ v12 = (v8 == 0) as u32;
  if v12 != 0 { break 'l6; }
- copy(v4.plus(80), v1.plus(896), v7);
+ copy(v4.plus(80), v1.plus(736), v8);
  break 'l6; }
- v13 = v1.plus(160);
- store64(v13, 0);
- store64(v4 + 24, v10);
+ v13 = v1.plus(148);
+ store32(v13, 0);
+ store64(v4 + 24, v11);
  store32(v4 + 60, 0);
- store32(v4 + 56, v9 as u64);
- store64(v4 + 48, v7);
+ store32(v4 + 56, v7 as u64);
+ store64(v4 + 48, v8);
  fill(v4 + 96, 0, 64);
  store64(v4 + 16, load64(v4 + 72));
  store64(v4 + 8, load64(v4 + 64));
  store64(v4 + 32, load64(v4 + 80));
  store64(v4 + 40, load64(v4 + 88));
  state_blake2b_State_write_digest(v1, v4.plus(96));
- state_blake2b_State_take(v1.plus(424), v4.plus(96), 64);
- v14 = v1.plus(848);
+ state_blake2b_State_take(v1.plus(344), v4.plus(96), 64);
+ v14 = v1.plus(688);
  t0 = v14;
  v14 = load64(v14).plus(1);
  store64(t0, v14);
  fill(v4 + 160, 0, 32);
  'l7: loop {
- if v11 != 0 { break 'l7; }
- copy(v4.plus(160), v4.plus(8), v10);
+ if v10 != 0 { break 'l7; }
+ copy(v4.plus(160), v4.plus(8), v11);
  break 'l7; }
  'l8: loop {
  if v12 != 0 { break 'l8; }
- copy(v4.plus(160) | 16, v4.plus(32), v7);
+ copy(v4.plus(160) | 16, v4.plus(32), v8);
  break 'l8; }
- v7 = load64(v4 + 160);
- v10 = load64(v4 + 168);
+ v8 = load64(v4 + 160);
+ v11 = load64(v4 + 168);
  v15 = load64(v4 + 176);
  v4 = load64(v4 + 184) ^ 0x5be0cd19137e2179;
  store64(v1 + 120, v4);
  v15 ^= 0x1f83d9abfb41bd6b;
  store64(v1 + 112, v15);
- v10 ^= 0x9b05688c2b3e6c1f;
- store64(v1 + 104, v10);
- v7 ^= 0x510e527fade682d1;
- store64(v1 + 96, v7);
+ v11 ^= 0x9b05688c2b3e6c1f;
+ store64(v1 + 104, v11);
+ v8 ^= 0x510e527fade682d1;
+ store64(v1 + 96, v8);
  store64(v1 + 88, 0xa54ff53a5f1d36f1);
  store64(v1 + 80, 0x3c6ef372fe94b82b);
  v14 ^= 0xbb67ae8584caa73b;
  store64(v1 + 72, v14);
- v16 = (((v9 as u64) << 32) | 0x2000040) ^ 0x6a09e667f3bcc908;
+ v16 = (((v7 as u64) << 32) | 0x2000040) ^ 0x6a09e667f3bcc908;
  store64(v1 + 64, v16);
  store64(v1 + 56, v4);
  store64(v1 + 48, v15);
- store64(v1 + 40, v10);
- store64(v1 + 32, v7);
+ store64(v1 + 40, v11);
+ store64(v1 + 32, v8);
  store64(v1 + 24, 0xa54ff53a5f1d36f1);
  store64(v1 + 16, 0x3c6ef372fe94b82b);
  store64(v1 + 8, v14);
  store64(v1, v16);
- fill(v6, 0, 24);
- store64(v1 + 152, 64);
- fill(v13, 0, 264);
- store64(v0 + 8, v3.minus(v8));
- store64(v0, v2.plus(v8));
+ fill(v6, 0, 16);
+ store32(v1 + 144, 64);
+ fill(v13, 0, 196);
+ store64(v0 + 8, v3.minus(v9));
+ store64(v0, v2.plus(v9));
  return;
 }
 
@@ -13010,9 +12826,9 @@ unsafe fn state_tree_TreeState_update(mut v0: u64, mut v1: u64, mut v2: u64) {
  let mut v3: u64;
  let mut v5: u64;
  let mut v6: u64;
- let mut v7: u64;
- let mut v8: u32;
- let mut v9: u64;
+ let mut v7: u32;
+ let mut v8: u64;
+ let mut v9: u32;
  let mut v10: u64;
  let mut v11: u64;
  let mut v12: u64;
@@ -13023,7 +12839,7 @@ unsafe fn state_tree_TreeState_update(mut v0: u64, mut v1: u64, mut v2: u64) {
  let mut v17: u64;
  let mut v18: u64;
  let mut v19: u64;
- let mut v20: u32;
+ let mut v20: u64;
  let mut v21: u64;
  let mut v22: u64;
  let mut frame = [0_u64; 102];
@@ -13031,10 +12847,11 @@ unsafe fn state_tree_TreeState_update(mut v0: u64, mut v1: u64, mut v2: u64) {
  v3 = top;
  v3 = v3.minus(768) & 0xffffffffffffffe0;
  'l2: loop {
- v5 = v0.plus(856);
+ v5 = v0.plus(696);
  v6 = v0.plus(128);
- v7 = load64(v0.plus(136));
- if v2 > load64(v5).minus(load64(v6).plus(v7)) { break 'l2; }
+ v7 = load32(v0.plus(136));
+ v8 = v7 as u64;
+ if v2 > load64(v5).minus(load64(v6).plus(v8)) { break 'l2; }
  'l3: loop {
  if v2 == 1 { break 'l3; }
  state_blake2b_State_take(v0, v1, v2);
@@ -13045,56 +12862,56 @@ unsafe fn state_tree_TreeState_update(mut v0: u64, mut v1: u64, mut v2: u64) {
  state_blake2b_State_take(v0, v1, 1);
  return;
  }
- v8 = load8(v1);
- store64(v0.plus(136), v7.plus(1));
- store8(v0.plus(v7).plus(168), v8 as u64);
+ v9 = load8(v1);
+ store32(v0.plus(136), v7.plus(1) as u64);
+ store8(v0.plus(v8).plus(152), v9 as u64);
  return;
  }
  state_tree_TreeState_close_leaf(v3.plus(24), v0, v1, v2);
- v7 = load64(v3 + 24);
+ v8 = load64(v3 + 24);
  'l5: loop {
  v1 = load64(v5);
  v2 = load64(v3 + 32);
  if v1 >= v2 { break 'l5; }
- v9 = v0.plus(160);
- v10 = v0.plus(424);
- v11 = v0.plus(896);
- v12 = v0.plus(880);
- v13 = v3.plus(736) | 16;
- v14 = v3.plus(640).plus(24);
- v15 = v3.plus(104);
- v16 = v3.plus(552).plus(24);
+ v10 = v0.plus(148);
+ v11 = v0.plus(344);
+ v12 = v0.plus(736);
+ v13 = v0.plus(720);
+ v14 = v3.plus(736) | 16;
+ v15 = v3.plus(640).plus(24);
+ v16 = v3.plus(104);
+ v17 = v3.plus(552).plus(24);
  'l6: loop {
  'l7: loop {
  'l8: loop {
  if (v1 << 2) >= v2 { break 'l8; }
  fill(v3 + 608, 0, 16);
- v17 = v0.plus(872);
- v5 = load64(v17);
+ v18 = v0.plus(712);
+ v5 = load64(v18);
  'l9: loop {
- v18 = v0.plus(864);
- v19 = load64(v18);
- if v19 == 0 { break 'l9; }
- copy(v3.plus(608), v12, v19);
+ v19 = v0.plus(704);
+ v20 = load64(v19);
+ if v20 == 0 { break 'l9; }
+ copy(v3.plus(608), v13, v20);
  break 'l9; }
  fill(v3 + 624, 0, 16);
  'l10: loop {
  if v5 == 0 { break 'l10; }
- copy(v3.plus(624), v11, v5);
+ copy(v3.plus(624), v12, v5);
  break 'l10; }
- store64(v16, load64(v3 + 624));
- store64(v16 + 8, load64(v3 + 632));
- store64(v3 + 568, v19);
+ store64(v17, load64(v3 + 624));
+ store64(v17 + 8, load64(v3 + 632));
+ store64(v3 + 568, v20);
  store32(v3 + 604, 0);
  store64(v3 + 592, v5);
  store64(v3 + 560, load64(v3 + 616));
  store64(v3 + 552, load64(v3 + 608));
- v19 = v0.plus(848);
- v5 = load64(v19);
+ v20 = v0.plus(688);
+ v5 = load64(v20);
  store32(v3 + 600, v1);
  fill(v3 + 640, 0, 64);
- tree_nodes_Nodes_leaf_digest(v3.plus(640), v3.plus(552), v5, 0, v7, v1 & 0xffffffff);
- fill(v15, 0, 448);
+ tree_nodes_Nodes_leaf_digest(v3.plus(640), v3.plus(552), v5, 0, v8, v1 & 0xffffffff);
+ fill(v16, 0, 448);
  store64(v3 + 96, load64(v3 + 696));
  store64(v3 + 88, load64(v3 + 688));
  store64(v3 + 80, load64(v3 + 680));
@@ -13103,96 +12920,96 @@ unsafe fn state_tree_TreeState_update(mut v0: u64, mut v1: u64, mut v2: u64) {
  store64(v3 + 56, load64(v3 + 656));
  store64(v3 + 48, load64(v3 + 648));
  store64(v3 + 40, load64(v3 + 640));
- v1 = load64(v0.plus(856));
+ v1 = load64(v0.plus(696));
  fill(v3 + 704, 0, 16);
- v5 = load64(v17);
+ v5 = load64(v18);
  'l11: loop {
- v17 = load64(v18);
- v8 = (v17 == 0) as u32;
- if v8 != 0 { break 'l11; }
- copy(v3.plus(704), v12, v17);
+ v18 = load64(v19);
+ v7 = (v18 == 0) as u32;
+ if v7 != 0 { break 'l11; }
+ copy(v3.plus(704), v13, v18);
  break 'l11; }
  fill(v3 + 720, 0, 16);
  'l12: loop {
- v20 = (v5 == 0) as u32;
- if v20 != 0 { break 'l12; }
- copy(v3.plus(720), v11, v5);
+ v9 = (v5 == 0) as u32;
+ if v9 != 0 { break 'l12; }
+ copy(v3.plus(720), v12, v5);
  break 'l12; }
- store64(v14, load64(v3 + 720));
- store64(v14 + 8, load64(v3 + 728));
- store64(v3 + 656, v17);
+ store64(v15, load64(v3 + 720));
+ store64(v15 + 8, load64(v3 + 728));
+ store64(v3 + 656, v18);
  store32(v3 + 692, 0);
  store32(v3 + 688, v1);
  store64(v3 + 680, v5);
  store64(v3 + 648, load64(v3 + 712));
  store64(v3 + 640, load64(v3 + 704));
- state_blake2b_State_take(v10, v3.plus(40), 64);
- v18 = load64(v19).plus(1);
- store64(v19, v18);
+ state_blake2b_State_take(v11, v3.plus(40), 64);
+ v19 = load64(v20).plus(1);
+ store64(v20, v19);
  fill(v3 + 736, 0, 32);
  'l13: loop {
- if v8 != 0 { break 'l13; }
- copy(v3.plus(736), v3.plus(640), v17);
+ if v7 != 0 { break 'l13; }
+ copy(v3.plus(736), v3.plus(640), v18);
  break 'l13; }
  'l14: loop {
- if v20 != 0 { break 'l14; }
- copy(v13, v14, v5);
+ if v9 != 0 { break 'l14; }
+ copy(v14, v15, v5);
  break 'l14; }
  v5 = load64(v3 + 736);
- v19 = load64(v3 + 744);
- v17 = load64(v3 + 752);
+ v20 = load64(v3 + 744);
+ v18 = load64(v3 + 752);
  v21 = load64(v3 + 760) ^ 0x5be0cd19137e2179;
  store64(v0 + 120, v21);
- v17 ^= 0x1f83d9abfb41bd6b;
- store64(v0 + 112, v17);
- v19 ^= 0x9b05688c2b3e6c1f;
- store64(v0 + 104, v19);
+ v18 ^= 0x1f83d9abfb41bd6b;
+ store64(v0 + 112, v18);
+ v20 ^= 0x9b05688c2b3e6c1f;
+ store64(v0 + 104, v20);
  v5 ^= 0x510e527fade682d1;
  store64(v0 + 96, v5);
  store64(v0 + 88, 0xa54ff53a5f1d36f1);
  store64(v0 + 80, 0x3c6ef372fe94b82b);
- v18 ^= 0xbb67ae8584caa73b;
- store64(v0 + 72, v18);
+ v19 ^= 0xbb67ae8584caa73b;
+ store64(v0 + 72, v19);
  v22 = ((v1 << 32) | 0x2000040) ^ 0x6a09e667f3bcc908;
  store64(v0 + 64, v22);
  store64(v0 + 56, v21);
- store64(v0 + 48, v17);
- store64(v0 + 40, v19);
+ store64(v0 + 48, v18);
+ store64(v0 + 40, v20);
  store64(v0 + 32, v5);
  store64(v0 + 24, 0xa54ff53a5f1d36f1);
  store64(v0 + 16, 0x3c6ef372fe94b82b);
- store64(v0 + 8, v18);
+ store64(v0 + 8, v19);
  store64(v0, v22);
- fill(v6, 0, 24);
- store64(v0 + 152, 64);
- fill(v9, 0, 264);
+ fill(v6, 0, 16);
+ store32(v0 + 144, 64);
+ fill(v10, 0, 196);
  v2 = v2.minus(v1);
- v7 = v7.plus(v1);
+ v8 = v8.plus(v1);
  break 'l7;
  }
- state_tree_TreeState_close_leaf(v3.plus(8), v0, v7, v2);
+ state_tree_TreeState_close_leaf(v3.plus(8), v0, v8, v2);
  v2 = load64(v3 + 16);
- v7 = load64(v3 + 8);
+ v8 = load64(v3 + 8);
  break 'l7; }
- v1 = load64(v0.plus(856));
+ v1 = load64(v0.plus(696));
  if v1 < v2 { continue 'l6; }
  break 'l6; }
  break 'l5; }
  'l15: loop {
  if v2 == 1 { break 'l15; }
- state_blake2b_State_take(v0, v7, v2);
+ state_blake2b_State_take(v0, v8, v2);
  return;
  }
  'l16: loop {
- v2 = v0.plus(136);
- v3 = load64(v2);
- if v3 < 128 { break 'l16; }
- state_blake2b_State_take(v0, v7, 1);
+ v3 = v0.plus(136);
+ v7 = load32(v3);
+ if v7 < 128 { break 'l16; }
+ state_blake2b_State_take(v0, v8, 1);
  return;
  }
- v8 = load8(v7);
- store64(v2, v3.plus(1));
- store8(v0.plus(v3).plus(168), v8 as u64);
+ v9 = load8(v8);
+ store32(v3, v7.plus(1) as u64);
+ store8(v0.plus(v7 as u64).plus(152), v9 as u64);
  return;
 }
 
@@ -13220,10 +13037,10 @@ unsafe fn exported_tree_root(mut v0: u64, mut v1: u64, mut v2: u64, mut v3: u64,
  let mut t4: u64;
  let mut t8: u64;
  let mut t10: u64;
- let mut frame = [0_u64; 270];
- let top = (address!(frame)).plus(2160) & !15;
+ let mut frame = [0_u64; 238];
+ let top = (address!(frame)).plus(1904) & !15;
  v9 = top;
- v9 = v9.minus(2112) & 0xffffffffffffffe0;
+ v9 = v9.minus(1856) & 0xffffffffffffffe0;
  v11 = 0xffffffff;
  'l2: loop {
  if v3 > 0x3ffffffffffffff { break 'l2; }
@@ -13240,26 +13057,26 @@ unsafe fn exported_tree_root(mut v0: u64, mut v1: u64, mut v2: u64, mut v3: u64,
  if v1 == 64 { break 'l4; }
  if v1 != 32 { break 'l3; }
  v4 = 0;
- fill(v9 + 1632, 0, 16);
+ fill(v9 + 1472, 0, 16);
  'l5: loop {
  v11 = (v5 == 0) as u32;
  if v11 != 0 { break 'l5; }
- copy(v9.plus(1632), v13, v5);
+ copy(v9.plus(1472), v13, v5);
  break 'l5; }
- fill(v9 + 1648, 0, 16);
+ fill(v9 + 1488, 0, 16);
  'l6: loop {
  v15 = (v7 == 0) as u32;
  if v15 != 0 { break 'l6; }
- copy(v9.plus(1648), v12, v7);
+ copy(v9.plus(1488), v12, v7);
  break 'l6; }
  store64(v9 + 720, v5);
  store32(v9 + 756, 0);
  store32(v9 + 752, v8 as u64);
  store64(v9 + 744, v7);
- store64(v9 + 712, load64(v9 + 1640));
- store64(v9 + 704, load64(v9 + 1632));
- store64(v9 + 728, load64(v9 + 1648));
- store64(v9 + 736, load64(v9 + 1656));
+ store64(v9 + 712, load64(v9 + 1480));
+ store64(v9 + 704, load64(v9 + 1472));
+ store64(v9 + 728, load64(v9 + 1488));
+ store64(v9 + 736, load64(v9 + 1496));
  fill(v9, 0, 32);
  'l7: loop {
  if v11 != 0 { break 'l7; }
@@ -13311,11 +13128,11 @@ unsafe fn exported_tree_root(mut v0: u64, mut v1: u64, mut v2: u64, mut v3: u64,
  store64(v9 + 784, 0x3c6ef372fe94b82b);
  store64(v9 + 776, 0xbb67ae8584caa73b);
  store64(v9 + 768, v22);
- store64(v9 + 712, load64(v9 + 1640));
- store64(v9 + 704, load64(v9 + 1632));
+ store64(v9 + 712, load64(v9 + 1480));
+ store64(v9 + 704, load64(v9 + 1472));
  store64(v9 + 720, v5);
- store64(v9 + 728, load64(v9 + 1648));
- store64(v9 + 736, load64(v9 + 1656));
+ store64(v9 + 728, load64(v9 + 1488));
+ store64(v9 + 736, load64(v9 + 1496));
  fill(v9 + 756, 0, 12);
  store32(v9 + 752, v8 as u64);
  store64(v9 + 744, v7);
@@ -13351,23 +13168,23 @@ unsafe fn exported_tree_root(mut v0: u64, mut v1: u64, mut v2: u64, mut v3: u64,
  v11 = v8;
  break 'l11;
  }
- v19 = v9.plus(1664) | 16;
+ v19 = v9.plus(1504) | 16;
  v17 = v9.plus(1192);
  v18 = v9.plus(64);
  v4 = 0;
  v5 = 0;
  'l13: loop {
- fill(v9 + 1664, 0, 64);
- tree_nodes_Nodes_leaf_digest(v9.plus(1664), v9.plus(704), v5, 0, v6, v1);
+ fill(v9 + 1504, 0, 64);
+ tree_nodes_Nodes_leaf_digest(v9.plus(1504), v9.plus(704), v5, 0, v6, v1);
  fill(v18, 0, 448);
- store64(v9 + 56, load64(v9 + 1720));
- store64(v9 + 48, load64(v9 + 1712));
- store64(v9 + 40, load64(v9 + 1704));
- store64(v9 + 32, load64(v9 + 1696));
- store64(v9 + 24, load64(v9 + 1688));
- store64(v9 + 16, load64(v9 + 1680));
- store64(v9 + 8, load64(v9 + 1672));
- store64(v9, load64(v9 + 1664));
+ store64(v9 + 56, load64(v9 + 1560));
+ store64(v9 + 48, load64(v9 + 1552));
+ store64(v9 + 40, load64(v9 + 1544));
+ store64(v9 + 32, load64(v9 + 1536));
+ store64(v9 + 24, load64(v9 + 1528));
+ store64(v9 + 16, load64(v9 + 1520));
+ store64(v9 + 8, load64(v9 + 1512));
+ store64(v9, load64(v9 + 1504));
  v4 = digest_buffer_digest_into_33c1e97afcdf8a5d(v17, v4, v9, 64, v13);
  store64(v9 + 1320, v4);
  v5 = load64(v9 + 760).plus(1);
@@ -13375,10 +13192,10 @@ unsafe fn exported_tree_root(mut v0: u64, mut v1: u64, mut v2: u64, mut v3: u64,
  v11 = load32(v9 + 752);
  v1 = load64(v9 + 744);
  v7 = load64(v9 + 720);
- fill(v9 + 1664, 0, 32);
+ fill(v9 + 1504, 0, 32);
  'l14: loop {
  if v7 == 0 { break 'l14; }
- copy(v9.plus(1664), v9.plus(704), v7);
+ copy(v9.plus(1504), v9.plus(704), v7);
  break 'l14; }
  'l15: loop {
  if v1 == 0 { break 'l15; }
@@ -13395,13 +13212,13 @@ unsafe fn exported_tree_root(mut v0: u64, mut v1: u64, mut v2: u64, mut v3: u64,
  store64(v9 + 784, 0x3c6ef372fe94b82b);
  store64(v9 + 776, v7);
  store64(v9 + 768, v2);
- v7 = load64(v9 + 1688) ^ 0x5be0cd19137e2179;
+ v7 = load64(v9 + 1528) ^ 0x5be0cd19137e2179;
  store64(v9 + 888, v7);
- v2 = load64(v9 + 1680) ^ 0x1f83d9abfb41bd6b;
+ v2 = load64(v9 + 1520) ^ 0x1f83d9abfb41bd6b;
  store64(v9 + 880, v2);
- v0 = load64(v9 + 1672) ^ 0x9b05688c2b3e6c1f;
+ v0 = load64(v9 + 1512) ^ 0x9b05688c2b3e6c1f;
  store64(v9 + 872, v0);
- v12 = load64(v9 + 1664) ^ 0x510e527fade682d1;
+ v12 = load64(v9 + 1504) ^ 0x510e527fade682d1;
  store64(v9 + 864, v12);
  store64(v9 + 824, v7);
  store64(v9 + 816, v2);
@@ -13419,7 +13236,7 @@ unsafe fn exported_tree_root(mut v0: u64, mut v1: u64, mut v2: u64, mut v3: u64,
  v7 = 0;
  'l16: loop {
  if v1 >= v3 { break 'l16; }
- v23 = v9.plus(1664) | 16;
+ v23 = v9.plus(1504) | 16;
  v24 = v9 | 16;
  v20 = v9.plus(64);
  v18 = v9.plus(1192);
@@ -13434,17 +13251,17 @@ unsafe fn exported_tree_root(mut v0: u64, mut v1: u64, mut v2: u64, mut v3: u64,
  if v7 != 0_u64.minus(v2) { break 'l19; }
  if (v12 << 2) >= v3 { break 'l19; }
  v7 = 0;
- fill(v9 + 1664, 0, 64);
- tree_nodes_Nodes_leaf_digest(v9.plus(1664), v9.plus(704), v5, 0, v6, v12);
+ fill(v9 + 1504, 0, 64);
+ tree_nodes_Nodes_leaf_digest(v9.plus(1504), v9.plus(704), v5, 0, v6, v12);
  fill(v20, 0, 448);
- store64(v9 + 56, load64(v9 + 1720));
- store64(v9 + 48, load64(v9 + 1712));
- store64(v9 + 40, load64(v9 + 1704));
- store64(v9 + 32, load64(v9 + 1696));
- store64(v9 + 24, load64(v9 + 1688));
- store64(v9 + 16, load64(v9 + 1680));
- store64(v9 + 8, load64(v9 + 1672));
- store64(v9, load64(v9 + 1664));
+ store64(v9 + 56, load64(v9 + 1560));
+ store64(v9 + 48, load64(v9 + 1552));
+ store64(v9 + 40, load64(v9 + 1544));
+ store64(v9 + 32, load64(v9 + 1536));
+ store64(v9 + 24, load64(v9 + 1528));
+ store64(v9 + 16, load64(v9 + 1520));
+ store64(v9 + 8, load64(v9 + 1512));
+ store64(v9, load64(v9 + 1504));
  v4 = digest_buffer_digest_into_33c1e97afcdf8a5d(v18, v4, v9, 64, v13);
  store64(v9 + 1320, v4);
  v5 = load64(v9 + 760).plus(1);
@@ -13452,10 +13269,10 @@ unsafe fn exported_tree_root(mut v0: u64, mut v1: u64, mut v2: u64, mut v3: u64,
  v8 = load32(v9 + 752);
  v1 = load64(v9 + 744);
  v2 = load64(v9 + 720);
- fill(v9 + 1664, 0, 32);
+ fill(v9 + 1504, 0, 32);
  'l20: loop {
  if v2 == 0 { break 'l20; }
- copy(v9.plus(1664), v9.plus(704), v2);
+ copy(v9.plus(1504), v9.plus(704), v2);
  break 'l20; }
  'l21: loop {
  if v1 == 0 { break 'l21; }
@@ -13471,13 +13288,13 @@ unsafe fn exported_tree_root(mut v0: u64, mut v1: u64, mut v2: u64, mut v3: u64,
  store64(v9 + 784, 0x3c6ef372fe94b82b);
  store64(v9 + 776, v1);
  store64(v9 + 768, v2);
- v1 = load64(v9 + 1688) ^ 0x5be0cd19137e2179;
+ v1 = load64(v9 + 1528) ^ 0x5be0cd19137e2179;
  store64(v9 + 888, v1);
- v2 = load64(v9 + 1680) ^ 0x1f83d9abfb41bd6b;
+ v2 = load64(v9 + 1520) ^ 0x1f83d9abfb41bd6b;
  store64(v9 + 880, v2);
- v0 = load64(v9 + 1672) ^ 0x9b05688c2b3e6c1f;
+ v0 = load64(v9 + 1512) ^ 0x9b05688c2b3e6c1f;
  store64(v9 + 872, v0);
- v12 = load64(v9 + 1664) ^ 0x510e527fade682d1;
+ v12 = load64(v9 + 1504) ^ 0x510e527fade682d1;
  store64(v9 + 864, v12);
  store64(v9 + 824, v1);
  store64(v9 + 816, v2);
@@ -13535,13 +13352,13 @@ unsafe fn exported_tree_root(mut v0: u64, mut v1: u64, mut v2: u64, mut v3: u64,
  v5 = load64(v9 + 272);
  v7 = load64(v9 + 128).plus(v5);
  store64(v9 + 128, v7);
- fill(v9.plus(1664), 0, 128);
+ fill(v9.plus(1504), 0, 128);
  'l24: loop {
  if v5 == 0 { break 'l24; }
- copy(v9.plus(1664), v19, v5);
+ copy(v9.plus(1504), v19, v5);
  break 'l24; }
  fill(v19, 0, 136);
- compress_compress_blake2b_compress(v9, v9.plus(1664), v7, 1, load8(v9 + 136));
+ compress_compress_blake2b_compress(v9, v9.plus(1504), v7, 1, load8(v9 + 136));
  store64(v9 + 632, load64(v9 + 56));
  store64(v9 + 624, load64(v9 + 48));
  store64(v9 + 616, load64(v9 + 40));
@@ -13570,7 +13387,7 @@ unsafe fn exported_tree_root(mut v0: u64, mut v1: u64, mut v2: u64, mut v3: u64,
  store64(v9 + 1040, t4);
  copy(v9, v17, 136);
  copy(v9.plus(137), v9.plus(905), 143);
- copy(v9.plus(1664), v13, 280);
+ copy(v9.plus(1504), v13, 280);
  store8(v9 + 136, 1);
  v3 = load64(v9 + 272);
  v1 = load64(v9 + 128).plus(v3);
@@ -13591,11 +13408,11 @@ unsafe fn exported_tree_root(mut v0: u64, mut v1: u64, mut v2: u64, mut v3: u64,
  store64(v9 + 528, load64(v9 + 16));
  store64(v9 + 520, load64(v9 + 8));
  store64(v9 + 512, load64(v9));
- v3 = digest_buffer_digest_into_33c1e97afcdf8a5d(v9.plus(1664).plus(144), load64(v9 + 1936),
-   v9.plus(512), 64, v9.plus(1664));
- store8(v9 + 1800, 1);
- store64(v9 + 1936, v3);
- copy(v9, v9.plus(1664), 280);
+ v3 = digest_buffer_digest_into_33c1e97afcdf8a5d(v9.plus(1504).plus(144), load64(v9 + 1776),
+   v9.plus(512), 64, v9.plus(1504));
+ store8(v9 + 1640, 1);
+ store64(v9 + 1776, v3);
+ copy(v9, v9.plus(1504), 280);
  v3 = load64(v9 + 272);
  v1 = load64(v9 + 128).plus(v3);
  store64(v9 + 128, v1);
@@ -13616,26 +13433,26 @@ unsafe fn exported_tree_root(mut v0: u64, mut v1: u64, mut v2: u64, mut v3: u64,
  return 0;
  }
  v4 = 0;
- fill(v9 + 1632, 0, 16);
+ fill(v9 + 1472, 0, 16);
  'l27: loop {
  v11 = (v5 == 0) as u32;
  if v11 != 0 { break 'l27; }
- copy(v9.plus(1632), v13, v5);
+ copy(v9.plus(1472), v13, v5);
  break 'l27; }
- fill(v9 + 1648, 0, 16);
+ fill(v9 + 1488, 0, 16);
  'l28: loop {
  v15 = (v7 == 0) as u32;
  if v15 != 0 { break 'l28; }
- copy(v9.plus(1648), v12, v7);
+ copy(v9.plus(1488), v12, v7);
  break 'l28; }
  store64(v9 + 720, v5);
  store32(v9 + 756, 0);
  store32(v9 + 752, v8 as u64);
  store64(v9 + 744, v7);
- store64(v9 + 712, load64(v9 + 1640));
- store64(v9 + 704, load64(v9 + 1632));
- store64(v9 + 728, load64(v9 + 1648));
- store64(v9 + 736, load64(v9 + 1656));
+ store64(v9 + 712, load64(v9 + 1480));
+ store64(v9 + 704, load64(v9 + 1472));
+ store64(v9 + 728, load64(v9 + 1488));
+ store64(v9 + 736, load64(v9 + 1496));
  fill(v9, 0, 32);
  'l29: loop {
  if v11 != 0 { break 'l29; }
@@ -13686,11 +13503,11 @@ unsafe fn exported_tree_root(mut v0: u64, mut v1: u64, mut v2: u64, mut v3: u64,
  store64(v9 + 784, 0x3c6ef372fe94b82b);
  store64(v9 + 776, 0xbb67ae8584caa73b);
  store64(v9 + 768, v2);
- store64(v9 + 712, load64(v9 + 1640));
- store64(v9 + 704, load64(v9 + 1632));
+ store64(v9 + 712, load64(v9 + 1480));
+ store64(v9 + 704, load64(v9 + 1472));
  store64(v9 + 720, v5);
- store64(v9 + 728, load64(v9 + 1648));
- store64(v9 + 736, load64(v9 + 1656));
+ store64(v9 + 728, load64(v9 + 1488));
+ store64(v9 + 736, load64(v9 + 1496));
  fill(v9 + 756, 0, 12);
  store32(v9 + 752, v8 as u64);
  store64(v9 + 744, v7);
@@ -13725,23 +13542,23 @@ unsafe fn exported_tree_root(mut v0: u64, mut v1: u64, mut v2: u64, mut v3: u64,
  v11 = v8;
  break 'l33;
  }
- v19 = v9.plus(1664) | 16;
+ v19 = v9.plus(1504) | 16;
  v17 = v9.plus(1192);
  v18 = v9.plus(64);
  v4 = 0;
  v5 = 0;
  'l35: loop {
- fill(v9 + 1664, 0, 64);
- tree_nodes_Nodes_leaf_digest(v9.plus(1664), v9.plus(704), v5, 0, v6, v1);
+ fill(v9 + 1504, 0, 64);
+ tree_nodes_Nodes_leaf_digest(v9.plus(1504), v9.plus(704), v5, 0, v6, v1);
  fill(v18, 0, 448);
- store64(v9 + 56, load64(v9 + 1720));
- store64(v9 + 48, load64(v9 + 1712));
- store64(v9 + 40, load64(v9 + 1704));
- store64(v9 + 32, load64(v9 + 1696));
- store64(v9 + 24, load64(v9 + 1688));
- store64(v9 + 16, load64(v9 + 1680));
- store64(v9 + 8, load64(v9 + 1672));
- store64(v9, load64(v9 + 1664));
+ store64(v9 + 56, load64(v9 + 1560));
+ store64(v9 + 48, load64(v9 + 1552));
+ store64(v9 + 40, load64(v9 + 1544));
+ store64(v9 + 32, load64(v9 + 1536));
+ store64(v9 + 24, load64(v9 + 1528));
+ store64(v9 + 16, load64(v9 + 1520));
+ store64(v9 + 8, load64(v9 + 1512));
+ store64(v9, load64(v9 + 1504));
  v4 = digest_buffer_digest_into_33c1e97afcdf8a5d(v17, v4, v9, 64, v13);
  store64(v9 + 1320, v4);
  v5 = load64(v9 + 760).plus(1);
@@ -13749,10 +13566,10 @@ unsafe fn exported_tree_root(mut v0: u64, mut v1: u64, mut v2: u64, mut v3: u64,
  v11 = load32(v9 + 752);
  v1 = load64(v9 + 744);
  v7 = load64(v9 + 720);
- fill(v9 + 1664, 0, 32);
+ fill(v9 + 1504, 0, 32);
  'l36: loop {
  if v7 == 0 { break 'l36; }
- copy(v9.plus(1664), v9.plus(704), v7);
+ copy(v9.plus(1504), v9.plus(704), v7);
  break 'l36; }
  'l37: loop {
  if v1 == 0 { break 'l37; }
@@ -13769,13 +13586,13 @@ unsafe fn exported_tree_root(mut v0: u64, mut v1: u64, mut v2: u64, mut v3: u64,
  store64(v9 + 784, 0x3c6ef372fe94b82b);
  store64(v9 + 776, v7);
  store64(v9 + 768, v2);
- v7 = load64(v9 + 1688) ^ 0x5be0cd19137e2179;
+ v7 = load64(v9 + 1528) ^ 0x5be0cd19137e2179;
  store64(v9 + 888, v7);
- v2 = load64(v9 + 1680) ^ 0x1f83d9abfb41bd6b;
+ v2 = load64(v9 + 1520) ^ 0x1f83d9abfb41bd6b;
  store64(v9 + 880, v2);
- v0 = load64(v9 + 1672) ^ 0x9b05688c2b3e6c1f;
+ v0 = load64(v9 + 1512) ^ 0x9b05688c2b3e6c1f;
  store64(v9 + 872, v0);
- v12 = load64(v9 + 1664) ^ 0x510e527fade682d1;
+ v12 = load64(v9 + 1504) ^ 0x510e527fade682d1;
  store64(v9 + 864, v12);
  store64(v9 + 824, v7);
  store64(v9 + 816, v2);
@@ -13793,7 +13610,7 @@ unsafe fn exported_tree_root(mut v0: u64, mut v1: u64, mut v2: u64, mut v3: u64,
  v7 = 0;
  'l38: loop {
  if v1 >= v3 { break 'l38; }
- v23 = v9.plus(1664) | 16;
+ v23 = v9.plus(1504) | 16;
  v24 = v9 | 16;
  v20 = v9.plus(64);
  v18 = v9.plus(1192);
@@ -13808,17 +13625,17 @@ unsafe fn exported_tree_root(mut v0: u64, mut v1: u64, mut v2: u64, mut v3: u64,
  if v7 != 0_u64.minus(v2) { break 'l41; }
  if (v12 << 2) >= v3 { break 'l41; }
  v7 = 0;
- fill(v9 + 1664, 0, 64);
- tree_nodes_Nodes_leaf_digest(v9.plus(1664), v9.plus(704), v5, 0, v6, v12);
+ fill(v9 + 1504, 0, 64);
+ tree_nodes_Nodes_leaf_digest(v9.plus(1504), v9.plus(704), v5, 0, v6, v12);
  fill(v20, 0, 448);
- store64(v9 + 56, load64(v9 + 1720));
- store64(v9 + 48, load64(v9 + 1712));
- store64(v9 + 40, load64(v9 + 1704));
- store64(v9 + 32, load64(v9 + 1696));
- store64(v9 + 24, load64(v9 + 1688));
- store64(v9 + 16, load64(v9 + 1680));
- store64(v9 + 8, load64(v9 + 1672));
- store64(v9, load64(v9 + 1664));
+ store64(v9 + 56, load64(v9 + 1560));
+ store64(v9 + 48, load64(v9 + 1552));
+ store64(v9 + 40, load64(v9 + 1544));
+ store64(v9 + 32, load64(v9 + 1536));
+ store64(v9 + 24, load64(v9 + 1528));
+ store64(v9 + 16, load64(v9 + 1520));
+ store64(v9 + 8, load64(v9 + 1512));
+ store64(v9, load64(v9 + 1504));
  v4 = digest_buffer_digest_into_33c1e97afcdf8a5d(v18, v4, v9, 64, v13);
  store64(v9 + 1320, v4);
  v5 = load64(v9 + 760).plus(1);
@@ -13826,10 +13643,10 @@ unsafe fn exported_tree_root(mut v0: u64, mut v1: u64, mut v2: u64, mut v3: u64,
  v8 = load32(v9 + 752);
  v1 = load64(v9 + 744);
  v2 = load64(v9 + 720);
- fill(v9 + 1664, 0, 32);
+ fill(v9 + 1504, 0, 32);
  'l42: loop {
  if v2 == 0 { break 'l42; }
- copy(v9.plus(1664), v9.plus(704), v2);
+ copy(v9.plus(1504), v9.plus(704), v2);
  break 'l42; }
  'l43: loop {
  if v1 == 0 { break 'l43; }
@@ -13845,13 +13662,13 @@ unsafe fn exported_tree_root(mut v0: u64, mut v1: u64, mut v2: u64, mut v3: u64,
  store64(v9 + 784, 0x3c6ef372fe94b82b);
  store64(v9 + 776, v1);
  store64(v9 + 768, v2);
- v1 = load64(v9 + 1688) ^ 0x5be0cd19137e2179;
+ v1 = load64(v9 + 1528) ^ 0x5be0cd19137e2179;
  store64(v9 + 888, v1);
- v2 = load64(v9 + 1680) ^ 0x1f83d9abfb41bd6b;
+ v2 = load64(v9 + 1520) ^ 0x1f83d9abfb41bd6b;
  store64(v9 + 880, v2);
- v0 = load64(v9 + 1672) ^ 0x9b05688c2b3e6c1f;
+ v0 = load64(v9 + 1512) ^ 0x9b05688c2b3e6c1f;
  store64(v9 + 872, v0);
- v12 = load64(v9 + 1664) ^ 0x510e527fade682d1;
+ v12 = load64(v9 + 1504) ^ 0x510e527fade682d1;
  store64(v9 + 864, v12);
  store64(v9 + 824, v1);
  store64(v9 + 816, v2);
@@ -13909,13 +13726,13 @@ unsafe fn exported_tree_root(mut v0: u64, mut v1: u64, mut v2: u64, mut v3: u64,
  v5 = load64(v9 + 272);
  v7 = load64(v9 + 128).plus(v5);
  store64(v9 + 128, v7);
- fill(v9.plus(1664), 0, 128);
+ fill(v9.plus(1504), 0, 128);
  'l46: loop {
  if v5 == 0 { break 'l46; }
- copy(v9.plus(1664), v19, v5);
+ copy(v9.plus(1504), v19, v5);
  break 'l46; }
  fill(v19, 0, 136);
- compress_compress_blake2b_compress(v9, v9.plus(1664), v7, 1, load8(v9 + 136));
+ compress_compress_blake2b_compress(v9, v9.plus(1504), v7, 1, load8(v9 + 136));
  store64(v9 + 632, load64(v9 + 56));
  store64(v9 + 624, load64(v9 + 48));
  store64(v9 + 616, load64(v9 + 40));
@@ -13944,7 +13761,7 @@ unsafe fn exported_tree_root(mut v0: u64, mut v1: u64, mut v2: u64, mut v3: u64,
  store64(v9 + 1040, t10);
  copy(v9, v17, 136);
  copy(v9.plus(137), v9.plus(905), 143);
- copy(v9.plus(1664), v13, 280);
+ copy(v9.plus(1504), v13, 280);
  store8(v9 + 136, 1);
  v3 = load64(v9 + 272);
  v1 = load64(v9 + 128).plus(v3);
@@ -13965,11 +13782,11 @@ unsafe fn exported_tree_root(mut v0: u64, mut v1: u64, mut v2: u64, mut v3: u64,
  store64(v9 + 528, load64(v9 + 16));
  store64(v9 + 520, load64(v9 + 8));
  store64(v9 + 512, load64(v9));
- v3 = digest_buffer_digest_into_33c1e97afcdf8a5d(v9.plus(1664).plus(144), load64(v9 + 1936),
-   v9.plus(512), 64, v9.plus(1664));
- store8(v9 + 1800, 1);
- store64(v9 + 1936, v3);
- copy(v9, v9.plus(1664), 280);
+ v3 = digest_buffer_digest_into_33c1e97afcdf8a5d(v9.plus(1504).plus(144), load64(v9 + 1776),
+   v9.plus(512), 64, v9.plus(1504));
+ store8(v9 + 1640, 1);
+ store64(v9 + 1776, v3);
+ copy(v9, v9.plus(1504), 280);
  v3 = load64(v9 + 272);
  v1 = load64(v9 + 128).plus(v3);
  store64(v9 + 128, v1);
@@ -14003,11 +13820,11 @@ unsafe fn exported_tree_root(mut v0: u64, mut v1: u64, mut v2: u64, mut v3: u64,
  if v15 != 0 { break 'l49; }
  copy(v9.plus(576), v13, v5);
  break 'l49; }
- fill(v9 + 1664, 0, 16);
+ fill(v9 + 1504, 0, 16);
  'l50: loop {
  v25 = (v7 == 0) as u32;
  if v25 != 0 { break 'l50; }
- copy(v9.plus(1664), v12, v7);
+ copy(v9.plus(1504), v12, v7);
  break 'l50; }
  store64(v9 + 16, v5);
  v11 = 0;
@@ -14015,8 +13832,8 @@ unsafe fn exported_tree_root(mut v0: u64, mut v1: u64, mut v2: u64, mut v3: u64,
  store64(v9 + 40, v7);
  store64(v9 + 8, load64(v9 + 584));
  store64(v9, load64(v9 + 576));
- store64(v9 + 24, load64(v9 + 1664));
- store64(v9 + 32, load64(v9 + 1672));
+ store64(v9 + 24, load64(v9 + 1504));
+ store64(v9 + 32, load64(v9 + 1512));
  store32(v9 + 48, v8 as u64);
  fill(v9 + 704, 0, 32);
  'l51: loop {
@@ -14042,19 +13859,19 @@ unsafe fn exported_tree_root(mut v0: u64, mut v1: u64, mut v2: u64, mut v3: u64,
  if v25 != 0 { break 'l54; }
  copy(v2, v4, v7);
  break 'l54; }
- fill(v9 + 1632, 0, 16);
+ fill(v9 + 1472, 0, 16);
  v4 = load64(v9 + 704);
  v2 = load64(v9 + 712);
  v18 = load64(v9 + 720);
  v19 = load64(v9 + 728);
  'l55: loop {
  if v15 != 0 { break 'l55; }
- copy(v9.plus(1632), v13, v5);
+ copy(v9.plus(1472), v13, v5);
  break 'l55; }
- fill(v9 + 1648, 0, 16);
+ fill(v9 + 1488, 0, 16);
  'l56: loop {
  if v25 != 0 { break 'l56; }
- copy(v9.plus(1648), v12, v7);
+ copy(v9.plus(1488), v12, v7);
  break 'l56; }
  v12 = v16 ^ 0x5be0cd19137e2179;
  store64(v9 + 824, v12);
@@ -14079,45 +13896,46 @@ unsafe fn exported_tree_root(mut v0: u64, mut v1: u64, mut v2: u64, mut v3: u64,
  store64(v9 + 720, 0x3c6ef372fe94b82b);
  store64(v9 + 712, 0xbb67ae8584caa73b);
  store64(v9 + 704, v20);
- store64(v9 + 512, load64(v9 + 1632));
- store64(v9 + 520, load64(v9 + 1640));
- store64(v9 + 528, load64(v9 + 1648));
- store64(v9 + 536, load64(v9 + 1656));
- fill(v9 + 832, 0, 24);
- store64(v9 + 856, 64);
- fill(v9.plus(864), 0, 264);
- store64(v9 + 1256, 0);
+ store64(v9 + 512, load64(v9 + 1472));
+ store64(v9 + 520, load64(v9 + 1480));
+ store64(v9 + 528, load64(v9 + 1488));
+ store64(v9 + 536, load64(v9 + 1496));
+ fill(v9 + 832, 0, 16);
+ store32(v9 + 848, 64);
+ fill(v9.plus(852), 0, 196);
+ store64(v9 + 1176, 0);
  v0 = v19 ^ 0x5be0cd19137e2179;
- store64(v9 + 1248, v0);
+ store64(v9 + 1168, v0);
  v12 = v18 ^ 0x1f83d9abfb41bd6b;
- store64(v9 + 1240, v12);
+ store64(v9 + 1160, v12);
  v2 ^= 0x9b05688c2b3e6c1f;
- store64(v9 + 1232, v2);
+ store64(v9 + 1152, v2);
  v4 ^= 0x510e527fade682d1;
- store64(v9 + 1224, v4);
- store64(v9 + 1216, 0xa54ff53a5f1d36f1);
- store64(v9 + 1208, 0x3c6ef372fe94b82a);
- store64(v9 + 1200, 0xbb67ae8584caa73b);
- v13 = ((((v1 as u32) | 0x2000000) as u64) | v16) ^ 0x6a09e667f3bcc908;
- store64(v9 + 1192, v13);
- store64(v9 + 1184, v0);
- store64(v9 + 1176, v12);
- store64(v9 + 1168, v2);
- store64(v9 + 1160, v4);
- store64(v9 + 1152, 0xa54ff53a5f1d36f1);
- store64(v9 + 1144, 0x3c6ef372fe94b82a);
- store64(v9 + 1136, 0xbb67ae8584caa73b);
- store64(v9 + 1128, v13);
- fill(v9 + 1264, 0, 16);
- store64(v9 + 1280, v1);
- fill(v9.plus(1288), 0, 272);
- store64(v9 + 1576, v7);
- store64(v9 + 1568, v5);
- store64(v9 + 1560, v17);
- store64(v9 + 1584, load64(v9 + 512));
- store64(v9 + 1592, load64(v9 + 520));
- store64(v9 + 1600, load64(v9 + 528));
- store64(v9 + 1608, load64(v9 + 536));
+ store64(v9 + 1144, v4);
+ store64(v9 + 1136, 0xa54ff53a5f1d36f1);
+ store64(v9 + 1128, 0x3c6ef372fe94b82a);
+ store64(v9 + 1120, 0xbb67ae8584caa73b);
+ store64(v9 + 1104, v0);
+ store64(v9 + 1096, v12);
+ store64(v9 + 1088, v2);
+ store64(v9 + 1080, v4);
+ store64(v9 + 1072, 0xa54ff53a5f1d36f1);
+ store64(v9 + 1064, 0x3c6ef372fe94b82a);
+ store64(v9 + 1056, 0xbb67ae8584caa73b);
+ store64(v9 + 1184, 0);
+ v8 = v1 as u32;
+ store32(v9 + 1192, v8 as u64);
+ v1 = (((v8 | 0x2000000) as u64) | v16) ^ 0x6a09e667f3bcc908;
+ store64(v9 + 1112, v1);
+ store64(v9 + 1048, v1);
+ fill(v9.plus(1196), 0, 204);
+ store64(v9 + 1416, v7);
+ store64(v9 + 1408, v5);
+ store64(v9 + 1400, v17);
+ store64(v9 + 1424, load64(v9 + 512));
+ store64(v9 + 1432, load64(v9 + 520));
+ store64(v9 + 1440, load64(v9 + 528));
+ store64(v9 + 1448, load64(v9 + 536));
  state_tree_TreeState_update(v9.plus(704), v6, v3);
  store64(v9, load64(v9 + 704));
  store64(v9 + 8, load64(v9 + 712));
@@ -14137,42 +13955,54 @@ unsafe fn exported_tree_root(mut v0: u64, mut v1: u64, mut v2: u64, mut v3: u64,
  store64(v9 + 120, load64(v9 + 824));
  v6 = load64(v9 + 832);
  v3 = load64(v9 + 840);
- v1 = load64(v9 + 848);
- store64(v9 + 152, load64(v9 + 856));
- store64(v9 + 144, v1);
+ store32(v9 + 144, load32(v9 + 848) as u64);
  store64(v9 + 136, v3);
  store64(v9 + 128, v6);
- copy(v9.plus(168), v9.plus(704).plus(168), 128);
- copy(v9.plus(296), v9.plus(704).plus(296), 128);
- store64(v9 + 160, 1);
- store64(v9 + 1664, load64(v9 + 1128));
- store64(v9 + 1672, load64(v9 + 1136));
- store64(v9 + 1680, load64(v9 + 1144));
- store64(v9 + 1688, load64(v9 + 1152));
- store64(v9 + 1696, load64(v9 + 1160));
- store64(v9 + 1704, load64(v9 + 1168));
- store64(v9 + 1712, load64(v9 + 1176));
- store64(v9 + 1720, load64(v9 + 1184));
- store64(v9 + 1728, load64(v9 + 1192));
- store64(v9 + 1736, load64(v9 + 1200));
- store64(v9 + 1744, load64(v9 + 1208));
- store64(v9 + 1752, load64(v9 + 1216));
- store64(v9 + 1760, load64(v9 + 1224));
- store64(v9 + 1768, load64(v9 + 1232));
- store64(v9 + 1776, load64(v9 + 1240));
- store64(v9 + 1784, load64(v9 + 1248));
- store64(v9 + 1792, load64(v9 + 1256));
- store64(v9 + 1800, load64(v9 + 1264));
- store64(v9 + 1808, load64(v9 + 1272));
- store64(v9 + 1816, load64(v9 + 1280));
- store64(v9 + 1824, load64(v9 + 1288));
- copy(v9.plus(1664).plus(168), v9.plus(1296), 128);
- copy(v9.plus(1664).plus(296), v9.plus(1424), 128);
+ copy(v9.plus(152), v9.plus(704).plus(152), 128);
+ store32(v9 + 148, 1);
+ store64(v9 + 336, load64(v9 + 1040));
+ store64(v9 + 328, load64(v9 + 1032));
+ store64(v9 + 320, load64(v9 + 1024));
+ store64(v9 + 312, load64(v9 + 1016));
+ store64(v9 + 304, load64(v9 + 1008));
+ store64(v9 + 296, load64(v9 + 1000));
+ store64(v9 + 288, load64(v9 + 992));
+ store64(v9 + 280, load64(v9 + 984));
+ store64(v9 + 1504, load64(v9 + 1048));
+ store64(v9 + 1512, load64(v9 + 1056));
+ store64(v9 + 1520, load64(v9 + 1064));
+ store64(v9 + 1528, load64(v9 + 1072));
+ store64(v9 + 1536, load64(v9 + 1080));
+ store64(v9 + 1544, load64(v9 + 1088));
+ store64(v9 + 1552, load64(v9 + 1096));
+ store64(v9 + 1560, load64(v9 + 1104));
+ store64(v9 + 1624, load64(v9 + 1168));
+ store64(v9 + 1616, load64(v9 + 1160));
+ store64(v9 + 1608, load64(v9 + 1152));
+ store64(v9 + 1600, load64(v9 + 1144));
+ store64(v9 + 1592, load64(v9 + 1136));
+ store64(v9 + 1584, load64(v9 + 1128));
+ store64(v9 + 1576, load64(v9 + 1120));
+ store64(v9 + 1568, load64(v9 + 1112));
+ v6 = load64(v9 + 1176);
+ v3 = load64(v9 + 1184);
+ store64(v9 + 1648, load64(v9 + 1192));
+ store64(v9 + 1640, v3);
+ store64(v9 + 1632, v6);
+ copy(v9.plus(1504).plus(152), v9.plus(1200), 128);
  fill(v9 + 576, 0, 64);
+ store64(v9 + 1840, load64(v9 + 1384));
+ store64(v9 + 1832, load64(v9 + 1376));
+ store64(v9 + 1824, load64(v9 + 1368));
+ store64(v9 + 1816, load64(v9 + 1360));
+ store64(v9 + 1808, load64(v9 + 1352));
+ store64(v9 + 1800, load64(v9 + 1344));
+ store64(v9 + 1792, load64(v9 + 1336));
+ store64(v9 + 1784, load64(v9 + 1328));
  state_blake2b_State_write_digest(v9, v9.plus(576));
- state_blake2b_State_take(v9.plus(1664), v9.plus(576), 64);
- store64(v9 + 1824, 1);
- state_blake2b_State_write_digest(v9.plus(1664), v14);
+ state_blake2b_State_take(v9.plus(1504), v9.plus(576), 64);
+ store32(v9 + 1652, 1);
+ state_blake2b_State_write_digest(v9.plus(1504), v14);
  break 'l2; }
  return v11;
 }
@@ -14290,44 +14120,45 @@ unsafe fn exported_tree_init(mut v0: u64, mut v1: u64, mut v2: u64, mut v3: u64,
  store64(v7 + 16, load64(v7 + 152));
  store64(v7 + 24, load64(v7 + 96));
  store64(v7 + 32, load64(v7 + 104));
- fill(v0 + 128, 0, 24);
- store64(v0 + 152, 64);
- fill(v0.plus(160), 0, 264);
- store64(v0 + 552, 0);
+ fill(v0 + 128, 0, 16);
+ store32(v0 + 144, 64);
+ fill(v0.plus(148), 0, 196);
+ store64(v0 + 472, 0);
  v4 = v18 ^ 0x5be0cd19137e2179;
- store64(v0 + 544, v4);
+ store64(v0 + 464, v4);
  v2 = v17 ^ 0x1f83d9abfb41bd6b;
- store64(v0 + 536, v2);
+ store64(v0 + 456, v2);
  v12 ^= 0x9b05688c2b3e6c1f;
- store64(v0 + 528, v12);
+ store64(v0 + 448, v12);
  v9 ^= 0x510e527fade682d1;
- store64(v0 + 520, v9);
- store64(v0 + 512, 0xa54ff53a5f1d36f1);
- store64(v0 + 504, 0x3c6ef372fe94b82a);
- store64(v0 + 496, 0xbb67ae8584caa73b);
- v13 = ((((v1 as u32) | 0x2000000) as u64) | v16) ^ 0x6a09e667f3bcc908;
- store64(v0 + 488, v13);
- store64(v0 + 480, v4);
- store64(v0 + 472, v2);
- store64(v0 + 464, v12);
- store64(v0 + 456, v9);
- store64(v0 + 448, 0xa54ff53a5f1d36f1);
- store64(v0 + 440, 0x3c6ef372fe94b82a);
- store64(v0 + 432, 0xbb67ae8584caa73b);
- store64(v0 + 424, v13);
- fill(v0 + 560, 0, 16);
- store64(v0 + 576, v1);
- fill(v0.plus(584), 0, 272);
- store64(v0 + 872, v5);
- store64(v0 + 864, v3);
- store64(v0 + 856, v15);
- store64(v0 + 880, load64(v7 + 8));
- store64(v0 + 888, load64(v7 + 16));
- store64(v0 + 896, load64(v7 + 24));
- store64(v0 + 904, load64(v7 + 32));
+ store64(v0 + 440, v9);
+ store64(v0 + 432, 0xa54ff53a5f1d36f1);
+ store64(v0 + 424, 0x3c6ef372fe94b82a);
+ store64(v0 + 416, 0xbb67ae8584caa73b);
+ v6 = v1 as u32;
+ v1 = (((v6 | 0x2000000) as u64) | v16) ^ 0x6a09e667f3bcc908;
+ store64(v0 + 408, v1);
+ store64(v0 + 400, v4);
+ store64(v0 + 392, v2);
+ store64(v0 + 384, v12);
+ store64(v0 + 376, v9);
+ store64(v0 + 368, 0xa54ff53a5f1d36f1);
+ store64(v0 + 360, 0x3c6ef372fe94b82a);
+ store64(v0 + 352, 0xbb67ae8584caa73b);
+ store64(v0 + 344, v1);
+ store64(v0 + 480, 0);
+ store32(v0 + 488, v6 as u64);
+ fill(v0.plus(492), 0, 204);
+ store64(v0 + 712, v5);
+ store64(v0 + 704, v3);
+ store64(v0 + 696, v15);
+ store64(v0 + 720, load64(v7 + 8));
+ store64(v0 + 728, load64(v7 + 16));
+ store64(v0 + 736, load64(v7 + 24));
+ store64(v0 + 744, load64(v7 + 32));
  return 0;
  }
- fill(v0, 0, 912);
+ fill(v0, 0, 752);
  return 0xffffffff;
 }
 
@@ -14335,39 +14166,40 @@ unsafe fn exported_tree_init(mut v0: u64, mut v1: u64, mut v2: u64, mut v3: u64,
 #[inline(never)]
 unsafe fn state_tree_TreeState_is_ready(mut v0: u64) -> u32 {
  let mut v1: u32;
- let mut v2: u64;
- let mut v3: u64;
+ let mut v2: u32;
+ let mut v3: u32;
  let mut v4: u64;
- let mut v5: u64;
+ let mut v5: u32;
  let mut v6: u64;
+ let mut v7: u64;
  let mut t0: u64;
  v1 = 0;
  'l2: loop {
- v2 = load64(v0.plus(152));
+ v2 = load32(v0.plus(144));
  if v2.minus(1) > 63 { break 'l2; }
- v3 = load64(v0.plus(136));
+ v3 = load32(v0.plus(136));
  if v3 > 128 { break 'l2; }
- if load64(v0.plus(144)) > 128 { break 'l2; }
+ if load32(v0.plus(140)) > 128 { break 'l2; }
  v4 = load64(v0.plus(128));
- if v4 > (!v3) { break 'l2; }
- if load64(v0.plus(576)).minus(1) > 63 { break 'l2; }
- v5 = load64(v0.plus(560));
+ if v4 > sign64((!v3) as u64, 0x80000000) { break 'l2; }
+ if load32(v0.plus(488)).minus(1) > 63 { break 'l2; }
+ v5 = load32(v0.plus(480));
  if v5 > 128 { break 'l2; }
- if load64(v0.plus(568)) > 128 { break 'l2; }
+ if load32(v0.plus(484)) > 128 { break 'l2; }
  if v2 != 64 { break 'l2; }
- v2 = load64(v0.plus(552));
- if v2 > (!v5) { break 'l2; }
- v6 = load64(v0.plus(856));
- if v6.minus(1) > 0xfffffffe { break 'l2; }
- if load64(v0.plus(864)) > 16 { break 'l2; }
- if load64(v0.plus(872)) > 16 { break 'l2; }
- v3 = v3.plus(v4);
- if v3 > v6 { break 'l2; }
- v0 = load64(v0.plus(848));
- t0 = div_u64(0x3ffffffffffffff_u64.minus(v3), v6);
+ v6 = load64(v0.plus(472));
+ if v6 > sign64((!v5) as u64, 0x80000000) { break 'l2; }
+ v7 = load64(v0.plus(696));
+ if v7.minus(1) > 0xfffffffe { break 'l2; }
+ if load64(v0.plus(704)) > 16 { break 'l2; }
+ if load64(v0.plus(712)) > 16 { break 'l2; }
+ v4 = v4.plus(v3 as u64);
+ if v4 > v7 { break 'l2; }
+ v0 = load64(v0.plus(688));
+ t0 = div_u64(0x3ffffffffffffff_u64.minus(v4), v7);
  if v0 > t0 { break 'l2; }
  if v0 > 0x3fffffffffffffe { break 'l2; }
- v1 = (v5.plus(v2) == (v0 << 6)) as u32;
+ v1 = (v6.plus(v5 as u64) == (v0 << 6)) as u32;
  break 'l2; }
  return v1;
 }
@@ -14382,8 +14214,8 @@ unsafe fn exported_tree_update(mut v0: u64, mut v1: u64, mut v2: u64) -> u32 {
  t0 = state_tree_TreeState_is_ready(v0);
  if t0 == 0 { break 'l2; }
  if
-   0x3ffffffffffffff_u64.minus(load64(v0.plus(128)).plus(load64(v0.plus(856)).times(load64(v0.plus(848)))).plus(load64(v0.plus(136))))
-   < v2 { break 'l2; }
+   0x3ffffffffffffff_u64.minus(load64(v0.plus(128)).plus(load64(v0.plus(696)).times(load64(v0.plus(688)))).plus(load32(v0.plus(136))
+   as u64)) < v2 { break 'l2; }
  state_tree_TreeState_update(v0, v1.plus(if v1 == 0 { 4096_u64 } else { 0 }), v2);
  v4 = 0;
  break 'l2; }
@@ -14394,59 +14226,74 @@ unsafe fn exported_tree_update(mut v0: u64, mut v1: u64, mut v2: u64) -> u32 {
 #[inline(never)]
 unsafe fn state_tree_TreeState_write_root(mut v0: u64, mut v1: u64) {
  let mut v2: u64;
- let mut frame = [0_u64; 116];
- let top = (address!(frame)).plus(928) & !15;
- v2 = top.minus(912);
- store64(v2 + 480, load64(v0 + 56));
- store64(v2 + 472, load64(v0 + 48));
- store64(v2 + 464, load64(v0 + 40));
- store64(v2 + 456, load64(v0 + 32));
- store64(v2 + 448, load64(v0 + 24));
- store64(v2 + 440, load64(v0 + 16));
- store64(v2 + 432, load64(v0 + 8));
- store64(v2 + 424, load64(v0));
- store64(v2 + 488, load64(v0.plus(64)));
- store64(v2 + 496, load64(v0.plus(72)));
- store64(v2 + 504, load64(v0.plus(80)));
- store64(v2 + 512, load64(v0.plus(88)));
- store64(v2 + 520, load64(v0.plus(96)));
- store64(v2 + 528, load64(v0.plus(104)));
- store64(v2 + 536, load64(v0.plus(112)));
- store64(v2 + 544, load64(v0.plus(120)));
- store64(v2 + 576, load64(v0.plus(152)));
- store64(v2 + 568, load64(v0.plus(144)));
- store64(v2 + 560, load64(v0.plus(136)));
- store64(v2 + 552, load64(v0.plus(128)));
- copy(v2.plus(424).plus(168), v0.plus(168), 128);
- copy(v2.plus(424).plus(296), v0.plus(296), 128);
- store64(v2 + 584, 1);
- store64(v2, load64(v0.plus(424)));
- store64(v2 + 8, load64(v0.plus(432)));
- store64(v2 + 16, load64(v0.plus(440)));
- store64(v2 + 24, load64(v0.plus(448)));
- store64(v2 + 32, load64(v0.plus(456)));
- store64(v2 + 40, load64(v0.plus(464)));
- store64(v2 + 48, load64(v0.plus(472)));
- store64(v2 + 56, load64(v0.plus(480)));
- store64(v2 + 64, load64(v0.plus(488)));
- store64(v2 + 72, load64(v0.plus(496)));
- store64(v2 + 80, load64(v0.plus(504)));
- store64(v2 + 88, load64(v0.plus(512)));
- store64(v2 + 96, load64(v0.plus(520)));
- store64(v2 + 104, load64(v0.plus(528)));
- store64(v2 + 112, load64(v0.plus(536)));
- store64(v2 + 120, load64(v0.plus(544)));
- store64(v2 + 160, load64(v0.plus(584)));
- store64(v2 + 152, load64(v0.plus(576)));
- store64(v2 + 144, load64(v0.plus(568)));
- store64(v2 + 136, load64(v0.plus(560)));
- store64(v2 + 128, load64(v0.plus(552)));
- copy(v2.plus(168), v0.plus(592), 128);
- copy(v2.plus(296), v0.plus(720), 128);
- fill(v2 + 848, 0, 64);
- state_blake2b_State_write_digest(v2.plus(424), v2.plus(848));
- state_blake2b_State_take(v2, v2.plus(848), 64);
- store64(v2 + 160, 1);
+ let mut v3: u64;
+ let mut v4: u64;
+ let mut frame = [0_u64; 96];
+ let top = (address!(frame)).plus(768) & !15;
+ v2 = top.minus(752);
+ store64(v2 + 400, load64(v0 + 56));
+ store64(v2 + 392, load64(v0 + 48));
+ store64(v2 + 384, load64(v0 + 40));
+ store64(v2 + 376, load64(v0 + 32));
+ store64(v2 + 368, load64(v0 + 24));
+ store64(v2 + 360, load64(v0 + 16));
+ store64(v2 + 352, load64(v0 + 8));
+ store64(v2 + 344, load64(v0));
+ store64(v2 + 408, load64(v0.plus(64)));
+ store64(v2 + 416, load64(v0.plus(72)));
+ store64(v2 + 424, load64(v0.plus(80)));
+ store64(v2 + 432, load64(v0.plus(88)));
+ store64(v2 + 440, load64(v0.plus(96)));
+ store64(v2 + 448, load64(v0.plus(104)));
+ store64(v2 + 456, load64(v0.plus(112)));
+ store64(v2 + 464, load64(v0.plus(120)));
+ store64(v2 + 472, load64(v0.plus(128)));
+ store32(v2 + 488, load32(v0.plus(144)) as u64);
+ store64(v2 + 480, load64(v0.plus(136)));
+ copy(v2.plus(344).plus(152), v0.plus(152), 128);
+ store32(v2 + 492, 1);
+ store64(v2 + 680, load64(v0.plus(336)));
+ store64(v2 + 672, load64(v0.plus(328)));
+ store64(v2 + 664, load64(v0.plus(320)));
+ store64(v2 + 656, load64(v0.plus(312)));
+ store64(v2 + 648, load64(v0.plus(304)));
+ store64(v2 + 640, load64(v0.plus(296)));
+ store64(v2 + 632, load64(v0.plus(288)));
+ store64(v2 + 624, load64(v0.plus(280)));
+ store64(v2, load64(v0.plus(344)));
+ store64(v2 + 8, load64(v0.plus(352)));
+ store64(v2 + 16, load64(v0.plus(360)));
+ store64(v2 + 24, load64(v0.plus(368)));
+ store64(v2 + 32, load64(v0.plus(376)));
+ store64(v2 + 40, load64(v0.plus(384)));
+ store64(v2 + 48, load64(v0.plus(392)));
+ store64(v2 + 56, load64(v0.plus(400)));
+ store64(v2 + 120, load64(v0.plus(464)));
+ store64(v2 + 112, load64(v0.plus(456)));
+ store64(v2 + 104, load64(v0.plus(448)));
+ store64(v2 + 96, load64(v0.plus(440)));
+ store64(v2 + 88, load64(v0.plus(432)));
+ store64(v2 + 80, load64(v0.plus(424)));
+ store64(v2 + 72, load64(v0.plus(416)));
+ store64(v2 + 64, load64(v0.plus(408)));
+ v3 = load64(v0.plus(472));
+ v4 = load64(v0.plus(480));
+ store64(v2 + 144, load64(v0.plus(488)));
+ store64(v2 + 136, v4);
+ store64(v2 + 128, v3);
+ copy(v2.plus(152), v0.plus(496), 128);
+ fill(v2 + 688, 0, 64);
+ store64(v2 + 336, load64(v0.plus(680)));
+ store64(v2 + 328, load64(v0.plus(672)));
+ store64(v2 + 320, load64(v0.plus(664)));
+ store64(v2 + 312, load64(v0.plus(656)));
+ store64(v2 + 304, load64(v0.plus(648)));
+ store64(v2 + 296, load64(v0.plus(640)));
+ store64(v2 + 288, load64(v0.plus(632)));
+ store64(v2 + 280, load64(v0.plus(624)));
+ state_blake2b_State_write_digest(v2.plus(344), v2.plus(688));
+ state_blake2b_State_take(v2, v2.plus(688), 64);
+ store32(v2 + 148, 1);
  state_blake2b_State_write_digest(v2, v1);
  return;
 }
@@ -14460,10 +14307,10 @@ unsafe fn exported_tree_final(mut v0: u64, mut v1: u64, mut v2: u64) -> u32 {
  'l2: loop {
  t0 = state_tree_TreeState_is_ready(v0);
  if t0 == 0 { break 'l2; }
- if v2 != load64(v0.plus(576)) { break 'l2; }
+ if v2 != (load32(v0.plus(488)) as u64) { break 'l2; }
  state_tree_TreeState_write_root(v0, v1.plus(if v1 == 0 { 4096_u64 } else { 0 }));
  v4 = 0;
- fill(v0, 0, 912);
+ fill(v0, 0, 752);
  break 'l2; }
  return v4;
 }
@@ -14474,7 +14321,7 @@ unsafe fn exported_tree_wipe(mut v0: u64) {
  'l1: loop {
  break 'l1;
  }
- fill(v0, 0, 912);
+ fill(v0, 0, 752);
 }
 
 // rattle::export vulfsjor_ffi_tree_digest_size
@@ -14486,7 +14333,7 @@ unsafe fn exported_tree_digest_size(mut v0: u64) -> u64 {
  'l2: loop {
  t0 = state_tree_TreeState_is_ready(v0);
  if t0 == 0 { break 'l2; }
- v2 = load64(v0.plus(576));
+ v2 = load32(v0.plus(488)) as u64;
  break 'l2; }
  return v2;
 }
@@ -14501,7 +14348,8 @@ unsafe fn exported_tree_count(mut v0: u64) -> u64 {
  t0 = state_tree_TreeState_is_ready(v0);
  if t0 == 0 { break 'l2; }
  v2 =
-   load64(v0.plus(856)).times(load64(v0.plus(848))).plus(load64(v0.plus(128))).plus(load64(v0.plus(136)));
+   load64(v0.plus(696)).times(load64(v0.plus(688))).plus(load64(v0.plus(128))).plus(load32(v0.plus(136))
+   as u64);
  break 'l2; }
  return v2;
 }
@@ -14515,7 +14363,7 @@ unsafe fn exported_tree_leaf_length(mut v0: u64) -> u32 {
  'l2: loop {
  t0 = state_tree_TreeState_is_ready(v0);
  if t0 == 0 { break 'l2; }
- v2 = load32(v0.plus(856));
+ v2 = load32(v0.plus(696));
  break 'l2; }
  return v2;
 }
@@ -14535,7 +14383,7 @@ unsafe fn module_tree_state_size() -> u64 {
  break 'l1;
  }
  exported_tree_state_size();
- return 912;
+ return 752;
 }
 
 // rattle::export vulfsjor_ffi_tree_leaf_count
@@ -14717,10 +14565,10 @@ unsafe fn exported_tree_root_of_leaves(mut v0: u64, mut v1: u64, mut v2: u64, mu
  let mut v12: u32;
  let mut v13: u32;
  let mut v14: u32;
- let mut frame = [0_u64; 74];
- let top = (address!(frame)).plus(592) & !15;
+ let mut frame = [0_u64; 66];
+ let top = (address!(frame)).plus(528) & !15;
  v9 = top;
- v9 = v9.minus(544) & 0xffffffffffffffe0;
+ v9 = v9.minus(480) & 0xffffffffffffffe0;
  v11 = 0xffffffff;
  'l2: loop {
  if v1.minus(1) > 63 { break 'l2; }
@@ -14729,69 +14577,70 @@ unsafe fn exported_tree_root_of_leaves(mut v0: u64, mut v1: u64, mut v2: u64, mu
  if v8 == 0 { break 'l2; }
  if v3 == 0 { break 'l2; }
  if (v3 & 63) != 0 { break 'l2; }
- fill(v9 + 480, 0, 16);
+ fill(v9 + 416, 0, 16);
  'l3: loop {
  v12 = (v5 == 0) as u32;
  if v12 != 0 { break 'l3; }
- copy(v9.plus(480), v4.plus(if v4 == 0 { 4096_u64 } else { 0 }), v5);
+ copy(v9.plus(416), v4.plus(if v4 == 0 { 4096_u64 } else { 0 }), v5);
  break 'l3; }
  v11 = (v2 == 0) as u32;
  v13 = (v0 == 0) as u32;
- fill(v9 + 496, 0, 16);
+ fill(v9 + 432, 0, 16);
  'l4: loop {
  v14 = (v7 == 0) as u32;
  if v14 != 0 { break 'l4; }
- copy(v9.plus(496), v6.plus(if v6 == 0 { 4096_u64 } else { 0 }), v7);
+ copy(v9.plus(432), v6.plus(if v6 == 0 { 4096_u64 } else { 0 }), v7);
  break 'l4; }
  v6 = if v11 != 0 { 4096_u64 } else { 0 };
  v4 = if v13 != 0 { 4096_u64 } else { 0 };
- store64(v9 + 440, v5);
+ store64(v9 + 376, v5);
  v11 = 0;
- store32(v9 + 476, 0);
- store64(v9 + 464, v7);
- store64(v9 + 432, load64(v9 + 488));
- store64(v9 + 424, load64(v9 + 480));
- store64(v9 + 448, load64(v9 + 496));
- store64(v9 + 456, load64(v9 + 504));
- store32(v9 + 472, v8 as u64);
- fill(v9 + 512, 0, 32);
+ store32(v9 + 412, 0);
+ store64(v9 + 400, v7);
+ store64(v9 + 368, load64(v9 + 424));
+ store64(v9 + 360, load64(v9 + 416));
+ store64(v9 + 384, load64(v9 + 432));
+ store64(v9 + 392, load64(v9 + 440));
+ store32(v9 + 408, v8 as u64);
+ fill(v9 + 448, 0, 32);
  'l5: loop {
  if v12 != 0 { break 'l5; }
- copy(v9.plus(512), v9.plus(424), v5);
+ copy(v9.plus(448), v9.plus(360), v5);
  break 'l5; }
  v5 = v2.plus(v6);
  v2 = v0.plus(v4);
  'l6: loop {
  if v14 != 0 { break 'l6; }
- copy(v9.plus(512) | 16, v9.plus(448), v7);
+ copy(v9.plus(448) | 16, v9.plus(384), v7);
  break 'l6; }
- store64(v9 + 88, 0xa54ff53a5f1d36f1);
- store64(v9 + 80, 0x3c6ef372fe94b82a);
- store64(v9 + 72, 0xbb67ae8584caa73b);
- v7 = ((((v1 as u32) | 0x2000000) as u64) | ((v8 as u64) << 32)) ^ 0x6a09e667f3bcc908;
- store64(v9 + 64, v7);
- store64(v9 + 24, 0xa54ff53a5f1d36f1);
- store64(v9 + 16, 0x3c6ef372fe94b82a);
- store64(v9 + 8, 0xbb67ae8584caa73b);
- store64(v9, v7);
- v7 = load64(v9 + 536) ^ 0x5be0cd19137e2179;
- store64(v9 + 120, v7);
- v0 = load64(v9 + 528) ^ 0x1f83d9abfb41bd6b;
- store64(v9 + 112, v0);
- v6 = load64(v9 + 520) ^ 0x9b05688c2b3e6c1f;
- store64(v9 + 104, v6);
- v4 = load64(v9 + 512) ^ 0x510e527fade682d1;
- store64(v9 + 96, v4);
- store64(v9 + 56, v7);
- store64(v9 + 48, v0);
- store64(v9 + 40, v6);
- store64(v9 + 32, v4);
- fill(v9 + 128, 0, 24);
- store64(v9 + 152, v1);
- store64(v9 + 160, 1);
- fill(v9.plus(168), 0, 256);
- state_blake2b_State_take(v9, v5, v3);
- state_blake2b_State_write_digest(v9, v2);
+ store64(v9 + 104, 0xa54ff53a5f1d36f1);
+ store64(v9 + 96, 0x3c6ef372fe94b82a);
+ store64(v9 + 88, 0xbb67ae8584caa73b);
+ v12 = v1 as u32;
+ v7 = (((v12 | 0x2000000) as u64) | ((v8 as u64) << 32)) ^ 0x6a09e667f3bcc908;
+ store64(v9 + 80, v7);
+ store64(v9 + 40, 0xa54ff53a5f1d36f1);
+ store64(v9 + 32, 0x3c6ef372fe94b82a);
+ store64(v9 + 24, 0xbb67ae8584caa73b);
+ store64(v9 + 16, v7);
+ v7 = load64(v9 + 472) ^ 0x5be0cd19137e2179;
+ store64(v9 + 136, v7);
+ v1 = load64(v9 + 464) ^ 0x1f83d9abfb41bd6b;
+ store64(v9 + 128, v1);
+ v0 = load64(v9 + 456) ^ 0x9b05688c2b3e6c1f;
+ store64(v9 + 120, v0);
+ v6 = load64(v9 + 448) ^ 0x510e527fade682d1;
+ store64(v9 + 112, v6);
+ store64(v9 + 72, v7);
+ store64(v9 + 64, v1);
+ store64(v9 + 56, v0);
+ store64(v9 + 48, v6);
+ fill(v9 + 144, 0, 16);
+ store32(v9 + 160, v12 as u64);
+ store32(v9 + 164, 1);
+ fill(v9.plus(168), 0, 192);
+ state_blake2b_State_take(v9.plus(16), v5, v3);
+ state_blake2b_State_write_digest(v9.plus(16), v2);
  break 'l2; }
  return v11;
 }
@@ -14813,9 +14662,9 @@ unsafe fn exported_tree_leaves_ahead(mut v0: u64, mut v1: u64, mut v2: u64, mut 
  'l2: loop {
  t0 = state_tree_TreeState_is_ready(v0);
  if t0 == 0 { break 'l2; }
- v8 = load64(v0.plus(856));
+ v8 = load64(v0.plus(696));
  if v8 == 0 { break 'l1; }
- v9 = load64(v0.plus(848)).times(v8).plus(load64(v0.plus(128))).plus(load64(v0.plus(136)));
+ v9 = load64(v0.plus(688)).times(v8).plus(load64(v0.plus(128))).plus(load32(v0.plus(136)) as u64);
  v10 = div_u64(v9, v8);
  if v3 > 0x3ffffffffffffff { break 'l2; }
  if v9.minus(v10.times(v8)) != 0 { break 'l2; }
@@ -14831,7 +14680,7 @@ unsafe fn exported_tree_leaves_ahead(mut v0: u64, mut v1: u64, mut v2: u64, mut 
  if v12 == 0 { break 'l1; }
  if ((if v11 > 1 { v11 } else { 1 }) << 6) != v2 { break 'l2; }
  v7 = 0;
- tree_ranges_hash_leaves(v0.plus(880), load64(v0.plus(864)), v0.plus(896), load64(v0.plus(872)),
+ tree_ranges_hash_leaves(v0.plus(720), load64(v0.plus(704)), v0.plus(736), load64(v0.plus(712)),
    v12, v3, 0, v4.plus(if v4 == 0 { 4096_u64 } else { 0 }), v5, v1.plus(if v1 == 0 { 4096_u64 } else
    { 0 }));
  break 'l2; }
@@ -14878,19 +14727,19 @@ unsafe fn exported_tree_update_leaves(mut v0: u64, mut v1: u64, mut v2: u64, mut
  break 'l3;
  }
  if v4 == 0 { break 'l2; }
- v9 = load64(v0.plus(856));
+ v9 = load64(v0.plus(696));
  if v9 == 0 { break 'l1; }
- t1 = rem_u64(load64(v0.plus(848)).times(v9).plus(load64(v0.plus(128))).plus(load64(v0.plus(136))),
-   v9);
+ t1 = rem_u64(load64(v0.plus(688)).times(v9).plus(load64(v0.plus(128))).plus(load32(v0.plus(136)) as
+   u64), v9);
  v8 = (t1 == 0) as u32;
  break 'l3; }
  if (v2 & 63) != 0 { break 'l2; }
  if v8 == 0 { break 'l2; }
  v10 = v0.plus(128);
  v11 = load64(v10);
- v9 = load64(v0.plus(856));
- v12 = load64(v0.plus(136));
- v13 = 0x3ffffffffffffff_u64.minus(v11.plus(v9.times(load64(v0.plus(848)))).plus(v12));
+ v9 = load64(v0.plus(696));
+ v12 = load32(v0.plus(136)) as u64;
+ v13 = 0x3ffffffffffffff_u64.minus(v11.plus(v9.times(load64(v0.plus(688)))).plus(v12));
  if v13 < v4 { break 'l2; }
  if v9 == 0 { break 'l1; }
  v14 = v2 >> 6;
@@ -14904,23 +14753,23 @@ unsafe fn exported_tree_update_leaves(mut v0: u64, mut v1: u64, mut v2: u64, mut
  }
  v7 = (v1 == 0) as u32;
  'l6: loop {
- if v12 == 0_u64.minus(v11) { break 'l6; }
+ if v11 == 0_u64.minus(v12) { break 'l6; }
  fill(v5 + 80, 0, 16);
- v3 = load64(v0.plus(872));
+ v3 = load64(v0.plus(712));
  'l7: loop {
- v11 = load64(v0.plus(864));
+ v11 = load64(v0.plus(704));
  v8 = (v11 == 0) as u32;
  if v8 != 0 { break 'l7; }
- copy(v5.plus(80), v0.plus(880), v11);
+ copy(v5.plus(80), v0.plus(720), v11);
  break 'l7; }
  fill(v5 + 208, 0, 16);
  'l8: loop {
  v15 = (v3 == 0) as u32;
  if v15 != 0 { break 'l8; }
- copy(v5.plus(208), v0.plus(896), v3);
+ copy(v5.plus(208), v0.plus(736), v3);
  break 'l8; }
- v12 = v0.plus(160);
- store64(v12, 0);
+ v12 = v0.plus(148);
+ store32(v12, 0);
  store64(v5 + 16, v11);
  store32(v5 + 52, 0);
  store64(v5 + 40, v3);
@@ -14931,8 +14780,8 @@ unsafe fn exported_tree_update_leaves(mut v0: u64, mut v1: u64, mut v2: u64, mut
  store64(v5 + 32, load64(v5 + 216));
  store32(v5 + 48, v9);
  state_blake2b_State_write_digest(v0, v5.plus(96));
- state_blake2b_State_take(v0.plus(424), v5.plus(96), 64);
- v16 = v0.plus(848);
+ state_blake2b_State_take(v0.plus(344), v5.plus(96), 64);
+ v16 = v0.plus(688);
  t3 = v16;
  v16 = load64(v16).plus(1);
  store64(t3, v16);
@@ -14970,26 +14819,26 @@ unsafe fn exported_tree_update_leaves(mut v0: u64, mut v1: u64, mut v2: u64, mut
  store64(v0 + 16, 0x3c6ef372fe94b82b);
  store64(v0 + 8, v16);
  store64(v0, v9);
- fill(v10, 0, 24);
- store64(v0 + 152, 64);
- fill(v12, 0, 264);
- v9 = load64(v0.plus(856));
+ fill(v10, 0, 16);
+ store32(v0 + 144, 64);
+ fill(v12, 0, 196);
+ v9 = load64(v0.plus(696));
  break 'l6; }
  v12 = if v7 != 0 { 4096_u64 } else { 0 };
  fill(v5 + 208, 0, 16);
- v3 = load64(v0.plus(872));
+ v3 = load64(v0.plus(712));
  'l11: loop {
- v11 = load64(v0.plus(864));
+ v11 = load64(v0.plus(704));
  v8 = (v11 == 0) as u32;
  if v8 != 0 { break 'l11; }
- copy(v5.plus(208), v0.plus(880), v11);
+ copy(v5.plus(208), v0.plus(720), v11);
  break 'l11; }
  v1 = v1.plus(v12);
  fill(v5 + 160, 0, 16);
  'l12: loop {
  v15 = (v3 == 0) as u32;
  if v15 != 0 { break 'l12; }
- copy(v5.plus(160), v0.plus(896), v3);
+ copy(v5.plus(160), v0.plus(736), v3);
  break 'l12; }
  store64(v5 + 112, v11);
  v7 = 0;
@@ -15000,8 +14849,8 @@ unsafe fn exported_tree_update_leaves(mut v0: u64, mut v1: u64, mut v2: u64, mut
  store64(v5 + 120, load64(v5 + 160));
  store64(v5 + 128, load64(v5 + 168));
  store32(v5 + 144, v9);
- state_blake2b_State_take(v0.plus(424), v1, v2);
- v2 = v0.plus(848);
+ state_blake2b_State_take(v0.plus(344), v1, v2);
+ v2 = v0.plus(688);
  t4 = v2;
  v2 = load64(v2).plus(v14);
  store64(t4, v2);
@@ -15039,9 +14888,9 @@ unsafe fn exported_tree_update_leaves(mut v0: u64, mut v1: u64, mut v2: u64, mut
  store64(v0 + 16, 0x3c6ef372fe94b82b);
  store64(v0 + 8, v2);
  store64(v0, v9);
- fill(v10, 0, 24);
- store64(v0 + 152, 64);
- fill(v0.plus(160), 0, 264);
+ fill(v10, 0, 16);
+ store32(v0 + 144, 64);
+ fill(v0.plus(148), 0, 196);
  state_tree_TreeState_update(v0, v13, v4);
  break 'l2; }
  return v7;
@@ -15076,7 +14925,7 @@ unsafe fn exported_tree_init_leaf(mut v0: u64, mut v1: u64, mut v2: u32, mut v3:
  if v6 > 16 { break 'l3; }
  if v7 != 0 { break 'l2; }
  break 'l3; }
- fill(v0, 0, 424);
+ fill(v0, 0, 344);
  return 0xffffffff;
  }
  fill(v8 + 64, 0, 16);
@@ -15135,10 +14984,10 @@ unsafe fn exported_tree_init_leaf(mut v0: u64, mut v1: u64, mut v2: u32, mut v3:
  store64(v0 + 16, 0x3c6ef372fe94b82b);
  store64(v0 + 8, v3);
  store64(v0, v1);
- fill(v0 + 136, 0, 16);
- store64(v0 + 160, ((v2 != 0) as u32) as u64);
- store64(v0 + 152, 64);
- fill(v0.plus(168), 0, 256);
+ store64(v0 + 136, 0);
+ store32(v0 + 148, ((v2 != 0) as u32) as u64);
+ store32(v0 + 144, 64);
+ fill(v0.plus(152), 0, 192);
  return 0;
 }
 
@@ -15160,7 +15009,7 @@ unsafe fn exported_tree_init_root(mut v0: u64, mut v1: u64, mut v2: u64, mut v3:
  if v5 > 16 { break 'l3; }
  if v6 != 0 { break 'l2; }
  break 'l3; }
- fill(v0, 0, 424);
+ fill(v0, 0, 344);
  return 0xffffffff;
  }
  fill(v7 + 64, 0, 16);
@@ -15208,8 +15057,9 @@ unsafe fn exported_tree_init_root(mut v0: u64, mut v1: u64, mut v2: u64, mut v3:
  store64(v0 + 88, 0xa54ff53a5f1d36f1);
  store64(v0 + 80, 0x3c6ef372fe94b82a);
  store64(v0 + 72, 0xbb67ae8584caa73b);
- v2 = ((((v1 as u32) | 0x2000000) as u64) | ((v6 as u64) << 32)) ^ 0x6a09e667f3bcc908;
- store64(v0 + 64, v2);
+ v8 = v1 as u32;
+ v1 = (((v8 | 0x2000000) as u64) | ((v6 as u64) << 32)) ^ 0x6a09e667f3bcc908;
+ store64(v0 + 64, v1);
  store64(v0 + 56, v7);
  store64(v0 + 48, v4);
  store64(v0 + 40, v5);
@@ -15217,11 +15067,11 @@ unsafe fn exported_tree_init_root(mut v0: u64, mut v1: u64, mut v2: u64, mut v3:
  store64(v0 + 24, 0xa54ff53a5f1d36f1);
  store64(v0 + 16, 0x3c6ef372fe94b82a);
  store64(v0 + 8, 0xbb67ae8584caa73b);
- store64(v0, v2);
- fill(v0 + 136, 0, 16);
- store64(v0 + 160, 1);
- store64(v0 + 152, v1);
- fill(v0.plus(168), 0, 256);
+ store64(v0, v1);
+ store64(v0 + 136, 0);
+ store32(v0 + 148, 1);
+ store32(v0 + 144, v8 as u64);
+ fill(v0.plus(152), 0, 192);
  return 0;
 }
 
@@ -15344,8 +15194,8 @@ unsafe fn exported_tree_plan_update(mut v0: u64, mut v1: u64, mut v2: u64, mut v
  if v7 == 0 { break 'l2; }
  t0 = state_tree_TreeState_is_ready(v1);
  if t0 == 0 { break 'l2; }
- v8 = load64(v1.plus(856));
- v9 = v8.times(load64(v1.plus(848))).plus(load64(v1.plus(128))).plus(load64(v1.plus(136)));
+ v8 = load64(v1.plus(696));
+ v9 = v8.times(load64(v1.plus(688))).plus(load64(v1.plus(128))).plus(load32(v1.plus(136)) as u64);
  if 0x3ffffffffffffff_u64.minus(v9) < v2 { break 'l2; }
  v5 = 0;
  fill(v4.plus(8), 0, 72);
