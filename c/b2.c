@@ -6,10 +6,13 @@
  * MAIN is the main of the assembly file, such as main_1_x86. On x86-64 it calls functions of the
  * library by the level that choose.c finds first. END is a function that gets the status of MAIN and
  * argument 0, which is empty if there is none, and returns the status of the process; FREE and
- * REALLOC are then used instead of free and realloc. On Windows the compiler needs -municode. */
+ * REALLOC are then used instead of free and realloc. VULFSJOR_BUILD says that
+ * build.c is linked too, whose line --version prints. On Windows the
+ * compiler needs -municode. */
 #include <errno.h>
 #include <stdbool.h>
 #include <stddef.h>
+#include <stdio.h>
 #include <stdlib.h>
 #include <string.h>
 #include <sys/types.h>
@@ -56,7 +59,19 @@ void *REALLOC(void *place, size_t size);
 static size_t count;
 static char **arguments;
 
-static int end_program(int status) { return END(status, count ? arguments[0] : ""); }
+#ifdef VULFSJOR_BUILD
+const char *vulfsjor_library_build(void);
+
+/* What follows the version: the line of dist/MANIFEST for the text of the library that hashes. */
+static int name_build(void) { return puts(vulfsjor_library_build()) < 0 || fflush(stdout) < 0; }
+#else
+static int name_build(void) { return 0; }
+#endif
+
+static int end_program(int status) {
+    if (!status && count == 2 && strcmp(arguments[1], "--version") == 0) status = name_build();
+    return END(status, count ? arguments[0] : "");
+}
 
 #ifdef _WIN32
 /* A copy of the text in UTF-8, in which U+FFFD replaces what is not Unicode, and / replaces \, which

@@ -1,12 +1,13 @@
 #!/usr/bin/env bash
 # Installs the library vulfsjor under a folder:
 #
-#   c/install.sh [--cpu CPU | --portable] [--from DIST] [--build] FOLDER
+#   c/install.sh [--cpu CPU | --portable] [--from DIST] [--libb2-shared] [--build] FOLDER
 #   c/install.sh --built FOLDER FOLDER
 #   c/install.sh --uninstall FOLDER
 #
 #   FOLDER/include/                   vulfsjor.h; vulfsjor.hpp for C++; vulfsjor_threads.h
 #   FOLDER/include/vulfsjor-libb2/    blake2.h, with libb2's names
+#   FOLDER/include/vulfsjor-reference/  blake2.h, with the names of BLAKE2's reference code
 #   FOLDER/lib/                       libvulfsjor.a and libvulfsjor.so; libvulfsjor-threads.a, for roots of trees by
 #                                     several threads; libvulfsjor-libb2.a, with libb2's names; libvulfsjor-static.a, a
 #                                     link to the first by a name that no shared library has
@@ -14,9 +15,9 @@
 #   FOLDER/lib/cmake/vulfsjor/        the package vulfsjor for CMake
 #   FOLDER/lib/vulfsjor-libb2/        libb2.a and pkgconfig/libb2.pc, for programs that look for libb2
 #
-# If the compiler is one for Windows, the shared library is FOLDER/bin/libvulfsjor-0.dll, with
+# If the compiler is one for Windows, the shared library is FOLDER/bin/libvulfsjor-1.dll, with
 # FOLDER/lib/libvulfsjor.dll.a to link it. If it is one for macOS, that is
-# FOLDER/lib/libvulfsjor.0.dylib, with the link libvulfsjor.dylib. The script itself needs bash 3.2 and
+# FOLDER/lib/libvulfsjor.1.dylib, with the link libvulfsjor.dylib. The script itself needs bash 3.2 and
 # the tools of GNU, BusyBox or BSD.
 #
 # It assembles the files of dist/ for the machine that the C compiler (CC, otherwise cc) compiles
@@ -28,6 +29,9 @@
 # On x86-64 the library contains the code for x86-64-v2, x86-64-v3 and x86-64-v4 processors, and
 # chooses at run time. With --cpu it contains only the code for CPU, one of these three, and runs on
 # no older processor.
+#
+# --libb2-shared, on systems with ELF, also makes FOLDER/lib/vulfsjor-libb2/libb2.so.1, which programs that are linked
+# with libb2 find there if LD_LIBRARY_PATH names that folder (c/PORTING.md).
 #
 # --build only makes the libraries, in a folder, and --built installs them and compiles nothing.
 # CFLAGS, CPPFLAGS, LDFLAGS and AR are used as by make.
@@ -42,12 +46,13 @@ source "$here/../tools/shell.sh"
 usage() { echo "usage: c/install.sh [OPTIONS] FOLDER, or c/install.sh --help" >&2 && exit 2; }
 
 read -ra cc <<<"${CC:-cc}"
-cpu= portable=no dist=$top/dist uninstall=no build=no built=
+cpu= portable=no dist=$top/dist uninstall=no build=no built= libb2_shared=
 while [ $# -gt 0 ]; do
     case $1 in
         --cpu) [[ ${2-} =~ ^x86-64-v[234]$ ]] || usage; cpu=$2; shift 2 ;;
         --portable) portable=yes; shift ;;
         --from) [ $# -ge 2 ] || usage; dist=$2; shift 2 ;;
+        --libb2-shared) libb2_shared=$1; shift ;;
         --build) build=yes; shift ;;
         --built) [ $# -ge 2 ] || usage; built=$2; shift 2 ;;
         --uninstall) uninstall=yes; shift ;;
@@ -55,7 +60,8 @@ while [ $# -gt 0 ]; do
         *) break ;;
     esac
 done
-{ [ $# -eq 1 ] && [ -n "$1" ] && [[ $1 != -* ]] && [ "${cpu:+cpu}$portable" != cpuyes ]; } || usage
+{ [ $# -eq 1 ] && [ -n "$1" ] && [[ $1 != -* ]] && [ "${cpu:+cpu}$portable" != cpuyes ] &&
+    { [ -z "$libb2_shared" ] || [ -z "$built" ]; }; } || usage
 
 # A path, from a folder, as an absolute one without `.`, `..` and empty names. Links are not followed, and nothing
 # needs to be there: PATH FOLDER
@@ -89,14 +95,14 @@ beside=$libdir/vulfsjor-libb2
 package=$libdir/cmake/vulfsjor
 root=${DESTDIR:-} version=$(version)
 
-files=("$libdir"/libvulfsjor{,-static,-libb2,-threads,.dll}.a "$libdir"/libvulfsjor.{so,so.0,dylib,0.dylib}
+files=("$libdir"/libvulfsjor{,-static,-libb2,-threads,.dll}.a "$libdir"/libvulfsjor.{so,so.1,dylib,1.dylib}
     "$libdir"/pkgconfig/vulfsjor{,-static,-threads}.pc "$package"/vulfsjor-config{,-version}.cmake
-    "$beside"/{libb2.a,pkgconfig/libb2.pc} "$folder/bin/libvulfsjor-0.dll"
-    "$include"/{vulfsjor.h,vulfsjor.hpp,vulfsjor_threads.h,vulfsjor-libb2/blake2.h})
+    "$beside"/{libb2.a,libb2.so.1,libb2.so.1.0.4,pkgconfig/libb2.pc} "$folder/bin/libvulfsjor-1.dll"
+    "$include"/{vulfsjor.h,vulfsjor.hpp,vulfsjor_threads.h,vulfsjor-{libb2,reference}/blake2.h})
 if [ "$uninstall" = yes ]; then
     for name in "${files[@]}"; do rm -f -- "$root$name"; done
     rm -f -- "$root$libdir"/libvulfsjor.so.0.* # this version, and older ones
-    for name in "$package" "$beside/pkgconfig" "$beside" "$include/vulfsjor-libb2"; do
+    for name in "$package" "$beside/pkgconfig" "$beside" "$include"/vulfsjor-{libb2,reference}; do
         rmdir -- "$root$name" 2>/dev/null || : # something else is in it
     done
     echo "install.sh: uninstalled from $root$folder" >&2
@@ -108,7 +114,7 @@ system= has_text=no
 # Makes the libraries in this folder, and a file that says for which system and how.
 build_libraries() {
     command -v "${cc[0]-}" >/dev/null ||
-        stop "${cc[0]-} is not on the PATH: a C compiler is needed, and its binutils"
+        stop "${cc[0]-} is not on the PATH: a C compiler is needed, and its binutils (Debian: gcc and libc6-dev)"
     # The texts for the machine that it compiles for: portable C if there are none. Those for Linux are
     # ELF, and call nothing but memcpy and the like, so other systems with ELF have them too.
     # The preprocessor knows of -m32, and -dumpmachine does not.
@@ -123,6 +129,8 @@ build_libraries() {
         *-apple-*) system=-macos has_text=yes ;;
     esac
     [ "$portable,$pointer" = no,8 ] || has_text=no
+    [ -z "$libb2_shared" ] || [ -z "$system" ] ||
+        stop "--libb2-shared is for systems with ELF, and ${cc[*]} compiles for $machine"
     case $machine,$has_text in
         *,no) ;;
         x86_64-*)
@@ -136,7 +144,7 @@ build_libraries() {
     [ -n "$texts" ] || stop "there is no build for $machine${cpu:+ and $cpu}"
     [ "$dist" != "$top/dist" ] || "$top/tools/dist.sh" current || exit 1 # it says why
     for text in $texts; do set -- "$@" "$dist/$text"; done
-    "$here/make_libraries.sh" "$@"
+    "$here/make_libraries.sh" $libb2_shared "$@"
     printf '%s\n' "$system" "$kind" "$pointer" >"$1/kind"
 }
 
@@ -154,8 +162,10 @@ fi
 write_link() { ln -sf -- "$1" "$root$2"; }
 
 umask 022
+mkdir -p -- "$root$beside"
 for file in "$built"/lib*; do
     name=$libdir/${file##*/}
+    [[ $file != */libb2.so* ]] || name=$beside/${file##*/}
     case $file in
         *.a) write "$root$name" <"$file" ;;
         *.dll) write "$root$folder/bin/${file##*/}" 755 <"$file" ;;
@@ -163,8 +173,9 @@ for file in "$built"/lib*; do
     esac
 done
 for name in vulfsjor{,_threads}.h vulfsjor.hpp; do write "$root$include/$name" <"$here/include/$name"; done
-write "$root$include/vulfsjor-libb2/blake2.h" <"$here/include/libb2/blake2.h"
-mkdir -p -- "$root$beside"
+for name in libb2 reference; do
+    write "$root$include/vulfsjor-$name/blake2.h" <"$here/include/$name/blake2.h"
+done
 # Windows has no links, and GCC there can name the file.
 static=-l:libvulfsjor.a libb2='-L${libdir} -l:libvulfsjor-libb2.a' pthread=
 if [ "$system" != -windows ]; then
@@ -190,6 +201,7 @@ prefix=$(place_of "$1" "$folder")
 libdir=$(place_of "$1" "$libdir")
 includedir=$(place_of "$1" "$include")
 libb2dir=\${includedir}/vulfsjor-libb2
+referencedir=\${includedir}/vulfsjor-reference
 
 Name: $2
 Description: BLAKE2b, BLAKE2s, BLAKE2bp and BLAKE2sp, $kind$4
@@ -228,6 +240,6 @@ echo "install.sh: installed under $root$folder" >&2
 # The loader keeps a list of the libraries in its folders.
 if [ -z "$root$system" ] && ldconfig=$(PATH=$PATH:/usr/sbin:/sbin command -v ldconfig) &&
     "$ldconfig" -NXv 2>/dev/null | grep "^$libdir:" >/dev/null; then
-    "$ldconfig" 2>/dev/null || echo "install.sh: run ldconfig as root, so that programs find $libdir/libvulfsjor.so.0" \
+    "$ldconfig" 2>/dev/null || echo "install.sh: run ldconfig as root, so that programs find $libdir/libvulfsjor.so.1" \
         >&2
 fi

@@ -460,8 +460,8 @@ static int finish_call(int error, int before) {
 
 int vulfsjor_tree_root_threads(void *out, size_t outlen, const void *in, size_t inlen,
                                const void *salt, size_t saltlen, const void *personal,
-                               size_t personallen, uint32_t leaf_length, unsigned threads) {
-    job j = {NULL, salt, personal, saltlen, personallen, leaf_length,
+                               size_t personallen, uint64_t leaf_length, unsigned threads) {
+    job j = {NULL, salt, personal, saltlen, personallen, vulfsjor_leaf(leaf_length),
              .bytes = vulfsjor_text(in), .gate = GATE};
     int before = begin_call(), error = EINVAL;
 
@@ -471,9 +471,10 @@ int vulfsjor_tree_root_threads(void *out, size_t outlen, const void *in, size_t 
 }
 
 int vulfsjor_tree_root_fd(void *out, size_t outlen, int fd, const void *salt, size_t saltlen,
-                          const void *personal, size_t personallen, uint32_t leaf_length,
+                          const void *personal, size_t personallen, uint64_t leaf_length,
                           unsigned threads) {
-    job j = {NULL, salt, personal, saltlen, personallen, leaf_length, .file = fd, .gate = GATE};
+    job j = {NULL, salt, personal, saltlen, personallen, vulfsjor_leaf(leaf_length),
+             .file = fd, .gate = GATE};
     int before = begin_call(), error = EINVAL;
 
     if (out && is_accepted(&j, outlen)) error = root_of_file(&j, out, outlen, threads);
@@ -482,8 +483,9 @@ int vulfsjor_tree_root_fd(void *out, size_t outlen, int fd, const void *salt, si
 
 int vulfsjor_tree_root_file(void *out, size_t outlen, const char *path, const void *salt,
                             size_t saltlen, const void *personal, size_t personallen,
-                            uint32_t leaf_length, unsigned threads) {
-    job j = {NULL, salt, personal, saltlen, personallen, leaf_length, .file = -1, .gate = GATE};
+                            uint64_t leaf_length, unsigned threads) {
+    job j = {NULL, salt, personal, saltlen, personallen, vulfsjor_leaf(leaf_length),
+             .file = -1, .gate = GATE};
     int before = begin_call(), error = EINVAL;
 
     if (out && path && is_accepted(&j, outlen)) {

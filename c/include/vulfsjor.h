@@ -1,5 +1,6 @@
 /* BLAKE2b and BLAKE2s (RFC 7693), BLAKE2bp and BLAKE2sp, BLAKE2Xb and BLAKE2Xs: hashes, message
- * authentication codes, trees of hashes and outputs of any length. For C99 and later, and for C++11 and later.
+ * authentication codes, trees of hashes and outputs of any length. For C89 of GCC and Clang, C99 and
+ * later, and C++11 and later.
  *
  *     unsigned char digest[32];
  *     vulfsjor_blake2b_state state;
@@ -23,7 +24,7 @@
  * is not 0, or if a key is not null and its length is 0. A call that fails writes nothing and leaves
  * the state unchanged, with two exceptions:
  *   - An init that fails sets the state to zero.
- *   - verify returns -1 for a wrong tag, and then wipes the state too.
+ *   - verify and verify_short_mac return -1 for a wrong tag, and then wipe the state too.
  *
  * A state is ready after an init that returned 0, until final, verify or wipe sets it to zero.
  * Calls with a status return -1 for a state that is not ready, except the inits.
@@ -49,6 +50,14 @@
 
 #ifdef __cplusplus
 extern "C" {
+#endif
+
+/* C89 has no `inline`: to the end of this file it is the word that GCC and Clang have there. */
+#if defined(__GNUC__) && !defined(__cplusplus) && !defined(inline)
+#if !defined(__STDC_VERSION__) || __STDC_VERSION__ < 199901L
+#define inline __inline__
+#define VULFSJOR_INLINE_IS_DEFINED
+#endif
 #endif
 
 /* The version of this header: as a string, as three numbers, and as the number that
@@ -119,6 +128,9 @@ enum {
     VULFSJOR_BLAKE2XS_PERSONALBYTES = 8
 };
 
+/* The bytes of the shortest tag that _mac and _init_mac make, and that _verify checks. */
+enum { VULFSJOR_TAGBYTES_MIN = 16 };
+
 /* The lengths of outputs of BLAKE2Xb and BLAKE2Xs that are not known in advance. */
 #define VULFSJOR_BLAKE2XB_UNKNOWN_LENGTH 0xffffffffu
 #define VULFSJOR_BLAKE2XS_UNKNOWN_LENGTH 0xffffu
@@ -135,12 +147,12 @@ typedef struct vulfsjor_blake2b_state {
     uint64_t chain[8];       /* the chaining words */
     uint64_t first[8];       /* the chaining words before the first block */
     uint64_t counter;        /* the bytes of the blocks that were compressed */
-    uint64_t pending_length; /* the bytes that are pending, 0 to 128 */
-    uint64_t start_length;   /* the same after a reset: 128 with a key, otherwise 0 */
-    uint64_t output_size;    /* the bytes of the digest, 1 to 64; 0 in a wiped state */
-    uint64_t last_node;      /* the last-node flag: 0 is off */
+    uint32_t pending_length; /* the bytes that are pending, 0 to 128 */
+    uint32_t start_length;   /* the same after a reset: 128 with a key, otherwise 0 */
+    uint32_t output_size;    /* the bytes of the digest, 1 to 64; 0 in a wiped state */
+    uint32_t last_node;      /* the last-node flag: 0 is off */
     uint8_t pending[128];    /* starts with the pending bytes */
-    uint8_t start_block[128]; /* the same after a reset */
+    uint8_t key[64];         /* the key, followed by zeros */
 } vulfsjor_blake2b_state;
 
 /* A state of BLAKE2s. What the comment on vulfsjor_blake2b_state says holds for it too. */
@@ -148,12 +160,12 @@ typedef struct vulfsjor_blake2s_state {
     uint32_t chain[8];       /* the chaining words */
     uint32_t first[8];       /* the chaining words before the first block */
     uint64_t counter;        /* the bytes of the blocks that were compressed */
-    uint64_t pending_length; /* the bytes that are pending, 0 to 64 */
-    uint64_t start_length;   /* the same after a reset: 64 with a key, otherwise 0 */
-    uint64_t output_size;    /* the bytes of the digest, 1 to 32; 0 in a wiped state */
-    uint64_t last_node;      /* the last-node flag: 0 is off */
+    uint16_t pending_length; /* the bytes that are pending, 0 to 64 */
+    uint16_t start_length;   /* the same after a reset: 64 with a key, otherwise 0 */
+    uint16_t output_size;    /* the bytes of the digest, 1 to 32; 0 in a wiped state */
+    uint16_t last_node;      /* the last-node flag: 0 is off */
     uint8_t pending[64];     /* starts with the pending bytes */
-    uint8_t start_block[64]; /* the same after a reset */
+    uint8_t key[32];         /* the key, followed by zeros */
 } vulfsjor_blake2s_state;
 
 /* The leaves in a state of BLAKE2bp, and the input that is pending. */
@@ -329,14 +341,14 @@ typedef struct vulfsjor_part {
 } vulfsjor_part;
 
 /* The library requires these layouts, which are the same on every platform. */
-typedef char vulfsjor_layouts[sizeof(vulfsjor_blake2b_state) == 424 &&
-                              sizeof(vulfsjor_blake2s_state) == 232 &&
+typedef char vulfsjor_layouts[sizeof(vulfsjor_blake2b_state) == 344 &&
+                              sizeof(vulfsjor_blake2s_state) == 176 &&
                               sizeof(vulfsjor_blake2bp_state) == 1632 &&
                               sizeof(vulfsjor_blake2sp_state) == 1600 &&
-                              sizeof(vulfsjor_blake2xb_state) == 544 &&
-                              sizeof(vulfsjor_blake2xs_state) == 304 &&
+                              sizeof(vulfsjor_blake2xb_state) == 464 &&
+                              sizeof(vulfsjor_blake2xs_state) == 248 &&
                               sizeof(vulfsjor_tree) == 16 &&
-                              sizeof(vulfsjor_tree_state) == 912 &&
+                              sizeof(vulfsjor_tree_state) == 752 &&
                               sizeof(vulfsjor_message) == 2 * sizeof(size_t) &&
                               sizeof(vulfsjor_limits) == 32 && sizeof(vulfsjor_plan) == 72 &&
                               sizeof(vulfsjor_part) == 48 &&
@@ -347,7 +359,6 @@ typedef char vulfsjor_layouts[sizeof(vulfsjor_blake2b_state) == 424 &&
  * every byte of a state was written. Each function does what is said below of the function with its
  * name, with these exceptions:
  *   - A key of 0 bytes is no key. Only init_key and derive_key refuse it.
- *   - verify compares a tag also if the state has no key.
  *   - many fails if out_length is not count times output_size.
  *   - memcmp accepts two lengths; buffers of different lengths differ.
  *   - state_size returns the length of a state.
@@ -554,7 +565,7 @@ int32_t vulfsjor_ffi_tree_part(vulfsjor_part *part, const vulfsjor_plan *plan, u
 #endif
 
 /* Internal: a null pointer. */
-#ifdef __cplusplus
+#if defined(__cplusplus) && __cplusplus >= 201103L
 #define VULFSJOR_NULL nullptr
 #else
 #define VULFSJOR_NULL NULL
@@ -584,10 +595,10 @@ VULFSJOR_MUST_USE static inline int vulfsjor_are_refused(const void *key, size_t
     return vulfsjor_is_half_key(key, keylen) || (!salt && saltlen) || (!personal && personallen);
 }
 
-/* Internal: returns whether the parameter block of a state has a key, whose length is its second byte.
- * It is in the words, the first of the state, and so xored with that byte of the IV. */
-VULFSJOR_MUST_USE static inline int vulfsjor_has_key(const void *words, unsigned iv) {
-    return vulfsjor_text(words)[1] != iv;
+/* Internal: returns the length of a leaf as the library has it, or 0, which it refuses, if that has
+ * no such number. */
+VULFSJOR_MUST_USE static inline uint32_t vulfsjor_leaf(uint64_t leaf_length) {
+    return leaf_length >> 32 ? 0 : VULFSJOR_CAST(uint32_t, leaf_length);
 }
 
 /* Internal: returns VULFSJOR_VERSION_NUMBER of the header that the library was compiled with. */
@@ -596,6 +607,17 @@ uint32_t vulfsjor_library_version(void);
 /* Returns the version of the library, to compare with VULFSJOR_VERSION_NUMBER of this header. */
 static inline uint32_t vulfsjor_version(void) {
     return vulfsjor_library_version();
+}
+
+/* Internal: returns what vulfsjor_build does. */
+const char *vulfsjor_library_build(void);
+
+/* Returns which code runs on this processor: the line of dist/MANIFEST for it, which is the SHA-256
+ * of a file of dist/ in hexadecimal, two spaces, and its name, such as x86_64/vulfsjor-v3.s. The
+ * string is never freed. On an x86-64 processor below x86-64-v2 this call, like all others, aborts,
+ * unless the library is portable C. */
+static inline const char *vulfsjor_build(void) {
+    return vulfsjor_library_build();
 }
 
 /* Returns 0 if the first length bytes of a and b are equal, and -1 otherwise. So the result is no
@@ -687,7 +709,7 @@ static inline int vulfsjor_blake2b_init_salt_personal(
     vulfsjor_blake2b_state *S, size_t outlen, const void *key, size_t keylen, const void *salt,
     size_t saltlen, const void *personal, size_t personallen) {
     if (!S) return -1;
-    memset(S, 0, sizeof *S);
+    memset(vulfsjor_bytes(S), 0, sizeof *S);
     if (vulfsjor_are_refused(key, keylen, salt, saltlen, personal, personallen))
         return -1;
     return vulfsjor_ffi_blake2b_init_salt_personal(S, outlen, vulfsjor_text(key), keylen,
@@ -708,24 +730,40 @@ VULFSJOR_READS(3, 4)
 static inline int vulfsjor_blake2b_init_key(vulfsjor_blake2b_state *S, size_t outlen,
                                             const void *key, size_t keylen) {
     if (!S) return -1;
-    memset(S, 0, sizeof *S);
+    memset(vulfsjor_bytes(S), 0, sizeof *S);
     if (!key) return -1;
     return vulfsjor_ffi_blake2b_init_key(S, outlen, vulfsjor_text(key), keylen);
 }
 
-/* Initializes a state as vulfsjor_blake2b_init_salt_personal does, under a key of 1 to 64 bytes:
- * use it where a key is a must. Returns -1 and sets the state to zero if a length is out of range.
- * A key of 0 bytes is refused, also if it is null. */
+/* Initializes a state as vulfsjor_blake2b_init_salt_personal does, under a key of 1 to 64 bytes and
+ * for a tag of 1 to 64 bytes. Use it only for tags that are shorter than vulfsjor_blake2b_init_mac
+ * accepts: anybody makes one of n bytes in at most 256^n tries. So never pass the length of a tag
+ * that came. Returns -1 and sets the state to zero if a length is out of range. A key of 0 bytes is
+ * refused, also if it is null. */
+VULFSJOR_READS(3, 4) VULFSJOR_READS(5, 6) VULFSJOR_READS(7, 8)
+static inline int vulfsjor_blake2b_init_short_mac(vulfsjor_blake2b_state *S, size_t outlen,
+                                                  const void *key, size_t keylen, const void *salt,
+                                                  size_t saltlen, const void *personal,
+                                                  size_t personallen) {
+    if (!S) return -1;
+    memset(vulfsjor_bytes(S), 0, sizeof *S);
+    if (!keylen) return -1;
+    return vulfsjor_blake2b_init_salt_personal(S, outlen, key, keylen, salt, saltlen, personal,
+                                               personallen);
+}
+
+/* Initializes a state as vulfsjor_blake2b_init_salt_personal does, under a key of 1 to 64 bytes and
+ * for a tag of VULFSJOR_TAGBYTES_MIN to 64 bytes: use it for message authentication codes. Returns
+ * -1 and sets the state to zero if a length is out of range. A key of 0 bytes is refused, also if it
+ * is null. */
 VULFSJOR_READS(3, 4) VULFSJOR_READS(5, 6) VULFSJOR_READS(7, 8)
 static inline int vulfsjor_blake2b_init_mac(vulfsjor_blake2b_state *S, size_t outlen,
                                             const void *key, size_t keylen, const void *salt,
                                             size_t saltlen, const void *personal,
                                             size_t personallen) {
-    if (!S) return -1;
-    memset(S, 0, sizeof *S);
-    if (!keylen) return -1;
-    return vulfsjor_blake2b_init_salt_personal(S, outlen, key, keylen, salt, saltlen, personal,
-                                               personallen);
+    if (outlen < VULFSJOR_TAGBYTES_MIN) keylen = 0; /* which is refused */
+    return vulfsjor_blake2b_init_short_mac(S, outlen, key, keylen, salt, saltlen, personal,
+                                           personallen);
 }
 
 /* Initializes a state for a node of a tree of hashes with these tree parameters (the BLAKE2
@@ -737,7 +775,7 @@ static inline int vulfsjor_blake2b_init_tree(
     vulfsjor_blake2b_state *S, size_t outlen, const void *key, size_t keylen, const void *salt,
     size_t saltlen, const void *personal, size_t personallen, const vulfsjor_tree *tree) {
     if (!S) return -1;
-    memset(S, 0, sizeof *S);
+    memset(vulfsjor_bytes(S), 0, sizeof *S);
     if (!tree || vulfsjor_are_refused(key, keylen, salt, saltlen, personal, personallen))
         return -1;
     return vulfsjor_ffi_blake2b_init_tree(S, outlen, vulfsjor_text(key), keylen,
@@ -756,7 +794,7 @@ static inline int vulfsjor_blake2b_init_param(vulfsjor_blake2b_state *S,
     int i;
 #endif
     if (!S) return -1;
-    memset(S, 0, sizeof *S);
+    memset(vulfsjor_bytes(S), 0, sizeof *S);
     if (!P) return -1;
 #ifdef VULFSJOR_LITTLE_ENDIAN
     return vulfsjor_ffi_blake2b_init_param(S, vulfsjor_text(P), sizeof *P);
@@ -788,6 +826,17 @@ VULFSJOR_MUST_USE static inline int vulfsjor_blake2b_final(vulfsjor_blake2b_stat
     return vulfsjor_ffi_blake2b_final(S, vulfsjor_bytes(out), outlen);
 }
 
+/* Does what vulfsjor_blake2b_verify does, also for a digest of fewer than VULFSJOR_TAGBYTES_MIN
+ * bytes. Use it only for tags of vulfsjor_blake2b_init_short_mac, whose length your program has
+ * chosen: never pass the length of a tag that came to the init. */
+VULFSJOR_READS(2, 3)
+VULFSJOR_MUST_USE static inline int vulfsjor_blake2b_verify_short_mac(vulfsjor_blake2b_state *S,
+                                                                      const void *tag,
+                                                                      size_t taglen) {
+    if (!S || (!tag && taglen)) return -1;
+    return vulfsjor_ffi_blake2b_verify(S, vulfsjor_text(tag), taglen);
+}
+
 /* Returns 0 if tag is the whole digest of all input under the key, and -1 otherwise:
  *
  *     if (vulfsjor_blake2b_verify(&state, tag, sizeof tag) != 0) return REJECTED;
@@ -795,12 +844,14 @@ VULFSJOR_MUST_USE static inline int vulfsjor_blake2b_final(vulfsjor_blake2b_stat
  * It wipes the state in either case, so copy the state first to try another tag. All bytes of a tag
  * of the right length are compared. Returns -1 too, and leaves the state unchanged, if it has no
  * key, since anybody can make its digests: compare those by final and vulfsjor_memcmp. Likewise if
- * it was not ready, or if tag is null and taglen is not 0. */
+ * its digest has fewer than VULFSJOR_TAGBYTES_MIN bytes, if it was not ready, or if tag is null and
+ * taglen is not 0. */
 VULFSJOR_READS(2, 3)
 VULFSJOR_MUST_USE static inline int vulfsjor_blake2b_verify(vulfsjor_blake2b_state *S,
                                                             const void *tag, size_t taglen) {
-    if (!S || (!tag && taglen) || !vulfsjor_has_key(S->first, 0xc9)) return -1;
-    return vulfsjor_ffi_blake2b_verify(S, vulfsjor_text(tag), taglen);
+    /* The numbers of a state are little-endian on every platform. */
+    if (!S || vulfsjor_text(&S->output_size)[0] < VULFSJOR_TAGBYTES_MIN) return -1;
+    return vulfsjor_blake2b_verify_short_mac(S, tag, taglen);
 }
 
 /* Sets the last-node flag, or clears it if on is 0. The flag marks the last node on its level of a
@@ -846,6 +897,18 @@ VULFSJOR_MUST_USE static inline int vulfsjor_blake2b(void *out, size_t outlen, c
                                 vulfsjor_text(key), keylen);
 }
 
+/* Writes the tag of the input to out: outlen bytes, VULFSJOR_TAGBYTES_MIN to 64, under a key of 1 to
+ * 64 bytes. Returns -1 and writes nothing if a length is out of range, or for an input that
+ * vulfsjor_blake2b refuses. A key of 0 bytes is refused, also if it is null. To check a tag, use
+ * vulfsjor_blake2b_verify. */
+VULFSJOR_WRITES(1, 2) VULFSJOR_READS(3, 4) VULFSJOR_READS(5, 6)
+VULFSJOR_MUST_USE static inline int vulfsjor_blake2b_mac(void *out, size_t outlen, const void *in,
+                                                         size_t inlen, const void *key,
+                                                         size_t keylen) {
+    if (outlen < VULFSJOR_TAGBYTES_MIN || !keylen) return -1;
+    return vulfsjor_blake2b(out, outlen, in, inlen, key, keylen);
+}
+
 /* Writes the digests of count messages to out, which has room for count * outlen bytes. Digest i is
  * at out + i * outlen. All have the same digest length, key, salt and personalization, with the
  * lengths of vulfsjor_blake2b_init_salt_personal. Messages in a row that have the same length are
@@ -877,7 +940,7 @@ static inline int vulfsjor_blake2s_init_salt_personal(
     vulfsjor_blake2s_state *S, size_t outlen, const void *key, size_t keylen, const void *salt,
     size_t saltlen, const void *personal, size_t personallen) {
     if (!S) return -1;
-    memset(S, 0, sizeof *S);
+    memset(vulfsjor_bytes(S), 0, sizeof *S);
     if (vulfsjor_are_refused(key, keylen, salt, saltlen, personal, personallen))
         return -1;
     return vulfsjor_ffi_blake2s_init_salt_personal(S, outlen, vulfsjor_text(key), keylen,
@@ -898,24 +961,40 @@ VULFSJOR_READS(3, 4)
 static inline int vulfsjor_blake2s_init_key(vulfsjor_blake2s_state *S, size_t outlen,
                                             const void *key, size_t keylen) {
     if (!S) return -1;
-    memset(S, 0, sizeof *S);
+    memset(vulfsjor_bytes(S), 0, sizeof *S);
     if (!key) return -1;
     return vulfsjor_ffi_blake2s_init_key(S, outlen, vulfsjor_text(key), keylen);
 }
 
-/* Initializes a state as vulfsjor_blake2s_init_salt_personal does, under a key of 1 to 32 bytes:
- * use it where a key is a must. Returns -1 and sets the state to zero if a length is out of range.
- * A key of 0 bytes is refused, also if it is null. */
+/* Initializes a state as vulfsjor_blake2s_init_salt_personal does, under a key of 1 to 32 bytes and
+ * for a tag of 1 to 32 bytes. Use it only for tags that are shorter than vulfsjor_blake2s_init_mac
+ * accepts: anybody makes one of n bytes in at most 256^n tries. So never pass the length of a tag
+ * that came. Returns -1 and sets the state to zero if a length is out of range. A key of 0 bytes is
+ * refused, also if it is null. */
+VULFSJOR_READS(3, 4) VULFSJOR_READS(5, 6) VULFSJOR_READS(7, 8)
+static inline int vulfsjor_blake2s_init_short_mac(vulfsjor_blake2s_state *S, size_t outlen,
+                                                  const void *key, size_t keylen, const void *salt,
+                                                  size_t saltlen, const void *personal,
+                                                  size_t personallen) {
+    if (!S) return -1;
+    memset(vulfsjor_bytes(S), 0, sizeof *S);
+    if (!keylen) return -1;
+    return vulfsjor_blake2s_init_salt_personal(S, outlen, key, keylen, salt, saltlen, personal,
+                                               personallen);
+}
+
+/* Initializes a state as vulfsjor_blake2s_init_salt_personal does, under a key of 1 to 32 bytes and
+ * for a tag of VULFSJOR_TAGBYTES_MIN to 32 bytes: use it for message authentication codes. Returns
+ * -1 and sets the state to zero if a length is out of range. A key of 0 bytes is refused, also if it
+ * is null. */
 VULFSJOR_READS(3, 4) VULFSJOR_READS(5, 6) VULFSJOR_READS(7, 8)
 static inline int vulfsjor_blake2s_init_mac(vulfsjor_blake2s_state *S, size_t outlen,
                                             const void *key, size_t keylen, const void *salt,
                                             size_t saltlen, const void *personal,
                                             size_t personallen) {
-    if (!S) return -1;
-    memset(S, 0, sizeof *S);
-    if (!keylen) return -1;
-    return vulfsjor_blake2s_init_salt_personal(S, outlen, key, keylen, salt, saltlen, personal,
-                                               personallen);
+    if (outlen < VULFSJOR_TAGBYTES_MIN) keylen = 0; /* which is refused */
+    return vulfsjor_blake2s_init_short_mac(S, outlen, key, keylen, salt, saltlen, personal,
+                                           personallen);
 }
 
 /* Initializes a state for a node of a tree of hashes with these tree parameters (the BLAKE2
@@ -928,7 +1007,7 @@ static inline int vulfsjor_blake2s_init_tree(
     vulfsjor_blake2s_state *S, size_t outlen, const void *key, size_t keylen, const void *salt,
     size_t saltlen, const void *personal, size_t personallen, const vulfsjor_tree *tree) {
     if (!S) return -1;
-    memset(S, 0, sizeof *S);
+    memset(vulfsjor_bytes(S), 0, sizeof *S);
     if (!tree || vulfsjor_are_refused(key, keylen, salt, saltlen, personal, personallen))
         return -1;
     return vulfsjor_ffi_blake2s_init_tree(S, outlen, vulfsjor_text(key), keylen,
@@ -947,7 +1026,7 @@ static inline int vulfsjor_blake2s_init_param(vulfsjor_blake2s_state *S,
     int i;
 #endif
     if (!S) return -1;
-    memset(S, 0, sizeof *S);
+    memset(vulfsjor_bytes(S), 0, sizeof *S);
     if (!P) return -1;
 #ifdef VULFSJOR_LITTLE_ENDIAN
     return vulfsjor_ffi_blake2s_init_param(S, vulfsjor_text(P), sizeof *P);
@@ -978,6 +1057,17 @@ VULFSJOR_MUST_USE static inline int vulfsjor_blake2s_final(vulfsjor_blake2s_stat
     return vulfsjor_ffi_blake2s_final(S, vulfsjor_bytes(out), outlen);
 }
 
+/* Does what vulfsjor_blake2s_verify does, also for a digest of fewer than VULFSJOR_TAGBYTES_MIN
+ * bytes. Use it only for tags of vulfsjor_blake2s_init_short_mac, whose length your program has
+ * chosen: never pass the length of a tag that came to the init. */
+VULFSJOR_READS(2, 3)
+VULFSJOR_MUST_USE static inline int vulfsjor_blake2s_verify_short_mac(vulfsjor_blake2s_state *S,
+                                                                      const void *tag,
+                                                                      size_t taglen) {
+    if (!S || (!tag && taglen)) return -1;
+    return vulfsjor_ffi_blake2s_verify(S, vulfsjor_text(tag), taglen);
+}
+
 /* Returns 0 if tag is the whole digest of all input under the key, and -1 otherwise:
  *
  *     if (vulfsjor_blake2s_verify(&state, tag, sizeof tag) != 0) return REJECTED;
@@ -985,12 +1075,14 @@ VULFSJOR_MUST_USE static inline int vulfsjor_blake2s_final(vulfsjor_blake2s_stat
  * It wipes the state in either case, so copy the state first to try another tag. All bytes of a tag
  * of the right length are compared. Returns -1 too, and leaves the state unchanged, if it has no
  * key, since anybody can make its digests: compare those by final and vulfsjor_memcmp. Likewise if
- * it was not ready, or if tag is null and taglen is not 0. */
+ * its digest has fewer than VULFSJOR_TAGBYTES_MIN bytes, if it was not ready, or if tag is null and
+ * taglen is not 0. */
 VULFSJOR_READS(2, 3)
 VULFSJOR_MUST_USE static inline int vulfsjor_blake2s_verify(vulfsjor_blake2s_state *S,
                                                             const void *tag, size_t taglen) {
-    if (!S || (!tag && taglen) || !vulfsjor_has_key(S->first, 0xe6)) return -1;
-    return vulfsjor_ffi_blake2s_verify(S, vulfsjor_text(tag), taglen);
+    /* The numbers of a state are little-endian on every platform. */
+    if (!S || vulfsjor_text(&S->output_size)[0] < VULFSJOR_TAGBYTES_MIN) return -1;
+    return vulfsjor_blake2s_verify_short_mac(S, tag, taglen);
 }
 
 /* Sets the last-node flag, or clears it if on is 0. The flag marks the last node on its level of a
@@ -1036,6 +1128,18 @@ VULFSJOR_MUST_USE static inline int vulfsjor_blake2s(void *out, size_t outlen, c
                                 vulfsjor_text(key), keylen);
 }
 
+/* Writes the tag of the input to out: outlen bytes, VULFSJOR_TAGBYTES_MIN to 32, under a key of 1 to
+ * 32 bytes. Returns -1 and writes nothing if a length is out of range, or for an input that
+ * vulfsjor_blake2s refuses. A key of 0 bytes is refused, also if it is null. To check a tag, use
+ * vulfsjor_blake2s_verify. */
+VULFSJOR_WRITES(1, 2) VULFSJOR_READS(3, 4) VULFSJOR_READS(5, 6)
+VULFSJOR_MUST_USE static inline int vulfsjor_blake2s_mac(void *out, size_t outlen, const void *in,
+                                                         size_t inlen, const void *key,
+                                                         size_t keylen) {
+    if (outlen < VULFSJOR_TAGBYTES_MIN || !keylen) return -1;
+    return vulfsjor_blake2s(out, outlen, in, inlen, key, keylen);
+}
+
 /* Writes the digests of count messages to out, which has room for count * outlen bytes. Digest i is
  * at out + i * outlen. All have the same digest length, key, salt and personalization, with the
  * lengths of vulfsjor_blake2s_init_salt_personal. Eight messages in a row that have the same length
@@ -1071,7 +1175,7 @@ static inline int vulfsjor_blake2bp_init_salt_personal(
     vulfsjor_blake2bp_state *S, size_t outlen, const void *key, size_t keylen, const void *salt,
     size_t saltlen, const void *personal, size_t personallen) {
     if (!S) return -1;
-    memset(S, 0, sizeof *S);
+    memset(vulfsjor_bytes(S), 0, sizeof *S);
     if (vulfsjor_are_refused(key, keylen, salt, saltlen, personal, personallen))
         return -1;
     return vulfsjor_ffi_blake2bp_init_salt_personal(S, outlen, vulfsjor_text(key), keylen,
@@ -1092,24 +1196,40 @@ VULFSJOR_READS(3, 4)
 static inline int vulfsjor_blake2bp_init_key(vulfsjor_blake2bp_state *S, size_t outlen,
                                              const void *key, size_t keylen) {
     if (!S) return -1;
-    memset(S, 0, sizeof *S);
+    memset(vulfsjor_bytes(S), 0, sizeof *S);
     if (!key) return -1;
     return vulfsjor_ffi_blake2bp_init_key(S, outlen, vulfsjor_text(key), keylen);
 }
 
-/* Initializes a state as vulfsjor_blake2bp_init_salt_personal does, under a key of 1 to 64 bytes:
- * use it where a key is a must. Returns -1 and sets the state to zero if a length is out of range.
- * A key of 0 bytes is refused, also if it is null. */
+/* Initializes a state as vulfsjor_blake2bp_init_salt_personal does, under a key of 1 to 64 bytes and
+ * for a tag of 1 to 64 bytes. Use it only for tags that are shorter than vulfsjor_blake2bp_init_mac
+ * accepts: anybody makes one of n bytes in at most 256^n tries. So never pass the length of a tag
+ * that came. Returns -1 and sets the state to zero if a length is out of range. A key of 0 bytes is
+ * refused, also if it is null. */
+VULFSJOR_READS(3, 4) VULFSJOR_READS(5, 6) VULFSJOR_READS(7, 8)
+static inline int vulfsjor_blake2bp_init_short_mac(vulfsjor_blake2bp_state *S, size_t outlen,
+                                                   const void *key, size_t keylen, const void *salt,
+                                                   size_t saltlen, const void *personal,
+                                                   size_t personallen) {
+    if (!S) return -1;
+    memset(vulfsjor_bytes(S), 0, sizeof *S);
+    if (!keylen) return -1;
+    return vulfsjor_blake2bp_init_salt_personal(S, outlen, key, keylen, salt, saltlen, personal,
+                                                personallen);
+}
+
+/* Initializes a state as vulfsjor_blake2bp_init_salt_personal does, under a key of 1 to 64 bytes and
+ * for a tag of VULFSJOR_TAGBYTES_MIN to 64 bytes: use it for message authentication codes. Returns
+ * -1 and sets the state to zero if a length is out of range. A key of 0 bytes is refused, also if it
+ * is null. */
 VULFSJOR_READS(3, 4) VULFSJOR_READS(5, 6) VULFSJOR_READS(7, 8)
 static inline int vulfsjor_blake2bp_init_mac(vulfsjor_blake2bp_state *S, size_t outlen,
                                              const void *key, size_t keylen, const void *salt,
                                              size_t saltlen, const void *personal,
                                              size_t personallen) {
-    if (!S) return -1;
-    memset(S, 0, sizeof *S);
-    if (!keylen) return -1;
-    return vulfsjor_blake2bp_init_salt_personal(S, outlen, key, keylen, salt, saltlen, personal,
-                                                personallen);
+    if (outlen < VULFSJOR_TAGBYTES_MIN) keylen = 0; /* which is refused */
+    return vulfsjor_blake2bp_init_short_mac(S, outlen, key, keylen, salt, saltlen, personal,
+                                            personallen);
 }
 
 /* Absorbs inlen bytes of input. The digest does not depend on how the input is split into calls.
@@ -1133,15 +1253,28 @@ VULFSJOR_MUST_USE static inline int vulfsjor_blake2bp_final(vulfsjor_blake2bp_st
     return vulfsjor_ffi_blake2bp_final(S, vulfsjor_bytes(out), outlen);
 }
 
+/* Does what vulfsjor_blake2bp_verify does, also for a digest of fewer than VULFSJOR_TAGBYTES_MIN
+ * bytes. Use it only for tags of vulfsjor_blake2bp_init_short_mac, whose length your program has
+ * chosen: never pass the length of a tag that came to the init. */
+VULFSJOR_READS(2, 3)
+VULFSJOR_MUST_USE static inline int vulfsjor_blake2bp_verify_short_mac(vulfsjor_blake2bp_state *S,
+                                                                       const void *tag,
+                                                                       size_t taglen) {
+    if (!S || (!tag && taglen)) return -1;
+    return vulfsjor_ffi_blake2bp_verify(S, vulfsjor_text(tag), taglen);
+}
+
 /* Returns 0 if tag is the whole digest of all input under the key, and -1 otherwise, as
  * vulfsjor_blake2b_verify does. It wipes the state in either case, so copy the state first to try
  * another tag. All bytes of a tag of the right length are compared. Returns -1 too, and leaves the
- * state unchanged, if it has no key, if it was not ready, or if tag is null and taglen is not 0. */
+ * state unchanged, if it has no key, if its digest has fewer than VULFSJOR_TAGBYTES_MIN bytes, if it
+ * was not ready, or if tag is null and taglen is not 0. */
 VULFSJOR_READS(2, 3)
 VULFSJOR_MUST_USE static inline int vulfsjor_blake2bp_verify(vulfsjor_blake2bp_state *S,
                                                              const void *tag, size_t taglen) {
-    if (!S || (!tag && taglen) || !vulfsjor_has_key(S->root, 0xc9)) return -1;
-    return vulfsjor_ffi_blake2bp_verify(S, vulfsjor_text(tag), taglen);
+    /* The numbers of a state are little-endian on every platform. */
+    if (!S || vulfsjor_text(&S->output_size)[0] < VULFSJOR_TAGBYTES_MIN) return -1;
+    return vulfsjor_blake2bp_verify_short_mac(S, tag, taglen);
 }
 
 /* Discards all input. Digest length, key, salt and personalization are kept. Returns -1 if the
@@ -1179,6 +1312,18 @@ VULFSJOR_MUST_USE static inline int vulfsjor_blake2bp(void *out, size_t outlen, 
                                  vulfsjor_text(key), keylen);
 }
 
+/* Writes the tag of the input to out: outlen bytes, VULFSJOR_TAGBYTES_MIN to 64, under a key of 1 to
+ * 64 bytes. Returns -1 and writes nothing if a length is out of range, or for an input that
+ * vulfsjor_blake2bp refuses. A key of 0 bytes is refused, also if it is null. To check a tag, use
+ * vulfsjor_blake2bp_verify. */
+VULFSJOR_WRITES(1, 2) VULFSJOR_READS(3, 4) VULFSJOR_READS(5, 6)
+VULFSJOR_MUST_USE static inline int vulfsjor_blake2bp_mac(void *out, size_t outlen, const void *in,
+                                                          size_t inlen, const void *key,
+                                                          size_t keylen) {
+    if (outlen < VULFSJOR_TAGBYTES_MIN || !keylen) return -1;
+    return vulfsjor_blake2bp(out, outlen, in, inlen, key, keylen);
+}
+
 /* -- BLAKE2sp (the BLAKE2 document, "Parallel hashing"). The blocks of the message are dealt out to
  * eight leaves of BLAKE2s, and a root hashes the digests of the leaves. One thread hashes all leaves
  * in parallel: long messages are hashed faster than by BLAKE2s, and short ones slower
@@ -1195,7 +1340,7 @@ static inline int vulfsjor_blake2sp_init_salt_personal(
     vulfsjor_blake2sp_state *S, size_t outlen, const void *key, size_t keylen, const void *salt,
     size_t saltlen, const void *personal, size_t personallen) {
     if (!S) return -1;
-    memset(S, 0, sizeof *S);
+    memset(vulfsjor_bytes(S), 0, sizeof *S);
     if (vulfsjor_are_refused(key, keylen, salt, saltlen, personal, personallen))
         return -1;
     return vulfsjor_ffi_blake2sp_init_salt_personal(S, outlen, vulfsjor_text(key), keylen,
@@ -1216,24 +1361,40 @@ VULFSJOR_READS(3, 4)
 static inline int vulfsjor_blake2sp_init_key(vulfsjor_blake2sp_state *S, size_t outlen,
                                              const void *key, size_t keylen) {
     if (!S) return -1;
-    memset(S, 0, sizeof *S);
+    memset(vulfsjor_bytes(S), 0, sizeof *S);
     if (!key) return -1;
     return vulfsjor_ffi_blake2sp_init_key(S, outlen, vulfsjor_text(key), keylen);
 }
 
-/* Initializes a state as vulfsjor_blake2sp_init_salt_personal does, under a key of 1 to 32 bytes:
- * use it where a key is a must. Returns -1 and sets the state to zero if a length is out of range.
- * A key of 0 bytes is refused, also if it is null. */
+/* Initializes a state as vulfsjor_blake2sp_init_salt_personal does, under a key of 1 to 32 bytes and
+ * for a tag of 1 to 32 bytes. Use it only for tags that are shorter than vulfsjor_blake2sp_init_mac
+ * accepts: anybody makes one of n bytes in at most 256^n tries. So never pass the length of a tag
+ * that came. Returns -1 and sets the state to zero if a length is out of range. A key of 0 bytes is
+ * refused, also if it is null. */
+VULFSJOR_READS(3, 4) VULFSJOR_READS(5, 6) VULFSJOR_READS(7, 8)
+static inline int vulfsjor_blake2sp_init_short_mac(vulfsjor_blake2sp_state *S, size_t outlen,
+                                                   const void *key, size_t keylen, const void *salt,
+                                                   size_t saltlen, const void *personal,
+                                                   size_t personallen) {
+    if (!S) return -1;
+    memset(vulfsjor_bytes(S), 0, sizeof *S);
+    if (!keylen) return -1;
+    return vulfsjor_blake2sp_init_salt_personal(S, outlen, key, keylen, salt, saltlen, personal,
+                                                personallen);
+}
+
+/* Initializes a state as vulfsjor_blake2sp_init_salt_personal does, under a key of 1 to 32 bytes and
+ * for a tag of VULFSJOR_TAGBYTES_MIN to 32 bytes: use it for message authentication codes. Returns
+ * -1 and sets the state to zero if a length is out of range. A key of 0 bytes is refused, also if it
+ * is null. */
 VULFSJOR_READS(3, 4) VULFSJOR_READS(5, 6) VULFSJOR_READS(7, 8)
 static inline int vulfsjor_blake2sp_init_mac(vulfsjor_blake2sp_state *S, size_t outlen,
                                              const void *key, size_t keylen, const void *salt,
                                              size_t saltlen, const void *personal,
                                              size_t personallen) {
-    if (!S) return -1;
-    memset(S, 0, sizeof *S);
-    if (!keylen) return -1;
-    return vulfsjor_blake2sp_init_salt_personal(S, outlen, key, keylen, salt, saltlen, personal,
-                                                personallen);
+    if (outlen < VULFSJOR_TAGBYTES_MIN) keylen = 0; /* which is refused */
+    return vulfsjor_blake2sp_init_short_mac(S, outlen, key, keylen, salt, saltlen, personal,
+                                            personallen);
 }
 
 /* Absorbs inlen bytes of input. The digest does not depend on how the input is split into calls.
@@ -1257,15 +1418,28 @@ VULFSJOR_MUST_USE static inline int vulfsjor_blake2sp_final(vulfsjor_blake2sp_st
     return vulfsjor_ffi_blake2sp_final(S, vulfsjor_bytes(out), outlen);
 }
 
+/* Does what vulfsjor_blake2sp_verify does, also for a digest of fewer than VULFSJOR_TAGBYTES_MIN
+ * bytes. Use it only for tags of vulfsjor_blake2sp_init_short_mac, whose length your program has
+ * chosen: never pass the length of a tag that came to the init. */
+VULFSJOR_READS(2, 3)
+VULFSJOR_MUST_USE static inline int vulfsjor_blake2sp_verify_short_mac(vulfsjor_blake2sp_state *S,
+                                                                       const void *tag,
+                                                                       size_t taglen) {
+    if (!S || (!tag && taglen)) return -1;
+    return vulfsjor_ffi_blake2sp_verify(S, vulfsjor_text(tag), taglen);
+}
+
 /* Returns 0 if tag is the whole digest of all input under the key, and -1 otherwise, as
  * vulfsjor_blake2s_verify does. It wipes the state in either case, so copy the state first to try
  * another tag. All bytes of a tag of the right length are compared. Returns -1 too, and leaves the
- * state unchanged, if it has no key, if it was not ready, or if tag is null and taglen is not 0. */
+ * state unchanged, if it has no key, if its digest has fewer than VULFSJOR_TAGBYTES_MIN bytes, if it
+ * was not ready, or if tag is null and taglen is not 0. */
 VULFSJOR_READS(2, 3)
 VULFSJOR_MUST_USE static inline int vulfsjor_blake2sp_verify(vulfsjor_blake2sp_state *S,
                                                              const void *tag, size_t taglen) {
-    if (!S || (!tag && taglen) || !vulfsjor_has_key(S->root, 0xe6)) return -1;
-    return vulfsjor_ffi_blake2sp_verify(S, vulfsjor_text(tag), taglen);
+    /* The numbers of a state are little-endian on every platform. */
+    if (!S || vulfsjor_text(&S->output_size)[0] < VULFSJOR_TAGBYTES_MIN) return -1;
+    return vulfsjor_blake2sp_verify_short_mac(S, tag, taglen);
 }
 
 /* Discards all input. Digest length, key, salt and personalization are kept. Returns -1 if the
@@ -1303,6 +1477,18 @@ VULFSJOR_MUST_USE static inline int vulfsjor_blake2sp(void *out, size_t outlen, 
                                  vulfsjor_text(key), keylen);
 }
 
+/* Writes the tag of the input to out: outlen bytes, VULFSJOR_TAGBYTES_MIN to 32, under a key of 1 to
+ * 32 bytes. Returns -1 and writes nothing if a length is out of range, or for an input that
+ * vulfsjor_blake2sp refuses. A key of 0 bytes is refused, also if it is null. To check a tag, use
+ * vulfsjor_blake2sp_verify. */
+VULFSJOR_WRITES(1, 2) VULFSJOR_READS(3, 4) VULFSJOR_READS(5, 6)
+VULFSJOR_MUST_USE static inline int vulfsjor_blake2sp_mac(void *out, size_t outlen, const void *in,
+                                                          size_t inlen, const void *key,
+                                                          size_t keylen) {
+    if (outlen < VULFSJOR_TAGBYTES_MIN || !keylen) return -1;
+    return vulfsjor_blake2sp(out, outlen, in, inlen, key, keylen);
+}
+
 /* -- BLAKE2Xb (the BLAKE2X document): an output of any length, which is read in pieces. A root hash
  * of BLAKE2b absorbs the message, and each 64 bytes of the output are a hash of its digest. The
  * output depends on its length: a shorter output is no beginning of a longer one. */
@@ -1317,7 +1503,7 @@ static inline int vulfsjor_blake2xb_init_salt_personal(
     vulfsjor_blake2xb_state *S, size_t xoflen, const void *key, size_t keylen, const void *salt,
     size_t saltlen, const void *personal, size_t personallen) {
     if (!S) return -1;
-    memset(S, 0, sizeof *S);
+    memset(vulfsjor_bytes(S), 0, sizeof *S);
     if (vulfsjor_are_refused(key, keylen, salt, saltlen, personal, personallen))
         return -1;
     return vulfsjor_ffi_blake2xb_init_salt_personal(S, xoflen, vulfsjor_text(key), keylen,
@@ -1339,7 +1525,7 @@ VULFSJOR_READS(3, 4)
 static inline int vulfsjor_blake2xb_init_key(vulfsjor_blake2xb_state *S, size_t xoflen,
                                              const void *key, size_t keylen) {
     if (!S) return -1;
-    memset(S, 0, sizeof *S);
+    memset(vulfsjor_bytes(S), 0, sizeof *S);
     if (!key || !keylen) return -1;
     return vulfsjor_blake2xb_init_salt_personal(S, xoflen, key, keylen, "", 0, "", 0);
 }
@@ -1353,7 +1539,7 @@ static inline int vulfsjor_blake2xb_init_mac(vulfsjor_blake2xb_state *S, size_t 
                                              size_t saltlen, const void *personal,
                                              size_t personallen) {
     if (!S) return -1;
-    memset(S, 0, sizeof *S);
+    memset(vulfsjor_bytes(S), 0, sizeof *S);
     if (!keylen) return -1;
     return vulfsjor_blake2xb_init_salt_personal(S, xoflen, key, keylen, salt, saltlen, personal,
                                                 personallen);
@@ -1438,14 +1624,14 @@ VULFSJOR_MUST_USE static inline int vulfsjor_blake2xb_derive_key(void *out, size
 /* Initializes a state for an output of xoflen bytes, 1 to 2^16 - 2, or of
  * VULFSJOR_BLAKE2XS_UNKNOWN_LENGTH if the length is not known in advance: then 128 GiB can be read.
  * The key has 1 to 32 bytes; without a key, key is null and keylen is 0. The salt and the
- * personalization have 0 to 8 bytes each, and trailing zeros in them change nothing. Returns -1 and
- * sets the state to zero if a length is out of range. */
+ * personalization have 0 to 8 bytes each, and trailing zeros in them change nothing. Returns -1
+ * and sets the state to zero if a length is out of range. */
 VULFSJOR_READS(3, 4) VULFSJOR_READS(5, 6) VULFSJOR_READS(7, 8)
 static inline int vulfsjor_blake2xs_init_salt_personal(
     vulfsjor_blake2xs_state *S, size_t xoflen, const void *key, size_t keylen, const void *salt,
     size_t saltlen, const void *personal, size_t personallen) {
     if (!S) return -1;
-    memset(S, 0, sizeof *S);
+    memset(vulfsjor_bytes(S), 0, sizeof *S);
     if (vulfsjor_are_refused(key, keylen, salt, saltlen, personal, personallen))
         return -1;
     return vulfsjor_ffi_blake2xs_init_salt_personal(S, xoflen, vulfsjor_text(key), keylen,
@@ -1467,7 +1653,7 @@ VULFSJOR_READS(3, 4)
 static inline int vulfsjor_blake2xs_init_key(vulfsjor_blake2xs_state *S, size_t xoflen,
                                              const void *key, size_t keylen) {
     if (!S) return -1;
-    memset(S, 0, sizeof *S);
+    memset(vulfsjor_bytes(S), 0, sizeof *S);
     if (!key || !keylen) return -1;
     return vulfsjor_blake2xs_init_salt_personal(S, xoflen, key, keylen, "", 0, "", 0);
 }
@@ -1481,7 +1667,7 @@ static inline int vulfsjor_blake2xs_init_mac(vulfsjor_blake2xs_state *S, size_t 
                                              size_t saltlen, const void *personal,
                                              size_t personallen) {
     if (!S) return -1;
-    memset(S, 0, sizeof *S);
+    memset(vulfsjor_bytes(S), 0, sizeof *S);
     if (!keylen) return -1;
     return vulfsjor_blake2xs_init_salt_personal(S, xoflen, key, keylen, salt, saltlen, personal,
                                                 personallen);
@@ -1565,18 +1751,18 @@ VULFSJOR_MUST_USE static inline int vulfsjor_blake2xs_derive_key(void *out, size
  * and inner length 64. The last leaf and the root have the last-node flag. The tree has no key, and
  * the root is not the BLAKE2b digest of the message. */
 
-/* Writes the root of the input's tree to out: outlen bytes, 1 to 64. leaf_length is at least 1, and
- * the salt and the personalization have 0 to 16 bytes each. Returns -1 and writes nothing if a
- * length is out of range, or if the input has 2^58 bytes or more. */
+/* Writes the root of the input's tree to out: outlen bytes, 1 to 64. leaf_length is 1 to
+ * 2^32 - 1, and the salt and the personalization have 0 to 16 bytes each. Returns -1 and writes
+ * nothing if a length is out of range, or if the input has 2^58 bytes or more. */
 VULFSJOR_WRITES(1, 2) VULFSJOR_READS(3, 4) VULFSJOR_READS(5, 6) VULFSJOR_READS(7, 8)
 VULFSJOR_MUST_USE static inline int vulfsjor_tree_root(void *out, size_t outlen, const void *in,
                                                        size_t inlen, const void *salt,
                                                        size_t saltlen, const void *personal,
-                                                       size_t personallen, uint32_t leaf_length) {
+                                                       size_t personallen, uint64_t leaf_length) {
     if (!out || (!in && inlen) || (!salt && saltlen) || (!personal && personallen)) return -1;
     return vulfsjor_ffi_tree_root(vulfsjor_bytes(out), outlen, vulfsjor_text(in), inlen,
                                   vulfsjor_text(salt), saltlen, vulfsjor_text(personal),
-                                  personallen, leaf_length);
+                                  personallen, vulfsjor_leaf(leaf_length));
 }
 
 /* Initializes a state for a root of outlen bytes, 1 to 64. The other arguments are those of
@@ -1584,12 +1770,12 @@ VULFSJOR_MUST_USE static inline int vulfsjor_tree_root(void *out, size_t outlen,
 VULFSJOR_READS(3, 4) VULFSJOR_READS(5, 6)
 static inline int vulfsjor_tree_init(vulfsjor_tree_state *S, size_t outlen, const void *salt,
                                      size_t saltlen, const void *personal, size_t personallen,
-                                     uint32_t leaf_length) {
+                                     uint64_t leaf_length) {
     if (!S) return -1;
-    memset(S, 0, sizeof *S);
+    memset(vulfsjor_bytes(S), 0, sizeof *S);
     if ((!salt && saltlen) || (!personal && personallen)) return -1;
     return vulfsjor_ffi_tree_init(S, outlen, vulfsjor_text(salt), saltlen, vulfsjor_text(personal),
-                                  personallen, leaf_length);
+                                  personallen, vulfsjor_leaf(leaf_length));
 }
 
 /* Absorbs inlen bytes of input. The root does not depend on how the input is split into calls.
@@ -1642,9 +1828,9 @@ static inline uint32_t vulfsjor_tree_leaf_length(const vulfsjor_tree_state *S) {
  * replace its digests, and compute the root again. */
 
 /* Returns the number of leaves of a message of inlen bytes, which is at least 1; 0 if leaf_length
- * is 0. */
-static inline uint64_t vulfsjor_tree_leaf_count(uint64_t inlen, uint32_t leaf_length) {
-    return vulfsjor_ffi_tree_leaf_count(inlen, leaf_length);
+ * is out of range. */
+static inline uint64_t vulfsjor_tree_leaf_count(uint64_t inlen, uint64_t leaf_length) {
+    return vulfsjor_ffi_tree_leaf_count(inlen, vulfsjor_leaf(leaf_length));
 }
 
 /* Writes the digests of a range of leaves to out, 64 bytes each. The input is the bytes of these
@@ -1653,8 +1839,8 @@ static inline uint64_t vulfsjor_tree_leaf_count(uint64_t inlen, uint32_t leaf_le
  * whole. No call can check ends: a wrong value on whole leaves makes a wrong root. outlen must be
  * 64 times vulfsjor_tree_leaf_count(inlen, leaf_length). Returns -1 and writes nothing
  *
- *   - if outlen is another number, leaf_length is 0, or the salt or the personalization has more
- *     than 16 bytes;
+ *   - if outlen is another number, leaf_length is out of range, or the salt or the personalization
+ *     has more than 16 bytes;
  *   - if ends is 0 and the input is empty or not whole leaves;
  *   - if ends is not 0 and the input is empty, unless first is 0 (an empty message has one leaf);
  *   - if the range ends at byte 2^58 of the message or after it. */
@@ -1663,25 +1849,26 @@ VULFSJOR_MUST_USE static inline int vulfsjor_tree_leaves(void *out, size_t outle
                                                          int ends, const void *in, size_t inlen,
                                                          const void *salt, size_t saltlen,
                                                          const void *personal, size_t personallen,
-                                                         uint32_t leaf_length) {
+                                                         uint64_t leaf_length) {
     if (!out || (!in && inlen) || (!salt && saltlen) || (!personal && personallen)) return -1;
     return vulfsjor_ffi_tree_leaves(vulfsjor_bytes(out), outlen, first, ends != 0,
                                     vulfsjor_text(in), inlen, vulfsjor_text(salt), saltlen,
-                                    vulfsjor_text(personal), personallen, leaf_length);
+                                    vulfsjor_text(personal), personallen,
+                                    vulfsjor_leaf(leaf_length));
 }
 
 /* Writes the root over the digests of all leaves, 64 bytes each, in their order, to out: outlen
  * bytes, 1 to 64. The other arguments are those of vulfsjor_tree_root. Returns -1 and writes
  * nothing if digestslen is 0 or not a multiple of 64, or if another length is out of range. */
 VULFSJOR_WRITES(1, 2) VULFSJOR_READS(3, 4) VULFSJOR_READS(5, 6) VULFSJOR_READS(7, 8)
-VULFSJOR_MUST_USE static inline int
-vulfsjor_tree_root_of_leaves(void *out, size_t outlen, const void *digests, size_t digestslen,
-                             const void *salt, size_t saltlen, const void *personal,
-                             size_t personallen, uint32_t leaf_length) {
+VULFSJOR_MUST_USE static inline int vulfsjor_tree_root_of_leaves(
+    void *out, size_t outlen, const void *digests, size_t digestslen, const void *salt,
+    size_t saltlen, const void *personal, size_t personallen, uint64_t leaf_length) {
     if (!out || !digests || (!salt && saltlen) || (!personal && personallen)) return -1;
     return vulfsjor_ffi_tree_root_of_leaves(vulfsjor_bytes(out), outlen, vulfsjor_text(digests),
                                             digestslen, vulfsjor_text(salt), saltlen,
-                                            vulfsjor_text(personal), personallen, leaf_length);
+                                            vulfsjor_text(personal), personallen,
+                                            vulfsjor_leaf(leaf_length));
 }
 
 /* -- The same tree as a stream whose leaves are hashed by threads. A state is at a leaf boundary if
@@ -1729,13 +1916,13 @@ VULFSJOR_MUST_USE static inline int vulfsjor_tree_update_leaves(vulfsjor_tree_st
 /* Writes the plan of a message of length bytes, fewer than 2^58, that begins at offset start of a
  * file or a buffer. Hash each part with vulfsjor_tree_leaves, with the part's first and ends.
  * vulfsjor_tree_root_of_leaves of all digests is then vulfsjor_tree_root of the message. Returns -1
- * and writes nothing if leaf_length, limits->threads or limits->least_bytes is 0, if length is 2^58
- * or more, or if start and length are 2^64 or more together. */
+ * and writes nothing if leaf_length is out of range, limits->threads or limits->least_bytes is 0, if
+ * length is 2^58 or more, or if start and length are 2^64 or more together. */
 VULFSJOR_MUST_USE static inline int vulfsjor_tree_plan(vulfsjor_plan *plan, uint64_t start,
-                                                       uint64_t length, uint32_t leaf_length,
+                                                       uint64_t length, uint64_t leaf_length,
                                                        const vulfsjor_limits *limits) {
     if (!plan || !limits) return -1;
-    return vulfsjor_ffi_tree_plan(plan, start, length, leaf_length, limits);
+    return vulfsjor_ffi_tree_plan(plan, start, length, vulfsjor_leaf(leaf_length), limits);
 }
 
 /* Writes the plan of an update of the state with length bytes. First vulfsjor_tree_update absorbs
@@ -1761,17 +1948,18 @@ VULFSJOR_MUST_USE static inline int vulfsjor_tree_part(vulfsjor_part *part,
 
 /* Initializes a state of BLAKE2b for leaf i of a message, for a leaf that is too long for one call.
  * It absorbs the bytes of the leaf, and its digest has 64 bytes. last is whether the leaf is the
- * message's last (0 if not). Returns -1 and sets the state to zero if leaf_length is 0, or if the
- * salt or the personalization has more than 16 bytes. */
+ * message's last (0 if not). Returns -1 and sets the state to zero if leaf_length is out of range,
+ * or if the salt or the personalization has more than 16 bytes. */
 VULFSJOR_READS(4, 5) VULFSJOR_READS(6, 7)
 static inline int vulfsjor_tree_init_leaf(vulfsjor_blake2b_state *S, uint64_t i, int last,
                                           const void *salt, size_t saltlen, const void *personal,
-                                          size_t personallen, uint32_t leaf_length) {
+                                          size_t personallen, uint64_t leaf_length) {
     if (!S) return -1;
-    memset(S, 0, sizeof *S);
+    memset(vulfsjor_bytes(S), 0, sizeof *S);
     if ((!salt && saltlen) || (!personal && personallen)) return -1;
     return vulfsjor_ffi_tree_init_leaf(S, i, last != 0, vulfsjor_text(salt), saltlen,
-                                       vulfsjor_text(personal), personallen, leaf_length);
+                                       vulfsjor_text(personal), personallen,
+                                       vulfsjor_leaf(leaf_length));
 }
 
 /* Initializes a state of BLAKE2b for the root of a message, for digests that come in pieces. It
@@ -1781,12 +1969,13 @@ static inline int vulfsjor_tree_init_leaf(vulfsjor_blake2b_state *S, uint64_t i,
 VULFSJOR_READS(3, 4) VULFSJOR_READS(5, 6)
 static inline int vulfsjor_tree_init_root(vulfsjor_blake2b_state *S, size_t outlen,
                                           const void *salt, size_t saltlen, const void *personal,
-                                          size_t personallen, uint32_t leaf_length) {
+                                          size_t personallen, uint64_t leaf_length) {
     if (!S) return -1;
-    memset(S, 0, sizeof *S);
+    memset(vulfsjor_bytes(S), 0, sizeof *S);
     if ((!salt && saltlen) || (!personal && personallen)) return -1;
     return vulfsjor_ffi_tree_init_root(S, outlen, vulfsjor_text(salt), saltlen,
-                                       vulfsjor_text(personal), personallen, leaf_length);
+                                       vulfsjor_text(personal), personallen,
+                                       vulfsjor_leaf(leaf_length));
 }
 
 /* -- What -1 means, call by call. A null pointer is a reason in every call: to a state, an output,
@@ -1799,7 +1988,9 @@ static inline int vulfsjor_tree_init_root(vulfsjor_blake2b_state *S, size_t outl
  *   BLAKE2b and BLAKE2s, and of these calls those that BLAKE2bp and BLAKE2sp have:
  *   _init, _init_salt_personal,    an argument that _refused returns
  *   _init_tree
- *   _init_key, _init_mac           an argument that _refused returns, or a key of 0 bytes
+ *   _init_key, _init_short_mac     an argument that _refused returns, or a key of 0 bytes
+ *   _init_mac, _mac                the same, an outlen of less than VULFSJOR_TAGBYTES_MIN, or for
+ *                                  _mac an input that the hash in one call refuses
  *   _init_param                    a field that _param_refused returns
  *   the hash in one call           an argument that _refused returns, or input and a key's block of
  *                                  2^64 bytes or more (BLAKE2bp and BLAKE2sp: 512 bytes for a key)
@@ -1808,8 +1999,9 @@ static inline int vulfsjor_tree_init_root(vulfsjor_blake2b_state *S, size_t outl
  *   _update                        the state is not ready (_digest_size returns 0 for it), or it
  *                                  would have absorbed 2^64 bytes or more
  *   _final                         the state is not ready, or outlen is not _digest_size
- *   _verify                        the tag or its length is another, or the state was not ready or
+ *   _verify_short_mac              the tag or its length is another, or the state was not ready or
  *                                  has no key
+ *   _verify                        the same, or the digest has fewer than VULFSJOR_TAGBYTES_MIN bytes
  *   _set_last_node, _reset         the state is not ready
  *   BLAKE2Xb and BLAKE2Xs:
  *   _init, _init_salt_personal     an argument that _refused returns
@@ -1854,7 +2046,7 @@ typedef enum vulfsjor_argument {
     VULFSJOR_ARGUMENT_NODE_OFFSET,  /* tree->node_offset is out of range */
     VULFSJOR_ARGUMENT_DEPTH,        /* tree->depth is 0 */
     VULFSJOR_ARGUMENT_INNER_LENGTH, /* tree->inner_length is out of range */
-    VULFSJOR_ARGUMENT_LEAF_LENGTH   /* leaf_length is 0, for the tree of two levels */
+    VULFSJOR_ARGUMENT_LEAF_LENGTH   /* leaf_length of the tree of two levels is out of range */
 } vulfsjor_argument;
 
 /* Returns the name of an argument for a message, such as "outlen" or "tree->depth"; "no argument"
@@ -2045,15 +2237,21 @@ static inline vulfsjor_argument vulfsjor_blake2xs_refused(size_t xoflen, const v
  * or VULFSJOR_ARGUMENT_NONE. */
 static inline vulfsjor_argument vulfsjor_tree_refused(size_t outlen, const void *salt,
                                                       size_t saltlen, const void *personal,
-                                                      size_t personallen, uint32_t leaf_length) {
+                                                      size_t personallen, uint64_t leaf_length) {
     if (vulfsjor_ffi_tree_check(outlen, 0, 0, 1)) return VULFSJOR_ARGUMENT_OUTLEN;
     if ((!salt && saltlen) || vulfsjor_ffi_tree_check(1, saltlen, 0, 1))
         return VULFSJOR_ARGUMENT_SALT;
     if ((!personal && personallen) || vulfsjor_ffi_tree_check(1, 0, personallen, 1))
         return VULFSJOR_ARGUMENT_PERSONAL;
-    if (vulfsjor_ffi_tree_check(1, 0, 0, leaf_length)) return VULFSJOR_ARGUMENT_LEAF_LENGTH;
+    if (vulfsjor_ffi_tree_check(1, 0, 0, vulfsjor_leaf(leaf_length)))
+        return VULFSJOR_ARGUMENT_LEAF_LENGTH;
     return VULFSJOR_ARGUMENT_NONE;
 }
+
+#ifdef VULFSJOR_INLINE_IS_DEFINED
+#undef VULFSJOR_INLINE_IS_DEFINED
+#undef inline
+#endif
 
 #ifdef __cplusplus
 }

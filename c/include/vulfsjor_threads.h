@@ -51,7 +51,7 @@ VULFSJOR_WRITES(1, 2) VULFSJOR_READS(3, 4) VULFSJOR_READS(5, 6) VULFSJOR_READS(7
 VULFSJOR_MUST_USE int vulfsjor_tree_root_threads(void *out, size_t outlen, const void *in,
                                                  size_t inlen, const void *salt, size_t saltlen,
                                                  const void *personal, size_t personallen,
-                                                 uint32_t leaf_length, unsigned threads);
+                                                 uint64_t leaf_length, unsigned threads);
 
 /* Writes the root of the file with this path to out: outlen bytes, 1 to 64.
  *
@@ -64,7 +64,7 @@ VULFSJOR_WRITES(1, 2) VULFSJOR_READS(4, 5) VULFSJOR_READS(6, 7)
 VULFSJOR_MUST_USE int vulfsjor_tree_root_file(void *out, size_t outlen, const char *path,
                                               const void *salt, size_t saltlen,
                                               const void *personal, size_t personallen,
-                                              uint32_t leaf_length, unsigned threads);
+                                              uint64_t leaf_length, unsigned threads);
 
 /* Writes the root of an open file, from its position to its end, to out: outlen bytes, 1 to 64. The
  * position is then at the end; if the call fails, it is unspecified. The descriptor stays open. A
@@ -72,7 +72,7 @@ VULFSJOR_MUST_USE int vulfsjor_tree_root_file(void *out, size_t outlen, const ch
 VULFSJOR_WRITES(1, 2) VULFSJOR_READS(4, 5) VULFSJOR_READS(6, 7)
 VULFSJOR_MUST_USE int vulfsjor_tree_root_fd(void *out, size_t outlen, int fd, const void *salt,
                                             size_t saltlen, const void *personal,
-                                            size_t personallen, uint32_t leaf_length,
+                                            size_t personallen, uint64_t leaf_length,
                                             unsigned threads);
 
 /* Absorbs inlen bytes of input, with the same result as vulfsjor_tree_update, which you may call

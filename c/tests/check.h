@@ -36,12 +36,16 @@ static int checks, fails;
     } while (0)
 #define TWO_TO(n) ((size_t)((uint64_t)1 << (n)))
 
-/* A number as a state has it, which is little-endian on every processor, and back. */
+/* A number in a field of a state, which is little-endian on every processor. PAST is one that a field of half the size
+ * would take for 0. */
 #if defined(__BYTE_ORDER__) && __BYTE_ORDER__ == __ORDER_BIG_ENDIAN__
-#define IN_STATE(x) __builtin_bswap64((uint64_t)(x))
+#define IN_FIELD(field, x) (__builtin_bswap64((uint64_t)(x)) >> (64 - 8 * sizeof(field)))
 #else
-#define IN_STATE(x) ((uint64_t)(x))
+#define IN_FIELD(field, x) ((uint64_t)(x))
 #endif
+#define SET(field, x) ((field) = (__typeof__(field))IN_FIELD(field, x))
+#define GET(field) IN_FIELD(field, field)
+#define PAST(field) ((uint64_t)1 << (4 * sizeof(field)))
 
 #define COUNT_OF(list) (sizeof(list) / sizeof *(list))
 #define SAME(a, b) (!memcmp(&(a), &(b), sizeof(a)))

@@ -9,7 +9,7 @@ is_x86 || here_texts=("$dist/aarch64/vulfsjor.s")
 
 # The functions that vulfsjor.h declares, by the compiler's reading of it.
 names_of_header() {
-    echo '#include <vulfsjor.h>' | cc -E -I"$include" - | grep -oE '\bvulfsjor_(ffi_[a-z0-9_]*|library_version) *\(' |
+    echo '#include <vulfsjor.h>' | cc -E -I"$include" - | grep -oE '\bvulfsjor_(ffi_[a-z0-9_]*|library_[a-z]*) *\(' |
         tr -d ' (' |
         LC_ALL=C sort -u
 }
@@ -35,22 +35,25 @@ shared_library_is_right() {
     file=$prefix/lib/libvulfsjor.so.$(version)
     readelf -dW "$file" >"$work/dynamic" && readelf -lW "$file" >"$work/segments" || return 1
     cat "$work/dynamic"
-    grep -q 'SONAME.*\[libvulfsjor\.so\.0\]' "$work/dynamic" && ! grep -q TEXTREL "$work/dynamic" &&
+    grep -q 'SONAME.*\[libvulfsjor\.so\.1\]' "$work/dynamic" && ! grep -q TEXTREL "$work/dynamic" &&
         grep -q BIND_NOW "$work/dynamic" && ! grep NEEDED "$work/dynamic" | grep -v 'libc\.' &&
         grep -q GNU_RELRO "$work/segments" && grep -q 'GNU_STACK .* RW ' "$work/segments" &&
         ! grep -q 'LOAD.*RWE' "$work/segments" || return 1
-    [ "$(readlink "$shared")" = libvulfsjor.so.0 ] &&
-        [ "$(readlink "$prefix/lib/libvulfsjor.so.0")" = "libvulfsjor.so.$(version)" ] &&
+    [ "$(readlink "$shared")" = libvulfsjor.so.1 ] &&
+        [ "$(readlink "$prefix/lib/libvulfsjor.so.1")" = "libvulfsjor.so.$(version)" ] &&
         ! nm -D --undefined-only "$file" |
         grep -vE ' (w|U) (_ITM_|__cxa_finalize|__gmon|abort|write|mem(cpy|move|set))'
 }
+
+libb2_names_are_hidden() { names_are_hidden "$(linked_whole "$prefix/lib/libvulfsjor-libb2.a")" "$include"; }
 
 # Branch protection: each object is marked, so a linker that demands the marks takes them, and marks what
 # it makes of them. Each function of choose.c begins with a landing pad.
 objects_are_marked() {
     are_marked "x86 feature: IBT, SHSTK" "" "$prefix"/lib/libvulfsjor{,-libb2,-threads}.a &&
-        cc -shared -nostdlib -Wl,-z,cet-report=error -Wl,--whole-archive "$prefix"/lib/libvulfsjor{-threads,-libb2}.a \
-            -Wl,--no-whole-archive -o "$work/marked.so" && readelf -nW "$work/marked.so" | grep -q "IBT, SHSTK" &&
+        cc -shared -nostdlib -Wl,-z,cet-report=error -Wl,--whole-archive "$prefix/lib/libvulfsjor-threads.a" \
+            "$(linked_whole "$prefix/lib/libvulfsjor-libb2.a")" -Wl,--no-whole-archive -o "$work/marked.so" &&
+        readelf -nW "$work/marked.so" | grep -q "IBT, SHSTK" &&
         objdump -d --no-show-raw-insn "$shared" |
         awk '/^[0-9a-f]+ <vulfsjor_ffi_[a-z0-9_]*>:$/ && !/_v[234]>/ { n++; getline; if (!/endbr64/) bad++ }
             END { exit !(n > 60) || bad }'
@@ -107,6 +110,17 @@ thunks_choose() {
         done >"$work/stand_ins.s" &&
         cc -std=gnu99 "${warnings[@]}" -O1 -I"$work" -I"$include" -I"$tests" "$tests/thunks.c" "$work/stand_ins.s" \
             -Wl,-z,noexecstack -o "$work/thunks" && "$work/thunks"
+}
+
+# Where the function that asks the processor moves the stack, by what debuggers and profilers read, and by its code.
+moves_stack_as_said() {
+    local function=vulfsjor_ffi_ask
+    objdump -d --no-show-raw-insn --disassemble=$function "$work/choose" | awk -v depth=8 '/^ +[0-9a-f]+:\t/ {
+        if (!rows || moved) { rows++; place = sprintf("%16s", substr($1, 1, length($1) - 1)); gsub(" ", 0, place)
+            print place, "rsp+" depth }
+        moved = /push|pop/; depth += /push/ ? 8 : /pop/ ? -8 : 0 } END { exit rows != 13 }' >"$work/moves" &&
+        readelf -wF "$work/choose" | awk -v "from=$(head -c 16 "$work/moves")" '/ FDE / { here = index($0, "pc=" from) }
+            here && $2 ~ /^rsp/ { print $1, $2 }' | diff "$work/moves" -
 }
 
 # What clang makes of choose.c.
@@ -174,6 +188,32 @@ test_emulated() {
     done
 }
 
+# A program in C, or in C++ if the compiler is c++, linked with these words, prints this line by vulfsjor_build:
+# LINE COMPILER WORDS..
+says_build() {
+    if [ "$2" = c++ ]; then
+        printf '%s\n' '#include <vulfsjor.hpp>' '#include <iostream>' \
+            'int main() { std::cout << vulfsjor::build() << "\n"; }' >"$work/says_build.cpp"
+    else
+        printf '%s\n' '#include <stdio.h>' '#include <vulfsjor.h>' \
+            'int main(void) { return puts(vulfsjor_build()) < 0; }' >"$work/says_build.c"
+    fi
+    "$2" "${warnings[@]}" -I"$include" "$work/says_build".c* "${@:3}" -o "$work/says_build" &&
+        rm "$work/says_build".c* && LD_LIBRARY_PATH=$prefix/lib "$work/says_build" | diff <(echo "$1") -
+}
+
+# The line of MANIFEST for the text of a level of x86-64, or for that of ARM.
+line_of_text() { grep "  $(is_x86 && echo "x86_64/vulfsjor-v$1" || echo aarch64/vulfsjor)[.]s\$" "$dist/MANIFEST"; }
+
+# A library of a text with one more byte says that text's hash, as sha256sum does.
+says_changed_text() {
+    local name=${here_texts[0]#"$dist/"}
+    mkdir -p "$work/${name%/*}" && { cat "$dist/$name" && echo; } >"$work/$name" &&
+        "$here/make_libraries.sh" "$work/of changed text" "$work/$name" && cd "$work" &&
+        says_build "$(sha256sum "$name")" cc "$work/of changed text/libvulfsjor.a" &&
+        ! grep -q "^$("$work/says_build")$" "$dist/MANIFEST"
+}
+
 # A test program for a hash over one build or alternating ones, compiled once for all of them: NAME BUILD HASH
 run_of_build() {
     local name=$1 build=$2 object=$work/$1_$3.o level=$quick
@@ -194,6 +234,8 @@ test_builds() {
     [ "$level" = 4 ] || skip "the build for x86-64-v4" "the processor is below x86-64-v4"
     for build in $builds; do
         check "the choice of $build (several: alternating)" choose_build -DCHOOSE_TEST=$build build_$build || return
+        [ ${#build} -gt 1 ] || check "vulfsjor_build of build $build" says_build "$(line_of_text $build)" cc \
+            "$work/build_$build.o" "$archive"
         for hash in "${hashes[@]}"; do
             ! has python3 || check "conformance.c, $hash, by build $build" run_of_build conformance $build $hash
             [ $hash = tree ] || [ ${#build} -gt 1 ] ||
@@ -259,10 +301,16 @@ test_choosing() {
     check "the assembly with that of another number" texts_stand_together $(some "${here_texts[@]}")
     check "what a program takes of the library" programs_take_what_they_call
     check "hidden names, libvulfsjor.a" names_are_hidden "$archive" "$include"
-    check "hidden names, libvulfsjor-libb2.a" names_are_hidden "$prefix/lib/libvulfsjor-libb2.a" "$include"
+    check "hidden names, libvulfsjor-libb2.a" libb2_names_are_hidden
     needs
     check "calls of a constructor, and of threads" first_calls
     check "first calls of many threads" first_calls -DFIRST_BY_THREADS
+    check "vulfsjor_build, static" says_build "$(line_of_text "$level")" cc "$archive"
+    check "vulfsjor_build, shared" says_build "$(line_of_text "$level")" cc "$shared"
+    check "vulfsjor_build of a changed text" says_changed_text
+    needs c++
+    check "vulfsjor::build" says_build "$(line_of_text "$level")" c++ -std=c++17 "$archive"
+    needs
     if ! is_x86; then
         skip "the choice" "the library holds one build"
         return
@@ -275,6 +323,9 @@ test_choosing() {
     needs
     check "choose.c" compile_choose choose -O2 &&
         check "the choice on this processor" chooses_level "$level" env
+    needs objdump readelf
+    check "how the first call moves the stack" moves_stack_as_said
+    needs
     test_builds
     test_emulated
     test_cost

@@ -18,6 +18,7 @@ kinds=(blake2b blake2sp blake2xb tree)
 
 include=$prefix/include
 libb2=$include/vulfsjor-libb2
+reference=$include/vulfsjor-reference
 archive=$prefix/lib/libvulfsjor.a
 shared=$prefix/lib/libvulfsjor.so
 warnings=(-Wall -Wextra -Wpedantic -Werror)
@@ -41,14 +42,14 @@ files_below() { (cd "$1" && find . -type f -o -type l | sed 's/^\.\///' | LC_ALL
 
 # The files of an installation, with this in the place of lib/, for Linux or another system: LIB [windows|macos]
 wanted_files() {
-    local files=(include/vulfsjor{.h,.hpp,_threads.h} include/vulfsjor-libb2/blake2.h
+    local files=(include/vulfsjor{.h,.hpp,_threads.h} include/vulfsjor-{libb2,reference}/blake2.h
         "$1"libvulfsjor{,-libb2,-threads}.a "$1"pkgconfig/vulfsjor{,-static,-threads}.pc
         "$1"cmake/vulfsjor/vulfsjor-config{,-version}.cmake "$1"vulfsjor-libb2/pkgconfig/libb2.pc)
     [ "${2-}" = windows ] || files+=("$1"libvulfsjor-static.a "$1"vulfsjor-libb2/libb2.a)
     case ${2-} in
-        windows) files+=(bin/libvulfsjor-0.dll "$1"libvulfsjor.dll.a) ;;
-        macos) files+=("$1"libvulfsjor{.0,}.dylib) ;;
-        *) files+=("$1"libvulfsjor.so{,.0,".$(version)"}) ;;
+        windows) files+=(bin/libvulfsjor-1.dll "$1"libvulfsjor.dll.a) ;;
+        macos) files+=("$1"libvulfsjor{.1,}.dylib) ;;
+        *) files+=("$1"libvulfsjor.so{,.1,".$(version)"}) ;;
     esac
     printf '%s\n' "${files[@]}" | LC_ALL=C sort
 }
@@ -79,6 +80,9 @@ are_marked() {
         done
     done
 }
+
+# Prints the path of a copy of libvulfsjor-libb2.a without the member that refuses to be linked with all others: ARCHIVE
+linked_whole() { cp "$1" "$work/linked_whole.a" && ar d "$work/linked_whole.a" whole.o && echo "$work/linked_whole.a"; }
 
 # Somebody else's shared library, linked with one of the archives, shows none of its functions.
 names_are_hidden() {
@@ -121,8 +125,8 @@ words_for() {
 }
 
 wanted_of_readme() {
-    python3 -c 'import hashlib
-print(hashlib.blake2b(b"hello world", digest_size=32, key=b"key").hexdigest())'
+    python3 -c 'import hashlib, sys
+print(hashlib.blake2b(b"hello world", digest_size=32, key="".join(sys.argv[1:]).encode()).hexdigest())' "$@"
 }
 
 # The conformance cases, unless ./test has written them.
@@ -147,7 +151,7 @@ has_memcheck() { has valgrind && echo '#include <valgrind/memcheck.h>' | cc -E -
 part() {
     [ "${BASH_SOURCE[1]}" = "$0" ] || return 0
     if ! has cc; then
-        skip "all tests" "no C compiler cc"
+        skip "all tests" "no cc"
     elif { [ "$prefix" = "${VULFSJOR_INSTALLED-}" ] ||
         check "install.sh" "$here/install.sh" "$prefix"; } &&
         { [ $# -eq 1 ] || ! has python3 || check "the conformance cases are written" write_conformance; }; then

@@ -21,8 +21,8 @@
 
 /* The cases of each file, and those that C skips, on 64 and on 32 bits. */
 static const struct { const char *hash; int cases, skipped, skipped_on_32; } files[] = {
-    {"blake2b", 2545, 228, 255}, {"blake2s", 2249, 224, 251}, {"blake2bp", 1316, 8, 26}, {"blake2sp", 1140, 8, 26},
-    {"blake2xb", 1304, 10, 35}, {"blake2xs", 1109, 9, 28}, {"tree", 2322, 252, 271}};
+    {"blake2b", 2639, 228, 255}, {"blake2s", 2343, 224, 251}, {"blake2bp", 1323, 8, 26}, {"blake2sp", 1147, 8, 26},
+    {"blake2xb", 1310, 10, 35}, {"blake2xs", 1115, 9, 28}, {"tree", 2323, 253, 272}};
 
 static state_t *slots[26];
 static int has_key[26];
@@ -182,6 +182,18 @@ static int write_in_pieces(uint8_t *out, size_t n, const given *g, text t) {
 }
 
 /* In one call, and by a state. */
+#if !defined(TEST_T) && !defined(TEST_X)
+/* The call for a tag is that for a digest, but a key is a must, and a short tag refused. */
+static void tag_in_one_call(uint8_t *out, const given *g, text t, const uint8_t *wanted, int status) {
+    const size_t n = g->size > sizeof got / 4 ? 0 : g->size;
+    const int is_tag = HAS_KEY(g) && g->size >= LEAST_TAG;
+    memset(out, 0xaa, n + 9);
+    CHECK(BLAKE(mac)(out, g->size, TEXT(t), TEXT(g->key)) == (is_tag ? status : -1));
+    CHECK(is_tag && !status ? same(out, wanted, n + 9) : is_blank(out, 0, n));
+    CHECK(BLAKE(mac)(NULL, g->size, TEXT(t), TEXT(g->key)) == -1);
+}
+#endif
+
 static void call_hash(state_t *S, const given *g, text t) {
     const size_t n = g->size > sizeof got / 4 ? 0 : g->size;
     uint8_t *one = room_of(n), *run = room_of(n);
@@ -189,6 +201,9 @@ static void call_hash(state_t *S, const given *g, text t) {
     CHECK(is_blank(one, 0, n));
     const int status = in_one_call(one, g, t), by_state = write_in_pieces(run, n, g, t);
     CHECK(status == ABSENT || (status == by_state && same(one, run, n + 9) && in_one_call(NULL, g, t) == -1));
+#if !defined(TEST_T) && !defined(TEST_X)
+    if (status != ABSENT) tag_in_one_call(one, g, t, run, status);
+#endif
 #ifdef TEST_SECRETS
     const int is_wanted = g->key.length + t.length > 0;
     if (!by_state && n) CHECK(is_secret(run) == is_wanted && is_secret(run + n - 1) == is_wanted);
@@ -276,6 +291,12 @@ static void call_new(state_t *S, const given *g, text unused) {
     CHECK(BLAKE(init_mac)(memset(&other, 0xa5, sizeof other), g->size, NULL, 0, TEXT(g->salt), TEXT(g->person)) == -1);
     CHECK(is_ended(&other));
 #endif
+#if !defined(TEST_T) && !defined(TEST_X)
+    CHECK(BLAKE(init_short_mac)(memset(&other, 0xa5, sizeof other), g->size, "", 0, TEXT(g->salt), TEXT(g->person)) == -1);
+    CHECK(is_ended(&other) && (g->size >= LEAST_TAG || BLAKE(init_mac)(memset(&other, 0xa5, sizeof other), g->size,
+                                                                       "key", 3, "", 0, "", 0) == -1));
+    CHECK(is_ended(&other));
+#endif
 }
 
 static void call_copy(state_t *S, const given *g, text unused) {
@@ -283,6 +304,11 @@ static void call_copy(state_t *S, const given *g, text unused) {
     if (is_ended(S)) gives_refusal("");
     else *slots[to] = *S, has_key[to] = has_key[from];
 }
+
+#ifdef TEST_NODES
+/* The count of a state that has absorbed nothing. */
+static void call_skip(state_t *S, const given *g, text unused) { SET(S->counter, strtoull(part[2], NULL, 10)); }
+#endif
 
 static void call_wipe(state_t *S, const given *g, text unused) {
     BLAKE(wipe)(NULL);
@@ -324,8 +350,13 @@ static void call_verify(state_t *S, const given *g, text t) {
     size_t n = BLAKE(digest_size)(S);
     state_t copy = *S;
     CHECK_64(COMPARED(BLAKE(verify)(&copy, t.bytes, t.length + TWO_TO(32))) == -1);
-    int is_ready = n && (t.bytes || !t.length), status = COMPARED(BLAKE(verify)(S, TEXT(t)));
-    CHECK(BLAKE(verify)(NULL, TEXT(t)) == -1);
+    CHECK(BLAKE(verify)(NULL, TEXT(t)) == -1 && BLAKE(verify_short_mac)(NULL, TEXT(t)) == -1);
+    int is_ready = n && (t.bytes || !t.length), status;
+    state_t other = copy = *S;
+    status = COMPARED(BLAKE(verify_short_mac)(S, TEXT(t)));
+    /* The other is the same, or refuses a short digest, and changes nothing. */
+    CHECK(COMPARED(BLAKE(verify)(&other, TEXT(t))) == (n < LEAST_TAG ? -1 : status));
+    CHECK(same(&other, n < LEAST_TAG ? &copy : S, sizeof other));
     if (is_ready && !has_key[*part[1] - 'a']) {
         CHECK(status == -1 && !write_output(S, wanted, n));
         status = t.length != n || !same(wanted, t.bytes, n);
@@ -405,7 +436,7 @@ static const struct row {
     {"verify", call_verify, 1, 2},
 #endif
 #ifdef TEST_NODES
-    {"many", call_many, 0, 0}, {"last", call_change, 1, 0},
+    {"many", call_many, 0, 0}, {"last", call_change, 1, 0}, {"skip", call_skip, 1, 0},
 #endif
 };
 

@@ -1,6 +1,5 @@
-/* Reads the conformance cases of BLAKE2b, BLAKE2s, BLAKE2bp and BLAKE2sp (tests/conformance/README.md) from a folder,
- * makes each call by vulfsjor.hpp and compares its outcome. Returns 0 if all are right, and C++ skips as many cases as
- * this file says.
+/* Reads the conformance cases of all hashes and of the tree (tests/conformance/README.md) from a folder, makes each call
+ * by vulfsjor.hpp and compares its outcome. Returns 0 if all are right, and C++ skips as many cases as this file says.
  *
  * Of every call it checks too: a refused call changes neither count nor digest, a digest of another length is refused
  * and writes nothing, a digest is the same again, `create` and the constructor accept and refuse the same, and the
@@ -13,6 +12,7 @@
 #include "check.h"
 #include "conformance_lines.h"
 
+#include <list>
 #include <map>
 #include <string>
 
@@ -42,6 +42,7 @@ vulfsjor::parameters parameters_of(const given &g) {
     made.salt = vulfsjor::bytes(TEXT(g.salt));
     made.personal = vulfsjor::bytes(TEXT(g.person));
     if (g.is_node) made.tree = g.tree;
+    made.allow_short = true;
     return made;
 }
 
@@ -49,10 +50,25 @@ vulfsjor::parameters parameters_of(const given &g) {
 std::string refusal_of(const std::string &said) {
     static const std::map<std::string, std::string> names = {
         {"outlen", "size"}, {"personal", "person"}, {"tree->node_offset", "offset"}, {"tree->depth", "depth"},
-        {"tree->inner_length", "inner"}, {"in", "message"}, {"key", "key"}, {"salt", "salt"}};
+        {"tree->inner_length", "inner"}, {"in", "message"}, {"key", "key"}, {"salt", "salt"}, {"context", "context"},
+        {"leaf_length", "leaf"}, {"digests", "digests"}};
     const std::string name = said.substr(10, said.size() - 10 - 16); /* between `vulfsjor: ` and ` is out of range` */
     CHECK(said == "vulfsjor: " + name + " is out of range" && names.count(name));
     return "! " + (names.count(name) ? names.at(name) : name);
+}
+
+std::string equal() {
+    const owned one(part[1]), other(part[2]);
+    return one.length == other.length && !vulfsjor_memcmp(one.bytes, TEXT(other)) ? "= yes" : "= no";
+}
+
+/* The value that a call returns, or its refusal. */
+template <class F> std::string outcome_of(F call) {
+    try {
+        return value_of(call());
+    } catch (const std::invalid_argument &refused) {
+        return refusal_of(refused.what());
+    }
 }
 
 template <class H> class driver {
@@ -73,8 +89,12 @@ template <class H> class driver {
         CHECK(digest(room.begin() + static_cast<std::ptrdiff_t>(length), room.end()) == digest(9, 0xaa));
         room.resize(length);
         CHECK(room == made && made.size() == length);
-        const auto sized = state.template digest<32>();
-        CHECK(sized.has_value() == (length == 32) && (!sized || digest(sized->begin(), sized->end()) == made));
+        try {
+            const auto sized = state.template digest<32>();
+            CHECK(length == 32 && digest(sized.begin(), sized.end()) == made);
+        } catch (const std::length_error &) {
+            CHECK(length != 32);
+        }
         return made;
     }
 
@@ -95,11 +115,21 @@ template <class H> class driver {
 
     static std::string hash(const owned &message, const given &g) {
         can = !::value_of("last", nullptr);
-        try {
-            return can ? value_of(H::hash(message.view(), parameters_of(g))) : "";
-        } catch (const std::invalid_argument &refused) {
-            return refusal_of(refused.what());
-        }
+        return can ? outcome_of([&] { return H::hash(message.view(), parameters_of(g)); }) : "";
+    }
+
+    /* The digests of several messages, joined. */
+    static std::string many(const given &g) {
+        std::list<owned> messages;
+        std::vector<vulfsjor::bytes> views;
+        for (std::size_t i = 2; i < parts; i++)
+            if (!strchr(part[i], '=')) views.push_back(messages.emplace_back(part[i]).view());
+        return outcome_of([&] {
+            digest joined;
+            for (const digest &each : H::hash_many(views, parameters_of(g)))
+                joined.insert(joined.end(), each.begin(), each.end());
+            return joined;
+        });
     }
 
     static std::string verify(slot &of, const owned &tag) {
@@ -126,12 +156,10 @@ template <class H> class driver {
         std::string outcome;
         if (IS("new")) return make(of, g);
         if (IS("hash")) return hash(owned(part[2]), g);
-        if (IS("equal")) {
-            const owned one(part[1]), other(part[2]);
-            return one.length == other.length && !vulfsjor_memcmp(one.bytes, TEXT(other)) ? "= yes" : "= no";
-        }
+        if (IS("equal")) return equal();
+        if constexpr (has_nodes)
+            if (IS("many")) return many(g);
         if (IS("wipe")) of.state.reset();
-        else if (IS("many")) can = 0;
         else if (!of.state) return "! state";
         else if (IS("update")) return update(*of.state, owned(part[2]));
         else if (IS("verify")) return verify(of, owned(part[2]));
@@ -158,9 +186,162 @@ template <class H> class driver {
     }
 };
 
-/* Runs the cases of a hash, of which so many are skipped. */
-template <class H> void cases(const std::string &folder, const char *hash, int most_skipped) {
-    const counts made = run_cases((folder + "/" + hash + ".txt").c_str(), driver<H>::make_call);
+/* The calls of BLAKE2Xb and BLAKE2Xs. */
+template <class O> class output_driver {
+    static inline std::map<char, std::optional<O>> slots;
+
+    static vulfsjor::output_parameters parameters(const given &g) {
+        vulfsjor::output_parameters made;
+        if (strcmp(::value_of("size", "unknown"), "unknown")) made.length = g.size;
+        if (::value_of("key", nullptr)) made.key = vulfsjor::bytes(TEXT(g.key));
+        made.salt = vulfsjor::bytes(TEXT(g.salt));
+        made.personal = vulfsjor::bytes(TEXT(g.person));
+        return made;
+    }
+
+    /* The next bytes, which are the same by each call; and none if fewer are left. */
+    static std::string read(O &from, std::size_t length) {
+        O copy(from);
+        const std::uint64_t left = from.left();
+        const std::size_t written = length <= left ? length : 0;
+        digest room(written + 9, 0xaa);
+        const bool is_read = copy.read_to(room.data(), length);
+        CHECK(is_read == (length <= left) && !copy.read_to(nullptr, 1));
+        CHECK(digest(room.begin() + static_cast<std::ptrdiff_t>(written), room.end()) == digest(9, 0xaa));
+        try {
+            const digest made = from.read(length);
+            room.resize(length);
+            CHECK(is_read && made == room && from.left() == copy.left() && from.left() == left - length);
+            return value_of(made);
+        } catch (const std::length_error &) {
+            CHECK(!is_read && from.left() == left && copy.left() == left);
+            return "! left";
+        }
+    }
+
+    static std::string make(std::optional<O> &to, const given &g) {
+        to = O::create(parameters(g));
+        const std::string made = outcome_of([&] { return O(parameters(g)).read(0); });
+        CHECK(to.has_value() == (made == "= -"));
+        return to ? "" : made;
+    }
+
+    static std::string hash(const owned &message, const given &g) {
+        return outcome_of([&] {
+            O made(parameters(g));
+            if (!made.update(message.view())) throw std::invalid_argument("vulfsjor: in is out of range");
+            return made.read(static_cast<std::size_t>(g.size));
+        });
+    }
+
+    static std::string call(std::optional<O> &of, const given &g) {
+        if (IS("equal")) return equal();
+        if (IS("new")) return make(of, g);
+        if (IS("hash")) return hash(owned(part[2]), g);
+        if (IS("derive")) {
+            const owned context(part[1]);
+            return outcome_of([&] { return O::derive_key(vulfsjor::bytes(TEXT(g.key)), context.view(), g.size); });
+        }
+        if (IS("wipe")) of.reset();
+        else if (!of) return "! state";
+        else if (IS("update")) {
+            const std::uint64_t count = of->count();
+            const owned message(part[2]);
+            const bool is_taken = of->update(message.view());
+            CHECK(of->count() == count + (is_taken ? message.length : 0));
+            return is_taken ? "" : message.is_null() ? "! message" : "! state";
+        } else if (IS("read")) return read(*of, strtoull(part[2], nullptr, 10));
+        else if (IS("left")) return "= " + std::to_string(of->left());
+        else if (IS("count")) return "= " + std::to_string(of->count());
+        else if (IS("copy")) slots[*part[2]] = of;
+        else if (IS("reset")) of->reset();
+        else can = 0;
+        return "";
+    }
+
+  public:
+    static void make_call() {
+        given g = read_given(0);
+        if (can) snprintf(got, sizeof got, "%s", call(slots[*part[1]], g).c_str());
+        free_given(&g);
+    }
+};
+
+/* The calls of the tree of two levels. */
+class tree_driver {
+    using H = vulfsjor::tree_hasher;
+    static inline std::map<char, std::optional<H>> slots;
+
+    static vulfsjor::tree_parameters parameters(const given &g) {
+        vulfsjor::tree_parameters made;
+        made.leaf_length = g.tree.leaf_length;
+        if (::value_of("size", nullptr)) made.digest_length = g.size;
+        made.salt = vulfsjor::bytes(TEXT(g.salt));
+        made.personal = vulfsjor::bytes(TEXT(g.person));
+        return made;
+    }
+
+    static digest digest_of(const H &state) {
+        const digest made = state.digest();
+        digest room(made.size() + 9, 0xaa);
+        CHECK(made.size() == state.digest_length() && !state.digest_to(nullptr, made.size()));
+        CHECK(!state.digest_to(room.data(), made.size() + 1) && room == digest(made.size() + 9, 0xaa));
+        CHECK(state.digest_to(room.data(), made.size()) && room[made.size()] == 0xaa);
+        room.resize(made.size());
+        CHECK(room == made);
+        return made;
+    }
+
+    static std::string make(std::optional<H> &to, const given &g) {
+        to = H::create(parameters(g));
+        const std::string made = outcome_of([&] { return H(parameters(g)).digest(); });
+        CHECK(to.has_value() == (made[0] == '=') && (!to || to->leaf_length() == g.tree.leaf_length));
+        return to ? "" : made;
+    }
+
+    /* Of the digests of leaves the message is refused as one, with its place. */
+    static std::string leaves(const owned &message, const given &g) {
+        const std::string made = outcome_of([&] {
+            return H::leaves(message.view(), strtoull(part[2], nullptr, 10), *part[3] == '1', parameters(g));
+        });
+        can &= *part[2] != '-' && !errno;
+        return made == "! message" ? "! " : made;
+    }
+
+    static std::string call(std::optional<H> &of, const given &g) {
+        if (IS("equal")) return equal();
+        if (IS("new")) return make(of, g);
+        if (IS("hash") || IS("top")) {
+            const owned bytes(part[IS("hash") ? 2 : 1]);
+            return outcome_of([&] {
+                return IS("hash") ? H::root(bytes.view(), parameters(g)) : H::root_of_leaves(bytes.view(), parameters(g));
+            });
+        }
+        if (IS("leaves")) return errno = 0, leaves(owned(part[1]), g);
+        if (IS("wipe")) of.reset();
+        else if (!of) return "! state";
+        else if (IS("update")) return of->update(owned(part[2]).view()) ? "" : "! message";
+        else if (IS("count")) return "= " + std::to_string(of->count());
+        else if (IS("copy")) slots[*part[2]] = of;
+        else if (IS("digest")) {
+            const digest made = digest_of(*of);
+            of.reset();
+            return value_of(made);
+        } else can = 0;
+        return "";
+    }
+
+  public:
+    static void make_call() {
+        given g = read_given(0);
+        if (can) snprintf(got, sizeof got, "%s", call(slots[*part[1]], g).c_str());
+        free_given(&g);
+    }
+};
+
+/* Runs the cases of a hash by this driver, of which so many are skipped. */
+template <class D> void cases(const std::string &folder, const char *hash, int most_skipped) {
+    const counts made = run_cases((folder + "/" + hash + ".txt").c_str(), D::make_call);
     std::printf("%s: %d calls, %d cases skipped, %d failures\n", hash, made.calls, made.skipped, fails);
     CHECK(made.calls > 5000 && made.skipped == most_skipped);
 }
@@ -168,9 +349,12 @@ template <class H> void cases(const std::string &folder, const char *hash, int m
 } /* namespace */
 
 int main(int, char **argv) {
-    cases<vulfsjor::blake2b>(argv[1], "blake2b", 515);
-    cases<vulfsjor::blake2s>(argv[1], "blake2s", 511);
-    cases<vulfsjor::blake2bp>(argv[1], "blake2bp", 8);
-    cases<vulfsjor::blake2sp>(argv[1], "blake2sp", 8);
+    cases<driver<vulfsjor::blake2b>>(argv[1], "blake2b", 466);
+    cases<driver<vulfsjor::blake2s>>(argv[1], "blake2s", 462);
+    cases<driver<vulfsjor::blake2bp>>(argv[1], "blake2bp", 8);
+    cases<driver<vulfsjor::blake2sp>>(argv[1], "blake2sp", 8);
+    cases<output_driver<vulfsjor::blake2xb>>(argv[1], "blake2xb", 9);
+    cases<output_driver<vulfsjor::blake2xs>>(argv[1], "blake2xs", 8);
+    cases<tree_driver>(argv[1], "tree", 339);
     return fails != 0;
 }

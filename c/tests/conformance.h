@@ -49,7 +49,7 @@ static inline int flag_of(int on) {
 
 /* ---- inits: INITS of them, of which the first has all arguments. ABSENT: this one has not these arguments */
 
-enum { INITS = 6, ABSENT = -2 };
+enum { INITS = 7, ABSENT = -2, LEAST_TAG = 16 };
 #define HAS_KEY(g) ((g)->key.bytes || (g)->key.length)
 
 #ifdef TEST_NODES
@@ -88,8 +88,12 @@ static inline int init_by(int which, state_t *S, const given *g) {
     if (!which) return BLAKE(init_salt_personal)(S, g->size, TEXTS);
     if (which == 3 && is_plain && !HAS_KEY(g)) return BLAKE(init)(S, g->size);
     if (which == 4 && is_plain && HAS_KEY(g)) return BLAKE(init_key)(S, g->size, TEXT(g->key));
-    if (which == 5 && !g->is_node && HAS_KEY(g)) return BLAKE(init_mac)(S, g->size, TEXTS);
-    return ABSENT;
+    if (which < 5 || g->is_node || !HAS_KEY(g)) return ABSENT;
+#ifndef TEST_X
+    if (which == 5) return BLAKE(init_short_mac)(S, g->size, TEXTS);
+    if (g->size < LEAST_TAG) return ABSENT;
+#endif
+    return BLAKE(init_mac)(S, g->size, TEXTS);
 #endif
 }
 

@@ -87,6 +87,7 @@ static inline given read_given(uint64_t size_otherwise) {
     memset(g, 0, sizeof *g);
     g->size = strcmp(size, "unknown") ? number_of(size, SIZE_MAX) : size_otherwise;
     if (key) g->key = secret_of(key);
+    if (key && !g->key.length && !g->key.bytes) g->key.bytes = (uint8_t *)malloc(1); /* a null key is none */
     g->salt = text_of(value_of("salt", "-")), g->person = text_of(value_of("person", "-"));
     g->tree.fanout = (uint8_t)number_field("fanout", "1", 255, &g->is_node);
     g->tree.depth = (uint8_t)number_field("depth", "1", 255, &g->is_node);

@@ -1,5 +1,7 @@
-"""What c/examples/ctypes_hash.py accepts and refuses: ctypes_example.py ctypes_hash.py LIBRARY"""
+"""What c/examples/ctypes_hash.py accepts and refuses, and what tags the library verifies by ctypes:
+ctypes_example.py ctypes_hash.py LIBRARY"""
 import array
+import ctypes
 import hashlib
 import runpy
 import sys
@@ -32,3 +34,31 @@ for wrap in (bytes, bytearray, memoryview, lambda b: memoryview(bytearray(b)), l
 # A view of every second byte, and one of wider items.
 is_right(memoryview(data)[::2])
 is_right(array.array("I", range(9)))
+
+
+def verify_refuses(library, name, longest):
+    """The exported verify accepts the digest of a state with a key, and of one without a key none."""
+    def call(word, state, text):
+        return getattr(library, f"vulfsjor_ffi_{name}_{word}")(state, text, ctypes.c_size_t(len(text)))
+
+    for key in b"", b"key":
+        length = getattr(library, f"vulfsjor_ffi_{name}_state_size")
+        length.restype = ctypes.c_size_t
+        states = [(ctypes.c_uint64 * (length() // 8))() for _ in range(2)]
+        digest = ctypes.create_string_buffer(longest)
+        for state in states:
+            init = getattr(library, f"vulfsjor_ffi_{name}_init_salt_personal")
+            none = b"", ctypes.c_size_t(0)
+            made = init(state, ctypes.c_size_t(longest), key, ctypes.c_size_t(len(key)), *none, *none)
+            if made or call("update", state, b"pay 10 to Alice"):
+                raise SystemExit(f"{name} makes no state")
+        before = bytes(states[1])
+        if call("final", states[0], digest):
+            raise SystemExit(f"{name} has no digest")
+        if call("verify", states[1], digest.raw) != (0 if key else -1) or (bytes(states[1]) == before) == bool(key):
+            raise SystemExit(f"{name} verifies a digest of a state {'with' if key else 'without'} a key wrongly")
+
+
+library = ctypes.CDLL(sys.argv[1])
+for name, longest in ("blake2b", 64), ("blake2s", 32), ("blake2bp", 64), ("blake2sp", 32):
+    verify_refuses(library, name, longest)

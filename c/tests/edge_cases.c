@@ -110,21 +110,22 @@ static void check_hex(void) {
 
 /* ---- flags and parameter blocks */
 
-/* The flag's field has 64 bits, of which any says that it is set, and a reset keeps it. */
+/* Each bit of the flag's field says that it is set, and a reset keeps it. */
 static void check_last_node_field(void) {
-    static const uint64_t on[] = {1, 2, 255, 256, 65536, (uint64_t)1 << 32, ~(uint64_t)0};
     uint8_t wanted[MAX], out[MAX];
     state_t made, state;
+    const uint64_t most = (uint64_t)1 << (8 * sizeof made.last_node - 1);
     CHECK(BLAKE(init)(&made, MAX) == 0 && made.last_node == 0 && BLAKE(update)(&made, bytes, 10) == 0);
     state = made;
-    CHECK(LIBRARY(set_last_node)(&state, 1u << 31) == 0 && state.last_node == IN_STATE(1));
+    CHECK(LIBRARY(set_last_node)(&state, 1u << 31) == 0 && GET(state.last_node) == 1);
     CHECK(BLAKE(final)(&state, wanted, MAX) == 0);
-    for (size_t i = 0; i < COUNT_OF(on); i++) {
+    for (uint64_t bit = 1; bit <= 2 * most; bit *= 2) {
+        const uint64_t on = bit <= most ? bit : bit - 1;
         state = made;
-        state.last_node = IN_STATE(on[i]);
+        SET(state.last_node, on);
         state_t copy = state;
         CHECK(BLAKE(final)(&copy, out, MAX) == 0 && !memcmp(out, wanted, MAX));
-        CHECK(BLAKE(reset)(&state) == 0 && state.last_node == IN_STATE(on[i]));
+        CHECK(BLAKE(reset)(&state) == 0 && GET(state.last_node) == on);
     }
 }
 
@@ -144,7 +145,7 @@ static void check_block(void) {
     param.leaf_length = 0;
     for (int i = 0; i < 4; i++) param.leaf_length |= (uint32_t)block[4 + i] << 8 * i;
 #ifndef TEST_S
-    param.node_offset = IN_STATE(param.node_offset);
+    SET(param.node_offset, param.node_offset);
 #endif
     CHECK(BLAKE(init_param)(&state, &param) == 0 && BLAKE(update)(&state, "abc", 3) == 0);
     CHECK(BLAKE(final)(&state, out, MAX) == 0 && vulfsjor_hex2bin(digest, MAX, wanted, 2 * MAX) == 0);
@@ -184,8 +185,25 @@ static void verify_by_block(void) {
         CHECK(BLAKE(init_param)(&state, &param) == 0 && BLAKE(update)(&state, block, keylen ? BLOCK : 0) == 0);
         CHECK(BLAKE(update)(&state, bytes, 20) == 0);
         const state_t before = state;
+        state_t given = state;
         CHECK(BLAKE(verify)(&state, wanted, MAX) == (keylen ? 0 : -1));
         CHECK(keylen ? is_zero(&state, sizeof state) : SAME(state, before));
+        CHECK(LIBRARY(verify)(&given, wanted, MAX) == (keylen ? 0 : -1) && SAME(given, state));
+    }
+}
+
+/* Right tags of all lengths: verify accepts them from 16 bytes on, and verify_short_mac all. */
+static void verify_lengths(void) {
+    for (size_t n = 1; n <= MAX; n++) {
+        uint8_t tag[MAX];
+        state_t state;
+        CHECK(ONE_CALL(tag, n, bytes, 20, key, MAX) == 0);
+        CHECK(BLAKE(init_key)(&state, n, key, MAX) == 0 && BLAKE(update)(&state, bytes, 20) == 0);
+        const state_t before = state;
+        state_t other = state;
+        CHECK(BLAKE(verify)(&state, tag, n) == (n < 16 ? -1 : 0));
+        CHECK(n < 16 ? SAME(state, before) : is_zero(&state, sizeof state));
+        CHECK(BLAKE(verify_short_mac)(&other, tag, n) == 0 && is_zero(&other, sizeof other));
     }
 }
 
@@ -230,6 +248,7 @@ int main(void) {
     check_block();
     check_param_refusals();
     verify_by_block();
+    verify_lengths();
     check_refused_messages();
     check_version();
     fprintf(stderr, "%d checks, %d failures\n", checks, fails);

@@ -16,6 +16,8 @@
 
 #include <algorithm>
 #include <functional>
+#include <initializer_list>
+#include <list>
 #include <new>
 #include <string_view>
 #if __has_include(<span>) && __cplusplus >= 202002L
@@ -49,8 +51,7 @@ template <class H> constexpr bool is_value =
     std::is_nothrow_move_assignable_v<H> && std::is_nothrow_swappable_v<H> &&
     !std::is_convertible_v<parameters, H> && noexcept(std::declval<H &>().update(bytes())) &&
     noexcept(H::create(parameters())) &&
-    noexcept(std::declval<H &>().digest_to(nullptr, 0)) &&
-    noexcept(std::declval<H &>().template digest<32>());
+    noexcept(std::declval<H &>().digest_to(nullptr, 0));
 static_assert(is_value<blake2b> && is_value<blake2s>);
 static_assert(blake2b::block_length == 128 && blake2s::block_length == 64);
 static_assert(blake2b::max_digest_length == 64 && blake2s::max_digest_length == 32);
@@ -66,6 +67,29 @@ static_assert(std::is_aggregate_v<parameters> && std::is_nothrow_default_constru
 static_assert(is_bytes<std::span<const std::byte>> && is_bytes<std::span<unsigned char, 4>> &&
               !is_bytes<std::span<const int>>);
 #endif
+/* What is bytes only as an argument: a temporary that holds them. */
+template <class T> constexpr bool is_argument_only =
+    std::is_convertible_v<T, vulfsjor::argument> && !is_bytes<T> && !is_bytes<const T> && is_bytes<T &> && is_bytes<const T &>;
+static_assert(is_argument_only<std::string> && is_argument_only<text> && is_argument_only<std::array<char, 4>> &&
+              is_argument_only<std::array<const unsigned char, 4>> && is_argument_only<std::initializer_list<char>> &&
+              is_argument_only<std::vector<std::byte>> && !is_argument_only<std::string_view>);
+/* Views and owners of others: a view has a pointer and a length, and an owner the bytes. */
+template <class P> struct other_view {
+    P at;
+    std::size_t length;
+    P data() const { return at; }
+    std::size_t size() const { return length; }
+};
+template <std::size_t N> struct other_owner {
+    unsigned char held[N];
+    const unsigned char *data() const { return held; }
+    std::size_t size() const { return N; }
+};
+static_assert(is_bytes<other_view<const char *>> && is_bytes<other_view<std::byte *>> &&
+              is_argument_only<other_owner<4>> && is_argument_only<other_owner<16>> && is_argument_only<other_owner<64>>);
+static_assert(is_bytes<std::string_view> && is_bytes<const std::string_view> && is_bytes<std::string_view &> &&
+              !is_bytes<unsigned char (&&)[4]> && std::is_convertible_v<unsigned char (&&)[4], vulfsjor::argument> &&
+              std::is_convertible_v<bytes, vulfsjor::argument> && !std::is_convertible_v<vulfsjor::argument, bytes>);
 
 /* Whether these arguments of `update` are the first n bytes of the buffer. */
 #define TAKES(n, ...)                                                                                \
@@ -178,20 +202,140 @@ template <class H> void refusals() {
     CHECK(hasher.update("abc") && !hasher.update(keys.data(), ~std::size_t(0) - 2) && hasher.count() == 3);
 }
 
-/* A digest without a key is no tag: anybody can make it. */
-template <class H> void no_tags() {
-    for (const H &each : {H(), *H::create({16, {}, {}, "a purpose", {}})}) {
+/* A digest as an array has the length that the hasher has, and no other is one: two of them are never equal because
+ * both are none. */
+template <class H> void arrays() {
 #ifdef __cpp_exceptions
+    static_assert(std::is_same_v<decltype(H().template digest<16>()), std::array<std::uint8_t, 16>>);
+    constexpr std::size_t longest = H::max_digest_length;
+    const H sixteen = *H::create({16, "a key", {}, {}, {}}), whole;
+    const auto tag = sixteen.template digest<16>();
+    CHECK(text(tag.begin(), tag.end()) == sixteen.digest() && sixteen.verify(tag));
+    CHECK(H::create({{}, whole.template digest<longest>(), {}, {}, {}}) && whole.digest().size() == longest);
+    const auto refuses = [](const auto &call, const std::string &said) {
         try {
-            CHECK(!each.verify(each.digest()) && false);
-        } catch (const std::logic_error &error) {
-            CHECK(error.what() == std::string("vulfsjor: verify needs a key; compare digests by vulfsjor_memcmp"));
+            call();
+            CHECK(false);
+        } catch (const std::length_error &error) {
+            CHECK(error.what() == "vulfsjor: the digest has " + said);
         }
-#else
-        CHECK(!each.verify(each.digest()));
+    };
+    refuses([&] { static_cast<void>(sixteen.template digest<15>()); }, "16 bytes, not 15");
+    refuses([&] { static_cast<void>(sixteen.template digest<longest>()); }, "16 bytes, not " + std::to_string(longest));
+    refuses([&] { static_cast<void>(whole.template digest<1>()); }, std::to_string(longest) + " bytes, not 1");
 #endif
+}
+
+/* A verify that is refused, whatever the tag is. */
+template <class H> void verifies_nothing(const H &hasher, const std::string &said) {
+#ifdef __cpp_exceptions
+    try {
+        CHECK(!hasher.verify(hasher.digest()) && false);
+    } catch (const std::logic_error &error) {
+        CHECK(error.what() == "vulfsjor: verify needs " + said);
+    }
+#else
+    CHECK(!hasher.verify(hasher.digest()) && said.size());
+#endif
+}
+
+/* A digest without a key is no tag, since anybody can make it; and neither is a short one, unless it is said. */
+template <class H> void no_tags() {
+    for (const H &each : {H(), *H::create({16, {}, {}, "a purpose", {}}), *H::create({8, {}, {}, {}, {}, true})})
+        verifies_nothing(each, "a key; compare digests by vulfsjor_memcmp");
+    for (std::size_t length = 1; length <= H::max_digest_length; length++) {
+        const H made = *H::create({length, "a key", {}, {}, {}}), allowed = *H::create({length, "a key", {}, {}, {}, true});
+        H copy;
+        copy = allowed;
+        CHECK(copy.verify(made.digest()) && made.digest() == allowed.digest());
+        if (length < 16) verifies_nothing(made, "a digest_length of at least 16, or allow_short");
+        else CHECK(made.verify(made.digest()));
     }
 }
+
+/* ---- several messages, outputs and trees: what the conformance cases do not call */
+
+#if defined(__cpp_exceptions) && !defined(TEST_SECRETS)
+template <class F> std::string refusal_of(const F &call) {
+    try {
+        call();
+    } catch (const std::invalid_argument &error) {
+        return error.what();
+    }
+    return "";
+}
+
+/* Containers of messages, and what no call of several accepts. */
+template <class H> void several() {
+    const std::vector<text> wanted = {H::hash("abc"), H::hash(""), H::hash("xyz")};
+    const std::string abc = "abc", xyz = "xyz";
+    const auto of = [](const std::string &one) { return one; };
+    CHECK(H::hash_many(std::vector<std::string>{abc, "", xyz}) == wanted);
+    CHECK(H::hash_many(std::list<text>{text(abc.begin(), abc.end()), text(), text(xyz.begin(), xyz.end())}) == wanted);
+    CHECK(H::hash_many(std::array<bytes, 3>{abc, bytes(), xyz}) == wanted);
+    CHECK(H::hash_many({of("abc"), "", std::string_view(xyz)}) == wanted && H::hash_many(std::vector<text>()).empty());
+    parameters given;
+    given.key = "a key";
+    given.digest_length = 20;
+    given.salt = "salt";
+    given.personal = "persona";
+    CHECK(H::hash_many({"abc", "xyz"}, given) == (std::vector<text>{H::hash("abc", given), H::hash("xyz", given)}));
+    given.digest_length = 65;
+    for (const auto &none : {std::vector<text>(), std::vector<text>{{1}}})
+        CHECK(refusal_of([&] { (void)H::hash_many(none, given); }) == "vulfsjor: outlen is out of range");
+    given.digest_length = 20;
+    given.tree = vulfsjor_tree{0, 0, 1, 1, 0, 0};
+    CHECK(refusal_of([&] { (void)H::hash_many({"abc"}, given); }) == "vulfsjor: several messages have no tree parameters");
+    given.tree.reset();
+    given.key = bytes();
+    CHECK(refusal_of([&] { (void)H::hash_many({"abc"}, given); }) == "vulfsjor: key is out of range");
+    CHECK(refusal_of([&] { (void)H::hash_many({bytes(nullptr, 1)}); }) == "vulfsjor: in is out of range");
+    static_assert(vulfsjor::detail::has_messages<std::vector<std::string>> &&
+                  !vulfsjor::detail::has_messages<std::vector<int>> && !vulfsjor::detail::has_messages<text>);
+}
+
+/* Copies go on alone, and a key is asked for. */
+template <class O> void outputs() {
+    vulfsjor::output_parameters given;
+    given.length = 9;
+    O one(given);
+    CHECK(one.update("abc") && one.left() == 9);
+    O other = one, plain;
+    CHECK(other.update("d") && one.read(9) != other.read(9) && one.left() == 0 && plain.left() > 0xffff0);
+    plain = one;
+    one.reset();
+    CHECK(plain.left() == 0 && one.left() == 9 && one.count() == 0);
+    given.key = bytes();
+    CHECK(!O::create(given) && refusal_of([&] { (void)O(given); }) == "vulfsjor: key is out of range");
+    CHECK(refusal_of([] { (void)O::derive_key(bytes(), "", 9); }) == "vulfsjor: key is out of range");
+    CHECK(refusal_of([] { (void)O::derive_key("key", bytes(nullptr, 1), 9); }) == "vulfsjor: context is out of range");
+    given.key = "a key";
+    O keyed(given);
+    CHECK(keyed.update("context") && keyed.read(9) == O::derive_key("a key", "context", 9));
+}
+
+void trees() {
+    using vulfsjor::tree_hasher;
+    vulfsjor::tree_parameters given;
+    for (std::uint64_t leaf : {std::uint64_t(0), std::uint64_t(1) << 32, (std::uint64_t(1) << 32) + 4, ~std::uint64_t(0)}) {
+        given.leaf_length = leaf;
+        CHECK(!tree_hasher::create(given));
+        for (const auto &call : std::initializer_list<std::function<void()>>{
+                 [&] { (void)tree_hasher(given); }, [&] { (void)tree_hasher::root("abc", given); },
+                 [&] { (void)tree_hasher::leaves("abc", 0, true, given); },
+                 [&] { (void)tree_hasher::root_of_leaves(bytes(keys.data(), 64), given); }})
+            CHECK(refusal_of(call) == "vulfsjor: leaf_length is out of range");
+    }
+    given.leaf_length = 4;
+    tree_hasher one(given), other = one;
+    CHECK(one.update("abcde") && one.count() == 5 && other.count() == 0 && one.leaf_length() == 4);
+    other = std::move(one);
+    CHECK(other.digest() == one.digest() && one.digest() == tree_hasher::root("abcde", given));
+    given.digest_length = 20;
+    CHECK(tree_hasher::root_of_leaves(tree_hasher::leaves("abcde", 0, true, given), given) ==
+          tree_hasher::root("abcde", given));
+}
+#endif
 
 /* ---- what is left */
 
@@ -242,7 +386,15 @@ template <class H> void call_leaves_nothing() {
     CHECK(!leaves_key(key, [&] { CHECK(!hasher.digest_to(room, 3)); }));
     CHECK(!leaves_key(key, [&] { CHECK(!hasher.digest_to(nullptr, H::max_digest_length)); }));
     CHECK(!leaves_key(key, [&] { CHECK(hasher.digest_to(room, H::max_digest_length)); }));
-    CHECK(!leaves_key(key, [&] { CHECK(!hasher.template digest<7>()); }));
+#ifdef __cpp_exceptions
+    CHECK(!leaves_key(key, [&] {
+        try {
+            static_cast<void>(hasher.template digest<7>());
+            CHECK(false);
+        } catch (const std::length_error &) {
+        }
+    }));
+#endif
     CHECK(!leaves_key(key, [&] { CHECK(!hasher.verify(bytes())); }));
     CHECK(!leaves_key(key, [&] { CHECK(!hasher.verify(bytes(nullptr, 64))); }));
     CHECK(!leaves_key(key, [&] { H copy(hasher); CHECK(copy.update("abc")); }));
@@ -257,11 +409,12 @@ template <class H> void call_leaves_nothing() {
 
 /* A hasher that is moved, swapped or assigned to itself stays what it was, byte by byte. */
 template <class H> void moved_hashers() {
-    const auto is = [](const H &one, const H &other) {
-        return !std::memcmp(static_cast<const void *>(&one), static_cast<const void *>(&other), sizeof one);
+    const auto is = [](const H &one, const H &other) { /* without the padding after the flag at the end */
+        return !std::memcmp(static_cast<const void *>(&one), static_cast<const void *>(&other), sizeof one - alignof(H) + 1);
     };
     parameters given;
     given.key = bytes(keys.data(), 20);
+    given.allow_short = true;
     H kept = *H::create(given), plain;
     CHECK(kept.update(bytes(keys)));
     H first = kept, moved(std::move(first)), assigned, swapped;
@@ -300,6 +453,7 @@ template <class H> void family(std::size_t place, std::uint64_t leaves) {
     inputs<H>();
     copied_parameters<H>();
     refusals<H>();
+    arrays<H>();
     no_tags<H>();
 #ifdef __linux__
     call_leaves_nothing<H>();
@@ -314,5 +468,12 @@ int main() {
     family<blake2s>(offsetof(vulfsjor_blake2s_state, counter), 1);
     family<vulfsjor::blake2bp>(offsetof(vulfsjor_blake2bp_state, lanes.counter), 4);
     family<vulfsjor::blake2sp>(offsetof(vulfsjor_blake2sp_state, lanes.counter), 8);
+#if defined(__cpp_exceptions) && !defined(TEST_SECRETS)
+    several<blake2b>();
+    several<blake2s>();
+    outputs<vulfsjor::blake2xb>();
+    outputs<vulfsjor::blake2xs>();
+    trees();
+#endif
     return fails ? 1 : 0;
 }

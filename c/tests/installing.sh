@@ -31,7 +31,8 @@ write_program() {
         'return vulfsjor_blake2b(out, 64, 0, 0, 0, 0) || out[0] != 0x78 || out[63] != 0xce; }' >"$1"
 }
 write_threads() {
-    printf '%s\n' '#include <vulfsjor_threads.h>' 'int main(void) { unsigned char out[64];' \
+    printf '%s\n' '#include <stdio.h>' '#include <vulfsjor_threads.h>' \
+        'int main(void) { unsigned char out[64]; puts(vulfsjor_build());' \
         'return vulfsjor_tree_root_threads(out, 64, 0, 0, 0, 0, 0, 0, 1, 0); }' >"$1"
 }
 
@@ -75,6 +76,17 @@ folder_with_a_space() {
         [ ! -e "$folder/lib/vulfsjor-libb2" ] && [ ! -e "$folder/include/vulfsjor-libb2" ] &&
         rm "$folder/lib/cmake/vulfsjor/theirs" && "$here/install.sh" --uninstall "$folder" &&
         [ ! -e "$folder/lib/cmake/vulfsjor" ]
+}
+
+# From a repository with a comma in its name, in a shell whose options come from the caller, and for programs that are
+# linked statically.
+folder_with_a_comma() {
+    local copy="$work/a repository, copied"
+    mkdir "$copy" && cp -r "$top"/{c,tools} "$copy/" && ln -s "$top/dist" "$copy/dist" &&
+        env SHELLOPTS=noglob BASHOPTS=failglob CFLAGS="$quick" LDFLAGS=-static "$copy/c/install.sh" "${one[@]}" \
+            --from "$dist" "$work/from a copy" && has_files "$work/from a copy" || return 1
+    [ -z "${VULFSJOR_TEST_HUGE-}" ] || ! has cmake || { project_by_cmake "$shared_is_on
+add_subdirectory(\"$copy/c\" vulfsjor)" vulfsjor::vulfsjor vulfsjor::threads && needs_shared; }
 }
 
 # DESTDIR and LIBDIR, as a package is made: nothing outside of DESTDIR, and no word of it in a file.
@@ -185,7 +197,8 @@ if("$3" STREQUAL vulfsjor::threads AND NOT Threads::Threads IN_LIST needed)
 endif()
 END
     cmake -S "$folder" -B "$build" -DCMAKE_BUILD_TYPE="$([ $quick = -O0 ] || echo Release)" &&
-        cmake --build "$build" && "$build/program" && "$build/threads" && cp "$build/program" "$work/made_program" ||
+        cmake --build "$build" && "$build/program" && "$build/threads" >"$work/said" &&
+        cat "$work/said" && grep -qxf "$work/said" "$dist/MANIFEST" && cp "$build/program" "$work/made_program" ||
         return 1
     readelf -d "$build/program" "$build/threads" "$build/libshared.so" |
         sed -n 's/.*NEEDED.*\[\(libvulfsjor.*\)\]/\1/p' >"$work/needed"
@@ -197,7 +210,7 @@ ${3-}
 find_package(vulfsjor $2 REQUIRED)" vulfsjor::vulfsjor vulfsjor::threads "${4-C}"
 }
 needs_nothing() { [ ! -s "$work/needed" ]; }
-needs_shared() { diff "$work/needed" <(printf '%s\n' libvulfsjor.so.0{,,}); }
+needs_shared() { diff "$work/needed" <(printf '%s\n' libvulfsjor.so.1{,,}); }
 shared_is_on="set(BUILD_SHARED_LIBS ON)"
 
 # The repository as a part of a project.
@@ -290,8 +303,8 @@ compilers_of_words() {
     local folder=$work/words
     install_one "$folder" && program_works "$folder/lib" &&
         [ "$(grep -c -- ' -c ' "$work/ccache.calls")" -ge 5 ] && ! grep -v '^cc -fno-pie ' "$work/ccache.calls" &&
-        cc -shared -Wl,-z,defs -Wl,-z,text -Wl,--whole-archive "$folder/lib"/libvulfsjor-{libb2,threads}.a \
-            -Wl,--no-whole-archive -pthread -o "$folder/shared.so"
+        cc -shared -Wl,-z,defs -Wl,-z,text -Wl,--whole-archive "$folder/lib/libvulfsjor-threads.a" \
+            "$(linked_whole "$folder/lib/libvulfsjor-libb2.a")" -Wl,--no-whole-archive -pthread -o "$folder/shared.so"
 }
 
 # The files of a program that `make install` installs.
@@ -385,7 +398,8 @@ built_again() {
     make_here -q all || return 1
     for line in b2 b2sum lib/kind; do ! make_here -q CFLAGS=-O3 "$work/made/$line" || return 1; done
     for line in tools/launcher.sh:b2 c/{choose.c,system.h,vulfsjor.map,include/vulfsjor.h,make_libraries.sh}:lib/kind \
-        c/{libb2/libb2.c,include/libb2/blake2.h}:lib/kind dist/{MANIFEST,macros.h,x86_64/{elf.inc,b2sum.s}}:b2sum; do
+        c/{libb2/libb2.c,include/{libb2,reference}/blake2.h}:lib/kind \
+        dist/{MANIFEST,macros.h,x86_64/{elf.inc,b2sum.s}}:b2sum; do
         ! make_here -q -W "${line%:*}" "$work/made/${line#*:}" || { echo "$line" && return 1; }
     done
 }
@@ -426,10 +440,13 @@ run_by_make() {
     diff <(make -C "$top" -n --no-print-directory test release prove twins dist bench docs) - <<'END' || return 1
 ./test
 tools/release.sh
+tests/roots.sh --all
 ./test --prove
 tools/twins.py
+tools/dist.sh sums
 tools/dist.sh make
 js/tools/build.mjs
+tools/dist.sh sums
 bench/speed.py
 tools/reference.py
 tests/page_numbers.py --write
@@ -633,13 +650,14 @@ refusals() {
     done
     refuses 2 usage "${call[@]}" "" &&
         refuses 0 DESTDIR "${call[@]}" --help && head -n 1 said | grep -q '^Installs the library' &&
-        refuses 1 'no-compiler is not on the PATH' env CC=no-compiler "${call[@]}" --from "$dist" no &&
+        refuses 1 'binutils (Debian: gcc and libc6-dev)' env CC=no-compiler "${call[@]}" --from "$dist" no &&
         refuses 1 'No such file' "${call[@]}" --from nowhere no &&
         refuses 1 'was not made by --build' "${call[@]}" --built . no && [ ! -e no ] && [ ! -e --what ]
 }
 
 test_installing() {
     check "a folder with a space, from the current one, moved and uninstalled" folder_with_a_space
+    check "a repository with a comma, and other options of the shell" folder_with_a_comma
     check "DESTDIR and LIBDIR" package
     check "a second installation" installs_again
     check "a folder of the loader, and an upgrade" for_the_loader

@@ -66,9 +66,9 @@ static void check_null_pointers(void) {
 static void check_lengths(void) {
     PLAIN(state) S;
     CHECK(sizeof S == SIZE && __alignof__(PLAIN(state)) == 1);
-    CHECK(offsetof(PLAIN(state), outlen) == SIZE - (IS_PARALLEL ? 1 : 2));
+    CHECK(offsetof(PLAIN(state), outlen) == SIZE - (IS_PARALLEL ? 1 : 2) && sizeof(state_t) < SIZE);
     memset(&S, 0x5a, sizeof S);
-    CHECK(PLAIN(init)(&S, 0) == -1 && IS_WIPED(S) && PLAIN(init)(&S, MAX + 1) == -1);
+    CHECK(PLAIN(init)(&S, 0) == -1 && IS_WIPED(S) && PLAIN(init)(&S, MAX + 1) == -1 && IS_WIPED(S));
     CHECK(PLAIN(init)(&S, 256 + MAX) == -1);
     CHECK(PLAIN(init_key)(&S, MAX, "k", 0) == -1 && PLAIN(init_key)(&S, MAX, message, MAX + 1) == -1);
     CHECK(PLAIN(init_key)(&S, 0, "k", 1) == -1 && PLAIN(init_key)(&S, MAX + 1, "k", 1) == -1);
@@ -85,6 +85,38 @@ static void check_lengths(void) {
         CHECK(PLAIN_ONE_CALL(out, "a", message, ~(size_t)0, 1, 1) == -1);
     }
     CHECK(out[0] == 0xaa && out[MAX] == 0xaa);
+}
+
+/* A state at any address, which others follow without a gap, and copies of its bytes at other addresses. */
+static void check_addresses(void) {
+    enum { ROOM = 2 * SIZE + 16 };
+    uint8_t wanted[MAX], room[ROOM];
+    CHECK(ONE_CALL(wanted, MAX, message, 900, message + 7, MAX) == 0);
+    for (size_t at = 0; at < 8; at++) {
+        for (size_t other = SIZE + at; other < SIZE + 16; other++) {
+            PLAIN(state) *S = (PLAIN(state) *)(room + at), *copied = (PLAIN(state) *)(room + other);
+            memset(room, 0xaa, ROOM);
+            CHECK(PLAIN(init_key)(S, MAX, message + 7, MAX) == 0 && S->outlen == MAX);
+            CHECK(PLAIN(update)(S, message, at) == 0 && PLAIN(update)(S, message + at, 700 - at) == 0);
+            for (size_t i = 0; i < ROOM; i++) CHECK(room[i] == 0xaa || (i >= at && i < at + SIZE));
+            memcpy(copied, S, SIZE);
+            CHECK(PLAIN(update)(copied, message + 700, 200) == 0 && PLAIN(final)(copied, out, MAX) == 0);
+            CHECK(!memcmp(out, wanted, MAX));
+            CHECK(PLAIN(update)(S, message + 700, 200) == 0 && PLAIN(final)(S, out, MAX) == 0);
+            CHECK(!memcmp(out, wanted, MAX));
+        }
+    }
+}
+
+/* Once the key's block is compressed, the state has no byte of the key: libb2 has no reset. */
+static void check_key(void) {
+    uint8_t key[MAX];
+    PLAIN(state) S;
+    memset(key, 0x5b, MAX);
+    CHECK(PLAIN(init_key)(&S, MAX, key, MAX) == 0 && PLAIN(update)(&S, out, 0) == 0);
+    memset(out, 0, sizeof out);
+    for (int i = 0; i < 40; i++) CHECK(PLAIN(update)(&S, out, 100) == 0);
+    for (size_t i = 0; !IS_LIBB2 && i + 8 <= SIZE; i++) CHECK(memcmp((uint8_t *)&S + i, key, 8));
 }
 
 /* Calls with a state after finalization, and with a zeroed state. */
@@ -149,42 +181,15 @@ static void check_blocks(void) {
     }
 }
 
-/* A state that holds more than a block is refused and stays; libb2 may hold two. So is a count that would pass 2^64. */
-static void check_refused_states(void) {
-    static const uint32_t lengths[] = {BLOCK + 1, 256, 65536, (uint32_t)1 << 31, UINT32_MAX};
+/* A count that would pass 2^64 is refused, and the state stays. In libb2 the counter has another place. */
+static void check_counter(void) {
+    const size_t at = IS_LIBB2 ? offsetof(PLAIN(state), t) : offsetof(state_t, counter);
     PLAIN(state) S, before;
-    for (size_t i = 0; !IS_LIBB2 && i < COUNT_OF(lengths); i++) {
-        CHECK(PLAIN(init)(&S, MAX) == 0);
-        S.buflen = lengths[i];
-        S.f[0] = 9;
-        memset(S.buf + BLOCK, 7, BLOCK);
-        before = S;
-        CHECK(PLAIN(update)(&S, message, 1) == -1 && PLAIN(final)(&S, out, MAX) == -1 && SAME(S, before));
-    }
     CHECK(PLAIN(init)(&S, MAX) == 0);
-    memset(S.t, 0xff, 8);
+    memset((uint8_t *)&S + at, 0xff, 8);
     before = S;
     CHECK(PLAIN(update)(&S, message, 3 * BLOCK) == ROW(0, -1) && (IS_LIBB2 || SAME(S, before)));
-}
-
-/* The fields that libb2's header names. The two words of the counter are one number: BLAKE2s needs the second from 2^32
- * bytes on. */
-static void check_fields(void) {
-    const uint64_t begun = ((uint64_t)1 << 32) - BLOCK, more = 3 * BLOCK + 1;
-    uint64_t count;
-    PLAIN(state) S;
-    CHECK(offsetof(PLAIN(state), last_node) == SIZE - 1);
-    CHECK(PLAIN(init)(&S, 7) == 0 && PLAIN(update)(&S, message, 5 * BLOCK + 3) == 0);
-    memcpy(&count, S.t, sizeof count);
-    CHECK(S.outlen == 7 && IN_STATE(count) + S.buflen == 5 * BLOCK + 3);
-    for (uint64_t turn = 0; turn < 2; turn++) {
-        CHECK(PLAIN(init)(&S, MAX) == 0);
-        count = IN_STATE(begun + (turn * 7 << 32));
-        memcpy(S.t, &count, sizeof count);
-        CHECK(PLAIN(update)(&S, message, more) == 0);
-        memcpy(&count, S.t, sizeof count);
-        CHECK(IN_STATE(count) + S.buflen == begun + more + (turn * 7 << 32));
-    }
+    CHECK(IS_LIBB2 || (PLAIN(update)(&S, message, 1) == -1 && SAME(S, before)));
 }
 
 /* The last-node flag is any value but 0. */
@@ -225,13 +230,14 @@ int main(void) {
     check_null_pointers(); /* first: no process may fork once libb2 has threads */
 #ifndef TEST_P
     check_blocks();
-    check_refused_states();
-    check_fields();
+    check_counter();
     check_last_node();
 #endif
     check_lengths();
     check_without_state();
     check_in_pieces();
+    check_addresses();
+    check_key();
     check_overlaps();
 #ifdef VULFSJOR_LIBB2_BLAKE2_H
     check_header();

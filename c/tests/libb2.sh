@@ -1,6 +1,7 @@
 #!/usr/bin/env bash
 # Tests libb2's functions by their own names, and runs its own tests and a program of others.
 source "$(dirname "$(readlink -f "$0")")/common.sh"
+source "$top/tests/sources.sh"
 
 beside=$prefix/lib/libvulfsjor-libb2.a
 
@@ -11,10 +12,10 @@ names_conform() {
         cc $quick -shared -fPIC -I"$libb2" "$work/names.c" "$archive" -o "$work/names.so" &&
         "$top/tests/conformance/others.py" --libb2 "$work/names.so" "$conforming" >"$work/rows" &&
         diff "$work/rows" - <<'END'
-| libb2 | blake2b | 843 of 2545 | 10 refused-several, 2 refused-inner, 1 refused-depth |
-| libb2 | blake2s | 650 of 2249 | 4 refused-several, 2 refused-inner, 1 refused-depth |
-| libb2 | blake2bp | 475 of 1316 | none |
-| libb2 | blake2sp | 407 of 1140 | none |
+| libb2 | blake2b | 845 of 2639 | 10 refused-several, 2 refused-inner, 1 refused-depth |
+| libb2 | blake2s | 652 of 2343 | 4 refused-several, 2 refused-inner, 1 refused-depth |
+| libb2 | blake2bp | 477 of 1323 | none |
+| libb2 | blake2sp | 409 of 1147 | none |
 END
 }
 
@@ -31,6 +32,76 @@ keys_of_names() {
     cc -std=gnu99 -O2 "${warnings[@]}" -Wl,-z,now -I"$include" -DLIBB2_NAMES \
         $(family_words "$1") -o "$work/key_scan" "$tests/key_scan.c" "$beside" && "$work/key_scan"
 }
+
+# The names that a shared library shows.
+shown_names() { nm -D --defined-only --format=posix "$1" | cut -d ' ' -f 1 | LC_ALL=C sort; }
+libb2_names() {
+    printf '%s\n' blake2{b,s,bp,sp}{,_init,_init_key,_update,_final} blake2{b,s}_init_param | LC_ALL=C sort
+}
+
+# libb2.so.1, which is installed only if that is asked for: with the files, the names and the soname of libb2's, and no
+# other library; and gone after an uninstallation.
+shared_libb2() {
+    local folder=$work/shared one=()
+    ! is_x86 || one=(--cpu "x86-64-v$level")
+    CFLAGS=$quick "$here/install.sh" "${one[@]}" --from "$dist" --libb2-shared "$folder" &&
+        { wanted_files lib/ && printf 'lib/vulfsjor-libb2/libb2.so.%s\n' 1 1.0.4; } | LC_ALL=C sort |
+        diff - <(files_below "$folder") || return
+    cp -P "$folder"/lib/vulfsjor-libb2/libb2.so.1* "$work/" && [ "$(readlink "$work/libb2.so.1")" = libb2.so.1.0.4 ] &&
+        libb2_names | diff - <(shown_names "$work/libb2.so.1") &&
+        readelf -d "$work/libb2.so.1" >"$work/dynamic" && grep 'SONAME.*\[libb2.so.1\]' "$work/dynamic" &&
+        [ "$(sed -n 's/.*NEEDED.*\[\(.*\)\]/\1/p' "$work/dynamic")" = libc.so.6 ] &&
+        "$here/install.sh" --uninstall "$folder" && [ -z "$(files_below "$folder")" ]
+}
+
+# Made by hand, of the source it shows the same names, and of all of libb2.a it does not link.
+libb2_by_hand() {
+    cc -shared -fPIC "$here/libb2/libb2.c" "$archive" -o "$work/by_hand.so" &&
+        libb2_names | diff - <(shown_names "$work/by_hand.so") &&
+        ! cc -shared -Wl,--whole-archive "$beside" -Wl,--no-whole-archive -o "$work/by_hand.so" 2>"$work/said" &&
+        grep libb2_so_is_made_by_install_sh_libb2_shared "$work/said"
+}
+
+# Debian's rdiff, which needs libb2.so.1, over that in a folder: a signature, which is to be that by libb2 itself, a
+# delta of another file, and the file again. FOLDER
+rdiff_rounds() {
+    local round options
+    cd "$work" && ldd "$(command -v rdiff)" | grep -F libb2.so.1 && cp "$here/include/vulfsjor.h" basis || return
+    for round in 1 2 3 4 5; do
+        options=(-f -H blake2 -b $((round * 333)) -S $((round * 7 - 3)))
+        { head -c $((round * 9999)) basis && echo "$round" && tail -c +$((round * 7777)) basis; } >changed &&
+            rdiff "${options[@]}" signature basis theirs &&
+            LD_LIBRARY_PATH=$1 rdiff "${options[@]}" signature basis ours && cmp ours theirs &&
+            LD_LIBRARY_PATH=$1 rdiff -f delta ours changed delta &&
+            LD_LIBRARY_PATH=$1 rdiff -f patch basis delta again && cmp again changed &&
+            [ "$(stat -c %s delta)" -lt 60000 ] || return
+    done
+}
+rdiff_with_another_bit() {
+    mkdir -p "$work/planted" && perl -pe 's/\x67\xe6\x09\x6a/\x67\xe6\x09\x6b/g' "$work/libb2.so.1" \
+        >"$work/planted/libb2.so.1" && ! rdiff_rounds "$work/planted" >"$work/said" &&
+        grep '^ours theirs differ' "$work/said"
+}
+
+# The column of a library in the table of sizes of PORTING.md: COLUMN WORDS PROGRAM
+sizes_of_page() {
+    printf '#include <stdio.h>\n%s\nint main(void) { %s return 0; }\n' "$2" "$3" >"$work/sizes.c" &&
+        cc -std=c99 -I"$include" -o "$work/sizes" "$work/sizes.c" && "$work/sizes" >"$work/sizes.txt" &&
+        sed -n '/^## Sizes/,/^## [^S]/p' "$here/PORTING.md" | sed 1,/^.---/d | grep '^|' | cut -d '|' -f "$1" |
+        tr -d ' ' | grep . | diff - "$work/sizes.txt"
+}
+sizes_here() {
+    sizes_of_page 3 '#include <vulfsjor.h>' "$(printf 'printf("%%zu\\n", sizeof(vulfsjor_%s_state));' \
+        blake2{b,s,bp,sp,xb,xs} tree)"
+}
+sizes_of_libb2() {
+    sizes_of_page 4 '#include <stddef.h>
+#include <blake2.h>' "$(printf 'printf("%%zu\\n", sizeof(blake2%s_state));' b s bp sp)"
+}
+sizes_of_libsodium() {
+    sizes_of_page 5 '#include <sodium.h>' 'printf("%zu\n", sizeof(crypto_generichash_state));'
+}
+has_libsodium() { echo '#include <sodium.h>' | cc -fsyntax-only -x c - 2>/dev/null; }
 
 # What a configure script does to find libb2: a program that names its functions and has no header of
 # it.
@@ -50,37 +121,10 @@ libb2_has_threads() { links -Wl,--no-as-needed -lb2 && ldd "$work/linked" | grep
 
 has_libb2() { links -lb2 && echo '#include <blake2.h>' | cc -fsyntax-only -x c - 2>/dev/null; }
 
-# The machine's own lists of packages, asked for sources in the place of programs.
-source_lists() {
-    local list
-    mkdir -p "$1"
-    for list in /etc/apt/sources.list{,.d/*.list,.d/*.sources}; do
-        [ ! -r "$list" ] || sed 's/^deb\([[:space:]]\)/deb-src\1/;s/^Types:.*/Types: deb-src/' "$list" >"$1/${list##*/}"
-    done
-}
-
-# The sources of these packages, which no file of this repository keeps, each in a folder of its
-# name. A list that knows no sources fails alone; what counts is that one of them had these.
-fetch_sources() {
-    local package folder=$work/fetched
-    mkdir -p "$folder/lists/partial" "$folder/cache/archives/partial"
-    cd "$folder" || return 1
-    source_lists "$PWD/parts"
-    local words=(-q -o Dir::Etc::sourcelist=/dev/null -o Dir::Etc::sourceparts="$PWD/parts"
-        -o Dir::State::lists="$PWD/lists" -o Dir::Cache="$PWD/cache" -o Acquire::Retries=1
-        -o Acquire::http::Timeout=20 -o Acquire::https::Timeout=20)
-    timeout 120 apt-get "${words[@]}" update
-    for package in "$@"; do
-        timeout 120 apt-get "${words[@]}" --download-only --tar-only source "$package" &&
-            mkdir -p "$package" &&
-            tar xf "$package"_*.orig.tar.* -C "$package" --strip-components=1
-    done
-}
-
 # libb2's own test program, which includes its known answers: over the header of libb2's name here,
 # or over libb2's own with the functions by their own names.
 libb2_test() {
-    local name=$1 source=$work/fetched/libb2/src words=(-I"$libb2" "$archive")
+    local name=$1 source=$fetched/libb2/src words=(-I"$libb2" "$archive")
     [ "$2" = header ] || words=(-I"$source" "$beside")
     mkdir -p "$work/test_of_libb2"
     cp "$source/$name-test.c" "$source/blake2-kat.h" "$work/test_of_libb2/" &&
@@ -93,7 +137,7 @@ libb2_test() {
 librsync_tests() {
     local headers=$1 build=$work/librsync
     rm -rf "$build"
-    cmake -S "$work/fetched/librsync" -B "$build" -DUSE_LIBB2=ON -DCMAKE_BUILD_TYPE=Debug \
+    cmake -S "$fetched/librsync" -B "$build" -DUSE_LIBB2=ON -DCMAKE_BUILD_TYPE=Debug \
         -DCMAKE_LIBRARY_PATH="$prefix/lib/vulfsjor-libb2" -DCMAKE_INCLUDE_PATH="$headers" &&
         cmake --build "$build" --parallel 2 &&
         nm "$build/librsync.so" | grep -q ' t vulfsjor_ffi_blake2b_update$' &&
@@ -102,18 +146,16 @@ librsync_tests() {
 }
 
 test_sources() {
-    local name why="its source can't be fetched"
-    ! has apt-get || (fetch_sources libb2 ${VULFSJOR_TEST_HUGE:+librsync}) >"$work/fetching" 2>&1
-    needs
-    [ -e "$work/fetched/libb2/src/blake2b-test.c" ] || missing=$why
+    local name
+    needs_sources libb2
     for name in blake2b blake2s blake2bp blake2sp; do
         check "libb2's $name-test.c over the header" libb2_test $name header
         check "libb2's $name-test.c over its own header" libb2_test $name names
     done
-    needs cmake
-    [ -e "$work/fetched/librsync/CMakeLists.txt" ] || missing=$why
+    [ -z "${VULFSJOR_TEST_HUGE-}" ] || needs_sources librsync
+    has cmake || missing="no cmake"
     check_huge "librsync's own tests over the header" librsync_tests "$libb2"
-    mkdir -p "$work/own" && cp "$work/fetched/libb2/src/blake2.h" "$work/own/" 2>/dev/null
+    mkdir -p "$work/own" && cp "$fetched/libb2/src/blake2.h" "$work/own/" 2>/dev/null
     check_huge "librsync's own tests over libb2's header" librsync_tests "$work/own"
     needs
 }
@@ -123,17 +165,29 @@ test_libb2() {
     check "libb2.c without a warning" cc -std=c99 -O2 "${warnings[@]}" -c "$here/libb2/libb2.c" \
         -o "$work/libb2.o"
     check "a configure script finds libb2" configure_finds
+    check "libb2.so.1" shared_libb2
+    check "libb2.so.1 by hand" libb2_by_hand
+    needs rdiff perl
+    check "Debian's rdiff over libb2.so.1" rdiff_rounds "$work"
+    check "Debian's rdiff over a libb2.so.1 with a wrong bit" rdiff_with_another_bit
+    needs
     for family in b bp s sp; do
         check "libb2's names by the header here, blake2$family" names_of_libb2 $family -I"$libb2" "$archive"
     done
+    check "the sizes of states in PORTING.md" sizes_here
+    has_libsodium || missing="no libsodium-dev"
+    check "the size of libsodium's state in PORTING.md" sizes_of_libsodium
     needs python3
     check "the conformance cases by libb2's names" names_conform
     has_libb2 || missing="no libb2"
     for family in b s bp sp; do
         check "libb2's names with its own header, blake2$family" names_of_libb2 $family "$beside"
+        check_once "libb2.so.1 with its own header, blake2$family" names_of_libb2 $family "$work/libb2.so.1" \
+            "$archive" -Wl,-rpath,"$work"
         check "what is said of libb2 itself, blake2$family" said_of_libb2 $family -lb2 "$archive"
-        check_once "key_scan.c by libb2's names, blake2$family" keys_of_names $family
+        check "key_scan.c by libb2's names, blake2$family" keys_of_names $family
     done
+    check "the sizes of libb2's states in PORTING.md" sizes_of_libb2
     check "libb2 after this library" said_of_libb2 b "$archive" -lb2
     check "libb2 after the shared library" said_of_libb2 b "$shared" -lb2 -Wl,-rpath,"$prefix/lib"
     check "libb2 before the shared library" said_of_libb2 b -lb2 "$shared" -Wl,-rpath,"$prefix/lib"

@@ -82,6 +82,9 @@ calls_are_warned_of() {
     python3 "$tests/warned_calls.py" "$include" >"$work/calls.c" && lines_are_refused "$work/calls.c" gnu99 gcc
 }
 
+# The wrong uses of tests/misuse: c or cpp, COMPILER..
+misuses() { python3 "$top/tests/misuse/run.py" "$@" -I"$include" -- "$archive"; }
+
 # The conformance cases by the header for C++.
 conformance_of_cpp() {
     c++ -std=c++17 "${warnings[@]}" -I"$include" "$tests/conformance.cpp" "$@" "$archive" -o "$work/conformance" &&
@@ -117,24 +120,25 @@ duplicates_example() {
 # The benchmark of the README, one turn of it: a table for each family, with a time in each row, and
 # in brackets that time divided by ours.
 bench_runs() {
-    local words=() theirs=()
+    local words=(-DWITH_NAMES) theirs=()
     links -lb2 && [ -e /usr/include/blake2.h ] && words+=(-DWITH_LIBB2) && theirs+=(-lb2)
     links -lcrypto && [ -e /usr/include/openssl/evp.h ] && words+=(-DWITH_OPENSSL) &&
         theirs+=(-lcrypto)
-    cc -O2 "${warnings[@]}" "${words[@]}" "$top/bench/calls.c" $(words_for vulfsjor-static) \
-        "${theirs[@]}" -o "$work/bench" &&
+    cc -O2 "${warnings[@]}" -DBY_NAMES -I"$include/vulfsjor-libb2" -c "$top/bench/calls.c" -o "$work/names.o" &&
+        cc -O2 "${warnings[@]}" "${words[@]}" "$top/bench/calls.c" "$work/names.o" $(words_for vulfsjor-static) \
+            "${theirs[@]}" -o "$work/bench" &&
         "$work/bench" 1 >"$work/said" && cat "$work/said" &&
         [ "$(grep -c '^| [a-z].* | [0-9]' "$work/said")" -eq 14 ] &&
         awk -F'[|()]' '/\)/ { for (i = 4; i < NF; i += 3) if ($(i + 1) != "") { rows++
             differs = $(i + 1) - $i / $3
             wrong += differs ^ 2 > (0.01 + 0.03 * $(i + 1)) ^ 2 } }
-            END { exit wrong || rows < '${#theirs[@]}' * 10 }' "$work/said"
+            END { exit wrong || rows < 12 + '${#theirs[@]}' * 10 }' "$work/said"
 }
 
 # The example in Python, and what it accepts and refuses.
 python_example() {
     local example=$here/examples/ctypes_hash.py
-    python3 "$example" "$shared" >"$work/said" && diff "$work/said" <(wanted_of_readme) &&
+    python3 "$example" "$shared" >"$work/said" && diff "$work/said" <(wanted_of_readme key) &&
         python3 "$tests/ctypes_example.py" "$example" "$shared"
 }
 
@@ -187,6 +191,7 @@ test_languages() {
     needs gcc python3
     [ "$(gcc -dumpversion 2>/dev/null | cut -d. -f1)" -ge 11 ] 2>/dev/null || missing=${missing:-"gcc 11"}
     check "warnings of short memory and of ignored statuses" calls_are_warned_of
+    check "wrong uses in C" misuses c gcc -std=gnu11
     needs c++ python3
     # Each standard with exceptions and without, and each compiler with all of these.
     check "hasher.cpp in C++17" hasher_of_cpp c++ c++17 $quick
@@ -196,7 +201,9 @@ test_languages() {
     needs g++ python3
     check "wrong_lines.cpp in C++20, by g++" lines_are_refused "$tests/wrong_lines.cpp" c++20 g++
     check_huge "wrong_lines.cpp in C++17, by g++" lines_are_refused "$tests/wrong_lines.cpp" c++17 g++
+    check "wrong uses in C++" misuses cpp g++ -std=c++17
     needs clang++ python3
+    check_huge "wrong uses in C++20, by clang++" misuses cpp clang++ -std=c++20
     check "wrong_lines.cpp in C++17, by clang++" lines_are_refused "$tests/wrong_lines.cpp" c++17 clang++
     check_huge "wrong_lines.cpp in C++20, by clang++" lines_are_refused "$tests/wrong_lines.cpp" c++20 clang++
     check_huge "hasher.cpp in C++17, by clang++, without exceptions, compiled" compile_hasher clang++ \

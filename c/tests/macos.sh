@@ -17,7 +17,7 @@ write_sdk() {
         'void *realloc(void *, size_t);' 'void free(void *);' >"$sdk/usr/include/stdlib.h"
     printf '%s\n' '#include <stddef.h>' 'void *memcpy(void *, const void *, size_t);' \
         'void *memmove(void *, const void *, size_t);' 'void *memset(void *, int, size_t);' \
-        'int memcmp(const void *, const void *, size_t);' \
+        'int memcmp(const void *, const void *, size_t);' 'int strcmp(const char *, const char *);' \
         'size_t strlen(const char *);' 'char *strcpy(char *, const char *);' \
         'char *strrchr(const char *, int);' 'char *strerror(int);' >"$sdk/usr/include/string.h"
     printf 'typedef %s;\n' 'long ssize_t' 'long long off_t' >"$sdk/usr/include/sys/types.h"
@@ -44,7 +44,8 @@ write_sdk() {
         'int clock_gettime(int, struct timespec *);' 'enum { CLOCK_MONOTONIC = 6 };' \
         >"$sdk/usr/include/time.h"
     printf '%s\n' '#include <stddef.h>' 'int snprintf(char *, size_t, const char *, ...);' \
-        'int dprintf(int, const char *, ...);' >"$sdk/usr/include/stdio.h"
+        'int dprintf(int, const char *, ...);' 'typedef struct file FILE;' 'extern FILE *__stdoutp;' \
+        '#define stdout __stdoutp' 'int puts(const char *);' 'int fflush(FILE *);' >"$sdk/usr/include/stdio.h"
     printf '%s\n' '#include <stddef.h>' 'size_t malloc_size(const void *);' \
         >"$sdk/usr/include/malloc/malloc.h"
     touch "$sdk/usr/include/sched.h"
@@ -69,7 +70,8 @@ write_sdk() {
     printf '%s\n' '--- !tapi-tbd' 'tbd-version: 4' 'targets: [ x86_64-macos, arm64-macos ]' \
         "install-name: '/usr/lib/libSystem.B.dylib'" 'exports:' \
         '  - targets: [ x86_64-macos, arm64-macos ]' \
-        "    symbols: [ $(printf '_%s, ' $names {,__}bzero __stack_chk_{fail,guard})dyld_stub_binder ]" '...' \
+        "    symbols: [ $(printf '_%s, ' $names {,__}bzero __stdoutp __stack_chk_{fail,guard})" \
+        "dyld_stub_binder ]" '...' \
         >"$sdk/usr/lib/libSystem.tbd"
 }
 
@@ -86,10 +88,10 @@ installs() {
     CC=$work/$1 CFLAGS=$quick "$here/install.sh" --from "$dist" "$folder" &&
         files_come_and_go "$folder" macos &&
         sed -n 's/^ *\(vulfsjor_.*\);$/_\1/p' "$here/vulfsjor.map" | LC_ALL=C sort >"$names" &&
-        llvm-nm -gU "$folder/lib/libvulfsjor.0.dylib" | awk '{ print $3 }' | LC_ALL=C sort |
+        llvm-nm -gU "$folder/lib/libvulfsjor.1.dylib" | awk '{ print $3 }' | LC_ALL=C sort |
         diff - "$names" &&
-        llvm-objdump --macho --dylib-id "$folder/lib/libvulfsjor.0.dylib" |
-        grep -qx '@rpath/libvulfsjor.0.dylib'
+        llvm-objdump --macho --dylib-id "$folder/lib/libvulfsjor.1.dylib" |
+        grep -qx '@rpath/libvulfsjor.1.dylib'
 }
 
 # Whether an object is for both processors of a Mac, with the functions of each.
@@ -159,7 +161,9 @@ for name, function, size in ("B", hashlib.blake2b, 64), ("S", hashlib.blake2s, 3
 
 test_macos() {
     local processor check
+    needs python3
     check "what a Mac runs, on this system" "$tests/on_a_mac.sh"
+    needs
     if ! has clang || [ -z "$linker" ] || ! has llvm-nm || ! has llvm-objdump; then
         skip "the library for macOS" "no clang, ld64.lld, llvm-nm or llvm-objdump"
         return

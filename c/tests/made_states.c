@@ -71,21 +71,21 @@ static state_t made_state(void) {
 }
 
 static void unready_states(state_t made) {
-    UNREADY(state.leaf.output_size = IN_STATE(MAX - 1));
-    UNREADY(state.leaf.pending_length = IN_STATE(BLOCK + 1));
-    UNREADY(state.leaf.pending_length = IN_STATE(8));
+    UNREADY(SET(state.leaf.output_size, MAX - 1));
+    UNREADY(SET(state.leaf.pending_length, BLOCK + 1));
+    UNREADY(SET(state.leaf.pending_length, 8));
     UNREADY(state.leaf.counter = MOST);
     UNREADY(state.root.output_size = 0);
-    UNREADY(state.root.output_size = IN_STATE(MAX + 1));
-    UNREADY(state.root.counter = IN_STATE(IN_STATE(state.root.counter) + 1));
-    UNREADY(state.closed = IN_STATE(1));
-    UNREADY(state.closed = IN_STATE((uint64_t)1 << 58); state.root.counter = 0; state.root.pending_length = 0);
+    UNREADY(SET(state.root.output_size, MAX + 1));
+    UNREADY(SET(state.root.counter, GET(state.root.counter) + 1));
+    UNREADY(SET(state.closed, 1));
+    UNREADY(SET(state.closed, (uint64_t)1 << 58); state.root.counter = 0; state.root.pending_length = 0);
     UNREADY(state.leaf_length = 0);
-    UNREADY(state.leaf_length = IN_STATE(5));
-    UNREADY(state.leaf_length = IN_STATE(PAST_32));
-    UNREADY(state.salt_length = IN_STATE(SALT + 1));
+    UNREADY(SET(state.leaf_length, 5));
+    UNREADY(SET(state.leaf_length, PAST_32));
+    UNREADY(SET(state.salt_length, SALT + 1));
     UNREADY(state.salt_length = MOST);
-    UNREADY(state.personal_length = IN_STATE(SALT + 1));
+    UNREADY(SET(state.personal_length, SALT + 1));
     UNREADY(state.personal_length = MOST);
 }
 
@@ -93,8 +93,8 @@ static void unready_states(state_t made) {
 static state_t with_leaves(uint32_t leaf, uint64_t closed) {
     state_t state;
     CHECK(vulfsjor_tree_init(&state, MAX, bytes, 3, bytes, 4, leaf) == 0);
-    state.closed = IN_STATE(closed);
-    state.root.counter = IN_STATE(64 * closed);
+    SET(state.closed, closed);
+    SET(state.root.counter, 64 * closed);
     return state;
 }
 
@@ -120,18 +120,18 @@ static void long_counts(void) {
 
 static void vary_state(state_t *state, int i) {
     const uint64_t pending = 64 * (uint64_t)(i % 3), closed = state->closed % (i % 5 ? 1000 : (uint64_t)1 << 58);
-    state->leaf.output_size = IN_STATE(MAX);
-    state->root.output_size = IN_STATE(state->root.output_size % (MAX + 2));
-    state->leaf.counter = IN_STATE(i % 3 ? 0 : BLOCK);
-    state->leaf.pending_length = IN_STATE(state->leaf.pending_length % (BLOCK + 4));
-    state->leaf.start_length = IN_STATE(state->leaf.start_length % (BLOCK + 4));
-    state->root.start_length = IN_STATE(state->root.start_length % (BLOCK + 4));
-    state->root.pending_length = IN_STATE(pending);
-    state->closed = IN_STATE(closed);
-    state->root.counter = IN_STATE(64 * closed - pending);
-    state->leaf_length = IN_STATE(i % 7 ? state->leaf_length % 400 : ~(uint32_t)0);
-    state->salt_length = IN_STATE(state->salt_length % (SALT + 2));
-    state->personal_length = IN_STATE(state->personal_length % (SALT + 2));
+    SET(state->leaf.output_size, MAX);
+    SET(state->root.output_size, state->root.output_size % (MAX + 2));
+    SET(state->leaf.counter, i % 3 ? 0 : BLOCK);
+    SET(state->leaf.pending_length, state->leaf.pending_length % (BLOCK + 4));
+    SET(state->leaf.start_length, state->leaf.start_length % (BLOCK + 4));
+    SET(state->root.start_length, state->root.start_length % (BLOCK + 4));
+    SET(state->root.pending_length, pending);
+    SET(state->closed, closed);
+    SET(state->root.counter, 64 * closed - pending);
+    SET(state->leaf_length, i % 7 ? state->leaf_length % 400 : ~(uint32_t)0);
+    SET(state->salt_length, state->salt_length % (SALT + 2));
+    SET(state->personal_length, state->personal_length % (SALT + 2));
 }
 
 #else
@@ -172,12 +172,12 @@ static state_t made_state(void) {
 /* An output that is not one, or was read further than it goes; a state that has been read from, whatever its mark. */
 static void unready_outputs(state_t made) {
     state_t state = made;
-    UNREADY(state.root.output_size = IN_STATE(MAX - 1));
+    UNREADY(SET(state.root.output_size, MAX - 1));
     UNREADY(state.reader.xof_length = 0);
-    UNREADY(state.reader.xof_length = IN_STATE(UNKNOWN + 1));
-    UNREADY(state.reader.position = IN_STATE(101));
-    UNREADY(state.reader.xof_length = IN_STATE(UNKNOWN); state.reader.position = IN_STATE(WHOLE + 1));
-    state.reader.position = IN_STATE(1);
+    UNREADY(SET(state.reader.xof_length, UNKNOWN + 1));
+    UNREADY(SET(state.reader.position, 101));
+    UNREADY(SET(state.reader.xof_length, UNKNOWN); SET(state.reader.position, WHOLE + 1));
+    SET(state.reader.position, 1);
     CHECK(BLAKE(update)(&state, bytes, 1) == -1 && BLAKE(reset)(&state) == 0);
     state = made, state.reading = (uint64_t)1 << 40;
     CHECK(BLAKE(update)(&state, bytes, 1) == -1 && BLAKE(reset)(&state) == 0);
@@ -189,7 +189,7 @@ static void end_of_output(void) {
     state_t state, before;
     uint8_t out[3] = {1, 2, 3};
     CHECK(BLAKE(init)(&state, (size_t)UNKNOWN) == 0 && BLAKE(left)(&state) == WHOLE && !BLAKE(squeeze)(&state, out, 1));
-    state.reader.position = IN_STATE(WHOLE - 2);
+    SET(state.reader.position, WHOLE - 2);
     before = state, out[0] = 1;
     CHECK(BLAKE(squeeze)(&state, out, 3) == -1 && BLAKE(squeeze)(&state, out, ~(size_t)0) == -1);
     CHECK(SAME(state, before) && out[0] == 1 && BLAKE(squeeze)(&state, out, 2) == 0 && BLAKE(left)(&state) == 0);
@@ -198,14 +198,15 @@ static void end_of_output(void) {
 #endif
 
 static void unready_states(state_t made) {
-    static const uint64_t sizes[] = {0, MAX + 1, MOST}, lengths[] = {HELD + 1, PAST_32, MOST},
-                          starts[] = {KEY_BLOCKS + 1, PAST_32, MOST};
-    for (size_t i = 0; i < 3; i++) {
-        UNREADY(state.OWN(output_size) = IN_STATE(sizes[i]));
-        UNREADY(state.PENDING = IN_STATE(lengths[i]));
-        UNREADY(state.OWN(start_length) = IN_STATE(starts[i]));
+    const uint64_t sizes[] = {0, MAX + 1, PAST(made.OWN(output_size)), MOST},
+                   lengths[] = {HELD + 1, PAST(made.PENDING), MOST, HELD + 2},
+                   starts[] = {KEY_BLOCKS + 1, PAST(made.OWN(start_length)), MOST, KEY_BLOCKS + 2};
+    for (size_t i = 0; i < COUNT_OF(sizes); i++) {
+        UNREADY(SET(state.OWN(output_size), sizes[i]));
+        UNREADY(SET(state.PENDING, lengths[i]));
+        UNREADY(SET(state.OWN(start_length), starts[i]));
     }
-    UNREADY(state.COUNTER = IN_STATE((MOST - IN_STATE(state.PENDING)) / LEAVES + 1));
+    UNREADY(SET(state.COUNTER, (MOST - GET(state.PENDING)) / LEAVES + 1));
 #ifdef TEST_X
     unready_outputs(made);
 #endif
@@ -214,27 +215,27 @@ static void unready_states(state_t made) {
 /* The count may not reach 2^64, that of a key's blocks included, and a refused update changes nothing. */
 static void long_counts(void) {
     const state_t made = made_state();
-    const uint64_t held = IN_STATE(made.PENDING);
+    const uint64_t held = GET(made.PENDING);
     state_t state = made, before;
     for (size_t room = 0; room <= sizeof bytes; room += room < 2 * BLOCK ? 1 : 13) {
         const uint64_t counter = (MOST - room - held) / LEAVES, left = MOST - LEAVES * counter - held;
         state = made;
-        state.COUNTER = IN_STATE(counter);
+        SET(state.COUNTER, counter);
         CHECK(BLAKE(count)(&state) == MOST - left - KEY_BLOCKS);
         check_room(state, (size_t)left);
     }
     /* Lengths that would wrap round: no byte of them is read. */
-    state.COUNTER = IN_STATE(((uint64_t)1 << 63) / LEAVES);
+    SET(state.COUNTER, ((uint64_t)1 << 63) / LEAVES);
     before = state;
     CHECK_64(BLAKE(update)(&state, bytes, TWO_TO(63)) == -1 && SAME(state, before));
     CHECK_64(BLAKE(update)(&state, bytes, ~(size_t)0) == -1 && SAME(state, before));
     /* A count past 2^32 is one of 64 bits. */
     for (int bits = 32; bits <= 40; bits += 8) {
-        state.COUNTER = IN_STATE(((uint64_t)1 << bits) - BLOCK);
+        SET(state.COUNTER, ((uint64_t)1 << bits) - BLOCK);
         const uint64_t count = BLAKE(count)(&state);
         CHECK(count == LEAVES * (((uint64_t)1 << bits) - BLOCK) + held - KEY_BLOCKS);
         CHECK(BLAKE(update)(&state, bytes, 1024) == 0 && BLAKE(count)(&state) == count + 1024);
-        CHECK(IN_STATE(state.COUNTER) >= (uint64_t)1 << bits);
+        CHECK(GET(state.COUNTER) >= (uint64_t)1 << bits);
     }
 #ifdef TEST_X
     end_of_output();
@@ -242,18 +243,18 @@ static void long_counts(void) {
 }
 
 static void vary_state(state_t *state, int i) {
-    uint64_t counter = IN_STATE(state->COUNTER) / (2 * LEAVES);
+    uint64_t counter = GET(state->COUNTER) / (2 * LEAVES);
     if (i % 4 == 1) counter = MOST / LEAVES - random_below(1 << 24) % (4 * BLOCK);
-    state->COUNTER = IN_STATE(counter);
-    state->OWN(output_size) = IN_STATE(IN_STATE(state->OWN(output_size)) % (MAX + 6));
-    state->PENDING = IN_STATE(IN_STATE(state->PENDING) % (HELD + 12));
-    state->OWN(start_length) = IN_STATE(IN_STATE(state->OWN(start_length)) % (KEY_BLOCKS + 12));
+    SET(state->COUNTER, counter);
+    SET(state->OWN(output_size), GET(state->OWN(output_size)) % (MAX + 6));
+    SET(state->PENDING, GET(state->PENDING) % (HELD + 12));
+    SET(state->OWN(start_length), GET(state->OWN(start_length)) % (KEY_BLOCKS + 12));
 #ifdef TEST_X
     const uint64_t length = i % 4 == 1 ? UNKNOWN : random_below(1 << 24) % UNKNOWN;
-    state->root.output_size = IN_STATE(MAX);
-    state->reader.xof_length = IN_STATE(length);
-    state->reader.position = IN_STATE(random_below(1 << 24) % (length + 2));
-    state->reading = IN_STATE(i / 2 % 2);
+    SET(state->root.output_size, MAX);
+    SET(state->reader.xof_length, length);
+    SET(state->reader.position, random_below(1 << 24) % (length + 2));
+    SET(state->reading, i / 2 % 2);
 #endif
 }
 #endif

@@ -21,9 +21,9 @@ NAMES = {"S": ["state"], "in": ["input"], "P": ["block"], "outlen": ["out_length
          "xoflen": ["xof_length"], "inlen": ["input_length", "message_length"],
          "length": ["length", "a_length", "b_length"]}
 # Which may be null and 0, but for these functions.
-NULLS = {"in": "", "key": "_(init_key|derive_key|init_mac)", "salt": "", "personal": "", "tag": "", "context": "",
+NULLS = {"in": "", "key": "_(init_key|derive_key|mac)", "salt": "", "personal": "", "tag": "", "context": "",
          "digests": "_of_leaves", "a": "", "b": "", "length": "", "out": "(?<!squeeze)"}
-NO_CALLS = "text|bytes|digit|bin2hex|hex2bin|null_message|argument_name|is_half_key|are_refused|has_key"
+NO_CALLS = "text|bytes|digit|bin2hex|hex2bin|null_message|argument_name|is_half_key|are_refused"
 PROGRAM = r"""#ifdef CHOOSE_ONE
 #include "choose.c"
 #define OF_LIBRARY(type, name) OF_TEXT type name##_one
@@ -65,7 +65,7 @@ class Calls:
 
     def __init__(self, include):
         self.all = {name: given for name, given in prototypes(include).items()
-                    if not re.search(f"_({NO_CALLS})$", name)}
+                    if not re.search(f"_({NO_CALLS})$|^vulfsjor_leaf$", name)}
         self.library = {name: given for name, given in self.all.items() if "_ffi_" in name}
         self.code, self.lines = [], []
         for name, (_, parameters) in self.all.items():
@@ -76,6 +76,8 @@ class Calls:
                 continue
             for is_least in (False, True) if name not in self.library else (False,):
                 self.passes(name, parameters, is_least)
+            if ("uint64_t ", "leaf_length") in parameters:
+                self.passes(name, parameters, False, too_long=True)
         for family, most in ("b", 64), ("s", 32), ("bp", 64), ("sp", 32):
             self.libb2(f"blake2{family}", most)
 
@@ -90,13 +92,13 @@ class Calls:
                 value |= 2**64 - 2**32
             self.lines += wanted + [["=", f"{value:x}"] if kind != "void" else ["="]]
 
-    def passes(self, name, parameters, is_least):
+    def passes(self, name, parameters, is_least, too_long=False):
         """A call that passes its arguments to the function of its name: other addresses and long lengths; or null and
-        0, wherever that is allowed."""
+        0, wherever that is allowed. Leaves that are too long for the library have 0 bytes there."""
         values, arguments = {}, []
         of = name if name in self.library else name.replace("vulfsjor_", "vulfsjor_ffi_")
         if of not in self.library or of.endswith("_init") and "tree" not in of:
-            of = re.sub("_init.*", "_init_salt_personal", of)
+            of = re.sub("(_short)?_mac$", "", re.sub("_init.*", "_init_salt_personal", of))
         for i, (kind, word) in enumerate(parameters, 1):
             text = re.sub("len$", "", word)
             is_null = is_least and text in NULLS and not (NULLS[text] and re.search(NULLS[text] + "$", name))
@@ -105,10 +107,12 @@ class Calls:
                 value, argument = ("messages", "{}") if word == "messages" else ("state", "(void *){}")
             elif kind.endswith("*"):
                 value, argument = (ANY, "NULL") if is_null else (f"{i:x}00", "ADDRESS({})")
-            elif kind == "int ":  # a flag
-                value, argument = ("0", "0") if is_least else ("1", "-2")
-            elif kind == "uint32_t ":
-                value, argument = f"fffffff{i:x}", "(uint32_t)NUMBER({})"
+            elif kind == "int ":  # a flag, whose low bits are zeros
+                value, argument = ("0", "0") if is_least else ("1", "-65536")
+            elif word == "leaf_length" and too_long:
+                value, argument = "0", f"NUMBER({i:x}00000005)"
+            elif kind == "uint32_t " or word == "leaf_length":
+                value, argument = f"fffffff{i:x}", f"({kind})NUMBER({{}})"
             elif word == "count" or is_null:
                 value = "3" if word == "count" else "0"
             arguments.append(argument.format(value))
@@ -116,6 +120,8 @@ class Calls:
                 values[to] = value
         if name.endswith("_many") and name != of:  # the room is a product
             values["out_length"] = f"{3 * int(values['output_size'], 16) % 2**64:x}"
+        if name.endswith("_verify") and name != of:
+            self.code.append("memset(state, 16, sizeof state);")  # it has a key and a digest that is no short tag
         if name.endswith("_init_param") and name != of:
             values["block_length"] = "20" if "blake2s" in name else "40"
         self.call(f"{name}({', '.join(arguments)})", self.all[name][0],
@@ -134,19 +140,23 @@ class Calls:
         self.call(f"{name}({call})", "int", [first], (1,), 2)
 
     def libb2(self, name, most):
-        """The calls by a name of libb2, which work on a copy of the state and wipe it; and too long outputs."""
+        """The calls by a name of libb2, which work on its state, and of which final sets the flag that the state has;
+        and too long outputs."""
         of, size = f"vulfsjor_ffi_{name}_", f"{most:x}"
         pair, text = ["300", "400000004"], "ADDRESS(300), NUMBER(400000004)"
         self.code.append(f"static {name}_state {name}_run;")
         for call, arguments, passed in (
                 ("init", "NUMBER(200000002)", ["init_salt_personal", ANY, "200000002", *[ANY, "0"] * 3]),
                 ("init_key", f"NUMBER(200000002), {text}", ["init_key", ANY, "200000002", *pair]),
-                ("init_param", "ADDRESS(200)", ["init_param", ANY, "200", size]),
+                ("init_param", "(void *)state", ["init_param", ANY, "state", size]),
                 ("update", text, ["update", ANY, *pair]),
                 ("final", f"ADDRESS(300), {name}_run.outlen = {most}", ["final", ANY, "300", size])):
             if call != "init_param" or name[-1] != "p":
-                self.call(f"{name}_{call}(&{name}_run, {arguments})", "int",
-                          [[of + passed[0], *passed[1:]], [of + "wipe", ANY]])
+                self.call(f"{name}_{call}(&{name}_run, {arguments})", "int", [[of + passed[0], *passed[1:]]])
+        if name[-1] != "p":
+            self.code.append(f"{name}_run.outlen = {most}, {name}_run.last_node = 2;")
+            self.call(f"{name}_final(&{name}_run, ADDRESS(300), {most})", "int",
+                      [[of + "set_last_node", ANY, "1"], [of + "final", ANY, "300", size]], (0,))
         self.code.append(f"{name}_run.outlen = {most};")
         self.call(f"{name}_final(&{name}_run, ADDRESS(300), NUMBER(1000000{size}))", "int", [], returned=2**64 - 1)
         call = "((void *)state, ADDRESS(200), ADDRESS(300), NUMBER({}), NUMBER(500000005), NUMBER(600000006))"

@@ -36,6 +36,14 @@ keys_there() {
         "$tests/key_scan.c" "$2" -o "$work/key_scan" && "${emulator[@]}" "$work/key_scan"
 }
 
+# vulfsjor_build of a library: the line of MANIFEST for the file in C.
+says_build() {
+    printf '%s\n' '#include <stdio.h>' '#include <vulfsjor.h>' \
+        'int main(void) { return puts(vulfsjor_build()) < 0; }' >"$work/says_build.c" &&
+        "${compiler[@]}" "${words[@]}" "$work/says_build.c" "$1" -o "$work/says_build" &&
+        "${emulator[@]}" "$work/says_build" | diff <(grep '  c/vulfsjor[.]c$' "$dist/MANIFEST") -
+}
+
 # Both over the library that CMake makes for this type of build, with flags that ask for no optimization.
 wiped_by_cmake() {
     local build=$work/$processor-cmake$1 family
@@ -45,13 +53,14 @@ wiped_by_cmake() {
         cmake --build "$build" --target vulfsjor &&
         "$top/tests/portable_stack.py" "$source_file" "$(find "$build" -name 'vulfsjor*.su')" || return 1
     for family in $(some bp b s sp xb xs); do keys_there $family "$build/libvulfsjor.a" || return 1; done
+    says_build "$build/libvulfsjor.a"
 }
 
 # The same of the library of install.sh.
 wiped_by_install() {
     local folder=$work/$processor-wiped
     CC=${compiler[0]} CFLAGS=-O0 "$here/install.sh" --portable --from "$dist" "$folder" &&
-        keys_there bp "$folder/lib/libvulfsjor.a"
+        keys_there bp "$folder/lib/libvulfsjor.a" && says_build "$folder/lib/libvulfsjor.a"
 }
 
 # A test program of a hash of the conformance cases: NAME HASH
@@ -86,6 +95,8 @@ test_there() {
             $(family_words "$family") "$tests/edge_cases.c" --
         check "libb2.c, blake2$family, for $processor" run_there libb2 $(family_words "$family") \
             "-I$here/include/libb2" "$tests/libb2.c" -- # which copies states of libb2
+        check "reference.c, blake2$family, for $processor" run_there reference $(family_words "$family") \
+            "-I$here/include/reference" "$tests/reference.c" --
     done
     check "tree_parts.c, for $processor" run_there tree_parts "$tests/tree_parts.c" -- $turns
     check "the stack that is wiped, for $processor" stack_there

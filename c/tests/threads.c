@@ -129,11 +129,12 @@ static void refused_arguments(void) {
     static const struct {
         size_t outlen, saltlen, personallen;
         const void *salt, *personal;
-        uint32_t leaf;
+        uint64_t leaf;
         void *out;
     } rows[] = {{0, 0, 0, NULL, NULL, 4, root},   {65, 0, 0, NULL, NULL, 4, root}, {64, 17, 0, blank, NULL, 4, root},
                 {64, 1, 0, NULL, NULL, 4, root},  {64, 0, 1, NULL, NULL, 4, root}, {64, 0, 17, NULL, blank, 4, root},
-                {64, 0, 0, NULL, NULL, 0, root},  {64, 0, 0, NULL, NULL, 4, NULL}};
+                {64, 0, 0, NULL, NULL, 0, root},  {64, 0, 0, NULL, NULL, 4, NULL},
+                {64, 0, 0, NULL, NULL, ((uint64_t)1 << 32) + 4, root}};
     static const size_t lengths[] = {(size_t)1 << 58, ((size_t)1 << 58) - 6, SIZE_MAX, SIZE_MAX - 5};
     int ends[2], file;
 

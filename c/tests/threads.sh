@@ -5,9 +5,6 @@ source "$(dirname "$(readlink -f "$0")")/common.sh"
 # A number of random turns: of those of the full test a twelfth.
 turns() { [ -n "${VULFSJOR_TEST_HUGE-}" ] && echo "$1" || echo $(($1 / 12)); }
 
-# The seconds after which a program hangs, also with a sanitizer on a machine under load.
-limit=$([ -n "${VULFSJOR_TEST_HUGE-}" ] && echo 3600 || echo 600)
-
 # Compiles a program from these files and words.
 compile_threads() {
     local program=$1
@@ -26,22 +23,25 @@ parts_with() {
 # threads.c with these words, over the installed archive.
 threads_installed() {
     compile_threads "$work/threads" -O2 "$tests/threads.c" "$prefix/lib/libvulfsjor-threads.a" &&
-        timeout $limit "$work/threads" "$work/files" "$(turns 200)"
+        in_time "$work/threads" "$work/files" "$(turns 200)"
 }
 
 # threads.c with these words, where each few bytes have a thread of their own.
 threads_with() {
     compile_threads "$work/threads" -DLEAST_BYTES=1 "$@" "$tests/threads.c" "$here/threads.c" &&
-        timeout $limit "$work/threads" "$work/files" "$(turns 60)"
+        in_time "$work/threads" "$work/files" "$(turns 60)"
 }
 
 # thread_faults.c with these words, and as many threads as in the library or as the words say.
 faults_with() {
-    compile_threads "$work/faults" "$@" "$tests/thread_faults.c" && timeout $limit "$work/faults" "$work/files"
+    compile_threads "$work/faults" "$@" "$tests/thread_faults.c" && in_time "$work/faults" "$work/files"
 }
 
-# Both, with each number of threads.
-threads_and_faults() { threads_with "$@" && faults_with -DLEAST_BYTES=1 "$@" && faults_with "$@"; }
+# All functions of it, of which some need a thread for each few bytes, and the others the library's number.
+all_faults_with() { faults_with -DLEAST_BYTES=1 "$@" && faults_with "$@"; }
+
+# Both programs, with each number of threads.
+threads_and_faults() { threads_with "$@" && all_faults_with "$@"; }
 
 # The same by a function with a sanitizer, where memory that is not there is refused as without one.
 sanitized() {
@@ -151,7 +151,7 @@ test_threads() {
     fi
     check "tree_parts.c" parts_with "$(turns 20000)" -O2
     check "threads.c, with the installed library" threads_installed
-    check "thread_faults.c" faults_with -O2
+    check "thread_faults.c" all_faults_with -O2
     check_huge "threads.c and thread_faults.c" threads_and_faults -O2
     # What shows races looks at threads, and what shows wrong accesses at faults; in the full test both at both.
     for kind in thread address,undefined; do

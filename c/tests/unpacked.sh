@@ -46,7 +46,7 @@ is_relocatable() {
 }
 has_version() {
     local name
-    for name in b2.exe b2sum.exe libvulfsjor-0.dll; do
+    for name in b2.exe b2sum.exe libvulfsjor-1.dll; do
         x86_64-w64-mingw32-objcopy -O binary -j .rsrc "$folder/bin/$name" "$work/resource" &&
             tr -d '\0' <"$work/resource" | grep -aqF "FileVersion$(version)" || return 1
     done

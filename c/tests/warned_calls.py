@@ -14,7 +14,7 @@ import sys
 from passed_arguments import prototypes
 
 STATES = "blake2b", "blake2s", "blake2bp", "blake2sp", "blake2xb", "blake2xs", "tree"
-OTHERS = "text|bytes|is_half_key|are_refused|has_key|ffi_.*"
+OTHERS = "text|bytes|is_half_key|are_refused|ffi_.*"
 LENGTHS = {"a": "length", "b": "length", "bytes": "length", "messages": "count"}
 
 

@@ -51,12 +51,12 @@ cc() {
 # What is installed, and that all of it goes again.
 installs() {
     files_come_and_go "$prefix" windows &&
-        [ "$(cd "$prefix" && find . -perm 755 -type f)" = ./bin/libvulfsjor-0.dll ]
+        [ "$(cd "$prefix" && find . -perm 755 -type f)" = ./bin/libvulfsjor-1.dll ]
 }
 
 # The DLL has the functions of the header, and needs only what Windows has.
 dll_is_right() {
-    x86_64-w64-mingw32-objdump -p "$prefix/bin/libvulfsjor-0.dll" >"$work/dll" &&
+    x86_64-w64-mingw32-objdump -p "$prefix/bin/libvulfsjor-1.dll" >"$work/dll" &&
         sed -n 's/^\t\[ *[0-9]*\].* \(vulfsjor_[a-z0-9_]*\)$/\1/p' "$work/dll" | LC_ALL=C sort |
         diff - <(sed -n 's/^ *\(vulfsjor_.*\);$/\1/p' "$here/vulfsjor.map" | LC_ALL=C sort) &&
         ! grep 'DLL Name' "$work/dll" | grep -v 'KERNEL32\|msvcrt\|ucrt'
@@ -102,7 +102,9 @@ project_for_windows() {
 # byte.
 program_for_windows() {
     CC=$mingw "$top/b2" --build "$work/b2.exe" && write_script "$work/b2" &&
-        [ "$("$work/b2" --version)" = "b2 (Vulfsjor) $(version)" ] && diff <("$work/b2" --help) <("$top/b2" --help) &&
+        [ "$("$work/b2" --version | sed 1q)" = "b2 (Vulfsjor) $(version)" ] &&
+        "$work/b2" --version | sed 1d | grep -xFf - "$top/dist/MANIFEST" &&
+        diff <("$work/b2" --help) <("$top/b2" --help) &&
         python3 "$top/tests/compare_b2_model.py" --program "$work/b2" --unicode --cases "$1" &&
         printf 'a\r\n\032\r\r\n\0b' >"$work/binary" &&
         [ "$("$work/b2" sum b512 <"$work/binary")" = "$(b2sum <"$work/binary" | cut -c-128)" ]

@@ -27,7 +27,6 @@ bool lines(blake2b &h, const config &given, config &open, char parameter[32], co
     std::size_t length = 0;
 
     /* ---- a buffer of char, which does not say how much of it is in use */
-    all = h.update(buffer) && all; // NO: deleted
     all = h.update(open.key) && all; // NO: deleted
     all = h.update(load().key) && all; // NO: deleted
     all = h.update(std::move(buffer)) && all; // NO: deleted
@@ -40,9 +39,7 @@ bool lines(blake2b &h, const config &given, config &open, char parameter[32], co
     p.key = given.key; // NO(consteval): constant expression
     p.salt = buffer; // NO: deleted
     p.personal = buffer; // NO: deleted
-    const bytes view(buffer); // NO: deleted
-    const bytes dangling(load_key()); // NO(clang): dangling
-    const bytes text = std::string("x") + string; // NO(clang): dangling
+    const bytes of_char(buffer); // NO: deleted
     const parameters of_buffer{16, open.key, "", "", {}}; // NO: deleted
     all = !blake2b::hash(buffer).empty() && all; // NO: deleted
     all = !blake2b::hash("", {16, buffer, "", "", {}}).empty() && all; // NO: deleted
@@ -56,7 +53,6 @@ bool lines(blake2b &h, const config &given, config &open, char parameter[32], co
     all = h.update(all ? "a\0b" : "cd") && all; // NO: deleted
     all = h.verify(string) && all; // NO: deleted
     p.key = parameter; // NO: deleted
-    p.key = string; // NO: deleted
     p.key = +given.key; // NO: deleted
     p.salt = string; // NO: deleted
     p.personal = parameter; // NO: deleted
@@ -64,12 +60,40 @@ bool lines(blake2b &h, const config &given, config &open, char parameter[32], co
     const parameters of_pointer{16, string, "", "", {}}; // NO: deleted
     all = !blake2b::hash(string).empty() && all; // NO: deleted
 
+    /* ---- a view of what ends before it could be used */
+    bytes view(read);
+    view = load_key(); // NO: name it
+    view = std::string("x") + string; // NO: name it
+    view = load().secret; // NO: name it
+    view = std::array<unsigned char, 4>{}; // NO: name it
+    const bytes dangling(load_key()); // NO: name it
+    const bytes text = std::string("x") + string; // NO: name it
+    const bytes &reference = std::string("x"); // NO: name it
+    p.key = bytes(load_key()); // NO: name it
+    std::vector<bytes> views{read, body, load_key()}; // NO: .
+    views.push_back(load_key()); // NO: name it
+
+    /* ---- a digest of another length */
+    all = h.digest<0>().empty() && all; // NO: max_digest_length
+    all = vulfsjor::blake2s().digest<64>().empty() && all; // NO: max_digest_length
+    all = h.digest<32>() && all; // NO: .
+    all = *h.digest<32>() && all; // NO: .
+
+    /* ---- an object, for what it holds */
+    vulfsjor::blake2xb output;
+    vulfsjor::tree_hasher tree(vulfsjor::tree_parameters{4096, {}, {}, {}});
+    all = h.update(&string, sizeof string) && all; // NO: not the object
+    all = h.update({&body, sizeof body}) && all; // NO: not the object
+    all = output.update(&views, 8) && all; // NO: not the object
+    all = output.read_to(&read, 8) && all; // NO: not the object
+    all = tree.update(&h, sizeof h) && all; // NO: not the object
+    all = tree.digest_to(&read, 64) && all; // NO: not the object
+    p.key = {&body, 32}; // NO: not the object
+    p.key = bytes(&body, 32); // NO: not the object
+
     /* ---- what is no bytes */
     all = h.update(nullptr) && all; // NO: deleted
-    all = h.update(7) && all; // NO: .
-    p.key = nullptr; // NO: .
     p.key = &raw[0]; // NO: .
-    p.key = std::vector<int>(8); // NO: .
     p.key = std::optional<std::string>("key"); // NO: .
     p.key = std::wstring(L"key"); // NO: .
     p.salt = p.key; // NO: .
@@ -79,14 +103,10 @@ bool lines(blake2b &h, const config &given, config &open, char parameter[32], co
     all = h.update(L"abc") && all; // NO: .
     all = h.update(std::vector<bool>(8)) && all; // NO: .
     all = h.update(false) && all; // NO: .
-    p.key = 32; // NO: .
 
     /* ---- results that are dropped */
-    h.update("x"); // NO: (nodiscard|unused-result)
     h.update(raw, 3); // NO: (nodiscard|unused-result)
-    h.verify(raw); // NO: (nodiscard|unused-result)
     h.digest_to(raw, 32); // NO: (nodiscard|unused-result)
-    h.digest(); // NO: (nodiscard|unused-result)
     h.digest<32>(); // NO: (nodiscard|unused-result)
     h.count(); // NO: (nodiscard|unused-result)
     h.digest_length(); // NO: (nodiscard|unused-result)
@@ -100,12 +120,12 @@ bool lines(blake2b &h, const config &given, config &open, char parameter[32], co
     h = blake2bp(); // NO: .
     h = blake2b(32); // NO: .
     h = blake2b({"key", 32}); // NO: .
-    all = h == h && all; // NO: .
 
     /* ---- right */
     all = h.update("ab\0cd") && h.update(u8"abc") && h.update(std::string_view(string)) && all;
     all = h.update(parameter, length) && h.update(body) && h.update(read) && all;
     all = h.update(buffer, length) && h.update(bytes(buffer, length)) && h.update({buffer, length}) && all;
+    all = h.update(&open, sizeof open) && h.update(nullptr, 0) && h.update(static_cast<void *>(raw), 3) && all;
     all = h.update(raw) && h.update(given.secret) && h.update(load().secret) && h.update(load_key()) && all;
     all = h.update(std::string_view(buffer, length)) && h.update(std::array<char, 4>{}) && all;
     all = h.verify(h.digest()) && h.digest_to(raw, sizeof raw) && all;
@@ -130,7 +150,15 @@ bool lines(blake2b &h, const config &given, config &open, char parameter[32], co
     const parameters s{.digest_length = 16}, t{.key = "key", .personal = load_key()}, u{.salt = raw};
     all = h.update(std::span(raw)) && blake2b::create(s) && blake2b::create(t) && blake2b::create(u) && all;
 #endif
-    all = view.size() && dangling.size() && text.size() && to_zero.size() && all;
+    view = read;
+    view = body;
+    view = "a text";
+    view = std::string_view(body);
+    view = {buffer, length};
+    views = {read, body, "a text", std::string_view(body), view};
+    for (bytes each : views) all = h.update(each) && all;
+    all = h.digest<16>() == h.digest<16>() && h.verify(h.digest<16>()) && all;
+    all = view.size() && dangling.size() && text.size() && to_zero.size() && of_char.size() && reference.size() && all;
     all = blake2b::create(of_buffer) && blake2b::create(of_pointer) && all;
     return all && blake2b::create(q) && blake2b::create(r) && blake2b::create({20, raw}) &&
            blake2b::hash("abc", {32, "key"}).size() == 32;

@@ -45,8 +45,9 @@ def main():
     macros = subprocess.run([*compiler, *options, "-dM", "-E", path], capture_output=True, text=True,
                             check=False).stdout
     about = findings(compiler, options, path)
-    print(about.pop(0, ""))
-    wrong = marked = 0
+    others = about.pop(0, "")  # of headers, where a warning may be of a line that is refused
+    print(others)
+    wrong, marked = int(": error: " in others), 0
     with open(path, encoding="utf-8") as file:
         for number, text in enumerate(file, 1):
             mark = re.search(r"; // NO(?:\((\w+)\))?: (.*)", text)
