@@ -18,7 +18,7 @@ short=(--lib --test bindings --test conformance)
 # On processors that are emulated, and of builds that this one would not choose, a part of the conformance cases.
 some_cases=$([ -n "${VULFSJOR_TEST_HUGE-}" ] || echo VULFSJOR_SHARE=6)
 
-cargo_here() { cargo "$1" --manifest-path "$top/Cargo.toml" "${@:2}"; }
+cargo_here() { in_time cargo "$1" --manifest-path "$top/Cargo.toml" "${@:2}"; }
 
 # A crate of another folder with Debian's crates, from a copy, since cargo writes a lock file there.
 debian=/usr/share/cargo/registry
@@ -27,16 +27,17 @@ cargo_debian() {
         mkdir "$work/copy" &&
             cp -r "$top"/{Cargo.toml,rust,rust-digest,dist,tests,tools} "$work/copy/"
     fi
-    cargo "$2" --manifest-path "$work/copy/$1/Cargo.toml" \
+    in_time cargo "$2" --manifest-path "$work/copy/$1/Cargo.toml" \
         --config 'source.crates-io.replace-with="debian"' \
         --config "source.debian.directory=\"$debian\"" "${@:3}"
 }
 
 # Checks NAME by COMMAND if Debian has installed these crates: NAME CRATE=VERSION.. -- COMMAND..
 check_debian() {
-    local name=$1 absent=
+    local name=$1 absent= crate
     while shift && [ "$1" != -- ]; do
-        ls -d "$debian/${1%=*}-${1#*=}".* >/dev/null 2>&1 || absent+=" librust-${1%=*}-dev"
+        crate=${1%=*}
+        ls -d "$debian/$crate-${1#*=}".* >/dev/null 2>&1 || absent+=" librust-${crate//_/-}-dev"
     done
     if [ -n "$absent" ]; then skip "$name" "not installed:$absent"; else "${checking-check}" "$name" "${@:2}"; fi
 }
@@ -51,6 +52,12 @@ refused_lines() {
             diff <(sed -n "s/^src.*$name.rs:\([0-9]*\):.* error.*/\1/p" "$work/said" | sort -un) \
                 <(grep -n '// refused$' "$program" | cut -d: -f1) || return
     done
+}
+
+# The wrong uses of tests/misuse, with the crate as the tests before have built it.
+misuses() {
+    local crates=("$CARGO_TARGET_DIR"/debug/deps/libvulfsjor-*.rlib)
+    python3 "$top/tests/misuse/run.py" rust rustc --edition=2021 --extern "vulfsjor=${crates[0]}" --
 }
 
 # The digests of a build that this processor would not choose by itself.
@@ -97,6 +104,17 @@ for hash in (blake2b(b"hello world"), blake2s(b"hello world"), ten, blake2s(blak
     print(hash.hexdigest())' | diff - "$work/printed"
 }
 
+# The tests that the crate digest makes by its macros, of which none passes if the digests in their cases are wrong.
+# There is no BLAKE2 but ours.
+macros_of_digest() {
+    local macros=rust-digest/tests/macros
+    cargo_debian $macros generate-lockfile && ! grep -E 'name = "blake' "$work/copy/$macros/Cargo.lock" &&
+        "$top/$macros/write_data.py" "$work/copy/$macros" && cargo_debian $macros test >"$work/said" &&
+        grep 'result: ok. 23 passed; 0 failed' "$work/said" &&
+        "$top/$macros/write_data.py" "$work/copy/$macros" wrong && ! cargo_debian $macros test >"$work/said" &&
+        grep 'result: FAILED. 0 passed; 23 failed' "$work/said"
+}
+
 for tool in cargo cc python3; do
     has $tool || { skip "the crates for Rust" "no $tool"; finish; }
 done
@@ -105,6 +123,7 @@ check_huge "the examples in the documentation of vulfsjor" cargo_here test --doc
 check_huge "the crate vulfsjor in a shared library of Rust" cargo_here test --test programs -- --ignored shared_library
 check_huge "the crate vulfsjor, optimized" cargo_here test --release "${short[@]}"
 check "wrong uses do not compile" refused_lines rust/tests/wrong_uses
+check "wrong uses in Rust" misuses
 check "the crate vulfsjor without std" cargo_here test --no-default-features --lib # the other files need std
 # Optimizing takes longer than the few tests without VULFSJOR_TEST_HUGE save by it.
 CARGO_PROFILE_DEV_OPT_LEVEL=$([ -n "${VULFSJOR_TEST_HUGE-}" ] && echo 1 || echo 0) \
@@ -142,6 +161,7 @@ check_debian_huge "the examples in the documentation of vulfsjor-digest" "${dige
 check_debian_huge "vulfsjor-digest without std" "${digest[@]}" -- cargo_debian rust-digest check --no-default-features
 serde=("${digest[@]}" serde_derive=1 serde_json=1 bincode=1)
 check_debian "vulfsjor-digest under the name blake2" "${serde[@]}" -- renamed_program
+check_debian "the tests of digest's macros" "${digest[@]}" blobby=0.3 -- macros_of_digest
 check_debian_huge "digests by serde" "${serde[@]}" -- cargo_debian rust-digest/tests/renamed test
 check_debian_huge "the program rust/examples/rayon" rayon=1 -- rayon_example
 finish

@@ -28,9 +28,11 @@
 #[cfg(feature = "std")]
 extern crate std;
 
+mod core_api;
 #[cfg(feature = "serde")]
 pub mod serde;
 
+pub use core_api::{Blake2bCore, Blake2bVarCore, Blake2sCore, Blake2sVarCore};
 pub use digest::{self, Digest};
 
 use core::fmt;
@@ -130,6 +132,7 @@ macro_rules! family {
             ) -> Result<Self, InvalidLength> {
                 let params = Params::new().output_size(N::USIZE).key(key);
                 let params = params.salt(salt).persona(persona);
+                let params = params.allow_short(true); // the type names the length
                 let made = vulfsjor::$mac::with_params(&params);
                 made.map(|mac| $mac(mac, PhantomData)).map_err(|_| InvalidLength)
             }

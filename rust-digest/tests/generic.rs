@@ -163,3 +163,53 @@ fn no_output_past_the_end() {
     let hasher = Blake2xb::with_params(&vulfsjor::Params::new().output_size(9)).unwrap();
     hasher.finalize_xof().read(&mut [0; 10]);
 }
+
+// The cores, which digest's macros test as hash functions, by their own functions.
+mod cores {
+    use super::*;
+    use digest::core_api::{Buffer, UpdateCore, VariableOutputCore};
+    use digest::Reset;
+
+    macro_rules! core {
+        ($test:ident, $core:ident, $hasher:ident, $build:ident, $salt:literal, $max:literal) => {
+            #[test]
+            fn $test() {
+                let (salt, persona) = (&[3; $salt][..], &[5; $salt][..]);
+                for size in [1, 20, $max] {
+                    let mut params = vulfsjor::Params::new();
+                    params = params.salt(salt).persona(persona).output_size(size);
+                    let wanted = params.$build().unwrap().update(&[7; 300]).finalize();
+                    let mut core = $core::new_with_params(salt, persona, 0, size);
+                    for _ in 0..2 {
+                        let (mut buffer, mut out) = (Buffer::<$core>::default(), Output::<$core>::default());
+                        buffer.digest_blocks(&[7; 300], |blocks| core.update_blocks(blocks));
+                        core.finalize_variable_core(&mut buffer, &mut out);
+                        assert_eq!(&out[..size], wanted.as_bytes());
+                        assert!(out[size..].iter().all(|&byte| byte == 0));
+                        core.update_blocks(&[Default::default()]);
+                        core.reset();
+                    }
+                }
+                assert!($core::new(0).is_err() && $core::new($max + 1).is_err());
+                assert_eq!(($core::block_size(), $core::output_size()), (2 * $max, $max));
+                assert_eq!(name_of::<$core>(), stringify!($hasher));
+                let text = concat!(stringify!($core), " { .. }");
+                assert_eq!(format!("{:?}", $core::new_with_params(b"", b"", 0, 1)), text);
+            }
+        };
+    }
+
+    core!(of_blake2b, Blake2bVarCore, Blake2b, blake2b, 16, 64);
+    core!(of_blake2s, Blake2sVarCore, Blake2s, blake2s, 8, 32);
+
+    #[test]
+    fn panic_for_lengths_out_of_range_and_for_keys() {
+        let lengths = [(17, 0, 0, 1), (0, 17, 0, 1), (0, 0, 1, 1), (0, 0, 0, 65), (0, 0, 0, 0)];
+        for (salt, persona, key_size, output_size) in lengths {
+            let made = std::panic::catch_unwind(|| {
+                Blake2bVarCore::new_with_params(&[0; 17][..salt], &[0; 17][..persona], key_size, output_size)
+            });
+            assert!(made.is_err(), "{salt} {persona} {key_size} {output_size}");
+        }
+    }
+}

@@ -43,10 +43,20 @@ impl Digest {
     }
 
     /// Returns the bytes.
+    #[doc(alias = "to_vec")]
+    #[doc(alias = "as_slice")]
     #[must_use]
     #[inline]
     pub fn as_bytes(&self) -> &[u8] {
         &self.bytes[..self.size]
+    }
+
+    /// Returns the number of bytes, 1 to 64.
+    #[allow(clippy::len_without_is_empty)] // none is empty
+    #[must_use]
+    #[inline]
+    pub fn len(&self) -> usize {
+        self.size
     }
 
     /// Returns the digest with these hexadecimal digits, two for each byte, in lower or upper case.

@@ -32,6 +32,7 @@ macro_rules! family {
             }
 
             #[doc = concat!("Returns the digest of a message, in ", stringify!($max), " bytes.")]
+            #[doc(alias = "hash")]
             pub fn digest(message: impl AsRef<[u8]>) -> Digest {
                 Self::one_call(message.as_ref(), b"").expect("no key, and no input of 2^64 bytes")
             }
@@ -173,11 +174,12 @@ macro_rules! family {
             ///
             /// # Errors
             ///
-            /// [`InvalidArgument`] exactly if there is no key, or a hasher with these parameters
-            /// is refused.
+            /// [`InvalidArgument`] exactly if there is no key, the tag has fewer than 16 bytes
+            /// without [`allow_short`](Params::allow_short), or a hasher with these parameters is
+            /// refused.
             #[inline]
             pub fn with_params(params: &Params<'_>) -> Result<Self, InvalidArgument> {
-                check_range("key.len()", params.key_or_none().len() as u64, 1, $max)?;
+                params.check_mac($max)?;
                 $hasher::with_params(params).map($mac)
             }
 
@@ -222,6 +224,7 @@ macro_rules! family {
             /// # Errors
             ///
             /// [`MacError`] for any other tag.
+            #[doc(alias = "verify_slice")]
             #[inline]
             pub fn verify(&self, tag: &[u8]) -> Result<(), MacError> {
                 let mut copy = $hasher { state: $state::ZEROS };
@@ -328,6 +331,7 @@ macro_rules! sequential {
             /// set another size than `N` (they need not set one), tree parameters or the last-node
             /// flag, or there are more or fewer digests than messages. No digest is then written.
             /// The error's `output_size` is `N` if the parameters set none.
+            #[doc(alias = "hash_many")]
             pub fn digest_many<const N: usize>(
                 params: &Params<'_>,
                 messages: &[impl AsRef<[u8]>],

@@ -137,6 +137,8 @@
 //! passwords. In this crate:
 //!
 //! - Compare tags with `verify` of a MAC or with `==` of a [`Digest`]. Both compare all bytes.
+//! - Make tags by [`Blake2bMac`] and its like: `std::mem::take` of a [`Blake2b`] with a key leaves
+//!   one without.
 //! - A hasher is wiped when it is dropped, and its `Debug` shows no byte of it. Calls that accept a
 //!   key or compress its block overwrite their part of the stack. If a value is moved, the bytes at
 //!   its old address are not wiped.
@@ -270,3 +272,16 @@ pub use params::{Params, Tree};
 pub use tree::TreeHasher;
 pub use tree_params::TreeParams;
 pub use xof::{Blake2xb, Blake2xbReader, Blake2xs, Blake2xsReader};
+
+/// The code that runs on this processor: the line of `dist/MANIFEST` for it, which is the SHA-256 of
+/// a file of `dist/` in hexadecimal, two spaces, and its name, such as `x86_64/vulfsjor-v3.s`.
+///
+/// # Panics
+///
+/// On an x86-64 processor below x86-64-v2.
+#[must_use]
+pub fn build() -> &'static str {
+    let name = library::text_name();
+    let mut lines = include_str!("../../dist/MANIFEST").lines();
+    lines.find(|line| line.split("  ").nth(1) == Some(name)).unwrap_or_default()
+}

@@ -17,6 +17,16 @@ with_assembly! {
             ask();
         }
     }
+
+    // The text that runs, by its name in `dist/`.
+    pub(crate) fn text_name() -> &'static str {
+        need_a_build();
+        #[cfg(target_arch = "x86_64")]
+        return ["x86_64/vulfsjor-v2.s", "x86_64/vulfsjor-v3.s", "x86_64/vulfsjor-v4.s"]
+            [usize::from(level()) - 2];
+        #[cfg(target_arch = "aarch64")]
+        return "aarch64/vulfsjor.s";
+    }
 }
 without_assembly! {
     #[path = "../../dist/rust/vulfsjor.rs"]
@@ -24,6 +34,10 @@ without_assembly! {
 
     // Every processor can run it.
     pub(crate) fn need_a_build() {}
+
+    pub(crate) fn text_name() -> &'static str {
+        "rust/vulfsjor.rs"
+    }
 }
 
 // A state of this many words, which only the library reads and writes. All functions below accept
@@ -40,13 +54,13 @@ macro_rules! state {
     };
 }
 
-state!(Blake2bState, 53);
-state!(Blake2sState, 29);
+state!(Blake2bState, 43);
+state!(Blake2sState, 22);
 state!(Blake2bpState, 204);
 state!(Blake2spState, 200);
-state!(Blake2xbState, 68);
-state!(Blake2xsState, 38);
-state!(TreeState, 114);
+state!(Blake2xbState, 58);
+state!(Blake2xsState, 31);
+state!(TreeState, 94);
 
 // One of several messages: `vulfsjor_message` of the header.
 #[repr(C)]

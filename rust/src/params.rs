@@ -1,7 +1,13 @@
 use core::fmt;
 
 use crate::error::{check_equal, check_range};
-use crate::{Blake2b, Blake2bp, Blake2s, Blake2sp, Blake2xb, Blake2xs, Digest, InvalidArgument};
+use crate::{
+    Blake2b, Blake2bMac, Blake2bp, Blake2bpMac, Blake2s, Blake2sMac, Blake2sp, Blake2spMac, Blake2xb,
+    Blake2xs, Digest, InvalidArgument,
+};
+
+// The bytes of the shortest tag of a MAC, unless `allow_short` is set.
+const LEAST_TAG: u64 = 16;
 
 // The largest lengths of a family, in bytes, and its last node offset.
 pub(crate) struct FamilyLimits {
@@ -82,6 +88,7 @@ pub struct Params<'a> {
     pub(crate) persona: &'a [u8],
     pub(crate) tree: Tree,
     pub(crate) last_node: bool,
+    pub(crate) allow_short: bool,
 }
 
 impl<'a> Params<'a> {
@@ -95,11 +102,16 @@ impl<'a> Params<'a> {
             persona: b"",
             tree: Tree::SEQUENTIAL,
             last_node: false,
+            allow_short: false,
         }
     }
 
     /// Sets the number of bytes in the digest: 1 to 64 for BLAKE2b, 1 to 32 for BLAKE2s. The limits
     /// of BLAKE2bp and BLAKE2sp are here and below those of BLAKE2b and BLAKE2s.
+    #[doc(alias = "hash_length")]
+    #[doc(alias = "digest_length")]
+    #[doc(alias = "digest_size")]
+    #[doc(alias = "out_len")]
     #[inline]
     pub fn output_size(self, bytes: usize) -> Self {
         Params {
@@ -128,12 +140,21 @@ impl<'a> Params<'a> {
 
     /// Sets the persona: up to 16 bytes for BLAKE2b, up to 8 for BLAKE2s. Trailing zeros change
     /// nothing. Use a different persona for each purpose.
+    #[doc(alias = "personal")]
+    #[doc(alias = "personalization")]
+    #[doc(alias = "person")]
     #[inline]
     pub fn persona(self, persona: &'a [u8]) -> Self {
         Params { persona, ..self }
     }
 
     /// Sets the tree parameters, within the limits that [`Tree`] states.
+    #[doc(alias = "fanout")]
+    #[doc(alias = "max_depth")]
+    #[doc(alias = "node_offset")]
+    #[doc(alias = "max_leaf_length")]
+    #[doc(alias = "inner_hash_length")]
+    #[doc(alias = "node_depth")]
     #[inline]
     pub fn tree(self, tree: Tree) -> Self {
         Params { tree, ..self }
@@ -146,10 +167,30 @@ impl<'a> Params<'a> {
         Params { last_node, ..self }
     }
 
+    /// Sets whether a MAC may have tags of fewer than 16 bytes, which it refuses otherwise. Anybody
+    /// makes a tag of `n` bytes in at most 256^n tries. So never pass the length of a tag that came.
+    /// Hashers do not look at this.
+    ///
+    /// ```
+    /// use vulfsjor::Params;
+    ///
+    /// let params = Params::new().key(&[7; 32]).output_size(8);
+    /// let error = params.blake2b_mac().unwrap_err();
+    /// assert_eq!(error.to_string(), "output_size is 8, and must be 16 to 64");
+    /// assert!(params.allow_short(true).blake2b_mac().is_ok());
+    /// ```
+    #[inline]
+    pub fn allow_short(self, allow_short: bool) -> Self {
+        Params {
+            allow_short,
+            ..self
+        }
+    }
+
     /// Returns a BLAKE2b hasher with these parameters.
     ///
-    /// With a key its digests are tags. [`Blake2bMac::with_params`](crate::Blake2bMac::with_params)
-    /// returns a MAC, which also compares them by `verify`.
+    /// With a key its digests are tags. [`blake2b_mac`](Self::blake2b_mac) returns a MAC, which also
+    /// compares them by `verify`.
     ///
     /// # Errors
     ///
@@ -157,6 +198,16 @@ impl<'a> Params<'a> {
     #[inline]
     pub fn blake2b(&self) -> Result<Blake2b, InvalidArgument> {
         Blake2b::with_params(self)
+    }
+
+    /// Returns a BLAKE2b MAC with these parameters, which include the key.
+    ///
+    /// # Errors
+    ///
+    /// [`InvalidArgument`] exactly if [`Blake2bMac::with_params`] refuses them.
+    #[inline]
+    pub fn blake2b_mac(&self) -> Result<Blake2bMac, InvalidArgument> {
+        Blake2bMac::with_params(self)
     }
 
     /// Returns the BLAKE2b digest of a message under these parameters.
@@ -178,8 +229,8 @@ impl<'a> Params<'a> {
 
     /// Returns a BLAKE2s hasher with these parameters.
     ///
-    /// With a key its digests are tags. [`Blake2sMac::with_params`](crate::Blake2sMac::with_params)
-    /// returns a MAC, which also compares them by `verify`.
+    /// With a key its digests are tags. [`blake2s_mac`](Self::blake2s_mac) returns a MAC, which also
+    /// compares them by `verify`.
     ///
     /// # Errors
     ///
@@ -187,6 +238,16 @@ impl<'a> Params<'a> {
     #[inline]
     pub fn blake2s(&self) -> Result<Blake2s, InvalidArgument> {
         Blake2s::with_params(self)
+    }
+
+    /// Returns a BLAKE2s MAC with these parameters, which include the key.
+    ///
+    /// # Errors
+    ///
+    /// [`InvalidArgument`] exactly if [`Blake2sMac::with_params`] refuses them.
+    #[inline]
+    pub fn blake2s_mac(&self) -> Result<Blake2sMac, InvalidArgument> {
+        Blake2sMac::with_params(self)
     }
 
     /// Returns the BLAKE2s digest of a message under these parameters.
@@ -208,8 +269,8 @@ impl<'a> Params<'a> {
 
     /// Returns a BLAKE2bp hasher with these parameters.
     ///
-    /// With a key its digests are tags. [`Blake2bpMac::with_params`](crate::Blake2bpMac::with_params)
-    /// returns a MAC, which also compares them by `verify`.
+    /// With a key its digests are tags. [`blake2bp_mac`](Self::blake2bp_mac) returns a MAC, which also
+    /// compares them by `verify`.
     ///
     /// # Errors
     ///
@@ -218,6 +279,16 @@ impl<'a> Params<'a> {
     #[inline]
     pub fn blake2bp(&self) -> Result<Blake2bp, InvalidArgument> {
         Blake2bp::with_params(self)
+    }
+
+    /// Returns a BLAKE2bp MAC with these parameters, which include the key.
+    ///
+    /// # Errors
+    ///
+    /// [`InvalidArgument`] exactly if [`Blake2bpMac::with_params`] refuses them.
+    #[inline]
+    pub fn blake2bp_mac(&self) -> Result<Blake2bpMac, InvalidArgument> {
+        Blake2bpMac::with_params(self)
     }
 
     /// Returns the BLAKE2bp digest of a message under these parameters.
@@ -240,8 +311,8 @@ impl<'a> Params<'a> {
 
     /// Returns a BLAKE2sp hasher with these parameters.
     ///
-    /// With a key its digests are tags. [`Blake2spMac::with_params`](crate::Blake2spMac::with_params)
-    /// returns a MAC, which also compares them by `verify`.
+    /// With a key its digests are tags. [`blake2sp_mac`](Self::blake2sp_mac) returns a MAC, which also
+    /// compares them by `verify`.
     ///
     /// # Errors
     ///
@@ -250,6 +321,16 @@ impl<'a> Params<'a> {
     #[inline]
     pub fn blake2sp(&self) -> Result<Blake2sp, InvalidArgument> {
         Blake2sp::with_params(self)
+    }
+
+    /// Returns a BLAKE2sp MAC with these parameters, which include the key.
+    ///
+    /// # Errors
+    ///
+    /// [`InvalidArgument`] exactly if [`Blake2spMac::with_params`] refuses them.
+    #[inline]
+    pub fn blake2sp_mac(&self) -> Result<Blake2spMac, InvalidArgument> {
+        Blake2spMac::with_params(self)
     }
 
     /// Returns the BLAKE2sp digest of a message under these parameters.
@@ -304,6 +385,16 @@ impl<'a> Params<'a> {
     pub(crate) fn check_key(&self, max: u64) -> Result<(), InvalidArgument> {
         self.key.map_or(Ok(()), |key| {
             check_range("key.len()", key.len() as u64, 1, max)
+        })
+    }
+
+    // An error unless a MAC of a family with keys and tags of up to `max` bytes accepts the key and
+    // the length of the tag.
+    pub(crate) fn check_mac(&self, max: u64) -> Result<(), InvalidArgument> {
+        check_range("key.len()", self.key_or_none().len() as u64, 1, max)?;
+        let least = if self.allow_short { 1 } else { LEAST_TAG };
+        self.output_size.map_or(Ok(()), |size| {
+            check_range("output_size", size as u64, least, max)
         })
     }
 
@@ -367,6 +458,7 @@ impl fmt::Debug for Params<'_> {
             .field("persona", &self.persona)
             .field("tree", &self.tree)
             .field("last_node", &self.last_node)
+            .field("allow_short", &self.allow_short)
             .finish()
     }
 }

@@ -41,17 +41,19 @@ fn layouts_are_those_of_the_library() {
 // What a hasher returns, and what it panics with if no call has made its state.
 macro_rules! family {
     (
-        $test:ident, $hasher:ident, $state:ident, $counter:literal, $leaves:literal, $end:literal, $key:literal,
-        $result:ident, $($call:ident($($on:literal)?)),*
+        $test:ident, $hasher:ident, $state:ident, $counter:literal, $pending:literal, $leaves:literal, $end:literal,
+        $key:literal, $result:ident, $($call:ident($($on:literal)?)),*
     ) => {
         mod $test {
             use super::*;
 
             // A hasher that has compressed this number of bytes less than 2^64, a multiple of its leaves.
-            // c/include/vulfsjor.h names the word of a leaf's counter, and the next, the number of pending bytes.
+            // c/include/vulfsjor.h names the word of a leaf's counter, and the next, whose first $pending bits are the
+            // number of pending bytes.
             fn near_the_end(mut hasher: $hasher, bytes: u64) -> $hasher {
                 hasher.state.0[$counter] = (0u64.wrapping_sub(bytes) / $leaves).to_le();
-                hasher.state.0[$counter + 1] = 0;
+                let others = !0u64 << ($pending - 1) << 1;
+                hasher.state.0[$counter + 1] &= others.to_le();
                 hasher
             }
 
@@ -105,14 +107,14 @@ macro_rules! output {
     }};
 }
 
-family!(blake2b, Blake2b, Blake2bState, 16, 1, 256, 128, digest,
+family!(blake2b, Blake2b, Blake2bState, 16, 32, 1, 256, 128, digest,
     finalize(), finalize_reset(), reset(), set_last_node(true));
-family!(blake2s, Blake2s, Blake2sState, 8, 1, 128, 64, digest,
+family!(blake2s, Blake2s, Blake2sState, 8, 16, 1, 128, 64, digest,
     finalize(), finalize_reset(), reset(), set_last_node(true));
-family!(blake2bp, Blake2bp, Blake2bpState, 32, 4, 2048, 512, digest, finalize(), finalize_reset(), reset());
-family!(blake2sp, Blake2sp, Blake2spState, 32, 8, 2048, 512, digest, finalize(), finalize_reset(), reset());
-family!(blake2xb, Blake2xb, Blake2xbState, 16, 1, 256, 128, output, reset());
-family!(blake2xs, Blake2xs, Blake2xsState, 8, 1, 128, 64, output, reset());
+family!(blake2bp, Blake2bp, Blake2bpState, 32, 64, 4, 2048, 512, digest, finalize(), finalize_reset(), reset());
+family!(blake2sp, Blake2sp, Blake2spState, 32, 64, 8, 2048, 512, digest, finalize(), finalize_reset(), reset());
+family!(blake2xb, Blake2xb, Blake2xbState, 16, 32, 1, 256, 128, output, reset());
+family!(blake2xs, Blake2xs, Blake2xsState, 8, 16, 1, 128, 64, output, reset());
 
 #[test]
 fn a_tree_that_no_init_has_made_is_refused() {
@@ -130,8 +132,8 @@ fn a_tree_that_no_init_has_made_is_refused() {
 // bytes, and one byte more, which is in the open leaf. The words are those of `closed` and of the
 // root's counter in c/include/vulfsjor.h.
 fn tree_near_the_end(leaves: u64) -> TreeHasher {
-    const CLOSED: usize = 2 * 53;
-    const ROOT_COUNTER: usize = 53 + 16;
+    const CLOSED: usize = 2 * 43;
+    const ROOT_COUNTER: usize = 43 + 16;
     let mut hasher = TreeParams::new(1 << 10).hasher().unwrap();
     hasher.update([7; 1 << 10]).update([7; 1]);
     let closed = u64::from_le(hasher.state.0[CLOSED]);

@@ -132,10 +132,10 @@ family!(blake2s, Blake2s, Blake2sMac, blake2s, 32, 8);
 
 #[test]
 fn no_text_shows_a_key() {
-    let params = Params::new().key(b"secret").salt(b"salt").output_size(9).last_node(true);
+    let params = Params::new().key(b"secret").salt(b"salt").output_size(9).last_node(true).allow_short(true);
     let shown = "Params { output_size: Some(9), key_length: Some(6), salt: [115, 97, 108, 116], persona: [], \
                  tree: Tree { fanout: 1, depth: 1, leaf_length: 0, node_offset: 0, node_depth: 0, inner_length: 0 }, \
-                 last_node: true }";
+                 last_node: true, allow_short: true }";
     assert_eq!(format!("{params:?}"), shown);
     let hashers = (params.blake2b().unwrap(), params.blake2s().unwrap());
     let macs = (Blake2bMac::with_params(&params).unwrap(), Blake2sMac::with_params(&params).unwrap());
@@ -223,6 +223,48 @@ fn families_without_nodes() {
     }
 }
 
+macro_rules! short_tags {
+    ($test:ident, $mac:ident, $make:ident, $make_mac:ident, $max:literal) => {
+        // A MAC has at least 16 bytes, unless the caller says otherwise. A hasher has any length.
+        #[test]
+        fn $test() {
+            let keyed = Params::new().key(b"key");
+            for size in 1..=$max {
+                let params = keyed.output_size(size);
+                let tag = params.$make().unwrap().update(b"abc").finalize();
+                assert_eq!((tag.as_bytes().len(), tag.len()), (size, size));
+                for allowed in [params.allow_short(true).$make_mac(), $mac::with_params(&params.allow_short(true))] {
+                    let mut mac = allowed.unwrap();
+                    assert!(mac.verify(tag.as_bytes()).is_err());
+                    assert!(mac.update(b"abc").verify(tag.as_bytes()).is_ok() && mac.finalize() == tag);
+                }
+                for made in [params.$make_mac(), $mac::with_params(&params), params.allow_short(false).$make_mac()] {
+                    match made {
+                        Ok(mut mac) => assert!(size >= 16 && mac.update(b"abc").verify(tag.as_bytes()).is_ok()),
+                        Err(error) => {
+                            assert!(size < 16);
+                            let said = format!("output_size is {size}, and must be 16 to {}", $max);
+                            assert_eq!(error.to_string(), said);
+                        }
+                    }
+                }
+            }
+            for (size, least) in [(0, 1), ($max + 1, 1)] {
+                let error = keyed.output_size(size).allow_short(true).$make_mac().unwrap_err();
+                assert_eq!(error.to_string(), format!("output_size is {size}, and must be {least} to {}", $max));
+            }
+            let error = Params::new().output_size(8).$make_mac().unwrap_err();
+            assert_eq!(error.to_string(), format!("key.len() is 0, and must be 1 to {}", $max));
+            assert_eq!(keyed.$make_mac().unwrap().finalize().as_bytes().len(), $max);
+        }
+    };
+}
+
+short_tags!(short_tags_of_blake2b, Blake2bMac, blake2b, blake2b_mac, 64);
+short_tags!(short_tags_of_blake2s, Blake2sMac, blake2s, blake2s_mac, 32);
+short_tags!(short_tags_of_blake2bp, Blake2bpMac, blake2bp, blake2bp_mac, 64);
+short_tags!(short_tags_of_blake2sp, Blake2spMac, blake2sp, blake2sp_mac, 32);
+
 macro_rules! ends_of_outputs {
     ($test:ident, $hasher:ident, $make:ident, $most:literal, $whole:expr) => {
         #[test]
@@ -285,7 +327,7 @@ fn nothing_is_left_of_a_key_or_a_message() {
     .into_iter()
     .enumerate()
     {
-        assert!(contains_bytes(&before, &key) && before.len() >= 200, "{i}");
+        assert!(contains_bytes(&before, &key) && before.len() >= 176, "{i}");
         assert!(after.iter().all(|byte| *byte == 0), "{i}");
     }
 }

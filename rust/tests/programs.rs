@@ -212,6 +212,18 @@ fn the_first_call_on_other_processors() {
     }
 }
 
+// Writes MANIFEST in a folder anew for the files that are there.
+fn renew_sums(dist: &Path) {
+    let manifest = fs::read_to_string(dist.join("MANIFEST")).unwrap();
+    let lines = manifest.lines().map(|line| match line.split_once("  ") {
+        Some((_, name)) if dist.join(name).exists() => {
+            output_of(Command::new("sha256sum").arg(name).current_dir(dist))
+        }
+        _ => format!("{line}\n"),
+    });
+    fs::write(dist.join("MANIFEST"), lines.collect::<String>()).unwrap();
+}
+
 // The crate's package has what it needs and nothing else, and is built without a registry, next to another
 // version of the crate in the same program, in each profile. The code of that is another too, and so is its
 // number in the names of its texts, as in those of dist/. The program contains of the assembly what it calls,
@@ -250,6 +262,7 @@ fn the_package_next_to_another_version() {
             replace(&format!("dist/{text}.s"), &format!("{before}{code}_{build}"), &format!("{before}789_{build}"));
         }
     }
+    renew_sums(&other.join("dist"));
     let same = ["a", "b"].map(|name| format!("{name}::Blake2b::digest(b\"abc\").as_bytes()"));
     let lines = format!("{PRINT_ABC} assert_eq!({});", same.join(", "));
     let program = Program::new("two_versions", &lines, &[&root, &other]);

@@ -77,7 +77,7 @@ impl<'a> Given<'a> {
             node_depth: self.number("node", 0)?,
             inner_length: self.number("inner", 0)?,
         };
-        let mut params = Params::new().salt(&salt).persona(&persona);
+        let mut params = Params::new().salt(&salt).persona(&persona).allow_short(true);
         if !self.has_only(&["size", "key", "salt", "person"]) {
             params = params.tree(tree).last_node(self.number("last", 0)? == 1);
         }

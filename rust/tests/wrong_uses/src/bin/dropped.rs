@@ -42,7 +42,6 @@ fn hashers(params: &Params<'_>, tag: &[u8]) -> Result<(), InvalidArgument> {
     Blake2b::with_params(params)?; // refused
     Blake2b::digest_many::<64>(params, &[b"abc"], &mut [[0; 64]]); // refused
     let mut hasher = Blake2b::new();
-    hasher.update(b"abc").finalize(); // refused
     hasher.finalize_reset(); // refused
     hasher.count(); // refused
     hasher.clone(); // refused
@@ -54,7 +53,6 @@ fn hashers(params: &Params<'_>, tag: &[u8]) -> Result<(), InvalidArgument> {
     Blake2bMac::with_params(params)?; // refused
     Blake2bMac::tag(b"key", b"abc")?; // refused
     let mut mac = Blake2bMac::new(b"key")?;
-    mac.verify(tag); // refused
     mac.update(b"abc").verify(tag); // refused
     mac.finalize(); // refused
     mac.finalize_reset(); // refused
