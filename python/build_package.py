@@ -47,6 +47,7 @@ SHARED = {
     "src/vulfsjor_threads.h": "c/include/vulfsjor_threads.h",
     "src/threads.c": "c/threads.c",
     "src/system.h": "c/system.h",
+    "src/build.c": "c/build.c",
     "src/choose.c": "c/choose.c",
     "src/thunks.h": "c/thunks.h",
     "src/portable.c": "dist/c/vulfsjor.c",
@@ -90,16 +91,18 @@ def source_files(shared=SHARED):
 
 
 def check_dist(found, is_released):
-    """Refuses a file of dist/ that is not the one that MANIFEST names. A source distribution has some of them."""
+    """Refuses a file that is not the one that MANIFEST names, such as ../c/choose.c. A source distribution has some of
+    them."""
     lines = found["src/MANIFEST"].read_text(encoding="utf-8").splitlines()
     sums = {name: digest for digest, name in (line.split("  ") for line in lines if not line.startswith("#"))}
-    texts = {place.removeprefix("dist/"): found[name] for name, place in SHARED.items()
-             if place.startswith("dist/") and name != "src/MANIFEST"}
+    texts = {place: found[name] for name, place in SHARED.items() if name != "src/MANIFEST"}
+    named = {f"dist/{name}".replace("dist/../", ""): digest for name, digest in sums.items()}
     if not is_released:
-        texts |= {name: HERE.parent / "dist" / name for name in sums}
-    for name, path in texts.items():
-        if not path.is_file() or hashlib.sha256(path.read_bytes()).hexdigest() != sums.get(name):
-            refuse(f"dist/{name} is not as in dist/MANIFEST, so it is not what was tested")
+        texts |= {place: HERE.parent / place for place in named
+                  if place.startswith("dist/") or (HERE.parent / place).is_file()}
+    for place, path in texts.items():
+        if not path.is_file() or hashlib.sha256(path.read_bytes()).hexdigest() != named.get(place):
+            refuse(f"{place} is not as in dist/MANIFEST, so it is not what was tested")
 
 
 # ---- The module
@@ -129,11 +132,19 @@ def library(system, processor, work):
     """The words of the compiler for the sources of the library in a folder. The texts become one, which is marked for
     branch protection and needs no preprocessor: that would take as long as the assembler."""
     if not processor:
-        return ["-DVULFSJOR_PORTABLE", "src/portable.c"]
+        return ["-DVULFSJOR_PORTABLE", "src/build.c", "src/portable.c", line_of(work, "c/vulfsjor.c")]
     macros, *texts = (pathlib.Path(work, "src", name).read_bytes()
                       for name in [f"{processor}/{MACROS[system]}", *TEXTS[processor]])
     pathlib.Path(work, "src", "vulfsjor.s").write_bytes(b"".join([macros, b"\tvj_marks\n", *texts]))
-    return ["src/choose.c", "src/vulfsjor.s"]
+    return ["src/build.c", "src/choose.c", "src/vulfsjor.s", *(line_of(work, text) for text in TEXTS[processor])]
+
+
+def line_of(work, text):
+    """The word of the compiler for the line of MANIFEST that names a text."""
+    lines = pathlib.Path(work, "src", "MANIFEST").read_text(encoding="utf-8").splitlines()
+    line = next(line for line in lines if line.endswith(f"  {text}"))
+    build = "" if text in ("aarch64/vulfsjor.s", "c/vulfsjor.c") else text[-5:-2].replace("-", "_")
+    return f'-DBUILD{build}="{line}"'
 
 
 def compiler(system):

@@ -47,7 +47,7 @@ skipped_tests() {
 build >"$work/built" 2>&1
 case $? in
     0) pass "the package for Python is built" ;;
-    77) skip "the package for Python" "no cc, or no python3 with headers"; finish ;;
+    77) skip "the package for Python" "no cc, no python3 or no Python.h"; finish ;;
     *) fail "the package for Python is built" "$work/built"; finish ;;
 esac
 last=$(version_of "${interpreters[-1]}")
@@ -59,9 +59,10 @@ for each in "${interpreters[@]}"; do
     else
         some=(-ktest_{against_hashlib,api,conformance,files,names,refusals,threads})
     fi
-    check "the tests in $each" "$each" -m unittest discover -v -s "$tests" "${some[@]}"
+    check "the tests in $each" in_time "$each" -m unittest discover -v -s "$tests" "${some[@]}"
     while IFS='|' read -r test why; do
         skip "$test in $each" "$why"
     done < <(skipped_tests)
 done
+check "wrong uses in Python" env "PYTHONPATH=$VULFSJOR_PACKAGE" "${interpreters[-1]}" "$top/tests/misuse/run.py" python
 finish

@@ -42,7 +42,7 @@ typedef struct family {
         return vulfsjor_##f##_final(S, o, n);                                                      \
     }                                                                                              \
     static int f##_verify(void *S, const void *t, size_t n) {                                      \
-        return vulfsjor_##f##_verify(S, t, n);                                                     \
+        return vulfsjor_##f##_verify_short_mac(S, t, n); /* the caller looks at allow_short */     \
     }                                                                                              \
     static void f##_wipe(void *S) { vulfsjor_##f##_wipe(S); }                                      \
     static const family f = {                                                                      \
@@ -186,7 +186,8 @@ typedef struct hash {
     PyObject_HEAD
     const family *f;
     PyThread_type_lock lock;
-    int size, is_keyed;
+    int size;
+    short is_keyed, is_mac; /* a MAC's tag is not short, or is so by name */
     state run;
 } hash;
 
@@ -232,7 +233,7 @@ static hash *new_object(PyTypeObject *type, const family *f, int size, int is_ke
     if (!self) return NULL;
     self->f = f;
     self->size = size;
-    self->is_keyed = is_keyed;
+    self->is_keyed = (short)is_keyed;
 #ifdef Py_GIL_DISABLED
     if (!(self->lock = PyThread_allocate_lock())) {
         PyErr_NoMemory();
@@ -314,16 +315,33 @@ static PyObject *make(PyTypeObject *type, PyObject *args, PyObject *words, const
     return (PyObject *)self;
 }
 
+/* Converts allow_short (O&), which is True or False. */
+static int to_allowed(PyObject *object, void *allowed) {
+    *(int *)allowed = object == Py_True;
+    if (PyBool_Check(object)) return 1;
+    PyErr_SetString(PyExc_TypeError, "allow_short must be True or False");
+    return 0;
+}
+
+/* Whether a tag is too short for a MAC, which is then an exception. */
+static int is_short(int size, int allowed, int most) {
+    if (size < 1 || size >= VULFSJOR_TAGBYTES_MIN || allowed) return 0;
+    return check(size, VULFSJOR_TAGBYTES_MIN, most, "digest_size", " bytes, or allow_short be True");
+}
+
 /* An object of a message authentication code: the hash with a key, and never without. */
 static PyObject *make_mac(PyTypeObject *type, PyObject *args, PyObject *words, const family *f,
                           const char *arguments) {
-    static char *names[] = {"key", "data", "digest_size", "salt", "person", NULL};
+    static char *names[] = {"key", "data", "digest_size", "salt", "person", "allow_short", NULL};
     given g = {.size = f->out, .fanout = 1, .depth = 1};
     hash *self = NULL;
+    int allowed = 0;
     if (!PyArg_ParseTupleAndKeywords(args, words, arguments, names, &g.key, &g.data, to_size,
-                                     &g.size, &g.salt, &g.person))
+                                     &g.size, &g.salt, &g.person, to_allowed, &allowed))
         return NULL;
-    if (!check_key(&g.key, f->key) && !check_given(&g, f)) self = new_object(type, f, g.size, 1);
+    if (!check_key(&g.key, f->key) && !is_short(g.size, allowed, f->out) && !check_given(&g, f))
+        self = new_object(type, f, g.size, 1);
+    if (self) self->is_mac = 1;
     if (self && initialize(self, &g)) Py_CLEAR(self);
     release_given(&g);
     return (PyObject *)self;
@@ -354,6 +372,7 @@ static PyObject *copy(PyObject *object, PyObject *none) {
     hash *self = (hash *)object;
     hash *made = new_object(Py_TYPE(object), self->f, self->size, self->is_keyed);
     (void)none;
+    if (made) made->is_mac = self->is_mac;
     if (made) copy_state(self, &made->run);
     return (PyObject *)made;
 }
@@ -407,6 +426,9 @@ static PyObject *verify(PyObject *object, PyObject *tag) {
     if (!self->is_keyed)
         return refused(PyExc_ValueError, "verify needs a key: compare digests without one with "
                                          "hmac.compare_digest");
+    if (self->size < VULFSJOR_TAGBYTES_MIN && !self->is_mac)
+        return refused(PyExc_ValueError, "verify needs a digest_size of at least 16: make an object for shorter "
+                                         "tags by blake2b_mac and its like, with allow_short=True");
     if (PyUnicode_Check(tag))
         return refused(PyExc_TypeError, "the tag must be bytes, as digest() returns, not a string");
     if (view_of(tag, &view)) return NULL;
@@ -444,7 +466,8 @@ static PyMethodDef methods[] = {
      "verify($self, tag, /)\n--\n\n"
      "Return None if the tag is the whole digest of all input so far, and raise InvalidTag if not.\n\n"
      "All bytes of a tag of the digest's length are compared, wherever they differ. An object\n"
-     "without a key raises ValueError: compare its digest with hmac.compare_digest."},
+     "without a key raises ValueError: compare its digest with hmac.compare_digest. So does one with\n"
+     "a digest of fewer than 16 bytes, unless it is made by blake2b_mac and its like."},
     {NULL, NULL, 0, NULL}};
 
 static PyGetSetDef fields[] = {
@@ -522,15 +545,36 @@ static int is_one(PyObject *data) {
     return is_one;
 }
 
-/* The messages as a tuple. */
-static PyObject *tuple_of(PyObject *data) {
-    if (is_one(data))
-        return refused(PyExc_TypeError, "messages must be several, such as a list of bytes, not one");
-    if (PyAnySet_Check(data))
-        return refused(PyExc_TypeError, "messages must be in an order, which a set has not");
-    if (PyDict_Check(data))
-        return refused(PyExc_TypeError, "messages must not be a dict, whose keys they would be");
-    return PySequence_Tuple(data);
+/* Bytes that stay what they are: the message itself if it is bytes, and a copy of any other. */
+static PyObject *kept(PyObject *message) {
+    PyObject *copied;
+    Py_buffer view;
+    if (PyBytes_CheckExact(message)) return Py_NewRef(message);
+    if (view_of(message, &view)) return NULL;
+    copied = PyBytes_FromStringAndSize(view.buf, view.len);
+    PyBuffer_Release(&view);
+    return copied;
+}
+
+/* The next messages of an iterator as a list, which is empty at its end: each is copied before the
+ * next is asked for, which may be written over it. They are whole groups of those that are hashed in
+ * parallel. NULL with an exception. */
+static PyObject *next_few(PyObject *iterator) {
+    enum { GROUP = 8, FEW = 512, SHORT = 1 << 18, LONG = 1 << 26 };
+    PyObject *list = PyList_New(0), *message, *held;
+    Py_ssize_t count = 0, length = 0;
+    int failed = !list;
+    while (!failed && length < LONG && (count % GROUP || (count < FEW && length < SHORT)) &&
+           (message = PyIter_Next(iterator))) {
+        held = kept(message);
+        failed = !held || PyList_Append(list, held);
+        if (held) length += PyBytes_Size(held);
+        count++;
+        Py_DECREF(message);
+        Py_XDECREF(held);
+    }
+    if (failed || PyErr_Occurred()) Py_CLEAR(list);
+    return list;
 }
 
 static PyObject *digests_of_tuple(PyObject *tuple, const given *g, const family *f) {
@@ -541,19 +585,66 @@ static PyObject *digests_of_tuple(PyObject *tuple, const given *g, const family 
     return list;
 }
 
+/* The bytes are those in this room from now on. */
+static void move_to(uint8_t *room, Py_buffer *text) {
+    if (text->len) memcpy(room, text->buf, (size_t)text->len);
+    text->buf = room;
+}
+
+/* Digests of what an iterator yields. No more than some of its messages are held at a time. Its code
+ * may change all else that was given, of which there is a copy. */
+static PyObject *digests_of_iterator(PyObject *iterator, const given *g, const family *f) {
+    uint8_t key[64], salt[16], person[16];
+    given own = *g;
+    PyObject *all = PyList_New(0), *few, *tuple, *digests;
+    Py_ssize_t count = all ? 1 : 0;
+    move_to(key, &own.key);
+    move_to(salt, &own.salt);
+    move_to(person, &own.person);
+    while (count) {
+        few = next_few(iterator);
+        tuple = few ? PyList_AsTuple(few) : NULL;
+        digests = tuple ? digests_of_tuple(tuple, &own, f) : NULL;
+        count = digests ? PyList_Size(digests) : 0;
+        if (!digests || PyList_SetSlice(all, PyList_Size(all), PyList_Size(all), digests)) {
+            Py_CLEAR(all);
+            count = 0;
+        }
+        Py_XDECREF(few);
+        Py_XDECREF(tuple);
+        Py_XDECREF(digests);
+    }
+    vulfsjor_wipe(key, sizeof key);
+    return all;
+}
+
+/* What a list, a tuple and the rows of a buffer hold is there all at once, and not copied. */
+static PyObject *digests_of_messages(PyObject *data, const given *g, const family *f) {
+    const int is_there = PyList_CheckExact(data) || PyTuple_CheckExact(data) || PyObject_CheckBuffer(data);
+    PyObject *held, *list = NULL;
+    if (is_one(data))
+        return refused(PyExc_TypeError, "messages must be several, such as a list of bytes, not one");
+    if (PyAnySet_Check(data))
+        return refused(PyExc_TypeError, "messages must be in an order, which a set has not");
+    if (PyDict_Check(data))
+        return refused(PyExc_TypeError, "messages must not be a dict, whose keys they would be");
+    held = is_there ? PySequence_Tuple(data) : PyObject_GetIter(data);
+    if (held) list = is_there ? digests_of_tuple(held, g, f) : digests_of_iterator(held, g, f);
+    Py_XDECREF(held);
+    return list;
+}
+
 static PyObject *many(PyObject *args, PyObject *words, const family *f, const char *arguments) {
     static char *names[] = {"", "digest_size", "key", "salt", "person", NULL};
     given g = {.size = f->out};
-    PyObject *tuple = NULL, *list = NULL;
+    PyObject *list = NULL;
     if (!PyArg_ParseTupleAndKeywords(args, words, arguments, names, &g.data, to_size, &g.size,
                                      &g.key, &g.salt, &g.person))
         return NULL;
     if (!check(g.size, 1, f->out, "digest_size", " bytes") &&
         !check_text(&g.salt, f->salt, "salt") && !check_text(&g.person, f->person, "person") &&
         !check_text(&g.key, f->key, "key"))
-        tuple = tuple_of(g.data);
-    if (tuple) list = digests_of_tuple(tuple, &g, f);
-    Py_XDECREF(tuple);
+        list = digests_of_messages(g.data, &g, f);
     release_given(&g);
     return list;
 }
@@ -574,7 +665,8 @@ static PyObject *many_s(PyObject *module, PyObject *args, PyObject *words) {
     #f "_many(messages, /, *, digest_size=" #size ", key=b'', salt=b'', person=b'')\n--\n\n"       \
        "Return a list of the digests of the messages, each under these parameters.\n\n"            \
        "Messages in a row of the same length are hashed " lanes " in parallel, which is faster\n"  \
-       "on a processor with AVX2."
+       "on a processor with AVX2. What an iterator yields is copied when it comes, unless it is\n"   \
+       "bytes: it may be one buffer that is filled again and again."
 static PyMethodDef functions[] = {
     {"blake2b_many", WITH_WORDS(many_b), MANY(blake2b, 64, "four")},
     {"blake2s_many", WITH_WORDS(many_s), MANY(blake2s, 32, "eight")},
@@ -610,17 +702,19 @@ TYPE(blake2sp, 32, 8, "", EXTENSION("BLAKE2sp"))
 
 #define MAC(f, size, longest, more)                                                                \
     static PyObject *make_##f##_mac(PyTypeObject *type, PyObject *args, PyObject *words) {         \
-        return make_mac(type, args, words, &f, "y*|O$O&y*y*:" #f "_mac");                          \
+        return make_mac(type, args, words, &f, "y*|O$O&y*y*O&:" #f "_mac");                          \
     }                                                                                              \
     static PyType_Slot slots_##f##_mac[] = {                                                       \
         {Py_tp_new, make_##f##_mac},                                                               \
         {Py_tp_dealloc, end_of_life},                                                              \
         {Py_tp_methods, methods},                                                                  \
         {Py_tp_getset, fields},                                                                    \
-        {Py_tp_doc, #f "_mac(key, data=b'', *, digest_size=" #size ", salt=b'', person=b'')"       \
-                    "\n--\n\nReturn a new object of a message authentication code: " #f            \
-                    " with a key.\n\nThe key has 1 to " #size " bytes, digest_size is 1 to " #size  \
-                    ", salt and person have\nup to " #longest " bytes each." more},                \
+        {Py_tp_doc, #f "_mac(key, data=b'', *, digest_size=" #size ", salt=b'', person=b'',\n"     \
+                    "        allow_short=False)\n--\n\nReturn a new object of a message authentication"  \
+                    " code: " #f " with a key.\n\nThe key has 1 to " #size " bytes, digest_size is"  \
+                    " 16 to " #size " (with allow_short\nfrom 1 on), salt and person have up to " \
+                    #longest " bytes each. Anybody makes a tag of\nn bytes in at most 256**n tries: never"  \
+                    " pass the length of a tag that came." more},                                   \
         {0, NULL}};                                                                                \
     static PyType_Spec spec_##f##_mac = {                                                          \
         "vulfsjor." #f "_mac", (int)(offsetof(hash, run) + sizeof(vulfsjor_##f##_state)), 0,       \
@@ -694,6 +788,11 @@ static int add_version(PyObject *module) {
     return status;
 }
 
+/* The line of dist/MANIFEST for the text that runs here: 0, or -1 with an exception. */
+static int add_build(PyObject *module) {
+    return PyModule_AddStringConstant(module, "__build__", vulfsjor_build());
+}
+
 #if defined __x86_64__ && !defined VULFSJOR_PORTABLE
 /* Whether the processor has all of x86-64-v2. Where it has not, the first call of the library would
  * end the program (choose.c). */
@@ -736,7 +835,7 @@ static int fill_module(PyObject *module) {
         Py_XDECREF(type);
         Py_XDECREF(mac);
     }
-    failed = failed || add_version(module) || PyModule_AddFunctions(module, tree_functions) ||
+    failed = failed || add_version(module) || add_build(module) || PyModule_AddFunctions(module, tree_functions) ||
              add_tree_types(module) || add_output_types(module, types);
     Py_DECREF(types);
     return failed ? -1 : 0;

@@ -14,6 +14,7 @@ import tempfile
 import tracemalloc
 import unittest
 import weakref
+from collections import deque
 
 from families import FAMILIES, MIB, OUTPUTS, PLAIN
 from support import Test, WITHOUT_GIL, long, unread
@@ -48,6 +49,93 @@ class Many(Test):
             self.assertEqual(len(found), len(messages))
             for place in (*range(0, 1100), *range(65_500, 65_600), 69_999):
                 self.assertEqual(found[place], theirs(messages[place]).digest())
+
+    def test_one_buffer(self):
+        """What an iterator yields is that of its time: one buffer again and again, as `readinto` fills it, whole, in
+        part, and of another length each time. What is in a list is that of the call."""
+        data = bytes(i % 251 for i in range(3000))
+
+        def blocks(size, view):
+            buffer = bytearray(size)
+            file = io.BytesIO(data)
+            while count := file.readinto(buffer):
+                yield view(buffer)[:count]
+
+        def growing():
+            buffer = bytearray()
+            for count in range(9):
+                buffer += bytes([count])
+                yield buffer
+
+        def counted():
+            numbers = array.array("I", [0])
+            for numbers[0] in range(20):
+                yield numbers
+
+        def changing():
+            buffer = bytearray(9)
+            for place in range(1100):
+                buffer[place % 9] = place & 255
+                yield buffer
+
+        class Reused(list):
+            """A list whose iterator is another one."""
+
+            def __iter__(self):
+                return blocks(700, memoryview)
+
+        for _, _, theirs, many, _ in PLAIN:
+            for new in (lambda: blocks(128, memoryview), lambda: blocks(700, memoryview),
+                        lambda: blocks(1000, bytearray), growing, counted, changing, Reused,
+                        lambda: iter([b"bytes", bytearray(b"others")])):
+                wanted = [theirs(message).digest() for message in new()]
+                self.assertEqual(many(new()), wanted)
+                self.assertEqual(many(message for message in new()), wanted)
+            buffer = bytearray(b"last")
+            for several in ([buffer] * 2, (buffer, buffer), deque([buffer] * 2)):
+                self.assertEqual(many(several), [theirs(b"last").digest()] * 2)
+
+    def test_iterators(self):
+        """A message that is refused ends the call, and no other is asked for. The iterator's exception is that of the
+        call."""
+        def fails(message):
+            yield b"first"
+            yield message
+            raise KeyError
+
+        for _, _, _, many, _ in PLAIN:
+            for text, wrong in (("object supporting the buffer API required", None),
+                                ("Strings must be encoded before hashing", "text")):
+                self.refuses(TypeError, text, many, fails(wrong))
+            self.assertRaises(BufferError, many, fails(memoryview(b"abcd")[::2]))
+            self.assertRaises(KeyError, many, fails(bytearray(b"second")))
+
+    def test_key_of_the_call(self):
+        """The key of all messages is that of the call, whatever the iterator's code makes of its memory."""
+        def changes(key):
+            for place in range(1030):
+                key[0] = place & 255
+                yield b"message"
+
+        for _, _, theirs, many, _ in PLAIN:
+            key, salt = bytearray(9), bytearray(8)
+            wanted = theirs(b"message", key=key, salt=salt).digest()
+            self.assertEqual(many(changes(key), key=key, salt=salt), [wanted] * 1030)
+            self.assertEqual(many(changes(salt), key=bytes(9), salt=salt), [wanted] * 1030)
+
+    def test_list_is_not_copied(self):
+        """A mebibyte in a list, a tuple, and bytes of an iterator, takes no memory but the digests. Of what an iterator
+        yields a few are held."""
+        message = bytes(1 << 20)
+        for _, _, _, many, _ in PLAIN:
+            for new, least, most in ((lambda: [message] * 9, 0, 1 << 19), (lambda: (bytearray(message),), 0, 3 << 19),
+                                     (lambda: iter([message] * 9), 0, 1 << 19),
+                                     (lambda: iter([memoryview(message)] * 100), 8 << 20, 10 << 20)):
+                tracemalloc.start()
+                self.addCleanup(tracemalloc.stop)
+                many(new())
+                self.assertTrue(least <= tracemalloc.get_traced_memory()[1] <= most)
+                tracemalloc.stop()
 
     def test_rows(self):
         """Of a buffer of longer items than bytes, which are messages."""
@@ -95,8 +183,8 @@ class Secrets(unittest.TestCase):
             hasher.update(key)
             return hasher
 
-        states = {"blake2b": 424, "blake2s": 232, "blake2bp": 1632, "blake2sp": 1600,
-                  "blake2xb": 544, "blake2xs": 304, "tree": 912}
+        states = {"blake2b": 344, "blake2s": 176, "blake2bp": 1632, "blake2sp": 1600,
+                  "blake2xb": 464, "blake2xs": 248, "tree": 752}
         for name, make, longest, fields in (
                 *((name, make, longest, 24) for name, make, _, _, longest in FAMILIES),
                 *((*each[:3], 16) for each in OUTPUTS), ("tree", tree, 32, 16)):
@@ -160,7 +248,7 @@ class Counts(Test):
                   (280, 128, 2**61 - 128), (144, 1664, 2**64 - 256), (80, 1664, 2**64 - 256))
         kinds = [(make, 64, [place]) for (_, make, *_), place in zip((*FAMILIES, *OUTPUTS), counts, strict=True)]
         # Of a tree the leaves that are closed, the count of the root, and the number of its pending bytes.
-        places_of_tree = ((864, 1, 2**48 - 1), (568, 0, (2**48 - 1) * 64), (576, 64, 0))
+        places_of_tree = ((704, 1, 2**48 - 1), (488, 0, (2**48 - 1) * 64), (496, 64, 0))
         for make, bits, places in (*kinds, (lambda: vulfsjor.TreeHasher(1 << 10), 58, places_of_tree)):
             size = (9,) * (make in (vulfsjor.blake2xb, vulfsjor.blake2xs))
             for length in (300, 3000, 2**32 + 5):

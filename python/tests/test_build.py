@@ -186,7 +186,7 @@ class Build(Test):
         linux, windows = "-fPIC -shared -pthread -Wl,--gc-sections -Wl,-z,relro,-z,now", \
             f"-shared -L{sys.base_prefix}/libs -L{sys.base_prefix}/lib"
         mac = "-bundle -undefined dynamic_lookup -Wl,-dead_strip -arch {} -mmacosx-version-min={}"
-        assembly, portable = ["src/choose.c", "src/vulfsjor.s"], ["src/portable.c"]
+        assembly, portable = ["src/build.c", "src/choose.c", "src/vulfsjor.s"], ["src/build.c", "src/portable.c"]
         for platform_name, options, sources, more in (
                 ("linux-x86_64", linux, assembly, {}), ("linux-aarch64", linux, assembly, {}),
                 ("macosx-10.13-x86_64", mac.format("x86_64", "10.13"), assembly, {}),
@@ -202,6 +202,9 @@ class Build(Test):
             self.assertEqual(name, f"vulfsjor-{VERSION}-cp311-abi3-{re.sub('[-.]', '_', platform_name)}.whl")
             self.assertEqual([word for word in words if word.endswith((".c", ".s", ".S"))],
                              ["src/library.c", "src/by_threads.c", "src/trees.c", "src/xof.c", *sources])
+            several = sources == assembly and re.search("x86_64|amd64", platform_name)
+            self.assertEqual([word.partition("=")[0] for word in words if word.startswith("-DBUILD")],
+                             ["-DBUILD_v2", "-DBUILD_v3", "-DBUILD_v4"] if several else ["-DBUILD"])
             self.assertEqual((words[0], words[-1]), ("-x", "-lpython3" if options == windows else "-lz"))
             self.assertEqual(words[words.index("-g"):words.index("-o")], ["-g", "-D A", *options.split()])
             self.assertIn(f"-I{sysconfig.get_path('include')}", words)
@@ -296,7 +299,7 @@ class Build(Test):
                          if os.path.isfile(os.path.join(TOP, it)))
             text = path.read_bytes()
             self.assertEqual(text, pathlib.Path(TOP, place).read_bytes(), name)
-            if place.startswith("dist/") and name != "src/MANIFEST":
+            if place.startswith(("c/", "dist/")) and name != "src/MANIFEST":
                 path.write_bytes(text + b"\n")
                 self.assertEqual(self.refused(folder), f"build_package.py: {place} is not as in dist/MANIFEST, "
                                  "so it is not what was tested")

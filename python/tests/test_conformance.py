@@ -35,13 +35,13 @@ REASONS = {
     "state": "leaf boundary|at the start|in the middle|boundary"}
 # How many cases of each hash end early, by the call that Python does not have.
 SKIPPED = {
-    "blake2b": {"last": 43, "equal": 98, "reset": 96},
-    "blake2s": {"last": 43, "equal": 66, "reset": 95},
-    "blake2bp": {"equal": 98, "reset": 99},
-    "blake2sp": {"equal": 66, "reset": 97},
-    "blake2xb": {"new": 1, "hash": 1, "reset": 88, "update": 232},
-    "blake2xs": {"new": 1, "hash": 1, "reset": 99, "update": 223},
-    "tree": {"verify": 107, "equal": 98, "reset": 99}}
+    "blake2b": {"last": 43, "equal": 98, "reset": 96, "skip": 86, "new": 3, "hash": 3, "many": 1},
+    "blake2s": {"last": 43, "equal": 66, "reset": 95, "skip": 86, "new": 3, "hash": 3, "many": 1},
+    "blake2bp": {"equal": 98, "reset": 99, "new": 3, "hash": 3},
+    "blake2sp": {"equal": 66, "reset": 97, "new": 3, "hash": 3},
+    "blake2xb": {"new": 4, "hash": 4, "reset": 88, "update": 232},
+    "blake2xs": {"new": 4, "hash": 4, "reset": 99, "update": 223},
+    "tree": {"verify": 108, "equal": 98, "reset": 99}}
 
 
 class Absent(Exception):
@@ -89,6 +89,8 @@ class Driver:
 
     def arguments(self, name, words):
         found = {}
+        if words.get("key") == "-":
+            raise Absent("an empty key, which is none except for a MAC")
         for word, value in words.items():
             if word in ("key", "salt", "person"):
                 found[word] = self.bytes_of(value)
@@ -148,10 +150,10 @@ class Driver:
         except vulfsjor.InvalidTag:
             is_right = False
         except ValueError:
-            assert not self.keyed[slot], "verify refuses a key"
+            assert not self.keyed[slot] or hasher.digest_size < 16, "verify refuses a key"
             is_right = hmac.compare_digest(hasher.digest(), given)
         else:
-            assert self.keyed[slot], "verify accepts a digest without a key"
+            assert self.keyed[slot] and hasher.digest_size >= 16, "verify accepts what is no tag"
         self.objects[slot] = None
         return "yes" if is_right else "no"
 
@@ -184,7 +186,7 @@ class Driver:
             hasher.update(data[start:start + max(1, len(data) // 3)])
         assert value == (hasher.digest(given["length"]) if "x" in name else hasher.digest()), "another digest in pieces"
         if "key" in given and "x" not in name and set(given) <= {"key", "digest_size", "salt", "person"}:
-            mac = getattr(vulfsjor, f"{name}_mac")(data=data, **given)
+            mac = getattr(vulfsjor, f"{name}_mac")(data=data, **given, allow_short=True)
             assert mac.verify(value) is None
             self.refuses_tags(mac, value[:-1] + bytes([value[-1] ^ 1]), value[:-1], value + b"\0")
             assert value == mac.digest() == mac.copy().digest() and len(value) == mac.digest_size, "another tag"

@@ -255,6 +255,13 @@ class TreeRefusals(Test):
     """Errors of roots, each with the path."""
 
     @unittest.skipUnless(os.path.isdir("/dev/shm"), "no /dev/shm")
+    def test_no_descriptor(self):
+        """A bool is no file descriptor, and neither is an open file."""
+        for wrong in (True, False):
+            self.refuses(TypeError, "path must be a path or a file descriptor, not a bool", vulfsjor.tree_root_file,
+                         wrong, 4096)
+        self.assertRaises(TypeError, vulfsjor.tree_root_file, io.BytesIO(b"abc"), 4096)
+
     def test_a_file_of_2_to_the_58(self):
         """On a file system in memory that has such lengths. A byte less is not refused: the callback is called."""
         with tempfile.NamedTemporaryFile(dir="/dev/shm") as file:

@@ -3,6 +3,7 @@ results, and by mypy (Debian's package mypy) where that is installed."""
 import contextlib
 import doctest
 import functools  # noqa: F401  in an expression
+import hashlib
 import inspect
 import io  # noqa: F401
 import os
@@ -31,6 +32,12 @@ class Words(unittest.TestCase):
         """The version, and the README's numbers that no example prints. test_build.py has those of glibc and of
         processors."""
         self.assertEqual(self.found("pyproject.toml", r' version = "(.*?)"'), vulfsjor.__version__)
+        digest, name = vulfsjor.__build__.split("  ")
+        self.assertRegex(name, r"^(x86_64/vulfsjor-v[234]\.s|aarch64/vulfsjor\.s|c/vulfsjor\.c)$")
+        text = os.path.join(HERE, "..", *(["..", "dist", name] if IS_CLONE else ["src", name]))
+        if os.path.exists(text):
+            with open(text, "rb") as file:
+                self.assertEqual(digest, hashlib.sha256(file.read()).hexdigest())
         self.assertEqual(self.found("README.md", r"CPython (3\.\d+) or later"),
                          self.found("pyproject.toml", r'requires-python = ">=([\d.]+)"'))
         self.assertEqual(self.found("README.md", r"requires glibc (2\.\d+) or later"), "2.14")
@@ -55,8 +62,9 @@ class Words(unittest.TestCase):
                 *(row for name, make, _, _, longest in FAMILIES for row in (
                     (make, f"digest_size is 1 to {longest}, a key has up to {longest} bytes, salt and person up to "
                      f"{longest // 4} each."),
-                    (getattr(vulfsjor, f"{name}_mac"), f"The key has 1 to {longest} bytes, digest_size is 1 to "
-                     f"{longest}, salt and person have up to {longest // 4} bytes each.")))):
+                    (getattr(vulfsjor, f"{name}_mac"), f"The key has 1 to {longest} bytes, digest_size is 16 to "
+                     f"{longest} (with allow_short from 1 on), salt and person have up to {longest // 4} bytes "
+                     "each.")))):
             for part in parts:
                 self.assertIn(part, " ".join(thing.__doc__.split()))
         for name, make, *_ in FAMILIES:
@@ -100,16 +108,18 @@ RESULTS = {
        for expression, kind in {
         "vulfsjor.blake2{0}(key=b'k').verify(vulfsjor.blake2{0}(key=b'k').digest())": "None",
         "vulfsjor.blake2{0}_mac(b'k').verify(vulfsjor.blake2{0}(key=b'k').digest())": "None",
-        "vulfsjor.blake2{}_mac(key=b'k', data=b'', digest_size=4, salt=b'', person=b'')": "vulfsjor.blake2{}_mac",
+        "vulfsjor.blake2{}_mac(key=b'k', data=b'', digest_size=4, salt=b'', person=b'', allow_short=True)":
+            "vulfsjor.blake2{}_mac",
         "vulfsjor.file_digest(io.BytesIO(), vulfsjor.blake2{}, key=b'', person=b'')": "vulfsjor.blake2{}",
-        "vulfsjor.file_digest(io.BytesIO(), vulfsjor.blake2{}_mac, key=b'k')": "vulfsjor.blake2{}_mac",
+        "vulfsjor.file_digest(io.BytesIO(), vulfsjor.blake2{}_mac, key=b'k', allow_short=False)":
+            "vulfsjor.blake2{}_mac",
     }.items()},
     "vulfsjor.file_digest(io.BytesIO(), vulfsjor.blake2b, last_node=True)": "vulfsjor.blake2b",
     "vulfsjor.file_digest(io.BytesIO(), vulfsjor.blake2xs, length=5)": "vulfsjor.blake2xs",
     "vulfsjor.file_digest(io.BytesIO(), 'blake2s', inner_size=4).digest()": "bytes",
     "vulfsjor.file_digest(io.BytesIO(), 'blake2bp', key=b'').hexdigest()": "str",
     "vulfsjor.file_digest(io.BytesIO(), 'blake2xb').digest(5)": "bytes",
-    "vulfsjor.file_digest(io.BytesIO(), 'blake2sp_mac', key=b'k').digest()": "bytes",
+    "vulfsjor.file_digest(io.BytesIO(), 'blake2sp_mac', key=b'k', allow_short=True).digest()": "bytes",
     "vulfsjor.file_digest(io.BytesIO(), lambda: vulfsjor.TreeHasher(5))": "vulfsjor.TreeHasher",
     "vulfsjor.file_digest(open('/dev/null', 'rb'), functools.partial(vulfsjor.blake2b, digest_size=4))":
         "vulfsjor.blake2b",
@@ -123,6 +133,7 @@ RESULTS = {
     }.items()},
     "vulfsjor.derive_key(b'key', b'context', 96)": "bytes",
     "vulfsjor.derive_key(key=b'key', context=b'context', length=96)": "bytes",
+    "vulfsjor.__build__": "str",
     "vulfsjor.__version__": "str",
     "vulfsjor.tree_leaf_count(5, leaf_size=2)": "int",
     "vulfsjor.tree_leaves(b'', 2, first=0, ends=True, salt=b'', person=b'')": "bytes",
@@ -142,7 +153,8 @@ RESULTS = {
 REFUSED = (
     "vulfsjor.blake2b(b'', b'key')", "vulfsjor.blake2s(data=b'')", "vulfsjor.blake2s().update('text')",
     "vulfsjor.blake2b_mac()", "vulfsjor.blake2s_mac(b'key', b'', 16)", "vulfsjor.blake2bp_mac(b'', key=b'key')",
-    "vulfsjor.blake2s_mac(b'key', fanout=1)", "vulfsjor.blake2bp_mac(b'key').verify()",
+    "vulfsjor.blake2s_mac(b'key', fanout=1)", "vulfsjor.blake2b_mac(b'key', allow_short='no')",
+    "vulfsjor.blake2s_mac(b'key', allow_short=None)", "vulfsjor.blake2bp_mac(b'key').verify()",
     "vulfsjor.blake2bp_mac(b'key').verify(tag=b'')", "vulfsjor.blake2bp('text')", "vulfsjor.blake2bp(None)",
     "vulfsjor.blake2bp(b'', b'key')", "vulfsjor.blake2bp(b'', fanout=1)", "vulfsjor.blake2bp(digest_size=1.5)",
     "vulfsjor.blake2sp(last_node=True)", "vulfsjor.blake2sp().update('text')",
@@ -173,7 +185,7 @@ NAMED = {
     **dict.fromkeys(("digest_size", "fanout", "depth", "node_depth", "inner_size", "threads"),
                     "SupportsIndex"),
     **dict.fromkeys(("leaf_size", "node_offset", "length", "first", "skip", "file"), "int"),
-    **dict.fromkeys(("ends", "last_node", "usedforsecurity"), "bool"),
+    **dict.fromkeys(("allow_short", "ends", "last_node", "usedforsecurity"), "bool"),
     "messages": "Iterable[_Bytes]", "path": "FileDescriptorOrPath",
     "progress": "Callable[[int], object] | None",
 }
@@ -203,21 +215,32 @@ class Results(unittest.TestCase):
             text = re.sub("^from _typeshed .*", "", file.read(), flags=re.MULTILINE)
         stub, library = types.ModuleType("stub"), vulfsjor._library
         exec(f"from __future__ import annotations\n{text}", vars(stub))  # pylint: disable=exec-used
-        things = {name for name, thing in vars(stub).items() if getattr(thing, "__module__", "") == "stub"}
+        things = {name for name, thing in vars(stub).items()
+                  if name[0] != "_" and getattr(thing, "__module__", "") == "stub"}
         self.assertEqual(things | set(stub.__annotations__),
-                         {"__version__", *(name for name in dir(library) if name[0] != "_")})
+                         {"__build__", "__version__", *(name for name in dir(library) if name[0] != "_")})
+        for name in things:
+            self.same_texts(getattr(stub, name), getattr(library, name))
         for name in things - {"InvalidTag"}:
             ours, theirs = getattr(stub, name), getattr(library, name)
             if not isinstance(theirs, type):
                 self.same_parameters(ours, theirs)
                 continue
             members = {member for member in dir(theirs) if member[0] != "_"}
-            self.assertEqual({member for member in (*vars(ours), *getattr(ours, "__annotations__", ()))
+            self.assertEqual({member for each in ours.__mro__[:-1]
+                              for member in (*vars(each), *vars(each).get("__annotations__", ()))
                               if member[0] != "_"}, members)
             self.assertEqual(hasattr(ours, "__final__"), name != "TreeHasher", name)
             self.same_parameters(ours.__new__, theirs)
             for member in filter(lambda member: callable(getattr(theirs, member)), members):
                 self.same_parameters(getattr(ours, member), getattr(theirs, member))
+            for member in filter(lambda member: member.islower(), members):
+                self.same_texts(getattr(ours, member), getattr(theirs, member))
+
+    def same_texts(self, ours, theirs):
+        """The doc comments, of which editors show those of the stub."""
+        self.assertTrue(theirs.__doc__, theirs)
+        self.assertEqual(inspect.getdoc(ours), inspect.getdoc(theirs), ours)
 
     def same_parameters(self, ours, theirs):
         """The parameters of a function of the stub and of the module, and the types of the first."""

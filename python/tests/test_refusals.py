@@ -140,6 +140,34 @@ class Verify(Test):
                 for tag in (plain.digest(), b"", b"wrong", "text", None):
                     self.refuses(ValueError, text, plain.verify, tag)
 
+    def test_short_tags(self):
+        """A MAC has at least 16 bytes, unless its maker says otherwise; and a hash with a key verifies none that is
+        shorter."""
+        for name, make, wanted, _, longest in FAMILIES:
+            mac = getattr(vulfsjor, f"{name}_mac")
+            for size in range(1, longest + 1):
+                tag = wanted(b"m", key=b"key", digest_size=size).digest()
+                for made in (mac(b"key", b"m", digest_size=size, allow_short=True), *(
+                        (mac(b"key", b"m", digest_size=size), make(b"m", key=b"key", digest_size=size),
+                         mac(b"key", b"m", digest_size=size, allow_short=False)) if size >= 16 else ())):
+                    self.assertIsNone(made.copy().verify(tag))
+                    self.assertEqual(made.digest(), tag)
+                    self.refuses(vulfsjor.InvalidTag, "the tag is not that of the message", made.verify, tag[:-1])
+                if size < 16:
+                    text = f"digest_size must be between 16 and {longest} bytes, or allow_short be True"
+                    self.refuses(ValueError, text, mac, b"key", digest_size=size)
+                    self.refuses(ValueError, text, mac, b"key", digest_size=size, allow_short=False)
+                    text = "verify needs a digest_size of at least 16: make an object for shorter tags by " \
+                           "blake2b_mac and its like, with allow_short=True"
+                    made = make(b"m", key=b"key", digest_size=size)
+                    self.refuses(ValueError, text, made.copy().verify, tag)
+                    self.assertEqual(made.digest(), tag)
+            for size in (0, longest + 1):
+                self.refuses(ValueError, f"digest_size must be between 1 and {longest} bytes", mac, b"key",
+                             digest_size=size, allow_short=True)
+            for wrong in (1, 0, None, "no", b""):
+                self.refuses(TypeError, "allow_short must be True or False", mac, b"key", allow_short=wrong)
+
     def test_the_exception(self):
         """It is a ValueError, and comes whole out of another process."""
         self.assertEqual(vulfsjor.InvalidTag.__mro__[1:3], (ValueError, Exception))

@@ -268,7 +268,7 @@ class Signals(Test):
     """Signals while threads hash: a handler runs in the thread that has called, and its exception ends the call."""
 
     @staticmethod
-    def fail():
+    def raise_lookup_error():
         raise LookupError("of the handler")
 
     def during(self, handle, call):
@@ -307,7 +307,7 @@ class Signals(Test):
                 self.assertEqual((other.digest(), other.count), (oracle.tree_root(DATA[:5], 1 << 14), 5))
                 raise
 
-        self.assertIsInstance(self.during(self.fail, update), LookupError)
+        self.assertIsInstance(self.during(self.raise_lookup_error, update), LookupError)
         self.assertTrue(have_ended())
 
     def test_an_interrupted_root(self):
@@ -323,7 +323,7 @@ class Signals(Test):
             lambda: vulfsjor.tree_root_file(path, 2**32 - 1, threads=3),
             lambda: vulfsjor.tree_root_file(reader, 1 << 16),
         ):
-            start, found = time.monotonic(), self.during(self.fail, call)
+            start, found = time.monotonic(), self.during(self.raise_lookup_error, call)
             self.assertEqual((type(found), str(found)), (LookupError, "of the handler"))
             self.assertLess(time.monotonic() - start, 20)
             self.assertTrue(have_ended())

@@ -53,6 +53,7 @@ from vulfsjor._library import (
     BLAKE2SP_SALT_SIZE as BLAKE2SP_SALT_SIZE,
     InvalidTag,
     TreeHasher,
+    __build__ as __build__,
     __version__ as __version__,
     blake2b,
     blake2b_mac,

@@ -85,7 +85,7 @@ def file_digest(file: _InMemory | _Readable, digest: type[_Output], /, *, length
 @overload
 def file_digest(file: _InMemory | _Readable, digest: type[_Mac], /, *, key: "Buffer",
                 digest_size: SupportsIndex = ..., salt: "Buffer" = ...,
-                person: "Buffer" = ...) -> _Mac: ...
+                person: "Buffer" = ..., allow_short: bool = ...) -> _Mac: ...
 @overload
 def file_digest(file: _InMemory | _Readable, digest: Literal["blake2b", "blake2s"], /, *,
                 digest_size: SupportsIndex = ..., key: "Buffer" = ..., salt: "Buffer" = ...,
@@ -107,8 +107,9 @@ def file_digest(file: _InMemory | _Readable, digest: Literal["blake2xb", "blake2
 def file_digest(file: _InMemory | _Readable,
                 digest: Literal["blake2b_mac", "blake2s_mac", "blake2bp_mac", "blake2sp_mac"], /, *,
                 key: "Buffer", digest_size: SupportsIndex = ..., salt: "Buffer" = ...,
-                person: "Buffer" = ...) -> (_library.blake2b_mac | _library.blake2s_mac |
-                                            _library.blake2bp_mac | _library.blake2sp_mac): ...
+                person: "Buffer" = ...,
+                allow_short: bool = ...) -> (_library.blake2b_mac | _library.blake2s_mac |
+                                             _library.blake2bp_mac | _library.blake2sp_mac): ...
 @overload
 def file_digest(file: _InMemory | _Readable, digest: Callable[[], _Other], /) -> _Other: ...
 def file_digest(file: Any, digest: Any, /, **parameters: Any) -> Any:
@@ -177,6 +178,8 @@ def tree_root_file(path: "FileDescriptorOrPath", /, leaf_size: int, *,
     bytes that were hashed so far, which is the length of the file at the last call. If it
     raises, or at KeyboardInterrupt, the threads stop and the exception is raised.
     """
+    if isinstance(path, bool):  # which io.FileIO takes for the descriptor 0 or 1
+        raise TypeError("path must be a path or a file descriptor, not a bool")
     if operator.index(threads) < 0:
         raise ValueError("threads must be 0 or more")
     hasher = _library.TreeHasher(leaf_size, digest_size=digest_size, salt=salt, person=person)
