@@ -70,6 +70,15 @@ export interface HashOptions extends ManyOptions {
   tree?: NodePosition | undefined;
 }
 
+/** An option of incremental hashes that only `verify` looks at. */
+export interface VerifyOptions {
+  /**
+   * Whether `verify` accepts a digest of fewer than 16 bytes. The default is false: anybody makes a
+   * tag of n bytes in at most 256^n tries. So `digestLength` must never be that of a tag that came.
+   */
+  allowShort?: boolean | undefined;
+}
+
 /** The options of a tree of two levels. */
 export interface TreeOptions {
   /** The length of a leaf in bytes, 1 to 2^32 - 1. */
@@ -180,12 +189,14 @@ export function blake2sp(message: Bytes, options?: ParallelOptions): Uint8Array;
 
 /**
  * Returns the BLAKE2b digests of several messages with the same options. Four messages in a row
- * that have the same length are hashed in parallel.
+ * that have the same length are hashed in parallel. Each message of an iterable that is no array is
+ * copied when it comes, so a generator may yield one buffer again and again.
  */
 export function blake2bMany(messages: Iterable<Bytes>, options?: ManyOptions): Uint8Array[];
 /**
  * Returns the BLAKE2s digests of several messages with the same options. Eight messages in a row
- * that have the same length are hashed in parallel.
+ * that have the same length are hashed in parallel. Each message of an iterable that is no array is
+ * copied when it comes, so a generator may yield one buffer again and again.
  */
 export function blake2sMany(messages: Iterable<Bytes>, options?: ManyOptions): Uint8Array[];
 
@@ -270,7 +281,8 @@ declare class Hasher {
   /**
    * Throws an `InvalidTagError` unless the tag is the whole digest; returns nothing. Ends the hash.
    * All bytes of a tag of the right length are compared, wherever they differ. A hash without a key,
-   * except a tree, throws a `TypeError` and goes on: compare digests with `equal`.
+   * except a tree, throws a `TypeError` and goes on: compare digests with `equal`. One whose digest
+   * has fewer than 16 bytes throws a `RangeError` and goes on, unless `allowShort` is true.
    */
   verify(tag: Bytes): void;
   /** Returns a separate hash that has absorbed the same bytes. */
@@ -285,22 +297,22 @@ declare class Hasher {
 
 /** An incremental BLAKE2b hash. */
 export class Blake2b extends Hasher {
-  constructor(options?: HashOptions);
+  constructor(options?: HashOptions & VerifyOptions);
 }
 
 /** An incremental BLAKE2s hash. */
 export class Blake2s extends Hasher {
-  constructor(options?: HashOptions);
+  constructor(options?: HashOptions & VerifyOptions);
 }
 
 /** An incremental BLAKE2bp hash. */
 export class Blake2bp extends Hasher {
-  constructor(options?: ParallelOptions);
+  constructor(options?: ParallelOptions & VerifyOptions);
 }
 
 /** An incremental BLAKE2sp hash. */
 export class Blake2sp extends Hasher {
-  constructor(options?: ParallelOptions);
+  constructor(options?: ParallelOptions & VerifyOptions);
 }
 
 /** Options of BLAKE2Xb and BLAKE2Xs. */
@@ -396,6 +408,12 @@ export function hashTransform(hash: AnyHash): {
   readable: GlobalReadable;
   writable: GlobalWritable;
 };
+
+/**
+ * Returns which code runs: the line of `dist/MANIFEST` for it, which is the SHA-256 of a file of
+ * `dist/`, two spaces, and its name. The modules of this package are made of that file.
+ */
+export function build(): string;
 
 /** Returns whether two byte arrays are equal. Compares all bytes of arrays of the same length. */
 export function equal(a: Bytes, b: Bytes): boolean;

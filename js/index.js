@@ -2,11 +2,12 @@
 // index.d.ts documents the interface.
 
 import {
-  OPTIONS, bytesOf, checkedSettings, flagOf, isBytes, kindOf, lengthOf, offsetOf, readSettings,
+  OPTIONS, bytesOf, checkedSettings, copyOf, flagOf, isBytes, kindOf, lengthOf, offsetOf, readSettings,
   refuseMore, settingsOf,
 } from "./src/arguments.js";
 import { BLAKE2B, Blake2b } from "./src/blake2b.js";
 import { BLAKE2S, Blake2s } from "./src/blake2s.js";
+import { line } from "./src/build.js";
 import { hash, isSame, load } from "./src/engine.js";
 import { InvalidTagError } from "./src/hashers.js";
 import { hex } from "./src/hex.js";
@@ -35,6 +36,8 @@ function hashOne(kind, caller, message, options, count) {
   return hash(kind, bytes, settingsOf(kind, options, caller));
 }
 
+const iteratorOfArrays = Array.prototype[Symbol.iterator];
+
 function hashSeveral(kind, caller, messages, options, rest) {
   refuseMore(rest.length, caller, 2);
   const isIterable = typeof messages?.[Symbol.iterator] === "function";
@@ -45,9 +48,14 @@ function hashSeveral(kind, caller, messages, options, rest) {
     );
   }
   const [, read] = readSettings(kind, options, caller, OPTIONS.basic);
-  const given = Array.from(messages);
+  // What an array holds is there all at once. Any other iterable may yield one buffer that it fills
+  // again and again, so each message is copied before the next is asked for.
+  const isArray = Array.isArray(messages) && messages[Symbol.iterator] === iteratorOfArrays;
+  const given = isArray
+    ? Array.from(messages)
+    : Array.from(messages, (message, i) => copyOf(bytesOf(message, caller, `message ${i}`)));
   const settings = checkedSettings(kind, read, caller); // again, after code of the caller
-  const bytes = given.map((message, i) => bytesOf(message, caller, `message ${i}`));
+  const bytes = isArray ? given.map((message, i) => bytesOf(message, caller, `message ${i}`)) : given;
   return hashMany(kind, bytes, settings);
 }
 
@@ -140,6 +148,11 @@ export function blake2spStream(source, options, ...rest) {
 
 export function treeRootStream(source, options, ...rest) {
   return hashStream(TREE, TreeHash, "treeRootStream", source, options, rest, threads);
+}
+
+export function build(...rest) {
+  refuseMore(rest.length, "build", 0);
+  return line;
 }
 
 export function equal(a, b, ...rest) {

@@ -2,7 +2,8 @@
 // holds it only during a call. Short updates only append to the bytes that wait after it.
 
 import {
-  bytesOf, copyOf, isPlainBytes, lengthOf, refuseDetached, refuseMore, settingsOf,
+  OPTIONS, bytesOf, copyOf, flagOf, isPlainBytes, lengthOf, readSettings, refuseDetached, refuseMore,
+  settingsOf,
 } from "./arguments.js";
 import * as engine from "./engine.js";
 import { hex } from "./hex.js";
@@ -20,6 +21,11 @@ export class InvalidTagError extends Error {
   }
 }
 
+// The bytes of the shortest tag that verify compares, unless the option allowShort is true.
+const LEAST_TAG = 16;
+
+const ENDED_BY = ", by digest, hex, verify, wipe or a failed call";
+
 // What pipes.js may do to a hash, and nobody else: the class below fills it in.
 const ofPipes = {};
 
@@ -28,6 +34,17 @@ export const isHasher = (value) => ofPipes.is(value);
 
 /** Refuses a hash with a pipe that has not ended: its digest would be that of a part. */
 export const refusePiped = (hasher, caller) => ofPipes.refuse(hasher, caller);
+
+/** Refuses a hash that has ended. */
+export const refuseEnded = (hasher, caller) => ofPipes.refuseEnded(hasher, caller);
+
+/** What node's stream.pipe() calls first, whose own error for what has no such method says nothing. */
+export function refusePipe() {
+  throw new TypeError(
+    "stream.pipe() needs a stream of node: use pipeline(stream, hashWritable(hash)) of node:stream, " +
+      "or blake2bStream(stream) and its like",
+  );
+}
 
 /** Notes whether a hash has a pipe that has not ended. Only that pipe goes on with the hash. */
 export const setPiped = (hasher, isPiped) => ofPipes.set(hasher, isPiped);
@@ -41,6 +58,7 @@ export class Hasher {
   #count = 0; // how many bytes the library has absorbed
   #digestLength;
   #isKeyed = false;
+  #allowsShort = false;
   #isPiped = false;
   #settings; // of a tree, which has no key: what reset initializes a new state from
 
@@ -54,7 +72,7 @@ export class Hasher {
     const kind = this.#kind;
     const caller = `new ${this.#name}`;
     refuseMore(more, caller, 1);
-    const settings = settingsOf(kind, options, caller);
+    const settings = this.#read(options, caller);
     this.#digestLength = settings.digestLength;
     if (kind.isTree) {
       const salt = copyOf(settings.salt);
@@ -64,6 +82,16 @@ export class Hasher {
     this.#state = engine.begin(kind, settings);
     this.#isKeyed = lengthOf(settings.key) > 0;
     this.#watch();
+  }
+
+  // The settings of the hash, and the option that only verify needs.
+  #read(options, caller) {
+    const kind = this.#kind;
+    if (options === undefined || kind.isTree) return settingsOf(kind, options, caller);
+    const known = [...OPTIONS[kind.options], "allowShort"];
+    const [settings, read] = readSettings(kind, options, caller, known);
+    this.#allowsShort = flagOf(read.allowShort, caller, "allowShort");
+    return settings;
   }
 
   #watch() {
@@ -77,6 +105,9 @@ export class Hasher {
       throw new TypeError(`${caller}: a pipe into this hash has not ended; wait for it first`);
     };
     ofPipes.set = (hasher, isPiped) => { hasher.#isPiped = isPiped; };
+    ofPipes.refuseEnded = (hasher, caller) => {
+      if (hasher.#hasEnded) throw new TypeError(`${caller}: this hash has ended${ENDED_BY}`);
+    };
   }
 
   // Refuses a call without its hash, which may be any value, and arguments beyond the last. Calls
@@ -94,10 +125,7 @@ export class Hasher {
   // The state, if the hash has not ended.
   #open(call) {
     if (this.#hasEnded) {
-      throw new TypeError(
-        `${this.#caller(call)}: this hash has ended, by digest, hex, verify, wipe ` +
-          "or a failed call",
-      );
+      throw new TypeError(`${this.#caller(call)}: this hash has ended${ENDED_BY}`);
     }
     return this.#state;
   }
@@ -173,6 +201,12 @@ export class Hasher {
           "compare digests with equal()",
       );
     }
+    if (this.#digestLength < LEAST_TAG && !this.#allowsShort && !this.#kind.isTree) {
+      throw new RangeError(
+        `${this.#caller("verify")}: a tag must have at least ${LEAST_TAG} bytes, ` +
+          `not ${this.#digestLength}, unless allowShort is true`,
+      );
+    }
     const state = this.#end("verify");
     if (!engine.verify(this.#kind, state, this.#waiting, this.#digestLength, bytes)) {
       throw new InvalidTagError(`${this.#caller("verify")}: the tag is wrong`);
@@ -188,6 +222,7 @@ export class Hasher {
     copy.#digestLength = this.#digestLength;
     copy.#settings = this.#settings;
     copy.#isKeyed = this.#isKeyed;
+    copy.#allowsShort = this.#allowsShort;
     copy.#state = engine.newState(this.#kind);
     copy.#watch();
     copy.#state.set(state);
@@ -212,6 +247,7 @@ export class Hasher {
   }
 }
 
+Object.defineProperty(Hasher.prototype, "on", { value: refusePipe });
 Object.defineProperty(Hasher.prototype, Symbol.dispose ?? Symbol.for("Symbol.dispose"), {
   value: Hasher.prototype.wipe,
   configurable: true,

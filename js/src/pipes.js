@@ -1,7 +1,7 @@
 // Streams that hash what is piped into them.
 
 import { bytesOf, kindOf, refuseMore } from "./arguments.js";
-import { isHasher, refusePiped, setPiped } from "./hashers.js";
+import { isHasher, refuseEnded, refusePipe, refusePiped, setPiped } from "./hashers.js";
 
 // Returns what absorbs a chunk. If it cannot, the hash ends.
 function absorber(hasher, caller, rest) {
@@ -13,6 +13,7 @@ function absorber(hasher, caller, rest) {
     );
   }
   refusePiped(hasher, caller);
+  refuseEnded(hasher, caller);
   return (chunk) => {
     setPiped(hasher, false);
     try {
@@ -32,7 +33,7 @@ export function hashWritable(hasher, ...rest) {
     write: absorb, close: () => setPiped(hasher, false), abort: () => hasher.wipe(),
   });
   setPiped(hasher, true);
-  return writable;
+  return Object.defineProperty(writable, "on", { value: refusePipe });
 }
 
 // The two ends of a TransformStream, which is not notified when its readable end is canceled or, while

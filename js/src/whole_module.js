@@ -34,7 +34,7 @@ export const BLAKE2XB = /* @__PURE__ */ new Kind(module, {
   keyLength: 64,
   saltLength: 16,
   blockLength: 128,
-  stateLength: 544,
+  stateLength: 464,
   options: "output",
 });
 export const BLAKE2XS = /* @__PURE__ */ new Kind(module, {
@@ -43,7 +43,7 @@ export const BLAKE2XS = /* @__PURE__ */ new Kind(module, {
   keyLength: 32,
   saltLength: 8,
   blockLength: 64,
-  stateLength: 304,
+  stateLength: 248,
   options: "output",
 });
 export const TREE = /* @__PURE__ */ new Kind(module, {
@@ -51,6 +51,6 @@ export const TREE = /* @__PURE__ */ new Kind(module, {
   digestLength: 64,
   saltLength: 16,
   blockLength: 128,
-  stateLength: 912,
+  stateLength: 752,
   options: "tree",
 });

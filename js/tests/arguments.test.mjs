@@ -10,9 +10,9 @@ import { memories } from "../src/engine.js";
 import { assertClean, hexOf, INDEX, printedBy } from "./common.mjs";
 
 const {
-  Blake2b, Blake2bp, Blake2s, Blake2sp, Blake2xb, TreeHash, blake2b, blake2bMany, blake2bStream, blake2bp,
-  blake2bpStream, blake2s, blake2sMany, blake2sStream, blake2sp, blake2spStream, deriveKey, equal, fromHex, hex, load,
-  treeLeaves, treeRoot, treeRootOfLeaves, treeRootStream, utf8,
+  Blake2b, Blake2bp, Blake2s, Blake2sp, Blake2xb, InvalidTagError, TreeHash, blake2b, blake2bMany, blake2bStream,
+  blake2bp, blake2bpStream, blake2s, blake2sMany, blake2sStream, blake2sp, blake2spStream, deriveKey, equal, fromHex,
+  hex, load, treeLeaves, treeRoot, treeRootOfLeaves, treeRootStream, utf8,
 } = vulfsjor;
 const M = utf8("abc");
 const WANTED = createHash("blake2b512").update("abc").digest("hex");
@@ -66,7 +66,8 @@ const NO_KEY = [
   Object.defineProperty({}, "key", { value: undefined }), { ...{ key: undefined } },
 ];
 const noKey = "key must not be undefined; for a hash without a key leave the option out";
-const MISSPELLED = ["dkLen", "outlen", "person", "personal", "Key", "digest_size", "length", "fanout", "tree"];
+const MISSPELLED =
+  ["dkLen", "outlen", "person", "personal", "Key", "digest_size", "length", "fanout", "tree", "allowShort"];
 
 const WORD = 2 ** 32 - 1;
 // The least number, and the least length of bytes, that options have.
@@ -80,7 +81,8 @@ const tree = { leafLength: WORD, digestLength: 64, salt: 16, personalization: 16
 const LEAF = { leafLength: 5 };
 const WITH_OPTIONS = [
   ...[["2b", { ...keyed(64, 16), tree: 0 }], ["2s", { ...keyed(32, 8), tree: 0 }], ["2bp", keyed(64, 16)],
-    ["2sp", keyed(32, 8)]].flatMap(([name, known]) => [[`blake${name}`, M, known], [`new Blake${name}`, null, known]]),
+    ["2sp", keyed(32, 8)]].flatMap(([name, known]) => [[`blake${name}`, M, known],
+    [`new Blake${name}`, null, { ...known, allowShort: 0 }]]),
   ["blake2bMany", [M], keyed(64, 16)], ["blake2sMany", [], keyed(32, 8)],
   ["new Blake2xb", null, output(2 ** 32 - 2, 64, 16)], ["new Blake2xs", null, output(2 ** 16 - 2, 32, 8)],
   ["treeRoot", M, tree, LEAF], ["new TreeHash", null, tree, LEAF], ["treeRootOfLeaves", bytes(64), tree, LEAF],
@@ -252,6 +254,76 @@ test("values near those that are refused", () => {
   assert.deepEqual(["00fFaB", "", "01"].map(fromHex), [[0, 255, 171], [], [1]].map((bytes) => Uint8Array.from(bytes)));
   assert.deepEqual([Uint8Array.of(0, 15, 255), new ArrayBuffer(2)].map(hex), ["000fff", "0000"]);
   assert.deepEqual(["a", "b"].map(utf8), [Uint8Array.of(97), Uint8Array.of(98)]);
+});
+
+test("what an iterable yields is that of its time", () => {
+  const DATA = Uint8Array.from({ length: 3000 }, (_, i) => i % 251);
+  function* blocks(size, view = (bytes) => bytes) { // as fs.readSync fills one buffer
+    const buffer = new Uint8Array(size);
+    for (let at = 0; at < DATA.length; at += size) {
+      const part = DATA.subarray(at, at + size);
+      buffer.set(part);
+      yield view(buffer.subarray(0, part.length));
+    }
+  }
+  const dataViewOf = ({ buffer, byteOffset, length }) => new DataView(buffer, byteOffset, length);
+  class Reused extends Array { [Symbol.iterator]() { return blocks(700); } }
+  const own = Object.assign([], { [Symbol.iterator]: () => blocks(700) });
+  for (const [one, many] of [[blake2b, blake2bMany], [blake2s, blake2sMany]]) {
+    for (const make of [
+      () => blocks(128), () => blocks(700), () => blocks(1, Buffer.from), () => blocks(999, dataViewOf),
+      () => new Reused(), () => own, () => ({ [Symbol.iterator]: () => blocks(1500) }),
+    ]) {
+      const wanted = [];
+      for (const message of make()) wanted.push(one(message));
+      assert.deepEqual(many(make()), wanted);
+    }
+    const buffer = utf8("last");
+    for (const several of [[buffer, buffer], new Set([buffer]), new Map([[1, buffer]]).values()]) {
+      assert.deepEqual(new Set(many(several).map(hex)), new Set([hex(one(buffer))]));
+    }
+    const key = utf8("a key");
+    const tags = many((function* () { for (let i = 0; i < 200; i++) { key[0] = i; yield M; } })(), { key });
+    assert.deepEqual(tags, tags.map(() => one(M, { key }))); // one key for all
+    let isClosed = false;
+    const wrong = (function* () { try { yield M; yield "text"; yield M; } finally { isClosed = true; } })();
+    refuses(() => many(wrong), TypeError, `${many.name}: message 1 must be a Uint8Array, another view or an ` +
+      "ArrayBuffer, not a string (utf8() encodes a string)");
+    assert.ok(isClosed);
+  }
+});
+
+test("verify compares tags of at least 16 bytes, unless the hash was made for shorter ones", () => {
+  const key = utf8("key");
+  for (const [Made, one, most] of [
+    [Blake2b, blake2b, 64], [Blake2s, blake2s, 32], [Blake2bp, blake2bp, 64], [Blake2sp, blake2sp, 32],
+  ]) {
+    for (let digestLength = 1; digestLength <= most; digestLength++) {
+      const tag = one(M, { key, digestLength });
+      const made = (more) => new Made({ key, digestLength, ...more }).update(M);
+      made({ allowShort: true }).verify(tag);
+      made({ allowShort: true }).copy().verify(tag);
+      assert.throws(() => made({ allowShort: true }).verify(tag.subarray(1)), InvalidTagError);
+      for (const more of [{}, { allowShort: false }, { allowShort: undefined }]) {
+        const hash = made(more);
+        if (digestLength >= 16) {
+          hash.verify(tag);
+          continue;
+        }
+        for (const each of [hash, hash.copy()]) {
+          refuses(() => each.verify(tag), RangeError, `${Made.name}.verify: a tag must have at least 16 bytes, ` +
+            `not ${digestLength}, unless allowShort is true`);
+        }
+        assert.deepEqual(hash.digest(), tag); // it goes on
+      }
+    }
+    for (const [value, said] of [[1, "a number"], [null, "null"], ["yes", "a string"], [{}, "an object"]]) {
+      refuses(() => new Made({ key, allowShort: value }), TypeError,
+        `new ${Made.name}: allowShort must be a boolean, not ${said}`);
+    }
+    const plain = new Made({ digestLength: 8, allowShort: true });
+    assert.throws(() => plain.verify(key), { message: /this hash has no key/ });
+  }
 });
 
 test("an option that is undefined is one that is not given, and a key that can be read is one", () => {
@@ -457,8 +529,11 @@ test("memory that code of the caller takes away during a call is no key of no by
     const key = newKey();
     assert.throws(() => many((function* () { take(key); yield M; })(), { key }), gone);
     const message = newKey();
-    assert.throws(() => many((function* () { yield message; take(message); })()),
+    const messages = Object.defineProperty([message, M], 1, { get() { take(message); return M; } });
+    assert.throws(() => many(messages),
       { name: "TypeError", message: /the memory of message 0 is detached or has shrunk$/ });
+    const other = newKey(); // which is copied when it comes
+    assert.deepEqual(many((function* () { yield other; take(other); })()), many([newKey()]));
   }
   for (const stream of [blake2bStream, blake2sStream]) {
     const key = newKey();

@@ -58,9 +58,10 @@ function makeCopy() {
 test("tools/build.mjs writes and compares the modules, and writes the page", () => {
   const { file, build } = makeCopy();
   assert.deepEqual(build(), [0, ""]);
-  const made = ["wasm", "wasm_blake2b", "wasm_blake2s", "worker_text"].map((name) => file(`js/src/${name}.js`));
+  const made = ["wasm", "wasm_blake2b", "wasm_blake2s", "build", "worker_text"].map((name) => file(`js/src/${name}.js`));
   const textsOf = () => made.map((path) => readFileSync(path, "utf8"));
   const before = textsOf();
+  assert.ok(before[3].endsWith(` = "${sha256(MODULE, "hex")}  wasm/vulfsjor.wasm";\n`));
   for (const text of before.slice(0, 3)) assert.ok(text.includes(`that module:       ${sha256(MODULE, "hex")}`));
   made.forEach((path, i) => writeFileSync(path, `${before[i]} `));
   assert.deepEqual(build("--check"),

@@ -28,6 +28,7 @@ test("npm packs what programs need, and installs it by the command of the pages,
   const folder = newFolder();
   const path = join(folder, "a clone");
   cpSync(top, join(path, "js"), { recursive: true });
+  cpSync(join(top, "../dist"), join(path, "dist"), { recursive: true });
   const [npm, ...words] = command.split(" ").map((word) => word.replace("PATH", path));
   const cwd = join(folder, "app");
   mkdirSync(cwd);
@@ -37,7 +38,7 @@ test("npm packs what programs need, and installs it by the command of the pages,
   const files = readdirSync(installed, { recursive: true }).filter((name) => /\./.test(name)).sort();
   assert.deepEqual(files, [
     "README.md", "index.d.ts", "index.js", "package.json", ...[
-      "arguments", "blake2b", "blake2s", "engine", "hashers", "hex", "leaves", "many", "parallel", "pipes", "platform",
+      "arguments", "blake2b", "blake2s", "build", "engine", "hashers", "hex", "leaves", "many", "parallel", "pipes", "platform",
       "ranges", "streams", "threads", "tree_hash", "vulfsjor_worker", "wasm", "wasm_blake2b", "wasm_blake2s",
       "whole_module", "worker_text", "workers", "xof",
     ].map((name) => `src/${name}.js`),

@@ -54,7 +54,8 @@ test("a method without its object says so", () => {
   const output = new Blake2xb({ key: KEY });
   for (const [what, object, other, count] of [["hash", hash, output, 10], ["output", output, hash, 7]]) {
     const { prototype } = Object.getPrototypeOf(object.constructor);
-    const names = Reflect.ownKeys(prototype).filter((name) => name !== "constructor");
+    // `on` refuses whatever it is called on
+    const names = Reflect.ownKeys(prototype).filter((name) => name !== "constructor" && name !== "on");
     assert.equal(names.length, count);
     for (const key of names) {
       const { value, get = value } = Object.getOwnPropertyDescriptor(prototype, key);

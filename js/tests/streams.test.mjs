@@ -433,6 +433,23 @@ test("only hashes are accepted, and no options", () => {
   }
 });
 
+test("stream.pipe() says what to call instead, and an ended hash absorbs no pipe", () => {
+  const message = "stream.pipe() needs a stream of node: use pipeline(stream, hashWritable(hash)) of node:stream, " +
+    "or blake2bStream(stream) and its like";
+  for (const hash of [new Blake2b(), new Blake2sp(), new TreeHash({ leafLength: 5 })]) {
+    for (const wrong of [hash, hashWritable(hash)]) {
+      assert.throws(() => Readable.from([BODY]).pipe(wrong), { name: "TypeError", message });
+    }
+    assert.deepEqual(Object.keys(hash), []);
+    const ended = hash.copy();
+    ended.digest();
+    for (const call of [hashWritable, hashTransform]) {
+      assert.throws(() => call(ended), { name: "TypeError", message:
+        `${call.name}: this hash has ended, by digest, hex, verify, wipe or a failed call` });
+    }
+  }
+});
+
 test("a hash with a pipe that has not ended is refused, and nothing is lost", async () => {
   const refuses = (hash) => {
     const message = "a pipe into this hash has not ended; wait for it first";

@@ -3,13 +3,14 @@
 //
 //   tools/build.mjs                writes src/wasm.js: the module with a 32-bit memory (memory32.mjs)
 //                                  in base64, and the hashes of both; src/wasm_blake2b.js and
-//                                  src/wasm_blake2s.js: the same with the functions of one hash; and
-//                                  src/worker_text.js: the script of a worker, from
-//                                  src/vulfsjor_worker.js
+//                                  src/wasm_blake2s.js: the same with the functions of one hash;
+//                                  src/build.js: its hash; and src/worker_text.js: the script of a
+//                                  worker, from src/vulfsjor_worker.js
 //   tools/build.mjs --check        compares these files with that instead
 //   tools/build.mjs --page FILE    writes the page in one file, from src/ and the files of demo/
 //
-// It refuses a file of dist/ that is not the one that dist/MANIFEST names. `npm pack` runs --check.
+// It refuses a file of dist/ that is not the one that dist/MANIFEST names. `npm pack` and `npm install`
+// of the folder run --check.
 import { createHash } from "node:crypto";
 import { readFileSync, writeFileSync } from "node:fs";
 import { fileURLToPath } from "node:url";
@@ -21,7 +22,7 @@ const MODULE = here("../../dist/wasm/vulfsjor.wasm");
 const sha256 = (bytes, encoding = "hex") => createHash("sha256").update(bytes).digest(encoding);
 
 function checkDist() {
-  const lines = readFileSync(here("../../dist/MANIFEST"), "utf8").matchAll(/^([0-9a-f]{64}) {2}(.+)$/gm);
+  const lines = readFileSync(here("../../dist/MANIFEST"), "utf8").matchAll(/^([0-9a-f]{64}) {2}([^.].*)$/gm);
   for (const [, sum, name] of lines) {
     if (sha256(readFileSync(here(`../../dist/${name}`))) !== sum) {
       console.error(`build: dist/${name} is not as in dist/MANIFEST`);
@@ -58,6 +59,14 @@ export function decode() {
   for (let i = 0; i < binary.length; i++) bytes[i] = binary.charCodeAt(i);
   return bytes;
 }
+`;
+}
+
+function lineOfManifest() {
+  return `// Made by tools/build.mjs from dist/wasm/vulfsjor.wasm. Do not edit.
+
+/** The line of dist/MANIFEST for the module. */
+export const line = "${sha256(readFileSync(MODULE))}  wasm/vulfsjor.wasm";
 `;
 }
 
@@ -114,6 +123,7 @@ else if (option === undefined || option === "--check") {
   for (const [name, exports] of Object.entries(MODULES)) {
     put(`../src/${name}`, wasmOf(readFileSync(MODULE), exports));
   }
+  put("../src/build.js", lineOfManifest());
   put("../src/worker_text.js", workerText());
 } else {
   console.error("usage: tools/build.mjs [--check | --page FILE]");

@@ -17,6 +17,8 @@ try {
 } catch (fault) {
   if (fault instanceof InvalidTagError) console.log(fault.name, fault.message);
 }
+new Blake2bp({ key: digest, digestLength: 8, allowShort: true }).verify(digest);
+new Blake2s({ ...options, allowShort: undefined });
 const ofEach: ManyOptions = { key: digest };
 const parallel: ParallelOptions = { key: digest, salt: digest, personalization: digest };
 const all = async (file: Blob, signal: AbortSignal): Promise<Uint8Array[]> => [
@@ -119,3 +121,10 @@ new Blake2sp({ tree: {} });
 blake2bpStream(file, { tree: {} });
 blake2spStream(file, { tree: {} });
 blake2bMany([digest], { tree: {} }); // several messages have no place in a tree
+blake2sMany([digest], { tree: {} });
+equal(blake2sStream([digest]), digest); // each stream returns a promise
+equal(blake2bpStream(file), digest);
+equal(blake2spStream(file), digest);
+equal(treeRootStream(file, { leafLength: 5 }), digest);
+blake2b(digest, { allowShort: true }); // only what verifies looks at the length of a tag
+new TreeHash({ leafLength: 5, allowShort: true });
