@@ -1,0 +1,79 @@
+#!/usr/bin/env python3
+"""Runs the vectors of BLAKE2 that Botan, Crypto++ and OpenSSL have over a shared library, and prints for each how many
+are right and how many are not.
+
+    tests/clients/vectors.py LIBRARY FOLDER     the folder of the sources
+"""
+import ctypes
+import re
+import sys
+
+SIZES = {"b": 64, "s": 32}
+
+
+def read(path):
+    with open(path, encoding="utf-8") as file:
+        return re.sub(r"(?m)^#.*\n", "", file.read())
+
+
+def fields_of(text):
+    """The fields of each block of lines `name = value` or `name: value`."""
+    for block in re.split(r"\n\s*\n", text):
+        yield dict(re.findall(r"(?m)^(\w+) *[=:] *(.*?)\s*$", block))
+
+
+def bytes_of(text):
+    return text[1:-1].encode() if text.startswith('"') else bytes.fromhex(text)
+
+
+def botan(folder):
+    """Each section is of digests of so many bits."""
+    for bits, text in re.findall(r"(?ms)^\[BLAKE2b\((\d+)\)\]\n(.*?)(?=^\[|\Z)",
+                                 read(f"{folder}/botan/src/tests/data/hash/blake2b.vec")):
+        for fields in fields_of(text):
+            if fields:
+                yield "b", int(bits) // 8, bytes_of(fields["In"]), b"", b"", b"", bytes_of(fields["Out"])
+
+
+def cryptopp(folder):
+    for letter in "bs":
+        text = read(f"{folder}/libcrypto++/TestVectors/blake2{letter}.txt")
+        for message, digest in re.findall(r"(?m)^Message: (.*)\nDigest: (.*)$", text):
+            yield letter, SIZES[letter], bytes_of(message.strip()), b"", b"", b"", bytes_of(digest.strip())
+
+
+def openssl(folder):
+    """Of the MACs some are for lengths that are refused."""
+    for name in ("md", "mac"):
+        for fields in fields_of(read(f"{folder}/openssl/test/recipes/30-test_evp_data/evp{name}_blake.txt")):
+            kind = fields.get("Digest", fields.get("MAC"))
+            if kind:
+                letter = kind[6].lower()
+                size = int(fields.get("Ctrl", f"size:{SIZES[letter]}").partition(":")[2])
+                wanted = None if fields.get("Result") == "MAC_INIT_ERROR" else bytes_of(fields["Output"])
+                values = (bytes_of(fields.get(field, "")) for field in ("Input", "Key", "Salt", "Custom"))
+                yield (letter, size, *values, wanted)
+
+
+def digest(library, letter, size, message, *texts):
+    """The digest, or None if the lengths of the key, the salt and the personalization are refused."""
+    call = f"vulfsjor_ffi_blake2{letter}_"
+    state = ctypes.create_string_buffer(getattr(library, call + "state_size")())
+    out = ctypes.create_string_buffer(size)
+    given = [part for text in texts for part in (text, ctypes.c_size_t(len(text)))]
+    if getattr(library, call + "init_salt_personal")(state, ctypes.c_size_t(size), *given):
+        return None
+    if getattr(library, call + "update")(state, message, ctypes.c_size_t(len(message))) or \
+            getattr(library, call + "final")(state, out, ctypes.c_size_t(size)):
+        sys.exit("a call fails")
+    return out.raw
+
+
+def main():
+    library, folder = ctypes.CDLL(sys.argv[1]), sys.argv[2]
+    for peer in botan, cryptopp, openssl:
+        found = [digest(library, *values) == wanted for *values, wanted in peer(folder)]
+        print(f"{peer.__name__}: {found.count(True)} right, {found.count(False)} wrong")
+
+
+main()

@@ -1,0 +1,19 @@
+#!/usr/bin/env bash
+# The vectors of BLAKE2 of Botan, Crypto++ and OpenSSL, over the shared library.
+source "$(dirname "$(readlink -f "$0")")/common.sh"
+
+# What vectors.py prints of a library is these lines: LIBRARY LINE..
+vectors_are() { printf '%s\n' "${@:2}" | diff - <(python3 "$clients/vectors.py" "$1" "$fetched"); }
+
+test_vectors() {
+    check "a planted byte" plant "$shared" "$work/planted.so"
+    needs_sources botan libcrypto++ openssl
+    has python3 || missing="no python3"
+    check "the vectors of Botan, Crypto++ and OpenSSL" vectors_are "$shared" "botan: 1037 right, 0 wrong" \
+        "cryptopp: 218 right, 0 wrong" "openssl: 59 right, 0 wrong"
+    # Two of OpenSSL's are refused for their lengths.
+    check "the vectors with a planted byte" vectors_are "$work/planted.so" "botan: 0 right, 1037 wrong" \
+        "cryptopp: 0 right, 218 wrong" "openssl: 2 right, 57 wrong"
+}
+
+part test_vectors
