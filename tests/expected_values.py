@@ -82,13 +82,14 @@ def transcripts():
 
 def large():
     """large: over 1,048,577 bytes, byte i being i modulo 251: the line of `sum`, and the digest of what
-    `steps` prints; the line of `tree b256` for each length of a leaf; and the digest of what `leaves` prints over all
-    except the last byte."""
+    `steps` prints; the line of `tree b256` for each length of a leaf, if it is 1 over 65,600 bytes; and the digest of
+    what `leaves` prints over all except the last byte."""
     message = bytes(i % 251 for i in range(2**20 + 1))
     for kind in ("b512", "s256"):
         text = transcript_text(kind, message)
         yield f"  {kind}: {blake2(*KINDS[kind], message).hex()}, {len(text)} bytes, {digest(text)}"
-    for leaf in (1, 64, 1000, 4096, 20000, 2**20, 2**20 + 1, 2**26):
+    yield f"  1: {tree_root(message[:65600], 1, 32).hex()}"
+    for leaf in (64, 1000, 4096, 20000, 2**20, 2**20 + 1, 2**26):
         yield f"  {leaf}: {tree_root(message, leaf, 32).hex()}"
     for leaf, first, end in ((64, 7, "more"), (64, 7, "last"), (1000, 3, "last"), (2**18, 0, "more"),
                              (2**19, 1, "last")):

@@ -11,7 +11,8 @@ import sys
 from typing import Optional
 
 sys.path.insert(0, os.path.join(os.path.dirname(os.path.abspath(__file__)), ".."))
-from b2_model import Input, output, unknown_length  # noqa: E402
+from b2_model import (  # noqa: E402
+    Input, Place, bytes_of, compress, entries, output, parameter_words, unknown_length)
 from oracle import SCALAR, parallel_by_hashlib, parallel_digest, range_digests, root_of_leaves, tree_root  # noqa: E402
 from common import FAMILIES  # noqa: E402
 
@@ -77,7 +78,7 @@ def read_given(name, words):
             wrong.append(argument)
         elif is_text:
             given[argument] = read_bytes(word)
-            wrong += [argument] * (not least <= len(given[argument]) <= most)
+            wrong += [argument] * (not max(least, argument == "key") <= len(given[argument]) <= most)
         else:
             given[argument] = most if word == "unknown" else int(word)
             is_unknown = "x" in name and argument == "size" and given[argument] == most and word != "unknown"
@@ -103,16 +104,36 @@ def digest(name, message, items, last):
                                               **node | {"last_node": bool(last)}).digest()
 
 
+def digest_after(skipped, name, message, given, last):
+    """The digest of BLAKE2b or BLAKE2s, where each counter is greater by a number."""
+    family = SCALAR[family_of(name)]
+    place = Place(*(given.get(each, otherwise) for each, otherwise in zip(NODE, (1, 1, 0, 0, 0, 0))))
+    texts = {each: given.get(word, b"") for each, word in (("salt", "salt"), ("persona", "person"))}
+    size = given.get("size", family.digest)
+    whole = Input(message, given.get("key"), **texts, place=place, last_node=bool(last))
+    h = [a ^ b for a, b in zip(family.iv, parameter_words(family, size, whole))]
+    for block, counter, *flags in entries(family, whole):
+        h = compress(family, h, (block, counter + skipped, *flags))
+    return bytes_of(family, h)[:size]
+
+
 @dataclasses.dataclass
 class State:
-    """A state: the arguments of its hash, what it has absorbed, and how much of an output was read."""
+    """A state: the arguments of its hash, what it has absorbed, how much of an output was read, and the count that it
+    was given."""
     name: str
     given: dict
     message: bytes = b""
     last: int = 0
     place: Optional[int] = None
+    skipped: int = 0
+
+    def count(self):
+        return self.skipped + len(self.message)
 
     def digest(self):
+        if self.skipped:
+            return digest_after(self.skipped, self.name, self.message, self.given, self.last)
         return digest(self.name, self.message, tuple(self.given.items()), self.last)
 
     def length(self):
@@ -180,14 +201,22 @@ class Model:
         state = self.state(slot)
         if state.place is not None:
             raise Refused("state")
-        state.message += self.some(message)
+        added, block = self.some(message), SCALAR[family_of(state.name)].block
+        if state.count() + len(added) + block * ("key" in state.given) >= 2**64:
+            raise Refused("message")
+        state.message += added
+
+    def skip(self, slot, count):
+        state = self.state(slot)
+        assert not state.message and int(count) % SCALAR[family_of(state.name)].block == 0
+        state.skipped = int(count)
 
     def copy(self, slot, other):
         self.slots[other] = dataclasses.replace(self.state(slot))
 
     def reset(self, slot):
         state = self.state(slot)
-        state.message, state.place = b"", None
+        state.message, state.place, state.skipped = b"", None, 0
 
     def last(self, slot, flag):
         self.state(slot).last = int(flag)
@@ -204,7 +233,7 @@ class Model:
         return yes_or_no(hmac.compare_digest(self.end(slot).digest(), given))
 
     def count(self, slot):
-        return len(self.state(slot).message)
+        return self.state(slot).count()
 
     def left(self, slot):
         return self.state(slot).left()

@@ -80,6 +80,8 @@ class Hashlib(Driver):
     hashes = ("blake2b", "blake2s")
 
     def made(self, words, message=b""):
+        if words.get("key") == "-":
+            raise Absent("an empty key, which is none")
         names = {"size": "digest_size", **NODE}
         given = {names.get(word, word): read_bytes(value) if word in ("key", "salt", "person") else number(value)
                  for word, value in words.items()}
@@ -167,6 +169,11 @@ class Libb2(Driver):
     def update(self, slot, message):
         self.call("_update", self.of(slot)[0], *self.text(message))
 
+    def skip(self, slot, count):
+        """A state has two words of counter behind its eight chaining words."""
+        state, width = self.of(slot)[0], self.most // 8
+        state[8 * width:10 * width] = int(count).to_bytes(2 * width, "little")
+
     def copy(self, slot, other):
         state, size = self.of(slot)
         self.states[other] = new_state(state.raw), size
@@ -177,12 +184,14 @@ class Libb2(Driver):
         return out.raw.hex()
 
     def hash(self, _, message, **words):
-        size, key = number(words.pop("size", str(self.most))), words.pop("key", "-")
+        size, key = number(words.pop("size", str(self.most))), words.pop("key", None)
         if words or not -1 < size < 1 << 32:
             raise Absent("salts and tree parameters")
+        if key == "-":
+            raise Absent("an empty key, which is none in one call")
         out = ctypes.create_string_buffer(max(size, 1))
-        (data, length), (key, key_length) = self.text(message), self.text(key)
-        self.call("", out, data, key or None, size, length, key_length)
+        (data, length), (key, key_length) = self.text(message), (None, 0) if key is None else self.text(key)
+        self.call("", out, data, key, size, length, key_length)
         return out.raw[:size].hex()
 
 
@@ -210,6 +219,8 @@ class Go(Driver):
     def made(self, words):
         if not set(words) <= {"size", "key"}:
             raise Absent("salts and tree parameters")
+        if words.get("key") == "-":
+            raise Absent("an empty key, which is none")
         key, family = digits_of(words.get("key", "-")), family_of(self.name)
         size = words.get("size", "unknown" if "x" in self.name else str(FAMILIES[family].key))
         if "x" in self.name:
@@ -345,7 +356,7 @@ def run_cases(kind, name, path):
     with open(path, encoding="ascii") as file:
         cases = re.split(r"^case ", file.read(), flags=re.M)[1:]
     for case in cases:
-        title, *lines = filter(None, case.split("\n"))
+        title, *lines = (line for line in case.split("\n") if line and line[0] != "#")
         driver = kind(name)
         try:
             for line in lines:
@@ -387,8 +398,8 @@ def main():
     parser.add_argument("folder")
     chosen = parser.parse_args()
     kinds = (("hashlib", Hashlib), ("libb2", Libb2), ("Go", Go))
-    if chosen.libb2:
-        Libb2.library, kinds = ctypes.CDLL(chosen.libb2), kinds[1:2]
+    if chosen.libb2:  # whose states may be others
+        Libb2.library, Libb2.skip, kinds = ctypes.CDLL(chosen.libb2), None, kinds[1:2]
     if chosen.b2:
         B2.path, kinds = os.path.abspath(chosen.b2), (("b2", B2),)
     with open(os.path.join(HERE, "others.txt"), encoding="utf-8") as file:

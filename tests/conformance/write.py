@@ -2,9 +2,12 @@
 """Writes the conformance cases of BLAKE2, a file for each hash (README.md says what is in them):
 
     tests/conformance/write.py FOLDER [HASH..]      writes blake2b.txt to tree.txt
+    tests/conformance/write.py --sums FOLDER        the same, and their sums into SUMS
 
-Here are the calls only. What each has to return is added by model.py, from hashlib and an independent model.
+Here are the calls only. What each has to return is added by model.py, from hashlib and an independent model. The status
+is 1 if a file is not the one that SUMS has.
 """
+import hashlib
 import os
 import random
 import sys
@@ -18,6 +21,23 @@ from common import FAMILIES, Parser  # noqa: E402
 KEY, SALT, PERSON = 5000, 6000, 7000  # where keys, salts and personalizations begin
 TEXTS = ("key", "salt", "person")
 NODE = ("fanout", "depth", "leaf", "offset", "node", "inner", "last")
+SUMS = os.path.join(os.path.dirname(os.path.abspath(__file__)), "SUMS")
+# What each group of cases is for, by its name, or by the first word of that.
+PURPOSES = {
+    "length": "messages of each length around the blocks, up to 300,000 bytes", "size": "each length of a digest",
+    "key": "each length of a key", "salt": "each length of a salt", "person": "each length of a personalization",
+    "random": "random arguments and lengths", "node": "nodes of trees, each parameter at its edges",
+    "flag": "a last-node flag that is set and cleared at any time", "cut": "two pieces, at each cut around the blocks",
+    "pieces": "many pieces of random lengths", "tag": "the right tag, and wrong ones of several lengths",
+    "equal": "long bytes that are equal or differ", "refused": "arguments that are out of bounds, and the state after",
+    "taken": "arguments at their bounds", "ended": "each call after each end", "reset": "a state that is as new again",
+    "walk": "random calls of several states", "many": "several messages in one call",
+    "read": "an output in pieces, and what is refused meanwhile", "reads": "an output in random pieces",
+    "left": "how much of an output is left", "derive": "derived keys", "root": "roots of trees",
+    "leaves": "digests of ranges of leaves", "top": "roots of the digests of leaves",
+    "next": "leaves that others hash", "counter": "counters that change in each bit, and those near 2^64",
+    "empty": "a key of no bytes, which is no absent key",
+}
 
 
 def words(**given):
@@ -39,7 +59,8 @@ class Writer:
 
     def case(self, what, *calls):
         number = self.names[what] = self.names.get(what, 0) + 1
-        self.lines += ["", f"case {self.name}.{what}.{number}"]
+        purpose = PURPOSES[what.partition("-")[0]]
+        self.lines += ["", *[f"# {what}: {purpose}"] * (number == 1), f"case {self.name}.{what}.{number}"]
         self.model = Model()
         for call in calls:
             self.call(call)
@@ -174,6 +195,7 @@ def tags(w):
                    "update a 0:1")
             w.case("tag", f"equal {right.hex()} {tag.hex() or '-'}")
         w.case("tag", w.new(**given), "update a 3:90", "verify a none", f"verify a {right.hex()}")
+    w.case("tag", w.new(**{"leaf": 9} if w.is_tree else {"key": w.longest}), "verify a 0:600000", "verify a 0:1")
     for start, end in ((0, 300000), (1, 300001), (256, 300256), (0, 129024), (0, 299999)):
         w.case("equal", f"equal 0:300000 {start}:{end}")
 
@@ -182,7 +204,6 @@ def values_at_edges(w, name):
     """Values of an argument that are refused, and such that are accepted."""
     least, most = w.limits[name]
     if name in TEXTS:
-        # An empty key is a matter of the language.
         return [most + 1, most + 2, 2 * most, 255, 256, 257, 65536, "none"], [
             int(name == "key"), least + 1, most - 1, most]
     wrong = [least - 1, most + 1, most + 2, *(2**n + more for n in (8, 16, 32, 48, 63, 64) for more in (0, 1, 9))]
@@ -358,25 +379,66 @@ def parts_of_trees(w):
            "digest a")
 
 
+def counters(w):
+    """Counters with each bit, which are set, and around 2^64."""
+    for bit in range(10, 64):
+        given, length, skipped = w.arguments(), 3 * w.block + bit % 9, 2**bit - w.block * (1 + bit % 2)
+        w.case("counter", w.new(**given), f"skip a {skipped}", "count a", f"update a 0:{length}", "copy a b", "count b",
+               "digest b", f"update a 0:{length}", "digest a")
+    for key, room in [(key, room) for key in (0, w.longest) for room in (1, 2, 3, 40)]:
+        given = {**w.arguments(), "key": key} if key else {"size": w.longest}
+        skipped, most = 2**64 - w.block * (room + (key > 0)), w.block * room - 1
+        for length in (0, most - 1, most):
+            w.case("counter-end", w.new(**given), f"skip a {skipped}", f"update a 0:{length}", "count a", "digest a")
+        w.case("counter-refused", w.new(**given), f"skip a {skipped}", f"update a 0:{most + 1}", f"update a 0:{most}",
+               "update a 0:1", "update a -", "update a 0:5000", "count a", "copy a b", "digest a", "reset b", "count b",
+               "update b 0:300", "digest b")
+
+
+def empty_keys(w):
+    size = w.longest - 1
+    w.case("empty-key", w.new(key="-"))
+    w.case("empty-key", w.new(key="-", size=size, salt=w.salt))
+    w.case("empty-key", w.new(), f"new a {w.name} key=-", "update a 0:1")
+    for length in (0, 1, w.block):
+        w.case("empty-key", f"hash {w.name} 0:{length} size={size} key=-")
+    if w.has_nodes:
+        w.case("empty-key", f"many {w.name} 0:3 4:9 key=-")
+
+
 def text_of(name):
     w = Writer(name)
     for kind in (lengths, sizes, random_hashes, *[nodes] * w.has_nodes, pieces, *[tags] * (not w.is_output), refusals,
                  ended, resets, walks, *[several] * w.has_nodes, *[outputs] * w.is_output,
-                 *[trees, parts_of_trees] * w.is_tree):
+                 *[trees, parts_of_trees] * w.is_tree, *[counters] * w.has_nodes, *[empty_keys] * ("key" in w.limits)):
         kind(w)
-    return "\n".join([f"# {name}: conformance cases of BLAKE2, format 1. README.md describes them.", *w.lines, ""])
+    return "\n".join([f"# {name}: conformance cases of BLAKE2, format 2. README.md describes them.", *w.lines, ""])
+
+
+def sum_of(name, text):
+    """The line of SUMS, which b2sum reads."""
+    return f"{hashlib.blake2b(text.encode()).hexdigest()}  {name}.txt\n"
 
 
 def main():
     parser = Parser(description=__doc__.split("\n\n")[0])
+    parser.add_argument("--sums", action="store_true", help="write SUMS too")
     parser.add_argument("folder")
     parser.add_argument("names", nargs="*", default=HASHES, help="the hashes, all of them by default")
-    chosen = parser.parse_args()
+    chosen, made = parser.parse_args(), []
     with ProcessPoolExecutor() as pool:
         for name, text in zip(chosen.names, pool.map(text_of, chosen.names)):
             with open(os.path.join(chosen.folder, f"{name}.txt"), "w") as file:
                 file.write(text)
+            made.append(sum_of(name, text))
+    with open(SUMS, "w+" if chosen.sums else "r", encoding="ascii") as file:
+        file.writelines(made if chosen.sums else [])
+        file.seek(0)
+        wrong = [line.split()[1] for line in set(made) - set(file)]
+    for name in wrong:
+        print(f"write.py: {name} is not as tests/conformance/SUMS says", file=sys.stderr)
+    return bool(wrong)
 
 
 if __name__ == "__main__":
-    main()
+    sys.exit(main())
