@@ -49,6 +49,7 @@ OPERANDS: tuple = (
         "memory", base=operand(m[1]), index=operand(m[2]) if m[2] else None, offset=int(m[3] or "0", 0),
         mode="before" if m[4] else "at")),
     (r"(lsl|lsr|ror) #(\d+)", lambda m: Operand("shift", name=m[1], count=int(m[2]))),
+    (r"sxt([hw])", lambda m: Operand("shift", n=WIDTHS[m[1]])),
     (r".*", lambda m: Operand("word", text=m[0])),
 )
 
@@ -161,10 +162,10 @@ class Arm(Processor):
     def leave(self, link: T.Term) -> None:
         """That register belongs to the call."""
 
-    def lost_vector(self, j: int, old: list, is_compression: bool) -> list:
+    def lost_vector(self, j: int, old: list, what: str) -> list:
         """The low halves of 8 to 15 belong to the caller."""
         start = 8 if 8 <= j < 16 else 0
-        return old[:start] + self.values.lost(16 - start, is_compression)
+        return old[:start] + self.values.lost(16 - start, what)
 
     # Operands.
 
@@ -221,7 +222,7 @@ class Arm(Processor):
         if i.name[2:] not in CONDITIONS or i.name[:2] != "b.":
             raise i.unknown()
         self.need_public_flags()
-        if self.values.flags is not None and self.values.flags[0] == "ccmp":
+        if self.values.flags.kind == "ccmp":
             return None
         return self.compared(i.name[2:])
 
@@ -298,6 +299,12 @@ class Arm(Processor):
             return T.split(T.add(64, (1, image()), (1, T.const(64, ops[1].value))))
         if name in ("mov", "fmov", "umov"):
             return (self.read(ops[1], size) + [0] * size)[:size]
+        if name in ("sxth", "sxtw"):
+            return self.values.extended(self.read(ops[1])[:WIDTHS[name[-1]]], size)
+        if name in ("bfi", "bfxil") and ops[2].value % 8 == ops[3].value % 8 == 0:
+            k, n, old = ops[2].value // 8, ops[3].value // 8, self.read(to)
+            k, start = (k, 0) if name == "bfi" else (0, k)
+            return old[:k] + self.read(ops[1])[start:start + n] + old[k + n:]
         if name == "movk":
             k = ops[2].count // 8 if len(ops) == 3 else 0
             old = self.read(to)
@@ -305,8 +312,10 @@ class Arm(Processor):
         return None
 
     def shifted(self, o: Operand, shift: Operand, size: int) -> Operand:
-        """A shifted operand."""
+        """An operand that is shifted, or whose low bytes are a number with a sign."""
         k = shift.count
+        if shift.n:
+            return Operand("value", data=self.values.extended(self.read(o)[:shift.n], size))
         if o.kind == "number":
             return Operand("number", value=o.value << k)
         return Operand("value", data=self.quietly(

@@ -8,6 +8,7 @@ length of an output of BLAKE2X is known in advance in some, and not in others.
 
 Prints each case and its number of paths, or why it is refused."""
 
+import itertools
 import sys
 from functools import partial
 from typing import Any, Callable, Iterator
@@ -53,7 +54,8 @@ class Case:
 
     def __init__(self, cases: Any, choices: tuple = ()) -> None:
         """With the first choices, by their places among others."""
-        self.calls, self.kind, self.wiped, self.choices = cases.calls, cases.kind, cases.wiped, choices
+        self.calls, self.kind, self.fields, self.choices = cases.calls, cases.kind, cases.fields, choices
+        self.visit, self.bytes = cases.visit, Terms(cases.calls, None)
         self.chosen: list = []
         self.others: list = []         # the first choices of cases that choose otherwise
         self.known = Facts()
@@ -65,6 +67,8 @@ class Case:
         self.after: Any = None         # the state after the call, if it is refused
         self.reads_key: tuple = ()     # the conditions of must_scrub, if the call absorbs bytes
         self.is_known = True           # of BLAKE2X: whether the length of the output is
+        self.has_nulls = cases.has_nulls
+        self.nulls: dict = {}          # whether buffers are null, of those that may be
         self.is_refused, self.fails = self.one_of(False, True), False
 
     def one_of(self, *choices: Any) -> Any:
@@ -105,17 +109,18 @@ class Case:
     def bound(self, numbers: tuple, low: int, high: int) -> None:
         """Lets a sum be between two numbers."""
         self.known = self.known.between([t if isinstance(t, tuple) else (1, t) for t in numbers], low, high)
-        name = numbers[0].args if len(numbers) == 1 and isinstance(numbers[0], T.Term) else None
+        name = variable_of(numbers[0]).args if len(numbers) == 1 and isinstance(numbers[0], T.Term) else None
         if name in self.limits:
             least, most = self.limits[name]
             self.limits[name] = max(least, low), min(most, high)
 
     def require(self, conditions: list) -> None:
-        """Lets all of some conditions hold. Or, if the call is refused, one of them fails, by a number below its bounds
-        or above."""
-        failing = [way for condition in conditions for way in beyond(*condition)] if self.is_refused else []
-        way = self.one_of(None, *failing)
-        for condition in [way] if way else conditions:
+        """Lets all of some conditions hold. Or, if the call is refused, one of them is the first that fails, by a
+        number below its bounds or above."""
+        failing = [(k, way) for k, condition in enumerate(conditions) for way in beyond(*condition)]
+        first = self.one_of(None, *failing * self.is_refused)
+        k, *way = first or (len(conditions),)
+        for condition in conditions[:k] + way:
             self.bound(*condition)
         if way:
             self.fails = True
@@ -126,19 +131,32 @@ class Case:
         if self.is_refused != self.fails:
             return False
         found = self.known.are_possible()
-        if not found and not self.fails:
+        if not found and not self.fails and not any(self.nulls.values()):
             raise CannotShow("no call is accepted in this case")
         return found
 
     # Arguments.
 
+    def field(self, f: S.Field) -> T.Term:
+        """A variable in a field of a struct, with zeros above."""
+        return T.word(T.split(self.variable(f.name, 8 * f.size)) + [0] * (8 - f.size))
+
     def secrets(self, name: str, size: int, w: int) -> list:
         """The bytes of words of w bits."""
         return [b for k in range(8 * size // w) for b in T.split(T.var(w, "%s.%d" % (name, k), T.SECRET))]
 
-    def add_argument(self, name: str, region: Any) -> None:
-        """A pointer, which is not 0, to some memory."""
-        address = self.places[name] = self.number(name + " address", 1, 1 << 63)
+    def chooses_null(self, name: str, length: T.Term) -> bool:
+        """Whether a pointer to a buffer of this length is null. Then it has no bytes."""
+        least = length.args if length.op == "const" else self.limits.get(length.args, FREE)[0]
+        if self.has_nulls and not least:
+            self.nulls[name] = self.one_of(False, True)
+        if self.nulls.get(name):
+            self.bound((length,), 0, 0)
+        return self.nulls.get(name, False)
+
+    def add_argument(self, name: str, region: Any, is_null: bool = False) -> None:
+        """A pointer to some memory."""
+        address = self.places[name] = T.const(64, 0) if is_null else self.number(name + " address", 1, MOST)
         self.regions[address] = region
         self.arguments.append(address)
 
@@ -149,26 +167,21 @@ class Case:
 
     def pass_buffer(self, name: str, length: Any, taint: int = T.SECRET) -> Any:
         """A pointer to a buffer, and its length. Of the output no byte beyond the longest digest may be written."""
+        is_null = self.chooses_null(name, length)
         buffer = Buffer(name, length, taint, name == "out")
-        self.add_argument(name, buffer)
+        self.add_argument(name, buffer, is_null)
         self.arguments.append(length)
         return buffer
 
     def pass_state(self, **fields: Any) -> Any:
         """A pointer to a state with these numbers; other fields have any values."""
-        for name, old in vars(self.wiped).items():
-            w = self.kind.w if name in ("chain", "first") else 8
-            if name not in fields:
-                fields[name] = self.number(name) if isinstance(old, int) else self.secrets(name, len(old), w)
-        self.state = self.after = self.wiped.but(**fields)
-        self.pass_struct("state", self.bytes_of(self.state))
+        for f in self.fields:
+            if f.name not in fields:
+                fields[f.name] = self.secrets(f.name, f.size, 8 * f.element) if f.element else self.field(f)
+        fields["first"][1:2] = S.key_byte(self.bytes, self.kind, T.split(self.variable("key's length", 8)))
+        self.state = self.after = S.State(**fields)
+        self.pass_struct("state", bytes_of(self.fields, self.state))
         return self.state
-
-    @staticmethod
-    def bytes_of(state: S.State) -> list:
-        """The bytes of a state in memory."""
-        return joined(v if isinstance(v, list) else T.split(T.const(64, v) if isinstance(v, int) else v)
-                      for v in vars(state).values())
 
     # What the call does.
 
@@ -201,6 +214,7 @@ class Case:
             if self.reads_key and must_scrub and not end.is_scrubbed:
                 raise IsWrong("scrub_stack is not called at the end")
             self.calls.cpu(end).need_vectors()
+            self.visit(end)
         return len(ends)
 
     def compare(self, m: Any, result: Any, state: Any, out: Any) -> None:
@@ -212,7 +226,7 @@ class Case:
             wanted = T.split(T.const(32, result) if isinstance(result, int) else result)
             need("the result", self.calls.cpu(m).answer()[:len(wanted)], wanted)
         if "state" in self.places:
-            need("the state", self.left(m, "state", len(self.structs["state"])), self.bytes_of(state))
+            need("the state", self.left(m, "state", len(self.structs["state"])), bytes_of(self.fields, state))
         if callable(out):
             out(m)
         elif m.pieces:
@@ -229,6 +243,18 @@ class Case:
         return [m.memory.get((at, k), self.regions[at].initial(k)) for k in range(n)]
 
 
+def bytes_of(fields: tuple, values: S.State) -> list:
+    """The bytes of a struct in memory."""
+    words = ((f, vars(values)[f.name]) for f in fields)
+    return joined(v if f.element else T.split(T.const(64, v) if isinstance(v, int) else v)[:f.size] for f, v in words)
+
+
+def variable_of(t: T.Term) -> T.Term:
+    """The variable of which a word has the bytes, and zeros above, or the word."""
+    (_, first), *rest = facts.runs(t.args) if t.op == "cat" else [(0, t)]
+    return first if first.op == "var" and not any(u.op != "const" or u.args for _, u in rest) else t
+
+
 def beyond(numbers: tuple, low: int, high: int) -> list:
     """The conditions that a sum is below its bounds, and that it is above, if there may be such sums."""
     most = len(numbers) * MOST
@@ -242,18 +268,23 @@ class Cases:
     call_specification.py."""
 
     spec: Any = S
+    visit: Callable = staticmethod(lambda end: None)       # what is done with each end of a path
 
     def __init__(self, program: programs.Program, family: str, pending: Any = None, sizes: Any = None) -> None:
         """With only some numbers of pending bytes before an update, and some sizes of tags, if these are given. Of
         BLAKE2X, with no sizes, only some reads and calls in one."""
-        self.calls, self.prefix, self.kind = Calls(program), PREFIX + family, KINDS[family]
-        self.wiped = self.spec.zeros(self.kind)
+        self.calls, self.family, self.prefix, self.kind = Calls(program), family, PREFIX + family, KINDS[family]
+        self.fields, self.wiped = self.spec.fields(self.kind), self.spec.zeros(self.kind)
         self.pending = range(self.kind.block + 1) if pending is None else pending
         self.sizes = range(1, self.kind.w + 1) if sizes is None else sizes
-        self.is_short = self.sizes == ()
+        self.is_short, self.has_nulls = self.sizes == (), sizes is None        # a short form has no null pointers
+        for struct, fields in ((family + "_state", self.fields), ("tree", S.TREE_FIELDS)) if family else ():
+            if [f[:2] for f in constant_time.layout(struct)] != [(f.size, not f.element) for f in fields]:
+                raise CannotShow("the fields of vulfsjor_%s are not those of %s" % (struct, constant_time.HEADER))
         # Of BLAKE2X, for loops.py.
         self.calls.block_of_output = self.kind.w
-        self.calls.place_of_position = Case.bytes_of(self.wiped.but(position=1)).index(1)
+        before = itertools.takewhile(lambda f: f.name != "position", self.fields)
+        self.calls.place_of_position = sum(f.size for f in before)
 
     def show(self, export: str) -> tuple:
         """Shows all cases of an exported function. Returns how many there are, and the paths."""
@@ -341,7 +372,7 @@ class Cases:
         return lambda a: (a.word(S.count(a, s)), s, [])
 
     def state_size(self, case: Case) -> Callable:
-        return lambda a: (T.const(64, len(case.bytes_of(self.wiped))), None, [])
+        return lambda a: (T.const(64, sum(f.size for f in self.fields)), None, [])
 
     # Messages.
 
@@ -392,6 +423,7 @@ class Cases:
         n = T.const(64, size) if size else case.number("n")
         tag = case.pass_buffer("tag", n)
         self.ready(case, s)
+        case.require(S.has_key(case.bytes, self.kind, s))
         self.ended(case, s)
         case.after = self.wiped
         case.require(S.is_length(s.output_size, n))
@@ -437,11 +469,10 @@ class Cases:
     def init_tree(self, case: Case) -> Callable:
         """Tree parameters are those of a struct."""
         given, conditions = self.lengths(case)
-        tree = {name: case.variable(name, 8 * size) for name, size in S.TREE_FIELDS}
-        case.pass_struct("tree", [b for t in tree.values() for b in T.split(t)])
-        conditions += S.admits_tree(self.kind, *[tree[name] for name in ("depth", "node_offset", "inner_length")])
-        words = [T.word(T.split(tree[name]) + [0] * (8 - tree[name].w // 8)) for name in S.TREE]
-        return self.made(case, given + [words], conditions)
+        tree = S.State(**{f.name: case.field(f) for f in S.TREE_FIELDS})
+        case.pass_struct("tree", bytes_of(S.TREE_FIELDS, tree))
+        conditions += S.admits_tree(self.kind, tree.depth, tree.node_offset, tree.inner_length)
+        return self.made(case, given + [[vars(tree)[name] for name in S.TREE]], conditions)
 
     def init_param(self, case: Case) -> Callable:
         n = self.kind.w
@@ -595,6 +626,10 @@ class OutputCases(Cases):
 
 
 # The families.
+
+# The exports that the header declares, and whose calls are shown.
+DECLARED = {PREFIX + family + end for family in TITLES for end in (constant_time.EXPORTS if family else ALONE)
+            if end not in constant_time.NOT_COMPUTED and PREFIX + family + end in constant_time.SIGNATURES}
 
 def exports(program: programs.Program, family: str) -> list:
     """The exports of a family that a file has and whose calls are shown, by the ends of their names."""

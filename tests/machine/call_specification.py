@@ -10,27 +10,24 @@ lists of bytes too, the lowest first (2.4). `a.below(j, n, x, y)` is the byte x 
 
 from __future__ import annotations
 
-from types import SimpleNamespace
 from typing import Any, Callable
 
 from rfc7693 import Kind
+from structs import Field, State, zeros_of
 from symbolic import Buffer
 from terms import Term
 
 
-class State(SimpleNamespace):
-    """A state. The fields from `counter` to `last_node` are numbers, the others lists of bytes."""
-
-    def but(self, **changes: Any) -> Any:
-        """The state with other values of some fields."""
-        return State(**{**vars(self), **changes})
+def fields(kind: Kind) -> tuple:
+    """The fields of a state, in the order of the struct, which has no gaps."""
+    numbers = (Field(name, kind.bytes // 2) for name in ("pending_length", "start_length", "output_size", "last_node"))
+    return (Field("chain", kind.w, kind.bytes), Field("first", kind.w, kind.bytes), Field("counter", 8), *numbers,
+            Field("pending", kind.block, 1), Field("key", kind.w, 1))
 
 
 def zeros(kind: Kind) -> State:
-    """The wiped state, which is not ready. Its fields are in the order of the struct."""
-    words, block = [0] * 8 * kind.bytes, [0] * kind.block
-    return State(chain=words, first=words, counter=0, pending_length=0, start_length=0, output_size=0, last_node=0,
-                 pending=block, start_block=block)
+    """The wiped state, which is not ready."""
+    return zeros_of(fields(kind))
 
 
 # When a call is accepted. Each condition is (numbers, the least value of their sum, the largest); a call is accepted if
@@ -43,6 +40,16 @@ def is_ready(kind: Kind, s: State) -> list:
     """A state returns digests if these hold."""
     return [((s.output_size,), 1, kind.w), ((s.pending_length,), 0, kind.block),
             ((s.start_length,), 0, kind.block), ((s.counter, s.pending_length), 0, MOST_COUNTED)]
+
+
+def key_byte(a: Any, kind: Kind, data: list) -> list:
+    """The length of the key, the block's second byte (2.8), by that of the first words; and the other way (2.5)."""
+    return a.xor(kind.iv[0].to_bytes(kind.bytes, "little")[1:2], data)
+
+
+def has_key(a: Any, kind: Kind, s: State) -> list:
+    """Verify also needs a key."""
+    return [((a.from_bytes(key_byte(a, kind, s.first[1:2])),), 1, 255)]
 
 
 def admits(kind: Kind, output_size: Any, key_size: Any, salt_size: Any = 0, persona_size: Any = 0) -> list:
@@ -77,9 +84,9 @@ def parameter_block(a: Any, kind: Kind, output_size: Any, key_size: Any, tree: l
 
 
 TREE = ("fanout", "depth", "leaf_length", "node_offset", "node_depth", "inner_length")
-# The struct of tree parameters, with the bytes of each field.
-TREE_FIELDS = (("node_offset", 8), ("leaf_length", 4), ("fanout", 1), ("depth", 1), ("node_depth", 1),
-               ("inner_length", 1))
+# The struct of tree parameters.
+TREE_FIELDS = (Field("node_offset", 8), Field("leaf_length", 4), Field("fanout", 1), Field("depth", 1),
+               Field("node_depth", 1), Field("inner_length", 1))
 SEQUENTIAL = (1, 1, 0, 0, 0, 0)
 
 
@@ -108,7 +115,7 @@ def init(a: Any, kind: Kind, output_size: Any, key: Buffer, key_size: Any, salt:
     if a.is_zero(key_size):
         return s
     pending = padded(a, key, key_size, kind.block)
-    return s.but(pending_length=kind.block, start_length=kind.block, pending=pending, start_block=pending)
+    return s.but(pending_length=kind.block, start_length=kind.block, pending=pending, key=pending[:kind.w])
 
 
 def init_param(a: Any, kind: Kind, block: list) -> State:
@@ -176,7 +183,8 @@ def verify(a: Any, kind: Kind, s: State, tag: Buffer) -> Any:
 
 
 def reset(s: State) -> State:
-    return s.but(chain=s.first, counter=0, pending_length=s.start_length, pending=s.start_block)
+    pending = s.key + [0] * (len(s.pending) - len(s.key))
+    return s.but(chain=s.first, counter=0, pending_length=s.start_length, pending=pending)
 
 
 def set_last_node(s: State, on: bool) -> State:

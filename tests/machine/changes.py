@@ -9,6 +9,7 @@ import re
 from typing import Any, Callable, Iterator, NamedTuple
 
 import call_cases
+import check_coverage
 import check_instructions
 import check_numbers
 import check_specification
@@ -39,7 +40,6 @@ BRANCH = {"x86_64": "\tcmpb $7, (%%%s)\n\tje 99999f\n99999:\n",
 REGISTERS = {"x86_64": "rdi rsi rdx rcx r8 r9".split(), "aarch64": ["x%d" % k for k in range(6)]}
 # The arguments whose first byte is secret; each buffer has its length in the next register.
 SECRET = (constant_time.STATE, constant_time.NODE, constant_time.OUT, constant_time.BYTES, constant_time.KEY)
-BUFFERS = (constant_time.OUT, constant_time.BYTES, constant_time.KEY, constant_time.PUBLIC, constant_time.TABLE)
 
 
 class NoMatch(Exception):
@@ -55,6 +55,7 @@ class Row(NamedTuple):
     old: str
     new: str
     is_first: bool = False             # of its group
+    is_run: bool = False               # whether the text also differs when it is run
 
     def title(self) -> str:
         return "%s: %s, %s: %s => %s" % ("not called wrong" if self.is_right() else "refused", self.path,
@@ -144,20 +145,30 @@ def table() -> list:
     with open(TABLE) as f:
         for line in f:
             if not line.startswith(("#", "\n")):
-                file, name, number, old, new = re.split(r" \|(?: |$)", line.lstrip("+ ").rstrip("\n"), maxsplit=4)
-                found.append(Row(FILES[file], name, int(number), old.strip(), new.strip(), line.startswith("+")))
+                marks, rest = re.fullmatch(r"([+*]*) *(.*)\n", line).groups()    # type: ignore[union-attr]
+                file, name, number, old, new = re.split(r" \|(?: |$)", rest, maxsplit=4)
+                found.append(Row(FILES[file], name, int(number), old.strip(), new.strip(), "+" in marks, "*" in marks))
     return found
 
 
-def check_table(count: int) -> tuple:
-    """Whether the table has so many changes, and each can be made: a verdict, and why."""
+def check_table() -> tuple:
+    """Whether each change of the table can be made: a verdict, and why."""
     rows = table()
     for row in rows:
         try:
             row.edit(programs.source(row.path))
         except (NoMatch, KeyError) as e:
             return "not ok", "%s: %s" % (row.title(), e)
-    return "ok" if len(rows) == count else "not ok", "%d changes" % len(rows)
+    return "ok", "%d changes" % len(rows)
+
+
+def check_unchanged() -> tuple:
+    """Whether the calls whose changes are refused are accepted without them, also where they are not followed
+    otherwise: a verdict, and how many there are."""
+    calls = {(row.path, row.target()[2][0]) for row in table() if row.target()[1] is show_call}
+    for path, exported in sorted(calls):
+        show_call(programs.read(path), exported)
+    return "ok", "%d calls" % len(calls)
 
 
 def show_call(program: programs.Program, exported: str) -> None:
@@ -210,7 +221,7 @@ def check_branches(path: str, k: int) -> tuple:
         r'^"?vulfsjor_ffi_\w+"?:.*\n', lambda m: m[0] + branch, text, flags=re.M))
     shown = call_cases.names(program)
     for entry in constant_time.exports(program):
-        places = joined([place, None] if place in BUFFERS else [place] for place in entry[1])
+        places = joined([place, None] if place in constant_time.BUFFERS else [place] for place in entry[1])
         if not set(places[k:k + 1]) & set(SECRET):
             continue
         ways: list[tuple[Callable, tuple]] = [(constant_time.show, entry)] * (path not in constant_time.NOT_FOLLOWED)
@@ -275,8 +286,10 @@ PLANTED = (
             check_specification.check, (1,)),
     Planted("a specification that accepts too long an output", S, "admits", lambda right: (
         lambda kind, size, *rest: [((size,), 1, kind.w + 1)] + right(kind, size, *rest)[1:]),
-            check_specification.compare, (3,)),
+            lambda: call_cases.Cases(programs.read(V3), "blake2s").show("_init_key")),
     Planted("a copy of a variable length that chooses the wrong bytes", symbolic, "below", lambda _: (
         lambda machine, j, n, a, b: symbolic.choice(j, n, b, a)),
             lambda: call_cases.Cases(programs.read(ARM), "blake2s").show("_final")),
+    Planted("cases of refused calls only for numbers below their bounds", call_cases, "beyond", lambda right: (
+        lambda *condition: right(*condition)[:1]), check_coverage.check, ("blake2s",)),
 )

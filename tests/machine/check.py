@@ -6,13 +6,14 @@ Prints TAP; the status is 1 if something failed.
     tests/machine/check.py            the proofs: of one message in all files; of several messages, one function of each
                                       kind, and of each whole call some cases, in one file; and some tests of the tool
     tests/machine/check.py --long     also several messages and all cases of whole calls in all files, except those of
-                                      BLAKE2X, all of which are shown in one; all rules of terms, changes that must be
-                                      refused and types of the tool, more runs of each instruction, and whole functions
-                                      against hashlib; the same as VULFSJOR_TEST_HUGE=1
+                                      BLAKE2X, all of which are shown in one; what was proved of each path on the
+                                      processor; all rules of terms, changes that must be refused and types of the tool,
+                                      more runs of each instruction, and whole functions against hashlib; the same as
+                                      VULFSJOR_TEST_HUGE=1
     tests/machine/check.py --forms    writes forms.txt, after a change of the files or the models
     tests/machine/check.py FILE..     only the proofs of these files, by their paths from the root, with all cases
 
-Needs Python, a C compiler, ld and objdump; for ARM aarch64-linux-gnu-gcc and binutils, and qemu-aarch64 to run
+Needs Python, a C compiler and binutils; for ARM aarch64-linux-gnu-gcc and binutils, and qemu-aarch64 to run
 instructions; python3-z3 for whole calls and the rules; node to run the instructions of WebAssembly. What is missing is
 skipped.
 """
@@ -27,13 +28,16 @@ import random
 import shutil
 import subprocess
 import sys
+from collections import Counter
 from functools import partial
 from typing import Any, Callable, Iterator, NamedTuple
 
 import call_cases
 import changes
+import check_coverage
 import check_instructions
 import check_numbers
+import check_paths
 import check_specification
 import check_terms
 import check_wasm_instructions
@@ -42,6 +46,7 @@ import constant_time
 import facts
 import forms
 import functions
+import kept
 import program as programs
 import terms as T
 import whole_calls
@@ -49,9 +54,7 @@ from machine import chunks, joined
 
 HUGE = "VULFSJOR_TEST_HUGE"
 FORMS = {compression.EachCall: " with a counter each", compression.StripesCall: " in stripes"}
-# The files that must be read; how many exported functions each library has of which whole calls are shown; and how
-# many changes mutations.txt has.
-READ, EXPORTS, CHANGES = ("dist/*/vulfsjor*.s", "dist/*/*.wasm", "js/src/wasm*.js"), 50, 188
+READ = ("dist/*/vulfsjor*.s", "dist/*/*.wasm", "js/src/wasm*.js")      # the files that must be read
 # The families of exported functions, by the parts in which calls are followed.
 FOLLOWED = {"BLAKE2b": ("blake2b",), "BLAKE2s": ("blake2s", "memcmp", "wipe"), "BLAKE2bp": ("blake2bp",),
             "BLAKE2sp": ("blake2sp",), "BLAKE2X": ("blake2xb", "blake2xs"), "trees": ("tree",)}
@@ -61,7 +64,9 @@ FOLLOWED = {"BLAKE2b": ("blake2b",), "BLAKE2s": ("blake2s", "memcmp", "wipe"), "
 SHORT = V3, ARM, JS = "dist/x86_64/vulfsjor-v3.s", "dist/aarch64/vulfsjor.s", "js/src/wasm.js"
 SHORT_MANY = {functions.MANY_B: V3, functions.EACH_S: ARM, functions.STRIPES_B: JS}
 SHORT_FOLLOWED = {part: SHORT[k % 2] for k, part in enumerate(FOLLOWED)}
-SHORT_WRITTEN = {"blake2b": (ARM, 102), "blake2s": (V3, 103), "blake2xb": (V3, 94), "": (V3, 4)}
+SHORT_WRITTEN = {"blake2b": ARM, "blake2s": V3, "blake2xb": V3, "": V3}
+SHORT_COVERED = ("", "blake2s")        # the families whose cases are compared with all calls
+SHORT_RUN = {(V3, ""): ["memcmp", "wipe"], (V3, "blake2s"): ["_final", "_update"], (ARM, "blake2s"): ["_final"]}
 SHORT_INSTRUCTIONS = {(path, "W") for path in changes.FILES.values()} | {(ARM, "T")}
 LONG_CALLS = ("vulfsjor_ffi_tree_root", "vulfsjor_ffi_tree_update_leaves")     # which take too long then
 ALL_OF_X = V3                          # where --long shows all cases of BLAKE2X; elsewhere some, and it follows secrets
@@ -99,6 +104,8 @@ def not_runnable(path: str) -> str | None:
     runner = {"aarch64": "qemu-aarch64", "x86_64": "cc", "wasm": "node"}[kind]
     if missing(path) or not shutil.which(runner):
         return missing(path) or runner
+    if kind == "x86_64" != platform.machine():
+        return "x86-64"
     needed = "avx512bw" if path.endswith("-v4.s") else "avx2"
     with open("/proc/cpuinfo") as f:
         return needed.upper() if kind == "x86_64" and needed not in f.read() else None
@@ -121,8 +128,8 @@ def search(path: str) -> tuple:
 
 def look(path: str) -> tuple:
     changes.look(programs.read(path))
-    count = len(call_cases.names(programs.read(path)))
-    return "ok" if count == EXPORTS else "not ok", "whole calls of %d functions are shown" % count
+    absent = sorted(call_cases.DECLARED - set(call_cases.names(programs.read(path))))
+    return "not ok" if absent else "ok", "no whole call of %s is shown" % absent[0] if absent else ""
 
 
 def scrub(path: str) -> str:
@@ -153,27 +160,25 @@ def follow(path: str, part: str) -> str:
         len(reached), len(set().union(*reached)))
 
 
-def write_and_return(path: str, family: str, exports: list, numbers: tuple, wanted: int | None) -> tuple:
+def write_and_return(path: str, family: str, exports: list, numbers: tuple) -> str:
     """That whole calls of some functions of a family, or of all, write and return what they must."""
     cases = call_cases.cases(programs.read(path), family, *numbers)
     names = exports or call_cases.exports(programs.read(path), family)
-    count, paths = map(sum, zip(*[cases.show(export) for export in names]))
-    return "ok" if wanted in (None, count) else "not ok", "%d cases, %d paths" % (count, paths)
+    return "%d cases, %d paths" % tuple(map(sum, zip(*[cases.show(export) for export in names])))
 
 
 def parts_of_calls(path: str, is_short: bool, has_all: bool) -> Iterator[tuple]:
     """What is shown of whole calls of a file: all cases in parts, or some. As the arguments of write_and_return."""
     for family in call_cases.TITLES:
         if is_short:
-            short, count = SHORT_WRITTEN.get(family, ("", 0))
-            yield from [(path, family, [], call_cases.some(family), count)] * (path == short)
+            yield from [(path, family, [], call_cases.some(family))] * (path == SHORT_WRITTEN.get(family))
         elif "x" in family and path != ALL_OF_X and not has_all or not family:
-            yield path, family, [], call_cases.some(family), None
+            yield path, family, [], call_cases.some(family)
         else:
             pending = range(call_cases.KINDS[family].block + 1)
             for export in call_cases.exports(programs.read(path), family):
                 parts: list = [(pending[k::4],) for k in range(4)] if export == "_update" else [()]
-                yield from ((path, family, [export], part, None) for part in parts)
+                yield from ((path, family, [export], part) for part in parts)
 
 
 def proofs(path: str, has_all: bool) -> Iterator[Job]:
@@ -206,6 +211,48 @@ def proofs(path: str, has_all: bool) -> Iterator[Job]:
             names = " ".join(e.lstrip("_") or "in one" for e in calls[2]) or "all"
             yield job("what calls of %s write and return: %s" % (call_cases.TITLES[calls[1]], names),
                       write_and_return, *calls, needs=SOLVER)
+
+
+# The table of docs/MACHINE.md.
+
+PAGE = os.path.join(programs.ROOT, "docs", "MACHINE.md")
+COLUMNS = tuple(changes.FILES[name] for name in ("v4", "v3", "v2", "arm", "wasm"))
+GROUPS = {**call_cases.TITLES, "memcmp": "memcmp and wipe", "wipe": "memcmp and wipe", "blake2bp": "BLAKE2bp",
+          "blake2sp": "BLAKE2sp", "tree": "trees"}
+
+
+def shown(path: str, family: str, name: str) -> str:
+    """What is shown with --long of a call in a file."""
+    is_library = functions.architecture(path) != "wasm"
+    is_followed = is_library and path not in constant_time.NOT_FOLLOWED
+    if name in call_cases.DECLARED and is_library:
+        return "all cases" if "x" not in family or path == ALL_OF_X else "some cases" + "; secrets" * is_followed
+    if is_followed and (path, name) not in constant_time.NOT_SHOWN:
+        return "secrets"
+    return "nothing" if family in call_cases.ALONE else "F"
+
+
+def table() -> list:
+    """The lines of the table: the calls of each family, and what is shown of all of them, or of how many."""
+    groups: dict = {}
+    for name in constant_time.SIGNATURES:
+        family, end = constant_time.NAME.fullmatch(name).groups()        # type: ignore[union-attr]
+        group = "several messages" if end in constant_time.NOT_COMPUTED else GROUPS[family]
+        groups.setdefault(group, []).append((family, name))
+    lines = []
+    for group, calls in groups.items():
+        counts = [Counter(shown(path, *call) for call in calls) for path in COLUMNS]
+        cells = [", ".join(what if len(found) == 1 else "%d: %s" % (n, what) for what, n in found.most_common())
+                 for found in counts]
+        lines.append("| %s: %d | %s |" % (group, len(calls), " | ".join(cells)))
+    return lines
+
+
+def has_table() -> tuple:
+    """That the page has the table."""
+    with open(PAGE, encoding="utf-8") as f:
+        page = f.read()
+    return "ok" if "\n".join(["|---|---|---|---|---|---|", *table(), "\n"]) in page else "not ok", "\n# ".join(table())
 
 
 # The tests of the tool.
@@ -287,24 +334,29 @@ def runs_instructions(path: str, user: str) -> bool:
 def tests_of_the_tool() -> Iterator[Job]:
     """The jobs that test the tool itself, but those of one file."""
     few = lambda n, m: n if is_long() else m
-    native = not_runnable(check_specification.PATH) or (None if platform.machine() == "x86_64" else "x86-64")
-    assembly = not_runnable(changes.ARM) or not_runnable(changes.V3) or native or SOLVER
+    assembly = not_runnable(changes.ARM) or not_runnable(changes.V3) or SOLVER
     for title, gone, show, *arguments in (
             *[("the rules of terms at %d bits" % width, SOLVER, check_terms.check, width, is_long())
-              for width in few((64, 32, 16, 8), (16,))],
-            *[("comparisons of whole calls are decided right", SOLVER, check_numbers.check_calls, seed, few(25000, 500))
+              for width in few((64, 32, 16, 8), (8,))],
+            *[("comparisons of whole calls are decided right", SOLVER, check_numbers.check_calls, seed, few(25000, 100))
               for seed in range(few(4, 1))],
             *[("the tool's tests see %s" % change.title, assembly, change.show)
               for change in changes.PLANTED if is_long() or not change.is_long],
             ("the specification of whole calls agrees with hashlib", None, check_specification.check, few(400, 10)),
-            ("the specification of whole calls agrees with the library", native or SOLVER,
-             check_specification.compare, few(10, 2)),
+            *[("the cases of each call of %s are all calls" % call_cases.TITLES[family], SOLVER, check_coverage.check,
+               family, is_long()) for family in few(tuple(call_cases.TITLES), SHORT_COVERED)],
             ("the ranges of words that are followed have their numbers", None,
              check_numbers.check_secrets, few(2000, 60)),
             ("no file is left out", None, all_files),
-            ("each line of mutations.txt can be applied", None, changes.check_table, CHANGES),
+            ("docs/MACHINE.md has the table of what is shown", None, has_table),
+            ("each line of mutations.txt can be applied", None, changes.check_table),
+            *[("each call of mutations.txt is accepted without a change", assembly,
+               changes.check_unchanged)] * is_long(),
             *[(row.title(), missing(row.path) or SOLVER, row.check)
               for row in changes.table() if is_long() or row.is_first],
+            *[("seen when it runs, %s" % row.title().partition(": ")[2], not_runnable(row.path) or SOLVER,
+               check_paths.sees, row)
+              for row in changes.table() if row.is_run and (is_long() or row.is_first)],
             *[("the types of tests/machine", None if shutil.which("mypy") else "mypy", types)] * is_long()):
         yield Job(title, gone, partial(show, *arguments))
     for kind in ("x86_64", "aarch64"):
@@ -321,6 +373,11 @@ def tests_of_a_file(path: str) -> Iterator[Job]:
         if runs_instructions(path, user):
             yield job("the model of instructions %s agrees with the processor" % USERS[user],
                       not_runnable(path) or (SOLVER if user == "W" else None), instructions, path, user)
+    for family in call_cases.TITLES if path in check_paths.TEXTS else ():
+        exports = SHORT_RUN.get((path, family))
+        if is_long() or exports:
+            yield job("calls of %s do what was proved of each path" % call_cases.TITLES[family],
+                      not_runnable(path) or SOLVER, check_paths.check, path, family, [] if is_long() else exports)
     for entry in functions.FILES[path]:
         if is_long() or (path, entry) == (ARM, functions.ONE_S):
             yield job("random changes of %s are refused" % entry[0], gone, changes.check_random, path, entry)
@@ -350,7 +407,26 @@ def run(job: Job) -> tuple:
 
 
 def run_number(k: int) -> tuple:
-    return run(ALL[k])
+    """The verdict of a job, and the files that it has read."""
+    programs.READ.clear()
+    return run(ALL[k]), set(programs.READ)
+
+
+def run_all(verdicts: kept.Kept | None) -> Iterator[tuple]:
+    """The verdicts of all jobs. Those that are kept are not found again, and others are kept."""
+    known = [verdicts.find(job.title) if verdicts and not job.gone else None for job in ALL]
+    with multiprocessing.get_context("fork").Pool() as pool:
+        new = pool.imap(run_number, [k for k, why in enumerate(known) if why is None], chunksize=1)
+        for job, why in zip(ALL, known):
+            if why is not None:
+                yield "ok", job.title, "kept from an earlier run: " + why
+                continue
+            (verdict, title, why), files = next(new)
+            yield verdict, title, why
+            if verdicts and verdict == "ok":
+                verdicts.keep(title, why, files)
+    if verdicts:
+        verdicts.save()
 
 
 def report(results: Any) -> bool:
@@ -401,8 +477,10 @@ def main(arguments: list) -> int:
     ALL.extend(job for path in arguments or functions.FILES for job in proofs(path, bool(arguments)))
     if not arguments:
         ALL.extend([*tests_of_the_tool(), *joined(map(tests_of_a_file, functions.FILES))])
-    with multiprocessing.get_context("fork").Pool() as pool:
-        return 0 if report(pool.imap(run_number, range(len(ALL)), chunksize=1)) else 1
+    is_kept = not arguments and not is_long()
+    if is_kept and len({job.title for job in ALL}) < len(ALL):
+        raise AssertionError("two checks have one title")
+    return 0 if report(run_all(kept.Kept() if is_kept else None)) else 1
 
 
 if __name__ == "__main__":

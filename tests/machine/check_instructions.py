@@ -21,7 +21,7 @@ import forms
 import functions
 import terms as T
 import x86
-from machine import Cells
+from machine import Cells, Flags
 from program import read, TOOLS
 from symbolic import Exact, Undecided
 from taint import Taint, is_secret, secret
@@ -232,7 +232,7 @@ def machine(program: "Program", user: str, text: str, base: int, data: bytes, pl
         m.vector[j][:size] = word(VECTORS + size * j, size)
     m.masks = [[n >> k & 1 for k in range(64)] for n in struct.unpack_from("<8Q", data, MASKS)]
     zero = T.const(8, data[ZERO])
-    m.flags = "sub", zero, T.const(8, 0), zero
+    m.flags = Flags("sub", zero, T.const(8, 0), zero)
     for part in text.split("; "):
         part = part.replace(" ", "\t", 1) if program.kind == "aarch64" else part
         cpu(m).step(program.model.Instruction(0, part))

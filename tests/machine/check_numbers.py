@@ -8,10 +8,12 @@ from typing import Callable
 
 import terms as T
 import x86
+from call_cases import variable_of
 from facts import RELATIONS, Facts
-from symbolic import Exact, below
+from machine import total
+from symbolic import Exact, Undecided, below, fresh
 from taint import Taint
-from terms import OPPOSITE
+from terms import OPPOSITE, signed
 
 SMALL, LARGE = (1, -1, 2, 8, 64, 128), (1 << 32, 1 << 62, 1 << 63, -(1 << 62), 3)
 ADDED = (0, 1, 8, 127, -1, -8, -128, -512)
@@ -19,6 +21,7 @@ BOUNDS = (1, 7, 63, 129, 1 << 11, 1 << 32)
 MASKS = (0xff, 5, 7, 63, 127, -64, -128, -4, -8, 0x1c, 0xffffffff, 0x7fffffff)
 SHIFTS = (1, 3, 6, 7, 8, 12, 32)
 STEPS, WAYS = 14, 3
+LOW = ("low", "sum", "flip", "sign")   # what is made of the low bytes of words
 
 
 class Wrong(Exception):
@@ -52,9 +55,10 @@ class Run:
     def add(self, t: T.Term, n: int) -> None:
         """A word that was computed, and its number. One new variable has what makes the word this."""
         for u, k in T.linear(t)[1].items():
-            if u.op == "var" and u.args not in self.numbers:
-                self.numbers[u.args] = 0
-                self.numbers[u.args] = (n - self.value(t)) * (1 if k == 1 else -1) % (1 << t.w)
+            new = variable_of(u)
+            if new.op == "var" and new.args not in self.numbers:
+                self.numbers[new.args] = 0
+                self.numbers[new.args] = (n - self.value(t)) * (1 if k == 1 else -1) % (1 << t.w)
         if self.value(t) != n % (1 << 64):
             raise Wrong("%r is %#x instead of %#x" % (t, self.value(t), n))
         self.words.append(t)
@@ -64,7 +68,7 @@ class Run:
         m, rng = self.machine, self.rng
         a, b = rng.sample(self.words, 2)
         x, y, data = self.value(a), self.value(b), (T.split(a), T.split(b))
-        n, k, size = rng.choice(MASKS), rng.choice(SHIFTS), rng.choice((1, 2, 4))
+        n, k, size = rng.choice(MASKS), rng.choice(SHIFTS), rng.choice((1, 1, 2, 4))
         first, factor, added = rng.choice((1, 1, 0)), rng.choice(self.factors), rng.choice(ADDED)
         kind, f, found = rng.choice((
             ("add", lambda a, b: T.add(64, (first, a), (factor, b), (1, T.const(64, added))),
@@ -72,9 +76,29 @@ class Run:
             ("and", lambda a, _: m.masked(a, T.const(64, n)), x & n), ("or", m.either, x | y),
             ("shift", lambda a, _: m.shifted_right(a, k), x >> k), ("xor", m.exclusive, x ^ y),
             ("shift back", lambda a, _: m.shifted_right(m.shifted_left(a, k), k), (x << k) % (1 << 64) >> k),
-            ("low", None, x % (1 << 8 * size))))
-        self.add(T.word(m.computed(kind, f, *data) if f else [m.norm(b) for b in data[0]][:size] + [0] * (8 - size)),
-                 found)
+            *((name, None, self.low(name, x, y, n, size)) for name in LOW)))
+        self.add(T.word(m.computed(kind, f, *data) if f else self.low_bytes(kind, *data, n, size)), found)
+
+    @staticmethod
+    def low(kind: str, x: int, y: int, n: int, size: int) -> int:
+        """What low_bytes() must make of two numbers."""
+        w = 8 * size
+        found = {"low": x, "sum": x + y, "flip": x ^ n, "sign": x}[kind] % (1 << w)
+        return signed(w, found) if kind == "sign" else found
+
+    def low_bytes(self, kind: str, a: list, b: list, n: int, size: int) -> list:
+        """The low bytes of a word, their sum with those of another, or with some bits changed, and zeros above; or with
+        the sign above. Of the sum and the sign something is often known."""
+        m, zeros = self.machine, [0] * (8 - size)
+        data, other = ([m.norm(byte) for byte in part][:size] for part in (a, b))
+        low, wide = T.word(data), total(T.word(data + zeros), T.word(other + zeros))
+        for t, k in ((low, 1 << low.w - 1), (wide, self.value(wide) + self.rng.choice((1, 8)))):
+            if self.rng.random() < 0.5 and k >> t.w == 0:
+                self.learn("<", t, T.const(t.w, k), self.value(t) < k)
+        if kind == "sign":
+            return m.cleaned(m.extended(data, 8), True)
+        made = {"low": low, "sum": total(low, T.word(other)), "flip": m.exclusive(low, T.const(low.w, n))}[kind]
+        return T.split(made or m.new(low.w)) + zeros
 
     def learn(self, relation: str, a: T.Term, b: T.Term, holds: bool) -> None:
         if not self.machine.learn(relation, a, b, holds):
@@ -87,7 +111,7 @@ class Run:
             self.machine.where = "at %d " % self.steps
             try:
                 self.compute()
-            except T.CannotShow:
+            except (T.CannotShow, Undecided):
                 pass
             a = self.rng.choice(self.words)
             x = self.value(a)
@@ -210,6 +234,8 @@ def check_calls(seed: int, count: int) -> tuple:
     """Whether at least so many comparisons are decided right: a verdict, and what was tried. A question that takes
     long is open."""
     rng, decided, runs = random.Random(seed), 0, 0
+    if len(set(Exact({}, x86.X86, (16, 0)).extended(fresh("secret", T.SECRET, 4), 8))) < 8:
+        return "not ok", "all bytes of a secret with its sign are called the same"
     Facts().ask()                      # makes the solver
     Facts.solver.set("timeout", 30)
     while decided < count:

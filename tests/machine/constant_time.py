@@ -10,7 +10,7 @@ from typing import Any, Iterator, TYPE_CHECKING
 import functions
 import program as programs
 import terms as T
-from machine import Aligned, image, joined, need_public, total
+from machine import AFTER, SECRET, Aligned, Flags, image, joined, need_public, total
 from taint import TOP, Cells, Taint, is_secret, secret, unknown
 from terms import CannotShow, IsWrong
 
@@ -25,6 +25,9 @@ ROUNDS = 20                            # of a loop, which are unrolled
 STATE, NODE = "state", "blake2b_state"
 OUT, BYTES, KEY = "out", "bytes", "key"
 PUBLIC, TABLE, NUMBER = "public", "table", "number"
+BUFFERS = (OUT, BYTES, KEY, PUBLIC, TABLE)     # which have their length in the next argument
+# An array whose second byte has the length of the key, which is public, and the families whose calls depend on it.
+FIRST, VERIFYING = "first[8]", ("blake2b", "blake2s")
 # The functions and the structs of the C header, with their arguments and fields. tools/exports.py compares both with
 # the source.
 HEADER = "c/include/vulfsjor.h"
@@ -53,12 +56,14 @@ NOT_SHOWN = {("dist/x86_64/vulfsjor-v3.s", "vulfsjor_ffi_blake2bp")}
 
 
 def layout(struct: str) -> list:
-    """The fields of a struct as pairs of a size and of whether it is public. Numbers are, and arrays are not."""
+    """The fields of a struct: the size of each, whether it is public, as numbers are, and arrays are not, and its
+    name."""
     fields: list = []
-    for type_, counts in re.findall(r"(\w+) \w+((?:\[\d+\])*);", STRUCTS[struct]):
+    for type_, name, counts in re.findall(r"(\w+) (\w+)((?:\[\d+\])*);", STRUCTS[struct]):
         bits = re.fullmatch(r"uint(\d+)_t", type_)
         counted = math.prod(map(int, re.findall(r"\d+", counts)))
-        fields += [(int(bits[1]) // 8 * counted, not counts)] if bits else layout(type_.removeprefix("vulfsjor_"))
+        fields += [(int(bits[1]) // 8 * counted, not counts, name + counts)] if bits else layout(
+            type_.removeprefix("vulfsjor_"))
     return fields
 
 
@@ -82,12 +87,16 @@ def argument(m: Taint, kind: str, at: int, family: str, has_key: bool) -> list:
     word, length = (T.var(64, "%s%d" % (name, k), T.PUBLIC) for name, k in ((kind, at), ("length", at + 1)))
     if kind == NUMBER:
         return [word]
-    if kind not in (OUT, BYTES, KEY, PUBLIC, TABLE):
+    if kind not in BUFFERS:
         cells: list = []
-        for size, is_public in layout(family + "_state" if kind == STATE else kind):
-            cells += [secret()] * size if not is_public else T.split(
-                T.var(64, "%s.%d" % (word.args, len(cells)), T.PUBLIC))[:size]
+        arrays = []
+        for size, is_public, name in layout(family + "_state" if kind == STATE else kind):
+            arrays += [range(len(cells), len(cells) + size)] * (not is_public)
+            public = T.split(T.var(8 * size, "%s.%d" % (word.args, len(cells)), T.PUBLIC)) if is_public else []
+            key_size = unknown() if name == FIRST and family in VERIFYING else secret()
+            cells += public or [secret(), key_size, *[secret()] * (size - 2)]
         m.regions[word] = Cells(0, len(cells), lambda k: cells[k])
+        m.regions[word].arrays = arrays
         return [word]
     b = unknown() if kind == PUBLIC else secret()
     m.regions[word] = Cells(0, 0, lambda k: b, kind == OUT, uniform=True)
@@ -223,9 +232,9 @@ class Analysis:
     def branch(self, walk: Walk, m: Any, i: Any) -> None:
         """A branch or a jump, which may be a call in place of a return."""
         cpu, code = self.cpu(m), walk.code
-        if not i.is_jump and m.flags == ("secret",) and walk.name.endswith(ANSWERS) and all(
+        if not i.is_jump and m.flags.kind == SECRET and walk.name.endswith(ANSWERS) and all(
                 cpu.only_returns(code, pc) for pc in (i.target, i.next)):
-            m.flags = ("other",) + (m.new(64, "answer"),) * 3
+            m.flags = Flags("other", *[m.new(64, "answer")] * 3)
         for n, jumps in [(m, True)] if i.is_jump else list(m.outcomes(cpu.condition(i), i.address)):
             pc = i.target if jumps else i.next
             if pc in code:
@@ -248,7 +257,7 @@ class Analysis:
         elif name not in self.scrubs:
             self.enter(m, name, i)
             return
-        cpu.clobber()
+        cpu.clobber(AFTER)
 
     def enter(self, m: Any, name: str, i: Any) -> None:
         """A call of a function whose code is followed."""

@@ -58,7 +58,21 @@ def definition(t: T.Term) -> tuple:
         parts = list(runs(a))
         inner = [u for _, u in parts]
         found.append(n == z3.Sum([number(u) * (1 << 8 * k) for k, u in parts]))
+    elif t.op == "xor":
+        inner, claims = of_xor(t, n)
+        found += claims
     return inner, z3.And(found)
+
+
+def of_xor(t: T.Term, n: Any) -> tuple:
+    """The same of an exclusive or: of a byte with a number, all; of two words, that it is 0 if they are the same."""
+    k, words = t.args
+    if t.w == 8 and len(words) == 1:
+        bits = [variable("bit %d %d" % (j, words[0].serial), 1) for j in range(8)]
+        total = lambda k: z3.Sum([(1 - bit if k >> j & 1 else bit) * (1 << j) for j, (bit, _) in enumerate(bits)])
+        return list(words), [number(words[0]) == total(0), n == total(k), *(claim for _, claim in bits)]
+    both = [u for u in (T.const(t.w, k), *words) if u is not T.const(t.w, 0)]
+    return (both, [(n == 0) == (number(both[0]) == number(both[1]))]) if len(both) == 2 else ([], [])
 
 
 def runs(data: tuple) -> Iterator:

@@ -7,7 +7,7 @@ import functools
 from typing import Any, Callable
 
 import terms as T
-from machine import chunks
+from machine import AFTER_KEY, HEAD, chunks
 from path_values import need_same
 from symbolic import Buffer, Piece, any_of, base_of, fresh, members_of
 from terms import CannotShow, IsWrong, signed
@@ -77,7 +77,7 @@ class Induction:
         """The machine at the head of iteration i, with these other bytes. Of the rest nothing is known."""
         m = self.start.copy()
         m.set_cells({**self.unknown(self.rest - set(others)), **self.grown(i), **others})
-        m.forget_flags()
+        m.become(HEAD, memory=m.memory, **{name: getattr(m, name) for name in m.processor.FILES})
         return m
 
     @staticmethod
@@ -120,8 +120,8 @@ class Straight(Induction):
     def ended(self, end: Any, others: list) -> Any:
         """The machine after the loop, which has used the stack as these iterations have."""
         end.uses_stack_of(others)
-        if any(m.pieces != end.pieces for m in others):
-            raise CannotShow("a loop writes at a place that is not a number")
+        for m in others:
+            m.need_kept(end)
         return end
 
 
@@ -289,6 +289,7 @@ class Reads(Induction):
             wrong = {c for n in ends if n.pc == self.head for c in self.wrong_at(n)}
             self.forget(wrong)
         for n in ends:
+            n.need_kept(m, "pieces")
             self.check(n, position)
         behind = [(n, n.pc) for n in ends if n.pc != self.head]
         for n, _ in behind:            # of the stack the iterations before have used
@@ -301,7 +302,7 @@ class Reads(Induction):
 
     def general(self, position: T.Term, f: T.Term) -> Any:
         """The machine at the head of any iteration: the position is before the end of the read."""
-        m = self.machine(self.done(position), self.unknown(self.left, "after", T.SECRET))
+        m = self.machine(self.done(position), self.unknown(self.left, self.what, T.SECRET))
         m.pieces = Piece(self.out, T.const(64, 0), None, self.done(position)),
         facts = m.path_facts.between([(1, f)], 0, self.calls.block_of_output - 1)
         facts = facts.between([(1, position)], 0, MOST)
@@ -338,6 +339,7 @@ class Reads(Induction):
         self.rest = self.propose({c for _, cells in found for c in self.changed(cells) if c[1] is not self.out}, step)
         self.left = {c for c in self.rest if c[0] == "vector" and all(
             self.start.may_be_left(*c[1:], cells[c]) for cells in [self.first] + [cells for _, cells in found])}
+        self.what = self.start.left_by([cells[c] for c in self.left for cells in [self.first] + [n[1] for n in found]])
         if self.place not in self.grows:
             raise CannotShow("a read does not move the position")
 
@@ -358,7 +360,8 @@ class Reads(Induction):
         cells = m.cells()
         wanted = {**self.first, **self.grown(self.done(self.word(cells, self.place)))}
         return {c for c in self.wrong(cells, wanted, m.settler()) if c[1] is not self.out} | {
-            c for c in self.left if not m.may_be_left(*c[1:], cells[c])}
+            c for c in self.left
+            if not m.may_be_left(*c[1:], cells[c]) or m.left_by([cells[c]]) != self.what != AFTER_KEY}
 
 
 def no_output(m: Any, length: T.Term) -> None:

@@ -1,7 +1,7 @@
 """What the models of the processors have in common: lines of objdump, memory, conditions, and operations on bytes."""
 
 import copy
-from typing import Any, Callable, Iterable
+from typing import Any, Callable, Iterable, NamedTuple
 
 import terms as T
 from terms import CannotShow, IsWrong, signed
@@ -37,6 +37,7 @@ class Cells:
     already."""
 
     table: Any = None                  # of a table of messages: what returns an entry's bytes
+    arrays: list = []                  # the places of a struct's arrays, as ranges
 
     def __init__(self, low: int, high: int, initial: Callable, writable: bool = True, alignment: tuple = (8, 0),
                  uniform: bool = False) -> None:
@@ -84,6 +85,24 @@ class Instruction:
     is_return = property(lambda self: self.name == "ret" and not self.operands)
 
 
+class Flags(NamedTuple):
+    """What set the flags: a kind of operation, two words and their result. Of secrets there is only the result, if it
+    is known."""
+
+    kind: str
+    a: Any = None
+    b: Any = None
+    result: Any = None
+
+
+UNKNOWN, SECRET = "unknown", "secret"  # kinds of flags
+KEPT, LOST, SET, GROWS = "kept", "lost", "set", "grows"        # what becomes of a part of a machine
+CALL, HEAD = 0, 1                      # when that is asked: after a call, and at the head of a loop
+# What a function that is not executed leaves in registers: one that compresses; one of the C library; and one that has
+# copied bytes of a key.
+LEFT, AFTER, AFTER_KEY = "left", "after", "after key"
+
+
 class Aligned(CannotShow):
     """The stack is aligned to more bytes than is known of it at the entry."""
 
@@ -97,38 +116,70 @@ class Values:
     x86.py, arm.py and wasm.py execute instructions over them. `alignment` is that of the stack: a power of two, and
     the stack pointer modulo that."""
 
+    # All that a machine has, each with what becomes of it: by a call of a function that is not executed, and at the
+    # head of any iteration of a loop. What grows there has more after an iteration, and loops.py joins or forgets it.
+    PARTS: dict = {
+        **dict.fromkeys(("regions", "processor", "alignment", "stack", "at_start", "labels"), (KEPT, KEPT)),
+        **dict.fromkeys(("globals", "locals", "operands", "memory"), (KEPT, SET)),
+        **dict.fromkeys(("general", "vector"), (SET, SET)), **dict.fromkeys(("flags", "masks"), (LOST, LOST))}
+
     general: list
     vector: list
     globals: list
     locals: list
     operands: list
     masked: Any                        # the and of two words
+    left_by: Callable                  # what a function of the C library leaves that has read some bytes
     of_secrets: Callable               # what computed() returns if a word is secret
     new: Callable                      # a new public variable
     anything: Callable                 # public bytes of which nothing is known
+    mixed: Callable                    # a byte that may depend on all of these
+    is_negative: Callable              # whether a word has its highest bit, or None
 
     def __init__(self, regions: dict, processor: Any, alignment: tuple) -> None:
         self.regions, self.processor, self.alignment = regions, processor, alignment
         self.memory: dict = {}         # (base, offset) -> byte
         self.stack: Any = None         # the base of the stack
-        self.flags: Any = None         # a kind of operation, two words, and the result
+        self.flags = Flags(UNKNOWN)
+        self.masks = self.unknown_masks()
         self.labels: list = []         # of the blocks of WebAssembly that are open
         for name, (count, size) in processor.FILES.items():
             setattr(self, name, [list(T.remembered(junk, "%s%d" % (name, j), size)) for j in range(count)])
-        self.forget_flags()
         self.at_start = {name: [list(r) for r in getattr(self, name)] for name in processor.FILES}
 
     def copy(self) -> Any:
         """Values that may change without these."""
+        self.check_parts()
         other = copy.copy(self)
         other.memory, other.masks, other.labels = dict(self.memory), list(self.masks), list(self.labels)
         for name in self.processor.FILES:
             setattr(other, name, [list(r) for r in getattr(self, name)])
         return other
 
-    def forget_flags(self) -> None:
-        """Lets the flags and the masks of AVX-512 be unknown."""
-        self.flags, self.masks = None, [unknown_bit() * 64] * 8
+    def check_parts(self) -> None:
+        """A part of which PARTS does not say what becomes of it is a fault of the tool."""
+        if not vars(self).keys() <= self.PARTS.keys():
+            raise AssertionError("PARTS has no line for %s" % min(vars(self).keys() - self.PARTS.keys()))
+
+    def become(self, when: int, **new: Any) -> None:
+        """Lets each part become what PARTS says: as it was, unknown, or one of these."""
+        self.check_parts()
+        fates = {name: fate[when] for name, fate in self.PARTS.items() if name in vars(self)}
+        if new.keys() != {name for name, fate in fates.items() if fate == SET}:
+            raise AssertionError("PARTS says otherwise than %s" % sorted(new))
+        unknown = {"flags": Flags(UNKNOWN), "masks": self.unknown_masks()}
+        vars(self).update(new, **{name: unknown[name] for name, fate in fates.items() if fate == LOST})
+
+    def need_kept(self, before: Any, *others: str) -> None:
+        """Refuses a loop that changes a part that its head keeps, except some."""
+        for name, (_, fate) in self.PARTS.items():
+            if fate == KEPT and name not in others and getattr(self, name, None) != getattr(before, name, None):
+                raise CannotShow("a loop changes %s" % name)
+
+    @staticmethod
+    def unknown_masks() -> list:
+        """Those of AVX-512."""
+        return [unknown_bit() * 64] * 8
 
     def stack_pointer(self) -> T.Term:
         name, at = self.processor.STACK_POINTER
@@ -232,8 +283,16 @@ class Values:
         r = f(a, b)
         if not isinstance(r, T.Term):
             r = self.new(a.w, "", r)
-        self.flags = kind, a, b, r
+        self.flags = Flags(kind, a, b, r)
         return T.split(r)
+
+    def extended(self, data: list, size: int) -> list:
+        """A word as one of more bytes, with its sign."""
+        t = T.word(data)
+        if t.taint & ~T.PUBLIC:
+            return [self.mixed(data) for _ in range(size)]
+        sign = self.is_negative(t)
+        return data + (self.anything(size - len(data)) if sign is None else [255 * sign] * (size - len(data)))
 
     @staticmethod
     def shifted_left(a: T.Term, k: int) -> T.Term:
@@ -255,7 +314,7 @@ class Values:
         """Sets flags by an and of two vectors, of which nothing is known but if it is zero."""
         r = self.new(64) if any(a + b) else T.const(64, 0)
         is_secret = any(not isinstance(x, int) and x[0].taint & ~T.PUBLIC for x in a + b)
-        self.flags = ("secret",) if is_secret else ("other",) + (r,) * 3
+        self.flags = Flags(SECRET) if is_secret else Flags("other", r, r, r)
 
 
 class Processor:
@@ -294,15 +353,13 @@ class Processor:
         """The register of the result, which is the first on each processor."""
         return self.values.general[0]
 
-    def clobber(self, is_compression: bool = False) -> None:
+    def clobber(self, what: str) -> None:
         """What a function may leave in registers that do not belong to its caller. One that compresses leaves zero or
         what there was where compression.py shows that."""
         m = self.values
-        for r in range(len(m.general)):
-            if r not in self.SAVED + self.STACK_POINTER:
-                m.general[r] = m.lost(8, is_compression)
-        m.vector = [self.lost_vector(j, old, is_compression) for j, old in enumerate(m.vector)]
-        m.flags = None
+        m.become(CALL, general=[old if r in self.SAVED + self.STACK_POINTER else m.lost(8, what)
+                                for r, old in enumerate(m.general)],
+                 vector=[self.lost_vector(j, old, what) for j, old in enumerate(m.vector)])
 
     def quietly(self, f: Callable, a: list, b: list) -> list:
         """The bytes of a result of two words, without the flags."""
@@ -353,17 +410,17 @@ class Processor:
         return i.target if i.is_jump or self.values.holds(self.condition(i)) else i.next
 
     def need_public_flags(self) -> None:
-        if self.values.flags == ("secret",):
+        if self.values.flags.kind == SECRET:
             raise IsWrong("a branch depends on secret data")
 
     def compared(self, condition: str) -> tuple | None:
         """What a condition compares, as (relation, word, word), or None. Of secrets, only how."""
         m, relation = self.values, self.RELATIONS.get(condition)
-        if m.flags is None:
-            raise CannotShow("the flags are not known")
-        if m.flags == ("secret",):
-            return relation, None, None
         kind, a, b, r = m.flags
+        if kind == UNKNOWN:
+            raise CannotShow("the flags are not known")
+        if kind == SECRET:
+            return relation, None, None
         if kind == "add" and condition in self.CARRY:
             return self.CARRY[condition], a, b
         if kind == "sub" and condition in {**self.RELATIONS, **self.SIGNED}:

@@ -1,13 +1,16 @@
 """Numbers for the variables of a path of a call. Two words that differ for some are not the same."""
 
+import re
 from typing import Any
 
 import rfc7693 as R
 import terms as T
 from machine import chunks
+from symbolic import below, name_of
 from terms import CannotShow, IsWrong
 
 SEEDS, BLOCKS = 4, 8                   # of random bytes; and the most blocks that are compressed
+RESULT = re.compile(r"(?:F|blocks)(\d+)\.(\d+)")              # names a word of a compression
 KINDS = {kind.name: kind for kind in (R.BLAKE2B, R.BLAKE2S)}
 
 
@@ -25,9 +28,9 @@ class Example(T.Numbers):
     def __missing__(self, name: Any) -> int:
         if isinstance(name, tuple):
             number = self.of_tuple(*name)
-        elif name.startswith(("F", "blocks")) and name.strip("Fblocks").replace(".", "").isdigit():
-            result, k = name.strip("Fblocks").split(".")
-            number = self.chain(*self.results[int(result)])[int(k)]
+        elif RESULT.fullmatch(name):
+            result, k = map(int, RESULT.fullmatch(name).groups())      # type: ignore[union-attr]
+            number = self.chain(*self.results[result])[k]
         elif "~" in name and not name.startswith("stack"):
             raise CannotShow("the number of %s is not known" % name)
         else:
@@ -75,14 +78,58 @@ def difference(facts: Any, results: dict, x: T.Byte, y: T.Byte) -> str | None:
     return None
 
 
+class Alike:
+    """Which bytes are the same by what a path knows: of the numbers by which they are chosen, and of what was
+    compressed. `results` has the compressions of the path."""
+
+    def __init__(self, m: Any, results: dict) -> None:
+        self.m, self.results, self.memo = m, list(results), dict[Any, Any]()
+        self.found: dict = {}          # pairs of compressions -> whether their arguments are the same
+
+    def __call__(self, x: T.Byte, y: T.Byte) -> bool:
+        x, y = self.settled(x), self.settled(y)
+        if x == y:
+            return True
+        (kind, *p), (other, *q) = name_of(x), name_of(y)
+        if "below" in (kind, other) and kind != other:
+            chosen, z = (p, y) if kind == "below" else (q, x)
+            return self.settled(below(self.m, *chosen)) == z
+        if kind == "below":
+            return p[0] == q[0] and self.m.is_always("==", p[1], q[1]) and all(map(self, p[2:], q[2:]))
+        a, b = result_of(x), result_of(y)
+        return bool(a and b) and a[1:] == b[1:] and self.are_results(a[0], b[0])
+
+    def settled(self, b: T.Byte) -> T.Byte:
+        """A byte, in which variables of which the value is known are numbers."""
+        return b if isinstance(b, int) else T.split(T.substitute(b[0], self.m.path_facts.values(), self.memo))[b[1]]
+
+    def are_results(self, a: int, b: int) -> bool:
+        """Whether two compressions are of the same."""
+        if (a, b) not in self.found:
+            self.found[a, b] = all(map(self.are_arguments, self.results[a], self.results[b]))
+        return self.found[a, b]
+
+    def are_arguments(self, p: Any, q: Any) -> bool:
+        if isinstance(p, tuple):
+            return all(map(self, p, q))
+        return p is q or p == q or isinstance(p, T.Term) and isinstance(q, T.Term) and self.m.is_always("==", p, q)
+
+
+def result_of(b: T.Byte) -> tuple:
+    """Of a byte of a compression's chaining words: the number of this, and those of the word and the byte in it."""
+    if isinstance(b, int) or b[0].op != "var" or not isinstance(b[0].args, str):
+        return ()
+    found = RESULT.fullmatch(b[0].args)
+    return (*map(int, found.groups()), b[1]) if found else ()
+
+
 def need_same(m: Any, results: dict, what: str, found: list, wanted: list) -> None:
     """Refuses other bytes than are wanted. `results` has the compressions of the path."""
     if len(found) != len(wanted):
         raise CannotShow("%s: %d bytes, not %d" % (what, len(found), len(wanted)))
-    memo: dict = {}
-    settle = lambda b: b if isinstance(b, int) else T.split(T.substitute(b[0], m.path_facts.values(), memo))[b[1]]
+    are_alike = Alike(m, results)
     for k, (x, y) in enumerate(zip(found, wanted)):
-        if x == y or settle(x) == settle(y):
+        if x == y or are_alike(x, y):
             continue
         a, b = T.word([x]), T.word([y])
         if not (a.taint | b.taint) & ~T.PUBLIC and m.is_always("==", a, b):

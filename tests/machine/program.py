@@ -25,6 +25,7 @@ TOOLS: dict = {"x86_64": ([os.environ.get("CC", "cc")], "", ["-M", "intel"]),
          "aarch64": (["aarch64-linux-gnu-gcc"], "aarch64-linux-gnu-", [])}
 MODELS = {"x86_64": x86, "aarch64": arm, "wasm": wasm}
 
+NAMED = "dist/wasm/vulfsjor.wasm"      # the module that has names of functions
 CONSTANTS = ".rodata"                  # the section of the constants
 # The sections of a file that a processor sees, by the start of their names, with their flags.
 SECTIONS = ((".text", elf.ALLOCATED | elf.EXECUTABLE), (CONSTANTS, elf.ALLOCATED | elf.MERGED))
@@ -57,17 +58,28 @@ class NotAssembled(CannotShow):
     """The assembler or the linker refuses the file."""
 
 
-@functools.lru_cache(maxsize=None)
+READ: set = set()                      # the paths of files that a check has read, for kept.py
+
+
 def read(path: str) -> "Program":
-    """The program of a file, which is read once."""
+    """The program of a file, which is read once. A module may have the names of another."""
+    READ.update([path] if functions.architecture(path) != "wasm" else [path, NAMED])
+    return read_once(path)
+
+
+@functools.lru_cache(maxsize=None)
+def read_once(path: str) -> "Program":
     return Program(path)
 
 
-@functools.lru_cache(maxsize=None)
 def source(path: str) -> Any:
     """What is changed in a file: its text for ELF, or the lines of the functions of a module, by their names."""
+    READ.add(path)
     kind = functions.architecture(path)
-    return read(path).functions if kind == "wasm" else elf.expanded(path, kind)
+    return read(path).functions if kind == "wasm" else expanded(path, kind)
+
+
+expanded = functools.lru_cache(maxsize=None)(elf.expanded)
 
 
 def module_of(path: str) -> Any:
@@ -94,7 +106,7 @@ class Program:
         """The functions of a module. One without names has those of the module that it was made from, function by
         function."""
         module = module_of(self.path)
-        original = module if module.names else module_of("dist/wasm/vulfsjor.wasm")
+        original = module if module.names else module_of(NAMED)
         names = original.names
         if len(original.functions) != len(module.functions):
             raise CannotShow("%s has %d functions, and dist/wasm/vulfsjor.wasm has %d" % (
@@ -114,6 +126,9 @@ class Program:
         other = {name.lower() for name in DIRECTIVE.findall(text)} - DIRECTIVES
         if other:
             raise CannotShow("the directive .%s, which may mean something else to another assembler" % min(other))
+        replaced = predefined(self.kind) & set(re.findall(r"[A-Za-z_]\w*", code))
+        if replaced:
+            raise CannotShow("a preprocessor replaces %s, and dist/vulfsjor.S includes the text" % min(replaced))
         compiler, prefix, style = TOOLS[self.kind]
         with tempfile.TemporaryDirectory() as d:
             s, o, so = (os.path.join(d, "a" + suffix) for suffix in (".s", ".o", ".so"))
@@ -286,6 +301,14 @@ class Program:
         if not start <= address < start + len(data) or data[address - start] is None:
             raise CannotShow("no constant is known at %#x" % address)
         return data[address - start]
+
+
+@functools.lru_cache(maxsize=None)
+def predefined(kind: str) -> set:
+    """The names that a compiler replaces in a text for its preprocessor, such as linux."""
+    command = TOOLS[kind][0] + ["-dM", "-E", "-x", "assembler-with-cpp", os.devnull]
+    found = subprocess.run(command, check=True, stdout=subprocess.PIPE, text=True).stdout
+    return set(re.findall(r"^#define (\w+)", found, re.M))
 
 
 def found(pattern: str, text: str) -> Any:

@@ -6,11 +6,12 @@ from typing import Any, Callable, NamedTuple
 
 import terms as T
 from facts import RELATIONS, Facts
-from machine import Aligned, Cells, Values, bitwise, chunks, joined, need_public, total
+from machine import (AFTER, AFTER_KEY, GROWS, KEPT, SECRET, Aligned, Cells, Flags, Values, bitwise, chunks, joined,
+                     need_public, total)
 from taint import is_secret
 from terms import OPPOSITE, CannotShow, IsWrong, signed
 
-KEYS = ("start_block.", "new~", "rest~")      # variables that may be bytes of a key
+KEYS = ("key.", "new~", "rest~", AFTER_KEY + "~")       # variables that may be bytes of a key
 WRITTEN = 256                          # bytes of an output that are often written together
 _COUNT = itertools.count()             # for names of variables that are used once
 
@@ -29,8 +30,22 @@ def fresh(what: str, taint: int, n: int = 1) -> list:
     return [(t, k) for k in range(n)]
 
 
+def unpadded(machine: Any, n: T.Term) -> T.Term:
+    """A word, or the one of which it has the low bytes and zeros, if the path knows that they are the same; or a sum of
+    such words."""
+    constant, parts = T.linear(n)
+    if any(u is not n and u.op == "cat" for u in parts):
+        return T.add(n.w, (1, T.const(n.w, constant)), *((k, unpadded(machine, u)) for u, k in parts.items()))
+    data = n.args if n.op == "cat" else ()
+    whole = data[0][0] if data and isinstance(data[0], tuple) else n
+    size = next((k for k, b in enumerate(data) if b != (whole, k)), len(data))
+    is_padded = size and whole.w == n.w and not any(data[size:])
+    return whole if is_padded and machine.path_facts.range(whole)[1] < 1 << 8 * size else n
+
+
 def below(machine: Any, j: int, n: T.Term, a: T.Byte, b: T.Byte) -> T.Byte:
     """The byte a if j is below n, and otherwise b."""
+    n = unpadded(machine, n)
     low, high = machine.path_facts.range(n)
     if j < low or a == b:
         return a
@@ -99,11 +114,13 @@ class Piece(NamedTuple):
 class Exact(Values):
     """Terms over the variables of a call. Facts decide how public ones compare."""
 
+    PARTS = {**Values.PARTS, **dict.fromkeys(("compared_bytes", "is_kept", "pieces"), (KEPT, KEPT)), **dict.fromkeys((
+        "path_facts", "apart", "inside", "deepest", "is_scrubbed", "secrets", "pc"), (KEPT, GROWS))}
+
     def __init__(self, regions: dict, processor: Any, alignment: tuple, known: Facts | None = None) -> None:
         super().__init__(regions, processor, alignment)
         self.path_facts = known or Facts()
         self.apart: frozenset = frozenset()
-        self.secret_of: Any = None     # the flags from a secret word, and the word
         self.compared_bytes: Any = None
         # The lowest place of the stack that was used; the places where a secret may be, also below the stack pointer,
         # each with whether a byte of a key may be there; and whether scrub_stack has overwritten all below the frame
@@ -156,16 +173,22 @@ class Exact(Values):
 
     def may_be_left(self, j: int, k: int, b: T.Byte) -> bool:
         """Whether a byte of a vector register is zero, as at the entry, or left by the C library."""
-        return b in (0, self.at_start["vector"][j][k]) or isinstance(b, tuple) and str(b[0].args).startswith("after~")
+        return b in (0, self.at_start["vector"][j][k]) or isinstance(b, tuple) and str(b[0].args).startswith((
+            AFTER + "~", AFTER_KEY + "~"))
 
     def is_left(self, j: int, start: int) -> bool:
         """Whether all are zero, from one on, or each is as at the entry or left by the C library."""
         data = list(enumerate(self.vector[j]))[start:]
         return all(b == 0 for _, b in data) or all(b != 0 and self.may_be_left(j, k, b) for k, b in data)
 
-    def lost(self, n: int, is_compression: bool = False) -> list:
-        """What a function leaves in a register: `after` is what one of the C library leaves."""
-        return fresh("left" if is_compression else "after", T.SECRET, n) if n else []
+    @staticmethod
+    def left_by(data: list) -> str:
+        """What a function of the C library that has read these bytes leaves."""
+        return AFTER_KEY if any(map(is_of_key, data)) else AFTER
+
+    def lost(self, n: int, what: str) -> list:
+        """What a function leaves in a register."""
+        return fresh(what, T.SECRET, n) if n else []
 
     def anything(self, n: int) -> list:
         """Public bytes of which nothing is known."""
@@ -202,10 +225,10 @@ class Exact(Values):
         return self.path_facts.are_possible()
 
     def decide(self, relation: str, a: T.Term, b: T.Term) -> bool | None:
-        """Whether two words are so related, if that is known. Arguments do not overlap."""
+        """Whether two words are so related, if that is known. What is written overlaps no other argument."""
         bases = tuple(sorted({u for t in (a, b) for u in T.linear(t)[1] if u in self.regions},
                              key=lambda u: u.serial))
-        if len(bases) == 2 and bases not in self.apart:
+        if len(bases) == 2 and bases not in self.apart and any(self.regions[u].writable for u in bases):
             self.apart = self.apart | {bases}
             x, y = (total(u, T.const(64, self.regions[u].low)) for u in bases)
             n, m = (self.regions[u].length for u in bases)
@@ -245,10 +268,9 @@ class Exact(Values):
         if not isinstance(r, T.Term):
             r = T.word(fresh("new", T.SECRET, a.w // 8))
         if r.taint & ~T.PUBLIC or kind in ("add", "sub"):
-            self.flags = tuple(["secret"])
-            self.secret_of = self.flags, r
+            self.flags = Flags(SECRET, result=r)
         else:                          # what the flags say is only by the result
-            self.flags = kind, r, r, r
+            self.flags = Flags(kind, r, r, r)
         return T.split(r)
 
     def decided(self, compared: Any) -> bool:
@@ -259,17 +281,20 @@ class Exact(Values):
             raise Undecided(compared)
         return answer
 
+    def is_negative(self, t: T.Term) -> bool:
+        return self.decided((">=", t, T.const(t.w, 1 << t.w - 1)))
+
     def bit(self, compared: Any) -> T.Byte:
         """A byte that is 1 if a comparison holds, and otherwise 0."""
-        if self.flags != ("secret",):
+        if self.flags.kind != SECRET:
             return self.chosen(compared, [1], [0])[0]
-        if compared[0] != "==" or not self.secret_of or self.secret_of[0] is not self.flags:
+        if compared[0] != "==" or self.flags.result is None:
             return fresh("new", T.SECRET)[0]
-        return is_zero(self.secret_of[1])
+        return is_zero(self.flags.result)
 
     def chosen(self, compared: Any, a: list, b: list) -> list:
         """The bytes a if a comparison holds, and otherwise b, without a branch."""
-        if self.flags == ("secret",):
+        if self.flags.kind == SECRET:
             return fresh("new", T.SECRET, len(a))
         choose = lambda x, y, on, off: on if RELATIONS[compared[0]](x, y) else off
         found = T.leaves(choose, 8 * len(a), *compared[1:], T.word(a), T.word(b)) if (
@@ -454,10 +479,11 @@ class Exact(Values):
             self.need("%s of %d bytes to %r, from %r, which may overlap" % (what, size, to, source), (
                 ">=", apart, T.const(64, length)), ("<=", apart, T.const(64, -size)))
 
-    def copy_memory(self, to: T.Term, source: T.Term, length: T.Term) -> None:
+    def copy_memory(self, to: T.Term, source: T.Term, length: T.Term) -> list:
+        """Copies, and returns the bytes that may be read."""
         need_public(length, "a length")
         if length is T.const(64, 0):
-            return
+            return []
         base, offset, region = self.region_inside(source, length)
         if isinstance(region, Cells) and region.writable and base_of(offset) is None:
             low, high = self.bounds(region, offset)[0], self.bounds(region, total(offset, length))[1]
@@ -465,10 +491,10 @@ class Exact(Values):
                 raise CannotShow("a copy of %r bytes from %r" % (length, offset))
             data = [self.byte_at(base, k, region) for k in range(low, high)]
             self.add_piece(self.written(to, length), data, length, total(offset, T.const(64, low), -1))
-        elif length.op == "const":
-            self.store(to, self.load(source, length.args))
         else:
-            self.write_some(to, [self.byte_at(base, at, region) for at in offsets(offset, self.most(length))], length)
+            data = [self.byte_at(base, at, region) for at in offsets(offset, self.most(length))]
+            self.write_some(to, data, length)
+        return data
 
     def fill_memory(self, to: T.Term, byte: T.Byte, length: T.Term) -> None:
         need_public(length, "a length")

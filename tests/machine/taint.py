@@ -11,7 +11,7 @@ from math import gcd
 from typing import Any, Callable, Iterator
 
 import terms as T
-from machine import WORDWISE, Cells, Values, bitwise, joined, need_public, total
+from machine import KEPT, SECRET, UNKNOWN, WORDWISE, Cells, Flags, Values, bitwise, joined, need_public, total
 from terms import OPPOSITE, CannotShow, IsWrong, signed
 
 TOP = 1 << 64
@@ -55,6 +55,26 @@ def joined_byte(a: T.Byte, b: T.Byte) -> T.Byte:
 
 
 @T.remembering
+def unpadded(t: T.Term) -> tuple:
+    """The word of which a word has the low bytes, and zeros above, or itself; and how many these bytes are."""
+    data = T.split(t)
+    while data and data[-1] == 0:
+        data.pop()
+    is_one = data and not isinstance(data[0], int) and data == [(data[0][0], k) for k in range(len(data))]
+    return data[0][0] if is_one else t, len(data)
+
+
+def units(a: list, b: list) -> list:
+    """The places of the numbers in two words, as ranges: all of a word, unless half of it is a number of its own."""
+    half, sign = len(a) // 2, [255] * (len(a) // 2)
+    is_one = lambda x: x[half:] in (half * [0], sign) or unpadded(T.word(x))[0].op not in ("cat", "const")
+    if half == 1 or is_one(a) and is_one(b):
+        return [range(len(a))]
+    low, high = units(a[:half], b[:half]), units(a[half:], b[half:])
+    return low + [range(half + r.start, half + r.stop) for r in high]
+
+
+@T.remembering
 def parts(t: T.Term) -> tuple:
     """A term as the sum of a number and of another term or its negative."""
     constant, items = T.linear(t)
@@ -77,13 +97,15 @@ def merged_ranges(a: tuple, b: tuple) -> tuple:
 
 def in_both(a: tuple, b: tuple, w: int) -> tuple | None:
     """A range that has the words of w bits that two ranges have in common, by the greater step. None if there are
-    none. If they meet at both ends, it is the smaller of both."""
+    none. If they meet at both ends, it is the smaller of both, or of two that have most words the one that begins
+    later."""
     size = 1 << w
     shift = -((b[1] - a[0]) // size) * size          # the least with which b does not end before a
     if b[0] + shift > a[1]:
         return None
     if b[0] + shift + size <= a[1]:
-        return min(a, b, key=lambda r: r[1] - r[0])
+        is_wide = all(r[1] - r[0] > size // 2 for r in (a, b))
+        return max(a, b, key=lambda r: r[0]) if is_wide else min(a, b, key=lambda r: r[1] - r[0])
     b = b[0] + shift, b[1] + shift, b[2]
     if a[2] == 0 or b[2] == 0:
         return a if a[2] == 0 else b
@@ -93,6 +115,9 @@ def in_both(a: tuple, b: tuple, w: int) -> tuple | None:
 
 class Taint(Values):
     """Values of which each byte is public or secret."""
+
+    PARTS = {**Values.PARTS, **dict.fromkeys(("block", "longest", "facts", "ranges", "bounds", "undecided", "rounds",
+                                              "where"), (KEPT, KEPT))}
 
     def __init__(self, regions: dict, processor: Any, alignment: tuple, block: int, longest: int = 0) -> None:
         """An index that has no bound, or a greater one than the longest array, stays within a block."""
@@ -112,7 +137,7 @@ class Taint(Values):
         other.ranges = dict(self.ranges)
         return other
 
-    def lost(self, n: int, is_compression: bool = False) -> list:
+    def lost(self, n: int, what: str) -> list:
         """What a function leaves in a register."""
         return [secret()] * n
 
@@ -156,14 +181,15 @@ class Taint(Values):
             constant, sign, rest = parts(t)
             low, high, step = self.range_of_rest(rest)
             return (constant + low, constant + high, step) if sign > 0 else (constant - high, constant - low, step)
-        bs = T.split(t)
-        while bs and bs[-1] == 0:
-            bs.pop()
-        if bs and not isinstance(bs[0], int) and bs == [(bs[0][0], k) for k in range(len(bs))]:
-            low, high, step = self.range_of(bs[0][0])
-            if 0 <= low and high < 1 << 8 * len(bs):
-                return low, high, step
-        return 0, (1 << 8 * min(len(bs), t.w // 8)) - 1, 1
+        whole, size = unpadded(t)
+        low, high, step = self.range_of(whole) if whole is not t else (0, (1 << 8 * size) - 1, 1)
+        return (low, high, step) if 0 <= low and high < 1 << 8 * size else (0, (1 << 8 * size) - 1, 1)
+
+    def bare(self, t: T.Term) -> T.Term:
+        """A word, or the one of which it has the low bytes and zeros, if both are the same number."""
+        whole, size = unpadded(t)
+        low, high, _ = self.range_of(whole) if whole is not t else (0, 0, 0)
+        return whole if 0 <= low and high < 1 << 8 * size else t
 
     def range_of_rest(self, t: T.Term) -> tuple:
         """The range of a variable, or of a sum without a constant."""
@@ -171,7 +197,13 @@ class Taint(Values):
         if t.op != "add":
             return known or (self.range_of(t) if t.op != "var" else (0, (1 << t.w) - 1, 1))
         found = self.range_of_sum(t)
+        known = known or (self.ranges.get(self.widest(t)) if t.w < 64 else None)
         return in_both(known, found, t.w) or known if known else found
+
+    def widest(self, t: T.Term) -> T.Term:
+        """The sum of 64 bits of the words of a sum."""
+        bare = lambda u: self.bare(u) if self.bare(u).w == 64 else T.word(T.split(u) + [0] * (8 - t.w // 8))
+        return T.add(64, *[(signed(t.w, k), bare(u)) for u, k in t.args[1]])
 
     def range_of_sum(self, t: T.Term) -> tuple:
         """The range of a sum by those of its parts."""
@@ -187,17 +219,24 @@ class Taint(Values):
         (low, high, _), size = self.range_of(t), 1 << t.w
         return (low % size, high % size) if low // size == high // size else (0, size - 1)
 
+    def is_negative(self, t: T.Term) -> bool | None:
+        signs = {n >> t.w - 1 for n in self.unsigned(t)}
+        return bool(signs.pop()) if len(signs) == 1 else None
+
     def limit(self, t: T.Term, low: int, high: int, step: int = 1) -> bool:
         """Learns that a term is between two numbers, and one of low, low + step and so on. Returns whether that may
         be."""
         constant, sign, rest = parts(t)
-        if rest.op not in ("var", "add") or rest in self.regions:
+        bare = self.bare(rest)
+        if bare.op not in ("var", "add") or rest in self.regions:
             return True
         high -= (high - low) % step
         low, high = sorted((sign * (low - constant), sign * (high - constant)))
         found = in_both(self.range_of_rest(rest), (low, high, step), t.w)
         if found is None:
             return False
+        if bare is not rest:           # of which only numbers from 0 on are learnt
+            return found[0] < 0 or found[1] >> bare.w != 0 or self.limit(bare, *found)
         self.ranges[rest] = found
         return rest.op == "var" or self.limit_parts(rest)
 
@@ -208,7 +247,7 @@ class Taint(Values):
         for x, k in t.args[1]:
             k, (a, b, _) = signed(t.w, k), self.range_of(x)
             p, q = (low - last + b, high - first + a) if k == 1 else (first - high + b, last - low + a)
-            if x.op == "var" and abs(k) == 1 and not self.limit(x, p, q):
+            if self.bare(x).op == "var" and abs(k) == 1 and not self.limit(x, p, q):
                 return False
         return True
 
@@ -244,15 +283,15 @@ class Taint(Values):
     # Flags.
 
     def of_secrets(self, kind: str, f: Callable, a: T.Term, b: T.Term) -> list:
-        self.flags = ("secret",)
+        self.flags = Flags(SECRET)
         return [secret()] * (a.w // 8)
 
     def compare_again(self, a: list, b: list) -> None:
         """A comparison that is made only if the one before it holds."""
         old = self.flags
         self.computed("other", lambda x, y: None, a, b)
-        if self.flags != ("secret",):
-            self.flags = old if old in (None, ("secret",)) else ("ccmp",) + self.flags[1:]
+        if self.flags.kind != SECRET:
+            self.flags = old if old.kind in (UNKNOWN, SECRET) else self.flags._replace(kind="ccmp")
 
     def learn(self, relation: str, a: T.Term, b: T.Term, holds: bool) -> bool:
         """Learns that a comparison holds or does not, and what made a byte that is now known to be 0 or not. Returns
@@ -271,7 +310,7 @@ class Taint(Values):
 
     def truth(self, compared: Any) -> Any:
         """Whether a comparison holds, if that is known, or "secret"."""
-        if self.flags == ("secret",):
+        if self.flags.kind == SECRET:
             return "secret"
         for holds in (True, False):
             if self.supposing(compared, holds) is None:
@@ -399,7 +438,7 @@ class Taint(Values):
         least = low + (length.args if is_index else 1)
         is_bounded = end - least < self.longest or is_index and step >= TABLE_STEP
         if not is_bounded or is_index and least < end > region.high:
-            end = low + self.block
+            end = min([low + self.block] + [r.stop for r in region.arrays if low in r])
         if not region.low <= low <= end <= region.high:
             raise CannotShow("no bound is known for %r, from %d on" % (address, low))
         return base, range(low, end), region
@@ -475,11 +514,13 @@ class Taint(Values):
         changed = {(base, k & ~7) for (base, k), _ in self.memory.items() ^ other.memory.items()}
         for base, k in sorted(changed, key=lambda at: (at[0].serial, at[1])):
             a, b = ([m.byte(base, k + j, self.regions[base]) for j in range(8)] for m in (old, other))
-            data = self.joined(old, other, a, b, "%s%d" % (base.args, k), visits)
-            self.memory.update({(base, k + j): byte for j, byte in enumerate(data)})
+            for r in units(a, b):
+                at = k + r.start
+                data = self.joined(old, other, a[r.start:r.stop], b[r.start:r.stop], "%s%d" % (base.args, at), visits)
+                self.memory.update({(base, at + j): byte for j, byte in enumerate(data)})
         self.relate_all(old, other, visits, words)
         if self.flags != other.flags:
-            self.flags = None
+            self.flags = Flags(UNKNOWN)
         return any(getattr(self, name) != getattr(old, name)
                    for name in (*self.processor.FILES, "memory", "ranges", "facts", "flags"))
 
@@ -507,11 +548,11 @@ class Taint(Values):
                         self.new(8, "%s.%d" % (name, k), (0, 1, 1)), 0)
                 data.append(joined_byte(x, y))
             return self.cleaned(data, len(a) <= 8 and not name.startswith("sp"), name)
-        t, u = T.word(a), T.word(b)
-        base = self.common(t, u)
+        t, u = (T.word(data + [0] * (8 - len(data))) for data in (a, b))
+        base, w = self.common(t, u), 8 * len(a)
         old_range, new_range = (m.offset(v, base) for m, v in ((old, t), (other, u)))
-        x = self.new(t.w, name, self.widened(old_range, merged_ranges(old_range, new_range), t.w, visits))
-        return T.split(total(base, x))
+        x = self.new(w, name, self.widened(old_range, merged_ranges(old_range, new_range), w, visits))
+        return T.split(total(base, x) if w == 64 else x)
 
     def common(self, t: T.Term, u: T.Term) -> T.Term:
         """The base that two words have in common, or 0. Bases of memory that is only read become a base of both."""

@@ -10,8 +10,8 @@ import program as programs
 import terms as T
 from constant_time import OF_C, STACK
 from loops import MOST, Differences, Reads, Straight, cycle, no_output
-from machine import bitwise, chunks, image, joined, need_public
-from symbolic import Buffer, Cells, Exact, Undecided, any_of, below, fresh, is_zero
+from machine import LEFT, SECRET, UNKNOWN, Flags, bitwise, chunks, image, joined, need_public
+from symbolic import Buffer, Cells, Exact, Undecided, any_of, below, fresh, is_zero, unpadded
 from terms import CannotShow, IsWrong
 from x86 import UPPER
 
@@ -29,7 +29,7 @@ class Terms:
         self.calls, self.machine = calls, machine
 
     def word(self, n: Any) -> T.Term:
-        return T.const(64, n) if isinstance(n, int) else self.machine.settled(n)
+        return T.const(64, n) if isinstance(n, int) else unpadded(self.machine, self.machine.settled(n))
 
     def number(self, n: T.Term | int, size: int) -> list:
         data = self.machine.bytes_of(self.word(n))
@@ -287,7 +287,7 @@ class Calls:
             ends.append(m)
         elif i.is_trap:
             raise IsWrong("a trap is reached")
-        elif name == functions.MEMCMP and i.target is not None and not i.is_jump and m.flags == ("secret",):
+        elif name == functions.MEMCMP and i.target is not None and not i.is_jump and m.flags.kind == SECRET:
             waiting += self.compared(m, i, code)
         else:
             pc = cpu.follow(i)
@@ -309,6 +309,7 @@ class Calls:
         """The machines after a call of another function."""
         name = self.program.target(i, OF_C)
         to, source, length = (self.cpu(m).argument(k) for k in range(3))
+        read, length = T.split(source)[:1], m.settled(length)  # the bytes that a function of the C library reads
         if name in self.listed:
             self.compress(m, *self.listed[name])
             return [m]
@@ -318,10 +319,10 @@ class Calls:
             if name == "memcpy" and length is not T.const(64, 0):
                 size = m.most(length)
                 m.check_disjoint(name, to, size, source, size)
-            m.copy_memory(to, source, length)
+            read = m.copy_memory(to, source, length)
         else:
             return self.run_inner(name, m)
-        self.cpu(m).clobber()
+        self.cpu(m).clobber(m.left_by(read))
         if name in OF_C:
             self.cpu(m).answer()[:] = T.split(to)
         return [m]
@@ -348,8 +349,10 @@ class Calls:
         if i.name not in ("je", "b.eq") or m.compared_bytes or not all(
                 self.cpu.only_returns(code, pc) for pc in (i.target, i.next)):
             raise IsWrong("a branch depends on secret data")
-        same, other = self.both(m, is_zero(m.secret_of[1]))
-        same.flags = other.flags = None
+        if m.flags.result is None:
+            raise CannotShow("it is not known which word a comparison returns by")
+        same, other = self.both(m, is_zero(m.flags.result))
+        same.flags = other.flags = Flags(UNKNOWN)
         return [(same, i.target), (other, i.next)]
 
     @staticmethod
@@ -392,7 +395,7 @@ class Calls:
                 m, kind, joined(words[j::lanes]), T.word(pointers[j]), T.word(counters[j]), flags[j]), kind.bytes)
         m.store(rows, joined(result))
         m.compressed(frame)
-        self.cpu(m).clobber(True)
+        self.cpu(m).clobber(LEFT)
 
     def compress_one(self, m: Any, kind: "Kind", chain: list, at: T.Term, counter: T.Term, flags: list) -> list:
         """The chaining words after the block at an address."""

@@ -7,8 +7,8 @@ from typing import Callable
 
 import machine
 import terms as T
-from machine import (ON_VECTORS, ON_WORDS, Operand, Processor, chunks, image, joined, need_public, no_rule, number,
-                     of_numbers, picked, total, unknown_bit)
+from machine import (LEFT, ON_VECTORS, ON_WORDS, SECRET, UNKNOWN, Flags, Operand, Processor, chunks, image,
+                     joined, need_public, no_rule, number, of_numbers, picked, total, unknown_bit)
 from terms import CannotShow, IsWrong
 
 RAX, RCX, RDX, RBX, RSP, RBP, RSI, RDI = range(8)
@@ -142,6 +142,9 @@ MOVED: dict = {
     **{"pextr" + c: ("a", WIDTH, n, lambda n, imm: [imm % n]) for c, n in BYTES.items()},
     **{"pbroadcast" + c: ("a", WIDTH, n, lambda _: [0] * WIDTH) for c, n in BYTES.items()},
     **{"pmovzx" + c: ("a", n, n, lambda n: [0, n]) for c, n in (("wd", 2), ("dq", 4))},
+    "movhlps": ("ab", 16, 8, lambda n: [n + 1, 1]),
+    "permilpd": ("a", WIDTH, 8, lambda n, imm: [k & -2 | imm >> k & 1 for k in range(n)]),
+    "shufpd": ("ab", WIDTH, 8, lambda n, imm: [n * (k & 1) + (k & -2 | imm >> k & 1) for k in range(n)]),
     "pmovqd": ("a", 8, 4, lambda n: [0]),
 }
 
@@ -192,8 +195,9 @@ COMPUTED: dict = {
     "pternlogq": (3, 8, no_rule),
 }
 # Other names for the same.
-ALIKE = {"permpd": "permq", "unpcklpd": "punpcklqdq", "movlhps": "punpcklqdq", "unpckhpd": "punpckhqdq",
-         "unpcklps": "punpckldq", "unpckhps": "punpckhdq", "blendps": "pblendd", "perm2f128": "perm2i128",
+ALIKE = {"permpd": "permq", "permilps": "pshufd", "unpcklpd": "punpcklqdq", "movlhps": "punpcklqdq",
+         "unpckhpd": "punpckhqdq", "unpcklps": "punpckldq", "unpckhps": "punpckhdq", "blendps": "pblendd",
+         "perm2f128": "perm2i128",
          "permps": "permd", "broadcastss": "pbroadcastd", "broadcastsd": "pbroadcastq", "extractps": "pextrd",
          "broadcasti128": "pbroadcasti128", "extracti128": "pextri128", "inserti128": "pinsri128",
          "insertf128": "pinsri128", "inserti32x4": "pinsri128"}
@@ -247,12 +251,13 @@ class X86(Processor):
     def move_stack(self, n: int) -> None:
         self.values.general[RSP] = T.split(T.add(64, (1, self.values.stack_pointer()), (1, T.const(64, n))))
 
-    def lost_vector(self, j: int, old: list, is_compression: bool) -> list:
+    def lost_vector(self, j: int, old: list, what: str) -> list:
         """Zeros above the bytes that belong to the call, and what is as before, stay for all calls that follow."""
         start = 0 if j in UPPER else 16
-        upper = self.values.lost(WIDTH - start, is_compression and not self.values.is_left(j, start))
-        kept = [x if is_compression and x == 0 else y for x, y in zip(old[start:], upper)]
-        return self.values.lost(start, is_compression) + kept
+        is_left = what == LEFT and self.values.is_left(j, start)
+        upper = self.values.lost(WIDTH - start, self.values.left_by(old[start:]) if is_left else what)
+        kept = [x if what == LEFT and x == 0 else y for x, y in zip(old[start:], upper)]
+        return self.values.lost(start, what) + kept
 
     def need_vectors(self) -> None:
         for j in range(REGISTERS):
@@ -287,8 +292,7 @@ class X86(Processor):
     # Conditions.
 
     def compared(self, condition: str) -> tuple | None:
-        flags = self.values.flags
-        kind = flags[0] if flags else None
+        kind = self.values.flags.kind
         if kind == "no carry" and condition in OF_CARRY:
             raise IsWrong("a carry that inc or dec keeps depends on secret or unknown data")
         if kind == "product" and condition not in OF_OVERFLOW:
@@ -346,6 +350,16 @@ class X86(Processor):
         self.move_stack(8)
         self.write(to, data)
 
+    def do_movsx(self, i: Instruction, to: Operand, source: Operand) -> None:
+        """A word as one of more bytes, with its sign."""
+        data = self.read(source)
+        self.write(to, self.values.extended(data, to.size))
+
+    do_movsxd = do_movsx
+
+    def do_cdqe(self, i: Instruction) -> None:
+        self.do_movsx(i, REGISTER["rax"], REGISTER["eax"])
+
     def compute(self, i: Instruction, to: Operand, source: Operand = ONE) -> None:
         """An instruction of ARITHMETIC. A shift by 0 keeps the flags, and is not modelled."""
         name, (kind, operation) = i.name, ARITHMETIC[i.name]
@@ -369,8 +383,8 @@ class X86(Processor):
         old = self.values.flags
         self.arithmetic("other", lambda a, b: total(a, b, step), to, ONE)
         now = self.values.flags
-        if (old is None or old[0] in ("secret", "no carry")) and now != ("secret",):
-            self.values.flags = ("no carry",) + now[1:]
+        if old.kind in (UNKNOWN, SECRET, "no carry") and now.kind != SECRET:
+            self.values.flags = now._replace(kind="no carry")
 
     def do_imul(self, i: Instruction, to: Operand, source: Operand) -> None:
         need_public(T.word(self.read(to) + self.read(source, to.size)), "the time of a product")
@@ -378,8 +392,7 @@ class X86(Processor):
 
     def with_carry(self, to: Operand, source: Operand, sign: int) -> None:
         """Adds or subtracts the carry too, which must be public."""
-        flags = self.values.flags
-        if flags is None or flags[0] in ("secret", "no carry"):
+        if self.values.flags.kind in (UNKNOWN, SECRET, "no carry"):
             raise CannotShow("a carry depends on flags that are not public")
         carry = T.word([self.values.bit(self.compared("b"))] + [0] * (to.size - 1))
         self.arithmetic("other", lambda a, b: T.add(a.w, (1, a), (sign, b), (sign, carry)), to, source)
@@ -396,7 +409,7 @@ class X86(Processor):
         for o in results[::-1] or [register(RAX), register(RDX)]:
             self.write(o, self.values.anything(o.size))
         if not results:                # mulx keeps the flags
-            self.values.flags = None
+            self.values.flags = Flags(UNKNOWN)
 
     def do_vzeroupper(self, i: Instruction) -> None:
         vector = self.values.vector

@@ -7,17 +7,22 @@ from __future__ import annotations
 from typing import Any, Callable
 
 import call_specification as S
-from call_specification import State
 from rfc7693 import Kind
+from structs import Field, State, zeros_of
 from symbolic import Buffer
 from terms import Term
 
 
-def zeros(kind: Kind) -> State:
-    """The wiped state: that of the root hash, and a reader of the output: the root hash once bytes were read, salt and
+def fields(kind: Kind) -> tuple:
+    """The fields of the root hash, and those of a reader of the output: the root hash once bytes were read, salt and
     persona, the length of the output, the bytes that were read, and whether any were."""
-    return State(**vars(S.zeros(kind)), root=[0] * kind.w, texts=[0] * (kind.w // 2), xof_length=0, position=0,
-                 reading=0)
+    return (*S.fields(kind), Field("root", kind.w, 1), Field("texts", kind.w // 2, 1), Field("xof_length", 8),
+            Field("position", 8), Field("reading", 8))
+
+
+def zeros(kind: Kind) -> State:
+    """The wiped state."""
+    return zeros_of(fields(kind))
 
 
 def unknown(kind: Kind) -> int:

@@ -1,0 +1,397 @@
+#!/usr/bin/env python3
+"""Runs what was proved. For each path of each case of a call, Z3 gives inputs, and the text runs on them: it must
+return and write what is specified, for ARM in qemu. Its C library is hostile.S, which overwrites all that the calling
+convention allows: with zeros, with ones, and with other bytes. Arguments that are only read are also the same, or
+overlap; on ARM pointers have a tag; and the constants are also linked in another order.
+
+    tests/machine/check_paths.py FILE FAMILY EXPORT [all]     one function, such as
+                                dist/x86_64/vulfsjor-v3.s blake2s _final; with all cases, or some"""
+
+import functools
+import os
+import random
+import re
+import struct
+import subprocess
+import sys
+import tempfile
+from types import SimpleNamespace
+from typing import Any, Callable, Iterator, NamedTuple, cast
+
+import call_cases
+import call_specification as S
+import check_specification as C
+import facts
+import program as programs
+import symbolic
+import terms as T
+import xof_specification as X
+from call_cases import COUNTS, MOST, REFUSED
+from check_specification import LONGEST, Unlucky, value
+
+TEXTS = [path for path in programs.functions.FILES if path.endswith(".s")]
+SOURCE = os.path.join(os.path.dirname(os.path.abspath(__file__)), "hostile.S")
+# Of the block of hostile.S: its start, the places of the memory and of the stack below, and its size.
+HEADER, ARGUMENTS, ARENA, BELOW, SIZE = "<QQQQQ24x12Q96x", 12, 2304, 10496, 26880
+JUNK, WINDOW = 2048, 8                 # bytes that overwrite; and of a key that must not be in the stack below
+LIMIT, BLOCKS = 200, 5                 # of the numbers that Z3 gives for a path, if it can; and of blocks
+TAG = 0xb4 << 56                       # of pointers, which a processor for ARM ignores
+FLIPS = 3                              # bits that are changed in what is compared
+SPARE = 8                              # bytes around each argument, which no call may change
+SORTED = "-Wl,--sort-section=alignment"        # links constants in another order
+
+
+class Crash(Exception):
+    """The program has ended."""
+
+
+class Hostile:
+    """A program of a text and hostile.S, whose functions can be called."""
+
+    def __init__(self, folder: str, path: str, text: str, *options: str) -> None:
+        compiler, prefix, _ = programs.TOOLS[programs.functions.architecture(path)]
+        s, self.exe = (os.path.join(folder, "a" + suffix) for suffix in (".s", "".join(options)[-9:]))
+        with open(s, "w") as f:
+            f.write(text)
+        subprocess.run(compiler + ["-nostdlib", "-static", "-no-pie", "-o", self.exe, s, SOURCE, *options], check=True)
+        names = subprocess.run([prefix + "nm", self.exe], check=True, stdout=subprocess.PIPE, text=True).stdout
+        self.addresses = {programs.without_version(m[2]): int(m[1], 16) for m in re.finditer(
+            r"^(\w+) \w (.*)$", names, re.M)}
+        self.is_arm, self.process = bool(prefix), cast(Any, None)
+        with open("/proc/cpuinfo") as f:
+            self.masks = int("avx512bw" in f.read())
+        self.start(bytes(JUNK), 0, 0)
+
+    def start(self, junk: bytes, leaves: int, tag: int) -> None:
+        """Begins a call with no memory yet."""
+        self.junk, self.leaves, self.tag, self.memory = junk, leaves, tag, b""
+
+    def place(self, data: bytes) -> int:
+        """Where some bytes are in the memory of the call."""
+        at = len(self.memory) + -len(self.memory) % 8
+        self.memory = self.memory.ljust(at, b"\0") + data
+        if ARENA + len(self.memory) > BELOW:
+            raise Unlucky
+        return at
+
+    def write(self, at: int, data: bytes) -> None:
+        self.memory = self.memory[:at] + data + self.memory[at + len(data):]
+
+    def address(self, at: int) -> int:
+        return self.addresses["block"] + ARENA + at | self.tag
+
+    def call(self, name: str, numbers: list) -> int:
+        """The result of a function."""
+        if self.process is None:
+            self.process = subprocess.Popen(["qemu-aarch64"] * self.is_arm + [self.exe], stdin=subprocess.PIPE,
+                                            stdout=subprocess.PIPE, stderr=subprocess.DEVNULL)
+        header = struct.pack(HEADER, self.addresses[name], self.masks, self.leaves, 0, 0,
+                             *numbers + [0] * (ARGUMENTS - len(numbers)))
+        try:
+            self.process.stdin.write((header + self.junk + self.memory).ljust(SIZE, b"\0"))
+            self.process.stdin.flush()
+            found = self.process.stdout.read(SIZE)
+        except BrokenPipeError:
+            found = b""
+        if len(found) < SIZE:
+            self.close()
+            raise Crash
+        _, _, _, result, is_other, *_ = struct.unpack_from(HEADER, found)
+        if is_other:
+            raise T.IsWrong("a register, the stack pointer or the direction is not as before")
+        self.memory, self.below = found[ARENA:ARENA + len(self.memory)], found[BELOW:]
+        return result
+
+    def close(self) -> None:
+        if self.process:
+            self.process.kill()
+            self.process.communicate()
+            self.process = None
+
+
+class Placed(C.Memory):
+    """An argument in the memory of a call, with other bytes around it: at a place of its own, or in another."""
+
+    is_null = False
+
+    def __init__(self, hostile: Hostile, data: bytes, spare: bytes, whole: Any = None, shift: int = 0) -> None:
+        super().__init__(data)
+        self.hostile, self.whole, self.spare = hostile, whole, spare
+        self.at = whole.at + shift if whole else hostile.place(spare + data + spare) + len(spare)
+
+    def address(self) -> int:
+        return 0 if self.is_null else self.hostile.address(self.at)
+
+    def has(self, data: bytes) -> bool:
+        """Whether a call has left these bytes, and those around."""
+        start = self.at - len(self.spare)
+        return bool(self.whole) or self.hostile.memory[start:][:len(data) + 2 * len(self.spare)] == (
+            self.spare + data + self.spare)
+
+
+class Way(NamedTuple):
+    """How a path is run: the byte that overwrites, or None for others; whether what is compared differs; how far the
+    second argument that is only read is from the first, if it is in that; and the tag of pointers."""
+
+    junk: int | None
+    flip: int | None = None
+    shift: int | None = None
+    tag: int = 0
+
+
+class Ran(call_cases.Case):
+    """A case of a call with the numbers of a path."""
+
+    def __init__(self, rng: random.Random, cases: Any, case: Any, names: dict, way: Way, hostile: Hostile) -> None:
+        super().__init__(cases, case.choices)
+        self.rng, self.of, self.names, self.way, self.hostile = rng, case, names, way, hostile
+        self.is_long = self.shares = False
+        self.first: Placed | None = None       # of the arguments that are only read
+        self.memories: dict = {}
+
+    def variable(self, name: str, w: int = 64) -> T.Term:
+        return T.const(w, value(self.number(name)))
+
+    def number(self, name: str, low: int = 0, high: int = MOST) -> T.Term:
+        """That of the path, or any of the case."""
+        low, high = self.of.limits.get(name, (low, high))
+        return T.const(64, self.names.get(name, self.rng.choice((low, high, self.rng.randint(low, high)))))
+
+    def secrets(self, name: str, size: int, w: int) -> list:
+        return list(self.rng.randbytes(size))
+
+    def bound(self, numbers: tuple, low: int, high: int) -> None:
+        total = sum(n[0] * value(n[1]) if isinstance(n, tuple) else value(n) for n in numbers)
+        if not low <= total <= high:
+            raise Unlucky
+
+    def chooses_null(self, name: str, length: Any) -> bool:
+        """As in the case."""
+        is_null = name in self.of.nulls and self.one_of(False, True)
+        if is_null and value(length):
+            raise Unlucky
+        return is_null
+
+    def pass_struct(self, name: str, data: Any) -> None:
+        self.place(name, Placed(self.hostile, bytes(data), self.rng.randbytes(SPARE)))
+
+    def place(self, name: str, memory: Placed) -> None:
+        self.memories[name] = memory
+        self.arguments.append(memory)
+
+    def pass_buffer(self, name: str, length: Any, taint: int = T.SECRET) -> Any:
+        """A buffer that is too long to be made is that of a call that is refused."""
+        n, is_null = value(length), self.chooses_null(name, length)
+        self.is_long |= n > LONGEST
+        data = bytearray(self.rng.randbytes(min(n, LONGEST)))
+        if taint == T.PUBLIC or name == "out":
+            self.pass_struct(name, [self.names.get((name, k), b) for k, b in enumerate(data)])
+        else:
+            self.place(name, self.read_only(name, data))
+        self.memories[name].is_null = is_null
+        self.arguments.append(T.const(64, n))
+        return self.memories[name]
+
+    def read_only(self, name: str, data: bytearray) -> Placed:
+        """An argument that is only read. The second may be in the first, whose bytes are then all the same. What is
+        compared is the same, or differs in a bit."""
+        spare, shift = self.rng.randbytes(SPARE), self.way.shift
+        if shift:
+            data, spare = bytearray(len(data)), bytes(SPARE)
+        other, self.first = self.first, self.first or Placed(self.hostile, bytes(data), spare)
+        if not other:
+            return self.first
+        if shift is not None and len(data) <= len(other.data):
+            self.shares = True
+            return Placed(self.hostile, (other.data + other.spare)[shift:][:len(data)], spare, other, shift)
+        if name == "b" and self.way.flip is not None and len(data) == len(other.data):
+            data = bytearray(other.data)
+            if self.way.flip and data:
+                k = self.rng.choice((0, len(data) - 1, self.rng.randrange(len(data))))
+                data[k] ^= 1 << self.rng.randrange(8)
+        return Placed(self.hostile, bytes(data), spare)
+
+    def is_left(self) -> bool:
+        """Whether bytes of a key are in the stack below after a call that is not refused."""
+        keys = [m.data for n, m in self.memories.items() if n == "key"]
+        if "state" in self.memories and value(self.state.start_length):
+            keys.append(bytes(vars(self.state)[symbolic.KEYS[0].rstrip(".")]))
+        return not self.is_refused and any(key[k:k + WINDOW] in self.hostile.below for key in keys
+                                           for k in range(len(key) - WINDOW + 1) if any(key[k:k + WINDOW]))
+
+
+    def differs(self, name: str, expected: Callable) -> str | None:
+        """What a function does otherwise than the specification says."""
+        tag = self.memories.get("tag")
+        if tag and 0 < len(tag.data) == value(self.state.output_size):     # it is right, or has one wrong bit
+            right = S.digest(C.A, self.kind, self.state)[:len(tag.data)]
+            right[self.rng.randrange(len(right))] ^= self.rng.choice((0, 0, 1, 128))
+            self.hostile.write(tag.at, bytes(right))
+            tag.data = bytes(right)
+        result, state, out = expected(C.A)
+        if self.is_long and not self.is_refused:
+            raise Unlucky
+        words = [x.address() if isinstance(x, Placed) else int.from_bytes(bytes(
+            b if isinstance(b, int) else self.rng.randrange(256) for b in T.split(x)), "little")
+            for x in self.arguments]
+        found = self.hostile.call(name, words) & (1 << (64 if name.endswith(COUNTS) else 32)) - 1
+        if callable(result):           # what a comparison returns
+            is_same = int(found == 0)
+            result = result(SimpleNamespace(compared_bytes=(is_same, is_same)))
+        if result is not None and found != value(result):
+            return "it returns %d, not %d" % (found, value(result))
+        wanted = {name: memory.data for name, memory in self.memories.items()}
+        if state is not None:
+            wanted["state"] = bytes(call_cases.bytes_of(self.fields, state))
+        if "out" in wanted:
+            data = bytes(out(None) if callable(out) else out)[:len(wanted["out"])]
+            wanted["out"] = data + wanted["out"][len(data):]
+        return next((name for name, memory in self.memories.items() if not memory.has(wanted[name])), None)
+
+
+def read(case: Ran, n: T.Term, state: Callable, position: T.Term) -> Callable:
+    """The bytes of a read, in place of those that loops.py compares."""
+    def data(_: Any) -> bytes:
+        blocks, w = functools.cache(X.stream(C.A, case.kind, state(C.A), case.is_known)), case.kind.w
+        return bytes(blocks(k // w)[k % w] for k in range(value(position), value(position) + value(n)))
+    return data
+
+
+class Memories(call_cases.MemoryCases):
+    """The cases of memcmp and wipe; what is expected is a number and bytes."""
+
+    def memcmp(self, case: Any) -> Callable:
+        super().memcmp(case)
+        return lambda a: (0 if case.memories["a"].data == case.memories["b"].data else REFUSED, None, [])
+
+    def wipe(self, case: Any) -> Callable:
+        super().wipe(case)
+        return lambda a: (None, None, bytes(len(case.memories["out"].data)))
+
+
+def inputs(known: facts.Facts) -> Iterator:
+    """Some numbers for which all facts of a path hold: small ones, any, and each variable at its greatest, and at
+    its greatest below a limit."""
+    variables = [t for t in known.variables if "address" not in str(t.args) and "~" not in str(t.args)]
+    limits = {t: BLOCKS if t.args == "K" else LIMIT for t in variables}
+    small = lambda v: [facts.number(t) <= limits[t] for t in variables if t is not v]
+    yield from (known.ask(small(None), variables), known.small(None))
+    for v in variables:
+        low, high = known.range(v)
+        for most in {min(high, limits[v]) if low <= limits[v] else high, high}:
+            wanted = [facts.number(v) == most]
+            yield known.ask(wanted + small(v), variables) or known.ask(wanted, variables)
+
+
+def named(model: Any) -> dict:
+    """The numbers of a model, by the names of variables, or by those of buffers and the places of their bytes."""
+    names = {(n[0], n[1].args) if isinstance(n, tuple) else n: k for n, k in model.names().items()
+             if isinstance(n, str) or len(n) == 2 and n[1].op == "const"}
+    return names
+
+
+class Paths:
+    """The paths of an export by the proof of a program, and what a text does on them."""
+
+    def __init__(self, program: programs.Program, family: str, export: str, numbers: tuple) -> None:
+        self.proof = call_cases.cases(program, family, *numbers)
+        self.cases = type(self.proof)(program, family, *numbers) if family else Memories(program, family, *numbers)
+        self.cases.reads = read
+        self.export, self.rng = export, random.Random(3)
+        self.paths = self.ran = self.left_out = 0
+
+    def examples(self) -> Iterator:
+        """Each case after its proof, and the numbers of each of its paths."""
+        found: list = []
+
+        def visit(end: Any) -> None:
+            names = [named(m) for m in inputs(end.path_facts) if m]
+            found.append([n for k, n in enumerate(names) if n not in names[:k]])
+        self.proof.visit = visit
+        for case, _ in self.proof.each(self.export, self.proof.show_case):
+            yield from ((case, names) for names in found)
+            found.clear()
+
+    def ways(self, is_arm: bool) -> list:
+        found = [Way(junk, k % 2) for junk in (0, 255, None) for k in range(FLIPS * (not self.proof.family))]
+        found += [Way(junk, None, shift) for junk in (0, 255, None) for shift in (None, 0, 4)]
+        return found + [Way(None, None, None, TAG)] * is_arm
+
+    def differs(self, hostile: Hostile, case: Any, names: dict, way: Way) -> str | None:
+        """What the text does otherwise than is specified, or None. Raises Unlucky if this cannot be run."""
+        T.reset()
+        junk = self.rng.randbytes(JUNK) if way.junk is None else bytes([way.junk]) * JUNK
+        hostile.start(junk, way.junk is None, way.tag)
+        made = Ran(self.rng, self.cases, case, names, way, hostile)
+        expected = self.cases.fill(self.export, made)
+        if way.shift is not None and not made.shares:
+            raise Unlucky
+        try:
+            why = made.differs(self.cases.prefix + self.export, expected)
+        except T.IsWrong as e:
+            return str(e)
+        except Crash:
+            return "it crashes"
+        return why or ("%d bytes of a key are below the stack" % WINDOW if hostile.leaves and made.is_left() else None)
+
+    def run(self, path: str, text: str) -> str | None:
+        """What a text does otherwise on the paths than is specified, or None."""
+        with tempfile.TemporaryDirectory() as folder:
+            both = [Hostile(folder, path, text, *options) for options in ((), (SORTED,))]
+            try:
+                return next(filter(None, (self.on_path(both, *found) for found in self.examples())), None)
+            finally:
+                for hostile in both:
+                    hostile.close()
+
+    def on_path(self, both: list, case: Any, examples: list) -> str | None:
+        """The same of one path."""
+        before, self.paths = self.ran, self.paths + 1
+        for names in examples:
+            for k, way in enumerate(self.ways(both[0].is_arm)):
+                try:
+                    why = self.differs(both[k % 2], case, names, way)
+                except Unlucky:
+                    continue
+                self.ran += 1
+                if why:
+                    return "%s%s, case %s: %s: for %s, %s" % (
+                        self.proof.prefix, self.export, case.title(), why, names, way)
+        self.left_out += self.ran == before
+        return None
+
+
+def check(path: str, family: str, exports: list, *numbers: Any) -> tuple:
+    """Whether a text does what was proved of it, of some exports of a family or all, in some cases or with these
+    numbers: a verdict, and what was run."""
+    program, paths, ran, left_out = programs.read(path), 0, 0, 0
+    for export in exports or call_cases.exports(program, family):
+        found = Paths(program, family, export, numbers or call_cases.some(family))
+        why = found.run(path, programs.source(path))
+        if why:
+            return "not ok", why
+        paths, ran, left_out = paths + found.paths, ran + found.ran, left_out + found.left_out
+    return "ok", "%d calls for %d paths, %d paths not run" % (ran, paths, left_out)
+
+
+def sees(row: Any) -> tuple:
+    """Whether a changed text differs on the paths of the shipped one: a verdict, and why."""
+    family, export = programs.found(r"whole (blake2x?[bs]|)(\S+)", row.function).groups()
+    found = Paths(programs.read(row.path), family, export, call_cases.some(family))
+    why = found.run(row.path, row.edit(programs.source(row.path)))
+    return "ok" if why else "not ok", why or "%d calls see no difference" % found.ran
+
+
+def main(arguments: list) -> int:
+    facts.run_with_z3(__file__, arguments)
+    path, family, export, *is_all = arguments
+    try:
+        verdict, why = check(path, family, [export], *[None] * 2 * bool(is_all))
+    except T.Refused as e:
+        verdict, why = e.kind, str(e)
+    print("%s: %s" % (verdict, why))
+    return verdict != "ok"
+
+
+if __name__ == "__main__":
+    sys.exit(main(sys.argv[1:]))

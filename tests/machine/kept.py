@@ -1,0 +1,76 @@
+"""The verdicts of check.py's short form that are kept, in the user's cache folder: what was right is not done again
+while all that it depends on is the same. That is the tool, the header, the programs that it runs, the processor, and
+the files of dist/ and js/src that it has read. `--long` keeps none, and reads none."""
+
+import functools
+import glob
+import hashlib
+import json
+import os
+import platform
+import shutil
+import sys
+from typing import Any
+
+import facts
+from elf import ROOT
+
+FOLDER = os.path.join(os.environ.get("XDG_CACHE_HOME") or os.path.expanduser("~/.cache"), "vulfsjor", "machine")
+MOST = 8                               # states of the tool of which verdicts are kept
+FILES = ("tests/machine/*.*", "tools/wasm_format.py", "c/include/vulfsjor.h", "dist/*/elf.inc")
+NAMES = ("dist/*/*", "js/src/*")       # of which it matters that there is no other
+TOOLS = [prefix + tool for prefix in ("", "aarch64-linux-gnu-") for tool in "gcc as ld objdump nm".split()]
+TOOLS += [os.environ.get("CC", "cc"), "qemu-aarch64", "node"]
+
+
+@functools.lru_cache(maxsize=None)
+def content(path: str) -> str:
+    """The hash of a file."""
+    with open(os.path.join(ROOT, path), "rb") as f:
+        return hashlib.sha256(f.read()).hexdigest()
+
+
+def surroundings() -> str:
+    """The hash of what all verdicts depend on."""
+    names = {part: sorted(os.path.relpath(p, ROOT) for each in part for p in glob.glob(os.path.join(ROOT, each)))
+             for part in (FILES, NAMES)}
+    found: list[Any] = [names[NAMES], [(name, content(name)) for name in names[FILES]], sys.version, platform.machine()]
+    for path in [os.path.realpath(str(p)) for p in map(shutil.which, TOOLS) if p]:
+        found.append((path, os.stat(path).st_size, os.stat(path).st_mtime_ns))
+    with open("/proc/cpuinfo", encoding="utf-8") as f:
+        found.append(next((line for line in f if line.startswith(("flags", "Features"))), ""))
+    found.append(facts.z3.get_full_version() if facts.z3 else "")
+    return hashlib.sha256(repr(found).encode()).hexdigest()
+
+
+class Kept:
+    """The verdicts of this state of the tool, by the titles of checks: why, and the hashes of the files read."""
+
+    def __init__(self) -> None:
+        self.path = os.path.join(FOLDER, surroundings() + ".json")
+        try:
+            with open(self.path, encoding="utf-8") as f:
+                self.verdicts = json.load(f)
+        except (OSError, ValueError):
+            self.verdicts = {}
+
+    def find(self, title: str) -> str | None:
+        """Why a check was right, or None."""
+        why, files = self.verdicts.get(title, (None, {}))
+        return why if all(os.path.exists(os.path.join(ROOT, path)) and content(path) == found
+                          for path, found in files.items()) else None
+
+    def keep(self, title: str, why: str, files: set) -> None:
+        self.verdicts[title] = why, {path: content(path) for path in sorted(files)}
+
+    def save(self) -> None:
+        """Writes them, if there is a place, and removes the oldest of other states."""
+        try:
+            os.makedirs(FOLDER, exist_ok=True)
+            with open("%s.%d" % (self.path, os.getpid()), "w", encoding="utf-8") as f:
+                json.dump(self.verdicts, f)
+            os.replace(f.name, self.path)
+            for old in sorted(glob.glob(os.path.join(FOLDER, "*.json")), key=os.path.getmtime)[:-MOST]:
+                os.remove(old)
+        except OSError:
+            pass
