@@ -21,7 +21,7 @@ needs_absolute = $(if $(filter /%,$(prefix)),,$(error prefix must be an absolute
 of_library = env INCLUDEDIR="$(includedir)" LIBDIR="$(libdir)" c/install.sh
 # What is built, and what it is built from.
 built = out/make
-code = $(wildcard c/*.[ch] c/*.map c/*/*.[ch] c/include/libb2/* c/*.sh dist/MANIFEST dist/*.[hS] dist/*/*.[sc] dist/*/*.inc)
+code = $(wildcard c/*.[ch] c/*.map c/*/*.[ch] c/include/libb2/* c/include/reference/* c/*.sh dist/MANIFEST dist/*.[hS] dist/*/*.[sc] dist/*/*.inc)
 
 # What is asked for of the compiler, if anything is. All is built again if that was another.
 quote = '$(subst ','\'',$(1))'
@@ -29,6 +29,13 @@ words = $(foreach name,CC AR CPPFLAGS CFLAGS LDFLAGS,$(if $(filter-out default u
 $(built)/words: $(if $(strip $(words)),$(shell [ "`cat $(built)/words 2>&1`" = $(call quote,$(words)) ] || echo again))
 	mkdir -p $(built)
 	printf '%s\n' $(call quote,$(words)) >$@
+
+# A hash of all this. All is built again if it was another, since a file that is unpacked or copied over another may be
+# older than what was built.
+hash := $(shell cat $(PROGRAMS) tools/launcher.sh $(code) | { sha256sum || shasum -a 256; } 2>&1)
+$(built)/hash: $(shell [ "`cat $(built)/hash 2>&1`" = '$(hash)' ] || echo again)
+	mkdir -p $(built)
+	echo '$(hash)' >$@
 
 .PHONY: again
 again:
@@ -38,10 +45,10 @@ all: $(PROGRAMS:%=$(built)/%) $(built)/lib/kind ## build b2, b2sum and the C lib
 help: ## list these names
 	@sed -n "s/^\([a-z]*\):.*## /make \1	/p" Makefile
 
-$(PROGRAMS:%=$(built)/%): $(built)/%: % tools/launcher.sh $(code) $(built)/words
+$(PROGRAMS:%=$(built)/%): $(built)/%: % tools/launcher.sh $(code) $(built)/words $(built)/hash
 	./$* --build $@
 
-$(built)/lib/kind: $(code) $(built)/words
+$(built)/lib/kind: $(code) $(built)/words $(built)/hash
 	c/install.sh --build $(built)/lib
 
 install: all ## install b2, b2sum, their man pages and completions, and the C library in prefix
@@ -58,18 +65,23 @@ test: ## test everything that needs no proof, over the code in dist/
 clean: ## remove what was built
 	rm -rf out
 
-release: ## make the artifacts of a release in out/release, and test each of them
+# The small systems that a release is tried in, of packaging/roots.txt.
+ROOTS = --all
+release: ## make the artifacts of a release in out/release, and test each of them and ./test on small systems
 	tools/release.sh
+	tests/roots.sh $(ROOTS)
 
 prove: ## prove every crate, compare dist/ with the proofs, and test everything (needs rt)
 	./test --prove
 
 twins: ## write the files of BLAKE2s from those of BLAKE2b
 	tools/twins.py
+	tools/dist.sh sums
 
 dist: ## write dist/, the code that the proofs build, and js/src/wasm*.js (needs rt and node)
 	tools/dist.sh make
 	js/tools/build.mjs
+	tools/dist.sh sums
 
 bench: ## measure speed next to other libraries
 	bench/speed.py

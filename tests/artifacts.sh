@@ -28,6 +28,11 @@ has_files() {
 names_in_zip() { python3 -c 'import sys, zipfile; print(*zipfile.ZipFile(sys.argv[1]).namelist(), sep="\n")' "$1"; }
 unpack_zip() { python3 -m zipfile -e "$1" "$2"; }
 
+conformance() {
+    tar -tf "$folder/$name-conformance.tar.xz" | has_files conformance &&
+        tar -C "$work" -xf "$folder/$name-conformance.tar.xz" && cd "$work/$name-conformance" &&
+        b2sum --check --strict SUMS && ! grep -F '](' README.md
+}
 linux() {
     tar -tf "$folder/$name-linux-$processor.tar.xz" | has_files linux &&
         tar -C "$work" -xf "$folder/$name-linux-$processor.tar.xz" &&
@@ -130,7 +135,7 @@ program_in_root() {
 }
 # The packages of Debian for a processor are installed in an empty root, used there, and removed without a trace.
 debian() {
-    local root=$work/root_$1 packages=(libvulfsjor-dev:"$1" libvulfsjor0:"$1") triplet libdir run
+    local root=$work/root_$1 packages=(libvulfsjor-dev:"$1" libvulfsjor1:"$1") triplet libdir run
     triplet=$(dpkg-architecture -a"$1" -qDEB_HOST_MULTIARCH 2>/dev/null) && libdir=/usr/lib/$triplet || return 1
     mkdir -p "$root/var/lib/dpkg"/{info,updates,triggers} && touch "$root/var/lib/dpkg"/{status,available} || return 1
     [[ $1 != a* ]] || packages+=(vulfsjor:"$1")
@@ -140,8 +145,8 @@ debian() {
         dpkg --root="$root" -l "${packages[@]}" &&
         [ "$(ls "$folder"/debian/*_"$1".deb | wc -l)" -eq ${#packages[@]} ] &&
         dpkg-deb -f "$folder/debian/libvulfsjor-dev_$(version)-1_$1.deb" Depends |
-            grep -qx "libvulfsjor0 (= $(version)-1)" &&
-        dpkg-deb -f "$folder/debian/libvulfsjor0_$(version)-1_$1.deb" Depends | grep -q '^libc6 (>= ' || return 1
+            grep -qx "libvulfsjor1 (= $(version)-1)" &&
+        dpkg-deb -f "$folder/debian/libvulfsjor1_$(version)-1_$1.deb" Depends | grep -q '^libc6 (>= ' || return 1
     [[ $1 != a* ]] || { [ ! -e "$root/usr/bin/b2sum" ] && [ -x "$root/usr/bin/vulfsjor-b2sum" ]; } || return 1
     run=("qemu-${triplet%%-*}" -L "/usr/${triplet/i386/i686}" -E LD_LIBRARY_PATH="$root$libdir")
     [ "$1" != "$(dpkg --print-architecture)" ] || run=(env LD_LIBRARY_PATH="$root$libdir")
@@ -161,7 +166,7 @@ rpm_packages() {
     rpm() { command rpm --root "$root" --dbpath /var/lib/rpm "$@"; }
     mkdir "$root" && rpm --initdb && rpm -i --nodeps --noscripts "$folder"/rpm/*.rpm &&
         rpm -qa --qf '%{NAME}\n' | sort | diff - <(printf '%s\n' "${names[@]}") &&
-        rpm -q --provides vulfsjor-libs | grep 'libvulfsjor.so.0(VULFSJOR_0.1)' &&
+        rpm -q --provides vulfsjor-libs | grep 'libvulfsjor.so.1(VULFSJOR_0.1)' &&
         rpm -q --requires vulfsjor-devel | grep -F "vulfsjor-libs(x86-64) = $(version)-1" &&
         printf abc | "$root/usr/bin/vulfsjor-b2sum" | grep ^ba80a53f &&
         program_in_root "$root" /usr/lib64 cc env LD_LIBRARY_PATH="$root/usr/lib64" &&
@@ -183,6 +188,7 @@ rpm_files() {
 }
 by_lintian() { lintian --allow-root --fail-on error "$folder"/debian/*.deb; }
 
+check_artifact release "the conformance cases" conformance
 check_artifact linux "the archive for Linux" linux
 check_artifact windows "the archive for Windows" windows
 for each in "manylinux_2_17_$processor" manylinux_2_17_aarch64 "musllinux_1_2_$processor"; do

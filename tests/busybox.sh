@@ -32,7 +32,7 @@ programs_run() {
 installs() {
     alone c/install.sh --help | grep '^Installs the library' &&
         alone c/install.sh "$work/again/./x/../lib" && diff -r "$prefix" "$work/again/lib" &&
-        [ "$(readlink "$work/again/lib/lib/libvulfsjor.so")" = libvulfsjor.so.0 ] &&
+        [ "$(readlink "$work/again/lib/lib/libvulfsjor.so")" = libvulfsjor.so.1 ] &&
         alone c/install.sh --uninstall "$work/again/lib" &&
         [ -z "$(find "$work/again" ! -type d)" ]
 }

@@ -1,7 +1,6 @@
 #!/usr/bin/env bash
 # Follows what crates/blake2/CALLING.md says to another repository: makes a separate repository with
-# the commands of that page, with the page's callers as the crate app and those of
-# crates/blake2_tree/CALLING.md as app_tree, and proves every crate in it.
+# the commands of that page, with the page's callers as the crate app, and proves every crate in it.
 #
 # usage: tests/calling.sh
 #
@@ -15,19 +14,19 @@ mkdir "$work/other"
 cd "$work/other" || exit 1
 git init -q .
 
-# The blocks of a page in this language, each ended by a line of three hyphens.
+# The blocks of the page in this language, each ended by a line of three hyphens.
 blocks() {
-    awk -v fence="\`\`\`$2" \
+    awk -v fence="\`\`\`$1" \
         '$0 == "```" { if (inside) print "---"; inside = 0 }
         inside { print }
-        $0 == fence { inside = 1 }' "$top/crates/$1/CALLING.md"
+        $0 == fence { inside = 1 }' "$top/crates/blake2/CALLING.md"
 }
 
-# Makes the crate of this name from a page's callers that are whole files: a module for each.
+# Makes the crate app from the page's callers that are whole files: a module for each.
 callers() {
-    mkdir -p "crates/$1/src"
-    printf '//! The callers of a page.\n#![tactic(auto)]\n\n' >"crates/$1/src/lib.rt"
-    blocks "$2" rust | awk -v folder="crates/$1/src" '
+    mkdir -p crates/app/src
+    printf '//! The callers of the page.\n#![tactic(auto)]\n\n' >crates/app/src/lib.rt
+    blocks rust | awk -v folder=crates/app/src '
         /^---$/ { file = ""; next }
         /^#!\[tactic\(auto\)\]$/ {
             file = folder "/caller" ++count ".rt"
@@ -38,9 +37,8 @@ callers() {
         file != "" { print > file }'
 }
 
-blocks blake2 sh | grep -v '^---$' >../recipe.sh
+blocks sh | grep -v '^---$' >../recipe.sh
 check "the commands of the page" bash -eu ../recipe.sh
-callers app blake2
-callers app_tree blake2_tree
+callers
 check "rt all check" rt all check
 finish

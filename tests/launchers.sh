@@ -81,9 +81,21 @@ for file in "${own[@]}"; do
     check "after a change of $file it is built again" builds "$program"
     touch -d '-9 seconds' "$file"
 done
+b2 sum
 touch -d '+9 seconds' dist b2sum dist/*/b2sum* c/{b2sum,threads}.c c/system.h
 check "after another change it is not" runs "<sum>" "$BASH" "$repository/b2" sum
 touch -d '-9 seconds' b2sum dist/*/b2sum* c/{b2sum,threads}.c c/system.h
+for file in "${own[@]}"; do
+    [ "$file" != dist/MANIFEST ] || continue
+    cp -p "$file" "$work/kept" && touch -d '2001-01-01' "$file" && b2 sum
+    check "if $file is another one, and older, it is built again" builds "$program"
+    cp -p "$work/kept" "$file"
+done
+b2 sum && cp -p dist/MANIFEST "$work/kept" && echo more >>dist/MANIFEST && touch -r "$work/kept" dist/MANIFEST && b2 sum
+check "if MANIFEST is another one of the same time it is built again" builds "$program"
+touch "$work/stale" && touch -d '2001-01-01' c/b2.c && b2 sum
+check "and not run if dist/ is not as it says" ends 1 "" 0
+rm "$work/stale" && b2 sum
 touch "$work/edit" && rm "$program" && b2 sum && rm "$work/edit"
 b2 sum
 check "after a change during the build it is built again" builds "$program"
@@ -100,6 +112,7 @@ for file in b2sum c/system.h c/include/vulfsjor_threads.h $(inputs); do
     check "after a change of $file it is built again" ends 7 "<a>in" 1
     touch -d '-9 seconds' "$file"
 done
+run "$repository/b2sum" a
 run "$repository/b2sum" --build "$work/sum of files"
 check "b2sum --build builds it as that file" [ -x "$work/sum of files" ]
 cp "$BASH" "$sums" && run "$work/linked sum" --nothing
@@ -115,7 +128,7 @@ while IFS=: read -r compiler sentence; do
     run CC="$compiler" "$repository/b2" sum
     check "the compiler '$compiler' is refused" stops "b2: $sentence"
 done <<'END'
-none -O2:a C compiler is needed: cc, or the one that CC names
+none -O2:a C compiler is needed: cc (Debian: gcc and libc6-dev), or the one that CC names
  :a C compiler is needed
 for x86_64-linux-gnux32:there is no build for x86_64-linux-gnux32
 for aarch64-linux-gnu_ilp32:there is no build for aarch64

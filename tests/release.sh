@@ -28,7 +28,10 @@ refused() {
         sed -i '/^release /!d' "$repository/packaging/tools.txt" && git -C "$repository" commit -q -a -m "Tools" &&
         refuses_change "js/package.json has 9.9.9, and CHANGELOG.md has" js/package.json "0,/$(version)/s//9.9.9/" &&
         refuses_change "dist/ was not made from these sources" crates/b2/src/main.rt '$a fn more() {}' &&
-        refuses "dist/ was not made from these sources" "$repository/tools/release.sh" --trial ORIG_HEAD || return 1
+        refuses "dist/ was not made from these sources" "$repository/tools/release.sh" --trial ORIG_HEAD &&
+        refuses_change "there is no tag v0.0.1" CHANGELOG.md '$a ## 0.0.1' --trial &&
+        git clone -q --depth 1 "file://$repository" "$work/shallow" &&
+        refuses "shallow is a shallow clone" "$work/shallow/tools/release.sh" --trial || return 1
     # An earlier version with a function that is gone.
     words="VULFSJOR_0.0 void vulfsjor_ffi_gone(void)"
     git -C "$repository" checkout -q -b earlier && echo "$words" >>"$repository/c/abi.txt" &&
@@ -63,7 +66,7 @@ tools_and_variables() {
     refuses stopped env PATH="$folder" VULFSJOR_PORTABLE=1 CPATH=/no CFLAGS=-O0 bashcompdir=/no RUSTFLAGS=-no \
         GIT_DIR=/no PYTHONPATH=/no \
         LD_LIBRARY_PATH=/no CARGO_HOME=/no npm_config_registry=/no TMPDIR="$work/a folder" "$script" --trial &&
-        ! grep -F -e /no -e "a folder" -e "$HOME" -e O0 "$work/variables" | grep -v ^PATH= &&
+        ! grep -F -e /no -e "a folder" -e "$HOME" -e O0 "$work/variables" | grep -vE '^(PATH|(OLD)?PWD)=' &&
         grep -x GIT_NO_REPLACE_OBJECTS=1 "$work/variables" &&
         sed 's/=.*//' "$work/variables" | grep -vxE \
             -e '_|PWD|SHLVL|PATH|HOME|LC_ALL|TZ|OLDPWD|VULFSJOR_CRATES|PYTHONDONTWRITEBYTECODE' \
@@ -96,15 +99,15 @@ places_of_the_version() {
     local file
     cd "$work/other" && git diff --name-only | sort >"$work/changed" &&
         diff "$work/changed" <(printf '%s\n' CHANGELOG.md Cargo.lock Cargo.toml README.md c/include/vulfsjor.h \
-            c/man/*.3 docs/b2.1 docs/b2sum.1 js/package.json packaging/debian/changelog packaging/vulfsjor.spec \
-            python/pyproject.toml rust-digest/Cargo.toml | sort) || return 1
-    for file in $(grep -v CHANGELOG "$work/changed"); do
+            c/man/*.3 dist/MANIFEST docs/b2.1 docs/b2sum.1 js/package.json packaging/debian/changelog \
+            packaging/vulfsjor.spec python/pyproject.toml rust-digest/Cargo.toml | sort) || return 1
+    for file in $(grep -vE "CHANGELOG|MANIFEST" "$work/changed"); do
         sed -i "$(git diff -U0 "$file" | sed -n 's/^@@ .* +\([0-9]*\)[ ,].*/\1s,99,98,;\1s,63$,62,;/p')" "$file"
     done
     refuses "has 0.1.98, and CHANGELOG.md has" tools/version.py --check &&
         sed -n 's/^version.py: \(.*\) has [0-9a-fx.]*98\{0,1\}2\{0,1\}, and CHANGELOG.md has .*/\1/p' "$work/said" |
         sort >"$work/found" && [ "$(wc -l <"$work/found")" -ge 20 ] &&
-            diff <(sort -u "$work/found") <(grep -v CHANGELOG "$work/changed") || return 1
+            diff <(sort -u "$work/found") <(grep -vE "CHANGELOG|MANIFEST" "$work/changed") || return 1
     refuses "usage: tools/version.py" tools/version.py 1.2 && refuses usage tools/version.py &&
         refuses "CHANGELOG.md has a newer version" tools/version.py "$(version)" &&
         sed -i 's/Vulfsjor) [0-9.]*/Vulfsjor) 0.0.7/' crates/b2sum_commands/src/program.rt &&
@@ -125,7 +128,14 @@ interface() {
     ! LD_LIBRARY_PATH=$work/installed/lib "$work/b" 2>"$work/said" && grep "VULFSJOR_0.2' not found" "$work/said" &&
         sed -i 's/^\(VULFSJOR_0\.1 .*memcmp(\)/\1size_t, /' c/abi.txt &&
         refuses "the soname has to change" tools/exports.py &&
-            refuses "the soname has to change" tools/exports.py --check
+            refuses "the soname has to change" tools/exports.py --check || return 1
+    # A field of a struct of an earlier version; and version 0.10, which is later than 0.2.
+    git checkout -q -f c/abi.txt && sed -i '/^VULFSJOR_0\.1 struct/s/least_bytes/fewest_bytes/' c/abi.txt &&
+        refuses "the soname has to change" tools/exports.py --check && git checkout -q -f c/abi.txt &&
+        sed -i "s/^VULFSJOR_0\.1\(.* $at(\)/VULFSJOR_0.2\1/;s/^VULFSJOR_0\.1\(.*_memcmp(\)/VULFSJOR_0.10\1/" \
+            c/abi.txt &&
+        sed -i "0,/^## /s/^## .*/## 0.10.0/" CHANGELOG.md && tools/exports.py &&
+        [ "$(sed -n 's/^VULFSJOR_\(0\.[0-9]*\) {/\1/p' c/vulfsjor.map | tr '\n' ' ')" = "0.1 0.2 0.10 " ]
 }
 
 # tools/exports.py names, what is not as in the header: an order of fields, a type, a name that is not exported, and
@@ -138,7 +148,7 @@ interfaces_agree() {
     done <<'END'
 rust/src/library.rs|rust/src/library.rs: Limits is not as vulfsjor_limits
 /struct Limits/,/^}/{s/) threads: u64/) x: u64/;s/) least_bytes: u64/) threads: u64/;s/) x: u64/) least_bytes: u64/}
-rust/src/library.rs|rust/src/library.rs: vulfsjor_ffi_blake2b is not as
+rust/src/library.rs|rust/src/library.rs is not as c/include/vulfsjor.h
 0,/out_length: usize/s//out_length: u32/
 c/vulfsjor.map|c/vulfsjor.map is not as c/include/vulfsjor.h
 /vulfsjor_ffi_wipe;/d
@@ -148,10 +158,12 @@ c/thunks.h|c/thunks.h is not as c/include/vulfsjor.h
 /^CALL(vulfsjor_ffi_tree_part,/d
 crates/blake2_tree/src/thread_plan.rt|crates/blake2_tree/src/thread_plan.rt: Plan is not as vulfsjor_plan
 s/pub threads: u64/pub thread: u64/
+crates/blake2_ffi/src/lib.rt|crates/blake2_ffi: vulfsjor_ffi_memcmp is not as in c/include/vulfsjor.h
+s/vulfsjor_ffi_memcmp(a: &\[u8\], b: &\[u8\])/vulfsjor_ffi_memcmp(b: \&[u8], a: \&[u8])/
 END
     ! tools/exports.py --check >"$work/said" 2>&1 && while IFS= read -r words; do
         grep -qF "$words" "$work/said" || { echo "it does not say: $words" && return 1; }
-    done <"$work/words" && [ "$(wc -l <"$work/said")" -eq 7 ] || return 1
+    done <"$work/words" && [ "$(wc -l <"$work/said")" -eq 8 ] || return 1
     git checkout -q -f HEAD && sed -i s/least_bytes/fewest_bytes/ c/include/vulfsjor.h &&
         refuses "c/abi.txt is not as c/include/vulfsjor.h" tools/exports.py --check
 }
@@ -160,13 +172,15 @@ END
 # a system, and ends with their status. So does .ci/run with the full test.
 forge() {
     local folder=$work/forge system
-    [ "$(grep -E '^ *(- )?(run|uses):' "$top/.github/workflows/test.yml" | sed 's/^ *//')" = \
-        "$(printf '%s\n' run: '- uses: actions/checkout@v4' '- run: .ci/forge' \
-            '- run: apk add bash build-base coreutils findutils git grep python3 sed' '- uses: actions/checkout@v4' \
-            '- run: c/tests/on_a_mac.sh' '- uses: actions/checkout@v4' \
-            '- run: sudo apt-get update' \
-            '- run: sudo apt-get install --yes musl-tools gcc-aarch64-linux-gnu gcc-mingw-w64-x86-64 zip' \
-            '- run: tools/release.sh --trial')" ] && mkdir -p "$folder"/{.ci,bin,c/tests} || return 1
+    local workflow=$top/.github/workflows/test.yml checkout
+    checkout="- uses: actions/checkout@11bd71901bbe5b1630ceea73d27597364c9af683 # v4.2.2"
+    [ "$(grep -E '^ *(- )?(run|uses):' "$workflow" | sed 's/^ *//')" = \
+        "$(printf '%s\n' run: "$checkout" '- run: .ci/forge' \
+            '- run: apk add bash build-base coreutils findutils git grep python3 sed' "$checkout" \
+            '- run: c/tests/on_a_mac.sh' "$checkout" '- run: sudo apt-get update' '- run: >-' \
+            '- run: tools/release.sh --trial')" ] && [ "$(grep -c 'persist-credentials: false' "$workflow")" -eq 3 ] &&
+        grep -A 3 -F -e "$checkout" "$workflow" | grep 'fetch-depth: 0' &&
+        mkdir -p "$folder"/{.ci,bin,c/tests} || return 1
     cp "$top"/.ci/{forge,run} "$folder/.ci/" && printf '#!/bin/sh\necho all $*; exit 7\n' >"$folder/test" &&
         printf '#!/bin/sh\necho some; exit 7\n' >"$folder/c/tests/on_a_mac.sh" &&
         printf '#!/bin/sh\necho "$SYSTEM"\n' >"$folder/bin/uname" &&
@@ -178,11 +192,23 @@ forge() {
     [ "$("$folder/.ci/run"; echo $?)" = $'all --prove\n7' ]
 }
 
+# A package of Debian whose making fails after it was written is not kept.
+no_package_that_fails() {
+    local folder=$work/fails/vulfsjor-9
+    mkdir -p "$folder/packaging/debian" && touch "$folder/Makefile" && cd "$folder/packaging/debian" &&
+        cp "$top"/packaging/debian/{changelog,control} . && printf '%s\n' '#!/usr/bin/make -f' 'clean:' 'build:' \
+            'binary:' $'\ttouch ../written.deb && false' >rules && chmod +x rules &&
+        tar -C "$work/fails" -cJf "$work/fails/vulfsjor-9.tar.xz" vulfsjor-9 || return 1
+    ! "$top/tools/packages.sh" "$(dpkg --print-architecture)" "$work/fails/vulfsjor-9.tar.xz" "$work/fails/made" &&
+        [ -z "$(ls "$work/fails/made")" ]
+}
+
 # Two clones in other folders: one by make, with variables, a configuration, a mask and files of git that must not reach
 # it, and one by the script. Both are of a commit with its tag. Without all tools both are trials.
 same_bytes() {
-    local one=$work/one two="$work/another folder" today=2026-11-28 trial=() release=(make release) count=24
-    [ -z "$(absent_tools)" ] || trial=(--trial) release=(tools/release.sh --trial) count=8
+    local one=$work/one two="$work/another folder" today=2026-11-28 trial=() release count=25
+    release=(make release ROOTS=perl-less)
+    [ -z "$(absent_tools)" ] || trial=(--trial) release=(tools/release.sh --trial) count=9
     make_repository "$one" && sed -i "0,/^## $(version)\$/s//## $(version) ($today)/" "$one/CHANGELOG.md" &&
         git -C "$one" commit -q -a -m "A date" && git -C "$one" tag "v$(version)" &&
             git clone -q -c core.autocrlf=true "$one" "$two" || return 1
@@ -209,6 +235,9 @@ check "the places of the version" places_of_the_version
 check "functions of a later version" interface
 check "the interfaces of four languages" interfaces_agree
 check "what a public forge runs" forge
+needs dpkg-buildpackage
+check "no package of Debian whose making fails" no_package_that_fails
+needs
 check_huge "two releases have the same bytes" same_bytes
 # Its tests of the artifacts, by their own names.
 [ ! -e "$work/tap" ] || while IFS= read -r line; do

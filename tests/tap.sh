@@ -4,6 +4,15 @@ source "$(dirname "$(dirname "$(readlink -f "${BASH_SOURCE[0]}")")")/tools/shell
 name=b2 source "$top/tools/launcher.sh"
 ended=0 failed=0
 
+# The tests call tools with options of GNU's, which those of BusyBox and BSD do not have. Without GNU's the script ends,
+# as a skipped part.
+missing=
+for package in touch:coreutils find:findutils diff:diffutils grep:grep sed:sed tar:tar; do
+    [[ $("${package%:*}" --version 2>&1) == *"(GNU "* ]] || missing+="${missing:+, }no GNU ${package#*:}"
+done
+# Later why the next tests can't be made: `check` skips them.
+[ -z "$missing" ] || { echo "1..0 # SKIP $missing" && exit; }
+
 # The files that show, besides what a failed test printed, why it failed.
 shown=()
 
@@ -26,17 +35,24 @@ fail() {
     [ $# -eq 1 ] || tail -n 40 "${@:2}" 2>&1 | sed 's/^/#     /'
 }
 
-# Why the next tests can't be made: `check` skips them.
-missing=
-
-# Runs the command in a subshell, as a test of this name.
+# Runs the command in a subshell, as a test of this name: with VULFSJOR_TEST_ONLY, if the name matches that.
 check() {
+    [[ $1 =~ ${VULFSJOR_TEST_ONLY-} ]] || { skip "$1" "VULFSJOR_TEST_ONLY is another" && return; }
     [ -z "$missing" ] || { skip "$1" "$missing" && return 1; }
     if ("${@:2}") >"$work/log" 2>&1; then
         pass "$1"
     else
         fail "$1" "$work/log" ${shown[@]+"${shown[@]}"}
         return 1
+    fi
+}
+
+# Runs a program, and ends it if it takes too long, even on a slow machine.
+in_time() {
+    if has timeout; then
+        timeout -k 9 "${longest:-$([ -n "${VULFSJOR_TEST_HUGE-}" ] && echo 3600 || echo 900)}" "$@"
+    else
+        "$@"
     fi
 }
 
@@ -52,7 +68,7 @@ finish() {
 needs() {
     local tool
     missing=
-    for tool; do has "$tool" || missing="no $tool"; done
+    for tool; do has "$tool" || missing+="${missing:+, }no $tool"; done
 }
 
 # Whether there is this compiler, with its C library, which Debian's compilers for other processors
@@ -71,11 +87,12 @@ check_huge() {
 # Of these words all if VULFSJOR_TEST_HUGE is set, and else the first, which stands for the others.
 some() { if [ -n "${VULFSJOR_TEST_HUGE-}" ]; then echo "$@"; else echo "$1"; fi; }
 
-# A repository in this folder with the files of this one as they are, except those of a pattern: FOLDER [PATTERN]
+# A repository in this folder with the files of this one as they are, which may be no repository, except those that git
+# ignores and those of a pattern: FOLDER [PATTERN]
 make_repository() {
-    mkdir "$1" && (cd "$top" && git ls-files -z --cached --others --exclude-standard | grep -vzE "${2:-^\$}" |
-        tar --null --ignore-failed-read -T - -cf -) | tar -C "$1" -xf - &&
-        git -C "$1" init -q && git -C "$1" config user.name test && git -C "$1" config user.email test &&
+    git init -q "$1" && (cd "$top" && git --git-dir="$1/.git" --work-tree=. ls-files -z --others --exclude-standard |
+        grep -vzE "${2:-^\$}" | tar --null --ignore-failed-read -T - -cf -) | tar -C "$1" -xf - &&
+        git -C "$1" config user.name test && git -C "$1" config user.email test &&
         git -C "$1" add -A && git -C "$1" commit -q -m "All files"
 }
 
@@ -83,7 +100,7 @@ make_repository() {
 functions_of_headers() {
     sed -nE 's/^(VULF\S+ )*(static inline )?(const )?[a-z]\w+ \*?(vulfsjor_\w+)\(.*/\4/p' \
         "$top"/c/include/vulfsjor{,_threads}.h |
-        grep -vxE 'vulfsjor_(ffi_.*|text|bytes|is_half_key|are_refused|has_key|digit|library_version)'
+        grep -vxE 'vulfsjor_(ffi_.*|text|bytes|is_half_key|are_refused|leaf|digit|library_(version|build))'
 }
 
 # The first block of a page in this language: PAGE LANGUAGE.

@@ -8,23 +8,41 @@
 machine=${BASH_VERSINFO[5]%%-*}
 x86_64=("dist/x86_64/$name.s" dist/x86_64/vulfsjor-v{2,3,4}.s)
 aarch64=("dist/aarch64/$name.s" dist/aarch64/vulfsjor.s)
-sources=(c/b2.c c/choose.c c/include/vulfsjor.h)
+sources=(c/b2.c c/build.c c/choose.c c/include/vulfsjor.h)
 [ "$name" = b2 ] || sources+=(c/b2sum.c c/threads.c c/system.h c/include/vulfsjor_threads.h)
+inputs=("$name" tools/launcher.sh dist/{x86_64,aarch64}/{elf,macho,coff}.inc "${x86_64[@]}" "${aarch64[@]}"
+    "${sources[@]}")
 
 fail() {
     echo "$name: $1" >&2
     exit 1
 }
 
-# Whether this program exists and is newer than what it is made of. A file of the same time may have
-# changed after the program's build began, since file systems count in steps of milliseconds.
+# Whether this program exists and was built from what it would be built from now. A file that is unpacked
+# over another keeps its own time, and so may be older than the program. So MANIFEST has to be the same,
+# and each file neither newer nor older than it was. This starts no process.
 is_current() {
-    local file
-    [ -x "$1" ] || return
-    for file in "$name" tools/launcher.sh dist/MANIFEST dist/{x86_64,aarch64}/{elf,macho,coff}.inc \
-        "${x86_64[@]}" "${aarch64[@]}" "${sources[@]}"; do
-        [ "$1" -nt "$top/$file" ] || return
+    local file record was= now=
+    record=${1%/*}/.${1##*/}
+    [ -x "$1" ] && [ -r "$record/MANIFEST" ] && [ -r "$top/dist/MANIFEST" ] || return
+    IFS= read -r -d '' was <"$record/MANIFEST" || :
+    IFS= read -r -d '' now <"$top/dist/MANIFEST" || :
+    [ "$was" = "$now" ] || return
+    for file in "${inputs[@]}"; do
+        [[ $top/$file -nt $record/$file || $top/$file -ot $record/$file ]] || continue
+        [[ ! -e $record/$file && $1 -nt $top/$file ]] || return
     done
+}
+
+# Writes what is_current compares to a folder: MANIFEST, and for each file an empty one of the same time. Where the
+# file system cannot hold this time, the file is left out, and has to be older than the program.
+write_record() {
+    local file
+    for file in "${inputs[@]}"; do
+        mkdir -p -- "$1/${file%/*}" && touch -r "$top/$file" -- "$1/$file"
+        [[ ! ($top/$file -nt $1/$file || $top/$file -ot $1/$file) ]] || rm -f -- "$1/$file"
+    done
+    cat "$top/dist/MANIFEST" >"$1/MANIFEST"
 }
 
 # The name of the main in a file of dist/, and that of a function that it calls or exports: FILE
@@ -34,7 +52,12 @@ name_in() { sed -n $'/^\tvj_'"$2"$'\t.*\\.'"$3"$'[._]/{s/.*\t//p;q;}' "$1"; }
 
 # Adds to `words` what the compiler gets for the program of this file.
 add_words() {
-    words+=("-DMAIN=$(main_of "$1")" "-I$top/c/include" "$top"/c/{b2,choose}.c)
+    local text build
+    words+=("-DMAIN=$(main_of "$1")" "-I$top/c/include" "$top"/c/{b2,build,choose}.c -DVULFSJOR_BUILD)
+    for text in "${1%/*}"/vulfsjor*.s; do
+        text=${text#"$top/dist/"} build=${text#*/vulfsjor} build=${build%.s} build=${build#-}
+        words+=("-DBUILD${build:+_$build}=\"$(sed -n "\,  $text\$,p" "$top/dist/MANIFEST")\"")
+    done
     if [ "$name" = b2 ]; then
         words+=('-DCHOOSE_FUNCTIONS=<stddef.h>')
     else
@@ -49,12 +72,14 @@ add_words() {
 }
 
 # Builds the program as this file, for the machine that the compiler compiles for, which has to be
-# this one if it is named: FILE [MACHINE]. It is then as old as the beginning of its build. CFLAGS,
-# CPPFLAGS and LDFLAGS are used as by make. For ELF it is marked for branch protection.
+# this one if it is named: FILE [MACHINE]. Then its record is written too, which is that of the
+# beginning, as the program's time is. CFLAGS, CPPFLAGS and LDFLAGS are used as by make. For ELF it
+# is marked for branch protection.
 build() {
-    local cc target texts format words flags branches
+    local cc target texts format words flags branches record=${1%/*}/.${1##*/}
     read -ra cc <<<"${CC:-cc}"
-    command -v "${cc[0]-}" >/dev/null || fail "a C compiler is needed: cc, or the one that CC names"
+    command -v "${cc[0]-}" >/dev/null ||
+        fail "a C compiler is needed: cc (Debian: gcc and libc6-dev), or the one that CC names"
     target=$("${cc[@]}" -dumpmachine)
     case $target in
         *x32 | *ilp32) format= ;;
@@ -71,10 +96,11 @@ build() {
     [ -n "$format" ] || fail "there is no build for $target"
     [ $format != elf ] || words+=("$branches")
     [[ $target == "${2-}"* ]] || fail "CC compiles for $target, and this machine is $2"
+    begun=$(mktemp -- "$1.XXXXXX")
+    trap 'rm -rf -- "$begun" "$begun".*' EXIT
+    [ -z "${2-}" ] || write_record "$begun.record"
     "$top/tools/dist.sh" current || exit 1 # it says why
     echo "$name: assembling ${texts[*]}, which is done once" >&2
-    begun=$(mktemp -- "$1.XXXXXX")
-    trap 'rm -f -- "$begun" "$begun".*' EXIT
     # With -g this name is written, and not that of the temporary file.
     (cd "$top" && echo "# 1 \"$name.s\"" && cat "${texts[0]%/*}/$format.inc" &&
         printf '\tvj_marks\n' && cat "${texts[@]}") >"$begun.s"
@@ -84,7 +110,9 @@ build() {
         -o "$begun.new" "$begun.s"
     chmod 755 "$begun.new"
     touch -r "$begun" "$begun.new"
+    [ -z "${2-}" ] || rm -rf -- "$record"
     mv -f -- "$begun.new" "$1"
+    [ -z "${2-}" ] || mv -f -- "$begun.record" "$record"
     rm -f -- "$begun" "$begun.s"
     trap - EXIT
     echo "$name: built $1" >&2

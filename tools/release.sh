@@ -43,6 +43,8 @@ rm -rf "$out" && mkdir -p "$out" "$HOME"
 commit=$(git -c safe.directory='*' -C "$top" rev-parse --verify "${1:-HEAD}^{commit}")
 git -c safe.directory='*' clone -q --bare "$top" "$work/git" || stop "$top is not a repository"
 git() { command git -C "$work/git" "$@"; }
+[ "$(git rev-parse --is-shallow-repository)" = false ] ||
+    stop "$top is a shallow clone, without the earlier releases: run git fetch --unshallow --tags"
 SOURCE_DATE_EPOCH=$(git log -1 --format=%ct "$commit")
 
 # An archive of a folder of `work`, the same for everybody: NAME
@@ -65,6 +67,9 @@ if [ "$trial" = no ]; then
         stop "CHANGELOG.md has no date: the heading has to be ## $version (YEAR-MONTH-DAY)"
 fi
 # What the last release promised stays, or the soname is another.
+earlier=$(sed -nE 's/^## ([0-9.]+).*/\1/p' CHANGELOG.md | sed -n 2p)
+[ -z "$earlier" ] || git rev-parse -q --verify "v$earlier^{commit}" >/dev/null ||
+    stop "there is no tag v$earlier, and CHANGELOG.md has that version: run git fetch --tags"
 last=$(git tag --list 'v[0-9]*' --merged "$commit" --sort=-version:refname | grep -vx "v$version" | sed 1q || :)
 if [ -n "$last" ] && git show "$last:c/abi.txt" >"$work/abi" 2>/dev/null; then
     [ "$(sed 1q "$work/abi")" != "$(sed 1q c/abi.txt)" ] ||
@@ -90,6 +95,15 @@ add_pages() {
         sed -n 's/^# kit: /toolchain that made dist\/: /p' dist/MANIFEST
     } >"$1/BUILD"
     tools/spdx.py "$version" "$commit" "$out/$name.tar.xz" >"$1/$name.spdx.json"
+}
+
+# ---- The conformance cases, whose page has links to files that are not there.
+make_conformance() {
+    mkdir "$work/$name-conformance"
+    quietly tests/conformance/write.py "$work/$name-conformance"
+    cp tests/conformance/{SUMS,others.txt} "$work/$name-conformance/"
+    sed -Ez 's/\[([^]]+)\]\([^)]*\)/\1/g' tests/conformance/README.md >"$work/$name-conformance/README.md"
+    packed "$name-conformance"
 }
 
 # ---- Linux: what make install installs, in a folder of its own, with programs that need no library.
@@ -176,7 +190,7 @@ packages() { quietly tools/packages.sh "$2" "$out/$name.tar.xz" "$out/$1"; }
 make_debian() { packages debian amd64 && packages debian arm64 && packages debian i386 && packages debian s390x; }
 make_rpm() { packages rpm rpm; }
 
-for each in linux windows python crates npm debian rpm; do
+for each in conformance linux windows python crates npm debian rpm; do
     can_make $each || continue
     make_$each
     say "made $each"

@@ -3,17 +3,25 @@
 top=$(dirname "$(dirname "$(readlink -f "${BASH_SOURCE[0]}")")")
 work=$(mktemp -d)
 trap 'rm -rf "$work"' EXIT
+# Bash reads options from the caller's SHELLOPTS and BASHOPTS.
+set +f
+shopt -u failglob nullglob
 
 has() { command -v "$1" >/dev/null 2>&1; }
+
+# sha256sum, or what macOS has.
+sha256() { if has sha256sum; then sha256sum "$@"; else shasum -a 256 "$@"; fi; }
 
 # Ends a script that is no test.
 stop() { echo "${0##*/}: $1" >&2 && exit 1; }
 
-# Prints the tools of packaging/tools.txt that are not here: KIND, without TOOL (Debian: PACKAGE)
+# Prints the tools of packaging/tools.txt that a release needs and that are not here:
+# KIND, without TOOL (Debian: PACKAGE)
 absent_tools() {
-    local kinds kind tool package headers
+    local kinds kind tool package headers _
     headers=$(python3 -c 'import sysconfig; print(sysconfig.get_path("include"))') || :
-    while read -r kinds tool package; do
+    while read -r kinds tool package _; do
+        [ "$kinds" != test ] || continue
         case $tool in
             /*) [ -e "$tool" ] ;;
             crate:*) compgen -G "${VULFSJOR_CRATES:-/usr/share/cargo/registry}/${tool#*:}.*" ;;
