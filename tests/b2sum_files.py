@@ -122,6 +122,7 @@ def test_parameters(runs):
 
 NO_LINE = "'standard input': no properly formatted checksum lines found"
 NO_MATCH = "WARNING: 1 computed checksum did NOT match"
+SHORT = "WARNING: MACs below 128 bits can be guessed\n"
 
 
 def test_tags(runs):
@@ -198,6 +199,21 @@ def test_macs(runs):
         said = "WARNING: others may read the key file" if others else ""
         runs.wants(["--key-file", "key", "b", "key"], line("b", b"abc", key=key) + line("key", key, key=key), said)
         runs.wants(["--key-file", "-", "b", "key"], line("b", b"abc", key=key) + line("key", key, key=key), data=key)
+    os.chmod(runs.path("key"), 0o600)
+    for family, bits in itertools.product(("b", "s", "bp", "sp"), (8, 120, 128, 136)):
+        said, words = SHORT if bits < 128 else "", ["-a", "blake2" + family, "-l", str(bits)]
+        text = line("b", b"abc", bits, family, tag=True, key=key)
+        runs.wants([*words, "--key-file", "key", "--tag", "b"], text, said)
+        runs.wants([*words, "--key-file", "-", "--tag", "b"], text, said, data=key)
+        runs.wants([*words, "--key-file", "key", "-c"], "b: OK\n", said, data=text.encode())
+        runs.wants([*words, "b"], line("b", b"abc", bits, family))
+    for words in (["--status"], ["--quiet"]):
+        runs.wants([*words, "-l", "64", "--key-file", "key", "-c"], "", SHORT,
+                   data=line("b", b"abc", 64, key=key).encode())
+    # The key is read first, and no file before the warning.
+    runs.wants(["-l", "64", "--key-file", "none", "b"], "", f"none: {os.strerror(errno.ENOENT)}", 1)
+    runs.wants(["-l", "64", "--key-file", "key", "none", "b"], line("b", b"abc", 64, key=key),
+               SHORT + f"none: {os.strerror(errno.ENOENT)}", 1)
     runs.ends("checks with a key")
 
 
@@ -386,7 +402,8 @@ def random_check(rng, runs):
     """A check of random entries, some of which differ, are not there, need other options or are malformed."""
     words, check = random_options(rng)
     counts, lacks = collections.Counter(), []
-    text = out = err = ""
+    text = out = ""
+    err = SHORT if "key" in check.given and check.bits < 128 else ""
     for number in range(1, rng.randint(2, 9)):
         entry, name, listed, found, lacking = random_line(rng, check)
         text += entry
@@ -430,7 +447,8 @@ def random_sum(rng, runs):
     names = names[:1] if "--raw" in shape else names
     shown = (shown_of(name, FILES.get(name, b"input"), shape, family, bits, given) for name in names if name != "none")
     runs.wants([*words, "-l", str(bits), *shape, *([] if names == ["-"] else names)], b"".join(shown),
-               f"none: {os.strerror(errno.ENOENT)}" if "none" in names else "", int("none" in names), b"input")
+               (SHORT if "key" in given and bits < 128 else "") +
+               (f"none: {os.strerror(errno.ENOENT)}" if "none" in names else ""), int("none" in names), b"input")
 
 
 def test_random(runs):

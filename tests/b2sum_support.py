@@ -25,7 +25,7 @@ def programs(given, name="b2sum"):
     with tempfile.TemporaryDirectory() as folder:
         os.chmod(folder, 0o755)
         if not given and not shutil.which("cc"):
-            tap.result(True, f"the program {name} of dist/", skipped="no C compiler cc")
+            tap.result(True, f"the program {name} of dist/", skipped="no cc")
         elif not given:
             done = subprocess.run(["bash", "-c", ASSEMBLE, TOP, folder, name], stdout=subprocess.PIPE,
                                   stderr=subprocess.STDOUT)
@@ -160,7 +160,7 @@ def run_tests(tests, others=(), faulty=()):
         for number, program in enumerate(built):
             for test in others if number else tests:
                 if test in faulty and not has_faults:
-                    tap.result(True, "calls that fail", skipped="no C compiler cc")
+                    tap.result(True, "calls that fail", skipped="no cc")
                     continue
                 with tempfile.TemporaryDirectory() as folder:
                     test(Runs(program, folder))

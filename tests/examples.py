@@ -16,7 +16,8 @@ follows an example, it is what the example prints, and so is what a comment in i
 is the beginning of a line. PATH is the repository and FOLDER the installed library.
 
 The installed library is a copy of that in the folder VULFSJOR_INSTALLED, if that is set, as by ./test. The module for
-Python is built here, and the script ends with an error if that fails. An example whose tool is absent is skipped.
+Python is built here, and the script ends with an error if that fails. An example whose tool is absent is skipped, and
+so are the later ones of its section in the tutorial and the review, which may go on with its files.
 """
 import os
 import pathlib
@@ -40,13 +41,15 @@ READMES_TOOLS = ("awk bash cat chmod cut diff dirname find grep mkdir mktemp mv 
 
 
 def examples(text):
-    """The examples of a page: for each the line, the language, the text, and what it prints, or None."""
-    found, last = [], None
-    for block in re.finditer(r"^```(\w*)\n(.*?)^```$", text, re.M | re.S):
+    """The examples of a page: for each the line, the language, the text, what it prints, or None, and its section."""
+    found, last, section = [], None, 0
+    for block in re.finditer(r"^#+ |^```(\w*)\n(.*?)^```$", text, re.M | re.S):
         language, inside = block[1], block[2]
-        if language in TOOLS:
+        if inside is None:
+            section += 1
+        elif language in TOOLS:
             comments = re.findall(r'(?:#|//|/\*) prints "(.*?)"', inside)
-            last = [text.count("\n", 0, block.start()) + 1, language, inside, "\n".join(comments) or None]
+            last = [text.count("\n", 0, block.start()) + 1, language, inside, "\n".join(comments) or None, section]
             found.append(last)
         elif language == "text" and last:
             last[3] = inside
@@ -198,7 +201,7 @@ def what_is_missing(runner, language, text, has_module):
     if "dist/x86_64/" in text and os.uname().machine != "x86_64":
         missing.append("x86-64")
     if language == "python" and not has_module:
-        missing.append("python with headers")
+        missing.append("Python.h or cc")
     return missing[0] if missing else ""
 
 
@@ -207,8 +210,14 @@ def run_page(page, work, repository, has_module):
     runner = Runner(name, text, work, repository)
     for again in ("", ", again") if HUGE else ("",):
         runner.begin()
-        for line, language, block, wanted in examples(text):
+        lacks = {}  # what is missing in a section
+        for line, language, block, wanted, section in examples(text):
             missing = what_is_missing(runner, language, block, has_module)
+            # A page of one user goes on with the files of the blocks before.
+            if runner.is_shell and section in lacks:
+                missing = f"{lacks[section]}, which an earlier block needs"
+            elif missing:
+                lacks[section] = missing
             why = "" if missing else runner.error_of(language, block, wanted)
             tap.result(not why, f"{name}, line {line}{again}", why, missing and f"no {missing}")
     left = "" if repository == TOP else subprocess.run(
@@ -218,7 +227,7 @@ def run_page(page, work, repository, has_module):
 
 def main():
     if not shutil.which("cc"):
-        tap.result(True, "the examples", skipped="no C compiler")
+        tap.result(True, "the examples", skipped="no cc")
         tap.finish()
     with tempfile.TemporaryDirectory() as work:
         work = pathlib.Path(work)

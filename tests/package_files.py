@@ -1,6 +1,6 @@
 #!/usr/bin/env python3
-"""Reads packaging/ without building a package: fields and lines that a package needs, the versions of symbols, and the
-lists of files.
+"""Reads packaging/ without building a package: fields and lines that a package needs, the versions of symbols, the
+lists of files, and the tools.
 
 tests/release.sh builds the packages, if VULFSJOR_TEST_HUGE is set.
 """
@@ -10,19 +10,20 @@ import re
 
 import tap
 from common import read
+from page_sources import paths
 
 TOP = pathlib.Path(__file__).resolve().parent.parent
 PORTABLE = "amd64 arm64 armhf i386 ppc64el riscv64 s390x"
-PACKAGES = ["libvulfsjor0", "libvulfsjor-dev", "vulfsjor", "python3-vulfsjor"]
+PACKAGES = ["libvulfsjor1", "libvulfsjor-dev", "vulfsjor", "python3-vulfsjor"]
 # Lines, or parts of them. In debian/control they are the fields of each package.
 LINES = {
     "debian/control": [
         "Source: vulfsjor\nSection: libs\nPriority: ", "Rules-Requires-Root: no\n\n",
         "\nBuild-Depends: debhelper-compat (= 13),\n dh-sequence-python3 <!nopython>,\n python3-dev <!nopython>,\nSt",
-        f"Package: libvulfsjor0\nArchitecture: {PORTABLE}\nMulti-Arch: same\nPre-Depends: ${{misc:Pre-Depends}}\n"
+        f"Package: libvulfsjor1\nArchitecture: {PORTABLE}\nMulti-Arch: same\nPre-Depends: ${{misc:Pre-Depends}}\n"
         "Depends: ${misc:Depends}, ${shlibs:Depends}\nDescription: ",
         f"Package: libvulfsjor-dev\nSection: libdevel\nArchitecture: {PORTABLE}\nMulti-Arch: same\n"
-        "Depends: ${misc:Depends}, libvulfsjor0 (= ${binary:Version})\nDescription: ",
+        "Depends: ${misc:Depends}, libvulfsjor1 (= ${binary:Version})\nDescription: ",
         "Package: vulfsjor\nSection: utils\nArchitecture: amd64 arm64\nMulti-Arch: foreign\n"
         "Depends: ${misc:Depends}, ${shlibs:Depends}\nDescription: ",
         "Package: python3-vulfsjor\nSection: python\nArchitecture: amd64 arm64\nBuild-Profiles: <!nopython>\n"
@@ -40,14 +41,14 @@ LINES = {
         "$(MAKE) install DESTDIR=$(CURDIR)/debian/tmp prefix=/usr libdir=/usr/lib/$(DEB_HOST_MULTIARCH) \\\n",
         'zshcompdir=/usr/share/zsh/vendor-completions PROGRAM_PREFIX=vulfsjor- PROGRAMS="$(PROGRAMS)"',
         "mkdir -p $(modules) && python3 -m zipfile -e out/python/*.whl $(modules)",
-        "sed -i 's/libc6:$(DEB_HOST_ARCH) /libc6 /g' debian/*.substvars", "dh_makeshlibs -plibvulfsjor0 -- -c4"],
+        "sed -i 's/libc6:$(DEB_HOST_ARCH) /libc6 /g' debian/*.substvars", "dh_makeshlibs -plibvulfsjor1 -- -c4"],
     "debian/tests/control": [
         "Depends: libvulfsjor-dev, gcc, libc6-dev, pkg-config\n", "grep ^ba80a53f\nDepends: vulfsjor\n",
         "vulfsjor.blake2b(b'abc').hexdigest()[:4] == 'ba80'\"\nDepends: python3-vulfsjor\n"],
     "vulfsjor.spec": [
         "BuildRequires:  bash, coreutils, diffutils, findutils, gawk, gcc, make, sed\n",
         "%ifarch x86_64 aarch64\n%global programs b2 b2sum\n",
-        "%global libs %{?suse_version:libvulfsjor0}%{!?suse_version:%{name}-libs}\n",
+        "%global libs %{?suse_version:libvulfsjor1}%{!?suse_version:%{name}-libs}\n",
         "%package devel\nSummary:        Files to develop programs with Vulfsjor\n"
         "Requires:       %{libs}%{?_isa} = %{version}-%{release}\n",
         "Requires:       %{name}-devel%{?_isa} = %{version}-%{release}\n",
@@ -71,6 +72,11 @@ FOLDERS = {
 OTHERS = {"vulfsjor-digest.crate: vulfsjor-digest-VERSION/tests/": {"conformance.rs"},
           "sdist: vulfsjor-VERSION/tests/": {"b2_model.py", "common.py", "oracle.py", "read_sources.py"}}
 
+# Reasons of skipped tests that no package helps with.
+NO_PACKAGE = {"no rt", "no jsc", "no x86-64", "no x86-64-v3", "no GIL", "no CPython without the GIL", "no /proc",
+              "no CPython 3.12 or later, whose subinterpreters have a GIL each", "no /dev/shm", "no test.test_hashlib",
+              "no lists of apt", "no rights of root"}
+
 
 def read_packaging(name):
     return read(f"packaging/{name}")
@@ -90,8 +96,8 @@ def wrong_symbols():
     """Each version of symbols is that of the first release that has it."""
     versions = re.findall(r"(?m)^VULFSJOR_([\d.]+) \{", read("c/vulfsjor.map"))
     wanted = [f" (symver)VULFSJOR_{version} {version}.0" for version in versions]
-    found = [line for line in read_packaging("debian/libvulfsjor0.symbols").splitlines() if line.startswith(" ")]
-    return [] if found == wanted else [f"libvulfsjor0.symbols has {found}, and not {wanted}"]
+    found = [line for line in read_packaging("debian/libvulfsjor1.symbols").splitlines() if line.startswith(" ")]
+    return [] if found == wanted else [f"libvulfsjor1.symbols has {found}, and not {wanted}"]
 
 
 def other_sonames():
@@ -156,9 +162,37 @@ def unlike_the_patterns():
         yield from (f"{kind}: {' '.join(it)} has no file" for it in sorted(patterns - {it for _, it in matches}))
 
 
+def reasons(script):
+    """What a script says of absent tools: its calls of `needs`, its loops, and its reasons of skipped tests."""
+    for words in re.findall(r"(?m)^ *needs(?:_cross \S+)?((?: [\w+.\"$-]+)+)$|^for tool in (.+); do has", script):
+        yield from (f"no {word}" for word in "".join(words).replace('"', "").split() if word != "bash")
+    for words in re.findall(r"tools=\[(.*)\]", script):
+        yield from (f"no {word}" for word in re.findall('"([^"]+)"', words))
+    for words in re.findall(r"(?m)^(?:check_debian|(?:digest|serde)=\().*", script):
+        yield from (f"no librust-{crate.replace('_', '-')}-dev" for crate in re.findall(r"(\w+)=\d", words))
+    yield from re.findall(r"""(?m)(?:skip\w*[ (=]|SKIP |missing=)(?:.*["'])?(no [\w$][^"'\n]*)""", script)
+
+
+def unknown_tools():
+    """Each reason of a skipped test has a tool or package of tools.txt, by which ./test says what to install."""
+    rows = [line.split() for line in read_packaging("tools.txt").splitlines() if not line.startswith("#")]
+    yield from (f"tools.txt: {' '.join(row)}" for row in rows if len(row) not in (3, 5))
+    known = {re.sub(".*[:/]", "", row[1]) for row in rows} | {row[2] for row in rows}
+    scripts = [path for end in ("sh", "py", "mjs") for path in paths(f"**/*.{end}")
+               if re.search("tests/|run_tests", path) and "/out/" not in path and path != "tests/test_script.sh"]
+    found = [(path, reason) for path in scripts for reason in reasons(read(path))]
+    for path, reason in found:
+        parts = [] if reason in NO_PACKAGE else re.split(",? or (?!later)|, | and ", reason)
+        yield from (f"{path}: tools.txt has nothing of: {part}" for part in parts
+                    if part not in NO_PACKAGE and "$" not in part and "{" not in part and not known & {*part.split()})
+    if len(found) < 100:
+        yield f"only {len(found)} reasons are found"
+
+
 TESTS = (("the packages of debian/control", other_packages), ("the lines of packaging/", missing_lines),
          ("the versions of symbols", wrong_symbols), ("the soname", other_sonames),
-         ("the lists of files", other_files), ("the files of each package", unlike_the_patterns))
+         ("the lists of files", other_files), ("the files of each package", unlike_the_patterns),
+         ("the tools that skipped tests lack", unknown_tools))
 for title, find in TESTS:
     said = list(find())
     tap.result(not said, title, "\n".join(said))

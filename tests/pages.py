@@ -22,7 +22,8 @@ from read_sources import anchor, modules, words_of
 WORD = re.compile(r"`([^`]+)`")
 FUNCTION = r"^///.*?^}$"
 # What several types of states have, each under the name of its own file.
-OF_EACH_TYPE = ("IsReady", "IsReadyFor", "Took", "WentOn", "count", "future", "meaning", "started", "zeros")
+OF_EACH_TYPE = ("IsReady", "IsReadyFor", "Took", "WentOn", "count", "future", "meaning", "start_count",
+                "started", "zeros")
 
 
 def pages():
@@ -234,6 +235,15 @@ def check_quotes():
             yield f"{page}: no quote"
 
 
+def check_recipe():
+    """The crates that CALLING.md copies, with those that they depend on"""
+    below = dict(re.findall(r"^(\w+):(.*)$", read("crates.txt"), re.M))
+    copied = re.search(r"^for crate in (.*)$", read("crates/blake2/CALLING.md"), re.M)[1].split()
+    for crate in copied:
+        for other in {*below.get(crate, "no such crate").split()} - {*copied, "hex"}:  # which the toolchain has
+            yield f"crates/blake2/CALLING.md copies {crate}, which needs {other}"
+
+
 reference_pages = functools.cache(reference.pages)
 
 
@@ -270,8 +280,9 @@ def main():
     if sys.argv[1:]:
         sys.exit("usage: tests/pages.py")
     for check in (check_clauses, check_edits, check_must_fail, check_definitions, check_columns, check_files,
-                  check_crates, check_links, check_quotes, wrong_ratios, wrong_numbers, wrong_names, wrong_in_packages,
-                  check_commands, check_comments, check_reference, check_systems, check_platforms, check_git):
+                  check_crates, check_links, check_quotes, check_recipe, wrong_ratios, wrong_numbers, wrong_names,
+                  wrong_in_packages, check_commands, check_comments, check_reference, check_systems, check_platforms,
+                  check_git):
         absent = check is check_git and not os.path.exists(os.path.join(TOP, ".git"))
         try:
             wrong = [] if absent else list(check())

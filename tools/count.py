@@ -1,7 +1,8 @@
 #!/usr/bin/env python3
 """Counts the lines of each kind of file that git keeps here, and how many lines of tests, tools and benchmarks there
 are for each line of the product, which is all code that is written by hand and installed. Examples, the page in
-js/demo and what is generated belong to neither, and tests/machine is counted by itself.
+js/demo and what is generated belong to neither, and tests/machine is counted by itself. The last ratio adds the
+definitions, proofs and must-fail edits of Rattle: all that is not product.
 
     tools/count.py [CLONE]
 """
@@ -14,7 +15,8 @@ import sys
 # The kinds, the first whose expression a path matches.
 KINDS = [
     ("pages", r".*\.md"),
-    ("generated", r"js/src/(wasm\w*|worker_text)\.js|dist/(?!.*\.(S|h|inc)$).*|.*\.(svg|[1-8]|lock)|bench/results/.*"),
+    ("generated",
+     r"js/src/(wasm\w*|build|worker_text)\.js|dist/(?!.*\.(S|h|inc)$).*|.*\.(svg|[1-8]|lock)|bench/results/.*"),
     ("examples, demo", r"crates/blake2_examples/src/.*|.*/examples/.*|js/demo/.*"),
     ("must-fail edits", r"crates/.*/must-fail/.*"), ("Rattle, specs", r"crates/.*/specs/.*"),
     ("Rattle, proofs", r"crates/.*/proofs/.*"),
@@ -48,8 +50,10 @@ def main():
         print(f"{kind:28}{len(texts[kind]):6} files {lines[kind]:8} lines")
     product, around = (sum(count for kind, count in lines.items() if kind.startswith(word))
                        for word in ("product", "around"))
+    machine = around + lines["tests/machine"]
+    whole = machine + sum(lines[kind] for kind in ("Rattle, specs", "Rattle, proofs", "must-fail edits"))
     print(f"{around} lines around {product} of product: {around / product:.2f}; "
-          f"with tests/machine {(around + lines['tests/machine']) / product:.2f}")
+          f"with tests/machine {machine / product:.2f}; with definitions, proofs and edits {whole / product:.2f}")
     print(sum(len(text.split()) for text in texts["pages"].values()), "words in pages")
 
 

@@ -53,6 +53,8 @@ def block(part):
     lines = part.splitlines()
     if part.startswith("    "):
         return "\n".join([".PP", ".EX", *(escaped(line[4:].replace("./b2", "b2")) for line in lines), ".EE"])
+    if part.startswith("### "):
+        return ".SS " + inline(part[4:])
     if not part.startswith("|"):
         return ".PP\n" + inline(part.replace("./b2", "b2"))
     rows = [[cell.strip() for cell in line.strip("|").split(" | ")] for line in lines[2:]]
@@ -72,7 +74,7 @@ def manual(name):
         if title not in LEFT_OUT:
             made.append("\n".join([f".SH {title.upper()}", *map(block, re.split(r"\n\n+", text.strip("\n")))]))
     others = "".join(f".BR {other} (1),\n" for other in others.split())
-    return re.sub(r"(\.SH .*)\n\.PP", r"\1", "\n".join(made)) + f"\n.SH SEE ALSO\n{others}RFC 7693\n"
+    return re.sub(r"(\.S[HS] .*)\n\.PP", r"\1", "\n".join(made)) + f"\n.SH SEE ALSO\n{others}RFC 7693\n"
 
 
 # ---- of the library

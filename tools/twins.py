@@ -1,6 +1,7 @@
 #!/usr/bin/env python3
 """Makes the files of BLAKE2s, BLAKE2sp and BLAKE2Xs in crates/ from those of BLAKE2b, BLAKE2bp and BLAKE2Xb, which have
-the same names with a b for the s. tools/twins.txt says what else differs, and what is written by hand.
+the same names with a b for the s, and in files that have both, the paragraphs of the one family from those of the
+other. tools/twins.txt says what else differs, and what is written by hand.
 
     tools/twins.py            makes them, removes those of files that are gone, and prints their names
     tools/twins.py --check    compares them with what would be made, and .gitattributes with them
@@ -16,7 +17,11 @@ from read_sources import TOP, read
 
 TABLE = "tools/twins.txt"
 MADE = "Made by tools/twins.py from"
-
+# What a paragraph is called: a heading of the header of C, or the name that it defines.
+CALLED = re.compile(r"(?m)^(?:/\* -- (?=BLAKE2)|(?:[\w ]+ )?(?=vulfsjor_\w+(?:\(| \{)))(\w+)"
+                    r"|^(?:    )?(?:pub(?:\(\w+\))? )?fn (\w+)")
+# The names of the second family.
+OTHERS = re.compile(r"(?i)blake2x?s")
 
 # A line with the number 2 that ends with a comma, one that has 3 for that, and none with 4.
 LEAVES = re.compile(r"(?m)^(.*)\b2\b(.*,\n)\1\b3\b.*\n(?!\1\b4\b)")
@@ -32,12 +37,15 @@ class Table:
     """The table: which files are written by hand, and what becomes what in which files."""
 
     def __init__(self):
-        self.by_hand, self.lines, self.used, files = (), [], set(), ()
-        for line in re.split(r"(?<!\\)\n", re.sub(r"(?m)^#.*\n", "", read(TABLE))):
+        self.by_hand, self.in_part, self.lines, self.used, files = (), {}, [], set(), ()
+        for line in re.split(r"(?<!\\)\n", re.sub(r"(?m)^#(?: .*)?\n", "", read(TABLE))):
             word, _, rest = line.partition(": ")
             old, arrow, new = line.replace("\\\n", "\n").partition(" ~> ")
             if word == "by hand":
                 self.by_hand += tuple(rest.split())
+            elif word == "paragraphs":
+                path, origin, *names = rest.replace("\\\n", " ").split()
+                self.in_part[path] = (origin, names)
             elif word == "in":
                 files = tuple(rest.split())
             elif line:
@@ -68,6 +76,49 @@ class Table:
             if other != path and not fits(path, self.by_hand):
                 line = f"{'//' if path.endswith('.rt') else '--'} {MADE} {path.split('/', 2)[2]}.\n"
                 yield other, line + self.twin(path, read(path))
+        for path in self.in_part:
+            yield path, "\n\n".join(text for _, text in self.paragraphs(path)) + "\n"
+
+    def twins_in(self, path):
+        """The paragraphs of this file that are made, by name, and the names of new ones by those above them."""
+        origin, by_hand = self.in_part[path]
+        made, new, above = {}, {}, None
+        here = {called(it) for it in parts_of(path)}
+        for text in parts_of(origin):
+            name = called(text)
+            twin = name and self.twin(origin, name)
+            if name and (twin != name or path != origin) and twin not in by_hand:
+                made[twin] = self.twin(origin, text)
+                if twin not in here:
+                    new[above] = twin
+            above = twin
+        return made, new
+
+    def paragraphs(self, path):
+        """The paragraphs of this file with their names, as they should be. One that is new follows the twin of the one
+        above its own."""
+        made, new = self.twins_in(path)
+        for text in parts_of(path):
+            name = called(text)
+            yield name, made.get(name, text)
+            while name := new.get(name):
+                yield name, made[name]
+
+    def wrong_parts(self):
+        """What files that are made in part have too much, or have no place for."""
+        for path, (origin, by_hand) in self.in_part.items():
+            made, _ = self.twins_in(path)
+            names = [name for name, _ in self.paragraphs(path)]
+            yield from (f"{path} has no place for {name}: write its first line there" for name in made
+                        if name not in names)
+            yield from (f"{path}: {name} is made from nothing in {origin}" for name in names
+                        if name and path == origin and OTHERS.search(name) and name not in [*made, *by_hand])
+            indent = " " * (4 if path.endswith(".h") else 8)
+            yield from (f"{file} has an empty line in a function, above {text.strip().partition(chr(10))[0]!r}"
+                        for file in {path, origin} for text in parts_of(file) if text.startswith(indent))
+            either = [*names, *map(called, parts_of(origin))]
+            yield from (f"{TABLE}: neither {path} nor {origin} has {name}" for name in by_hand if name not in either)
+            yield from (f"{path} has {name} more than once" for name in made if names.count(name) > 1)
 
     def unused(self):
         """What the table replaces and no file has, and its patterns of files that are there no longer."""
@@ -76,7 +127,17 @@ class Table:
 
 
 def fits(path, patterns):
-    return any(fnmatchcase(path, "crates/" + pattern) for pattern in patterns)
+    return any(fnmatchcase("/" + path, pattern if pattern[0] == "/" else "/crates/" + pattern) for pattern in patterns)
+
+
+def parts_of(path):
+    """The paragraphs of a file, which empty lines are between."""
+    return read(path).removesuffix("\n").split("\n\n")
+
+
+def called(paragraph):
+    match = CALLED.search(paragraph)
+    return match and (match[1] or match[2])
 
 
 @functools.cache
@@ -126,10 +187,11 @@ def main(checks):
         for path in wrong:
             lines, wanted = read(path).splitlines(True), made[path].splitlines(True)
             sys.stdout.writelines(difflib.unified_diff(lines, wanted, path, "as made", n=0))
-        faults += [f"{path} is not as it is made: change the file that it names, or {TABLE}, and run tools/twins.py"
+        faults += [f"{path} is not as it is made: change what it is made from, or {TABLE}, and run tools/twins.py"
                    for path in wrong]
         faults += [f"{path} is made from no file: run tools/twins.py" for path in gone]
-        faults += wrong_attributes(made)
+        faults += table.wrong_parts()
+        faults += wrong_attributes([path for path in made if path not in table.in_part])
     else:
         for path in wrong:
             os.makedirs(os.path.dirname(f"{TOP}/{path}"), exist_ok=True)

@@ -1,0 +1,115 @@
+#!/usr/bin/env python3
+"""Compares docs/SURFACE.tsv with the sources: each function of the headers for C has one row, each name of a row exists
+in its language and each call in the conformance cases, and GLOSSARY.md has the table of these names.
+
+    tests/surface.py            prints the Test Anything Protocol
+    tests/surface.py --write    writes the table into docs/GLOSSARY.md
+"""
+import glob
+import re
+import subprocess
+import sys
+
+import tap
+from common import TOP, read
+
+GLOSSARY, BEGIN, END = "docs/GLOSSARY.md", "## Names of calls\n", "\n## Transcripts"
+# Where each language declares what a program may call, and what a comment is there.
+SOURCES = {
+    "C++": (["c/include/vulfsjor.hpp"], r"/\*.*?\*/|//[^\n]*"),
+    "Rust": (["rust/src/*.rs"], r"//[^\n]*"),
+    "Python": (["python/vulfsjor/*.py*"], r'""".*?"""|#[^\n]*'),
+    "JavaScript": (["js/index.d.ts"], r"/\*.*?\*/|//[^\n]*"),
+    "case": (["tests/conformance/write.py"], None),
+}
+
+
+def rows():
+    head, *lines = (line.split("\t") for line in read("docs/SURFACE.tsv").splitlines() if not line.startswith("#"))
+    for line in lines:
+        if len(line) != len(head):
+            sys.exit(f"docs/SURFACE.tsv: {line[1:2]} has {len(line)} columns")
+        yield dict(zip(head, line))
+
+
+def functions_of(row):
+    """The functions of C that a row is about: one, or that of each family."""
+    families = [""] if row["families"] == "-" else row["families"].split()
+    return [row["C"].replace("blake2F", f"blake2{family}") for family in families]
+
+
+def places(language):
+    return " ".join(SOURCES[language][0])
+
+
+def words_of(language):
+    """The words of a language's declarations, without comments; of the conformance cases the calls that they make."""
+    patterns, comment = SOURCES[language]
+    texts = (read(path[len(TOP) + 1:]) for pattern in patterns for path in sorted(glob.glob(f"{TOP}/{pattern}")))
+    if not comment:
+        return set(re.findall(r'(?<=")[a-z]+(?= )', " ".join(texts)))
+    return set(re.findall(r"\w+", " ".join(re.sub(comment, " ", text, flags=re.DOTALL) for text in texts)))
+
+
+def wrong_functions():
+    """Functions of the headers without a row, and rows without a function or with two."""
+    listed = subprocess.run(["bash", "-c", 'source "$0/tests/tap.sh"; functions_of_headers', TOP], check=True,
+                            stdout=subprocess.PIPE, text=True).stdout
+    there = sorted(name.removeprefix("vulfsjor_") for name in listed.split())
+    found = sorted(name for row in rows() for name in functions_of(row))
+    wanted = ", ".join(f"{language} ({places(language)})" for language in SOURCES)
+    yield from (f"docs/SURFACE.tsv has no row for vulfsjor_{name}, with a name, or why it has none, in {wanted}"
+                for name in there if name not in found)
+    yield from (f"docs/SURFACE.tsv: vulfsjor_{name} is in no header" for name in found if name not in there)
+    yield from (f"docs/SURFACE.tsv has vulfsjor_{name} twice" for name in set(found) if found.count(name) > 1)
+
+
+def wrong_names(language):
+    """Names of a column that its language does not have."""
+    words = words_of(language)
+    for row in rows():
+        for family in row["families"].split():
+            name = row[language].replace("F", family, 1) if re.search("[bB]lake2F", row[language]) else row[language]
+            if not name.startswith("- ") and not set(name.split(".")) - {"Blake2" + family} <= words:
+                yield f"docs/SURFACE.tsv: {row['C']} is {name} in {language}, which is not in {places(language)}"
+
+
+def table():
+    """The table of GLOSSARY.md."""
+    lines = [[key for key in row if key != "families"] for row in rows()][:1]
+    lines += [["---"] * len(lines[0])]
+    for row in rows():
+        if all(row[language].startswith("- ") for language in ("C++", "Rust", "Python", "JavaScript")):
+            continue
+        family = row["families"].split()[0]
+        cells = [re.sub("(?<=lake2)F", family, text) for text in list(row.values())[1:]]
+        lines.append([text[2:] if text.startswith("- ") else f"`{text}`" for text in cells])
+    return "".join(f"| {' | '.join(cells)} |\n".replace("| --- ", "|---").replace("--- |\n", "---|\n")
+                   for cells in lines)
+
+
+def wrong_glossary():
+    if read(GLOSSARY).partition(BEGIN)[2].partition(END)[0] != page():
+        yield f"{GLOSSARY} is not as tests/surface.py --write makes it"
+
+
+def page():
+    return ("\nThe names in C follow `vulfsjor_`. What has no code font says why there is none. The last column is a "
+            "call of the\n[conformance cases](../tests/conformance/README.md). Rows of BLAKE2b are also those of the "
+            "other families that have\nthem; [SURFACE.tsv](SURFACE.tsv) has these, and the calls that only C has.\n\n" +
+            table())
+
+
+def main():
+    if sys.argv[1:] == ["--write"]:
+        head, _, rest = read(GLOSSARY).partition(BEGIN)
+        with open(f"{TOP}/{GLOSSARY}", "w", encoding="utf-8") as file:
+            file.write(head + BEGIN + page() + END + rest.partition(END)[2])
+        return
+    for name, wrong in [("the functions of C", [*wrong_functions()]), ("the table of GLOSSARY.md", [*wrong_glossary()]),
+                        *((f"the names in {it}", [*dict.fromkeys(wrong_names(it))]) for it in SOURCES)]:
+        tap.result(not wrong, name, "\n".join(wrong))
+    tap.finish()
+
+
+main()
