@@ -1,13 +1,17 @@
-/* Times calls from C of this library, of libb2 and of OpenSSL's EVP in one run, in turns; the best
- * time of each counts. Prints a table in Markdown: nanoseconds a call, and in brackets how many
- * times as fast this library is. WITH_LIBB2 and WITH_OPENSSL are defined where these are there:
+/* Times calls from C of this library, also by libb2's names, of libb2 and of OpenSSL's EVP in one
+ * run, in turns; the best time of each counts. Prints a table in Markdown: nanoseconds a call, and
+ * in brackets how many times as fast this library is. WITH_LIBB2 and WITH_OPENSSL are defined where
+ * these are there, and WITH_NAMES for the calls by libb2's names, which are compiled by themselves:
  *
- *   cc -O2 -DWITH_LIBB2 -DWITH_OPENSSL bench/calls.c \
+ *   cc -O2 -DBY_NAMES -I"$(pkg-config --variable=libb2dir vulfsjor)" -c bench/calls.c -o names.o
+ *   cc -O2 -DWITH_NAMES -DWITH_LIBB2 -DWITH_OPENSSL bench/calls.c names.o \
  *       $(pkg-config --cflags --libs vulfsjor-static) -lb2 -lcrypto
  */
 #define _POSIX_C_SOURCE 199309L
+#ifndef BY_NAMES
 #include "vulfsjor.h"
-#ifdef WITH_LIBB2
+#endif
+#if defined(WITH_LIBB2) || defined(BY_NAMES)
 #include <blake2.h>
 #endif
 #ifdef WITH_OPENSSL
@@ -19,17 +23,14 @@
 #include <string.h>
 #include <time.h>
 
-enum { OURS, LIBB2, EVP, LIBRARIES };
+enum { OURS, NAMES, LIBB2, EVP, LIBRARIES };
 enum { UPDATE_1, UPDATE_64, UPDATE_64K, INIT, SHORT, KEYED, RESET, TASKS };
 
-static const char *const titles[TASKS] = {
-    "update of 1 byte",          "update of 64 bytes", "update of 65,536 bytes",        "init",
-    "init, update of 64, final", "the same with a key of 32 bytes", "reset, update of 64",
-};
 static const int repetitions[TASKS] = {4096, 1024, 2, 512, 512, 512, 512};
 
-static double best[2][TASKS][LIBRARIES];
-static uint8_t data[1 << 16], out[64];
+extern double best[2][TASKS][LIBRARIES];
+extern uint8_t data[1 << 16], out[64];
+void turn_of_names(void);
 
 static double clock_now(void) {
     struct timespec t;
@@ -63,6 +64,21 @@ static double clock_now(void) {
         TIME(family, KEYED, library, (prefix##_init_key(&state, max, data, 32) ||              \
              prefix##_update(&state, data, 64) || prefix##_final(&state, out, max)));          \
     } while (0)
+
+#ifdef BY_NAMES
+void turn_of_names(void) {
+    static blake2b_state b;
+    static blake2s_state s;
+    TURN(0, NAMES, b, 64, blake2b);
+    TURN(1, NAMES, s, 32, blake2s);
+}
+#else
+static const char *const titles[TASKS] = {
+    "update of 1 byte",          "update of 64 bytes", "update of 65,536 bytes",        "init",
+    "init, update of 64, final", "the same with a key of 32 bytes", "reset, update of 64",
+};
+double best[2][TASKS][LIBRARIES];
+uint8_t data[1 << 16], out[64];
 
 static void turn_of_ours(void) {
     static vulfsjor_blake2b_state b;
@@ -98,10 +114,11 @@ static void turn_of_evp(int family, EVP_MD_CTX *context, const EVP_MD *algorithm
 #endif
 
 static void print_table(int family, const char *name) {
-    printf("| %s, ns | ours | libb2 | OpenSSL's EVP |\n| --- | --- | --- | --- |\n", name);
+    printf("| %s, ns | ours | by libb2's names | libb2 | OpenSSL's EVP |\n"
+           "| --- | --- | --- | --- | --- |\n", name);
     for (int task = 0; task < TASKS; task++) {
         printf("| %s | %.1f |", titles[task], best[family][task][OURS]);
-        for (int library = LIBB2; library < LIBRARIES; library++) {
+        for (int library = NAMES; library < LIBRARIES; library++) {
             double time = best[family][task][library];
             if (time == 0) printf(" |");
             else printf(" %.1f (%.2f) |", time, time / best[family][task][OURS]);
@@ -121,6 +138,9 @@ int main(int argc, char **argv) {
 #endif
     for (int turn = 0; turn < turns; turn++) {
         turn_of_ours();
+#ifdef WITH_NAMES
+        turn_of_names();
+#endif
 #ifdef WITH_LIBB2
         turn_of_libb2();
 #endif
@@ -132,3 +152,4 @@ int main(int argc, char **argv) {
     print_table(1, "BLAKE2s-256");
     return 0;
 }
+#endif

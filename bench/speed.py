@@ -6,7 +6,7 @@ Tables, as Markdown on standard output:
 - long: `b2 sum` next to programs, each over one file of random bytes as its standard input: the processor's
   time (user and system) of the whole program.
 - kernel: one message of 1 MiB in memory.
-- short: messages of 0, 64 and 1,024 bytes in memory.
+- short: messages of 0 to 1,024 bytes in memory.
 - several: four and eight messages of BLAKE2b-512 and eight of BLAKE2s-256, digested one after another and in parallel.
 - parallel: one message of BLAKE2bp-512 and of BLAKE2sp-256 in memory, of 0 bytes to 1 MiB.
 - xof: 32 KiB of output of BLAKE2Xb and of BLAKE2Xs, by one call and by a call for each block.
@@ -17,9 +17,11 @@ docs/speed.svg. docs/SPEED.md says how each candidate is timed. A peer that is a
 are named on standard error, and it is left out.
 
 Each digest is first compared with hashlib's. Then the candidates of a column are timed in turns, and the best time of
-each counts. A ratio is the candidate's speed over that of the column's best peer.
+each counts: in memory the best at each of 16 places of the stack, and the median of these. A ratio is the candidate's
+speed over that of the column's best peer.
 
-usage: bench/speed.py [--mebibytes N] [--turns N] [--only long|kernel|short|several|parallel|xof|tree | --write]
+usage: bench/speed.py [--mebibytes N] [--turns N] [--build v2|v3|v4]
+                      [--only long|kernel|short|several|parallel|xof|tree | --write]
 """
 import ctypes
 import functools
@@ -29,6 +31,7 @@ import mmap
 import os
 import re
 import shutil
+import statistics
 import subprocess
 import sys
 import tempfile
@@ -48,10 +51,10 @@ PEERS = os.path.join(TOP, "bench", "peers")
 OUT = os.path.join(TOP, "bench", "out")
 NEWEST = subprocess.run([os.path.join(TOP, "tests", "processor.sh")], stdout=subprocess.PIPE, text=True,
                         check=True).stdout.strip()  # of the builds that this processor runs
-CPUS = ("x86-64-v2", "x86-64-v3", "x86-64-v4")
-CPUS = CPUS[:CPUS.index(NEWEST) + 1] if NEWEST in CPUS else ()
+CPUS = ["x86-64-v2", "x86-64-v3", "x86-64-v4"]
+CPUS = CPUS[:CPUS.index(NEWEST) + 1] if NEWEST in CPUS else []  # and those to time
 KERNEL_BYTES = 1 << 20
-SHORT_BYTES = (0, 64, 1024)
+SHORT_BYTES = (0, 1, 64, 65, 96, 127, 128, 200, 1024)
 SEVERAL_BYTES = (64, 1024, 4096)
 PARALLEL_BYTES = (0, 1024, 4096, 1 << 16, 1 << 20)
 OUTPUT_BYTES = 1 << 15  # of BLAKE2X, as bench/peers/xof.c and xof.go have it
@@ -61,6 +64,7 @@ TREE_MEBIBYTES = 16  # of the message
 TREE_LEAVES = (1 << 12, 1 << 16, 1 << 20)
 PLOT_BYTES = tuple(1 << power for power in range(6, 21))
 TURN_NANOSECONDS = 2e6  # of one timing in memory, at least
+PLACES = range(0, 16 * 272, 272)  # of the stack, in bytes, from which functions in memory are called
 MEMORY_TURNS = 50  # timings in memory for each turn over the file, at the lengths of the tables
 TREE_TURNS = 2  # timings of roots for each turn over the file
 PLOT_TURNS = 25  # and at the lengths that only the plot has
@@ -206,7 +210,7 @@ def build_golang():
 
 
 def peer_versions():
-    """The versions of the peers, as they tell them."""
+    """The versions of the peers, as they report them, and how those that are built here are compiled."""
     found = []
     for name, command, pattern in (("b2sum", ["b2sum", "--version"], r"^b2sum .* (\S+)$"),
                                    ("OpenSSL", ["openssl", "version"], r"^OpenSSL (\S+)"),
@@ -217,7 +221,11 @@ def peer_versions():
     if blake2_simd()[0]:
         with open(os.path.join(OUT, "simd", "Cargo.lock")) as file:
             crates = re.findall(r'name = "(blake2._simd)"\nversion = "(.*)"', file.read())
+        rust = re.search(r"^rustc (\S+)", run_quietly(["rustc", "--version"])[1], re.MULTILINE)
         found += [" ".join(crate) for crate in crates]
+        found[-1] += f" (both by rustc {rust[1] if rust else 'of an unknown version'}, --release, for any x86-64)"
+    compiler = run_quietly(["cc", "-dumpfullversion"])[1]
+    found.append(f"C around the libraries by cc {compiler} -O3")
     return ", ".join(found + ["Python " + sys.version.split()[0]])
 
 
@@ -231,6 +239,17 @@ def best_of(turns, timers):
             taken = timer()
             best[name] = min(taken, best.get(name, taken))
     return best
+
+
+def median_of_places(turns, loops, others=None):
+    """The time of each loop, whose best is taken at each place of the stack, and then the median of these; and the best
+    time by each of the other timers. The turns are shared by the places."""
+    timers = {(name, place): loop_timer(functools.partial(loop, place=place))
+              for name, loop in loops.items() for place in PLACES}
+    timers |= {(name, PLACES[0]): timer for name, timer in (others or {}).items()}
+    best = best_of(-(-turns // len(PLACES)), timers)
+    return {name: statistics.median(taken for (which, _), taken in best.items() if which == name)
+            for name in dict.fromkeys(name for name, _ in timers)}
 
 
 def programs_to_time():
@@ -364,7 +383,8 @@ def clock_in_c():
         sys.exit("speed: the tables in memory need a C compiler (cc)")
     clock = ctypes.CDLL(path).nanoseconds
     clock.restype = ctypes.c_double
-    clock.argtypes = [ctypes.c_void_p, ctypes.c_void_p, ctypes.c_size_t, ctypes.c_char_p, ctypes.c_long]
+    clock.argtypes = [ctypes.c_void_p, ctypes.c_void_p, ctypes.c_size_t, ctypes.c_char_p, ctypes.c_long,
+                      ctypes.c_size_t]
     return clock
 
 
@@ -378,8 +398,8 @@ def checked_loop(name, function, data, length, wanted):
     first = ctypes.c_char.from_buffer(data)
     out = ctypes.create_string_buffer(max(64, len(wanted)))
 
-    def loop(count):
-        return clock_in_c()(ctypes.cast(function, ctypes.c_void_p), ctypes.addressof(first), length, out, count)
+    def loop(count, place=0):
+        return clock_in_c()(ctypes.cast(function, ctypes.c_void_p), ctypes.addressof(first), length, out, count, place)
     loop(1)
     if out.raw[:len(wanted)] != wanted:
         sys.exit(f"speed: {name} gave another digest of {length} bytes")
@@ -407,11 +427,11 @@ class Memory:
         message = mmap.mmap(-1, max(length, 1))
         message[:] = os.urandom(len(message))
         wanted = hashlib.new(kind.algorithm, message[:length]).digest()
-        timers = {name: loop_timer(checked_loop(name, found[kind.word], message, length, wanted))
-                  for name, found in self.libraries.items()}
-        timers |= self.beside(kind, message[:length])
+        loops = {name: checked_loop(name, found[kind.word], message, length, wanted)
+                 for name, found in self.libraries.items()}
         in_a_table = length in SHORT_BYTES or length == KERNEL_BYTES
-        return best_of(self.turns * (MEMORY_TURNS if in_a_table else PLOT_TURNS), timers)
+        turns = self.turns * (MEMORY_TURNS if in_a_table else PLOT_TURNS)
+        return median_of_places(turns, loops, self.beside(kind, message[:length]))
 
 
 # What is printed.
@@ -514,10 +534,9 @@ def several_table(kind, count, functions, turns):
         messages = bytearray(os.urandom(count * length))
         wanted = b"".join(hashlib.new(kind.algorithm, messages[at:at + length]).digest()
                           for at in range(0, len(messages), length))
-        timers = {name: loop_timer(checked_loop(name, getattr(ctypes.CDLL(path), prefix + function), messages,
-                                                len(messages), wanted))
-                  for name, (path, prefix) in functions.items()}
-        best = best_of(turns * MEMORY_TURNS, timers)
+        loops = {name: checked_loop(name, getattr(ctypes.CDLL(path), prefix + function), messages, len(messages),
+                                    wanted) for name, (path, prefix) in functions.items()}
+        best = median_of_places(turns * MEMORY_TURNS, loops)
         columns.append(Column(f"{length:,} bytes, ns", best, "{:.0f}".format))
     return markdown_table(f"{count} messages of {kind.title}", columns)
 
@@ -533,9 +552,9 @@ def parallel_table(kind, turns):
         report_progress(f"timing {kind.title} of {length:,} bytes")
         message = bytearray(os.urandom(max(length, 1)))
         wanted = parallel_by_hashlib(kind.word[0], bytes(message[:length]))
-        timers = {name: loop_timer(checked_loop(name, getattr(ctypes.CDLL(path), prefix + kind.function), message,
-                                                length, wanted)) for name, (path, prefix) in found.items()}
-        best = best_of(turns * MEMORY_TURNS, timers)
+        loops = {name: checked_loop(name, getattr(ctypes.CDLL(path), prefix + kind.function), message, length, wanted)
+                 for name, (path, prefix) in found.items()}
+        best = median_of_places(turns * MEMORY_TURNS, loops)
         base = (CRATES, best[CRATES]) if CRATES in best else None
         if length < 1 << 16:
             columns.append(Column(f"{length:,} bytes, ns", best, "{:.0f}".format, base))
@@ -553,9 +572,9 @@ def xof_table(turns):
     for letter, title in OUTPUTS:
         report_progress(f"timing outputs of {title}")
         wanted = b2_model.output(SCALAR[letter], OUTPUT_BYTES, b2_model.Input(bytes(message)))
-        timers = {name: loop_timer(checked_loop(name, getattr(ctypes.CDLL(path), f"{prefix}blake2x{letter}"), message,
-                                                len(message), wanted)) for name, (path, prefix) in found.items()}
-        best = best_of(turns * MEMORY_TURNS, timers)
+        loops = {name: checked_loop(name, getattr(ctypes.CDLL(path), f"{prefix}blake2x{letter}"), message, len(message),
+                                    wanted) for name, (path, prefix) in found.items()}
+        best = median_of_places(turns * MEMORY_TURNS, loops)
         base = next(iter(found))
         columns.append(Column(title + ", GB/s", best, speed_text(OUTPUT_BYTES),
                               None if build_golang() else (base, best[base])))
@@ -646,6 +665,8 @@ def options_of(text, mebibytes, turns, only=()):
     which = parser.add_mutually_exclusive_group()
     if only:
         which.add_argument("--only", choices=only, help="only this part")
+        parser.add_argument("--build", choices=[cpu.removeprefix("x86-64-") for cpu in CPUS],
+                            help="only this build of ours")
     which.add_argument("--write", action="store_true", help="write it to bench/results/, and the plot to docs/")
     return parser.parse_args()
 
@@ -692,8 +713,12 @@ def run_benchmark(options, parts_of, name):
 
 
 def main():
-    run_benchmark(options_of(__doc__, 512, 6, ("long", "kernel", "short", "several", "parallel", "xof", "tree")),
-                  parts_of, "speed")
+    options = options_of(__doc__, 512, 6, ("long", "kernel", "short", "several", "parallel", "xof", "tree"))
+    if options.build and options.write:
+        sys.exit("speed: --write needs all builds")
+    if options.build:
+        CPUS[:] = [f"x86-64-{options.build}"]
+    run_benchmark(options, parts_of, "speed")
 
 
 if __name__ == "__main__":
