@@ -122,15 +122,15 @@ def check_columns():
 
 def check_files():
     """The files and crates that the pages for contributors name"""
-    for page in ("docs/MAP.md", "docs/REVIEW.md", "docs/PORTABLE.md", "CONTRIBUTING.md"):
+    for page in ("docs/REVIEW.md", "docs/PORTABLE.md", "CONTRIBUTING.md"):
         for word in WORD.findall(read(page)):
             is_file = re.fullmatch(r"[\w./-]+/[\w./-]+\.(?:rt|antt|edit|py|sh|h|svg|md)", word) and "NAME" not in word
             places = [before + word for before in ("", "crates/", "crates/*/", "crates/*/src/")]
             if is_file and not any(map(paths, places)):
                 yield f"{page}: there is no {word}"
     for crate in paths("crates/*"):
-        if f"`{os.path.basename(crate)}`" not in read("docs/MAP.md").partition("## The folders")[0]:
-            yield f"MAP: the list of crates has no `{os.path.basename(crate)}`"
+        if f"`{os.path.basename(crate)}`" not in read("CONTRIBUTING.md").partition("## The folders")[0]:
+            yield f"CONTRIBUTING: the list of crates has no `{os.path.basename(crate)}`"
 
 
 # A command in a sentence or in a line of its own, and words before its program.
