@@ -84,7 +84,7 @@ test("the types say what the functions accept", (t) => {
   assert.deepEqual(stdout.match(/^[\w./]+(\(\d+)?/gm) ?? [], wrong, stdout);
 });
 
-for (const [page, count] of [["README.md", 7], ["../README.md", 1]]) {
+for (const [page, count] of [["README.md", 6], ["../README.md", 1]]) {
   test(`each example of ${page} runs alone`, async () => {
     const blocks = [...read(page).matchAll(/```js\n([^`]*)```/g)];
     assert.equal(blocks.length, count);
