@@ -1,6 +1,6 @@
 #!/usr/bin/env python3
-"""Runs the vectors of BLAKE2 that Botan, Crypto++ and OpenSSL have over a shared library, and prints for each how many
-are right and how many are not.
+"""Runs the vectors of BLAKE2 that Botan, Crypto++, OpenSSL and Go's golang.org/x/crypto have over a shared library, and
+prints for each how many are right and how many are not.
 
     tests/clients/vectors.py LIBRARY FOLDER     the folder of the sources
 """
@@ -9,6 +9,7 @@ import re
 import sys
 
 SIZES = {"b": 64, "s": 32}
+UNKNOWN = {"xb": 2**32 - 1, "xs": 2**16 - 1}  # the length of an output that is not known in advance
 
 
 def read(path):
@@ -55,23 +56,40 @@ def openssl(folder):
                 yield (letter, size, *values, wanted)
 
 
+def golang(folder):
+    """Each table is of messages of 0, 1, .. bytes. Those of BLAKE2X are of one of 256 bytes, and the last output is the
+    beginning of one whose length is unknown. The key is as long as it may be."""
+    for letter, key in (("b", bytes(range(64))), ("s", bytes(range(32)))):
+        text = read(f"{folder}/golang-go.crypto/blake2{letter}/blake2{letter}_test.go")
+        for name, table in re.findall(r"(?ms)^var (hashes\w*) = \[\]string\{$(.*?)^\}$", text):
+            for number, digits in enumerate(re.findall(r'"(\w+)"', table)):
+                output = bytes_of(digits)
+                if name == "hashes2X":
+                    yield f"x{letter}", len(output), bytes(range(256)), key, b"", b"", output
+                else:
+                    yield letter, len(output), bytes(range(number)), key, b"", b"", output
+        output = bytes_of(re.search(r'const expected = "(\w+)"', text)[1])
+        yield f"x{letter}", UNKNOWN[f"x{letter}"], bytes(range(256)), key, b"", b"", output
+
+
 def digest(library, letter, size, message, *texts):
     """The digest, or None if the lengths of the key, the salt and the personalization are refused."""
     call = f"vulfsjor_ffi_blake2{letter}_"
     state = ctypes.create_string_buffer(getattr(library, call + "state_size")())
-    out = ctypes.create_string_buffer(size)
     given = [part for text in texts for part in (text, ctypes.c_size_t(len(text)))]
     if getattr(library, call + "init_salt_personal")(state, ctypes.c_size_t(size), *given):
         return None
+    out = ctypes.create_string_buffer(64 if size == UNKNOWN.get(letter) else size)
+    final = getattr(library, call + ("squeeze" if letter[0] == "x" else "final"))
     if getattr(library, call + "update")(state, message, ctypes.c_size_t(len(message))) or \
-            getattr(library, call + "final")(state, out, ctypes.c_size_t(size)):
+            final(state, out, ctypes.c_size_t(len(out))):
         sys.exit("a call fails")
     return out.raw
 
 
 def main():
     library, folder = ctypes.CDLL(sys.argv[1]), sys.argv[2]
-    for peer in botan, cryptopp, openssl:
+    for peer in botan, cryptopp, openssl, golang:
         found = [digest(library, *values) == wanted for *values, wanted in peer(folder)]
         print(f"{peer.__name__}: {found.count(True)} right, {found.count(False)} wrong")
 

@@ -1,5 +1,5 @@
 #!/usr/bin/env bash
-# The vectors of BLAKE2 of Botan, Crypto++ and OpenSSL, over the shared library.
+# The vectors of BLAKE2 of Botan, Crypto++, OpenSSL and Go's golang.org/x/crypto, over the shared library.
 source "$(dirname "$(readlink -f "$0")")/common.sh"
 
 # What vectors.py prints of a library is these lines: LIBRARY LINE..
@@ -7,13 +7,13 @@ vectors_are() { printf '%s\n' "${@:2}" | diff - <(python3 "$clients/vectors.py" 
 
 test_vectors() {
     check "a planted byte" plant "$shared" "$work/planted.so"
-    needs_sources botan libcrypto++ openssl
+    needs_sources botan libcrypto++ openssl golang-go.crypto
     has python3 || missing="no python3"
-    check "the vectors of Botan, Crypto++ and OpenSSL" vectors_are "$shared" "botan: 1037 right, 0 wrong" \
-        "cryptopp: 218 right, 0 wrong" "openssl: 59 right, 0 wrong"
+    check "the vectors of Botan, Crypto++, OpenSSL and Go" vectors_are "$shared" "botan: 1037 right, 0 wrong" \
+        "cryptopp: 218 right, 0 wrong" "openssl: 59 right, 0 wrong" "golang: 1282 right, 0 wrong"
     # Two of OpenSSL's are refused for their lengths.
     check "the vectors with a planted byte" vectors_are "$work/planted.so" "botan: 0 right, 1037 wrong" \
-        "cryptopp: 0 right, 218 wrong" "openssl: 2 right, 57 wrong"
+        "cryptopp: 0 right, 218 wrong" "openssl: 2 right, 57 wrong" "golang: 0 right, 1282 wrong"
 }
 
 part test_vectors
