@@ -87,8 +87,8 @@ def of_specification():
         if not match:
             raise Unreadable(f"{place}: nothing has the form {pattern!r}, which tests/page_numbers.py reads")
         found.append((form, *map(shown.format, match.groups())))
-    found.append(("a decimal number of 1 to {}", longest_leaf()))
     yield from (("docs/SPECIFICATION.md", *row) for row in found)
+    yield "docs/B2.md", "the bytes of a leaf, 1 to {}", longest_leaf()
 
 
 def longest_leaf():

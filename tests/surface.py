@@ -75,15 +75,17 @@ def wrong_names(language):
 
 
 def table():
-    """The table of GLOSSARY.md."""
-    lines = [[key for key in row if key != "families"] for row in rows()][:1]
-    lines += [["---"] * len(lines[0])]
+    """The table of GLOSSARY.md: what several functions have under one name in each language is one row."""
+    columns = ("C", "C++", "Rust", "Python", "JavaScript")
+    lines = [columns, ["---"] * len(columns)]
+    seen = set()
     for row in rows():
-        if all(row[language].startswith("- ") for language in ("C++", "Rust", "Python", "JavaScript")):
-            continue
         family = row["families"].split()[0]
-        cells = [re.sub("(?<=lake2)F", family, text) for text in list(row.values())[1:]]
-        lines.append([text[2:] if text.startswith("- ") else f"`{text}`" for text in cells])
+        name, *cells = (re.sub("(?<=lake2)F", family, row[language]) for language in columns)
+        kind = name.partition("_")[2], *cells
+        if kind not in seen and not all(text.startswith("- ") for text in cells):
+            lines.append([text[2:] if text.startswith("- ") else f"`{text}`" for text in (name, *cells)])
+        seen.add(kind)
     return "".join(f"| {' | '.join(cells)} |\n".replace("| --- ", "|---").replace("--- |\n", "---|\n")
                    for cells in lines)
 
@@ -94,10 +96,10 @@ def wrong_glossary():
 
 
 def page():
-    return ("\nThe names in C follow `vulfsjor_`. What has no code font says why there is none. The last column is a "
-            "call of the\n[conformance cases](../tests/conformance/README.md). Rows of BLAKE2b are also those of the "
-            "other families that have\nthem; [SURFACE.tsv](SURFACE.tsv) has these, and the calls that only C has.\n\n" +
-            table())
+    return ("\nThe names in C follow `vulfsjor_`. What has no code font says why there is none. Rows of BLAKE2b are "
+            "also those of the\nother hashes and of trees that have the call: [SURFACE.tsv](SURFACE.tsv) says which "
+            "do, and has the calls that only C\nhas, and those of the "
+            "[conformance cases](../tests/conformance/README.md).\n\n" + table())
 
 
 def main():
