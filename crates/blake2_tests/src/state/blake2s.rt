@@ -22,7 +22,7 @@ fn check_digest(rt: &impl Abort, state: &State, wanted: &str) {
     assert!(rt; state.is_ready() && state.output_size <= 32);
     let mut out = [0; 32];
     state.write_digest(&mut out);
-    let digest = &out[..state.output_size];
+    let digest = &out[..state.output_size as usize];
     assert!(rt; reads(digest, wanted), "{wanted}");
     assert!(rt;
         state.is_digest(digest) && !state.is_digest(&digest[1..]),
