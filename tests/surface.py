@@ -77,17 +77,16 @@ def wrong_names(language):
 def table():
     """The table of GLOSSARY.md: what several functions have under one name in each language is one row."""
     columns = ("C", "C++", "Rust", "Python", "JavaScript")
-    lines = [columns, ["---"] * len(columns)]
-    seen = set()
+    lines, seen = [columns], set()
     for row in rows():
         family = row["families"].split()[0]
         name, *cells = (re.sub("(?<=lake2)F", family, row[language]) for language in columns)
         kind = name.partition("_")[2], *cells
         if kind not in seen and not all(text.startswith("- ") for text in cells):
-            lines.append([text[2:] if text.startswith("- ") else f"`{text}`" for text in (name, *cells)])
+            lines.append([name, *(f"({text[2:]})" if text.startswith("- ") else text for text in cells)])
         seen.add(kind)
-    return "".join(f"| {' | '.join(cells)} |\n".replace("| --- ", "|---").replace("--- |\n", "---|\n")
-                   for cells in lines)
+    widths = [max(map(len, column)) + 2 for column in zip(*lines)]
+    return "".join("".join(map(str.ljust, line, widths)).rstrip() + "\n" for line in lines)
 
 
 def wrong_glossary():
@@ -96,10 +95,10 @@ def wrong_glossary():
 
 
 def page():
-    return ("\nThe names in C follow `vulfsjor_`. What has no code font says why there is none. Rows of BLAKE2b are "
+    return ("\nThe names in C follow `vulfsjor_`. What is in parentheses says why there is none. Rows of BLAKE2b are "
             "also those of the\nother hashes and of trees that have the call: [SURFACE.tsv](SURFACE.tsv) says which "
             "do, and has the calls that only C\nhas, and those of the "
-            "[conformance cases](../tests/conformance/README.md).\n\n" + table())
+            "[conformance cases](../tests/conformance/README.md).\n\n```text\n" + table() + "```\n")
 
 
 def main():
