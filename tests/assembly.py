@@ -45,9 +45,10 @@ RESERVED = re.compile(r"[\t ,]-\w+\(%rsp\)|\[sp, #-\w+\](?!!)|\b[wx]18\b")
 # An address that may be below it, by an index. It is not in a function with a call, which would overwrite those bytes.
 INDEXED = re.compile(r"[\t ,]-\w+\(%rsp,")
 FAMILIES = ("blake2b", "blake2s")
-# The functions of the library that hash for both programs, and those that hash for b2sum, in the order of their names.
+# The functions of the library that hash for both programs, for b2sum alone and for b2 alone, in the order of names.
 HASHING = [*(f"blake2_compress..compress..{it}..compress" for it in FAMILIES), "blake2_tree..nodes..Nodes..hash_next"]
 LEAVES = [f"blake2_parallel..lanes..{it}p..Lanes..{what}" for it in FAMILIES for what in ("outputs", "update")]
+OUTPUTS = [f"blake2_xof..blake2x{it}..State..squeeze" for it in "bs"]
 # The compressions of several messages of BLAKE2b that each build has.
 FOUR = "blake2_compress..many..blake2b..compress_blocks"
 EIGHT = "blake2_compress..many..blake2b..eight..compress_blocks"
@@ -109,7 +110,7 @@ class Text:
         self.is_library, self.is_sums = "/vulfsjor" in name, "/b2sum" in name
         self.code, self.outside = functions_of_text(self.text.split("\n")), set(OUTSIDE.findall(self.text))
         # The functions of the library that hash for a program, or for both.
-        self.hashing = HASHING if "/b2." in name else sorted(HASHING + LEAVES)
+        self.hashing = sorted(HASHING + LEAVES * ("/b2." not in name) + OUTPUTS * (not self.is_sums))
         self.called_hashing = {f"{it}_{self.end.replace('a64', 'arm')}" for it in self.hashing}
 
     def after(self, macro):
@@ -158,7 +159,7 @@ def check_hashing(it):
             f"{name}_{it.end}" for name in PARALLEL[it.build]]
         return
     yield "it has no compression, and calls those of the library", it.called_hashing <= it.outside and not any(
-        re.search(r"compress|hash_next|Lanes\.\.(outputs|update)", name) for name in it.code)
+        re.search(r"compress|hash_next|Lanes\.\.(outputs|update)|squeeze", name) for name in it.code)
     yield "each goes to the library's build for the processor", chosen == [
         ", ".join(f"{name}_{CODE}_{end}" for end in (it.build, *BUILDS)) for name in it.hashing if it.build == "x86"]
 

@@ -25134,7 +25134,7 @@
 	vj_end	blake2_ffi..blake2xb..start_again_1_arm
 
 	vj_function	blake2_ffi..blake2xb..read_1_arm
-	b	blake2_xof..blake2xb..State..squeeze_1_arm
+	vj_jump	blake2_xof..blake2xb..State..squeeze_1_arm
 	vj_end	blake2_ffi..blake2xb..read_1_arm
 
 	vj_constants	16
@@ -25151,7 +25151,7 @@
 .L1_arm_CPI69_3:
 	.quad	2270897969802886507
 	.quad	6620516959819538809
-	vj_function	blake2_xof..blake2xb..State..squeeze_1_arm
+	vj_shared	blake2_xof..blake2xb..State..squeeze_1_arm
 	stp	x29, x30, [sp, #-96]!
 	stp	x28, x27, [sp, #16]
 	mov	x29, sp
@@ -25669,7 +25669,7 @@
 	vj_end	blake2_ffi..blake2xs..start_again_1_arm
 
 	vj_function	blake2_ffi..blake2xs..read_1_arm
-	b	blake2_xof..blake2xs..State..squeeze_1_arm
+	vj_jump	blake2_xof..blake2xs..State..squeeze_1_arm
 	vj_end	blake2_ffi..blake2xs..read_1_arm
 
 	vj_constants	16
@@ -25693,7 +25693,7 @@
 	.long	2600822924
 	.long	528734635
 	.long	1541459225
-	vj_function	blake2_xof..blake2xs..State..squeeze_1_arm
+	vj_shared	blake2_xof..blake2xs..State..squeeze_1_arm
 	stp	x29, x30, [sp, #-96]!
 	stp	x28, x27, [sp, #16]
 	mov	x29, sp
@@ -33345,7 +33345,7 @@
 	add	x0, sp, #32
 	mov	x1, x19
 	mov	x2, x20
-	bl	blake2_xof..blake2xb..State..squeeze_1_arm
+	vj_call	blake2_xof..blake2xb..State..squeeze_1_arm
 	mov	w8, wzr
 7:
 	add	sp, sp, #816
@@ -33559,7 +33559,7 @@
 	add	x0, sp, #16
 	mov	x1, x19
 	mov	x2, x20
-	bl	blake2_xof..blake2xs..State..squeeze_1_arm
+	vj_call	blake2_xof..blake2xs..State..squeeze_1_arm
 	mov	w0, wzr
 8:
 	ldp	x20, x19, [sp, #432]

@@ -19225,7 +19225,7 @@
 	vj_end	blake2_ffi..blake2xb..start_again_1_v2
 
 	vj_function	blake2_ffi..blake2xb..read_1_v2
-	jmp	blake2_xof..blake2xb..State..squeeze_1_v2
+	vj_jump	blake2_xof..blake2xb..State..squeeze_1_v2
 	vj_end	blake2_ffi..blake2xb..read_1_v2
 
 	vj_constants	16
@@ -19276,7 +19276,7 @@
 	.byte	0
 	.byte	0
 	.byte	0
-	vj_function	blake2_xof..blake2xb..State..squeeze_1_v2
+	vj_shared	blake2_xof..blake2xb..State..squeeze_1_v2
 	pushq	%rbp
 	pushq	%r15
 	pushq	%r14
@@ -19694,7 +19694,7 @@
 	vj_end	blake2_ffi..blake2xs..start_again_1_v2
 
 	vj_function	blake2_ffi..blake2xs..read_1_v2
-	jmp	blake2_xof..blake2xs..State..squeeze_1_v2
+	vj_jump	blake2_xof..blake2xs..State..squeeze_1_v2
 	vj_end	blake2_ffi..blake2xs..read_1_v2
 
 	vj_constants	16
@@ -19763,7 +19763,7 @@
 	.byte	0
 	.byte	0
 	.byte	0
-	vj_function	blake2_xof..blake2xs..State..squeeze_1_v2
+	vj_shared	blake2_xof..blake2xs..State..squeeze_1_v2
 	pushq	%rbp
 	pushq	%r15
 	pushq	%r14
@@ -22486,7 +22486,7 @@
 	leaq	304(%rsp), %rdi
 	movq	%rbx, %rsi
 	movq	%r14, %rdx
-	callq	blake2_xof..blake2xb..State..squeeze_1_v2
+	vj_call	blake2_xof..blake2xb..State..squeeze_1_v2
 	xorl	%eax, %eax
 6:
 	addq	$808, %rsp
@@ -22719,7 +22719,7 @@
 	leaq	112(%rsp), %rdi
 	movq	%rbx, %rsi
 	movq	%r14, %rdx
-	callq	blake2_xof..blake2xs..State..squeeze_1_v2
+	vj_call	blake2_xof..blake2xs..State..squeeze_1_v2
 	xorl	%eax, %eax
 6:
 	addq	$360, %rsp

@@ -15252,7 +15252,7 @@
 	vj_end	blake2_ffi..blake2xb..start_again_1_v3
 
 	vj_function	blake2_ffi..blake2xb..read_1_v3
-	jmp	blake2_xof..blake2xb..State..squeeze_1_v3
+	vj_jump	blake2_xof..blake2xb..State..squeeze_1_v3
 	vj_end	blake2_ffi..blake2xb..read_1_v3
 
 	vj_constants	32
@@ -15330,7 +15330,7 @@
 	.byte	0
 	.byte	0
 	.byte	0
-	vj_function	blake2_xof..blake2xb..State..squeeze_1_v3
+	vj_shared	blake2_xof..blake2xb..State..squeeze_1_v3
 	pushq	%rbp
 	pushq	%r15
 	pushq	%r14
@@ -16007,7 +16007,7 @@
 	vj_end	blake2_ffi..blake2xs..start_again_1_v3
 
 	vj_function	blake2_ffi..blake2xs..read_1_v3
-	jmp	blake2_xof..blake2xs..State..squeeze_1_v3
+	vj_jump	blake2_xof..blake2xs..State..squeeze_1_v3
 	vj_end	blake2_ffi..blake2xs..read_1_v3
 
 	vj_constants	16
@@ -16107,7 +16107,7 @@
 	.p2align	3, 0x0
 .L1_v3_CPI75_10:
 	.quad	32
-	vj_function	blake2_xof..blake2xs..State..squeeze_1_v3
+	vj_shared	blake2_xof..blake2xs..State..squeeze_1_v3
 	pushq	%rbp
 	pushq	%r15
 	pushq	%r14
@@ -21768,7 +21768,7 @@
 	movq	%rbx, %rsi
 	movq	%r14, %rdx
 	vzeroupper
-	callq	blake2_xof..blake2xb..State..squeeze_1_v3
+	vj_call	blake2_xof..blake2xb..State..squeeze_1_v3
 	xorl	%eax, %eax
 6:
 	addq	$824, %rsp
@@ -21999,7 +21999,7 @@
 	movq	%rbx, %rsi
 	movq	%r14, %rdx
 	vzeroupper
-	callq	blake2_xof..blake2xs..State..squeeze_1_v3
+	vj_call	blake2_xof..blake2xs..State..squeeze_1_v3
 	xorl	%eax, %eax
 6:
 	addq	$360, %rsp

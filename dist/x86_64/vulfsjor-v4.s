@@ -13358,7 +13358,7 @@
 	vj_end	blake2_ffi..blake2xb..start_again_1_v4
 
 	vj_function	blake2_ffi..blake2xb..read_1_v4
-	jmp	blake2_xof..blake2xb..State..squeeze_1_v4
+	vj_jump	blake2_xof..blake2xb..State..squeeze_1_v4
 	vj_end	blake2_ffi..blake2xb..read_1_v4
 
 	vj_constants	32
@@ -13461,7 +13461,7 @@
 	.byte	0
 	.byte	0
 	.byte	0
-	vj_function	blake2_xof..blake2xb..State..squeeze_1_v4
+	vj_shared	blake2_xof..blake2xb..State..squeeze_1_v4
 	pushq	%rbp
 	pushq	%r15
 	pushq	%r14
@@ -14151,7 +14151,7 @@
 	vj_end	blake2_ffi..blake2xs..start_again_1_v4
 
 	vj_function	blake2_ffi..blake2xs..read_1_v4
-	jmp	blake2_xof..blake2xs..State..squeeze_1_v4
+	vj_jump	blake2_xof..blake2xs..State..squeeze_1_v4
 	vj_end	blake2_ffi..blake2xs..read_1_v4
 
 	vj_constants	16
@@ -14349,7 +14349,7 @@
 	.long	5
 .L1_v4_CPI75_20:
 	.quad	32
-	vj_function	blake2_xof..blake2xs..State..squeeze_1_v4
+	vj_shared	blake2_xof..blake2xs..State..squeeze_1_v4
 	pushq	%rbp
 	pushq	%r15
 	pushq	%r14
@@ -22726,7 +22726,7 @@
 	movq	%rbx, %rsi
 	movq	%r14, %rdx
 	vzeroupper
-	callq	blake2_xof..blake2xb..State..squeeze_1_v4
+	vj_call	blake2_xof..blake2xb..State..squeeze_1_v4
 	xorl	%eax, %eax
 6:
 	addq	$824, %rsp
@@ -22972,7 +22972,7 @@
 	movq	%rbx, %rsi
 	movq	%r14, %rdx
 	vzeroupper
-	callq	blake2_xof..blake2xs..State..squeeze_1_v4
+	vj_call	blake2_xof..blake2xs..State..squeeze_1_v4
 	xorl	%eax, %eax
 6:
 	addq	$360, %rsp
