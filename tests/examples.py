@@ -1,6 +1,6 @@
 #!/usr/bin/env python3
-"""Compiles and runs every example of the README, the tutorial, the review and the guides for C, Rust and
-libsodium, or of the pages that are named, and compares what it prints.
+"""Compiles and runs every example of the README, the tutorial, the review and the guides for C, porting and Rust, or of
+the pages that are named, and compares what it prints.
 
     tests/examples.py [PAGE..]
 
@@ -98,7 +98,6 @@ class Runner:
         (self.folder / name).write_text(text)
         library = self.library / "lib"
         others = [library / "libvulfsjor-threads.a"] if "vulfsjor_threads.h" in text else []
-        others += ["-lsodium"] if "sodium.h" in text else []
         self.call(compiler, *words, "-O1", "-Wall", "-Wextra", "-Werror", name,
                   f"-I{self.library / 'include'}", *others, library / "libvulfsjor.a", "-pthread", "-o", "example")
         return self.call("./example")
@@ -193,8 +192,6 @@ def what_is_missing(runner, language, text, has_module):
     if language == "sh" and runner.name == "README.md" or language in ("sh", "python") and runner.is_shell:
         needed.append("git")
     missing = [tool for tool in needed if not shutil.which(tool)]
-    if "<sodium.h>" in text and not succeeds("cc", "-E", "-include", "sodium.h", "-xc", os.devnull):
-        missing.append("libsodium-dev")
     if "tests/machine/" in text and not any(shutil.which(python) and succeeds(python, "-c", "import z3")
                                             for python in ("python3", "/usr/bin/python3")):
         missing.append("python3-z3")

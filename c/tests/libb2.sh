@@ -101,6 +101,11 @@ sizes_of_libb2() {
 sizes_of_libsodium() {
     sizes_of_page 5 '#include <sodium.h>' 'printf("%zu\n", sizeof(crypto_generichash_state));'
 }
+# What PORTING.md says of libsodium's calls.
+said_of_libsodium() {
+    cc -std=c99 -O1 "${warnings[@]}" -I"$include" "$here/tests/libsodium.c" -lsodium "$archive" \
+        -o "$work/said_of_libsodium" && "$work/said_of_libsodium"
+}
 has_libsodium() { echo '#include <sodium.h>' | cc -fsyntax-only -x c - 2>/dev/null; }
 
 # What a configure script does to find libb2: a program that names its functions and has no header of
@@ -177,6 +182,7 @@ test_libb2() {
     check "the sizes of states in PORTING.md" sizes_here
     has_libsodium || missing="no libsodium-dev"
     check "the size of libsodium's state in PORTING.md" sizes_of_libsodium
+    check "what is said of libsodium" said_of_libsodium
     needs python3
     check "the conformance cases by libb2's names" names_conform
     has_libb2 || missing="no libb2"
