@@ -143,6 +143,8 @@ def test_tags(runs):
         runs.wants(["-c", "--key-file", "key"], "", NO_LINE, 1, keyed.replace("-key", text).encode())
     for leaf in ("0", "04", "4294967296", "4x", "", "-4", "+4", " 4", "99999999999999999999"):
         runs.wants(["-c"], "", NO_LINE, 1, root_line("b", b"abc", 4).replace("tree-4", "tree-" + leaf).encode())
+    runs.wants(["-c", "--algorithm", "blake2b"], "b: OK\n", "'standard input': lines need --tree 1\n"
+               "WARNING: 1 line needs other options", 1, (root_line("b", b"abc", 1) + line("b", b"abc")).encode())
     runs.write("one", line("b", b"abc", 256, tag=True, key=values["key"]).encode())
     runs.write("two", line("b", b"abc").encode())
     for names in (["one", "two"], ["two", "one"]):
@@ -483,6 +485,7 @@ def test_differences(runs):
         quoted = said.removeprefix(b"b2sum: ").removesuffix(b": No such file or directory\n")
         shown = subprocess.run(["bash", "-c", b"printf %s " + quoted], stdout=subprocess.PIPE).stdout
         runs.holds([name], shown == os.fsencode(name) and b"$'" in said, said)
+    runs.wants(["x@'y"], "", f"'x@'\\''y': {os.strerror(errno.ENOENT)}", 1)
     runs.wants(["b", "-l", "256"], f"{digits}  b\n", env={"POSIXLY_CORRECT": "1"})
     os.makedirs(runs.path(deep := ("\udcff" * 255 + "/") * 4))
     runs.write(deep + "\udcff\udcff\udcff", b"")
