@@ -31,7 +31,7 @@ def family_rows():
                         ("K, bytes of the longest key", "key_bytes"),
                         ("M, bytes of the longest digest", "output_bytes"),
                         ("S, bytes of salt and of persona", "salt_bytes")):
-        yield f"| {label} | {{}} | {{}} |", *(FAMILY(name)[family].removeprefix("w") for family in LANGUAGES)
+        yield f"\n{label} {{}} {{}}", *(FAMILY(name)[family].removeprefix("w") for family in LANGUAGES)
     offsets, salts, reserved = (family_numbers("blake2_simd", "Family", name)
                                 for name in ("offset_bytes", "salt_bytes", "reserved_bytes"))
     at = [0, 0]
@@ -40,7 +40,7 @@ def family_rows():
                            ("inner length", 1, 1), ("reserved", *reserved), ("salt", *salts), ("persona", *salts)):
         ends = [begin + length for begin, length in zip(at, lengths)]
         cells = [f"{begin}..{end}" for begin, end in zip(at, ends) if begin < end]
-        yield f"| {name} | {{}} | {{}} |" if len(cells) == 2 else f"| {name} | {{}} | none |", *cells
+        yield f"\n{name} {{}} {{}} " if len(cells) == 2 else f"\n{name} {{}} none ", *cells
         at = ends
 
 

@@ -18,8 +18,8 @@ COLUMNS = {
     "Rust": ("rust/src/params.rs rust/src/tree_params.rs", r"\bpub {}: |\bpub fn {}\(self|\bnew\({}: "),
     "Python": ("python/vulfsjor/_library.pyi", r"\b{}: "),
     "JavaScript": ("js/index.d.ts", r"\b{}\??: "),
-    "`b2sum`": ("crates/b2sum_commands/src/option_names.rt", r'b"{}"'),
-    "`b2`": ("crates/b2_commands/src/help.rt", r"\b{}\b"),
+    "b2sum": ("crates/b2sum_commands/src/option_names.rt", r'b"{}"'),
+    "b2": ("crates/b2_commands/src/help.rt", r"\b{}\b"),
 }
 # Each row, and what its names have in them: no name of another row does.
 ROWS = {
@@ -32,17 +32,17 @@ ROWS = {
 
 def wrong_names():
     """The names of the parameters in each language (docs/GLOSSARY.md)"""
-    table = re.search(r"(?m)^\| parameter \|(.*)\|\n\|[-|]*\n((?:\|.*\n)+)", read(PAGE))
+    table = re.search(r"(?m)^parameter  (.*)\n((?:.*  .*\n)+)```$", read(PAGE))
     if not table:
         raise Unreadable(f"{PAGE}: no table of names")
-    columns = [cell.strip() for cell in table[1].split("|")]
-    rows = [[cell.strip() for cell in line.strip("|").split("|")] for line in table[2].splitlines()]
-    if columns != list(COLUMNS) or [row[0] for row in rows] != list(ROWS):
+    columns = re.split("  +", table[1].strip())
+    rows = [re.split("  +", line) for line in table[2].splitlines()]
+    if columns != list(COLUMNS) or [row[0] for row in rows] != list(ROWS) or {*map(len, rows)} != {len(COLUMNS) + 1}:
         yield f"{PAGE}: the table of names has other rows or columns: {columns}, {[row[0] for row in rows]}"
         return
     for row, *cells in rows:
         for column, cell in zip(COLUMNS, cells):
-            names = [name.lstrip("-").rstrip("=") for name in re.findall(r"`([^`]+)`", cell)]
+            names = [name.lstrip("-").rstrip("=") for name in cell.split(", ") if name != "none"]
             files, form = COLUMNS[column]
             text = "".join(map(read, files.split()))
             for name in names:
@@ -50,8 +50,6 @@ def wrong_names():
                     yield f"{PAGE}: {files} declares no {name}, as {column} calls the {row}"
                 if not re.search(ROWS[row], name):
                     yield f"{PAGE}: {name} is no name of the {row}"
-            if not names and cell != "none":
-                yield f"{PAGE}: no name of the {row} in {column}"
 
 
 # How each package has the lengths of hashes: its file, a form with the hash in small and in large letters and with a

@@ -87,19 +87,19 @@ rdiff_with_another_bit() {
 sizes_of_page() {
     printf '#include <stdio.h>\n%s\nint main(void) { %s return 0; }\n' "$2" "$3" >"$work/sizes.c" &&
         cc -std=c99 -I"$include" -o "$work/sizes" "$work/sizes.c" && "$work/sizes" >"$work/sizes.txt" &&
-        sed -n '/^## Sizes/,/^## [^S]/p' "$here/PORTING.md" | sed 1,/^.---/d | grep '^|' | cut -d '|' -f "$1" |
-        tr -d ' ' | grep . | diff - "$work/sizes.txt"
+        awk -F '  +' -v column="$1" '/^state  /, $0 == "```" { if ($column ~ /^[0-9]+$/) print $column }' \
+            "$here/PORTING.md" | diff - "$work/sizes.txt"
 }
 sizes_here() {
-    sizes_of_page 3 '#include <vulfsjor.h>' "$(printf 'printf("%%zu\\n", sizeof(vulfsjor_%s_state));' \
+    sizes_of_page 2 '#include <vulfsjor.h>' "$(printf 'printf("%%zu\\n", sizeof(vulfsjor_%s_state));' \
         blake2{b,s,bp,sp,xb,xs} tree)"
 }
 sizes_of_libb2() {
-    sizes_of_page 4 '#include <stddef.h>
+    sizes_of_page 3 '#include <stddef.h>
 #include <blake2.h>' "$(printf 'printf("%%zu\\n", sizeof(blake2%s_state));' b s bp sp)"
 }
 sizes_of_libsodium() {
-    sizes_of_page 5 '#include <sodium.h>' 'printf("%zu\n", sizeof(crypto_generichash_state));'
+    sizes_of_page 4 '#include <sodium.h>' 'printf("%zu\n", sizeof(crypto_generichash_state));'
 }
 # What PORTING.md says of libsodium's calls.
 said_of_libsodium() {
