@@ -86,12 +86,13 @@ class Row(NamedTuple):
         name = self.target()[0]
         if isinstance(source, dict) or not name:
             return "", source[name] if name else source.split("\n"), ""
-        m = re.search(r'^"?%s_\d+_[a-z0-9]+"?:.*\n((?s:.*?))^\t\.size\t' % re.escape(name), source, re.M)
-        if not m:
+        labels = re.finditer(r'%s_\d+_[a-z0-9]+"?:.*\n' % re.escape(name), source)
+        first = next((m.end() for m in labels if re.fullmatch(r'[\n"]|', source[m.start() - 1:m.start()])), 0)
+        if not first:
             raise NoMatch("there is no %s" % name)
-        first, last = m.span(1)
+        last = source.index("\n\t.size\t", first - 1) + 1
         if self.function.endswith(" data"):
-            first, last = source.rfind("\n\t.size\t", 0, m.start()) + 1, m.start()
+            first, last = source.rfind("\n\t.size\t", 0, first) + 1, source.rfind("\n", 0, first - 1) + 1
         return source[:first], source[first:last].split("\n"), source[last:]
 
     def edit(self, source: Any) -> Any:

@@ -36,9 +36,10 @@ MARKS = {"x86_64": (0xc0000002, 3), "aarch64": (0xc0000000, 1)}
 DIRECTIVES = frozenset("ascii asciz byte file globl hidden hword ident long p2align popsection quad "
                        "pushsection section short size type weak word xword zero".split())
 OF_DATA = frozenset("ascii asciz byte hword long quad short word xword zero".split())
-DIRECTIVE = re.compile(r"(?:^|[;/]|(?<!:lo12):)\s*\.([a-z]\w*)\b(?![\w.$]*\s*:)", re.I | re.M)
-# What the files do not have: what a preprocessor reads, comments, and other values of symbols.
-OTHER = re.compile(r"^\s*#|//|/\*|=", re.M)
+DIRECTIVE = re.compile(r"(?:^|[;/]|(?<!:lo12):)\s*\.([a-z]\w*)\b(?![\w.$]*\s*:)(?:\s+([\w.]+))?", re.I)
+# A line that is a comment, or a string; and what the files do not have: what a preprocessor reads, comments, and other
+# values of symbols.
+IGNORED, OTHER = re.compile(r'^/\*[^*"]*\*/$|"(?:[^"\\]|\\.)*"'), re.compile(r"^\s*#|//|/\*|=")
 # How instructions begin that processors of a file's level do not have: those with a prefix of AVX, and of AVX-512.
 LATER = {"v2.s": re.compile(r"(?:66|67|f[023]|26|2e|36|3e|6[45])*(?:c[45]|62)"),
          "v3.s": re.compile(r"(?:66|67|f[023]|26|2e|36|3e|6[45])*62")}
@@ -120,15 +121,7 @@ class Program:
     def read_text(self, edit: Callable) -> None:
         """The functions of an assembly text."""
         text = edit(source(self.path))
-        code = re.sub(r'^/\*[^*]*\*/$|"(?:[^"\\\n]|\\.)*"', "", text, flags=re.M)
-        if OTHER.search(code):
-            raise CannotShow("a comment, or a symbol with a value: %s" % OTHER.split(code)[0].split("\n")[-1])
-        other = {name.lower() for name in DIRECTIVE.findall(text)} - DIRECTIVES
-        if other:
-            raise CannotShow("the directive .%s, which may mean something else to another assembler" % min(other))
-        replaced = predefined(self.kind) & set(re.findall(r"[A-Za-z_]\w*", code))
-        if replaced:
-            raise CannotShow("a preprocessor replaces %s, and dist/vulfsjor.S includes the text" % min(replaced))
+        check_text(text, self.kind)
         compiler, prefix, style = TOOLS[self.kind]
         with tempfile.TemporaryDirectory() as d:
             s, o, so = (os.path.join(d, "a" + suffix) for suffix in (".s", ".o", ".so"))
@@ -143,12 +136,12 @@ class Program:
             self.constants = constants(elf.Elf(so))
             out = subprocess.run([prefix + "objdump", "-dzrt", "--insn-width=16"] + style + [so],
                                  check=True, stdout=subprocess.PIPE, text=True).stdout
-        check_data(text)
+        table, _, code = out.partition("\nDisassembly of ")
         # The address, the section, the size and the name of each symbol.
         self.symbols = [(int(m[1], 16), m[2], int(m[3], 16), m[4]) for m in re.finditer(
-            r"^([0-9a-f]{16}) .{7} (\S+)\t([0-9a-f]{16})(?: \.\w+)? (.+)$", out, re.M)]
+            r"^([0-9a-f]{16}) .{7} (\S+)\t([0-9a-f]{16})(?: \.\w+)? (.+)$", table, re.M)]
         self.functions = {}
-        for name, body in re.findall(r"^[0-9a-f]+ <(.*)>:\n((?:.+\n)*)", out, re.M):
+        for name, body in re.findall(r"^[0-9a-f]+ <(.*)>:\n((?:.+\n)*)", code, re.M):
             self.functions.setdefault(without_version(name), []).extend(
                 line for line in body.splitlines() if ":\t" in line or ": R_" in line)
 
@@ -319,15 +312,31 @@ def found(pattern: str, text: str) -> Any:
     return m
 
 
-def check_data(text: str) -> None:
-    """Refuses data between instructions: objdump shows some bytes as instructions that processors refuse."""
+def check_text(text: str, kind: str) -> None:
+    """Refuses a text that other tools may read otherwise, and data between instructions: objdump shows some bytes as
+    instructions that processors refuse."""
     section = ".text"
-    for m in DIRECTIVE.finditer(text):
-        if m[1].lower().endswith("section"):           # what popsection goes back to may be code
-            name = re.match(r"\s+([\w.]+)", text[m.end():])
-            section = name[1] if name and m[1].lower() != "popsection" else ".text"
-        elif m[1].lower() in OF_DATA and not section.startswith((CONSTANTS, ".note")):
-            raise CannotShow("there may be data between instructions: .%s in %s" % (m[1], section))
+    for line in text.split("\n"):
+        for name, what in directives(line, kind):
+            if name.endswith("section"):               # what popsection goes back to may be code
+                section = what if what and name != "popsection" else ".text"
+            elif name in OF_DATA and not section.startswith((CONSTANTS, ".note")):
+                raise CannotShow("there may be data between instructions: .%s in %s" % (name, section))
+
+
+@functools.lru_cache(maxsize=None)
+def directives(line: str, kind: str) -> list:
+    """The directives of a line, each with the word behind it."""
+    code = IGNORED.sub("", line)
+    if OTHER.search(code):
+        raise CannotShow("a comment, or a symbol with a value: %s" % line)
+    replaced = predefined(kind) & set(re.findall(r"[A-Za-z_]\w*", code))
+    if replaced:
+        raise CannotShow("a preprocessor replaces %s, and dist/vulfsjor.S includes the text" % min(replaced))
+    found = [(m[1].lower(), m[2]) for m in DIRECTIVE.finditer(line)]
+    if not DIRECTIVES.issuperset(name for name, _ in found):
+        raise CannotShow("a directive that may mean something else to another assembler: %s" % line)
+    return found
 
 
 @functools.lru_cache(maxsize=None)
