@@ -121,8 +121,7 @@ class Row(NamedTuple):
         name, show, arguments = self.target()
         try:
             program = programs.Program(self.path, self.edit)
-            content = show is compression.show and programs.read(self.path).content(name)  # a module's is None
-            if content and program.content(name) == content:
+            if show is compression.show and program.content(name) == programs.read(self.path).content(name):
                 return "not ok", "the proof of the old code would be taken for this one"
             show(program, *arguments)
         except NoMatch as e:

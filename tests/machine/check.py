@@ -21,6 +21,7 @@ skipped.
 import gc
 import glob
 import hashlib
+import itertools
 import multiprocessing
 import os
 import platform
@@ -407,24 +408,38 @@ def run(job: Job) -> tuple:
 
 
 def run_number(k: int) -> tuple:
-    """The verdict of a job, and the files that it has read."""
+    """The verdict of a job, the files that it has read, and what it has learnt of the stack."""
     programs.READ.clear()
-    return run(ALL[k]), set(programs.READ)
+    return run(ALL[k]), set(programs.READ), compression.FRAMES
+
+
+def run_side_by_side(jobs: list) -> Iterator[tuple]:
+    """The verdicts of some jobs by their numbers, each with the files that it has read."""
+    if not jobs:
+        return
+    gc.freeze()                        # what the processes share need not be looked at again
+    with multiprocessing.get_context("fork").Pool() as pool:
+        for result, files, frames in pool.imap(run_number, jobs, chunksize=1):
+            compression.FRAMES.update(frames)
+            yield result, files
 
 
 def run_all(verdicts: kept.Kept | None) -> Iterator[tuple]:
-    """The verdicts of all jobs. Those that are kept are not found again, and others are kept."""
+    """The verdicts of all jobs. Those that are kept are not found again, and others are kept. Whole calls need to know
+    how much of the stack a compression uses, so these come first."""
+    ALL.sort(key=lambda job: getattr(job.show, "func", None) is not compress)
     known = [verdicts.find(job.title) if verdicts and not job.gone else None for job in ALL]
-    with multiprocessing.get_context("fork").Pool() as pool:
-        new = pool.imap(run_number, [k for k, why in enumerate(known) if why is None], chunksize=1)
-        for job, why in zip(ALL, known):
-            if why is not None:
-                yield "ok", job.title, "kept from an earlier run: " + why
-                continue
-            (verdict, title, why), files = next(new)
-            yield verdict, title, why
-            if verdicts and verdict == "ok":
-                verdicts.keep(title, why, files)
+    jobs = [k for k, why in enumerate(known) if why is None]
+    first = [k for k in jobs if getattr(ALL[k].show, "func", None) is compress]
+    new = itertools.chain(run_side_by_side(first), run_side_by_side(jobs[len(first):]))
+    for job, why in zip(ALL, known):
+        if why is not None:
+            yield "ok", job.title, "kept from an earlier run: " + why
+            continue
+        (verdict, title, why), files = next(new)
+        yield verdict, title, why
+        if verdicts and verdict == "ok":
+            verdicts.keep(title, why, files)
     if verdicts:
         verdicts.save()
 

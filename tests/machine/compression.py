@@ -17,7 +17,8 @@ if TYPE_CHECKING:
     from program import Program
 
 STACK = 16384
-FRAMES: dict = {}                      # what frame() returns, by the content of the function
+# How many bytes of the stack below its return address a function uses that is shown, by its content.
+FRAMES: dict = {}
 
 
 def bytes_of(words: list) -> list:
@@ -318,17 +319,5 @@ def show(program: "Program", name: str, kind: R.Kind, lanes: int) -> tuple:
     except (T.Refused, Undecided) as e:
         at = " ".join(runner.at.text.split()) if runner.at else "the entry"
         raise (IsWrong if isinstance(e, IsWrong) else CannotShow)("at %s: %s" % (at, e))
-    FRAMES[identity(program, name)] = -runner.deepest
+    FRAMES[program.content(name)] = -runner.deepest
     return runner, time.time() - started
-
-
-def identity(program: "Program", name: str) -> Any:
-    return program.content(name) or (program, name)
-
-
-def frame(program: "Program", name: str, kind: R.Kind, lanes: int) -> int:
-    """How many bytes of the stack below its return address a function that compresses uses, by its proof. All terms
-    are forgotten."""
-    if identity(program, name) not in FRAMES:
-        show(program, name, kind, lanes)
-    return FRAMES[identity(program, name)]

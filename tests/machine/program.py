@@ -2,6 +2,7 @@
 WebAssembly module."""
 
 import functools
+import hashlib
 import os
 import re
 import struct
@@ -101,6 +102,7 @@ class Program:
         self.model, self.width = MODELS[self.kind], 64
         self.codes: dict = {}          # what code() has read
         self.extents: dict = {}        # and extent()
+        self.contents: dict = {}       # what content() has returned
         (self.read_module if self.kind == "wasm" else self.read_text)(edit)
 
     def read_module(self, edit: Callable) -> None:
@@ -237,14 +239,17 @@ class Program:
             raise CannotShow("objdump does not show all bytes of %s, one after the other" % name)
         return found
 
-    def content(self, name: str) -> Any:
-        """All that executing a function depends on: its instructions, and where constants are from its start on. None
-        for a module."""
-        if self.kind == "wasm":
-            return None
-        start, data = self.constants
-        return start - self.extent(name)[0], tuple(data), tuple(
-            m.groups()[1:] for m in map(LINE.match, self.functions[name]) if m)
+    def content(self, name: str) -> str:
+        """The hash of all that executing a function depends on: its instructions, and where constants are from its
+        start on."""
+        if name not in self.contents:
+            found: tuple = self.kind, self.functions[name]
+            if self.kind != "wasm":
+                start, data = self.constants
+                found = start - self.extent(name)[0], data, [
+                    m.groups()[1:] for m in map(LINE.match, self.functions[name]) if m]
+            self.contents[name] = hashlib.sha256(repr(found).encode()).hexdigest()
+        return self.contents[name]
 
     def extent(self, name: str) -> tuple:
         """Where the code of a function begins and ends. No other symbol may be in it."""

@@ -181,20 +181,19 @@ class Calls:
         self.listed = {functions.in_file(program.path, name): (kind, lanes)
                        for name, kind, lanes in functions.FILES[program.path]}
         self.answering = tuple(functions.IS_DIGEST_OF % f for f in ("blake2b", "blake2s"))
-        self.frames: dict = {}
         self.forget()
 
     def measure(self, name: str) -> None:
         """Finds how much of the stack a function uses that compresses. All terms are forgotten."""
-        self.frames[name] = compression.frame(self.program, name, *self.listed[name])
+        compression.show(self.program, name, *self.listed[name])
 
     def frame(self, name: str) -> int:
         """The same, if it was measured, of a function that compresses one block, or one of each message."""
         if self.listed[name][1] != 1 and compression.call_of(name) is not compression.EachCall:
             raise CannotShow("a compression of several messages")
-        if name not in self.frames:
+        if self.program.content(name) not in compression.FRAMES:
             raise Unmeasured(name)
-        return self.frames[name]
+        return compression.FRAMES[self.program.content(name)]
 
     def forget(self) -> None:
         self.results, self.compressed, self.count = {}, [], 0
