@@ -61,12 +61,12 @@ class Shape:
         self.limits: dict = {}         # inputs -> bounds
         equal = joined(self.parts(name, t) if t.op == "cat" or t.w != 64 else self.set(self.input(name), t)
                        for name, t in words_of(case, kinds))
-        claims = [c for f in case.known.before + (case.known,) if f.claim for c in f.claim(self.number, z3.Or)]
-        claims += [z3.And(0 <= v, v < 1 << t.w) for t, v in self.names.items()]
-        self.condition = z3.And([z3.BoolVal(c) if isinstance(c, bool) else c for c in equal + claims])
+        claims = [c for f in case.known.before + (case.known,) if f.claim for c in f.claim(self.number, facts.either)]
+        claims += [facts.is_word(v, t.w) for t, v in self.names.items()]
+        self.condition = facts.both(*(z3.BoolVal(c) if isinstance(c, bool) else c for c in equal + claims))
 
     def input(self, name: str, bits: int = 64) -> Any:
-        return self.inputs.setdefault(name, (z3.Int(name), (1 << bits) - 1))[0]
+        return self.inputs.setdefault(name, (facts.variable(name, bits)[0], (1 << bits) - 1))[0]
 
     def set(self, n: Any, t: T.Term) -> list:
         """That an input is a word. A variable that is a word of its own is named by the input. For the variables of
@@ -77,8 +77,8 @@ class Shape:
         constant, items = T.linear(t) if t.op == "add" else (0, {})
         new = sorted((u for u in items if variable_of(u) not in self.names), key=lambda u: -items[u])
         low = {u: self.case.limits[variable_of(u).args][0] for u in new}
-        rest = n - constant - z3.Sum([k * self.number(u) for u, k in items.items() if u not in new] +
-                                     [items[u] * low[u] for u in new])
+        others = [-k * self.number(u) for u, k in items.items() if u not in new]
+        rest = facts.total([n, -constant - sum(items[u] * low[u] for u in new), *others])
         for u in new:
             self.names[variable_of(u)], rest = low[u] + rest / items[u], rest % items[u]
         return [n == self.number(t)]
@@ -99,7 +99,7 @@ class Shape:
         """A word as an integer of Z3: a sum as one up to a multiple of 2^w."""
         t = variable_of(t)
         if t.op == "const":
-            return z3.IntVal(t.args)
+            return facts.constant(t.args)
         if t.op == "var" and t not in self.names and isinstance(t.args, tuple) and t.args[1].op == "const":
             self.names[t] = self.input("%s byte %d" % (t.args[0], t.args[1].args), t.w)         # of a buffer
         if t in self.names:
@@ -107,7 +107,7 @@ class Shape:
         if t.op != "add":
             raise CannotShow("%r is not by the inputs" % t)
         constant, items = T.linear(t)
-        return z3.Sum([z3.IntVal(constant)] + [k * self.number(u) for u, k in items.items()]) % (1 << t.w)
+        return facts.total([constant, *(k * self.number(u) for u, k in items.items())]) % (1 << t.w)
 
     def may_be(self, name: str, low: int, high: int) -> bool:
         """Whether an input may be between two numbers in this case."""
@@ -141,9 +141,9 @@ class Union:
     def need_part(self, part: tuple, without: Any = None) -> None:
         """Refuses numbers that no case has, of which one is between two bounds."""
         name, low, high = part
-        claims = [z3.And(0 <= n, n <= most) for n, most in self.inputs.values()]
+        claims = [facts.both(0 <= n, n <= most) for n, most in self.inputs.values()]
         claims += [self.is_pointer(pointer) for pointer in self.pointers]
-        claims += [z3.And(low <= n, n <= high) for n, _ in [self.inputs[name]]] if name else []
+        claims += [facts.both(low <= n, n <= high) for n, _ in [self.inputs[name]]] if name else []
         claims += [z3.Not(s.condition) for s in self.shapes if s.may_be(name, low, high) and s is not without]
         for seed in range(TRIES):
             solver = z3.Solver()

@@ -24,16 +24,76 @@ RELATIONS: dict = {"==": operator.eq, "!=": operator.ne, "<": operator.lt, "<=":
                    ">": operator.gt, ">=": operator.ge}
 
 
+def made(kind: Any, make: Callable, *parts: Any) -> Any:
+    """What Z3 makes of parts."""
+    return kind(make(z3.main_ctx().ref(), *[p.ast for p in parts]), z3.main_ctx())
+
+
+def made_of_all(kind: Any, make: Callable, parts: Iterable) -> Any:
+    """The same of any number of parts."""
+    held = list(parts)                 # until Z3 has what it makes of them
+    return kind(make(z3.main_ctx().ref(), len(held), (z3.Ast * len(held))(*[p.ast for p in held])), z3.main_ctx())
+
+
+def compares(name: str) -> Callable:
+    return lambda a, b: made(z3.BoolRef, getattr(z3, "Z3_mk_" + name), a, integer(b))
+
+
+BASE: Any = z3.ArithRef if z3 else object
+
+
+class Integer(BASE):
+    """An integer of Z3. It does not look for the type of another operand, which takes longer than what Z3 does: that is
+    one too, or a number."""
+
+    __lt__, __le__, __gt__, __ge__, __eq__ = map(compares, ("lt", "le", "gt", "ge", "eq"))
+    __ne__ = lambda a, b: made(z3.BoolRef, z3.Z3_mk_not, a == b)
+    __add__ = __radd__ = lambda a, b: total([a, b])
+    __rmul__ = lambda a, k: made_of_all(Integer, z3.Z3_mk_mul, (integer(k), a))
+    __truediv__ = lambda a, k: made(Integer, z3.Z3_mk_div, a, integer(k))
+    __mod__ = lambda a, k: made(Integer, z3.Z3_mk_mod, a, integer(k))
+    __hash__ = BASE.__hash__
+
+
+@functools.lru_cache(maxsize=None)
+def constant(n: int) -> Integer:
+    found = z3.IntVal(n)
+    return Integer(found.ast, z3.main_ctx())
+
+
+def integer(n: Any) -> Any:
+    return constant(n) if isinstance(n, int) else n
+
+
+def total(parts: Iterable) -> Integer:
+    """The sum of integers and numbers."""
+    return made_of_all(Integer, z3.Z3_mk_add, map(integer, parts))
+
+
+def both(*claims: Any) -> Any:
+    return made_of_all(z3.BoolRef, z3.Z3_mk_and, claims)
+
+
+def either(*claims: Any) -> Any:
+    return made_of_all(z3.BoolRef, z3.Z3_mk_or, claims)
+
+
 @functools.lru_cache(maxsize=None)
 def variable(name: str, w: int) -> tuple:
     """An integer of Z3 of this name, and that it has at most so many bits. Terms of later cases use it again."""
-    n = z3.Int(name)
-    return n, z3.And(0 <= n, n < 1 << w)
+    found = z3.Int(name)
+    n = Integer(found.ast, z3.main_ctx())
+    return n, is_word(n, w)
+
+
+def is_word(n: Integer, w: int) -> Any:
+    """That an integer has at most so many bits."""
+    return both(0 <= n, n < 1 << w)
 
 
 def number(t: T.Term) -> Any:
     """A term as an integer of Z3."""
-    return z3.IntVal(t.args) if t.op == "const" else variable("%s %d" % (t.op, t.serial), t.w)[0]
+    return constant(t.args) if t.op == "const" else variable("%s %d" % (t.op, t.serial), t.w)[0]
 
 
 def definition(t: T.Term) -> tuple:
@@ -44,24 +104,23 @@ def definition(t: T.Term) -> tuple:
     found = [in_range]
     if t.op == "add":
         inner = [u for u, _ in a[1]]
-        total = z3.Sum([a[0]] + [signed(t.w, k) * number(u) for u, k in a[1]])
         wraps, ks = variable("wraps %d" % t.serial, 0)[0], [signed(t.w, k) for _, k in a[1]]
-        found += [n == total + (1 << t.w) * wraps,             # within bounds, without which Z3 may search for long
+        parts = [a[0], (1 << t.w) * wraps, *(k * number(u) for k, u in zip(ks, inner))]
+        found += [n == total(parts),   # within bounds, without which Z3 may search for long
                   -sum(k for k in ks if k > 0) <= wraps, wraps <= -sum(k for k in ks if k < 0)]
     elif t.op in ("slice", "shr"):
         start = 8 * a[1] if t.op == "slice" else a[1]
         (low, is_low), (high, is_high) = (variable("%s %d" % (part, t.serial), bits) for part, bits in (
             ("below", start), ("above", max(a[0].w - start - t.w, 0))))
         inner = [a[0]]
-        found += [number(a[0]) == low + n * (1 << start) + high * (1 << start + t.w), is_low, is_high]
+        found += [number(a[0]) == total([low, (1 << start) * n, (1 << start + t.w) * high]), is_low, is_high]
     elif t.op == "cat":
-        parts = list(runs(a))
-        inner = [u for _, u in parts]
-        found.append(n == z3.Sum([number(u) * (1 << 8 * k) for k, u in parts]))
+        inner = [u for _, u in runs(a)]
+        found.append(n == total((1 << 8 * k) * number(u) for k, u in runs(a)))
     elif t.op == "xor":
         inner, claims = of_xor(t, n)
         found += claims
-    return inner, z3.And(found)
+    return inner, both(*found)
 
 
 def of_xor(t: T.Term, n: Any) -> tuple:
@@ -69,10 +128,11 @@ def of_xor(t: T.Term, n: Any) -> tuple:
     k, words = t.args
     if t.w == 8 and len(words) == 1:
         bits = [variable("bit %d %d" % (j, words[0].serial), 1) for j in range(8)]
-        total = lambda k: z3.Sum([(1 - bit if k >> j & 1 else bit) * (1 << j) for j, (bit, _) in enumerate(bits)])
-        return list(words), [number(words[0]) == total(0), n == total(k), *(claim for _, claim in bits)]
-    both = [u for u in (T.const(t.w, k), *words) if u is not T.const(t.w, 0)]
-    return (both, [(n == 0) == (number(both[0]) == number(both[1]))]) if len(both) == 2 else ([], [])
+        of = lambda k: total([k, *((-1 if k >> j & 1 else 1) * (1 << j) * bit for j, (bit, _) in enumerate(bits))])
+        return list(words), [number(words[0]) == of(0), n == of(k), *(claim for _, claim in bits)]
+    two = [u for u in (T.const(t.w, k), *words) if u is not T.const(t.w, 0)]
+    return (two, [made(z3.BoolRef, z3.Z3_mk_iff, n == 0, number(two[0]) == number(two[1]))]) if (
+        len(two) == 2) else ([], [])
 
 
 def runs(data: tuple) -> Iterator:
@@ -162,8 +222,8 @@ class Facts:
             known += sign * constant
             if any(k >> 63 for k in (constant, *items.values())):
                 raise T.CannotShow("%r may be less than 0" % t)
-        total = lambda of: sum((k * of(u) for k, u in parts), known)
-        return Facts(lambda of, _: [low <= total(of), total(of) <= high], tuple(u for _, u in parts), self)
+        of_all = lambda of: sum((k * of(u) for k, u in parts), known)
+        return Facts(lambda of, _: [low <= of_all(of), of_all(of) <= high], tuple(u for _, u in parts), self)
 
     def with_or(self, r: T.Term, a: T.Term, b: T.Term) -> "Facts":
         """With the bounds of an or of two words: it is no less than either, and no more than their sum."""
@@ -194,7 +254,7 @@ class Facts:
         while self.asserted and self.asserted[-1][0] not in wanted:
             self.pop()
         for f in wanted[len(self.asserted):]:
-            self.push(f, f.claim(number, z3.Or) if f.claim else (), f.words)
+            self.push(f, f.claim(number, either) if f.claim else (), f.words)
         self.push(None, claims, words)
         answer = self.solver.check()
         model: Any = False if answer == z3.unsat else None
@@ -285,7 +345,7 @@ class Facts:
             found = {t: model(t) for t in rest} if model else {}
             while found:               # until no other value of one of them is possible
                 found = {t: n for t, n in found.items() if all(m(t) == n for m in self.models)}
-                model = self.ask([z3.Or([number(t) != n for t, n in found.items()])], found)
+                model = self.ask([either(*(number(t) != n for t, n in found.items()))], found)
                 if model is False:
                     break
                 found = found if model else {}
@@ -311,4 +371,5 @@ def _forget() -> None:
     """Lets go of Z3's objects before its library goes."""
     T.reset()
     variable.cache_clear()
+    constant.cache_clear()
     Facts.forget()
