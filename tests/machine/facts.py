@@ -331,9 +331,11 @@ class Facts:
         if t.op == "const":
             return t.args, t.args
         if t not in self.ranges:
-            n = lambda k: T.const(t.w, k)
-            self.ranges[t] = (least(lambda k: not self.imply(">", t, n(k)), (1 << t.w) - 1),
-                              least(lambda k: self.imply("<=", t, n(k)), (1 << t.w) - 1))
+            top, n = (1 << t.w) - 1, lambda k: T.const(t.w, k)
+            self.are_possible()        # which may find numbers
+            known = [m(t) for m in self.models if T.variables(t) <= self.variables]
+            self.ranges[t] = (least(lambda k: not self.imply(">", t, n(k)), min(known, default=top)),
+                              least(lambda k: self.imply("<=", t, n(k)), top, max(known, default=0)))
         return self.ranges[t]
 
     def values(self) -> dict:
@@ -353,11 +355,13 @@ class Facts:
         return self.fixed
 
 
-def least(f: Callable, top: int) -> int:
-    """The least number up to `top` from which on f holds."""
+def least(f: Callable, top: int, low: int = 0) -> int:
+    """The least number from `low` up to `top` from which on f holds."""
+    if low == top or f(low):
+        return low
     if not f(top - 1):
         return top
-    low, high = 0, 0
+    high = low
     while not f(high):
         low, high = high + 1, min((high + 2) ** 2 - 1, top)
     while low < high:
