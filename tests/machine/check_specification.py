@@ -30,7 +30,6 @@ class Numbers(Terms):
         return int(x == y)
 
     def compress(self, kind: R.Kind, chain: list, block: list, count: Any, last: int, node: int) -> list:
-        T.reset()                      # what is left are numbers
         return R.compress(kind, chain, block, value(count), last, node)
 
     def compress_all(self, kind: R.Kind, chain: list, data: Any, start: Any, k: Any, count: Any) -> list:

@@ -1,4 +1,4 @@
-"""The compression function F of RFC 7693, section 3.2, over terms."""
+"""The compression function F of RFC 7693, section 3.2, over terms and over numbers."""
 
 from typing import Any, Callable
 
@@ -48,9 +48,10 @@ BLAKE2S = Kind("blake2s", 32, 10, (16, 12, 8, 7))
 
 def compress(kind: Kind, chain: list, block: list, count: int, last: int, node: int) -> list:
     """The bytes of the chaining words after a block, of numbers: bytes, a counter, and flags that are 0 or 1."""
-    words = lambda data: [T.word(data[k:k + kind.bytes]) for k in range(0, len(data), kind.bytes)]
-    numbers = (T.const(kind.w, n) for n in (count, count >> kind.w, -last, -node))
-    return [b for t in F(kind, words(chain), words(block), *numbers) for b in T.split(t)]
+    words = lambda data: [int.from_bytes(data[k:k + kind.bytes], "little") for k in range(0, len(data), kind.bytes)]
+    low, high, f0, f1 = (n & (1 << kind.w) - 1 for n in (count, count >> kind.w, -last, -node))
+    found = F(kind, words(bytes(chain)), words(bytes(block)), low, high, f0, f1, Numbers)
+    return [b for n in found for b in n.to_bytes(kind.bytes, "little")]
 
 
 def compress_all(kind: Kind, chain: list, data: Callable, start: int, blocks: int, count: int) -> list:
@@ -61,20 +62,29 @@ def compress_all(kind: Kind, chain: list, data: Callable, start: int, blocks: in
     return chain
 
 
-def F(kind: Kind, h: list, m: list, low: T.Term, high: T.Term, last: T.Term, last_node: T.Term) -> list:
+class Numbers:
+    """The operations of F on numbers, as terms.py has them on terms."""
+
+    const = staticmethod(lambda w, n: n)
+    add = staticmethod(lambda w, a, b, c=(0, 0): a[0] * a[1] + b[0] * b[1] + c[0] * c[1] & (1 << w) - 1)
+    xor = staticmethod(lambda w, a, b, c=0: a ^ b ^ c)
+    ror = staticmethod(lambda w, n, k: (n >> k | n << w - k) & (1 << w) - 1)
+
+
+def F(kind: Kind, h: list, m: list, low: Any, high: Any, last: Any, last_node: Any, words: Any = T) -> list:
     """The chaining words after a block. `low` and `high` are the words of the counter, and the flags are words of
-    zeros or ones; the second is that of the last node (BLAKE2, 2.10)."""
-    w = kind.w
-    v = list(h) + [T.const(w, n) for n in kind.iv]
+    zeros or ones; the second is that of the last node (BLAKE2, 2.10). `words` has the operations."""
+    w, add, xor, ror = kind.w, words.add, words.xor, words.ror
+    v = list(h) + [words.const(w, n) for n in kind.iv]
     for k, t in enumerate((low, high, last, last_node), 12):
-        v[k] = T.xor(w, v[k], t)
+        v[k] = xor(w, v[k], t)
     r1, r2, r3, r4 = kind.rotations
     for i in range(kind.rounds):
         s = SIGMA[i % 10]
         for k, (a, b, c, d) in enumerate(COLUMNS_AND_DIAGONALS):
             for x, p, q in ((m[s[2 * k]], r1, r2), (m[s[2 * k + 1]], r3, r4)):
-                v[a] = T.add(w, (1, v[a]), (1, v[b]), (1, x))
-                v[d] = T.ror(w, T.xor(w, v[d], v[a]), p)
-                v[c] = T.add(w, (1, v[c]), (1, v[d]))
-                v[b] = T.ror(w, T.xor(w, v[b], v[c]), q)
-    return [T.xor(w, h[k], v[k], v[k + 8]) for k in range(8)]
+                v[a] = add(w, (1, v[a]), (1, v[b]), (1, x))
+                v[d] = ror(w, xor(w, v[d], v[a]), p)
+                v[c] = add(w, (1, v[c]), (1, v[d]))
+                v[b] = ror(w, xor(w, v[b], v[c]), q)
+    return [xor(w, h[k], v[k], v[k + 8]) for k in range(8)]
