@@ -69,6 +69,7 @@ SHORT_WRITTEN = {"blake2b": ARM, "blake2s": V3, "blake2xb": V3, "": V3}
 SHORT_COVERED = ("", "blake2s")        # the families whose cases are compared with all calls
 SHORT_RUN = {(V3, ""): ["memcmp", "wipe"], (V3, "blake2s"): ["_final", "_update"], (ARM, "blake2s"): ["_final"]}
 SHORT_INSTRUCTIONS = {(path, "W") for path in changes.FILES.values()} | {(ARM, "T")}
+SHORT_OTHERS = (changes.FILES["v4"], changes.FILES["v2"])      # whose instructions run if V3 has none of their forms
 LONG_CALLS = ("vulfsjor_ffi_tree_root", "vulfsjor_ffi_tree_update_leaves")     # which take too long then
 ALL_OF_X = V3                          # where --long shows all cases of BLAKE2X; elsewhere some, and it follows secrets
 # The users of forms.txt, and how often each instruction runs: without --long, and with it.
@@ -263,7 +264,8 @@ def instructions(path: str, user: str) -> tuple:
     rounds = ROUNDS[user][is_long()]
     if functions.architecture(path) == "wasm":
         return check_wasm_instructions.check(path, rounds)
-    return check_instructions.check(path, user, rounds)[:2]
+    other = "" if is_long() or path not in SHORT_OTHERS or not_runnable(V3) else V3
+    return check_instructions.check(path, user, rounds, other)[:2]
 
 
 def table_of_forms(kind: str, paths: list) -> tuple:

@@ -202,14 +202,23 @@ def executed(program: "Program", user: str) -> list:
     return reached(program, names, listed + scrubs)
 
 
-def chosen(program: "Program", user: str, count: int, rng: Any) -> tuple:
-    """The forms that are executed for a user, except those that are part of whole functions only, and up to `count`
-    instructions of each, as (text, base register)."""
+def texts_by_form(program: "Program", user: str) -> dict:
+    """The instructions that are executed for a user, by their forms, except those that are part of whole functions
+    only."""
     found: dict = {}
     for text in sorted({text for name in executed(program, user) for text in program.texts(name)}):
         f = forms.form(program.kind, text)
         if not forms.CONTROL[program.kind].fullmatch(f):
-            found.setdefault(f, set()).add(rewritten(program.kind, text))
+            found.setdefault(f, []).append(text)
+    return found
+
+
+def chosen(program: "Program", user: str, count: int, rng: Any, other: "Program | None" = None) -> tuple:
+    """The forms that are executed for a user, but not in another program, and up to `count` instructions of each, as
+    (text, base register)."""
+    left_out = texts_by_form(other, user) if other else {}
+    found = {f: {rewritten(program.kind, text) for text in texts}
+             for f, texts in texts_by_form(program, user).items() if f not in left_out}
     return set(found), [t for f in sorted(found) for t in rng.sample(sorted(found[f]), min(count, len(found[f])))]
 
 
@@ -250,17 +259,25 @@ def places_of(program: "Program", m: Any, written: dict) -> Iterator:
     yield from ((place, [b]) for place, b in written.items())
 
 
+def numbers(data: list) -> bytes | None:
+    """Bytes, if all are numbers."""
+    try:
+        return bytes(data)
+    except TypeError:
+        return None
+
+
 def difference(program: "Program", m: Any, buf: T.Term, before: list, after: list) -> str | None:
     """What is called public and differs between the states after one or two runs, or is another number than in the
     first, or None."""
     one = after[0]
     base = struct.unpack_from("<Q", one, LAST)[0]
-    numbers = {buf: T.const(64, base)}
+    at_base = {buf: T.const(64, base)}
     written = {MEMORY + BUFFER + base % 2 + k: b for (of, k), b in m.memory.items() if of is buf}
-    number_of = lambda b: b if isinstance(b, int) else T.split(T.substitute(T.word([b]), numbers, {}))[0]
+    number_of = lambda b: b if isinstance(b, int) else T.split(T.substitute(T.word([b]), at_base, {}))[0]
     for start, data in places_of(program, m, written):
-        if all(isinstance(b, int) for b in data) and all(
-                state[start:start + len(data)] == bytes(data) for state in after):
+        known = numbers(data)
+        if known is not None and all(state[start:start + len(data)] == known for state in after):
             continue
         for at, b in enumerate(data, start):
             if is_secret(b):
@@ -377,7 +394,6 @@ def runs_of(program: "Program", user: str, tests: list, rounds: int, rng: Any) -
 
 def accepts(*arguments: Any) -> bool:
     """Whether the model executes what machine() has to."""
-    T.reset()
     try:
         machine(*arguments)
     except T.Refused:
@@ -387,24 +403,26 @@ def accepts(*arguments: Any) -> bool:
 
 def are_known(program: "Program", m: Any, buf: T.Term) -> bool:
     """Whether the model has a number in each register, and in all that is written."""
-    return all(isinstance(b, int) or T.variables(b[0]) == {buf} for _, data in places_of(program, m, m.memory)
-               for b in data)
+    return all(numbers(data) is not None or all(isinstance(b, int) or T.variables(b[0]) == {buf} for b in data)
+               for _, data in places_of(program, m, m.memory))
 
 
-def check(path: str, user: str, rounds: int) -> tuple:
+def check(path: str, user: str, rounds: int, other: str = "") -> tuple:
     """Whether the model agrees with the processor: a verdict, the numbers or what differs, and the forms that were
-    run."""
+    run. Those of another file are left out."""
     program, (seed, count, tenths) = read(path), USERS[user]
     rng = random.Random(seed)
-    used, tests = chosen(program, user, count if rounds > 5 else 1 + (user == "W"), rng)
+    T.reset()
+    count = count if rounds > 5 else 1 + (user == "W")
+    used, tests = chosen(program, user, count, rng, read(other) if other else None)
     exact = {forms.form(program.kind, t) for name in compressing(program) * (user == "W") for t in program.texts(name)}
-    extra = [*EXTRA[program.kind] * (user == "W"), *pairs(program.kind, tests, rng)]
+    extra = [*EXTRA[program.kind] * (user == "W"), *pairs(program.kind, tests, rng)] if not other else []
     first, tests = len(tests), tests + extra
     runs = list(runs_of(program, user, tests, rounds, rng))
     after_all = iter(execute(program.kind, tests, vectors_of(path), (x for r in runs for x in r.inputs())))
     done: dict = {}                    # the tests that ran, each with whether the model has known all of a run
     for n, r in enumerate(runs):
-        if n % 50 == 0:
+        if n % 500 == 0:
             T.reset()
         text, base = tests[r.test]
         after = list(itertools.islice(after_all, len(r.states)))
