@@ -120,6 +120,7 @@ class Values:
     # head of any iteration of a loop. What grows there has more after an iteration, and loops.py joins or forgets it.
     PARTS: dict = {
         **dict.fromkeys(("regions", "processor", "alignment", "stack", "at_start", "labels"), (KEPT, KEPT)),
+        "bottom": (KEPT, GROWS),
         **dict.fromkeys(("globals", "locals", "operands", "memory"), (KEPT, SET)),
         **dict.fromkeys(("general", "vector"), (SET, SET)), **dict.fromkeys(("flags", "masks"), (LOST, LOST))}
 
@@ -139,7 +140,8 @@ class Values:
     def __init__(self, regions: dict, processor: Any, alignment: tuple) -> None:
         self.regions, self.processor, self.alignment = regions, processor, alignment
         self.memory: dict = {}         # (base, offset) -> byte
-        self.stack: Any = None         # the base of the stack
+        self.stack: Any = None         # the base of the stack, below whose bottom nothing is known
+        self.bottom = -processor.RED_ZONE
         self.flags = Flags(UNKNOWN)
         self.masks = self.unknown_masks()
         self.labels: list = []         # of the blocks of WebAssembly that are open
@@ -247,8 +249,9 @@ class Values:
         low = self.lowest()
         if not self.regions[self.stack].low <= low <= 0:
             raise IsWrong("the stack pointer leaves the stack")
-        for key in [k for k in self.memory if k[0] is self.stack and k[1] < low]:
-            del self.memory[key]
+        for k in range(self.bottom, low):
+            self.memory.pop((self.stack, k), None)
+        self.bottom = low
 
     # Memory.
 
@@ -464,8 +467,10 @@ def need_public(t: T.Term, what: str) -> None:
 
 
 def junk(name: str, n: int) -> list:
-    """n bytes of undefined data."""
-    return [(T.var(8, "%s.%d" % (name, k), T.JUNK), 0) for k in range(n)]
+    """n bytes of undefined data, as words of 8 bytes."""
+    sizes = [min(8, n - k) for k in range(0, n, 8)]
+    return [(t, j) for k, size in enumerate(sizes) for t in [T.var(8 * size, "%s.%d" % (name, k), T.JUNK)]
+            for j in range(size)]
 
 
 def unknown_bit() -> list:

@@ -115,7 +115,7 @@ class Exact(Values):
     """Terms over the variables of a call. Facts decide how public ones compare."""
 
     PARTS = {**Values.PARTS, **dict.fromkeys(("compared_bytes", "is_kept", "pieces"), (KEPT, KEPT)), **dict.fromkeys((
-        "path_facts", "apart", "inside", "deepest", "is_scrubbed", "secrets", "pc"), (KEPT, GROWS))}
+        "path_facts", "apart", "inside", "deepest", "is_scrubbed", "secrets", "pc", "settled_values"), (KEPT, GROWS))}
 
     def __init__(self, regions: dict, processor: Any, alignment: tuple, known: Facts | None = None) -> None:
         super().__init__(regions, processor, alignment)
@@ -130,6 +130,7 @@ class Exact(Values):
         self.is_kept: Callable = is_secret_byte        # which bytes are secret there
         self.inside: dict = {}         # places of outputs that are known to be inside: offsets and sizes
         self.pieces: tuple = ()        # what was written to buffers at offsets that are terms, in order
+        self.settled_values = 0        # how many values settle() has used
 
     def go_down(self, low: int) -> None:
         """Uses the stack down to a place."""
@@ -143,8 +144,9 @@ class Exact(Values):
         """A compression has used so many bytes of the stack, for secrets."""
         low = self.lowest()
         self.go_down(low - frame)
-        has_key = any(is_of_key(b) for r in self.general + self.vector for b in r)
-        self.keep_secrets(dict.fromkeys(range(low - frame, low), has_key))
+        terms = {b[0] for r in self.general + self.vector for b in r if isinstance(b, tuple)}
+        is_key = any(t.taint & T.SECRET and has_key(t) for t in terms)
+        self.keep_secrets(dict.fromkeys(range(low - frame, low), is_key))
 
     def keep_secrets(self, others: dict) -> None:
         """Adds places where a secret may be, each with whether a byte of a key may be there."""
@@ -178,6 +180,8 @@ class Exact(Values):
 
     def is_left(self, j: int, start: int) -> bool:
         """Whether all are zero, from one on, or each is as at the entry or left by the C library."""
+        if self.vector[j][start:] == self.at_start["vector"][j][start:]:
+            return True
         data = list(enumerate(self.vector[j]))[start:]
         return all(b == 0 for _, b in data) or all(b != 0 and self.may_be_left(j, k, b) for k, b in data)
 
@@ -215,6 +219,9 @@ class Exact(Values):
 
     def settle(self) -> None:
         """The same of all bytes that a path has made, after it has learnt something."""
+        known, self.settled_values = self.settled_values, len(self.path_facts.values())
+        if known == self.settled_values:
+            return
         byte = self.settler()
         for name in self.processor.FILES:
             setattr(self, name, [[byte(b) for b in r] for r in getattr(self, name)])
@@ -441,17 +448,19 @@ class Exact(Values):
             raise IsWrong("%r is below the stack" % address)
         return base, offset, region
 
-    def byte_at(self, base: T.Term, offset: int, region: Cells) -> T.Byte:
-        """The byte at an offset: a number, or a term in memory that is only read."""
-        if region.writable and (isinstance(offset, T.Term) or self.pieces and any(
-                p.base is base for p in self.pieces)):
-            raise CannotShow("it reads at an offset that is not a number: %r" % offset)
-        found = self.memory.get((base, offset))
-        return region.initial(offset) if found is None else found
+    def bytes_at(self, base: T.Term, places: Any, region: Cells) -> list:
+        """The bytes at offsets: numbers, or terms in memory that is only read."""
+        if region.writable and (not isinstance(places, range) or any(p.base is base for p in self.pieces)):
+            raise CannotShow("it reads at an offset that is not a number: %r" % places)
+        found = [self.memory.get((base, at)) for at in places]
+        if None not in found:
+            return found
+        byte = self.settler()
+        return [byte(region.initial(at)) if b is None else b for at, b in zip(places, found)]
 
     def load(self, address: T.Term, size: Any, aligned: bool = False) -> list:
         base, offset, region = self.place(address, size, aligned)
-        return [self.byte_at(base, at, region) for at in offsets(offset, size)]
+        return self.bytes_at(base, offsets(offset, size), region)
 
     def store(self, address: T.Term, data: list, aligned: bool = False) -> None:
         base, offset, region = self.place(address, len(data), aligned)
@@ -489,10 +498,10 @@ class Exact(Values):
             low, high = self.bounds(region, offset)[0], self.bounds(region, total(offset, length))[1]
             if high - low > 256 or base is self.stack and low < self.lowest():
                 raise CannotShow("a copy of %r bytes from %r" % (length, offset))
-            data = [self.byte_at(base, k, region) for k in range(low, high)]
+            data = self.bytes_at(base, range(low, high), region)
             self.add_piece(self.written(to, length), data, length, total(offset, T.const(64, low), -1))
         else:
-            data = [self.byte_at(base, at, region) for at in offsets(offset, self.most(length))]
+            data = self.bytes_at(base, offsets(offset, self.most(length)), region)
             self.write_some(to, data, length)
         return data
 
@@ -521,8 +530,8 @@ class Exact(Values):
                 base is self.stack and low < self.lowest()):
             raise CannotShow("a fill of %r bytes at %r" % (length, offset))
         places = range(low, end)
-        self.put(base, places, [below(self, k - signed(64, constant), size,
-                                      self.byte_at(base, k, region), byte) for k in places])
+        self.put(base, places, [below(self, k - signed(64, constant), size, old, byte)
+                                for k, old in zip(places, self.bytes_at(base, places, region))])
 
     def bounds(self, region: Cells, offset: T.Term) -> list:
         """A least and a greatest number that an offset may be."""
@@ -546,8 +555,8 @@ class Exact(Values):
             self.add_piece((base, offset, region), data, length)
             return
         places = offsets(offset, len(data))
-        self.put(base, places, [below(self, j, length, data[j], self.byte_at(base, at, region))
-                                for j, at in enumerate(places)])
+        self.put(base, places, [below(self, j, length, data[j], old)
+                                for j, old in enumerate(self.bytes_at(base, places, region))])
 
     def most(self, length: T.Term) -> int:
         need_public(length, "a length")

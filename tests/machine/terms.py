@@ -49,10 +49,11 @@ class IsWrong(Refused):
 class Term:
     """A word of w bits. Two terms of the same normal form are one object."""
 
-    __slots__ = ("op", "w", "args", "serial", "taint")
+    __slots__ = ("op", "w", "args", "serial", "taint", "sum")
 
     def __init__(self, op: str, w: int, args: Any, serial: int, taint: int) -> None:
         self.op, self.w, self.args, self.serial, self.taint = op, w, args, serial, taint
+        self.sum: Any = None           # of a sum, what linear() has returned
 
     def __repr__(self) -> str:
         return show(self, 3)
@@ -150,11 +151,11 @@ def leaves(f: Callable, w: int, *terms: Any) -> Term | None:
 
 def linear(t: Term) -> tuple:
     """The constant and the coefficients of a term as a sum."""
-    if t.op == "const":
-        return t.args, {}
-    if t.op == "add":
-        return t.args[0], dict(t.args[1])
-    return 0, {t: 1}
+    if t.op != "add":
+        return (t.args, {}) if t.op == "const" else (0, {t: 1})
+    if t.sum is None:
+        t.sum = t.args[0], dict(t.args[1])
+    return t.sum
 
 
 def need_width(w: int, *terms: Term) -> None:

@@ -250,6 +250,7 @@ class X86(Processor):
 
     def move_stack(self, n: int) -> None:
         self.values.general[RSP] = T.split(T.add(64, (1, self.values.stack_pointer()), (1, T.const(64, n))))
+        self.values.forget_below()
 
     def lost_vector(self, j: int, old: list, what: str) -> list:
         """Zeros above the bytes that belong to the call, and what is as before, stay for all calls that follow."""
