@@ -268,7 +268,7 @@ ARM, V3 = FILES["arm"], FILES["v3"]
 _Taint, _X86, S = constant_time.Taint, programs.x86.X86, check_specification.S
 PLANTED = (
     Planted("an operation that forgets secrets", _Taint, "mixed", lambda _: (
-        lambda self, data: constant_time.unknown()), check_instructions.check, (ARM, "T", 2), True),
+        lambda self, data: taint.UNKNOWN_BYTE), check_instructions.check, (ARM, "T", 2), True),
     Planted("a carry that inc sets", _X86, "add_and_keep_carry", lambda _: (
         lambda self, to, step: self.arithmetic(
             "other", lambda a, b: programs.x86.total(a, b, step), to, programs.x86.ONE)),

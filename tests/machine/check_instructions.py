@@ -24,7 +24,7 @@ import x86
 from machine import Cells, Flags
 from program import read, TOOLS
 from symbolic import Exact, Undecided
-from taint import Taint, is_secret, secret
+from taint import SECRET_BYTE, Taint, is_secret
 
 if TYPE_CHECKING:
     from program import Program
@@ -224,7 +224,7 @@ def chosen(program: "Program", user: str, count: int, rng: Any, other: "Program 
 
 def machine(program: "Program", user: str, text: str, base: int, data: bytes, places: set, odd: int = 0) -> tuple:
     """The machine after the instructions of a text, in which bytes at some places are secret."""
-    byte = lambda k: secret() if k in places else data[k]
+    byte = lambda k: SECRET_BYTE if k in places else data[k]
     word = lambda at, n: [byte(k) for k in range(at, at + n)] if places else list(data[at:at + n])
     memory, cpu = lambda k: byte(MEMORY + BUFFER + odd + k), program.model.Model
     buf = T.var(64, "buffer", T.PUBLIC)

@@ -11,7 +11,7 @@ import functions
 import program as programs
 import terms as T
 from machine import AFTER, SECRET, Aligned, Flags, image, joined, need_public, total
-from taint import TOP, Cells, Taint, is_secret, secret, unknown
+from taint import SECRET_BYTE, TOP, UNKNOWN_BYTE, Cells, Taint, is_secret
 from terms import CannotShow, IsWrong
 
 if TYPE_CHECKING:
@@ -93,16 +93,16 @@ def argument(m: Taint, kind: str, at: int, family: str, has_key: bool) -> list:
         for size, is_public, name in layout(family + "_state" if kind == STATE else kind):
             arrays += [range(len(cells), len(cells) + size)] * (not is_public)
             public = T.split(T.var(8 * size, "%s.%d" % (word.args, len(cells)), T.PUBLIC)) if is_public else []
-            key_size = unknown() if name == FIRST and family in VERIFYING else secret()
-            cells += public or [secret(), key_size, *[secret()] * (size - 2)]
+            key_size = UNKNOWN_BYTE if name == FIRST and family in VERIFYING else SECRET_BYTE
+            cells += public or [SECRET_BYTE, key_size, *[SECRET_BYTE] * (size - 2)]
         m.regions[word] = Cells(0, len(cells), lambda k: cells[k])
         m.regions[word].arrays = arrays
         return [word]
-    b = unknown() if kind == PUBLIC else secret()
+    b = UNKNOWN_BYTE if kind == PUBLIC else SECRET_BYTE
     m.regions[word] = Cells(0, 0, lambda k: b, kind == OUT, uniform=True)
     if kind == TABLE:
         text = T.var(64, "message", T.PUBLIC)
-        m.regions[text] = Cells(0, 0, lambda k: secret(), False, uniform=True)
+        m.regions[text] = Cells(0, 0, lambda k: SECRET_BYTE, False, uniform=True)
 
         def entry(n: Taint, place: tuple, size: int) -> list:
             """Bytes of the table, which has pairs of an address and a length, from a place on."""
@@ -126,7 +126,7 @@ def called(program: programs.Program, kinds: tuple, family: str, alignment: tupl
         words += argument(m, kind, len(words), family, has_key)
     sp, back = (T.var(64, name, T.PUBLIC) for name in ("sp", "return address"))
     above = joined(map(T.split, [back] * (program.kind == "x86_64") + words[len(cpu.ARGUMENTS):]))
-    m.regions[sp] = Cells(-STACK, len(above), lambda k: secret() if k < 0 else above[k])
+    m.regions[sp] = Cells(-STACK, len(above), lambda k: SECRET_BYTE if k < 0 else above[k])
     cpu(m).start(sp, back, words)
     return m
 
@@ -303,7 +303,7 @@ def compress(m: Any, arguments: list, name: str, kind: "Kind", lanes: int) -> No
         need_public(t, "an argument of a compression")
     for t, size in tables:
         need_public(T.word(m.load(t, size)), "a block's address, a counter or a flag")
-    m.store(arguments[0], [secret()] * (8 * kind.bytes * lanes))
+    m.store(arguments[0], [SECRET_BYTE] * (8 * kind.bytes * lanes))
 
 
 def exports(program: programs.Program) -> Iterator:

@@ -19,28 +19,19 @@ VISITS = 2                             # of a place, after which ranges are wide
 TABLE_STEP = 64                        # bytes from which an index is into a table, not an array
 
 
-@T.remembering
-def secret() -> T.Byte:
-    """A secret byte. All are the same term, because nothing is known about any."""
-    return T.var(8, "secret", T.SECRET), 0
+# A secret byte: all are the same term, because nothing is known about any; a public byte about which nothing is known;
+# and a secret byte that is 0 or 1. T.reset() does not forget them.
+SECRET_BYTE, UNKNOWN_BYTE, SECRET_BIT = (
+    (T.Term("var", 8, name, serial, taint), 0)
+    for serial, name, taint in ((-3, "secret", T.SECRET), (-2, "public", T.PUBLIC), (-1, "secret bit", T.SECRET)))
 
-
-@T.remembering
-def unknown() -> T.Byte:
-    """A public byte about which nothing is known."""
-    return T.var(8, "public", T.PUBLIC), 0
-
-
-@T.remembering
-def secret_bit() -> T.Byte:
-    """A secret byte that is 0 or 1."""
-    return T.var(8, "secret bit", T.SECRET), 0
+SECRET_WORD = [SECRET_BYTE] * 8
 
 
 def has_name(b: Any) -> Any:
     """Whether a secret byte keeps its name: a bit, and what a register has at the entry, which the call must
     restore."""
-    return b == secret_bit() or b[0].op == "var" and b[0].taint == T.JUNK
+    return b == SECRET_BIT or b[0].op == "var" and b[0].taint == T.JUNK
 
 
 def is_secret(b: T.Byte) -> bool:
@@ -51,7 +42,7 @@ def joined_byte(a: T.Byte, b: T.Byte) -> T.Byte:
     """A byte that is one of both."""
     if a == b:
         return a
-    return secret() if is_secret(a) or is_secret(b) else unknown()
+    return SECRET_BYTE if is_secret(a) or is_secret(b) else UNKNOWN_BYTE
 
 
 @T.remembering
@@ -139,25 +130,25 @@ class Taint(Values):
 
     def lost(self, n: int, what: str) -> list:
         """What a function leaves in a register."""
-        return [secret()] * n
+        return [SECRET_BYTE] * n
 
     def anything(self, n: int) -> list:
         """Public bytes of which nothing is known."""
-        return [unknown()] * n
+        return [UNKNOWN_BYTE] * n
 
     def cleaned(self, data: list, is_word: bool, name: str = "") -> list:
         """Bytes as they are kept: what depends on a secret is only secret. A word of which a byte is not known is a
         new variable."""
-        data = [secret() if is_secret(b) and not has_name(b) else b for b in data]
-        if not is_word or unknown() not in data:
+        data = [b if b is SECRET_BYTE or not is_secret(b) or has_name(b) else SECRET_BYTE for b in data]
+        if not is_word or UNKNOWN_BYTE not in data:
             return data
         if not any(map(is_secret, data)):
             return T.split(self.new(8 * len(data), "%s=%d" % (name, len(data))))
-        return [(self.new(8, "%s=%d." % (name, k)), 0) if b == unknown() else b for k, b in enumerate(data)]
+        return [(self.new(8, "%s=%d." % (name, k)), 0) if b == UNKNOWN_BYTE else b for k, b in enumerate(data)]
 
     def is_bit(self, b: T.Byte) -> bool:
         """Whether a byte is 0 or 1."""
-        return b == secret_bit() or not is_secret(b) and self.unsigned(T.word([b]))[1] <= 1
+        return b == SECRET_BIT or not is_secret(b) and self.unsigned(T.word([b]))[1] <= 1
 
     # Ranges.
 
@@ -284,7 +275,7 @@ class Taint(Values):
 
     def of_secrets(self, kind: str, f: Callable, a: T.Term, b: T.Term) -> list:
         self.flags = Flags(SECRET)
-        return [secret()] * (a.w // 8)
+        return [SECRET_BYTE] * (a.w // 8)
 
     def compare_again(self, a: list, b: list) -> None:
         """A comparison that is made only if the one before it holds."""
@@ -321,7 +312,7 @@ class Taint(Values):
         """The bytes a if a comparison holds, and otherwise b, without a branch."""
         truth = self.truth(compared)
         if truth is not None:
-            return [secret()] * len(a) if truth == "secret" else a if truth else b
+            return [SECRET_BYTE] * len(a) if truth == "secret" else a if truth else b
         if a == b:
             return a
         one, other = (self.supposing(compared, on) for on in (True, False))
@@ -346,7 +337,7 @@ class Taint(Values):
         """A byte that is 1 if a comparison holds, and otherwise 0."""
         truth = self.truth(compared)
         if truth is not None:
-            return secret_bit() if truth == "secret" else int(truth)
+            return SECRET_BIT if truth == "secret" else int(truth)
         x = self.new(8, "", (0, 1, 1))
         if compared:
             self.facts = {**self.facts, x: tuple(((*compared, on),) for on in (False, True))}
@@ -421,7 +412,7 @@ class Taint(Values):
 
     def mixed(self, data: list) -> T.Byte:
         """A byte that may depend on all of these."""
-        return secret() if any(map(is_secret, data)) else unknown()
+        return SECRET_BYTE if any(map(is_secret, data)) else UNKNOWN_BYTE
 
     # Memory.
 
@@ -466,7 +457,7 @@ class Taint(Values):
         data = self.cleaned(data, False)
         if length is not T.const(64, len(places)):
             new, old = self.mixed(data), [self.byte(base, k, region) for k in places]
-            lost = [b for b in old if not (isinstance(b, int) or is_secret(b) or b == unknown())]
+            lost = [b for b in old if not (isinstance(b, int) or is_secret(b) or b == UNKNOWN_BYTE)]
             if base is self.stack and is_secret(new) and lost:
                 raise CannotShow("no bound is known for a place: a secret may overwrite %r on the stack" % lost[0][0])
             data = [joined_byte(b, new) for b in old]
@@ -514,7 +505,7 @@ class Taint(Values):
         changed = {(base, k & ~7) for (base, k), _ in self.memory.items() ^ other.memory.items()}
         for base, k in sorted(changed, key=lambda at: (at[0].serial, at[1])):
             a, b = ([m.byte(base, k + j, self.regions[base]) for j in range(8)] for m in (old, other))
-            for r in units(a, b):
+            for r in units(a, b) if a != SECRET_WORD else ():
                 at = k + r.start
                 data = self.joined(old, other, a[r.start:r.stop], b[r.start:r.stop], "%s%d" % (base.args, at), visits)
                 self.memory.update({(base, at + j): byte for j, byte in enumerate(data)})
@@ -538,13 +529,14 @@ class Taint(Values):
 
     def joined(self, old: Any, other: Any, a: list, b: list, name: str, visits: int) -> list:
         """The bytes of a word or a vector that is one of both."""
-        if a == [secret()] * len(a):
-            return a
-        if len(a) > 8 or any(map(is_secret, a + b)) or unknown() in a + b:
+        secrets = [SECRET_BYTE] * len(a)
+        if secrets in (a, b):
+            return secrets
+        if len(a) > 8 or any(map(is_secret, a + b)) or UNKNOWN_BYTE in a + b:
             data = []
             for k, (x, y) in enumerate(zip(a, b)):
                 if x != y and len(a) <= 8 and old.is_bit(x) and other.is_bit(y):
-                    x = y = secret_bit() if is_secret(x) or is_secret(y) else (
+                    x = y = SECRET_BIT if is_secret(x) or is_secret(y) else (
                         self.new(8, "%s.%d" % (name, k), (0, 1, 1)), 0)
                 data.append(joined_byte(x, y))
             return self.cleaned(data, len(a) <= 8 and not name.startswith("sp"), name)
@@ -563,7 +555,7 @@ class Taint(Values):
         if not is_one or any(self.regions[v].writable for v, in found):
             return T.const(t.w, 0)
         names = sorted(set("|".join(str(v.args) for v, in found).split("|")))
-        b = joined_byte(*[r.initial(0) if r.uniform else unknown() for r in (self.regions[v] for v, in found)])
+        b = joined_byte(*[r.initial(0) if r.uniform else UNKNOWN_BYTE for r in (self.regions[v] for v, in found)])
         base = T.var(t.w, "|".join(names), T.PUBLIC)
         self.regions[base] = Cells(0, 0, lambda k: b, False, uniform=True)
         return base
