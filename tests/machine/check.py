@@ -76,6 +76,7 @@ ALL_OF_X = V3                          # where --long shows all cases of BLAKE2X
 USERS = {"T": "in which secrets are followed", "W": "that are executed over variables"}
 ROUNDS = {"T": (1, 6), "W": (3, 12)}
 SOLVER = None if facts.z3 else "python3-z3"
+KEPT = "kept from an earlier run: "
 
 
 class Job(NamedTuple):
@@ -429,21 +430,21 @@ def run_side_by_side(jobs: list) -> Iterator[tuple]:
 def run_all(verdicts: kept.Kept | None) -> Iterator[tuple]:
     """The verdicts of all jobs. Those that are kept are not found again, and others are kept. Whole calls need to know
     how much of the stack a compression uses, so these come first."""
+    results = []
     ALL.sort(key=lambda job: getattr(job.show, "func", None) is not compress)
     known = [verdicts.find(job.title) if verdicts and not job.gone else None for job in ALL]
     jobs = [k for k, why in enumerate(known) if why is None]
     first = [k for k in jobs if getattr(ALL[k].show, "func", None) is compress]
     new = itertools.chain(run_side_by_side(first), run_side_by_side(jobs[len(first):]))
     for job, why in zip(ALL, known):
-        if why is not None:
-            yield "ok", job.title, "kept from an earlier run: " + why
-            continue
-        (verdict, title, why), files = next(new)
-        yield verdict, title, why
-        if verdicts and verdict == "ok":
-            verdicts.keep(title, why, files)
+        if why is None:
+            result, files = next(new)
+            if verdicts and result[0] == "ok":
+                verdicts.keep(job.title, result[2], files)
+        results.append(result if why is None else ("ok", job.title, why))
+        yield result if why is None else ("ok", job.title, KEPT + why)
     if verdicts:
-        verdicts.save()
+        verdicts.save(results)
 
 
 def report(results: Any) -> bool:
@@ -491,13 +492,16 @@ def main(arguments: list) -> int:
     if unknown:
         print("check.py: there is no list of functions for %s" % unknown[0], file=sys.stderr)
         return 2
+    verdicts = None if arguments or is_long() else kept.Kept()
+    found = verdicts.run() if verdicts else []
+    if found:
+        return 0 if report((verdict, title, KEPT * (verdict == "ok") + why) for verdict, title, why in found) else 1
     ALL.extend(job for path in arguments or functions.FILES for job in proofs(path, bool(arguments)))
     if not arguments:
         ALL.extend([*tests_of_the_tool(), *joined(map(tests_of_a_file, functions.FILES))])
-    is_kept = not arguments and not is_long()
-    if is_kept and len({job.title for job in ALL}) < len(ALL):
+    if verdicts and len({job.title for job in ALL}) < len(ALL):
         raise AssertionError("two checks have one title")
-    return 0 if report(run_all(kept.Kept() if is_kept else None)) else 1
+    return 0 if report(run_all(verdicts)) else 1
 
 
 if __name__ == "__main__":

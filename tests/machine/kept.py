@@ -44,15 +44,21 @@ def surroundings() -> str:
 
 
 class Kept:
-    """The verdicts of this state of the tool, by the titles of checks: why, and the hashes of the files read."""
+    """The verdicts of this state of the tool, by the titles of checks: why, and the hashes of the files read; and the
+    results of the last run, each a verdict, a title and why."""
 
     def __init__(self) -> None:
         self.path = os.path.join(FOLDER, surroundings() + ".json")
         try:
             with open(self.path, encoding="utf-8") as f:
-                self.verdicts = json.load(f)
+                self.verdicts, self.results = json.load(f)
         except (OSError, ValueError):
-            self.verdicts = {}
+            self.verdicts, self.results = {}, []
+
+    def run(self) -> list:
+        """The results of a run, if they are known without one: each check was right, or skipped, and is kept."""
+        is_known = lambda verdict, title, _: verdict == "skip" or verdict == "ok" and self.find(title) is not None
+        return self.results if all(is_known(*result) for result in self.results) else []
 
     def find(self, title: str) -> str | None:
         """Why a check was right, or None."""
@@ -63,12 +69,12 @@ class Kept:
     def keep(self, title: str, why: str, files: set) -> None:
         self.verdicts[title] = why, {path: content(path) for path in sorted(files)}
 
-    def save(self) -> None:
+    def save(self, results: list) -> None:
         """Writes them, if there is a place, and removes the oldest of other states."""
         try:
             os.makedirs(FOLDER, exist_ok=True)
             with open("%s.%d" % (self.path, os.getpid()), "w", encoding="utf-8") as f:
-                json.dump(self.verdicts, f)
+                json.dump((self.verdicts, results), f)
             os.replace(f.name, self.path)
             for old in sorted(glob.glob(os.path.join(FOLDER, "*.json")), key=os.path.getmtime)[:-MOST]:
                 os.remove(old)
