@@ -3,7 +3,8 @@
 set -u
 source "$(dirname "$(readlink -f "$0")")/tap.sh"
 name="dist/ is what the proofs build"
-if ! "$top/tools/dist.sh" check >"$work/said"; then # which shows its progress
+# `prove` reads no other part between a line on standard error and the next line of a test, so progress is kept.
+if ! "$top/tools/dist.sh" check >"$work/said" 2>&1; then
     fail "$name" "$work/said"
 elif why=$(grep "^only hashes" "$work/said"); then
     skip "$name" "$why"
