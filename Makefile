@@ -16,6 +16,7 @@ export prefix exec_prefix
 # The programs to install; PROGRAM_PREFIX is put before their names. A file of somebody else is never replaced, such as
 # coreutils' b2sum in /usr/bin.
 PROGRAMS = b2 b2sum
+# With LIBB2_SHARED=1 the library has libb2.so.1 too, in a folder of its own (c/PORTING.md).
 
 needs_absolute = $(if $(filter /%,$(prefix)),,$(error prefix must be an absolute path))
 of_library = env INCLUDEDIR="$(includedir)" LIBDIR="$(libdir)" c/install.sh
@@ -25,7 +26,7 @@ code = $(wildcard c/*.[ch] c/*.map c/*/*.[ch] c/include/libb2/* c/include/refere
 
 # What is asked for of the compiler, if anything is. All is built again if that was another.
 quote = '$(subst ','\'',$(1))'
-words = $(foreach name,CC AR CPPFLAGS CFLAGS LDFLAGS,$(if $(filter-out default undefined,$(origin $(name))),$(name)=$($(name))))
+words = $(foreach name,CC AR CPPFLAGS CFLAGS LDFLAGS LIBB2_SHARED,$(if $(filter-out default undefined,$(origin $(name))),$(name)=$($(name))))
 $(built)/words: $(if $(strip $(words)),$(shell [ "`cat $(built)/words 2>&1`" = $(call quote,$(words)) ] || echo again))
 	mkdir -p $(built)
 	printf '%s\n' $(call quote,$(words)) >$@
@@ -49,7 +50,7 @@ $(PROGRAMS:%=$(built)/%): $(built)/%: % tools/launcher.sh $(code) $(built)/words
 	./$* --build $@
 
 $(built)/lib/kind: $(code) $(built)/words $(built)/hash
-	c/install.sh --build $(built)/lib
+	c/install.sh $(if $(LIBB2_SHARED),--libb2-shared) --build $(built)/lib
 
 install: all ## install b2, b2sum, their man pages and completions, and the C library in prefix
 	$(needs_absolute)tools/install_programs.sh $(built) $(PROGRAMS)

@@ -135,7 +135,7 @@ program_in_root() {
 }
 # The packages of Debian for a processor are installed in an empty root, used there, and removed without a trace.
 debian() {
-    local root=$work/root_$1 packages=(libvulfsjor-dev:"$1" libvulfsjor1:"$1") triplet libdir run
+    local root=$work/root_$1 packages=({libvulfsjor-dev,libvulfsjor1,vulfsjor-libb2}:"$1") triplet libdir run
     triplet=$(dpkg-architecture -a"$1" -qDEB_HOST_MULTIARCH 2>/dev/null) && libdir=/usr/lib/$triplet || return 1
     mkdir -p "$root/var/lib/dpkg"/{info,updates,triggers} && touch "$root/var/lib/dpkg"/{status,available} || return 1
     [[ $1 != a* ]] || packages+=(vulfsjor:"$1")
@@ -174,6 +174,19 @@ rpm_packages() {
             [ -z "$(find "$root" ! -type d -not -path "$root/var/lib/rpm/*")" ]
 }
 
+# Debian's rdiff over the libb2.so.1 of the package alone, which nothing finds without LD_LIBRARY_PATH: it is in its own
+# folder, and the package neither provides, conflicts with nor replaces another, nor has a script.
+rdiff_over_libb2() {
+    local file=$folder/debian/vulfsjor-libb2_$version-1_$(dpkg --print-architecture).deb root=$work/root_libb2 beside
+    beside=$root/usr/lib/$(dpkg-architecture -qDEB_HOST_MULTIARCH)/vulfsjor-libb2
+    [ -z "$(dpkg-deb -f "$file" Provides Conflicts Replaces Breaks)" ] && dpkg-deb -R "$file" "$root" &&
+        [ "$(ls "$root/DEBIAN" | paste -sd ' ')" = "control md5sums" ] &&
+        [ "$(find "$root" -name '*.so*' -printf '%h\n' | sort -u)" = "$beside" ] && cd "$work" &&
+        LD_LIBRARY_PATH=$beside ldd "$(command -v rdiff)" | grep -F " $beside/libb2.so.1 " &&
+        LD_LIBRARY_PATH=$beside rdiff -f -H blake2 signature "$top/README.md" ours &&
+        rdiff -f -H blake2 signature "$top/README.md" theirs && cmp ours theirs
+}
+
 debian_files() {
     local each
     for each in "$folder"/debian/*.deb; do
@@ -204,6 +217,7 @@ check_artifact debian "the files of the packages of Debian" debian_files
 for each in amd64 arm64 i386 s390x; do
     check_artifact "debian|emulated" "packages of Debian for $each" debian $each
 done
+check_artifact "debian|rdiff" "Debian's rdiff over vulfsjor-libb2" rdiff_over_libb2
 check_artifact "debian|lintian" "lintian" by_lintian
 check_artifact rpm "the files of the RPMs" rpm_files
 check_artifact rpm "the RPMs" rpm_packages

@@ -14,7 +14,7 @@ from page_sources import paths
 
 TOP = pathlib.Path(__file__).resolve().parent.parent
 PORTABLE = "amd64 arm64 armhf i386 ppc64el riscv64 s390x"
-PACKAGES = ["libvulfsjor1", "libvulfsjor-dev", "vulfsjor", "python3-vulfsjor"]
+PACKAGES = ["libvulfsjor1", "libvulfsjor-dev", "vulfsjor-libb2", "vulfsjor", "python3-vulfsjor"]
 # Lines, or parts of them. In debian/control they are the fields of each package.
 LINES = {
     "debian/control": [
@@ -24,6 +24,8 @@ LINES = {
         "Depends: ${misc:Depends}, ${shlibs:Depends}\nDescription: ",
         f"Package: libvulfsjor-dev\nSection: libdevel\nArchitecture: {PORTABLE}\nMulti-Arch: same\n"
         "Depends: ${misc:Depends}, libvulfsjor1 (= ${binary:Version})\nDescription: ",
+        f"Package: vulfsjor-libb2\nArchitecture: {PORTABLE}\nMulti-Arch: same\n"
+        "Depends: ${misc:Depends}, ${shlibs:Depends}\nDescription: ",
         "Package: vulfsjor\nSection: utils\nArchitecture: amd64 arm64\nMulti-Arch: foreign\n"
         "Depends: ${misc:Depends}, ${shlibs:Depends}\nDescription: ",
         "Package: python3-vulfsjor\nSection: python\nArchitecture: amd64 arm64\nBuild-Profiles: <!nopython>\n"
@@ -31,7 +33,7 @@ LINES = {
         "On amd64 it needs SSE4.2 (x86-64-v2) and\n uses AVX2 and AVX-512. On architectures other than"],
     "debian/rules": [
         "export DEB_BUILD_MAINT_OPTIONS = hardening=+all", "export CC = $(DEB_HOST_GNU_TYPE)-gcc",
-        "export CFLAGS CPPFLAGS LDFLAGS", "ifneq (,$(filter amd64 arm64,$(DEB_HOST_ARCH)))",
+        "export CFLAGS CPPFLAGS LDFLAGS\nexport LIBB2_SHARED = 1\n", "ifneq (,$(filter amd64 arm64,$(DEB_HOST_ARCH)))",
         "PYTHON = $(if $(filter nopython,$(DEB_BUILD_PROFILES)),,yes)",
         "modules = debian/python3-vulfsjor/usr/lib/python3/dist-packages",
         'dh_auto_build -- all PROGRAMS="$(PROGRAMS)"',
@@ -44,7 +46,9 @@ LINES = {
         "sed -i 's/libc6:$(DEB_HOST_ARCH) /libc6 /g' debian/*.substvars", "dh_makeshlibs -plibvulfsjor1 -- -c4"],
     "debian/tests/control": [
         "Depends: libvulfsjor-dev, gcc, libc6-dev, pkg-config\n", "grep ^ba80a53f\nDepends: vulfsjor\n",
-        "vulfsjor.blake2b(b'abc').hexdigest()[:4] == 'ba80'\"\nDepends: python3-vulfsjor\n"],
+        "vulfsjor.blake2b(b'abc').hexdigest()[:4] == 'ba80'\"\nDepends: python3-vulfsjor\n",
+        "Test-Command: LD_LIBRARY_PATH=$(echo /usr/lib/*/vulfsjor-libb2) rdiff -H blake2 signature /bin/sh a && "
+        "rdiff -H blake2 signature /bin/sh b && cmp a b\nDepends: vulfsjor-libb2, rdiff\n"],
     "vulfsjor.spec": [
         "BuildRequires:  bash, coreutils, diffutils, findutils, gawk, gcc, make, sed\n",
         "%ifarch x86_64 aarch64\n%global programs b2 b2sum\n",

@@ -359,7 +359,9 @@ made_by_make() {
         [ "$(files_below "$root")" = "opt/a b/bin/other" ] &&
         refuses 2 "prefix must be an absolute path" make_here install prefix=opt &&
         refuses 2 "prefix must be an absolute path" make_here uninstall prefix=opt &&
-        ! make_here -n install PROGRAMS=b2 | grep -q b2sum
+        ! make_here -n install PROGRAMS=b2 | grep -q b2sum &&
+        make_here -n LIBB2_SHARED=1 | grep -F "c/install.sh --libb2-shared --build $work/made/lib" &&
+        ! make_here -n | grep -F -e --libb2-shared
 }
 
 # The variables of the GNU standards: each reaches the compiler, the archiver or its folder. What was built is installed
