@@ -1,7 +1,7 @@
 #!/usr/bin/env python3
 """Shows for which exported calls the code of the library writes and returns what RFC 7693 says, for all inputs:
 
-    ./verify             the calls of BLAKE2b and BLAKE2s, in the text in dist/ that this machine runs: ten seconds
+    ./verify             the calls of BLAKE2b and BLAKE2s, in the text in dist/ that this machine runs: 12 seconds
     ./verify FILE        also that FILE has the code of dist/: a shared or static library or a wheel, for Linux on
                          x86-64 or ARM; the folder of the crate, or that of the package for node
     ./verify --long ..   all calls and cases, in all texts, or in all that FILE has
