@@ -13,7 +13,7 @@ use Rattle.blake2_compress.proofs.ParameterTexts.{padded-append_zeros}
 use Rattle.blake2_compress.proofs.ByteSizes.{length-padded}
 
 -- The list after k bytes are written at index i, over zeros that come after the first i bytes.
-written : (n i k : ℕ) (w y : List ℕ) → length w ≡ i → length y ≡ k → i + k ≤ n
+pub written : (n i k : ℕ) (w y : List ℕ) → length w ≡ i → length y ≡ k → i + k ≤ n
     → put_mid i k (padded n w) y ≡ padded n (w ++ y)
 unfolding padded
 written n i k w y at long fits =

@@ -10,6 +10,7 @@ ghost use Rattle.blake2.specs.States.{node_digest_of};
 use crate::contexts::blake2b::Blake2bContext;
 use crate::cores::blake2b::Blake2bVarCore;
 use blake2_compress::params::Tree;
+use blake2_compress::whole::blake2b::hash;
 use blake2_digest::{
     BlockSizeUser, CustomizedInit, Digest, Duplicate, FixedOutput, FixedOutputReset, HashMarker,
     LastNode, LazyBuffer, OutputSizeUser, Reset, TreeNode, Update, Wipe, ZeroizeOnDrop,
@@ -149,6 +150,13 @@ impl<const N: usize> Digest<N> for Blake2b<N> {
             (node_digest_of blake2b N [] [] None sequential) 0 result }
     {
         Self::new_with_tree(&[], &[], &Tree::sequential())
+    }
+
+    // Of a whole message, which needs no hasher.
+    fn digest(input: &[u8]) -> [u8; N] {
+        let mut out = [0; N];
+        out.copy_from_slice(&hash(N, None, input)[..N]);
+        out
     }
 }
 

@@ -11,6 +11,7 @@ ghost use Rattle.blake2.specs.States.{node_digest_of};
 use crate::contexts::blake2s::Blake2sContext;
 use crate::cores::blake2s::Blake2sVarCore;
 use blake2_compress::params::Tree;
+use blake2_compress::whole::blake2s::hash;
 use blake2_digest::{
     BlockSizeUser, CustomizedInit, Digest, Duplicate, FixedOutput, FixedOutputReset, HashMarker,
     LastNode, LazyBuffer, OutputSizeUser, Reset, TreeNode, Update, Wipe, ZeroizeOnDrop,
@@ -150,6 +151,13 @@ impl<const N: usize> Digest<N> for Blake2s<N> {
             (node_digest_of blake2s N [] [] None sequential) 0 result }
     {
         Self::new_with_tree(&[], &[], &Tree::sequential())
+    }
+
+    // Of a whole message, which needs no hasher.
+    fn digest(input: &[u8]) -> [u8; N] {
+        let mut out = [0; N];
+        out.copy_from_slice(&hash(N, None, input)[..N]);
+        out
     }
 }
 

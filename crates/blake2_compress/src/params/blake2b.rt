@@ -60,9 +60,9 @@ fn block_of(parameters: &Parameters<'_>) -> [u8; 64]
     parameter_block::<64, 8, 14, 16>(parameters)
 }
 
-// The eight words of a parameter block as two rows (RFC 7693, 2.5).
+/// Returns the eight words of 64 bytes, such as a parameter block (RFC 7693, 2.5), as two rows.
 #[inline(always)]
-fn block_rows(block: &[u8]) -> [u64x4; 2]
+pub fn block_rows(block: &[u8]) -> [u64x4; 2]
     requires { length block.now ≡ 64 }
     ensures { eight result ≡ words_of blake2b 8 block.now }
 {

@@ -64,9 +64,9 @@ fn block_of(parameters: &Parameters<'_>) -> [u8; 32]
     parameter_block::<32, 6, 0, 8>(parameters)
 }
 
-// The eight words of a parameter block as two rows (RFC 7693, 2.5).
+/// Returns the eight words of 32 bytes, such as a parameter block (RFC 7693, 2.5), as two rows.
 #[inline(always)]
-fn block_rows(block: &[u8]) -> [u32x4; 2]
+pub fn block_rows(block: &[u8]) -> [u32x4; 2]
     requires { length block.now ≡ 32 }
     ensures { eight result ≡ words_of blake2s 8 block.now }
 {

@@ -53,6 +53,10 @@ fn absorb_keyed(h: &mut [u64x4; 2], key: &[u8], message: &[u8])
 /// rest of the last chaining words. They are not part of the digest, and the contract promises
 /// nothing about them. A key has 1 to 64 bytes, and its 128 bytes and those of the message are
 /// fewer than 2^64. The call allocates nothing, and leaves copies of the key on the stack.
+//
+// It is written out where it is called: with a size and no key that the compiler knows, the first
+// words are constants.
+#[inline(always)]
 pub fn hash(output_size: usize, key: Option<&[u8]>, message: &[u8]) -> [u8; 64]
     requires size { output_size ≤ output_bytes blake2b }
     requires key { KeyFits blake2b (key_of key) }

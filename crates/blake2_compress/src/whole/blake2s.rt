@@ -54,6 +54,10 @@ fn absorb_keyed(h: &mut [u32x4; 2], key: &[u8], message: &[u8])
 /// rest of the last chaining words. They are not part of the digest, and the contract promises
 /// nothing about them. A key has 1 to 32 bytes, and its 64 bytes and those of the message are
 /// fewer than 2^64. The call allocates nothing, and leaves copies of the key on the stack.
+//
+// It is written out where it is called: with a size and no key that the compiler knows, the first
+// words are constants.
+#[inline(always)]
 pub fn hash(output_size: usize, key: Option<&[u8]>, message: &[u8]) -> [u8; 32]
     requires size { output_size ≤ output_bytes blake2s }
     requires key { KeyFits blake2s (key_of key) }
