@@ -1,7 +1,7 @@
 //! BLAKE2b with sizes that are chosen at run time.
 
 ghost use Rattle.std.specs.Prelude.{◌≡◌, ◌↔◌, ◌+◌, ◌-◌, ◌^◌, ◌<◌, ◌≤◌, [], length};
-ghost use Rattle.std.specs.Prelude.{slice_index, pos, negsuc, IsTrue};
+ghost use Rattle.std.specs.Prelude.{slice_index, pos, negsuc, IsTrue, None};
 ghost use Rattle.blake2.specs.Cores.{node_parameters};
 ghost use Rattle.blake2.specs.Family.{blake2b};
 ghost use Rattle.blake2.specs.States.{digest_of, node_digest_of};
@@ -53,8 +53,17 @@ fn admits(output_size: usize, key_size: usize) -> bool
     output_size >= 1 && output_size <= 64 && key_size <= 64
 }
 
-// The digest under a key, or none, in one call, which needs no state. A digest of 64 bytes is
-// copied with a length that the compiler knows.
+// The longest digest without a key, in one call, which needs no state. The compiler knows its first
+// words and the length that is copied.
+fn write_longest(out: &mut [u8], input: &[u8])
+    requires size { length out.old ≡ 64 }
+    requires counted { length input.now < 2 ^ 64 }
+    ensures { out.new ≡ digest_of blake2b 64 [] [] None input.now }
+{
+    out.copy_from_slice(&hash(64, None, input));
+}
+
+// The same of each length, and under a key.
 fn write_digest(out: &mut [u8], input: &[u8], key: Option<&[u8]>)
     requires size { length out.old ≤ 64 }
     requires key { KeyFits blake2b (key_of key) }
@@ -63,10 +72,6 @@ fn write_digest(out: &mut [u8], input: &[u8], key: Option<&[u8]>)
 {
     let size = out.len();
     let digest = hash(size, key, input);
-    if size == 64 {
-        out.copy_from_slice(&digest);
-        return;
-    }
     out.copy_from_slice(&digest[..size]);
 }
 
@@ -112,7 +117,11 @@ pub extern "C" fn vulfsjor_ffi_blake2b(out: &mut [u8], input: &[u8], key: &[u8])
     if !admits(out.len(), 0) {
         return -1;
     }
-    write_digest(out, input, None);
+    if out.len() == 64 {
+        write_longest(out, input);
+    } else {
+        write_digest(out, input, None);
+    }
     0
 }
 

@@ -22,6 +22,7 @@ mod blake2xb;
 mod blake2xs;
 mod many;
 mod plans;
+mod saved;
 mod trees;
 
 use blake2::Tree;

@@ -15,8 +15,12 @@ pub(crate) fn write_digests<const N: usize>(out: &mut [u8], size: usize, digests
         ++ drop (length digests.now * size) out.old }
 {
     for i in 0..digests.len() {
-        let from = i * size;
-        out[from..from + size].copy_from_slice(&digests[i][..size]);
+        let place = &mut out[i * size..i * size + size];
+        if size == N {
+            place.copy_from_slice(&digests[i]);
+        } else {
+            place.copy_from_slice(&digests[i][..size]);
+        }
     }
 }
 

@@ -1,2 +1,5 @@
 mod RunLaws
 pub mod StateLaws
+pub mod SavedLaws
+pub mod SavedBlake2b
+pub mod SavedBlake2s

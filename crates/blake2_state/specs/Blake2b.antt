@@ -1,11 +1,12 @@
 -- What a plain state of BLAKE2b means.
-use Rattle.std.specs.Prelude.{◌≡◌, ℕ, ◌+◌, ◌^◌, ◌<◌, ◌≤◌, take, replicate}
+use Rattle.std.specs.Prelude.{◌≡◌, ℕ, ◌+◌, ◌^◌, ◌<◌, ◌≤◌, List, take, replicate}
 use Rattle.blake2_simd.specs.Family.{blake2b}
 use Rattle.blake2_digest.specs.States.{Meaning}
 use Rattle.blake2_digest.specs.Texts.{padded}
 use Rattle.blake2.specs.States as Held
 use Rattle.blake2_state.specs.declared.blake2b.State.{State}
 use Rattle.blake2_state.specs.States.{is_on, meaning_sized, named_key_size}
+use Rattle.blake2_state.specs.SavedStates.{encoding}
 
 -- The state that a plain state holds. The pending bytes are at the beginning of their field, and
 -- the start block is at the beginning of the key's block, which is the key padded with zeros.
@@ -42,6 +43,22 @@ IsKeyed s = 1 ≤ key_length s
 -- The state returns digests of `size` bytes.
 abbrev pub IsReadyFor : ℕ → State → Type 0
 IsReadyFor size s = IsReady s × (s.output_size ≡ size)
+
+-- The state can be saved: it returns digests and has no key.
+pub record CanBeSaved (s : State) : Type 0 where
+  pub ready : IsReady s
+  pub keyless : ¬ IsKeyed s
+  pub start : s.start_length ≡ 0
+
+-- The bytes of a saved state.
+abbrev pub saved_bytes : State → List ℕ
+saved_bytes s = encoding blake2b s.output_size (state_of s)
+
+-- The state holds nothing but what its saved bytes say.
+pub record HoldsNoMore (s : State) : Type 0 where
+  pub last_node : s.last_node ≤ 1
+  pub pending : s.pending ≡ padded 128 (take s.pending_length s.pending)
+  pub key : s.key ≡ replicate 64 0
 
 -- The zeroed state, which returns no digests.
 abbrev pub zeros : State

@@ -5,3 +5,4 @@ pub mod RawParameterBlocks
 pub mod States
 pub mod TreeStates
 pub mod Runs
+pub mod SavedStates

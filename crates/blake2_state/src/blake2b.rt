@@ -16,14 +16,12 @@ ghost use Rattle.blake2_state.specs.States.{is_on};
 
 use crate::StateParameters;
 use blake2::{Blake2bVarCore, Tree};
-use blake2_compress::compress::blake2b::to_words;
+use blake2_compress::compress::Flags;
+use blake2_compress::compress::blake2b::{compress, to_bytes, to_rows, to_words};
 use blake2_compress::consts::BLAKE2B_IV;
 use blake2_compress::params::Parameters;
 use blake2_compress::params::blake2b::{fits, start_of};
-use blake2_digest::{
-    InvalidLength, LastNode, LazyBuffer, UpdateCore, VariableOutputCore, constant_time_eq,
-    digest_into, padded,
-};
+use blake2_digest::{InvalidLength, LastNode, UpdateCore, constant_time_eq, digest_into, padded};
 
 /// A state of BLAKE2b as plain numbers. All values of the fields are states, and none is unsafe.
 /// A state returns digests if it is ready ([`State::is_ready`]), as all are that
@@ -406,10 +404,12 @@ impl State {
         requires room { self.now.output_size ≤ length out.old }
         ensures { out.new ≡ digest_now meaning self.now ++ drop self.now.output_size out.old }
     {
-        let mut core = self.core();
-        let mut buffer = LazyBuffer::<128>::new(&self.pending[..self.pending_length as usize]);
-        let mut whole = [0; 64];
-        core.finalize_variable_core(&mut buffer, &mut whole);
+        let mut h = to_rows(&self.chain);
+        let count = self.pending_length as usize;
+        let block = padded::<128>(&self.pending[..count]);
+        let flags = Flags::last_block(self.last_node != 0);
+        compress(&mut h, &block, self.counter + count as u64, flags);
+        let whole = to_bytes(&h);
         let size = self.output_size as usize;
         out[..size].copy_from_slice(&whole[..size]);
     }

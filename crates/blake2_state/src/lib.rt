@@ -10,7 +10,9 @@ ghost use Rattle.blake2_state.specs.ConstructorArguments.{parameters_given};
 
 pub mod blake2b;
 pub mod blake2s;
+pub mod laws;
 pub mod runs;
+mod saved;
 pub mod tree;
 
 use blake2_compress::params::{Parameters, Tree};

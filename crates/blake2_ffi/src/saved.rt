@@ -1,0 +1,4 @@
+//! Saved states.
+
+mod blake2b;
+mod blake2s;

@@ -1,0 +1,122 @@
+-- Saved states of BLAKE2b.
+use Rattle.std.proofs.Common.{◌≡◌, ℕ, ◌≤◌, List, length, take, drop, replicate, refl}
+use Rattle.std.proofs.Common.{ap, ◌∙◌, arith, subst, length-drop, slice_index, Bool, true, false}
+use Rattle.std.proofs.lemmas.List.{length-take-le}
+use Rattle.std.specs.Int.{from_le_bytes, w64}
+use Rattle.blake2_simd.specs.Family.{blake2b}
+use Rattle.blake2_simd.specs.Round.{AreWords}
+use Rattle.blake2_compress.specs.Hash.{words_of}
+use Rattle.blake2_compress.proofs.ByteSizes.{AreBytes-drop, AreBytes-take, length-words_of}
+use Rattle.blake2_digest.specs.Texts.{AreBytes, padded}
+use Rattle.blake2_state.specs.Blake2b.{CanBeSaved, HoldsNoMore, saved_bytes, state_of}
+use Rattle.blake2_state.specs.SavedStates.{IsSavable, IsSavedState, flag_byte}
+use Rattle.blake2_state.specs.States.{is_on, named_key_size}
+use Rattle.blake2_state.specs.declared.blake2b.State.{State}
+use Rattle.blake2_state.proofs.SavedLaws.{AreWords-words_of, Reads, read, saved_reads, saved_again}
+
+-- What the type of a state says of its fields.
+pub record HasFields (s : State) : Type 0 where
+  pub chain_length : length s.chain ≡ 8
+  pub chain : AreWords blake2b s.chain
+  pub first_length : length s.first ≡ 8
+  pub first : AreWords blake2b s.first
+  pub pending_length : length s.pending ≡ 128
+  pub pending : AreBytes s.pending
+
+-- The pending bytes have their length.
+pending_taken : (s : State) → length s.pending ≡ 128 → s.pending_length ≤ 128
+    → length (take s.pending_length s.pending) ≡ s.pending_length
+pending_taken s long h = length-take-le s.pending_length s.pending (omega (arith, long, h))
+
+-- A state that can be saved, in the terms of both families.
+pub savable : (s : State) → HasFields s → CanBeSaved s
+    → IsSavable blake2b s.output_size (state_of s)
+savable s t h =
+    let l : length (take s.pending_length s.pending) ≡ s.pending_length =
+    pending_taken s t.pending_length h.ready.pending in
+    record {
+      least = h.ready.least;
+      most = h.ready.most;
+      pending = omega (arith, l, h.ready.pending);
+      counted = omega (arith, l, h.ready.counted);
+      keyless = omega (arith, h.keyless);
+      start = ap (λ (n : ℕ). take n (padded 128 s.key)) h.start;
+      chain_length = t.chain_length;
+      chain_words = t.chain;
+      first_length = t.first_length;
+      first_words = t.first;
+      pending_bytes = AreBytes-take s.pending_length s.pending t.pending;
+    }
+
+-- The state that these bytes are read as.
+abbrev pub decoded : List ℕ → State
+decoded bytes = record {
+  chain = words_of blake2b 8 (take 64 (drop 8 bytes));
+  first = words_of blake2b 8 (take 64 (drop 72 bytes));
+  counter = from_le_bytes w64 (take 8 (drop 136 bytes));
+  pending_length = slice_index bytes 145;
+  start_length = 0;
+  output_size = slice_index bytes 144;
+  last_node = slice_index bytes 146;
+  pending = drop 147 bytes;
+  key = replicate 64 0;
+}
+
+-- Its fields are of their types.
+pub decoded_has_fields : (bytes : List ℕ) → length bytes ≡ 275 → AreBytes bytes
+    → HasFields (decoded bytes)
+decoded_has_fields bytes whole a = record {
+  chain_length = length-words_of blake2b 8 (take 64 (drop 8 bytes));
+  chain = AreWords-words_of blake2b 8 (take 64 (drop 8 bytes))
+      (AreBytes-take 64 (drop 8 bytes) (AreBytes-drop 8 bytes a));
+  first_length = length-words_of blake2b 8 (take 64 (drop 72 bytes));
+  first = AreWords-words_of blake2b 8 (take 64 (drop 72 bytes))
+      (AreBytes-take 64 (drop 72 bytes) (AreBytes-drop 72 bytes a));
+  pending_length = omega (arith, whole, length-drop 147 bytes);
+  pending = AreBytes-drop 147 bytes a;
+}
+
+-- If they are those of a saved state, it can be saved.
+pub decoded_can_be_saved : (bytes : List ℕ) → IsSavedState blake2b bytes
+    → CanBeSaved (decoded bytes)
+decoded_can_be_saved bytes a =
+    let r : Reads blake2b a.size a.state bytes = saved_reads blake2b bytes a in
+    let h : IsSavable blake2b a.size a.state = a.savable in
+    let key : named_key_size blake2b (decoded bytes).first ≡ 0 =
+    ap (named_key_size blake2b) r.first ∙ h.keyless in
+    record {
+      ready = record {
+        least = omega (arith, r.output_size, h.least);
+        most = omega (arith, r.output_size, h.most);
+        pending = omega (arith, r.pending_length, h.pending);
+        start = omega arith;
+        counted = omega (arith, r.counted, r.pending_length, h.counted);
+      };
+      keyless = λ keyed. omega (arith, key, keyed);
+      start = refl;
+    }
+
+-- And it is saved as these bytes.
+pub decoded_is_saved_as : (bytes : List ℕ) → IsSavedState blake2b bytes
+    → saved_bytes (decoded bytes) ≡ bytes
+decoded_is_saved_as bytes a = saved_again blake2b bytes a
+
+-- A flag's byte is at most 1.
+flag_byte_most : (on : Bool) → flag_byte on ≤ 1
+flag_byte_most true = omega arith
+flag_byte_most false = omega arith
+
+-- If it is saved as these bytes, it holds nothing more.
+pub decoded_holds_no_more : (bytes : List ℕ) → HasFields (decoded bytes)
+    → CanBeSaved (decoded bytes) → saved_bytes (decoded bytes) ≡ bytes
+    → HoldsNoMore (decoded bytes)
+decoded_holds_no_more bytes t h e =
+    let s : State = decoded bytes in
+    let r : Reads blake2b s.output_size (state_of s) bytes =
+    subst (Reads blake2b s.output_size (state_of s)) e
+    (read blake2b s.output_size (state_of s) (savable s t h)) in
+    record {
+      last_node = omega (arith, r.last_node, flag_byte_most (is_on s.last_node));
+      pending = r.pending;
+      key = refl;
+    }

@@ -1,0 +1,56 @@
+-- Made by tools/twins.py from proofs/blake2b/State/encoded/Answers.antt.
+use Rattle.std.proofs.Common.{◌≡◌, ◌∙◌, ◌++◌, List, ℕ, [], ◌∷◌, ◌*◌, ap, length}
+use Rattle.std.proofs.Common.{length-append, take, refl, arith, rules}
+use Rattle.std.proofs.lemmas.List.{length-take-le}
+use Rattle.std.specs.Int.{to_le_bytes, w64}
+use Rattle.blake2_simd.specs.Family.{blake2s, word_bytes}
+use Rattle.blake2_compress.specs.Hash.{bytes_of}
+use Rattle.blake2_compress.proofs.RunSizes.{length-bytes_of}
+use Rattle.blake2_digest.specs.Texts.{padded}
+use Rattle.blake2_state.specs.Blake2s.{state_of}
+use Rattle.blake2_state.specs.SavedStates.{flag_byte, heading}
+use Rattle.blake2_state.specs.States.{is_on}
+use Rattle.blake2_state.specs.declared.blake2s.State.{State}
+use Rattle.blake2_state.proofs.SavedLaws.{encoding_written, flag_written, zeros_padded}
+use Rattle.blake2_state.proofs.blake2s.State.encoded.Goals as goal
+
+pub returns : goal.returns
+returns c =
+    let s : State = c.args.self.now in
+    let lh : length s.chain ≡ 8 = search rules in
+    let ls : length s.first ≡ 8 = search rules in
+    let whole : length s.pending ≡ 64 = search rules in
+    let lp : length (take s.pending_length s.pending) ≡ s.pending_length =
+    length-take-le s.pending_length s.pending (omega (arith, whole, c.requires.pending)) in
+    let name : List ℕ = heading blake2s in
+    let chain : List ℕ = bytes_of blake2s s.chain in
+    let first : List ℕ = bytes_of blake2s s.first in
+    let counted : List ℕ = to_le_bytes w64 s.counter in
+    let numbers : List ℕ = s.output_size ∷ s.pending_length ∷ flag_byte (is_on s.last_node) ∷ [] in
+    let lc : length chain ≡ 32 =
+    length-bytes_of blake2s s.chain ∙ ap (λ (n : ℕ). n * word_bytes blake2s) lh in
+    let lf : length first ≡ 32 =
+    length-bytes_of blake2s s.first ∙ ap (λ (n : ℕ). n * word_bytes blake2s) ls in
+    let at_first : length (name ++ chain) ≡ 40 = omega (arith, lc, length-append name chain) in
+    let at_count : length (name ++ chain ++ first) ≡ 72 =
+    omega (arith, at_first, lf, length-append (name ++ chain) first) in
+    let at_numbers : length (name ++ chain ++ first ++ counted) ≡ 80 =
+    omega (arith, at_count, length-append (name ++ chain ++ first) counted) in
+    let at_pending : length (name ++ chain ++ first ++ counted ++ numbers) ≡ 83 =
+    omega (arith, at_numbers, length-append (name ++ chain ++ first ++ counted) numbers) in
+    let to_chain = c.write_after.ensures [] refl (zeros_padded 147) in
+    let to_first = c.write_after-2.ensures name refl to_chain
+    ∙ ap (λ (xs : List ℕ). padded 147 (name ++ xs))
+    (c.to_bytes.ensures ∙ ap (bytes_of blake2s) c.to_rows.ensures) in
+    let to_count = c.write_after-3.ensures (name ++ chain) at_first to_first
+    ∙ ap (λ (xs : List ℕ). padded 147 (name ++ chain ++ xs))
+    (c.to_bytes-2.ensures ∙ ap (bytes_of blake2s) c.to_rows-2.ensures) in
+    let to_numbers = c.write_after-4.ensures (name ++ chain ++ first) at_count to_count
+    ∙ ap (λ (xs : List ℕ). padded 147 (name ++ chain ++ first ++ xs)) c.to_le_bytes.ensures in
+    let to_pending =
+    c.write_after-5.ensures (name ++ chain ++ first ++ counted) at_numbers to_numbers
+    ∙ ap (λ (n : ℕ). padded 147 (name ++ chain ++ first ++ counted
+    ++ (s.output_size ∷ s.pending_length ∷ n ∷ []))) (flag_written (is_on s.last_node)) in
+    c.write_after-6.ensures (name ++ chain ++ first ++ counted ++ numbers) at_pending to_pending
+    ∙ encoding_written blake2s 147 s.output_size s.pending_length (state_of s) lh ls lp
+    c.requires.pending refl
