@@ -11336,146 +11336,97 @@
 	vj_end	blake2_digest..wiping..settle..32_1_a64
 
 	vj_function	blake2_state..runs..Run..padded_1_a64
-	stp	x29, x30, [sp, #-64]!
-	stp	x28, x23, [sp, #16]
-	mov	x29, sp
-	stp	x22, x21, [sp, #32]
-	stp	x20, x19, [sp, #48]
-	sub	sp, sp, #800
-	movi	v3.2d, #0000000000000000
+	sub	sp, sp, #496
+	movi	v0.2d, #0000000000000000
 	ldrb	w8, [x1]
+	stp	x20, x19, [sp, #480]
 	mov	x20, x1
 	mov	x19, x0
-	stp	q3, q3, [sp]
-	stp	q3, q3, [sp, #32]
+	stp	x29, x30, [sp, #448]
+	stp	x28, x21, [sp, #464]
+	add	x29, sp, #448
+	stp	q0, q0, [sp]
+	stp	q0, q0, [sp, #32]
 	cbz	w8, 1f
-	ldur	q0, [x20, #8]
-	ldur	q1, [x20, #24]
-	sub	x0, x29, #256
-	ldrh	w8, [x20, #86]
-	ldrh	w22, [x20, #80]
-	add	x1, x20, #88
-	ldur	q2, [x20, #40]
-	stp	q0, q1, [sp, #272]
-	ldur	q0, [x20, #56]
-	cmp	w8, #0
-	ldr	x23, [x20, #72]
-	mov	x2, x22
-	cset	w21, ne
-	stp	q2, q0, [sp, #304]
-	str	x21, [sp, #344]
-	stp	q3, q3, [x29, #-256]
-	stp	q3, q3, [x29, #-224]
-	vj_c_call	memcpy
-	ldp	q0, q1, [x29, #-256]
-	add	x23, x23, x22
+	ldrh	w21, [x20, #80]
+	ldur	q1, [x20, #8]
 	sub	x0, x29, #128
-	add	x1, sp, #128
-	mov	x2, x22
-	str	x22, [sp, #192]
-	stp	q0, q1, [sp, #128]
-	ldp	q2, q0, [x29, #-224]
-	str	x23, [sp, #336]
-	stp	q2, q0, [sp, #160]
-	movi	v0.2d, #0000000000000000
+	ldur	q2, [x20, #24]
+	add	x1, x20, #88
 	stp	q0, q0, [x29, #-128]
+	mov	x2, x21
 	stp	q0, q0, [x29, #-96]
+	stp	q1, q2, [x29, #-192]
 	vj_c_call	memcpy
 	ldp	q0, q1, [x29, #-128]
-	add	x0, sp, #272
-	add	x1, sp, #416
-	mov	x2, x23
+	sub	x0, x29, #192
+	ldrh	w8, [x20, #86]
+	add	x1, sp, #128
 	mov	w3, #1
-	mov	w4, w21
-	stp	q0, q1, [sp, #416]
-	ldp	q0, q2, [x29, #-96]
-	stp	q0, q2, [sp, #448]
+	stp	q0, q1, [sp, #128]
+	ldp	q2, q0, [x29, #-96]
+	cmp	w8, #0
+	ldr	x8, [x20, #72]
+	cset	w4, ne
+	add	x2, x8, x21
+	stp	q2, q0, [sp, #160]
 	vj_call	blake2_compress..compress..blake2s..compress_1_arm
-	ldp	q0, q1, [sp, #272]
+	ldp	q0, q1, [x29, #-192]
 	ldrh	w2, [x20, #84]
 	stp	q0, q1, [sp, #64]
 	b	2f
 1:
-	ldur	q0, [x20, #24]
-	ldur	q1, [x20, #8]
-	sub	x0, x29, #256
-	ldur	q2, [x20, #56]
-	ldr	w8, [x20, #156]
-	add	x1, x20, #160
-	stp	q1, q0, [sp, #272]
-	ldur	q0, [x20, #40]
-	ldur	q1, [x20, #88]
-	ldr	w22, [x20, #144]
-	cmp	w8, #0
-	ldr	x23, [x20, #136]
-	stp	q0, q2, [sp, #304]
-	cset	w21, ne
-	ldur	q2, [x20, #72]
-	ldur	q0, [x20, #120]
-	mov	x2, x22
-	str	x21, [sp, #408]
-	stp	q2, q1, [sp, #336]
-	ldur	q1, [x20, #104]
-	stp	q3, q3, [x29, #-256]
-	stp	q1, q0, [sp, #368]
-	stp	q3, q3, [x29, #-224]
-	stp	q3, q3, [x29, #-192]
-	stp	q3, q3, [x29, #-160]
-	vj_c_call	memcpy
-	ldp	q0, q1, [x29, #-192]
-	add	x23, x23, x22
+	ldur	q1, [x20, #24]
+	ldur	q2, [x20, #8]
 	sub	x0, x29, #128
-	add	x1, sp, #128
-	mov	x2, x22
-	str	x22, [sp, #256]
-	stp	q0, q1, [sp, #192]
-	ldp	q0, q2, [x29, #-160]
-	str	x23, [sp, #400]
-	stp	q0, q2, [sp, #224]
-	ldp	q1, q0, [x29, #-256]
-	stp	q1, q0, [sp, #128]
-	ldp	q2, q0, [x29, #-224]
-	stp	q2, q0, [sp, #160]
-	movi	v0.2d, #0000000000000000
+	ldr	w21, [x20, #144]
+	ldur	q3, [x20, #56]
+	add	x1, x20, #160
+	stp	q2, q1, [x29, #-192]
+	ldur	q1, [x20, #40]
+	mov	x2, x21
 	stp	q0, q0, [sp, #64]
 	stp	q0, q0, [sp, #96]
+	stp	q1, q3, [x29, #-160]
 	stp	q0, q0, [x29, #-128]
 	stp	q0, q0, [x29, #-96]
 	stp	q0, q0, [x29, #-64]
 	stp	q0, q0, [x29, #-32]
 	vj_c_call	memcpy
 	ldp	q0, q1, [x29, #-64]
-	add	x0, sp, #272
-	add	x1, sp, #416
-	mov	x2, x23
+	sub	x0, x29, #192
+	ldr	w8, [x20, #156]
+	add	x1, sp, #128
 	mov	w3, #1
-	mov	w4, w21
-	stp	q0, q1, [sp, #480]
+	stp	q0, q1, [sp, #192]
 	ldp	q0, q2, [x29, #-32]
-	stp	q0, q2, [sp, #512]
+	cmp	w8, #0
+	ldr	x8, [x20, #136]
+	cset	w4, ne
+	stp	q0, q2, [sp, #224]
 	ldp	q1, q0, [x29, #-128]
-	stp	q1, q0, [sp, #416]
+	add	x2, x8, x21
+	stp	q1, q0, [sp, #128]
 	ldp	q2, q0, [x29, #-96]
-	stp	q2, q0, [sp, #448]
+	stp	q2, q0, [sp, #160]
 	vj_call	blake2_compress..compress..blake2b..compress_1_arm
-	ldp	q0, q1, [sp, #272]
+	ldp	q0, q1, [x29, #-192]
 	ldr	w2, [x20, #152]
 	stp	q0, q1, [sp, #64]
-	ldp	q0, q2, [sp, #304]
+	ldp	q0, q2, [x29, #-160]
 	stp	q0, q2, [sp, #96]
 2:
 	mov	x0, sp
 	add	x1, sp, #64
 	vj_c_call	memcpy
 	ldp	q0, q1, [sp]
+	ldp	x28, x21, [sp, #464]
+	ldp	x29, x30, [sp, #448]
 	stp	q0, q1, [x19]
 	ldp	q0, q2, [sp, #32]
 	stp	q0, q2, [x19, #32]
-	add	sp, sp, #800
-	ldp	x20, x19, [sp, #48]
-	ldp	x22, x21, [sp, #32]
-	ldp	x28, x23, [sp, #16]
-	ldp	x29, x30, [sp], #64
+	ldp	x20, x19, [sp, #480]
+	add	sp, sp, #496
 	ret
 	vj_end	blake2_state..runs..Run..padded_1_a64
 

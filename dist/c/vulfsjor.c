@@ -1104,12 +1104,48 @@ APART void compress_compress_blake2b_compress(u64 v0, u64 v1, u64 v2, u32 v3, u3
  return;
 }
 
+/* blake2_compress::whole::blake2b::absorb_keyed */
+APART void compress_whole_blake2b_absorb_keyed(u64 v0, u64 v1, u64 v2, u64 v3, u64 v4) {
+ u64 v5, v6;
+ FRAME(34);
+ v5 = top - 256;
+ v6 = v5;
+ fill(v6, 0, 128);
+ if (v2 == 0) goto l3;
+ copy(v6, v1, v2);
+l3:;
+ if (!(v4 == 0)) goto l4;
+ compress_compress_blake2b_compress(v0, v6, 128, 1, 0);
+ goto l1;
+l4:;
+ compress_compress_blake2b_compress(v0, v6, 128, 0, 0);
+ v1 = v4 - 1;
+ v5 = v1 >> 7;
+ if (v5 == 0) goto l5;
+ v2 = 256;
+l6:;
+ compress_compress_blake2b_compress(v0, v3 + v2 - 256, v2, 0, 0);
+ v2 += 128;
+ v5 -= 1;
+ if (v5 != 0) goto l6;
+l5:;
+ fill(v6 + 128, 0, 128);
+ v2 = v1 & 0xffffffffffffff80;
+ v5 = v4 - v2;
+ if (v5 == 0) goto l7;
+ copy(v6 + 128, v3 + v2, v5);
+l7:;
+ compress_compress_blake2b_compress(v0, v6 + 128, v4 + 128, 1, 0);
+ goto l1;
+l1:;
+}
+
 /* blake2_ffi::blake2b::write_digest */
 APART void ffi_blake2b_write_digest(u64 v0, u64 v1, u64 v2, u64 v3, u64 v4) {
  u32 v8;
  u64 v5, v6, v7;
- FRAME(50);
- v5 = top - 384;
+ FRAME(34);
+ v5 = top - 256;
  v6 = load64(v4 + 16);
  v7 = load64(v4 + 8);
  fill(v5, 0, 64);
@@ -1123,53 +1159,28 @@ APART void ffi_blake2b_write_digest(u64 v0, u64 v1, u64 v2, u64 v3, u64 v4) {
  store64(v5 + 72, 0xbb67ae8584caa73b);
  store64(v5 + 64, (u64)((v8 ? ((((u32)v6 << 8) & 0xff00) | 0x1010000) : 0x1010000) | ((u32)v1 &
    255)) ^ 0x6a09e667f3bcc908);
- if (v8) goto l4;
+ if (v8) goto l3;
  v7 = v3 - (u64)(u32)(v3 != 0);
  v6 = v7 >> 7;
- if (v6 == 0) goto l5;
+ if (v6 == 0) goto l4;
  v4 = 128;
-l6:;
+l5:;
  compress_compress_blake2b_compress(v5 + 64, v2 + v4 - 128, v4, 0, 0);
  v4 += 128;
  v6 -= 1;
- if (v6 != 0) goto l6;
-l5:;
- fill(v5 + 256, 0, 128);
- v4 = v7 & 0xffffffffffffff80;
- v6 = v3 - v4;
- if (v6 == 0) goto l7;
- copy(v5 + 256, v2 + v4, v6);
-l7:;
- compress_compress_blake2b_compress(v5 + 64, v5 + 256, v3, 1, 0);
- goto l3;
+ if (v6 != 0) goto l5;
 l4:;
  fill(v5 + 128, 0, 128);
- if (v6 == 0) goto l8;
- copy(v5 + 128, v7, v6);
-l8:;
- if (v3 != 0) goto l9;
- compress_compress_blake2b_compress(v5 + 64, v5 + 128, 128, 1, 0);
- goto l3;
-l9:;
- compress_compress_blake2b_compress(v5 + 64, v5 + 128, 128, 0, 0);
- v7 = v3 - 1;
- v6 = v7 >> 7;
- if (v6 == 0) goto l10;
- v4 = 256;
-l11:;
- compress_compress_blake2b_compress(v5 + 64, v2 + v4 - 256, v4, 0, 0);
- v4 += 128;
- v6 -= 1;
- if (v6 != 0) goto l11;
-l10:;
- fill(v5 + 256, 0, 128);
  v4 = v7 & 0xffffffffffffff80;
  v6 = v3 - v4;
- if (v6 == 0) goto l12;
- copy(v5 + 256, v2 + v4, v6);
-l12:;
- compress_compress_blake2b_compress(v5 + 64, v5 + 256, v3 + 128, 1, 0);
+ if (v6 == 0) goto l6;
+ copy(v5 + 128, v2 + v4, v6);
+l6:;
+ compress_compress_blake2b_compress(v5 + 64, v5 + 128, v3, 1, 0);
+ goto l2;
 l3:;
+ compress_whole_blake2b_absorb_keyed(v5 + 64, v7, v6, v2, v3);
+l2:;
  store64(v5 + 56, load64(v5 + 120));
  store64(v5 + 48, load64(v5 + 112));
  store64(v5 + 40, load64(v5 + 104));
@@ -1178,21 +1189,10 @@ l3:;
  store64(v5 + 16, load64(v5 + 80));
  store64(v5 + 8, load64(v5 + 72));
  store64(v5, load64(v5 + 64));
- if (v1 != 64) goto l13;
- store64(v0 + 56, load64(v5 + 56));
- store64(v0 + 48, load64(v5 + 48));
- store64(v0 + 40, load64(v5 + 40));
- store64(v0 + 32, load64(v5 + 32));
- store64(v0 + 24, load64(v5 + 24));
- store64(v0 + 16, load64(v5 + 16));
- store64(v0 + 8, load64(v5 + 8));
- store64(v0, load64(v5));
- goto l1;
-l13:;
- if (v1 == 0) goto l1;
+ if (v1 == 0) goto l7;
  copy(v0, v5, v1);
- goto l1;
-l1:;
+l7:;
+ return;
 }
 
 /* blake2_ffi::blake2b::write_keyed */
@@ -1218,25 +1218,69 @@ SCRUB(digest_wiping_scrub_stack_1536, 3584)
 
 /* rattle::export vulfsjor_ffi_blake2b */
 APART u32 exported_blake2b(u64 v0, u64 v1, u64 v2, u64 v3, u64 v4, u64 v5) {
- u32 v7;
- u64 v6;
- FRAME(6);
- v6 = top - 32;
- v2 += (v2 == 0 ? UINT64_C(4096) : 0);
- v0 += (v0 == 0 ? UINT64_C(4096) : 0);
+ u32 v9;
+ u64 v6, v7, v8;
+ FRAME(30);
+ v6 = top - 224;
+ v7 = v2 + (v2 == 0 ? UINT64_C(4096) : 0);
+ v8 = v0 + (v0 == 0 ? UINT64_C(4096) : 0);
  fill(v6 + 16, 0, 16);
- if (v5 == 0) goto l3;
- v7 = ffi_blake2b_write_keyed(v0, v1, v2, v3, v4 + (v4 == 0 ? UINT64_C(4096) : 0), v5);
+ if (v5 == 0) goto l4;
+ v9 = ffi_blake2b_write_keyed(v8, v1, v7, v3, v4 + (v4 == 0 ? UINT64_C(4096) : 0), v5);
  digest_wiping_scrub_stack_1536();
- goto l2;
-l3:;
- v7 = 0xffffffff;
- if ((v1 - 1) > 63) goto l2;
- store64(v6 + 8, 0);
- ffi_blake2b_write_digest(v0, v1, v2, v3, v6 + 8);
- v7 = 0;
+ goto l1;
+l4:;
+ v9 = 0xffffffff;
+ if ((v1 - 1) > 63) goto l1;
+ if (v1 != 64) goto l2;
+ store64(v6 + 88, 0x5be0cd19137e2179);
+ store64(v6 + 80, 0x1f83d9abfb41bd6b);
+ store64(v6 + 72, 0x9b05688c2b3e6c1f);
+ store64(v6 + 64, 0x510e527fade682d1);
+ store64(v6 + 56, 0xa54ff53a5f1d36f1);
+ store64(v6 + 48, 0x3c6ef372fe94f82b);
+ store64(v6 + 40, 0xbb67ae8584caa73b);
+ store64(v6 + 32, 0x6a09e667f2bdc948);
+ v5 = v3 - (u64)(u32)(v3 != 0);
+ v0 = v5 >> 7;
+ if (v0 == 0) goto l5;
+ v2 = 128;
+l6:;
+ compress_compress_blake2b_compress(v6 + 32, v7 + v2 - 128, v2, 0, 0);
+ v2 += 128;
+ v0 -= 1;
+ if (v0 != 0) goto l6;
+l5:;
+ v9 = 0;
+ fill(v6 + 96, 0, 128);
+ v2 = v5 & 0xffffffffffffff80;
+ v0 = v3 - v2;
+ if (v0 == 0) goto l7;
+ copy(v6 + 96, v7 + v2, v0);
+l7:;
+ compress_compress_blake2b_compress(v6 + 32, v6 + 96, v3, 1, 0);
+ v2 = load64(v6 + 32);
+ v0 = load64(v6 + 40);
+ v7 = load64(v6 + 48);
+ v5 = load64(v6 + 56);
+ v1 = load64(v6 + 64);
+ v4 = load64(v6 + 72);
+ v3 = load64(v6 + 80);
+ store64(v8 + 56, load64(v6 + 88));
+ store64(v8 + 48, v3);
+ store64(v8 + 40, v4);
+ store64(v8 + 32, v1);
+ store64(v8 + 24, v5);
+ store64(v8 + 16, v7);
+ store64(v8 + 8, v0);
+ store64(v8, v2);
+ goto l1;
 l2:;
- return v7;
+ store64(v6 + 8, 0);
+ ffi_blake2b_write_digest(v8, v1, v7, v3, v6 + 8);
+ v9 = 0;
+l1:;
+ return v9;
 }
 
 /* __multi3 */
@@ -1256,74 +1300,37 @@ APART void multi3(u64 v0, u64 v1, u64 v2, u64 v3, u64 v4) {
 
 /* blake2_state::blake2b::State::write_digest */
 APART void state_blake2b_State_write_digest(u64 v0, u64 v1) {
- u32 v4, v20;
- u64 v2, v3, v5, v6, v7, v8, v9, v10, v11, v12, v13, v14, v15, v16, v17, v18, v19;
- FRAME(78);
- v2 = top - 608;
- v3 = load64(v0 + 128);
- v4 = load32(v0 + 148);
- v5 = load64(v0 + 64);
- v6 = load64(v0 + 72);
- v7 = load64(v0 + 80);
- v8 = load64(v0 + 88);
- v9 = load64(v0 + 96);
- v10 = load64(v0 + 104);
- v11 = load64(v0 + 112);
- v12 = load64(v0);
- v13 = load64(v0 + 8);
- v14 = load64(v0 + 16);
- v15 = load64(v0 + 24);
- v16 = load64(v0 + 32);
- v17 = load64(v0 + 40);
- v18 = load64(v0 + 48);
- v19 = load64(v0 + 56);
- store64(v2 + 328, load64(v0 + 120));
- store64(v2 + 320, v11);
- store64(v2 + 312, v10);
- store64(v2 + 304, v9);
- store64(v2 + 296, v8);
- store64(v2 + 288, v7);
- store64(v2 + 280, v6);
- store64(v2 + 272, v5);
- store64(v2 + 264, v19);
- store64(v2 + 256, v18);
- store64(v2 + 248, v17);
- store64(v2 + 240, v16);
- store64(v2 + 232, v15);
- store64(v2 + 224, v14);
- store64(v2 + 216, v13);
- store64(v2 + 208, v12);
- v4 = (u32)(v4 != 0);
- store64(v2 + 344, (u64)v4);
- v5 = (u64)load32(v0 + 136);
- fill(v2 + 352, 0, 128);
- v20 = (u32)(v5 == 0);
- if (v20) goto l2;
- copy(v2 + 352, v0 + 152, v5);
+ u64 v2, v3;
+ FRAME(34);
+ v2 = top - 256;
+ fill(v2, 0, 64);
+ store64(v2 + 120, load64(v0 + 56));
+ store64(v2 + 112, load64(v0 + 48));
+ store64(v2 + 104, load64(v0 + 40));
+ store64(v2 + 96, load64(v0 + 32));
+ store64(v2 + 88, load64(v0 + 24));
+ store64(v2 + 80, load64(v0 + 16));
+ store64(v2 + 72, load64(v0 + 8));
+ store64(v2 + 64, load64(v0));
+ v3 = (u64)load32(v0 + 136);
+ fill(v2 + 128, 0, 128);
+ if (v3 == 0) goto l2;
+ copy(v2 + 128, v0 + 152, v3);
 l2:;
- copy(v2 + 72, v2 + 352, 128);
- store64(v2 + 8, 0);
- store64(v2 + 200, v5);
- fill(v2 + 16, 0, 56);
- v3 += v5;
- store64(v2 + 336, v3);
- fill(v2 + 480, 0, 128);
- if (v20) goto l3;
- copy(v2 + 480, v2 + 72, v5);
-l3:;
- compress_compress_blake2b_compress(v2 + 208, v2 + 480, v3, 1, v4);
- store64(v2 + 64, load64(v2 + 264));
- store64(v2 + 56, load64(v2 + 256));
- store64(v2 + 48, load64(v2 + 248));
- store64(v2 + 40, load64(v2 + 240));
- store64(v2 + 32, load64(v2 + 232));
- store64(v2 + 24, load64(v2 + 224));
- store64(v2 + 16, load64(v2 + 216));
- store64(v2 + 8, load64(v2 + 208));
+ compress_compress_blake2b_compress(v2 + 64, v2 + 128, load64(v0 + 128) + v3, 1, (u32)(load32(v0 +
+   148) != 0));
+ store64(v2 + 56, load64(v2 + 120));
+ store64(v2 + 48, load64(v2 + 112));
+ store64(v2 + 40, load64(v2 + 104));
+ store64(v2 + 32, load64(v2 + 96));
+ store64(v2 + 24, load64(v2 + 88));
+ store64(v2 + 16, load64(v2 + 80));
+ store64(v2 + 8, load64(v2 + 72));
+ store64(v2, load64(v2 + 64));
  v0 = (u64)load32(v0 + 144);
- if (v0 == 0) goto l4;
- copy(v1, v2 + 8, v0);
-l4:;
+ if (v0 == 0) goto l3;
+ copy(v1, v2, v0);
+l3:;
  return;
 }
 
@@ -2253,6 +2260,490 @@ l2:;
  return v1;
 }
 
+/* blake2_state::blake2b::State::save */
+APART void state_blake2b_State_save(u64 v0, u64 v1) {
+ u32 v3, v4, v5;
+ u64 v2, v6, v7, v8, v9, v10, v11, v12, v13, v14, v15, v16, v17, v18, v19, v20, v21, v22, v23;
+ FRAME(50);
+ v2 = top - 384;
+ v3 = load32(v1 + 144);
+ if ((v3 - 1) > 63) goto l4;
+ v4 = load32(v1 + 136);
+ if (v4 > 128) goto l4;
+ v5 = load32(v1 + 140);
+ if (v5 > 128) goto l4;
+ if (load64(v1 + 128) > sign64(~v4, 0x80000000)) goto l4;
+ if (v5) goto l4;
+ v6 = load64(v1 + 64);
+ if ((v6 & 0xff00) == 0xc900) goto l3;
+l4:;
+ fill(v0, 0, 276);
+ goto l1;
+l3:;
+ v5 = load32(v1 + 148);
+ fill(v2 + 256, 0, 128);
+ v7 = load64(v1 + 72);
+ v8 = load64(v1 + 80);
+ v9 = load64(v1 + 88);
+ v10 = load64(v1 + 96);
+ v11 = load64(v1 + 104);
+ v12 = load64(v1 + 112);
+ v13 = load64(v1 + 120);
+ v14 = load64(v1 + 128);
+ v15 = load64(v1);
+ v16 = load64(v1 + 8);
+ v17 = load64(v1 + 16);
+ v18 = load64(v1 + 24);
+ v19 = load64(v1 + 32);
+ v20 = load64(v1 + 40);
+ v21 = load64(v1 + 48);
+ v22 = load64(v1 + 56);
+ v23 = (u64)v4;
+ if (v23 == 0) goto l5;
+ copy(v2 + 256, v1 + 152, v23);
+l5:;
+ copy(v2, v2 + 256, 128);
+ copy(v2 + 128, v2, 128);
+ store8(v0 + 147, (u32)(v5 != 0));
+ store8(v0 + 146, v4);
+ store8(v0 + 145, v3);
+ store64(v0 + 137, v14);
+ store8(v0 + 136, v13 >> 56);
+ store8(v0 + 135, v13 >> 48);
+ store8(v0 + 134, v13 >> 40);
+ store8(v0 + 133, v13 >> 32);
+ v3 = (u32)v13;
+ store8(v0 + 132, v3 >> 24);
+ store8(v0 + 131, v3 >> 16);
+ store8(v0 + 130, v3 >> 8);
+ store8(v0 + 129, v13);
+ store8(v0 + 128, v12 >> 56);
+ store8(v0 + 127, v12 >> 48);
+ store8(v0 + 126, v12 >> 40);
+ store8(v0 + 125, v12 >> 32);
+ v3 = (u32)v12;
+ store8(v0 + 124, v3 >> 24);
+ store8(v0 + 123, v3 >> 16);
+ store8(v0 + 122, v3 >> 8);
+ store8(v0 + 121, v3);
+ store8(v0 + 120, v11 >> 56);
+ store8(v0 + 119, v11 >> 48);
+ store8(v0 + 118, v11 >> 40);
+ store8(v0 + 117, v11 >> 32);
+ v3 = (u32)v11;
+ store8(v0 + 116, v3 >> 24);
+ store8(v0 + 115, v3 >> 16);
+ store8(v0 + 114, v3 >> 8);
+ store8(v0 + 113, v3);
+ store8(v0 + 112, v10 >> 56);
+ store8(v0 + 111, v10 >> 48);
+ store8(v0 + 110, v10 >> 40);
+ store8(v0 + 109, v10 >> 32);
+ v3 = (u32)v10;
+ store8(v0 + 108, v3 >> 24);
+ store8(v0 + 107, v3 >> 16);
+ store8(v0 + 106, v3 >> 8);
+ store8(v0 + 105, v3);
+ store8(v0 + 104, v9 >> 56);
+ store8(v0 + 103, v9 >> 48);
+ store8(v0 + 102, v9 >> 40);
+ store8(v0 + 101, v9 >> 32);
+ v3 = (u32)v9;
+ store8(v0 + 100, v3 >> 24);
+ store8(v0 + 99, v3 >> 16);
+ store8(v0 + 98, v3 >> 8);
+ store8(v0 + 97, v9);
+ store8(v0 + 96, v8 >> 56);
+ store8(v0 + 95, v8 >> 48);
+ store8(v0 + 94, v8 >> 40);
+ store8(v0 + 93, v8 >> 32);
+ v3 = (u32)v8;
+ store8(v0 + 92, v3 >> 24);
+ store8(v0 + 91, v3 >> 16);
+ store8(v0 + 90, v3 >> 8);
+ store8(v0 + 89, v3);
+ store8(v0 + 88, v7 >> 56);
+ store8(v0 + 87, v7 >> 48);
+ store8(v0 + 86, v7 >> 40);
+ store8(v0 + 85, v7 >> 32);
+ v3 = (u32)v7;
+ store8(v0 + 84, v3 >> 24);
+ store8(v0 + 83, v3 >> 16);
+ store8(v0 + 82, v3 >> 8);
+ store8(v0 + 81, v3);
+ store8(v0 + 80, v6 >> 56);
+ store8(v0 + 79, v6 >> 48);
+ store8(v0 + 78, v6 >> 40);
+ store8(v0 + 77, v6 >> 32);
+ v3 = (u32)v6;
+ store8(v0 + 76, v3 >> 24);
+ store8(v0 + 75, v3 >> 16);
+ store8(v0 + 74, v3 >> 8);
+ store8(v0 + 73, v3);
+ store8(v0 + 72, v22 >> 56);
+ store8(v0 + 71, v22 >> 48);
+ store8(v0 + 70, v22 >> 40);
+ store8(v0 + 69, v22 >> 32);
+ v3 = (u32)v22;
+ store8(v0 + 68, v3 >> 24);
+ store8(v0 + 67, v3 >> 16);
+ store8(v0 + 66, v3 >> 8);
+ store8(v0 + 65, v22);
+ store8(v0 + 64, v21 >> 56);
+ store8(v0 + 63, v21 >> 48);
+ store8(v0 + 62, v21 >> 40);
+ store8(v0 + 61, v21 >> 32);
+ v3 = (u32)v21;
+ store8(v0 + 60, v3 >> 24);
+ store8(v0 + 59, v3 >> 16);
+ store8(v0 + 58, v3 >> 8);
+ store8(v0 + 57, v3);
+ store8(v0 + 56, v20 >> 56);
+ store8(v0 + 55, v20 >> 48);
+ store8(v0 + 54, v20 >> 40);
+ store8(v0 + 53, v20 >> 32);
+ v3 = (u32)v20;
+ store8(v0 + 52, v3 >> 24);
+ store8(v0 + 51, v3 >> 16);
+ store8(v0 + 50, v3 >> 8);
+ store8(v0 + 49, v3);
+ store8(v0 + 48, v19 >> 56);
+ store8(v0 + 47, v19 >> 48);
+ store8(v0 + 46, v19 >> 40);
+ store8(v0 + 45, v19 >> 32);
+ v3 = (u32)v19;
+ store8(v0 + 44, v3 >> 24);
+ store8(v0 + 43, v3 >> 16);
+ store8(v0 + 42, v3 >> 8);
+ store8(v0 + 41, v3);
+ store8(v0 + 40, v18 >> 56);
+ store8(v0 + 39, v18 >> 48);
+ store8(v0 + 38, v18 >> 40);
+ store8(v0 + 37, v18 >> 32);
+ v3 = (u32)v18;
+ store8(v0 + 36, v3 >> 24);
+ store8(v0 + 35, v3 >> 16);
+ store8(v0 + 34, v3 >> 8);
+ store8(v0 + 33, v18);
+ store8(v0 + 32, v17 >> 56);
+ store8(v0 + 31, v17 >> 48);
+ store8(v0 + 30, v17 >> 40);
+ store8(v0 + 29, v17 >> 32);
+ v3 = (u32)v17;
+ store8(v0 + 28, v3 >> 24);
+ store8(v0 + 27, v3 >> 16);
+ store8(v0 + 26, v3 >> 8);
+ store8(v0 + 25, v3);
+ store8(v0 + 24, v16 >> 56);
+ store8(v0 + 23, v16 >> 48);
+ store8(v0 + 22, v16 >> 40);
+ store8(v0 + 21, v16 >> 32);
+ v3 = (u32)v16;
+ store8(v0 + 20, v3 >> 24);
+ store8(v0 + 19, v3 >> 16);
+ store8(v0 + 18, v3 >> 8);
+ store8(v0 + 17, v3);
+ store8(v0 + 16, v15 >> 56);
+ store8(v0 + 15, v15 >> 48);
+ store8(v0 + 14, v15 >> 40);
+ store8(v0 + 13, v15 >> 32);
+ v3 = (u32)v15;
+ store8(v0 + 12, v3 >> 24);
+ store8(v0 + 11, v3 >> 16);
+ store8(v0 + 10, v3 >> 8);
+ store8(v0 + 9, v3);
+ store64(v0 + 1, 0x16232454b414c42);
+ store8(v0, 1);
+ copy(v0 + 148, v2 + 128, 128);
+ goto l1;
+l1:;
+}
+
+/* rattle::export vulfsjor_ffi_blake2b_save */
+APART u32 exported_blake2b_save(u64 v0, u64 v1, u64 v2) {
+ u32 v4;
+ u64 v3;
+ FRAME(38);
+ v3 = top - 288;
+ fill(v3 + 12, 0, 276);
+ v4 = 0xffffffff;
+ if (v2 != 275) goto l2;
+ state_blake2b_State_save(v3 + 12, v0);
+ if (load8(v3 + 12) != 1) goto l2;
+ copy(v1 + (v1 == 0 ? UINT64_C(4096) : 0), v3 + 13, 275);
+ v4 = 0;
+l2:;
+ return v4;
+}
+
+/* core::cmp::slices::groups_equal::<i8,31'core::cmp::numbers::U8PartialEq{}> */
+APART u32 core_cmp_slices_groups_equal_i8_31_core_cmp_numbers_U8PartialEq(u64 v0, u64 v1, u64 v2) {
+ u32 v4, t0, t1, t2, t3, t4, t5, t6, t7, t8, t9, t10, t11, t12, t13, t14, t15, t16, t17, t18, t19,
+   t20, t21, t22, t23;
+ u64 v3, v5, v6, v7, v8, v9, v10;
+ if (v1 > 8) goto l4;
+ v3 = v1 - 4;
+ t0 = (u32)(load8(v0 + v3) != load8(v2 + v3));
+ v3 = v1 - 3;
+ t1 = t0 | (u32)(load8(v0 + v3) != load8(v2 + v3));
+ v3 = v1 - 2;
+ t2 = t1 | (u32)(load8(v0 + v3) != load8(v2 + v3));
+ v3 = v1 - 1;
+ v4 = (u32)(load8(v0) != load8(v2)) | (u32)(load8(v0 + 1) != load8(v2 + 1)) | (u32)(load8(v0 + 2) !=
+   load8(v2 + 2)) | (u32)(load8(v0 + 3) != load8(v2 + 3)) | (t2 | (u32)(load8(v0 + v3) != load8(v2 +
+   v3)));
+ goto l1;
+l4:;
+ if (v1 > 32) goto l5;
+ v1 -= 8;
+ v5 = v1 < 8 ? v1 : 8;
+ v3 = v0 + v5;
+ v5 += v2;
+ v6 = v1 < 16 ? v1 : 16;
+ v7 = v0 + v6;
+ v6 += v2;
+ v8 = v0 + v1;
+ v1 += v2;
+ t3 = (u32)(load8(v3) != load8(v5)) | (u32)(load8(v7) != load8(v6)) | (u32)(load8(v8) != load8(v1))
+   | (((u32)(load8(v3 + 1) != load8(v5 + 1)) | (u32)(load8(v7 + 1) != load8(v6 + 1)) |
+   (u32)(load8(v8 + 1) != load8(v1 + 1))) << 1);
+ t4 = (((u32)(load8(v3 + 3) != load8(v5 + 3)) | (u32)(load8(v7 + 3) != load8(v6 + 3)) |
+   (u32)(load8(v8 + 3) != load8(v1 + 3))) << 3) | (((u32)(load8(v3 + 2) != load8(v5 + 2)) |
+   (u32)(load8(v7 + 2) != load8(v6 + 2)) | (u32)(load8(v8 + 2) != load8(v1 + 2))) << 2);
+ t5 = (u32)(load8(v3 + 4) != load8(v5 + 4)) | (u32)(load8(v7 + 4) != load8(v6 + 4)) | (u32)(load8(v8
+   + 4) != load8(v1 + 4)) | (((u32)(load8(v3 + 5) != load8(v5 + 5)) | (u32)(load8(v7 + 5) !=
+   load8(v6 + 5)) | (u32)(load8(v8 + 5) != load8(v1 + 5))) << 1);
+ t6 = (((u32)(load8(v3 + 7) != load8(v5 + 7)) | (u32)(load8(v7 + 7) != load8(v6 + 7)) |
+   (u32)(load8(v8 + 7) != load8(v1 + 7))) << 3) | (((u32)(load8(v3 + 6) != load8(v5 + 6)) |
+   (u32)(load8(v7 + 6) != load8(v6 + 6)) | (u32)(load8(v8 + 6) != load8(v1 + 6))) << 2);
+ t7 = (u32)(((t3 | t4 | ((t5 | t6) << 4)) & 255) != 0) | (u32)(load8(v0) != load8(v2)) |
+   ((u32)(load8(v0 + 1) != load8(v2 + 1)) | (u32)(load8(v0 + 2) != load8(v2 + 2))) | ((u32)(load8(v0
+   + 3) != load8(v2 + 3)) | (u32)(load8(v0 + 4) != load8(v2 + 4)) | ((u32)(load8(v0 + 5) != load8(v2
+   + 5)) | (u32)(load8(v0 + 6) != load8(v2 + 6))));
+ v4 = t7 | (u32)(load8(v0 + 7) != load8(v2 + 7));
+ goto l1;
+l5:;
+ if (v1 < 65) goto l2;
+ v9 = v1 & 0xffffffffffffffc0;
+ v10 = 0;
+ v6 = v0;
+ v8 = v2;
+l7:;
+ v4 = 0;
+ v3 = 0;
+l8:;
+ v5 = v6 + v3;
+ v7 = v8 + v3;
+ v4 |= (u32)(load8(v5) != load8(v7)) | (u32)(load8(v5 + 1) != load8(v7 + 1));
+ v3 += 2;
+ if (v3 != 64) goto l8;
+ if (v4 & 1) goto l6;
+ v6 += 64;
+ v8 += 64;
+ v10 += 64;
+ if ((v1 - v10) > 63) goto l7;
+ v10 = v9;
+l6:;
+ v7 = v1 - v10;
+ if (v7 < 32) goto l9;
+ v3 = v2 + v10;
+ v5 = v0 + v10;
+l11:;
+ v4 = 1;
+ t8 = (u32)(load8(v5) != load8(v3)) | ((u32)(load8(v5 + 1) != load8(v3 + 1)) << 1) |
+   (((u32)(load8(v5 + 3) != load8(v3 + 3)) << 3) | ((u32)(load8(v5 + 2) != load8(v3 + 2)) << 2)) |
+   (((u32)(load8(v5 + 4) != load8(v3 + 4)) | ((u32)(load8(v5 + 5) != load8(v3 + 5)) << 1) |
+   (((u32)(load8(v5 + 7) != load8(v3 + 7)) << 3) | ((u32)(load8(v5 + 6) != load8(v3 + 6)) << 2))) <<
+   4);
+ t9 = (((u32)(load8(v5 + 12) != load8(v3 + 12)) | ((u32)(load8(v5 + 13) != load8(v3 + 13)) << 1) |
+   (((u32)(load8(v5 + 15) != load8(v3 + 15)) << 3) | ((u32)(load8(v5 + 14) != load8(v3 + 14)) <<
+   2))) << 12) | (((u32)(load8(v5 + 8) != load8(v3 + 8)) | ((u32)(load8(v5 + 9) != load8(v3 + 9)) <<
+   1) | (((u32)(load8(v5 + 11) != load8(v3 + 11)) << 3) | ((u32)(load8(v5 + 10) != load8(v3 + 10))
+   << 2))) << 8);
+ t10 = (u32)(load8(v5 + 16) != load8(v3 + 16)) | ((u32)(load8(v5 + 17) != load8(v3 + 17)) << 1) |
+   (((u32)(load8(v5 + 19) != load8(v3 + 19)) << 3) | ((u32)(load8(v5 + 18) != load8(v3 + 18)) << 2))
+   | (((u32)(load8(v5 + 20) != load8(v3 + 20)) | ((u32)(load8(v5 + 21) != load8(v3 + 21)) << 1) |
+   (((u32)(load8(v5 + 23) != load8(v3 + 23)) << 3) | ((u32)(load8(v5 + 22) != load8(v3 + 22)) <<
+   2))) << 4);
+ t11 = (((u32)(load8(v5 + 28) != load8(v3 + 28)) | ((u32)(load8(v5 + 29) != load8(v3 + 29)) << 1) |
+   (((u32)(load8(v5 + 31) != load8(v3 + 31)) << 3) | ((u32)(load8(v5 + 30) != load8(v3 + 30)) <<
+   2))) << 12) | (((u32)(load8(v5 + 24) != load8(v3 + 24)) | ((u32)(load8(v5 + 25) != load8(v3 +
+   25)) << 1) | (((u32)(load8(v5 + 27) != load8(v3 + 27)) << 3) | ((u32)(load8(v5 + 26) != load8(v3
+   + 26)) << 2))) << 8);
+ if ((t8 | t9 | (t10 | t11)) & 0xffff) goto l10;
+ v3 += 32;
+ v5 += 32;
+ v7 -= 32;
+ if (v7 >= 32) goto l11;
+ goto l9;
+l10:;
+ if (v7 > 31) goto l1;
+l9:;
+ v5 = v1 - 32;
+ v3 = v0 + v5;
+ v5 += v2;
+ t12 = (u32)(load8(v3) != load8(v5)) | ((u32)(load8(v3 + 1) != load8(v5 + 1)) << 1) |
+   (((u32)(load8(v3 + 3) != load8(v5 + 3)) << 3) | ((u32)(load8(v3 + 2) != load8(v5 + 2)) << 2)) |
+   (((u32)(load8(v3 + 4) != load8(v5 + 4)) | ((u32)(load8(v3 + 5) != load8(v5 + 5)) << 1) |
+   (((u32)(load8(v3 + 7) != load8(v5 + 7)) << 3) | ((u32)(load8(v3 + 6) != load8(v5 + 6)) << 2))) <<
+   4);
+ t13 = (((u32)(load8(v3 + 12) != load8(v5 + 12)) | ((u32)(load8(v3 + 13) != load8(v5 + 13)) << 1) |
+   (((u32)(load8(v3 + 15) != load8(v5 + 15)) << 3) | ((u32)(load8(v3 + 14) != load8(v5 + 14)) <<
+   2))) << 12) | (((u32)(load8(v3 + 8) != load8(v5 + 8)) | ((u32)(load8(v3 + 9) != load8(v5 + 9)) <<
+   1) | (((u32)(load8(v3 + 11) != load8(v5 + 11)) << 3) | ((u32)(load8(v3 + 10) != load8(v5 + 10))
+   << 2))) << 8);
+ t14 = (u32)(load8(v3 + 16) != load8(v5 + 16)) | ((u32)(load8(v3 + 17) != load8(v5 + 17)) << 1) |
+   (((u32)(load8(v3 + 19) != load8(v5 + 19)) << 3) | ((u32)(load8(v3 + 18) != load8(v5 + 18)) << 2))
+   | (((u32)(load8(v3 + 20) != load8(v5 + 20)) | ((u32)(load8(v3 + 21) != load8(v5 + 21)) << 1) |
+   (((u32)(load8(v3 + 23) != load8(v5 + 23)) << 3) | ((u32)(load8(v3 + 22) != load8(v5 + 22)) <<
+   2))) << 4);
+ t15 = (((u32)(load8(v3 + 28) != load8(v5 + 28)) | ((u32)(load8(v3 + 29) != load8(v5 + 29)) << 1) |
+   (((u32)(load8(v3 + 31) != load8(v5 + 31)) << 3) | ((u32)(load8(v3 + 30) != load8(v5 + 30)) <<
+   2))) << 12) | (((u32)(load8(v3 + 24) != load8(v5 + 24)) | ((u32)(load8(v3 + 25) != load8(v5 +
+   25)) << 1) | (((u32)(load8(v3 + 27) != load8(v5 + 27)) << 3) | ((u32)(load8(v3 + 26) != load8(v5
+   + 26)) << 2))) << 8);
+ v4 = (u32)(((t12 | t13 | (t14 | t15)) & 0xffff) != 0);
+ goto l1;
+l2:;
+ v5 = v1 - 32;
+ v3 = v0 + v5;
+ v5 += v2;
+ t16 = (u32)(load8(v3) != load8(v5)) | ((u32)(load8(v3 + 1) != load8(v5 + 1)) << 1) |
+   (((u32)(load8(v3 + 3) != load8(v5 + 3)) << 3) | ((u32)(load8(v3 + 2) != load8(v5 + 2)) << 2)) |
+   (((u32)(load8(v3 + 4) != load8(v5 + 4)) | ((u32)(load8(v3 + 5) != load8(v5 + 5)) << 1) |
+   (((u32)(load8(v3 + 7) != load8(v5 + 7)) << 3) | ((u32)(load8(v3 + 6) != load8(v5 + 6)) << 2))) <<
+   4);
+ t17 = (((u32)(load8(v3 + 12) != load8(v5 + 12)) | ((u32)(load8(v3 + 13) != load8(v5 + 13)) << 1) |
+   (((u32)(load8(v3 + 15) != load8(v5 + 15)) << 3) | ((u32)(load8(v3 + 14) != load8(v5 + 14)) <<
+   2))) << 12) | (((u32)(load8(v3 + 8) != load8(v5 + 8)) | ((u32)(load8(v3 + 9) != load8(v5 + 9)) <<
+   1) | (((u32)(load8(v3 + 11) != load8(v5 + 11)) << 3) | ((u32)(load8(v3 + 10) != load8(v5 + 10))
+   << 2))) << 8);
+ t18 = (u32)(load8(v3 + 16) != load8(v5 + 16)) | ((u32)(load8(v3 + 17) != load8(v5 + 17)) << 1) |
+   (((u32)(load8(v3 + 19) != load8(v5 + 19)) << 3) | ((u32)(load8(v3 + 18) != load8(v5 + 18)) << 2))
+   | (((u32)(load8(v3 + 20) != load8(v5 + 20)) | ((u32)(load8(v3 + 21) != load8(v5 + 21)) << 1) |
+   (((u32)(load8(v3 + 23) != load8(v5 + 23)) << 3) | ((u32)(load8(v3 + 22) != load8(v5 + 22)) <<
+   2))) << 4);
+ t19 = (((u32)(load8(v3 + 28) != load8(v5 + 28)) | ((u32)(load8(v3 + 29) != load8(v5 + 29)) << 1) |
+   (((u32)(load8(v3 + 31) != load8(v5 + 31)) << 3) | ((u32)(load8(v3 + 30) != load8(v5 + 30)) <<
+   2))) << 12) | (((u32)(load8(v3 + 24) != load8(v5 + 24)) | ((u32)(load8(v3 + 25) != load8(v5 +
+   25)) << 1) | (((u32)(load8(v3 + 27) != load8(v5 + 27)) << 3) | ((u32)(load8(v3 + 26) != load8(v5
+   + 26)) << 2))) << 8);
+ t20 = (u32)(((t16 | t17 | (t18 | t19)) & 0xffff) != 0) | (u32)(load8(v0) != load8(v2)) |
+   ((u32)(load8(v0 + 1) != load8(v2 + 1)) | (u32)(load8(v0 + 2) != load8(v2 + 2))) | ((u32)(load8(v0
+   + 3) != load8(v2 + 3)) | (u32)(load8(v0 + 4) != load8(v2 + 4)) | ((u32)(load8(v0 + 5) != load8(v2
+   + 5)) | (u32)(load8(v0 + 6) != load8(v2 + 6))));
+ t21 = (u32)(load8(v0 + 7) != load8(v2 + 7)) | (u32)(load8(v0 + 8) != load8(v2 + 8)) |
+   ((u32)(load8(v0 + 9) != load8(v2 + 9)) | (u32)(load8(v0 + 10) != load8(v2 + 10))) |
+   ((u32)(load8(v0 + 11) != load8(v2 + 11)) | (u32)(load8(v0 + 12) != load8(v2 + 12)) |
+   ((u32)(load8(v0 + 13) != load8(v2 + 13)) | (u32)(load8(v0 + 14) != load8(v2 + 14))));
+ t22 = (u32)(load8(v0 + 15) != load8(v2 + 15)) | (u32)(load8(v0 + 16) != load8(v2 + 16)) |
+   ((u32)(load8(v0 + 17) != load8(v2 + 17)) | (u32)(load8(v0 + 18) != load8(v2 + 18))) |
+   ((u32)(load8(v0 + 19) != load8(v2 + 19)) | (u32)(load8(v0 + 20) != load8(v2 + 20)) |
+   ((u32)(load8(v0 + 21) != load8(v2 + 21)) | (u32)(load8(v0 + 22) != load8(v2 + 22))));
+ t23 = (u32)(load8(v0 + 23) != load8(v2 + 23)) | (u32)(load8(v0 + 24) != load8(v2 + 24)) |
+   ((u32)(load8(v0 + 25) != load8(v2 + 25)) | (u32)(load8(v0 + 26) != load8(v2 + 26))) |
+   ((u32)(load8(v0 + 27) != load8(v2 + 27)) | (u32)(load8(v0 + 28) != load8(v2 + 28)) |
+   ((u32)(load8(v0 + 29) != load8(v2 + 29)) | (u32)(load8(v0 + 30) != load8(v2 + 30))));
+ v4 = t20 | t21 | (t22 | t23) | (u32)(load8(v0 + 31) != load8(v2 + 31));
+l1:;
+ return (~v4) & 1;
+}
+
+/* rattle::export vulfsjor_ffi_blake2b_load */
+APART u32 exported_blake2b_load(u64 v0, u64 v1, u64 v2) {
+ u32 v20, v21, v22, t0;
+ u64 v3, v4, v5, v6, v7, v8, v9, v10, v11, v12, v13, v14, v15, v16, v17, v18, v19, v23;
+ FRAME(114);
+ v3 = top - 896;
+ if (v2 != 275) goto l2;
+ v1 += (v1 == 0 ? UINT64_C(4096) : 0);
+ v2 = load64(v1 + 8);
+ v4 = load64(v1 + 16);
+ v5 = load64(v1 + 24);
+ v6 = load64(v1 + 32);
+ v7 = load64(v1 + 40);
+ v8 = load64(v1 + 48);
+ v9 = load64(v1 + 56);
+ v10 = load64(v1 + 64);
+ v11 = load64(v1 + 72);
+ v12 = load64(v1 + 80);
+ v13 = load64(v1 + 88);
+ v14 = load64(v1 + 96);
+ v15 = load64(v1 + 104);
+ v16 = load64(v1 + 112);
+ v17 = load64(v1 + 120);
+ v18 = load64(v1 + 128);
+ v19 = load64(v1 + 136);
+ v20 = load8(v1 + 145);
+ v21 = load8(v1 + 144);
+ v22 = load8(v1 + 146);
+ store32(v3 + 148, v22);
+ store32(v3 + 144, v21);
+ store32(v3 + 140, 0);
+ store32(v3 + 136, v20);
+ store64(v3 + 128, v19);
+ store64(v3 + 120, v18);
+ store64(v3 + 112, v17);
+ store64(v3 + 104, v16);
+ store64(v3 + 96, v15);
+ store64(v3 + 88, v14);
+ store64(v3 + 80, v13);
+ store64(v3 + 72, v12);
+ store64(v3 + 64, v11);
+ store64(v3 + 56, v10);
+ store64(v3 + 48, v9);
+ store64(v3 + 40, v8);
+ store64(v3 + 32, v7);
+ store64(v3 + 24, v6);
+ store64(v3 + 16, v5);
+ store64(v3 + 8, v4);
+ store64(v3, v2);
+ v23 = v1 + 147;
+ copy(v3 + 152, v23, 128);
+ fill(v3 + 280, 0, 64);
+ fill(v3 + 345, 0, 276);
+ state_blake2b_State_save(v3 + 345, v3);
+ if (load8(v3 + 345) != 1) goto l2;
+ copy(v3 + 621, v3 + 345 + 1, 275);
+ if (load8(v1) != load8(v3 + 621)) goto l2;
+ if ((load8(v1 + 1) & 255) != (load8(v3 + 622) & 255)) goto l2;
+ if ((load8(v1 + 2) & 255) != (load8(v3 + 623) & 255)) goto l2;
+ if ((load8(v1 + 3) & 255) != (load8(v3 + 624) & 255)) goto l2;
+ t0 = core_cmp_slices_groups_equal_i8_31_core_cmp_numbers_U8PartialEq(v1, 275, v3 + 621);
+ if (t0 == 0) goto l2;
+ copy(v3, v23, 128);
+ store32(v0 + 148, v22);
+ store32(v0 + 144, v21);
+ v21 = 0;
+ store32(v0 + 140, 0);
+ store32(v0 + 136, v20);
+ store64(v0 + 128, v19);
+ store64(v0 + 120, v18);
+ store64(v0 + 112, v17);
+ store64(v0 + 104, v16);
+ store64(v0 + 96, v15);
+ store64(v0 + 88, v14);
+ store64(v0 + 80, v13);
+ store64(v0 + 72, v12);
+ store64(v0 + 64, v11);
+ store64(v0 + 56, v10);
+ store64(v0 + 48, v9);
+ store64(v0 + 40, v8);
+ store64(v0 + 32, v7);
+ store64(v0 + 24, v6);
+ store64(v0 + 16, v5);
+ store64(v0 + 8, v4);
+ store64(v0, v2);
+ copy(v0 + 152, v3, 128);
+ fill(v0 + 280, 0, 64);
+ goto l1;
+l2:;
+ fill(v0, 0, 344);
+ v21 = 0xffffffff;
+l1:;
+ return v21;
+}
+
 /* rattle::export vulfsjor_ffi_blake2b_wipe */
 APART void exported_blake2b_wipe(u64 v0) {
  fill(v0, 0, 344);
@@ -2302,8 +2793,6 @@ APART u64 module_blake2b_state_size(void) {
  exported_blake2b_state_size();
  return 344;
 }
-
-SCRUB(digest_wiping_scrub_stack_768, 2816)
 
 /* blake2_compress::compress::blake2s::compress */
 APART void compress_compress_blake2s_compress(u64 v0, u64 v1, u64 v2, u32 v3, u32 v4) {
@@ -3055,15 +3544,53 @@ APART void compress_compress_blake2s_compress(u64 v0, u64 v1, u64 v2, u32 v3, u3
  return;
 }
 
+SCRUB(digest_wiping_scrub_stack_768, 2816)
+
+/* blake2_compress::whole::blake2s::absorb_keyed */
+APART void compress_whole_blake2s_absorb_keyed(u64 v0, u64 v1, u64 v2, u64 v3, u64 v4) {
+ u64 v5, v6;
+ FRAME(18);
+ v5 = top - 128;
+ v6 = v5;
+ fill(v6, 0, 64);
+ if (v2 == 0) goto l3;
+ copy(v6, v1, v2);
+l3:;
+ if (!(v4 == 0)) goto l4;
+ compress_compress_blake2s_compress(v0, v6, 64, 1, 0);
+ goto l1;
+l4:;
+ compress_compress_blake2s_compress(v0, v6, 64, 0, 0);
+ v1 = v4 - 1;
+ v5 = v1 >> 6;
+ if (v5 == 0) goto l5;
+ v2 = 128;
+l6:;
+ compress_compress_blake2s_compress(v0, v3 + v2 - 128, v2, 0, 0);
+ v2 += 64;
+ v5 -= 1;
+ if (v5 != 0) goto l6;
+l5:;
+ fill(v6 + 64, 0, 64);
+ v2 = v1 & 0xffffffffffffffc0;
+ v5 = v4 - v2;
+ if (v5 == 0) goto l7;
+ copy(v6 + 64, v3 + v2, v5);
+l7:;
+ compress_compress_blake2s_compress(v0, v6 + 64, v4 + 64, 1, 0);
+ goto l1;
+l1:;
+}
+
 /* blake2_ffi::blake2s::write_digest */
 APART void ffi_blake2s_write_digest(u64 v0, u64 v1, u64 v2, u64 v3, u64 v4) {
  u32 v8;
  u64 v5, v6, v7;
- FRAME(26);
- v5 = top - 192;
+ FRAME(18);
+ v5 = top - 128;
  v6 = load64(v4 + 16);
  v7 = load64(v4 + 8);
- fill(v5 + 27, 0, 5);
+ fill(v5, 0, 32);
  v8 = load8(v4);
  store32(v5 + 60, 0x5be0cd19);
  store64(v5 + 52, 0x1f83d9ab9b05688c);
@@ -3071,68 +3598,36 @@ APART void ffi_blake2s_write_digest(u64 v0, u64 v1, u64 v2, u64 v3, u64 v4) {
  store64(v5 + 36, 0x3c6ef372bb67ae85);
  store32(v5 + 32, ((v8 ? ((((u32)v6 << 8) & 0xff00) | 0x1010000) : 0x1010000) | ((u32)v1 & 255)) ^
    0x6a09e667);
- if (v8) goto l4;
+ if (v8) goto l3;
  v7 = v3 - (u64)(u32)(v3 != 0);
  v6 = v7 >> 6;
- if (v6 == 0) goto l5;
+ if (v6 == 0) goto l4;
  v4 = 64;
-l6:;
+l5:;
  compress_compress_blake2s_compress(v5 + 32, v2 + v4 - 64, v4, 0, 0);
  v4 += 64;
  v6 -= 1;
- if (v6 != 0) goto l6;
-l5:;
- fill(v5 + 128, 0, 64);
- v4 = v7 & 0xffffffffffffffc0;
- v6 = v3 - v4;
- if (v6 == 0) goto l7;
- copy(v5 + 128, v2 + v4, v6);
-l7:;
- compress_compress_blake2s_compress(v5 + 32, v5 + 128, v3, 1, 0);
- goto l3;
+ if (v6 != 0) goto l5;
 l4:;
  fill(v5 + 64, 0, 64);
- if (v6 == 0) goto l8;
- copy(v5 + 64, v7, v6);
-l8:;
- if (v3 != 0) goto l9;
- compress_compress_blake2s_compress(v5 + 32, v5 + 64, 64, 1, 0);
- goto l3;
-l9:;
- compress_compress_blake2s_compress(v5 + 32, v5 + 64, 64, 0, 0);
- v7 = v3 - 1;
- v6 = v7 >> 6;
- if (v6 == 0) goto l10;
- v4 = 128;
-l11:;
- compress_compress_blake2s_compress(v5 + 32, v2 + v4 - 128, v4, 0, 0);
- v4 += 64;
- v6 -= 1;
- if (v6 != 0) goto l11;
-l10:;
- fill(v5 + 128, 0, 64);
  v4 = v7 & 0xffffffffffffffc0;
  v6 = v3 - v4;
- if (v6 == 0) goto l12;
- copy(v5 + 128, v2 + v4, v6);
-l12:;
- compress_compress_blake2s_compress(v5 + 32, v5 + 128, v3 + 64, 1, 0);
+ if (v6 == 0) goto l6;
+ copy(v5 + 64, v2 + v4, v6);
+l6:;
+ compress_compress_blake2s_compress(v5 + 32, v5 + 64, v3, 1, 0);
+ goto l2;
 l3:;
+ compress_whole_blake2s_absorb_keyed(v5 + 32, v7, v6, v2, v3);
+l2:;
  store64(v5, load64(v5 + 32));
  store64(v5 + 8, load64(v5 + 40));
  store64(v5 + 16, load64(v5 + 48));
  store64(v5 + 24, load64(v5 + 56));
- if (v1 != 32) goto l13;
- store64(v0 + 24, load64(v5 + 24));
- store64(v0 + 16, load64(v5 + 16));
- store64(v0 + 8, load64(v5 + 8));
- store64(v0, load64(v5));
- goto l1;
-l13:;
- if (v1 == 0) goto l1;
+ if (v1 == 0) goto l7;
  copy(v0, v5, v1);
- goto l1;
-l1:;
+l7:;
+ return;
 }
 
 /* blake2_ffi::blake2s::write_keyed */
@@ -3156,78 +3651,86 @@ l2:;
 
 /* rattle::export vulfsjor_ffi_blake2s */
 APART u32 exported_blake2s(u64 v0, u64 v1, u64 v2, u64 v3, u64 v4, u64 v5) {
- u32 v7;
- u64 v6;
- FRAME(6);
- v6 = top - 32;
- v2 += (v2 == 0 ? UINT64_C(4096) : 0);
- v0 += (v0 == 0 ? UINT64_C(4096) : 0);
+ u32 v9;
+ u64 v6, v7, v8;
+ FRAME(18);
+ v6 = top - 128;
+ v7 = v2 + (v2 == 0 ? UINT64_C(4096) : 0);
+ v8 = v0 + (v0 == 0 ? UINT64_C(4096) : 0);
  fill(v6 + 16, 0, 16);
- if (v5 == 0) goto l3;
- v7 = ffi_blake2s_write_keyed(v0, v1, v2, v3, v4 + (v4 == 0 ? UINT64_C(4096) : 0), v5);
+ if (v5 == 0) goto l4;
+ v9 = ffi_blake2s_write_keyed(v8, v1, v7, v3, v4 + (v4 == 0 ? UINT64_C(4096) : 0), v5);
  digest_wiping_scrub_stack_768();
- goto l2;
-l3:;
- v7 = 0xffffffff;
- if ((v1 - 1) > 31) goto l2;
- store64(v6 + 8, 0);
- ffi_blake2s_write_digest(v0, v1, v2, v3, v6 + 8);
- v7 = 0;
+ goto l1;
+l4:;
+ v9 = 0xffffffff;
+ if ((v1 - 1) > 31) goto l1;
+ if (v1 != 32) goto l2;
+ store64(v6 + 56, 0x5be0cd191f83d9ab);
+ store64(v6 + 48, 0x9b05688c510e527f);
+ store64(v6 + 40, 0xa54ff53a3c6ef372);
+ store64(v6 + 32, 0xbb67ae856b08e647);
+ v5 = v3 - (u64)(u32)(v3 != 0);
+ v0 = v5 >> 6;
+ if (v0 == 0) goto l5;
+ v2 = 64;
+l6:;
+ compress_compress_blake2s_compress(v6 + 32, v7 + v2 - 64, v2, 0, 0);
+ v2 += 64;
+ v0 -= 1;
+ if (v0 != 0) goto l6;
+l5:;
+ fill(v6 + 64, 0, 64);
+ v2 = v5 & 0xffffffffffffffc0;
+ v0 = v3 - v2;
+ if (v0 == 0) goto l7;
+ copy(v6 + 64, v7 + v2, v0);
+l7:;
+ v9 = 0;
+ compress_compress_blake2s_compress(v6 + 32, v6 + 64, v3, 1, 0);
+ v2 = load64(v6 + 32);
+ v0 = load64(v6 + 40);
+ v7 = load64(v6 + 48);
+ store64(v8 + 24, load64(v6 + 56));
+ store64(v8 + 16, v7);
+ store64(v8 + 8, v0);
+ store64(v8, v2);
+ goto l1;
 l2:;
- return v7;
+ store64(v6 + 8, 0);
+ ffi_blake2s_write_digest(v8, v1, v7, v3, v6 + 8);
+ v9 = 0;
+l1:;
+ return v9;
 }
 
 SCRUB(digest_wiping_scrub_stack_5632, 7680)
 
 /* blake2_state::blake2s::State::write_digest */
 APART void state_blake2s_State_write_digest(u64 v0, u64 v1) {
- u32 v3, v6;
- u64 v2, v4, v5;
- FRAME(42);
- v2 = top - 320;
- fill(v2 + 192, 0, 64);
- store64(v2 + 112, load64(v0));
- store64(v2 + 120, load64(v0 + 8));
- store64(v2 + 128, load64(v0 + 16));
- store64(v2 + 136, load64(v0 + 24));
- store64(v2 + 144, load64(v0 + 32));
- store64(v2 + 152, load64(v0 + 40));
- store64(v2 + 160, load64(v0 + 48));
- store64(v2 + 168, load64(v0 + 56));
- v3 = (u32)(load16(v0 + 78) != 0);
- store64(v2 + 184, (u64)v3);
- v4 = load64(v0 + 64);
- v5 = (u64)load16(v0 + 72);
- v6 = (u32)(v5 == 0);
- if (v6) goto l2;
- copy(v2 + 192, v0 + 80, v5);
+ u64 v2, v3;
+ FRAME(18);
+ v2 = top - 128;
+ fill(v2, 0, 32);
+ fill(v2 + 64, 0, 64);
+ store64(v2 + 56, load64(v0 + 24));
+ store64(v2 + 48, load64(v0 + 16));
+ store64(v2 + 40, load64(v0 + 8));
+ store64(v2 + 32, load64(v0));
+ v3 = (u64)load16(v0 + 72);
+ if (v3 == 0) goto l2;
+ copy(v2 + 64, v0 + 80, v3);
 l2:;
- store64(v2 + 104, v5);
- fill(v2 + 8, 0, 32);
- store64(v2 + 96, load64(v2 + 248));
- store64(v2 + 88, load64(v2 + 240));
- store64(v2 + 80, load64(v2 + 232));
- store64(v2 + 72, load64(v2 + 224));
- store64(v2 + 64, load64(v2 + 216));
- store64(v2 + 56, load64(v2 + 208));
- store64(v2 + 48, load64(v2 + 200));
- store64(v2 + 40, load64(v2 + 192));
- store64(v2 + 256, 0);
- v4 += v5;
- store64(v2 + 176, v4);
- fill(v2 + 264, 0, 56);
- if (v6) goto l3;
- copy(v2 + 256, v2 + 40, v5);
-l3:;
- compress_compress_blake2s_compress(v2 + 112, v2 + 256, v4, 1, v3);
- store64(v2 + 8, load64(v2 + 112));
- store64(v2 + 16, load64(v2 + 120));
- store64(v2 + 24, load64(v2 + 128));
- store64(v2 + 32, load64(v2 + 136));
+ compress_compress_blake2s_compress(v2 + 32, v2 + 64, load64(v0 + 64) + v3, 1, (u32)(load16(v0 + 78)
+   != 0));
+ store64(v2, load64(v2 + 32));
+ store64(v2 + 8, load64(v2 + 40));
+ store64(v2 + 16, load64(v2 + 48));
+ store64(v2 + 24, load64(v2 + 56));
  v0 = (u64)load16(v0 + 76);
- if (v0 == 0) goto l4;
- copy(v1, v2 + 8, v0);
-l4:;
+ if (v0 == 0) goto l3;
+ copy(v1, v2, v0);
+l3:;
  return;
 }
 
@@ -4049,6 +4552,278 @@ APART u32 exported_blake2s_reset(u64 v0) {
  v1 = 0;
 l2:;
  return v1;
+}
+
+/* blake2_state::blake2s::State::save */
+APART void state_blake2s_State_save(u64 v0, u64 v1) {
+ u32 v3, v4, v5, v6, v7, v8, v9, v10, v11, v12, v14, v15, v16, v17, v18, v19, v20, v21, v22;
+ u64 v2, v13, v23;
+ FRAME(18);
+ v2 = top - 128;
+ v3 = load16(v1 + 76);
+ if (((v3 - 1) & 0xffff) > 31) goto l3;
+ v4 = load16(v1 + 72);
+ if (v4 > 64) goto l3;
+ v5 = load16(v1 + 74);
+ if (v5 > 64) goto l3;
+ if (load64(v1 + 64) > sign64((u64)(~v4), 0x8000)) goto l3;
+ if (v5) goto l3;
+ v5 = load32(v1 + 32);
+ if ((v5 & 0xff00) == 0xe600) goto l2;
+l3:;
+ fill(v0, 0, 148);
+ return;
+l2:;
+ fill(v2 + 64, 0, 64);
+ v6 = load32(v1 + 36);
+ v7 = load32(v1 + 40);
+ v8 = load32(v1 + 44);
+ v9 = load32(v1 + 48);
+ v10 = load32(v1 + 52);
+ v11 = load32(v1 + 56);
+ v12 = load32(v1 + 60);
+ v13 = load64(v1 + 64);
+ v14 = load16(v1 + 78);
+ v15 = load32(v1);
+ v16 = load32(v1 + 4);
+ v17 = load32(v1 + 8);
+ v18 = load32(v1 + 12);
+ v19 = load32(v1 + 16);
+ v20 = load32(v1 + 20);
+ v21 = load32(v1 + 24);
+ v22 = load32(v1 + 28);
+ v23 = (u64)v4;
+ if (v23 == 0) goto l4;
+ copy(v2 + 64, v1 + 80, v23);
+l4:;
+ store64(v2 + 56, load64(v2 + 120));
+ store64(v2 + 48, load64(v2 + 112));
+ store64(v2 + 40, load64(v2 + 104));
+ store64(v2 + 32, load64(v2 + 96));
+ store64(v2 + 24, load64(v2 + 88));
+ store64(v2 + 16, load64(v2 + 80));
+ store64(v2 + 8, load64(v2 + 72));
+ store64(v2, load64(v2 + 64));
+ store8(v0 + 83, (u32)(v14 != 0));
+ store8(v0 + 82, v4);
+ store8(v0 + 81, v3);
+ store64(v0 + 73, v13);
+ store8(v0 + 72, v12 >> 24);
+ store8(v0 + 71, v12 >> 16);
+ store8(v0 + 70, v12 >> 8);
+ store8(v0 + 69, v12);
+ store8(v0 + 68, v11 >> 24);
+ store8(v0 + 67, v11 >> 16);
+ store8(v0 + 66, v11 >> 8);
+ store8(v0 + 65, v11);
+ store8(v0 + 64, v10 >> 24);
+ store8(v0 + 63, v10 >> 16);
+ store8(v0 + 62, v10 >> 8);
+ store8(v0 + 61, v10);
+ store8(v0 + 60, v9 >> 24);
+ store8(v0 + 59, v9 >> 16);
+ store8(v0 + 58, v9 >> 8);
+ store8(v0 + 57, v9);
+ store8(v0 + 56, v8 >> 24);
+ store8(v0 + 55, v8 >> 16);
+ store8(v0 + 54, v8 >> 8);
+ store8(v0 + 53, v8);
+ store8(v0 + 52, v7 >> 24);
+ store8(v0 + 51, v7 >> 16);
+ store8(v0 + 50, v7 >> 8);
+ store8(v0 + 49, v7);
+ store8(v0 + 48, v6 >> 24);
+ store8(v0 + 47, v6 >> 16);
+ store8(v0 + 46, v6 >> 8);
+ store8(v0 + 45, v6);
+ store8(v0 + 44, v5 >> 24);
+ store8(v0 + 43, v5 >> 16);
+ store8(v0 + 42, v5 >> 8);
+ store8(v0 + 41, v5);
+ store8(v0 + 40, v22 >> 24);
+ store8(v0 + 39, v22 >> 16);
+ store8(v0 + 38, v22 >> 8);
+ store8(v0 + 37, v22);
+ store8(v0 + 36, v21 >> 24);
+ store8(v0 + 35, v21 >> 16);
+ store8(v0 + 34, v21 >> 8);
+ store8(v0 + 33, v21);
+ store8(v0 + 32, v20 >> 24);
+ store8(v0 + 31, v20 >> 16);
+ store8(v0 + 30, v20 >> 8);
+ store8(v0 + 29, v20);
+ store8(v0 + 28, v19 >> 24);
+ store8(v0 + 27, v19 >> 16);
+ store8(v0 + 26, v19 >> 8);
+ store8(v0 + 25, v19);
+ store8(v0 + 24, v18 >> 24);
+ store8(v0 + 23, v18 >> 16);
+ store8(v0 + 22, v18 >> 8);
+ store8(v0 + 21, v18);
+ store8(v0 + 20, v17 >> 24);
+ store8(v0 + 19, v17 >> 16);
+ store8(v0 + 18, v17 >> 8);
+ store8(v0 + 17, v17);
+ store8(v0 + 16, v16 >> 24);
+ store8(v0 + 15, v16 >> 16);
+ store8(v0 + 14, v16 >> 8);
+ store8(v0 + 13, v16);
+ store8(v0 + 12, v15 >> 24);
+ store8(v0 + 11, v15 >> 16);
+ store8(v0 + 10, v15 >> 8);
+ store8(v0 + 9, v15);
+ store64(v0 + 1, 0x17332454b414c42);
+ store8(v0, 1);
+ store64(v0 + 140, load64(v2 + 56));
+ store64(v0 + 132, load64(v2 + 48));
+ store64(v0 + 124, load64(v2 + 40));
+ store64(v0 + 116, load64(v2 + 32));
+ store64(v0 + 108, load64(v2 + 24));
+ store64(v0 + 100, load64(v2 + 16));
+ store64(v0 + 92, load64(v2 + 8));
+ store64(v0 + 84, load64(v2));
+ return;
+}
+
+/* rattle::export vulfsjor_ffi_blake2s_save */
+APART u32 exported_blake2s_save(u64 v0, u64 v1, u64 v2) {
+ u32 v4;
+ u64 v3;
+ FRAME(22);
+ v3 = top - 160;
+ fill(v3 + 12, 0, 148);
+ v4 = 0xffffffff;
+ if (v2 != 147) goto l2;
+ state_blake2s_State_save(v3 + 12, v0);
+ if (load8(v3 + 12) != 1) goto l2;
+ copy(v1 + (v1 == 0 ? UINT64_C(4096) : 0), v3 + 13, 147);
+ v4 = 0;
+l2:;
+ return v4;
+}
+
+/* rattle::export vulfsjor_ffi_blake2s_load */
+APART u32 exported_blake2s_load(u64 v0, u64 v1, u64 v2) {
+ u32 v4, v5, v6, v7, v8, v9, v10, v11, v12, v13, v14, v15, v16, v17, v18, v19, v20, v21, v22, t0;
+ u64 v3, v23, v24, v25, v26, v27, v28, v29;
+ FRAME(62);
+ v3 = top - 480;
+ if (v2 != 147) goto l2;
+ v1 += (v1 == 0 ? UINT64_C(4096) : 0);
+ v4 = load32(v1 + 8);
+ v5 = load32(v1 + 12);
+ v6 = load32(v1 + 16);
+ v7 = load32(v1 + 20);
+ v8 = load32(v1 + 24);
+ v9 = load32(v1 + 28);
+ v10 = load32(v1 + 32);
+ v11 = load32(v1 + 36);
+ v12 = load32(v1 + 40);
+ v13 = load32(v1 + 44);
+ v14 = load32(v1 + 48);
+ v15 = load32(v1 + 52);
+ v16 = load32(v1 + 56);
+ v17 = load32(v1 + 60);
+ v18 = load32(v1 + 64);
+ v19 = load32(v1 + 68);
+ v2 = load64(v1 + 72);
+ v20 = load8(v1 + 81);
+ v21 = load8(v1 + 80);
+ v22 = load8(v1 + 82);
+ store16(v3 + 86, v22);
+ store16(v3 + 84, v21);
+ store16(v3 + 82, 0);
+ store16(v3 + 80, v20);
+ store64(v3 + 72, v2);
+ store32(v3 + 68, v19);
+ store32(v3 + 64, v18);
+ store32(v3 + 60, v17);
+ store32(v3 + 56, v16);
+ store32(v3 + 52, v15);
+ store32(v3 + 48, v14);
+ store32(v3 + 44, v13);
+ store32(v3 + 40, v12);
+ store32(v3 + 36, v11);
+ store32(v3 + 32, v10);
+ store32(v3 + 28, v9);
+ store32(v3 + 24, v8);
+ store32(v3 + 20, v7);
+ store32(v3 + 16, v6);
+ store32(v3 + 12, v5);
+ store32(v3 + 8, v4);
+ fill(v3 + 152, 0, 32);
+ store64(v3 + 144, load64(v1 + 139));
+ store64(v3 + 136, load64(v1 + 131));
+ store64(v3 + 128, load64(v1 + 123));
+ store64(v3 + 120, load64(v1 + 115));
+ store64(v3 + 112, load64(v1 + 107));
+ store64(v3 + 104, load64(v1 + 99));
+ store64(v3 + 96, load64(v1 + 91));
+ v23 = v1 + 83;
+ store64(v3 + 88, load64(v23));
+ fill(v3 + 185, 0, 148);
+ state_blake2s_State_save(v3 + 185, v3 + 8);
+ if (load8(v3 + 185) != 1) goto l2;
+ copy(v3 + 333, v3 + 185 + 1, 147);
+ if (load8(v1) != load8(v3 + 333)) goto l2;
+ if ((load8(v1 + 1) & 255) != (load8(v3 + 334) & 255)) goto l2;
+ if ((load8(v1 + 2) & 255) != (load8(v3 + 335) & 255)) goto l2;
+ if ((load8(v1 + 3) & 255) != (load8(v3 + 336) & 255)) goto l2;
+ t0 = core_cmp_slices_groups_equal_i8_31_core_cmp_numbers_U8PartialEq(v1, 147, v3 + 333);
+ if (t0 == 0) goto l2;
+ v1 = load64(v23 + 56);
+ v24 = load64(v23 + 48);
+ v25 = load64(v23 + 40);
+ v26 = load64(v23 + 32);
+ v27 = load64(v23 + 24);
+ v28 = load64(v23 + 16);
+ v29 = load64(v23 + 8);
+ v23 = load64(v23);
+ store16(v0 + 78, v22);
+ store16(v0 + 76, v21);
+ v21 = 0;
+ store16(v0 + 74, 0);
+ store16(v0 + 72, v20);
+ store64(v0 + 64, v2);
+ store32(v0 + 60, v19);
+ store32(v0 + 56, v18);
+ store32(v0 + 52, v17);
+ store32(v0 + 48, v16);
+ store32(v0 + 44, v15);
+ store32(v0 + 40, v14);
+ store32(v0 + 36, v13);
+ store32(v0 + 32, v12);
+ store32(v0 + 28, v11);
+ store32(v0 + 24, v10);
+ store32(v0 + 20, v9);
+ store32(v0 + 16, v8);
+ store32(v0 + 12, v7);
+ store32(v0 + 8, v6);
+ store32(v0 + 4, v5);
+ store32(v0, v4);
+ store64(v3 + 8, v23);
+ store64(v3 + 16, v29);
+ store64(v3 + 24, v28);
+ store64(v3 + 32, v27);
+ store64(v3 + 40, v26);
+ store64(v3 + 48, v25);
+ store64(v3 + 56, v24);
+ store64(v3 + 64, v1);
+ fill(v0 + 144, 0, 32);
+ store64(v0 + 136, load64(v3 + 64));
+ store64(v0 + 128, load64(v3 + 56));
+ store64(v0 + 120, load64(v3 + 48));
+ store64(v0 + 112, load64(v3 + 40));
+ store64(v0 + 104, load64(v3 + 32));
+ store64(v0 + 96, load64(v3 + 24));
+ store64(v0 + 88, load64(v3 + 16));
+ store64(v0 + 80, load64(v3 + 8));
+ goto l1;
+l2:;
+ fill(v0, 0, 176);
+ v21 = 0xffffffff;
+l1:;
+ return v21;
 }
 
 /* rattle::export vulfsjor_ffi_blake2s_wipe */
@@ -12885,6 +13660,14 @@ int32_t NAME(blake2b_reset)(vulfsjor_blake2b_state *state) {
     return (int32_t)exported_blake2b_reset(ADDRESS(state));
 }
 
+int32_t NAME(blake2b_save)(const vulfsjor_blake2b_state *state, uint8_t *out, size_t out_length) {
+    return (int32_t)exported_blake2b_save(ADDRESS(state), ADDRESS(out), out_length);
+}
+
+int32_t NAME(blake2b_load)(vulfsjor_blake2b_state *state, const uint8_t *saved, size_t saved_length) {
+    return (int32_t)exported_blake2b_load(ADDRESS(state), ADDRESS(saved), saved_length);
+}
+
 void NAME(blake2b_wipe)(vulfsjor_blake2b_state *state) {
     exported_blake2b_wipe(ADDRESS(state));
 }
@@ -12981,6 +13764,14 @@ int32_t NAME(blake2s_set_last_node)(vulfsjor_blake2s_state *state, uint32_t on) 
 
 int32_t NAME(blake2s_reset)(vulfsjor_blake2s_state *state) {
     return (int32_t)exported_blake2s_reset(ADDRESS(state));
+}
+
+int32_t NAME(blake2s_save)(const vulfsjor_blake2s_state *state, uint8_t *out, size_t out_length) {
+    return (int32_t)exported_blake2s_save(ADDRESS(state), ADDRESS(out), out_length);
+}
+
+int32_t NAME(blake2s_load)(vulfsjor_blake2s_state *state, const uint8_t *saved, size_t saved_length) {
+    return (int32_t)exported_blake2s_load(ADDRESS(state), ADDRESS(saved), saved_length);
 }
 
 void NAME(blake2s_wipe)(vulfsjor_blake2s_state *state) {

@@ -1212,6 +1212,52 @@ unsafe fn compress_compress_blake2b_compress(mut v0: u64, mut v1: u64, mut v2: u
  return;
 }
 
+// blake2_compress::whole::blake2b::absorb_keyed
+#[inline(never)]
+unsafe fn compress_whole_blake2b_absorb_keyed(mut v0: u64, mut v1: u64, mut v2: u64, mut v3: u64,
+        mut v4: u64) {
+ let mut v5: u64;
+ let mut v6: u64;
+ let mut frame = [0_u64; 34];
+ let top = (address!(frame)).plus(272) & !15;
+ v5 = top.minus(256);
+ 'l1: loop {
+ v6 = v5;
+ fill(v6, 0, 128);
+ 'l3: loop {
+ if v2 == 0 { break 'l3; }
+ copy(v6, v1, v2);
+ break 'l3; }
+ 'l4: loop {
+ if !(v4 == 0) { break 'l4; }
+ compress_compress_blake2b_compress(v0, v6, 128, 1, 0);
+ break 'l1;
+ }
+ compress_compress_blake2b_compress(v0, v6, 128, 0, 0);
+ 'l5: loop {
+ v1 = v4.minus(1);
+ v5 = v1 >> 7;
+ if v5 == 0 { break 'l5; }
+ v2 = 256;
+ 'l6: loop {
+ compress_compress_blake2b_compress(v0, v3.plus(v2).minus(256), v2, 0, 0);
+ v2 = v2.plus(128);
+ v5 = v5.minus(1);
+ if v5 != 0 { continue 'l6; }
+ break 'l6; }
+ break 'l5; }
+ fill(v6.plus(128), 0, 128);
+ 'l7: loop {
+ v2 = v1 & 0xffffffffffffff80;
+ v5 = v4.minus(v2);
+ if v5 == 0 { break 'l7; }
+ copy(v6.plus(128), v3.plus(v2), v5);
+ break 'l7; }
+ compress_compress_blake2b_compress(v0, v6.plus(128), v4.plus(128), 1, 0);
+ break 'l1;
+ }
+}
+
 // blake2_ffi::blake2b::write_digest
 #[inline(never)]
 unsafe fn ffi_blake2b_write_digest(mut v0: u64, mut v1: u64, mut v2: u64, mut v3: u64, mut v4: u64)
@@ -1220,10 +1266,9 @@ unsafe fn ffi_blake2b_write_digest(mut v0: u64, mut v1: u64, mut v2: u64, mut v3
  let mut v6: u64;
  let mut v7: u64;
  let mut v8: u32;
- let mut frame = [0_u64; 50];
- let top = (address!(frame)).plus(400) & !15;
- v5 = top.minus(384);
- 'l1: loop {
+ let mut frame = [0_u64; 34];
+ let top = (address!(frame)).plus(272) & !15;
+ v5 = top.minus(256);
  v6 = load64(v4.plus(16));
  v7 = load64(v4.plus(8));
  fill(v5, 0, 64);
@@ -1237,63 +1282,33 @@ unsafe fn ffi_blake2b_write_digest(mut v0: u64, mut v1: u64, mut v2: u64, mut v3
  store64(v5 + 72, 0xbb67ae8584caa73b);
  store64(v5 + 64, (((if v8 != 0 { ((((v6 as u32) << 8) & 0xff00) | 0x1010000) } else { 0x1010000 })
    | ((v1 as u32) & 255)) as u64) ^ 0x6a09e667f3bcc908);
+ 'l2: loop {
  'l3: loop {
+ if v8 != 0 { break 'l3; }
  'l4: loop {
- if v8 != 0 { break 'l4; }
- 'l5: loop {
  v7 = v3.minus(((v3 != 0) as u32) as u64);
  v6 = v7 >> 7;
- if v6 == 0 { break 'l5; }
+ if v6 == 0 { break 'l4; }
  v4 = 128;
- 'l6: loop {
+ 'l5: loop {
  compress_compress_blake2b_compress(v5.plus(64), v2.plus(v4).minus(128), v4, 0, 0);
  v4 = v4.plus(128);
  v6 = v6.minus(1);
- if v6 != 0 { continue 'l6; }
- break 'l6; }
+ if v6 != 0 { continue 'l5; }
  break 'l5; }
- fill(v5.plus(256), 0, 128);
- 'l7: loop {
- v4 = v7 & 0xffffffffffffff80;
- v6 = v3.minus(v4);
- if v6 == 0 { break 'l7; }
- copy(v5.plus(256), v2.plus(v4), v6);
- break 'l7; }
- compress_compress_blake2b_compress(v5.plus(64), v5.plus(256), v3, 1, 0);
- break 'l3;
- }
+ break 'l4; }
  fill(v5.plus(128), 0, 128);
- 'l8: loop {
- if v6 == 0 { break 'l8; }
- copy(v5.plus(128), v7, v6);
- break 'l8; }
- 'l9: loop {
- if v3 != 0 { break 'l9; }
- compress_compress_blake2b_compress(v5.plus(64), v5.plus(128), 128, 1, 0);
- break 'l3;
- }
- compress_compress_blake2b_compress(v5.plus(64), v5.plus(128), 128, 0, 0);
- 'l10: loop {
- v7 = v3.minus(1);
- v6 = v7 >> 7;
- if v6 == 0 { break 'l10; }
- v4 = 256;
- 'l11: loop {
- compress_compress_blake2b_compress(v5.plus(64), v2.plus(v4).minus(256), v4, 0, 0);
- v4 = v4.plus(128);
- v6 = v6.minus(1);
- if v6 != 0 { continue 'l11; }
- break 'l11; }
- break 'l10; }
- fill(v5.plus(256), 0, 128);
- 'l12: loop {
+ 'l6: loop {
  v4 = v7 & 0xffffffffffffff80;
  v6 = v3.minus(v4);
- if v6 == 0 { break 'l12; }
- copy(v5.plus(256), v2.plus(v4), v6);
- break 'l12; }
- compress_compress_blake2b_compress(v5.plus(64), v5.plus(256), v3.plus(128), 1, 0);
- break 'l3; }
+ if v6 == 0 { break 'l6; }
+ copy(v5.plus(128), v2.plus(v4), v6);
+ break 'l6; }
+ compress_compress_blake2b_compress(v5.plus(64), v5.plus(128), v3, 1, 0);
+ break 'l2;
+ }
+ compress_whole_blake2b_absorb_keyed(v5.plus(64), v7, v6, v2, v3);
+ break 'l2; }
  store64(v5 + 56, load64(v5 + 120));
  store64(v5 + 48, load64(v5 + 112));
  store64(v5 + 40, load64(v5 + 104));
@@ -1302,22 +1317,11 @@ unsafe fn ffi_blake2b_write_digest(mut v0: u64, mut v1: u64, mut v2: u64, mut v3
  store64(v5 + 16, load64(v5 + 80));
  store64(v5 + 8, load64(v5 + 72));
  store64(v5, load64(v5 + 64));
- 'l13: loop {
- if v1 != 64 { break 'l13; }
- store64(v0 + 56, load64(v5 + 56));
- store64(v0 + 48, load64(v5 + 48));
- store64(v0 + 40, load64(v5 + 40));
- store64(v0 + 32, load64(v5 + 32));
- store64(v0 + 24, load64(v5 + 24));
- store64(v0 + 16, load64(v5 + 16));
- store64(v0 + 8, load64(v5 + 8));
- store64(v0, load64(v5));
- break 'l1;
- }
- if v1 == 0 { break 'l1; }
+ 'l7: loop {
+ if v1 == 0 { break 'l7; }
  copy(v0, v5, v1);
- break 'l1;
- }
+ break 'l7; }
+ return;
 }
 
 // blake2_ffi::blake2b::write_keyed
@@ -1357,27 +1361,77 @@ unsafe fn digest_wiping_scrub_stack_1536() {
 unsafe fn exported_blake2b(mut v0: u64, mut v1: u64, mut v2: u64, mut v3: u64, mut v4: u64, mut v5:
         u64) -> u32 {
  let mut v6: u64;
- let mut v7: u32;
- let mut frame = [0_u64; 6];
- let top = (address!(frame)).plus(48) & !15;
- v6 = top.minus(32);
- v2 = v2.plus(if v2 == 0 { 4096_u64 } else { 0 });
- v0 = v0.plus(if v0 == 0 { 4096_u64 } else { 0 });
- fill(v6 + 16, 0, 16);
+ let mut v7: u64;
+ let mut v8: u64;
+ let mut v9: u32;
+ let mut frame = [0_u64; 30];
+ let top = (address!(frame)).plus(240) & !15;
+ v6 = top.minus(224);
+ 'l1: loop {
  'l2: loop {
- 'l3: loop {
- if v5 == 0 { break 'l3; }
- v7 = ffi_blake2b_write_keyed(v0, v1, v2, v3, v4.plus(if v4 == 0 { 4096_u64 } else { 0 }), v5);
+ v7 = v2.plus(if v2 == 0 { 4096_u64 } else { 0 });
+ v8 = v0.plus(if v0 == 0 { 4096_u64 } else { 0 });
+ fill(v6 + 16, 0, 16);
+ 'l4: loop {
+ if v5 == 0 { break 'l4; }
+ v9 = ffi_blake2b_write_keyed(v8, v1, v7, v3, v4.plus(if v4 == 0 { 4096_u64 } else { 0 }), v5);
  digest_wiping_scrub_stack_1536();
- break 'l2;
+ break 'l1;
  }
- v7 = 0xffffffff;
- if v1.minus(1) > 63 { break 'l2; }
+ v9 = 0xffffffff;
+ if v1.minus(1) > 63 { break 'l1; }
+ if v1 != 64 { break 'l2; }
+ store64(v6 + 88, 0x5be0cd19137e2179);
+ store64(v6 + 80, 0x1f83d9abfb41bd6b);
+ store64(v6 + 72, 0x9b05688c2b3e6c1f);
+ store64(v6 + 64, 0x510e527fade682d1);
+ store64(v6 + 56, 0xa54ff53a5f1d36f1);
+ store64(v6 + 48, 0x3c6ef372fe94f82b);
+ store64(v6 + 40, 0xbb67ae8584caa73b);
+ store64(v6 + 32, 0x6a09e667f2bdc948);
+ 'l5: loop {
+ v5 = v3.minus(((v3 != 0) as u32) as u64);
+ v0 = v5 >> 7;
+ if v0 == 0 { break 'l5; }
+ v2 = 128;
+ 'l6: loop {
+ compress_compress_blake2b_compress(v6.plus(32), v7.plus(v2).minus(128), v2, 0, 0);
+ v2 = v2.plus(128);
+ v0 = v0.minus(1);
+ if v0 != 0 { continue 'l6; }
+ break 'l6; }
+ break 'l5; }
+ v9 = 0;
+ fill(v6.plus(96), 0, 128);
+ 'l7: loop {
+ v2 = v5 & 0xffffffffffffff80;
+ v0 = v3.minus(v2);
+ if v0 == 0 { break 'l7; }
+ copy(v6.plus(96), v7.plus(v2), v0);
+ break 'l7; }
+ compress_compress_blake2b_compress(v6.plus(32), v6.plus(96), v3, 1, 0);
+ v2 = load64(v6 + 32);
+ v0 = load64(v6 + 40);
+ v7 = load64(v6 + 48);
+ v5 = load64(v6 + 56);
+ v1 = load64(v6 + 64);
+ v4 = load64(v6 + 72);
+ v3 = load64(v6 + 80);
+ store64(v8 + 56, load64(v6 + 88));
+ store64(v8 + 48, v3);
+ store64(v8 + 40, v4);
+ store64(v8 + 32, v1);
+ store64(v8 + 24, v5);
+ store64(v8 + 16, v7);
+ store64(v8 + 8, v0);
+ store64(v8, v2);
+ break 'l1;
+ }
  store64(v6 + 8, 0);
- ffi_blake2b_write_digest(v0, v1, v2, v3, v6.plus(8));
- v7 = 0;
- break 'l2; }
- return v7;
+ ffi_blake2b_write_digest(v8, v1, v7, v3, v6.plus(8));
+ v9 = 0;
+ break 'l1; }
+ return v9;
 }
 
 // __multi3
@@ -1403,93 +1457,39 @@ unsafe fn multi3(mut v0: u64, mut v1: u64, mut v2: u64, mut v3: u64, mut v4: u64
 unsafe fn state_blake2b_State_write_digest(mut v0: u64, mut v1: u64) {
  let mut v2: u64;
  let mut v3: u64;
- let mut v4: u32;
- let mut v5: u64;
- let mut v6: u64;
- let mut v7: u64;
- let mut v8: u64;
- let mut v9: u64;
- let mut v10: u64;
- let mut v11: u64;
- let mut v12: u64;
- let mut v13: u64;
- let mut v14: u64;
- let mut v15: u64;
- let mut v16: u64;
- let mut v17: u64;
- let mut v18: u64;
- let mut v19: u64;
- let mut v20: u32;
- let mut frame = [0_u64; 78];
- let top = (address!(frame)).plus(624) & !15;
- v2 = top.minus(608);
- v3 = load64(v0.plus(128));
- v4 = load32(v0.plus(148));
- v5 = load64(v0.plus(64));
- v6 = load64(v0.plus(72));
- v7 = load64(v0.plus(80));
- v8 = load64(v0.plus(88));
- v9 = load64(v0.plus(96));
- v10 = load64(v0.plus(104));
- v11 = load64(v0.plus(112));
- v12 = load64(v0);
- v13 = load64(v0 + 8);
- v14 = load64(v0 + 16);
- v15 = load64(v0 + 24);
- v16 = load64(v0 + 32);
- v17 = load64(v0 + 40);
- v18 = load64(v0 + 48);
- v19 = load64(v0 + 56);
- store64(v2 + 328, load64(v0.plus(120)));
- store64(v2 + 320, v11);
- store64(v2 + 312, v10);
- store64(v2 + 304, v9);
- store64(v2 + 296, v8);
- store64(v2 + 288, v7);
- store64(v2 + 280, v6);
- store64(v2 + 272, v5);
- store64(v2 + 264, v19);
- store64(v2 + 256, v18);
- store64(v2 + 248, v17);
- store64(v2 + 240, v16);
- store64(v2 + 232, v15);
- store64(v2 + 224, v14);
- store64(v2 + 216, v13);
- store64(v2 + 208, v12);
- v4 = (v4 != 0) as u32;
- store64(v2 + 344, v4 as u64);
- v5 = load32(v0.plus(136)) as u64;
- fill(v2.plus(352), 0, 128);
+ let mut frame = [0_u64; 34];
+ let top = (address!(frame)).plus(272) & !15;
+ v2 = top.minus(256);
+ fill(v2, 0, 64);
+ store64(v2 + 120, load64(v0 + 56));
+ store64(v2 + 112, load64(v0 + 48));
+ store64(v2 + 104, load64(v0 + 40));
+ store64(v2 + 96, load64(v0 + 32));
+ store64(v2 + 88, load64(v0 + 24));
+ store64(v2 + 80, load64(v0 + 16));
+ store64(v2 + 72, load64(v0 + 8));
+ store64(v2 + 64, load64(v0));
+ v3 = load32(v0.plus(136)) as u64;
+ fill(v2.plus(128), 0, 128);
  'l2: loop {
- v20 = (v5 == 0) as u32;
- if v20 != 0 { break 'l2; }
- copy(v2.plus(352), v0.plus(152), v5);
+ if v3 == 0 { break 'l2; }
+ copy(v2.plus(128), v0.plus(152), v3);
  break 'l2; }
- copy(v2.plus(72), v2.plus(352), 128);
- store64(v2 + 8, 0);
- store64(v2 + 200, v5);
- fill(v2 + 16, 0, 56);
- v3 = v3.plus(v5);
- store64(v2 + 336, v3);
- fill(v2.plus(480), 0, 128);
+ compress_compress_blake2b_compress(v2.plus(64), v2.plus(128), load64(v0.plus(128)).plus(v3), 1,
+   (load32(v0.plus(148)) != 0) as u32);
+ store64(v2 + 56, load64(v2 + 120));
+ store64(v2 + 48, load64(v2 + 112));
+ store64(v2 + 40, load64(v2 + 104));
+ store64(v2 + 32, load64(v2 + 96));
+ store64(v2 + 24, load64(v2 + 88));
+ store64(v2 + 16, load64(v2 + 80));
+ store64(v2 + 8, load64(v2 + 72));
+ store64(v2, load64(v2 + 64));
  'l3: loop {
- if v20 != 0 { break 'l3; }
- copy(v2.plus(480), v2.plus(72), v5);
- break 'l3; }
- compress_compress_blake2b_compress(v2.plus(208), v2.plus(480), v3, 1, v4);
- store64(v2 + 64, load64(v2 + 264));
- store64(v2 + 56, load64(v2 + 256));
- store64(v2 + 48, load64(v2 + 248));
- store64(v2 + 40, load64(v2 + 240));
- store64(v2 + 32, load64(v2 + 232));
- store64(v2 + 24, load64(v2 + 224));
- store64(v2 + 16, load64(v2 + 216));
- store64(v2 + 8, load64(v2 + 208));
- 'l4: loop {
  v0 = load32(v0.plus(144)) as u64;
- if v0 == 0 { break 'l4; }
- copy(v1, v2.plus(8), v0);
- break 'l4; }
+ if v0 == 0 { break 'l3; }
+ copy(v1, v2, v0);
+ break 'l3; }
  return;
 }
 
@@ -2641,6 +2641,624 @@ unsafe fn exported_blake2b_reset(mut v0: u64) -> u32 {
  return v1;
 }
 
+// blake2_state::blake2b::State::save
+#[inline(never)]
+unsafe fn state_blake2b_State_save(mut v0: u64, mut v1: u64) {
+ let mut v2: u64;
+ let mut v3: u32;
+ let mut v4: u32;
+ let mut v5: u32;
+ let mut v6: u64;
+ let mut v7: u64;
+ let mut v8: u64;
+ let mut v9: u64;
+ let mut v10: u64;
+ let mut v11: u64;
+ let mut v12: u64;
+ let mut v13: u64;
+ let mut v14: u64;
+ let mut v15: u64;
+ let mut v16: u64;
+ let mut v17: u64;
+ let mut v18: u64;
+ let mut v19: u64;
+ let mut v20: u64;
+ let mut v21: u64;
+ let mut v22: u64;
+ let mut v23: u64;
+ let mut frame = [0_u64; 50];
+ let top = (address!(frame)).plus(400) & !15;
+ v2 = top.minus(384);
+ 'l1: loop {
+ 'l3: loop {
+ 'l4: loop {
+ v3 = load32(v1.plus(144));
+ if v3.minus(1) > 63 { break 'l4; }
+ v4 = load32(v1.plus(136));
+ if v4 > 128 { break 'l4; }
+ v5 = load32(v1.plus(140));
+ if v5 > 128 { break 'l4; }
+ if load64(v1.plus(128)) > sign64((!v4) as u64, 0x80000000) { break 'l4; }
+ if v5 != 0 { break 'l4; }
+ v6 = load64(v1.plus(64));
+ if (v6 & 0xff00) == 0xc900 { break 'l3; }
+ break 'l4; }
+ fill(v0, 0, 276);
+ break 'l1;
+ }
+ v5 = load32(v1.plus(148));
+ fill(v2.plus(256), 0, 128);
+ v7 = load64(v1.plus(72));
+ v8 = load64(v1.plus(80));
+ v9 = load64(v1.plus(88));
+ v10 = load64(v1.plus(96));
+ v11 = load64(v1.plus(104));
+ v12 = load64(v1.plus(112));
+ v13 = load64(v1.plus(120));
+ v14 = load64(v1.plus(128));
+ v15 = load64(v1);
+ v16 = load64(v1 + 8);
+ v17 = load64(v1 + 16);
+ v18 = load64(v1 + 24);
+ v19 = load64(v1 + 32);
+ v20 = load64(v1 + 40);
+ v21 = load64(v1 + 48);
+ v22 = load64(v1 + 56);
+ 'l5: loop {
+ v23 = v4 as u64;
+ if v23 == 0 { break 'l5; }
+ copy(v2.plus(256), v1.plus(152), v23);
+ break 'l5; }
+ copy(v2, v2.plus(256), 128);
+ copy(v2.plus(128), v2, 128);
+ store8(v0.plus(147), ((v5 != 0) as u32) as u64);
+ store8(v0.plus(146), v4 as u64);
+ store8(v0.plus(145), v3 as u64);
+ store64(v0.plus(137), v14);
+ store8(v0.plus(136), v13 >> 56);
+ store8(v0.plus(135), v13 >> 48);
+ store8(v0.plus(134), v13 >> 40);
+ store8(v0.plus(133), v13 >> 32);
+ v3 = v13 as u32;
+ store8(v0.plus(132), (v3 >> 24) as u64);
+ store8(v0.plus(131), (v3 >> 16) as u64);
+ store8(v0.plus(130), (v3 >> 8) as u64);
+ store8(v0.plus(129), v13);
+ store8(v0.plus(128), v12 >> 56);
+ store8(v0.plus(127), v12 >> 48);
+ store8(v0.plus(126), v12 >> 40);
+ store8(v0.plus(125), v12 >> 32);
+ v3 = v12 as u32;
+ store8(v0.plus(124), (v3 >> 24) as u64);
+ store8(v0.plus(123), (v3 >> 16) as u64);
+ store8(v0.plus(122), (v3 >> 8) as u64);
+ store8(v0.plus(121), v3 as u64);
+ store8(v0.plus(120), v11 >> 56);
+ store8(v0.plus(119), v11 >> 48);
+ store8(v0.plus(118), v11 >> 40);
+ store8(v0.plus(117), v11 >> 32);
+ v3 = v11 as u32;
+ store8(v0.plus(116), (v3 >> 24) as u64);
+ store8(v0.plus(115), (v3 >> 16) as u64);
+ store8(v0.plus(114), (v3 >> 8) as u64);
+ store8(v0.plus(113), v3 as u64);
+ store8(v0.plus(112), v10 >> 56);
+ store8(v0.plus(111), v10 >> 48);
+ store8(v0.plus(110), v10 >> 40);
+ store8(v0.plus(109), v10 >> 32);
+ v3 = v10 as u32;
+ store8(v0.plus(108), (v3 >> 24) as u64);
+ store8(v0.plus(107), (v3 >> 16) as u64);
+ store8(v0.plus(106), (v3 >> 8) as u64);
+ store8(v0.plus(105), v3 as u64);
+ store8(v0.plus(104), v9 >> 56);
+ store8(v0.plus(103), v9 >> 48);
+ store8(v0.plus(102), v9 >> 40);
+ store8(v0.plus(101), v9 >> 32);
+ v3 = v9 as u32;
+ store8(v0.plus(100), (v3 >> 24) as u64);
+ store8(v0.plus(99), (v3 >> 16) as u64);
+ store8(v0.plus(98), (v3 >> 8) as u64);
+ store8(v0.plus(97), v9);
+ store8(v0.plus(96), v8 >> 56);
+ store8(v0.plus(95), v8 >> 48);
+ store8(v0.plus(94), v8 >> 40);
+ store8(v0.plus(93), v8 >> 32);
+ v3 = v8 as u32;
+ store8(v0.plus(92), (v3 >> 24) as u64);
+ store8(v0.plus(91), (v3 >> 16) as u64);
+ store8(v0.plus(90), (v3 >> 8) as u64);
+ store8(v0.plus(89), v3 as u64);
+ store8(v0.plus(88), v7 >> 56);
+ store8(v0.plus(87), v7 >> 48);
+ store8(v0.plus(86), v7 >> 40);
+ store8(v0.plus(85), v7 >> 32);
+ v3 = v7 as u32;
+ store8(v0.plus(84), (v3 >> 24) as u64);
+ store8(v0.plus(83), (v3 >> 16) as u64);
+ store8(v0.plus(82), (v3 >> 8) as u64);
+ store8(v0.plus(81), v3 as u64);
+ store8(v0.plus(80), v6 >> 56);
+ store8(v0.plus(79), v6 >> 48);
+ store8(v0.plus(78), v6 >> 40);
+ store8(v0.plus(77), v6 >> 32);
+ v3 = v6 as u32;
+ store8(v0.plus(76), (v3 >> 24) as u64);
+ store8(v0.plus(75), (v3 >> 16) as u64);
+ store8(v0.plus(74), (v3 >> 8) as u64);
+ store8(v0.plus(73), v3 as u64);
+ store8(v0.plus(72), v22 >> 56);
+ store8(v0.plus(71), v22 >> 48);
+ store8(v0.plus(70), v22 >> 40);
+ store8(v0.plus(69), v22 >> 32);
+ v3 = v22 as u32;
+ store8(v0.plus(68), (v3 >> 24) as u64);
+ store8(v0.plus(67), (v3 >> 16) as u64);
+ store8(v0.plus(66), (v3 >> 8) as u64);
+ store8(v0.plus(65), v22);
+ store8(v0.plus(64), v21 >> 56);
+ store8(v0.plus(63), v21 >> 48);
+ store8(v0.plus(62), v21 >> 40);
+ store8(v0.plus(61), v21 >> 32);
+ v3 = v21 as u32;
+ store8(v0.plus(60), (v3 >> 24) as u64);
+ store8(v0.plus(59), (v3 >> 16) as u64);
+ store8(v0.plus(58), (v3 >> 8) as u64);
+ store8(v0.plus(57), v3 as u64);
+ store8(v0.plus(56), v20 >> 56);
+ store8(v0.plus(55), v20 >> 48);
+ store8(v0.plus(54), v20 >> 40);
+ store8(v0.plus(53), v20 >> 32);
+ v3 = v20 as u32;
+ store8(v0.plus(52), (v3 >> 24) as u64);
+ store8(v0.plus(51), (v3 >> 16) as u64);
+ store8(v0.plus(50), (v3 >> 8) as u64);
+ store8(v0.plus(49), v3 as u64);
+ store8(v0.plus(48), v19 >> 56);
+ store8(v0.plus(47), v19 >> 48);
+ store8(v0.plus(46), v19 >> 40);
+ store8(v0.plus(45), v19 >> 32);
+ v3 = v19 as u32;
+ store8(v0.plus(44), (v3 >> 24) as u64);
+ store8(v0.plus(43), (v3 >> 16) as u64);
+ store8(v0.plus(42), (v3 >> 8) as u64);
+ store8(v0.plus(41), v3 as u64);
+ store8(v0.plus(40), v18 >> 56);
+ store8(v0.plus(39), v18 >> 48);
+ store8(v0.plus(38), v18 >> 40);
+ store8(v0.plus(37), v18 >> 32);
+ v3 = v18 as u32;
+ store8(v0.plus(36), (v3 >> 24) as u64);
+ store8(v0.plus(35), (v3 >> 16) as u64);
+ store8(v0.plus(34), (v3 >> 8) as u64);
+ store8(v0.plus(33), v18);
+ store8(v0.plus(32), v17 >> 56);
+ store8(v0.plus(31), v17 >> 48);
+ store8(v0.plus(30), v17 >> 40);
+ store8(v0.plus(29), v17 >> 32);
+ v3 = v17 as u32;
+ store8(v0.plus(28), (v3 >> 24) as u64);
+ store8(v0.plus(27), (v3 >> 16) as u64);
+ store8(v0.plus(26), (v3 >> 8) as u64);
+ store8(v0.plus(25), v3 as u64);
+ store8(v0.plus(24), v16 >> 56);
+ store8(v0.plus(23), v16 >> 48);
+ store8(v0.plus(22), v16 >> 40);
+ store8(v0.plus(21), v16 >> 32);
+ v3 = v16 as u32;
+ store8(v0.plus(20), (v3 >> 24) as u64);
+ store8(v0.plus(19), (v3 >> 16) as u64);
+ store8(v0.plus(18), (v3 >> 8) as u64);
+ store8(v0.plus(17), v3 as u64);
+ store8(v0.plus(16), v15 >> 56);
+ store8(v0.plus(15), v15 >> 48);
+ store8(v0.plus(14), v15 >> 40);
+ store8(v0.plus(13), v15 >> 32);
+ v3 = v15 as u32;
+ store8(v0.plus(12), (v3 >> 24) as u64);
+ store8(v0.plus(11), (v3 >> 16) as u64);
+ store8(v0.plus(10), (v3 >> 8) as u64);
+ store8(v0.plus(9), v3 as u64);
+ store64(v0.plus(1), 0x16232454b414c42);
+ store8(v0, 1);
+ copy(v0.plus(148), v2.plus(128), 128);
+ break 'l1;
+ }
+}
+
+// rattle::export vulfsjor_ffi_blake2b_save
+#[inline(never)]
+unsafe fn exported_blake2b_save(mut v0: u64, mut v1: u64, mut v2: u64) -> u32 {
+ let mut v3: u64;
+ let mut v4: u32;
+ let mut frame = [0_u64; 38];
+ let top = (address!(frame)).plus(304) & !15;
+ v3 = top.minus(288);
+ fill(v3.plus(12), 0, 276);
+ v4 = 0xffffffff;
+ 'l2: loop {
+ if v2 != 275 { break 'l2; }
+ state_blake2b_State_save(v3.plus(12), v0);
+ if load8(v3 + 12) != 1 { break 'l2; }
+ copy(v1.plus(if v1 == 0 { 4096_u64 } else { 0 }), v3.plus(13), 275);
+ v4 = 0;
+ break 'l2; }
+ return v4;
+}
+
+// core::cmp::slices::groups_equal::<i8,31'core::cmp::numbers::U8PartialEq{}>
+#[inline(never)]
+unsafe fn core_cmp_slices_groups_equal_i8_31_core_cmp_numbers_U8PartialEq(mut v0: u64, mut v1: u64,
+        mut v2: u64) -> u32 {
+ let mut v3: u64;
+ let mut v4: u32;
+ let mut v5: u64;
+ let mut v6: u64;
+ let mut v7: u64;
+ let mut v8: u64;
+ let mut v9: u64;
+ let mut v10: u64;
+ let mut t0: u32;
+ let mut t1: u32;
+ let mut t2: u32;
+ let mut t4: u32;
+ let mut t5: u32;
+ let mut t6: u32;
+ let mut t7: u32;
+ let mut t8: u32;
+ let mut t9: u32;
+ let mut t10: u32;
+ let mut t11: u32;
+ let mut t12: u32;
+ let mut t13: u32;
+ let mut t14: u32;
+ let mut t15: u32;
+ let mut t16: u32;
+ let mut t17: u32;
+ let mut t18: u32;
+ let mut t19: u32;
+ let mut t20: u32;
+ let mut t21: u32;
+ let mut t22: u32;
+ let mut t23: u32;
+ let mut t24: u32;
+ let mut t25: u32;
+ let mut t26: u32;
+ let mut t27: u32;
+ let mut t28: u32;
+ let mut t29: u32;
+ let mut t30: u32;
+ let mut t31: u32;
+ let mut t32: u32;
+ let mut t33: u32;
+ let mut t34: u32;
+ let mut t35: u32;
+ let mut t36: u32;
+ let mut t37: u32;
+ let mut t38: u32;
+ let mut t39: u32;
+ let mut t40: u32;
+ let mut t41: u32;
+ 'l1: loop {
+ 'l2: loop {
+ 'l4: loop {
+ if v1 > 8 { break 'l4; }
+ v3 = v1.minus(4);
+ t0 = (load8(v0.plus(v3)) != load8(v2.plus(v3))) as u32;
+ v3 = v1.minus(3);
+ t1 = t0 | ((load8(v0.plus(v3)) != load8(v2.plus(v3))) as u32);
+ v3 = v1.minus(2);
+ t2 = t1 | ((load8(v0.plus(v3)) != load8(v2.plus(v3))) as u32);
+ v3 = v1.minus(1);
+ v4 = ((load8(v0) != load8(v2)) as u32) | ((load8(v0.plus(1)) != load8(v2.plus(1))) as u32) |
+   ((load8(v0.plus(2)) != load8(v2.plus(2))) as u32) | ((load8(v0.plus(3)) != load8(v2.plus(3))) as
+   u32) | (t2 | ((load8(v0.plus(v3)) != load8(v2.plus(v3))) as u32));
+ break 'l1;
+ }
+ 'l5: loop {
+ if v1 > 32 { break 'l5; }
+ v1 = v1.minus(8);
+ v5 = if v1 < 8 { v1 } else { 8 };
+ v3 = v0.plus(v5);
+ v5 = v2.plus(v5);
+ v6 = if v1 < 16 { v1 } else { 16 };
+ v7 = v0.plus(v6);
+ v6 = v2.plus(v6);
+ v8 = v0.plus(v1);
+ v1 = v2.plus(v1);
+ t4 = ((load8(v3) != load8(v5)) as u32) | ((load8(v7) != load8(v6)) as u32) | ((load8(v8) !=
+   load8(v1)) as u32) | ((((load8(v3 + 1) != load8(v5 + 1)) as u32) | ((load8(v7 + 1) != load8(v6 +
+   1)) as u32) | ((load8(v8 + 1) != load8(v1 + 1)) as u32)) << 1);
+ t5 = ((((load8(v3 + 3) != load8(v5 + 3)) as u32) | ((load8(v7 + 3) != load8(v6 + 3)) as u32) |
+   ((load8(v8 + 3) != load8(v1 + 3)) as u32)) << 3) | ((((load8(v3 + 2) != load8(v5 + 2)) as u32) |
+   ((load8(v7 + 2) != load8(v6 + 2)) as u32) | ((load8(v8 + 2) != load8(v1 + 2)) as u32)) << 2);
+ t6 = ((load8(v3 + 4) != load8(v5 + 4)) as u32) | ((load8(v7 + 4) != load8(v6 + 4)) as u32) |
+   ((load8(v8 + 4) != load8(v1 + 4)) as u32) | ((((load8(v3 + 5) != load8(v5 + 5)) as u32) |
+   ((load8(v7 + 5) != load8(v6 + 5)) as u32) | ((load8(v8 + 5) != load8(v1 + 5)) as u32)) << 1);
+ t7 = ((((load8(v3 + 7) != load8(v5 + 7)) as u32) | ((load8(v7 + 7) != load8(v6 + 7)) as u32) |
+   ((load8(v8 + 7) != load8(v1 + 7)) as u32)) << 3) | ((((load8(v3 + 6) != load8(v5 + 6)) as u32) |
+   ((load8(v7 + 6) != load8(v6 + 6)) as u32) | ((load8(v8 + 6) != load8(v1 + 6)) as u32)) << 2);
+ t8 = ((load8(v0.plus(3)) != load8(v2.plus(3))) as u32) | ((load8(v0.plus(4)) != load8(v2.plus(4)))
+   as u32) | (((load8(v0.plus(5)) != load8(v2.plus(5))) as u32) | ((load8(v0.plus(6)) !=
+   load8(v2.plus(6))) as u32));
+ t9 = ((((t4 | t5 | ((t6 | t7) << 4)) & 255) != 0) as u32) | ((load8(v0) != load8(v2)) as u32) |
+   (((load8(v0.plus(1)) != load8(v2.plus(1))) as u32) | ((load8(v0.plus(2)) != load8(v2.plus(2))) as
+   u32)) | t8;
+ v4 = t9 | ((load8(v0.plus(7)) != load8(v2.plus(7))) as u32);
+ break 'l1;
+ }
+ if v1 < 65 { break 'l2; }
+ v9 = v1 & 0xffffffffffffffc0;
+ v10 = 0;
+ v6 = v0;
+ v8 = v2;
+ 'l6: loop {
+ 'l7: loop {
+ v4 = 0;
+ v3 = 0;
+ 'l8: loop {
+ v5 = v6.plus(v3);
+ v7 = v8.plus(v3);
+ v4 |= ((load8(v5) != load8(v7)) as u32) | ((load8(v5.plus(1)) != load8(v7.plus(1))) as u32);
+ v3 = v3.plus(2);
+ if v3 != 64 { continue 'l8; }
+ break 'l8; }
+ if (v4 & 1) != 0 { break 'l6; }
+ v6 = v6.plus(64);
+ v8 = v8.plus(64);
+ v10 = v10.plus(64);
+ if v1.minus(v10) > 63 { continue 'l7; }
+ break 'l7; }
+ v10 = v9;
+ break 'l6; }
+ 'l9: loop {
+ v7 = v1.minus(v10);
+ if v7 < 32 { break 'l9; }
+ v3 = v2.plus(v10);
+ v5 = v0.plus(v10);
+ 'l10: loop {
+ 'l11: loop {
+ v4 = 1;
+ t10 = (((load8(v5 + 4) != load8(v3 + 4)) as u32) | (((load8(v5 + 5) != load8(v3 + 5)) as u32) << 1)
+   | ((((load8(v5 + 7) != load8(v3 + 7)) as u32) << 3) | (((load8(v5 + 6) != load8(v3 + 6)) as u32)
+   << 2))) << 4;
+ t11 = ((load8(v5 + 12) != load8(v3 + 12)) as u32) | (((load8(v5 + 13) != load8(v3 + 13)) as u32) <<
+   1) | ((((load8(v5 + 15) != load8(v3 + 15)) as u32) << 3) | (((load8(v5 + 14) != load8(v3 + 14))
+   as u32) << 2));
+ t12 = ((load8(v5 + 8) != load8(v3 + 8)) as u32) | (((load8(v5 + 9) != load8(v3 + 9)) as u32) << 1)
+   | ((((load8(v5 + 11) != load8(v3 + 11)) as u32) << 3) | (((load8(v5 + 10) != load8(v3 + 10)) as
+   u32) << 2));
+ t13 = ((load8(v5) != load8(v3)) as u32) | (((load8(v5 + 1) != load8(v3 + 1)) as u32) << 1) |
+   ((((load8(v5 + 3) != load8(v3 + 3)) as u32) << 3) | (((load8(v5 + 2) != load8(v3 + 2)) as u32) <<
+   2)) | t10 | ((t11 << 12) | (t12 << 8));
+ t14 = ((load8(v5 + 16) != load8(v3 + 16)) as u32) | (((load8(v5 + 17) != load8(v3 + 17)) as u32) <<
+   1) | ((((load8(v5 + 19) != load8(v3 + 19)) as u32) << 3) | (((load8(v5 + 18) != load8(v3 + 18))
+   as u32) << 2));
+ t15 = ((load8(v5 + 20) != load8(v3 + 20)) as u32) | (((load8(v5 + 21) != load8(v3 + 21)) as u32) <<
+   1) | ((((load8(v5 + 23) != load8(v3 + 23)) as u32) << 3) | (((load8(v5 + 22) != load8(v3 + 22))
+   as u32) << 2));
+ t16 = ((load8(v5 + 28) != load8(v3 + 28)) as u32) | (((load8(v5 + 29) != load8(v3 + 29)) as u32) <<
+   1) | ((((load8(v5 + 31) != load8(v3 + 31)) as u32) << 3) | (((load8(v5 + 30) != load8(v3 + 30))
+   as u32) << 2));
+ t17 = ((load8(v5 + 24) != load8(v3 + 24)) as u32) | (((load8(v5 + 25) != load8(v3 + 25)) as u32) <<
+   1) | ((((load8(v5 + 27) != load8(v3 + 27)) as u32) << 3) | (((load8(v5 + 26) != load8(v3 + 26))
+   as u32) << 2));
+ if ((t13 | (t14 | (t15 << 4) | ((t16 << 12) | (t17 << 8)))) & 0xffff) != 0 { break 'l10; }
+ v3 = v3.plus(32);
+ v5 = v5.plus(32);
+ v7 = v7.minus(32);
+ if v7 >= 32 { continue 'l11; }
+ break 'l9;
+ }
+ }
+ if v7 > 31 { break 'l1; }
+ break 'l9; }
+ v5 = v1.minus(32);
+ v3 = v0.plus(v5);
+ v5 = v2.plus(v5);
+ t18 = (((load8(v3 + 4) != load8(v5 + 4)) as u32) | (((load8(v3 + 5) != load8(v5 + 5)) as u32) << 1)
+   | ((((load8(v3 + 7) != load8(v5 + 7)) as u32) << 3) | (((load8(v3 + 6) != load8(v5 + 6)) as u32)
+   << 2))) << 4;
+ t19 = ((load8(v3 + 12) != load8(v5 + 12)) as u32) | (((load8(v3 + 13) != load8(v5 + 13)) as u32) <<
+   1) | ((((load8(v3 + 15) != load8(v5 + 15)) as u32) << 3) | (((load8(v3 + 14) != load8(v5 + 14))
+   as u32) << 2));
+ t20 = ((load8(v3 + 8) != load8(v5 + 8)) as u32) | (((load8(v3 + 9) != load8(v5 + 9)) as u32) << 1)
+   | ((((load8(v3 + 11) != load8(v5 + 11)) as u32) << 3) | (((load8(v3 + 10) != load8(v5 + 10)) as
+   u32) << 2));
+ t21 = ((load8(v3) != load8(v5)) as u32) | (((load8(v3 + 1) != load8(v5 + 1)) as u32) << 1) |
+   ((((load8(v3 + 3) != load8(v5 + 3)) as u32) << 3) | (((load8(v3 + 2) != load8(v5 + 2)) as u32) <<
+   2)) | t18 | ((t19 << 12) | (t20 << 8));
+ t22 = ((load8(v3 + 16) != load8(v5 + 16)) as u32) | (((load8(v3 + 17) != load8(v5 + 17)) as u32) <<
+   1) | ((((load8(v3 + 19) != load8(v5 + 19)) as u32) << 3) | (((load8(v3 + 18) != load8(v5 + 18))
+   as u32) << 2));
+ t23 = ((load8(v3 + 20) != load8(v5 + 20)) as u32) | (((load8(v3 + 21) != load8(v5 + 21)) as u32) <<
+   1) | ((((load8(v3 + 23) != load8(v5 + 23)) as u32) << 3) | (((load8(v3 + 22) != load8(v5 + 22))
+   as u32) << 2));
+ t24 = ((load8(v3 + 28) != load8(v5 + 28)) as u32) | (((load8(v3 + 29) != load8(v5 + 29)) as u32) <<
+   1) | ((((load8(v3 + 31) != load8(v5 + 31)) as u32) << 3) | (((load8(v3 + 30) != load8(v5 + 30))
+   as u32) << 2));
+ t25 = ((load8(v3 + 24) != load8(v5 + 24)) as u32) | (((load8(v3 + 25) != load8(v5 + 25)) as u32) <<
+   1) | ((((load8(v3 + 27) != load8(v5 + 27)) as u32) << 3) | (((load8(v3 + 26) != load8(v5 + 26))
+   as u32) << 2));
+ v4 = (((t21 | (t22 | (t23 << 4) | ((t24 << 12) | (t25 << 8)))) & 0xffff) != 0) as u32;
+ break 'l1;
+ }
+ v5 = v1.minus(32);
+ v3 = v0.plus(v5);
+ v5 = v2.plus(v5);
+ t26 = (((load8(v3 + 4) != load8(v5 + 4)) as u32) | (((load8(v3 + 5) != load8(v5 + 5)) as u32) << 1)
+   | ((((load8(v3 + 7) != load8(v5 + 7)) as u32) << 3) | (((load8(v3 + 6) != load8(v5 + 6)) as u32)
+   << 2))) << 4;
+ t27 = ((load8(v3 + 12) != load8(v5 + 12)) as u32) | (((load8(v3 + 13) != load8(v5 + 13)) as u32) <<
+   1) | ((((load8(v3 + 15) != load8(v5 + 15)) as u32) << 3) | (((load8(v3 + 14) != load8(v5 + 14))
+   as u32) << 2));
+ t28 = ((load8(v3 + 8) != load8(v5 + 8)) as u32) | (((load8(v3 + 9) != load8(v5 + 9)) as u32) << 1)
+   | ((((load8(v3 + 11) != load8(v5 + 11)) as u32) << 3) | (((load8(v3 + 10) != load8(v5 + 10)) as
+   u32) << 2));
+ t29 = ((load8(v3) != load8(v5)) as u32) | (((load8(v3 + 1) != load8(v5 + 1)) as u32) << 1) |
+   ((((load8(v3 + 3) != load8(v5 + 3)) as u32) << 3) | (((load8(v3 + 2) != load8(v5 + 2)) as u32) <<
+   2)) | t26 | ((t27 << 12) | (t28 << 8));
+ t30 = ((load8(v3 + 16) != load8(v5 + 16)) as u32) | (((load8(v3 + 17) != load8(v5 + 17)) as u32) <<
+   1) | ((((load8(v3 + 19) != load8(v5 + 19)) as u32) << 3) | (((load8(v3 + 18) != load8(v5 + 18))
+   as u32) << 2));
+ t31 = ((load8(v3 + 20) != load8(v5 + 20)) as u32) | (((load8(v3 + 21) != load8(v5 + 21)) as u32) <<
+   1) | ((((load8(v3 + 23) != load8(v5 + 23)) as u32) << 3) | (((load8(v3 + 22) != load8(v5 + 22))
+   as u32) << 2));
+ t32 = ((load8(v3 + 28) != load8(v5 + 28)) as u32) | (((load8(v3 + 29) != load8(v5 + 29)) as u32) <<
+   1) | ((((load8(v3 + 31) != load8(v5 + 31)) as u32) << 3) | (((load8(v3 + 30) != load8(v5 + 30))
+   as u32) << 2));
+ t33 = ((load8(v3 + 24) != load8(v5 + 24)) as u32) | (((load8(v3 + 25) != load8(v5 + 25)) as u32) <<
+   1) | ((((load8(v3 + 27) != load8(v5 + 27)) as u32) << 3) | (((load8(v3 + 26) != load8(v5 + 26))
+   as u32) << 2));
+ t34 = ((((t29 | (t30 | (t31 << 4) | ((t32 << 12) | (t33 << 8)))) & 0xffff) != 0) as u32) |
+   ((load8(v0) != load8(v2)) as u32) | (((load8(v0.plus(1)) != load8(v2.plus(1))) as u32) |
+   ((load8(v0.plus(2)) != load8(v2.plus(2))) as u32));
+ t35 = ((load8(v0.plus(3)) != load8(v2.plus(3))) as u32) | ((load8(v0.plus(4)) != load8(v2.plus(4)))
+   as u32) | (((load8(v0.plus(5)) != load8(v2.plus(5))) as u32) | ((load8(v0.plus(6)) !=
+   load8(v2.plus(6))) as u32));
+ t36 = ((load8(v0.plus(7)) != load8(v2.plus(7))) as u32) | ((load8(v0.plus(8)) != load8(v2.plus(8)))
+   as u32) | (((load8(v0.plus(9)) != load8(v2.plus(9))) as u32) | ((load8(v0.plus(10)) !=
+   load8(v2.plus(10))) as u32));
+ t37 = ((load8(v0.plus(11)) != load8(v2.plus(11))) as u32) | ((load8(v0.plus(12)) !=
+   load8(v2.plus(12))) as u32) | (((load8(v0.plus(13)) != load8(v2.plus(13))) as u32) |
+   ((load8(v0.plus(14)) != load8(v2.plus(14))) as u32));
+ t38 = ((load8(v0.plus(15)) != load8(v2.plus(15))) as u32) | ((load8(v0.plus(16)) !=
+   load8(v2.plus(16))) as u32) | (((load8(v0.plus(17)) != load8(v2.plus(17))) as u32) |
+   ((load8(v0.plus(18)) != load8(v2.plus(18))) as u32));
+ t39 = ((load8(v0.plus(19)) != load8(v2.plus(19))) as u32) | ((load8(v0.plus(20)) !=
+   load8(v2.plus(20))) as u32) | (((load8(v0.plus(21)) != load8(v2.plus(21))) as u32) |
+   ((load8(v0.plus(22)) != load8(v2.plus(22))) as u32));
+ t40 = ((load8(v0.plus(23)) != load8(v2.plus(23))) as u32) | ((load8(v0.plus(24)) !=
+   load8(v2.plus(24))) as u32) | (((load8(v0.plus(25)) != load8(v2.plus(25))) as u32) |
+   ((load8(v0.plus(26)) != load8(v2.plus(26))) as u32));
+ t41 = ((load8(v0.plus(27)) != load8(v2.plus(27))) as u32) | ((load8(v0.plus(28)) !=
+   load8(v2.plus(28))) as u32) | (((load8(v0.plus(29)) != load8(v2.plus(29))) as u32) |
+   ((load8(v0.plus(30)) != load8(v2.plus(30))) as u32));
+ v4 = t34 | t35 | (t36 | t37) | (t38 | t39 | (t40 | t41)) | ((load8(v0.plus(31)) !=
+   load8(v2.plus(31))) as u32);
+ break 'l1; }
+ return (!v4) & 1;
+}
+
+// rattle::export vulfsjor_ffi_blake2b_load
+#[inline(never)]
+unsafe fn exported_blake2b_load(mut v0: u64, mut v1: u64, mut v2: u64) -> u32 {
+ let mut v3: u64;
+ let mut v4: u64;
+ let mut v5: u64;
+ let mut v6: u64;
+ let mut v7: u64;
+ let mut v8: u64;
+ let mut v9: u64;
+ let mut v10: u64;
+ let mut v11: u64;
+ let mut v12: u64;
+ let mut v13: u64;
+ let mut v14: u64;
+ let mut v15: u64;
+ let mut v16: u64;
+ let mut v17: u64;
+ let mut v18: u64;
+ let mut v19: u64;
+ let mut v20: u32;
+ let mut v21: u32;
+ let mut v22: u32;
+ let mut v23: u64;
+ let mut t0: u32;
+ let mut frame = [0_u64; 114];
+ let top = (address!(frame)).plus(912) & !15;
+ v3 = top.minus(896);
+ 'l1: loop {
+ 'l2: loop {
+ if v2 != 275 { break 'l2; }
+ v1 = v1.plus(if v1 == 0 { 4096_u64 } else { 0 });
+ v2 = load64(v1.plus(8));
+ v4 = load64(v1.plus(16));
+ v5 = load64(v1.plus(24));
+ v6 = load64(v1.plus(32));
+ v7 = load64(v1.plus(40));
+ v8 = load64(v1.plus(48));
+ v9 = load64(v1.plus(56));
+ v10 = load64(v1.plus(64));
+ v11 = load64(v1.plus(72));
+ v12 = load64(v1.plus(80));
+ v13 = load64(v1.plus(88));
+ v14 = load64(v1.plus(96));
+ v15 = load64(v1.plus(104));
+ v16 = load64(v1.plus(112));
+ v17 = load64(v1.plus(120));
+ v18 = load64(v1.plus(128));
+ v19 = load64(v1.plus(136));
+ v20 = load8(v1 + 145);
+ v21 = load8(v1 + 144);
+ v22 = load8(v1 + 146);
+ store32(v3 + 148, v22 as u64);
+ store32(v3 + 144, v21 as u64);
+ store32(v3 + 140, 0);
+ store32(v3 + 136, v20 as u64);
+ store64(v3 + 128, v19);
+ store64(v3 + 120, v18);
+ store64(v3 + 112, v17);
+ store64(v3 + 104, v16);
+ store64(v3 + 96, v15);
+ store64(v3 + 88, v14);
+ store64(v3 + 80, v13);
+ store64(v3 + 72, v12);
+ store64(v3 + 64, v11);
+ store64(v3 + 56, v10);
+ store64(v3 + 48, v9);
+ store64(v3 + 40, v8);
+ store64(v3 + 32, v7);
+ store64(v3 + 24, v6);
+ store64(v3 + 16, v5);
+ store64(v3 + 8, v4);
+ store64(v3, v2);
+ v23 = v1.plus(147);
+ copy(v3.plus(152), v23, 128);
+ fill(v3 + 280, 0, 64);
+ fill(v3.plus(345), 0, 276);
+ state_blake2b_State_save(v3.plus(345), v3);
+ if load8(v3 + 345) != 1 { break 'l2; }
+ copy(v3.plus(621), v3.plus(345).plus(1), 275);
+ if load8(v1) != load8(v3 + 621) { break 'l2; }
+ if (load8(v1.plus(1)) & 255) != (load8(v3 + 622) & 255) { break 'l2; }
+ if (load8(v1.plus(2)) & 255) != (load8(v3 + 623) & 255) { break 'l2; }
+ if (load8(v1.plus(3)) & 255) != (load8(v3 + 624) & 255) { break 'l2; }
+ t0 = core_cmp_slices_groups_equal_i8_31_core_cmp_numbers_U8PartialEq(v1, 275, v3.plus(621));
+ if t0 == 0 { break 'l2; }
+ copy(v3, v23, 128);
+ store32(v0 + 148, v22 as u64);
+ store32(v0 + 144, v21 as u64);
+ v21 = 0;
+ store32(v0 + 140, 0);
+ store32(v0 + 136, v20 as u64);
+ store64(v0 + 128, v19);
+ store64(v0 + 120, v18);
+ store64(v0 + 112, v17);
+ store64(v0 + 104, v16);
+ store64(v0 + 96, v15);
+ store64(v0 + 88, v14);
+ store64(v0 + 80, v13);
+ store64(v0 + 72, v12);
+ store64(v0 + 64, v11);
+ store64(v0 + 56, v10);
+ store64(v0 + 48, v9);
+ store64(v0 + 40, v8);
+ store64(v0 + 32, v7);
+ store64(v0 + 24, v6);
+ store64(v0 + 16, v5);
+ store64(v0 + 8, v4);
+ store64(v0, v2);
+ copy(v0.plus(152), v3, 128);
+ fill(v0 + 280, 0, 64);
+ break 'l1;
+ }
+ fill(v0, 0, 344);
+ v21 = 0xffffffff;
+ break 'l1; }
+ return v21;
+}
+
 // rattle::export vulfsjor_ffi_blake2b_wipe
 #[inline(never)]
 unsafe fn exported_blake2b_wipe(mut v0: u64) {
@@ -2706,15 +3324,6 @@ unsafe fn module_blake2b_state_size() -> u64 {
  }
  exported_blake2b_state_size();
  return 344;
-}
-
-// Overwrites the stack below the caller.
-#[inline(never)]
-unsafe fn digest_wiping_scrub_stack_768() {
-    let mut room = [0_u64; 352];
-    for word in room.iter_mut() {
-        core::ptr::write_volatile(word, 0);
-    }
 }
 
 // blake2_compress::compress::blake2s::compress
@@ -3575,6 +4184,61 @@ unsafe fn compress_compress_blake2s_compress(mut v0: u64, mut v1: u64, mut v2: u
  return;
 }
 
+// Overwrites the stack below the caller.
+#[inline(never)]
+unsafe fn digest_wiping_scrub_stack_768() {
+    let mut room = [0_u64; 352];
+    for word in room.iter_mut() {
+        core::ptr::write_volatile(word, 0);
+    }
+}
+
+// blake2_compress::whole::blake2s::absorb_keyed
+#[inline(never)]
+unsafe fn compress_whole_blake2s_absorb_keyed(mut v0: u64, mut v1: u64, mut v2: u64, mut v3: u64,
+        mut v4: u64) {
+ let mut v5: u64;
+ let mut v6: u64;
+ let mut frame = [0_u64; 18];
+ let top = (address!(frame)).plus(144) & !15;
+ v5 = top.minus(128);
+ 'l1: loop {
+ v6 = v5;
+ fill(v6, 0, 64);
+ 'l3: loop {
+ if v2 == 0 { break 'l3; }
+ copy(v6, v1, v2);
+ break 'l3; }
+ 'l4: loop {
+ if !(v4 == 0) { break 'l4; }
+ compress_compress_blake2s_compress(v0, v6, 64, 1, 0);
+ break 'l1;
+ }
+ compress_compress_blake2s_compress(v0, v6, 64, 0, 0);
+ 'l5: loop {
+ v1 = v4.minus(1);
+ v5 = v1 >> 6;
+ if v5 == 0 { break 'l5; }
+ v2 = 128;
+ 'l6: loop {
+ compress_compress_blake2s_compress(v0, v3.plus(v2).minus(128), v2, 0, 0);
+ v2 = v2.plus(64);
+ v5 = v5.minus(1);
+ if v5 != 0 { continue 'l6; }
+ break 'l6; }
+ break 'l5; }
+ fill(v6 + 64, 0, 64);
+ 'l7: loop {
+ v2 = v1 & 0xffffffffffffffc0;
+ v5 = v4.minus(v2);
+ if v5 == 0 { break 'l7; }
+ copy(v6.plus(64), v3.plus(v2), v5);
+ break 'l7; }
+ compress_compress_blake2s_compress(v0, v6.plus(64), v4.plus(64), 1, 0);
+ break 'l1;
+ }
+}
+
 // blake2_ffi::blake2s::write_digest
 #[inline(never)]
 unsafe fn ffi_blake2s_write_digest(mut v0: u64, mut v1: u64, mut v2: u64, mut v3: u64, mut v4: u64)
@@ -3583,13 +4247,12 @@ unsafe fn ffi_blake2s_write_digest(mut v0: u64, mut v1: u64, mut v2: u64, mut v3
  let mut v6: u64;
  let mut v7: u64;
  let mut v8: u32;
- let mut frame = [0_u64; 26];
- let top = (address!(frame)).plus(208) & !15;
- v5 = top.minus(192);
- 'l1: loop {
+ let mut frame = [0_u64; 18];
+ let top = (address!(frame)).plus(144) & !15;
+ v5 = top.minus(128);
  v6 = load64(v4.plus(16));
  v7 = load64(v4.plus(8));
- fill(v5 + 27, 0, 5);
+ fill(v5, 0, 32);
  v8 = load8(v4);
  store32(v5 + 60, 0x5be0cd19);
  store64(v5 + 52, 0x1f83d9ab9b05688c);
@@ -3597,79 +4260,42 @@ unsafe fn ffi_blake2s_write_digest(mut v0: u64, mut v1: u64, mut v2: u64, mut v3
  store64(v5 + 36, 0x3c6ef372bb67ae85);
  store32(v5 + 32, (((if v8 != 0 { ((((v6 as u32) << 8) & 0xff00) | 0x1010000) } else { 0x1010000 })
    | ((v1 as u32) & 255)) ^ 0x6a09e667) as u64);
+ 'l2: loop {
  'l3: loop {
+ if v8 != 0 { break 'l3; }
  'l4: loop {
- if v8 != 0 { break 'l4; }
- 'l5: loop {
  v7 = v3.minus(((v3 != 0) as u32) as u64);
  v6 = v7 >> 6;
- if v6 == 0 { break 'l5; }
+ if v6 == 0 { break 'l4; }
  v4 = 64;
- 'l6: loop {
+ 'l5: loop {
  compress_compress_blake2s_compress(v5.plus(32), v2.plus(v4).minus(64), v4, 0, 0);
  v4 = v4.plus(64);
  v6 = v6.minus(1);
- if v6 != 0 { continue 'l6; }
- break 'l6; }
+ if v6 != 0 { continue 'l5; }
  break 'l5; }
- fill(v5 + 128, 0, 64);
- 'l7: loop {
- v4 = v7 & 0xffffffffffffffc0;
- v6 = v3.minus(v4);
- if v6 == 0 { break 'l7; }
- copy(v5.plus(128), v2.plus(v4), v6);
- break 'l7; }
- compress_compress_blake2s_compress(v5.plus(32), v5.plus(128), v3, 1, 0);
- break 'l3;
- }
+ break 'l4; }
  fill(v5 + 64, 0, 64);
- 'l8: loop {
- if v6 == 0 { break 'l8; }
- copy(v5.plus(64), v7, v6);
- break 'l8; }
- 'l9: loop {
- if v3 != 0 { break 'l9; }
- compress_compress_blake2s_compress(v5.plus(32), v5.plus(64), 64, 1, 0);
- break 'l3;
- }
- compress_compress_blake2s_compress(v5.plus(32), v5.plus(64), 64, 0, 0);
- 'l10: loop {
- v7 = v3.minus(1);
- v6 = v7 >> 6;
- if v6 == 0 { break 'l10; }
- v4 = 128;
- 'l11: loop {
- compress_compress_blake2s_compress(v5.plus(32), v2.plus(v4).minus(128), v4, 0, 0);
- v4 = v4.plus(64);
- v6 = v6.minus(1);
- if v6 != 0 { continue 'l11; }
- break 'l11; }
- break 'l10; }
- fill(v5 + 128, 0, 64);
- 'l12: loop {
+ 'l6: loop {
  v4 = v7 & 0xffffffffffffffc0;
  v6 = v3.minus(v4);
- if v6 == 0 { break 'l12; }
- copy(v5.plus(128), v2.plus(v4), v6);
- break 'l12; }
- compress_compress_blake2s_compress(v5.plus(32), v5.plus(128), v3.plus(64), 1, 0);
- break 'l3; }
+ if v6 == 0 { break 'l6; }
+ copy(v5.plus(64), v2.plus(v4), v6);
+ break 'l6; }
+ compress_compress_blake2s_compress(v5.plus(32), v5.plus(64), v3, 1, 0);
+ break 'l2;
+ }
+ compress_whole_blake2s_absorb_keyed(v5.plus(32), v7, v6, v2, v3);
+ break 'l2; }
  store64(v5, load64(v5 + 32));
  store64(v5 + 8, load64(v5 + 40));
  store64(v5 + 16, load64(v5 + 48));
  store64(v5 + 24, load64(v5 + 56));
- 'l13: loop {
- if v1 != 32 { break 'l13; }
- store64(v0 + 24, load64(v5 + 24));
- store64(v0 + 16, load64(v5 + 16));
- store64(v0 + 8, load64(v5 + 8));
- store64(v0, load64(v5));
- break 'l1;
- }
- if v1 == 0 { break 'l1; }
+ 'l7: loop {
+ if v1 == 0 { break 'l7; }
  copy(v0, v5, v1);
- break 'l1;
- }
+ break 'l7; }
+ return;
 }
 
 // blake2_ffi::blake2s::write_keyed
@@ -3700,27 +4326,65 @@ unsafe fn ffi_blake2s_write_keyed(mut v0: u64, mut v1: u64, mut v2: u64, mut v3:
 unsafe fn exported_blake2s(mut v0: u64, mut v1: u64, mut v2: u64, mut v3: u64, mut v4: u64, mut v5:
         u64) -> u32 {
  let mut v6: u64;
- let mut v7: u32;
- let mut frame = [0_u64; 6];
- let top = (address!(frame)).plus(48) & !15;
- v6 = top.minus(32);
- v2 = v2.plus(if v2 == 0 { 4096_u64 } else { 0 });
- v0 = v0.plus(if v0 == 0 { 4096_u64 } else { 0 });
- fill(v6 + 16, 0, 16);
+ let mut v7: u64;
+ let mut v8: u64;
+ let mut v9: u32;
+ let mut frame = [0_u64; 18];
+ let top = (address!(frame)).plus(144) & !15;
+ v6 = top.minus(128);
+ 'l1: loop {
  'l2: loop {
- 'l3: loop {
- if v5 == 0 { break 'l3; }
- v7 = ffi_blake2s_write_keyed(v0, v1, v2, v3, v4.plus(if v4 == 0 { 4096_u64 } else { 0 }), v5);
+ v7 = v2.plus(if v2 == 0 { 4096_u64 } else { 0 });
+ v8 = v0.plus(if v0 == 0 { 4096_u64 } else { 0 });
+ fill(v6 + 16, 0, 16);
+ 'l4: loop {
+ if v5 == 0 { break 'l4; }
+ v9 = ffi_blake2s_write_keyed(v8, v1, v7, v3, v4.plus(if v4 == 0 { 4096_u64 } else { 0 }), v5);
  digest_wiping_scrub_stack_768();
- break 'l2;
+ break 'l1;
  }
- v7 = 0xffffffff;
- if v1.minus(1) > 31 { break 'l2; }
+ v9 = 0xffffffff;
+ if v1.minus(1) > 31 { break 'l1; }
+ if v1 != 32 { break 'l2; }
+ store64(v6 + 56, 0x5be0cd191f83d9ab);
+ store64(v6 + 48, 0x9b05688c510e527f);
+ store64(v6 + 40, 0xa54ff53a3c6ef372);
+ store64(v6 + 32, 0xbb67ae856b08e647);
+ 'l5: loop {
+ v5 = v3.minus(((v3 != 0) as u32) as u64);
+ v0 = v5 >> 6;
+ if v0 == 0 { break 'l5; }
+ v2 = 64;
+ 'l6: loop {
+ compress_compress_blake2s_compress(v6.plus(32), v7.plus(v2).minus(64), v2, 0, 0);
+ v2 = v2.plus(64);
+ v0 = v0.minus(1);
+ if v0 != 0 { continue 'l6; }
+ break 'l6; }
+ break 'l5; }
+ fill(v6 + 64, 0, 64);
+ 'l7: loop {
+ v2 = v5 & 0xffffffffffffffc0;
+ v0 = v3.minus(v2);
+ if v0 == 0 { break 'l7; }
+ copy(v6.plus(64), v7.plus(v2), v0);
+ break 'l7; }
+ v9 = 0;
+ compress_compress_blake2s_compress(v6.plus(32), v6.plus(64), v3, 1, 0);
+ v2 = load64(v6 + 32);
+ v0 = load64(v6 + 40);
+ v7 = load64(v6 + 48);
+ store64(v8 + 24, load64(v6 + 56));
+ store64(v8 + 16, v7);
+ store64(v8 + 8, v0);
+ store64(v8, v2);
+ break 'l1;
+ }
  store64(v6 + 8, 0);
- ffi_blake2s_write_digest(v0, v1, v2, v3, v6.plus(8));
- v7 = 0;
- break 'l2; }
- return v7;
+ ffi_blake2s_write_digest(v8, v1, v7, v3, v6.plus(8));
+ v9 = 0;
+ break 'l1; }
+ return v9;
 }
 
 // Overwrites the stack below the caller.
@@ -3736,59 +4400,32 @@ unsafe fn digest_wiping_scrub_stack_5632() {
 #[inline(never)]
 unsafe fn state_blake2s_State_write_digest(mut v0: u64, mut v1: u64) {
  let mut v2: u64;
- let mut v3: u32;
- let mut v4: u64;
- let mut v5: u64;
- let mut v6: u32;
- let mut frame = [0_u64; 42];
- let top = (address!(frame)).plus(336) & !15;
- v2 = top.minus(320);
- fill(v2 + 192, 0, 64);
- store64(v2 + 112, load64(v0));
- store64(v2 + 120, load64(v0 + 8));
- store64(v2 + 128, load64(v0 + 16));
- store64(v2 + 136, load64(v0 + 24));
- store64(v2 + 144, load64(v0.plus(32)));
- store64(v2 + 152, load64(v0.plus(40)));
- store64(v2 + 160, load64(v0.plus(48)));
- store64(v2 + 168, load64(v0.plus(56)));
- v3 = (load16(v0.plus(78)) != 0) as u32;
- store64(v2 + 184, v3 as u64);
- v4 = load64(v0.plus(64));
+ let mut v3: u64;
+ let mut frame = [0_u64; 18];
+ let top = (address!(frame)).plus(144) & !15;
+ v2 = top.minus(128);
+ fill(v2, 0, 32);
+ fill(v2 + 64, 0, 64);
+ store64(v2 + 56, load64(v0 + 24));
+ store64(v2 + 48, load64(v0 + 16));
+ store64(v2 + 40, load64(v0 + 8));
+ store64(v2 + 32, load64(v0));
  'l2: loop {
- v5 = load16(v0.plus(72)) as u64;
- v6 = (v5 == 0) as u32;
- if v6 != 0 { break 'l2; }
- copy(v2.plus(192), v0.plus(80), v5);
+ v3 = load16(v0.plus(72)) as u64;
+ if v3 == 0 { break 'l2; }
+ copy(v2.plus(64), v0.plus(80), v3);
  break 'l2; }
- store64(v2 + 104, v5);
- fill(v2 + 8, 0, 32);
- store64(v2 + 96, load64(v2 + 248));
- store64(v2 + 88, load64(v2 + 240));
- store64(v2 + 80, load64(v2 + 232));
- store64(v2 + 72, load64(v2 + 224));
- store64(v2 + 64, load64(v2 + 216));
- store64(v2 + 56, load64(v2 + 208));
- store64(v2 + 48, load64(v2 + 200));
- store64(v2 + 40, load64(v2 + 192));
- store64(v2 + 256, 0);
- v4 = v4.plus(v5);
- store64(v2 + 176, v4);
- fill(v2 + 264, 0, 56);
+ compress_compress_blake2s_compress(v2.plus(32), v2.plus(64), load64(v0.plus(64)).plus(v3), 1,
+   (load16(v0.plus(78)) != 0) as u32);
+ store64(v2, load64(v2 + 32));
+ store64(v2 + 8, load64(v2 + 40));
+ store64(v2 + 16, load64(v2 + 48));
+ store64(v2 + 24, load64(v2 + 56));
  'l3: loop {
- if v6 != 0 { break 'l3; }
- copy(v2.plus(256), v2.plus(40), v5);
- break 'l3; }
- compress_compress_blake2s_compress(v2.plus(112), v2.plus(256), v4, 1, v3);
- store64(v2 + 8, load64(v2 + 112));
- store64(v2 + 16, load64(v2 + 120));
- store64(v2 + 24, load64(v2 + 128));
- store64(v2 + 32, load64(v2 + 136));
- 'l4: loop {
  v0 = load16(v0.plus(76)) as u64;
- if v0 == 0 { break 'l4; }
- copy(v1, v2.plus(8), v0);
- break 'l4; }
+ if v0 == 0 { break 'l3; }
+ copy(v1, v2, v0);
+ break 'l3; }
  return;
 }
 
@@ -4791,6 +5428,336 @@ unsafe fn exported_blake2s_reset(mut v0: u64) -> u32 {
  v1 = 0;
  break 'l2; }
  return v1;
+}
+
+// blake2_state::blake2s::State::save
+#[inline(never)]
+unsafe fn state_blake2s_State_save(mut v0: u64, mut v1: u64) {
+ let mut v2: u64;
+ let mut v3: u32;
+ let mut v4: u32;
+ let mut v5: u32;
+ let mut v6: u32;
+ let mut v7: u32;
+ let mut v8: u32;
+ let mut v9: u32;
+ let mut v10: u32;
+ let mut v11: u32;
+ let mut v12: u32;
+ let mut v13: u64;
+ let mut v14: u32;
+ let mut v15: u32;
+ let mut v16: u32;
+ let mut v17: u32;
+ let mut v18: u32;
+ let mut v19: u32;
+ let mut v20: u32;
+ let mut v21: u32;
+ let mut v22: u32;
+ let mut v23: u64;
+ let mut frame = [0_u64; 18];
+ let top = (address!(frame)).plus(144) & !15;
+ v2 = top.minus(128);
+ 'l2: loop {
+ 'l3: loop {
+ v3 = load16(v1.plus(76));
+ if (v3.minus(1) & 0xffff) > 31 { break 'l3; }
+ v4 = load16(v1.plus(72));
+ if v4 > 64 { break 'l3; }
+ v5 = load16(v1.plus(74));
+ if v5 > 64 { break 'l3; }
+ if load64(v1.plus(64)) > sign64((!v4) as u64, 0x8000) { break 'l3; }
+ if v5 != 0 { break 'l3; }
+ v5 = load32(v1.plus(32));
+ if (v5 & 0xff00) == 0xe600 { break 'l2; }
+ break 'l3; }
+ fill(v0, 0, 148);
+ return;
+ }
+ fill(v2 + 64, 0, 64);
+ v6 = load32(v1.plus(36));
+ v7 = load32(v1.plus(40));
+ v8 = load32(v1.plus(44));
+ v9 = load32(v1.plus(48));
+ v10 = load32(v1.plus(52));
+ v11 = load32(v1.plus(56));
+ v12 = load32(v1.plus(60));
+ v13 = load64(v1.plus(64));
+ v14 = load16(v1.plus(78));
+ v15 = load32(v1);
+ v16 = load32(v1 + 4);
+ v17 = load32(v1 + 8);
+ v18 = load32(v1 + 12);
+ v19 = load32(v1 + 16);
+ v20 = load32(v1 + 20);
+ v21 = load32(v1 + 24);
+ v22 = load32(v1 + 28);
+ 'l4: loop {
+ v23 = v4 as u64;
+ if v23 == 0 { break 'l4; }
+ copy(v2.plus(64), v1.plus(80), v23);
+ break 'l4; }
+ store64(v2 + 56, load64(v2 + 120));
+ store64(v2 + 48, load64(v2 + 112));
+ store64(v2 + 40, load64(v2 + 104));
+ store64(v2 + 32, load64(v2 + 96));
+ store64(v2 + 24, load64(v2 + 88));
+ store64(v2 + 16, load64(v2 + 80));
+ store64(v2 + 8, load64(v2 + 72));
+ store64(v2, load64(v2 + 64));
+ store8(v0.plus(83), ((v14 != 0) as u32) as u64);
+ store8(v0.plus(82), v4 as u64);
+ store8(v0.plus(81), v3 as u64);
+ store64(v0.plus(73), v13);
+ store8(v0.plus(72), (v12 >> 24) as u64);
+ store8(v0.plus(71), (v12 >> 16) as u64);
+ store8(v0.plus(70), (v12 >> 8) as u64);
+ store8(v0.plus(69), v12 as u64);
+ store8(v0.plus(68), (v11 >> 24) as u64);
+ store8(v0.plus(67), (v11 >> 16) as u64);
+ store8(v0.plus(66), (v11 >> 8) as u64);
+ store8(v0.plus(65), v11 as u64);
+ store8(v0.plus(64), (v10 >> 24) as u64);
+ store8(v0.plus(63), (v10 >> 16) as u64);
+ store8(v0.plus(62), (v10 >> 8) as u64);
+ store8(v0.plus(61), v10 as u64);
+ store8(v0.plus(60), (v9 >> 24) as u64);
+ store8(v0.plus(59), (v9 >> 16) as u64);
+ store8(v0.plus(58), (v9 >> 8) as u64);
+ store8(v0.plus(57), v9 as u64);
+ store8(v0.plus(56), (v8 >> 24) as u64);
+ store8(v0.plus(55), (v8 >> 16) as u64);
+ store8(v0.plus(54), (v8 >> 8) as u64);
+ store8(v0.plus(53), v8 as u64);
+ store8(v0.plus(52), (v7 >> 24) as u64);
+ store8(v0.plus(51), (v7 >> 16) as u64);
+ store8(v0.plus(50), (v7 >> 8) as u64);
+ store8(v0.plus(49), v7 as u64);
+ store8(v0.plus(48), (v6 >> 24) as u64);
+ store8(v0.plus(47), (v6 >> 16) as u64);
+ store8(v0.plus(46), (v6 >> 8) as u64);
+ store8(v0.plus(45), v6 as u64);
+ store8(v0.plus(44), (v5 >> 24) as u64);
+ store8(v0.plus(43), (v5 >> 16) as u64);
+ store8(v0.plus(42), (v5 >> 8) as u64);
+ store8(v0.plus(41), v5 as u64);
+ store8(v0.plus(40), (v22 >> 24) as u64);
+ store8(v0.plus(39), (v22 >> 16) as u64);
+ store8(v0.plus(38), (v22 >> 8) as u64);
+ store8(v0.plus(37), v22 as u64);
+ store8(v0.plus(36), (v21 >> 24) as u64);
+ store8(v0.plus(35), (v21 >> 16) as u64);
+ store8(v0.plus(34), (v21 >> 8) as u64);
+ store8(v0.plus(33), v21 as u64);
+ store8(v0.plus(32), (v20 >> 24) as u64);
+ store8(v0.plus(31), (v20 >> 16) as u64);
+ store8(v0.plus(30), (v20 >> 8) as u64);
+ store8(v0.plus(29), v20 as u64);
+ store8(v0.plus(28), (v19 >> 24) as u64);
+ store8(v0.plus(27), (v19 >> 16) as u64);
+ store8(v0.plus(26), (v19 >> 8) as u64);
+ store8(v0.plus(25), v19 as u64);
+ store8(v0.plus(24), (v18 >> 24) as u64);
+ store8(v0.plus(23), (v18 >> 16) as u64);
+ store8(v0.plus(22), (v18 >> 8) as u64);
+ store8(v0.plus(21), v18 as u64);
+ store8(v0.plus(20), (v17 >> 24) as u64);
+ store8(v0.plus(19), (v17 >> 16) as u64);
+ store8(v0.plus(18), (v17 >> 8) as u64);
+ store8(v0.plus(17), v17 as u64);
+ store8(v0.plus(16), (v16 >> 24) as u64);
+ store8(v0.plus(15), (v16 >> 16) as u64);
+ store8(v0.plus(14), (v16 >> 8) as u64);
+ store8(v0.plus(13), v16 as u64);
+ store8(v0.plus(12), (v15 >> 24) as u64);
+ store8(v0.plus(11), (v15 >> 16) as u64);
+ store8(v0.plus(10), (v15 >> 8) as u64);
+ store8(v0.plus(9), v15 as u64);
+ store64(v0.plus(1), 0x17332454b414c42);
+ store8(v0, 1);
+ store64(v0.plus(140), load64(v2 + 56));
+ store64(v0.plus(132), load64(v2 + 48));
+ store64(v0.plus(124), load64(v2 + 40));
+ store64(v0.plus(116), load64(v2 + 32));
+ store64(v0.plus(108), load64(v2 + 24));
+ store64(v0.plus(100), load64(v2 + 16));
+ store64(v0.plus(92), load64(v2 + 8));
+ store64(v0.plus(84), load64(v2));
+ return;
+}
+
+// rattle::export vulfsjor_ffi_blake2s_save
+#[inline(never)]
+unsafe fn exported_blake2s_save(mut v0: u64, mut v1: u64, mut v2: u64) -> u32 {
+ let mut v3: u64;
+ let mut v4: u32;
+ let mut frame = [0_u64; 22];
+ let top = (address!(frame)).plus(176) & !15;
+ v3 = top.minus(160);
+ fill(v3.plus(12), 0, 148);
+ v4 = 0xffffffff;
+ 'l2: loop {
+ if v2 != 147 { break 'l2; }
+ state_blake2s_State_save(v3.plus(12), v0);
+ if load8(v3 + 12) != 1 { break 'l2; }
+ copy(v1.plus(if v1 == 0 { 4096_u64 } else { 0 }), v3.plus(13), 147);
+ v4 = 0;
+ break 'l2; }
+ return v4;
+}
+
+// rattle::export vulfsjor_ffi_blake2s_load
+#[inline(never)]
+unsafe fn exported_blake2s_load(mut v0: u64, mut v1: u64, mut v2: u64) -> u32 {
+ let mut v3: u64;
+ let mut v4: u32;
+ let mut v5: u32;
+ let mut v6: u32;
+ let mut v7: u32;
+ let mut v8: u32;
+ let mut v9: u32;
+ let mut v10: u32;
+ let mut v11: u32;
+ let mut v12: u32;
+ let mut v13: u32;
+ let mut v14: u32;
+ let mut v15: u32;
+ let mut v16: u32;
+ let mut v17: u32;
+ let mut v18: u32;
+ let mut v19: u32;
+ let mut v20: u32;
+ let mut v21: u32;
+ let mut v22: u32;
+ let mut v23: u64;
+ let mut v24: u64;
+ let mut v25: u64;
+ let mut v26: u64;
+ let mut v27: u64;
+ let mut v28: u64;
+ let mut v29: u64;
+ let mut t0: u32;
+ let mut frame = [0_u64; 62];
+ let top = (address!(frame)).plus(496) & !15;
+ v3 = top.minus(480);
+ 'l1: loop {
+ 'l2: loop {
+ if v2 != 147 { break 'l2; }
+ v1 = v1.plus(if v1 == 0 { 4096_u64 } else { 0 });
+ v4 = load32(v1.plus(8));
+ v5 = load32(v1.plus(12));
+ v6 = load32(v1.plus(16));
+ v7 = load32(v1.plus(20));
+ v8 = load32(v1.plus(24));
+ v9 = load32(v1.plus(28));
+ v10 = load32(v1.plus(32));
+ v11 = load32(v1.plus(36));
+ v12 = load32(v1.plus(40));
+ v13 = load32(v1.plus(44));
+ v14 = load32(v1.plus(48));
+ v15 = load32(v1.plus(52));
+ v16 = load32(v1.plus(56));
+ v17 = load32(v1.plus(60));
+ v18 = load32(v1.plus(64));
+ v19 = load32(v1.plus(68));
+ v2 = load64(v1.plus(72));
+ v20 = load8(v1 + 81);
+ v21 = load8(v1 + 80);
+ v22 = load8(v1 + 82);
+ store16(v3 + 86, v22 as u64);
+ store16(v3 + 84, v21 as u64);
+ store16(v3 + 82, 0);
+ store16(v3 + 80, v20 as u64);
+ store64(v3 + 72, v2);
+ store32(v3 + 68, v19 as u64);
+ store32(v3 + 64, v18 as u64);
+ store32(v3 + 60, v17 as u64);
+ store32(v3 + 56, v16 as u64);
+ store32(v3 + 52, v15 as u64);
+ store32(v3 + 48, v14 as u64);
+ store32(v3 + 44, v13 as u64);
+ store32(v3 + 40, v12 as u64);
+ store32(v3 + 36, v11 as u64);
+ store32(v3 + 32, v10 as u64);
+ store32(v3 + 28, v9 as u64);
+ store32(v3 + 24, v8 as u64);
+ store32(v3 + 20, v7 as u64);
+ store32(v3 + 16, v6 as u64);
+ store32(v3 + 12, v5 as u64);
+ store32(v3 + 8, v4 as u64);
+ fill(v3 + 152, 0, 32);
+ store64(v3 + 144, load64(v1.plus(139)));
+ store64(v3 + 136, load64(v1.plus(131)));
+ store64(v3 + 128, load64(v1.plus(123)));
+ store64(v3 + 120, load64(v1.plus(115)));
+ store64(v3 + 112, load64(v1.plus(107)));
+ store64(v3 + 104, load64(v1.plus(99)));
+ store64(v3 + 96, load64(v1.plus(91)));
+ v23 = v1.plus(83);
+ store64(v3 + 88, load64(v23));
+ fill(v3.plus(185), 0, 148);
+ state_blake2s_State_save(v3.plus(185), v3.plus(8));
+ if load8(v3 + 185) != 1 { break 'l2; }
+ copy(v3.plus(333), v3.plus(185).plus(1), 147);
+ if load8(v1) != load8(v3 + 333) { break 'l2; }
+ if (load8(v1.plus(1)) & 255) != (load8(v3 + 334) & 255) { break 'l2; }
+ if (load8(v1.plus(2)) & 255) != (load8(v3 + 335) & 255) { break 'l2; }
+ if (load8(v1.plus(3)) & 255) != (load8(v3 + 336) & 255) { break 'l2; }
+ t0 = core_cmp_slices_groups_equal_i8_31_core_cmp_numbers_U8PartialEq(v1, 147, v3.plus(333));
+ if t0 == 0 { break 'l2; }
+ v1 = load64(v23 + 56);
+ v24 = load64(v23 + 48);
+ v25 = load64(v23 + 40);
+ v26 = load64(v23 + 32);
+ v27 = load64(v23 + 24);
+ v28 = load64(v23 + 16);
+ v29 = load64(v23 + 8);
+ v23 = load64(v23);
+ store16(v0 + 78, v22 as u64);
+ store16(v0 + 76, v21 as u64);
+ v21 = 0;
+ store16(v0 + 74, 0);
+ store16(v0 + 72, v20 as u64);
+ store64(v0 + 64, v2);
+ store32(v0 + 60, v19 as u64);
+ store32(v0 + 56, v18 as u64);
+ store32(v0 + 52, v17 as u64);
+ store32(v0 + 48, v16 as u64);
+ store32(v0 + 44, v15 as u64);
+ store32(v0 + 40, v14 as u64);
+ store32(v0 + 36, v13 as u64);
+ store32(v0 + 32, v12 as u64);
+ store32(v0 + 28, v11 as u64);
+ store32(v0 + 24, v10 as u64);
+ store32(v0 + 20, v9 as u64);
+ store32(v0 + 16, v8 as u64);
+ store32(v0 + 12, v7 as u64);
+ store32(v0 + 8, v6 as u64);
+ store32(v0 + 4, v5 as u64);
+ store32(v0, v4 as u64);
+ store64(v3 + 8, v23);
+ store64(v3 + 16, v29);
+ store64(v3 + 24, v28);
+ store64(v3 + 32, v27);
+ store64(v3 + 40, v26);
+ store64(v3 + 48, v25);
+ store64(v3 + 56, v24);
+ store64(v3 + 64, v1);
+ fill(v0 + 144, 0, 32);
+ store64(v0 + 136, load64(v3 + 64));
+ store64(v0 + 128, load64(v3 + 56));
+ store64(v0 + 120, load64(v3 + 48));
+ store64(v0 + 112, load64(v3 + 40));
+ store64(v0 + 104, load64(v3 + 32));
+ store64(v0 + 96, load64(v3 + 24));
+ store64(v0 + 88, load64(v3 + 16));
+ store64(v0 + 80, load64(v3 + 8));
+ break 'l1;
+ }
+ fill(v0, 0, 176);
+ v21 = 0xffffffff;
+ break 'l1; }
+ return v21;
 }
 
 // rattle::export vulfsjor_ffi_blake2s_wipe
@@ -15399,6 +16366,14 @@ pub(crate) unsafe fn blake2b_reset<S>(state: &mut S) -> i32 {
     exported_blake2b_reset(state as *mut _ as u64) as i32
 }
 
+pub(crate) unsafe fn blake2b_save<S>(state: &S, out: *mut u8, out_length: usize) -> i32 {
+    exported_blake2b_save(state as *const _ as u64, out as u64, out_length as u64) as i32
+}
+
+pub(crate) unsafe fn blake2b_load<S>(state: &mut S, saved: *const u8, saved_length: usize) -> i32 {
+    exported_blake2b_load(state as *mut _ as u64, saved as u64, saved_length as u64) as i32
+}
+
 pub(crate) unsafe fn blake2b_wipe<S>(state: &mut S) {
     exported_blake2b_wipe(state as *mut _ as u64);
 }
@@ -15482,6 +16457,14 @@ pub(crate) unsafe fn blake2s_set_last_node<S>(state: &mut S, on: u32) -> i32 {
 
 pub(crate) unsafe fn blake2s_reset<S>(state: &mut S) -> i32 {
     exported_blake2s_reset(state as *mut _ as u64) as i32
+}
+
+pub(crate) unsafe fn blake2s_save<S>(state: &S, out: *mut u8, out_length: usize) -> i32 {
+    exported_blake2s_save(state as *const _ as u64, out as u64, out_length as u64) as i32
+}
+
+pub(crate) unsafe fn blake2s_load<S>(state: &mut S, saved: *const u8, saved_length: usize) -> i32 {
+    exported_blake2s_load(state as *mut _ as u64, saved as u64, saved_length as u64) as i32
 }
 
 pub(crate) unsafe fn blake2s_wipe<S>(state: &mut S) {

@@ -12640,199 +12640,127 @@
 	vj_function	blake2_state..runs..Run..padded_1_x86
 	pushq	%r15
 	pushq	%r14
-	pushq	%r13
-	pushq	%r12
 	pushq	%rbx
-	subq	$800, %rsp
+	subq	$448, %rsp
 	movq	%rsi, %r14
 	movq	%rdi, %rbx
-	xorps	%xmm8, %xmm8
-	movaps	%xmm8, 512(%rsp)
-	movaps	%xmm8, 496(%rsp)
-	movaps	%xmm8, 480(%rsp)
-	movaps	%xmm8, 464(%rsp)
+	xorps	%xmm0, %xmm0
+	movaps	%xmm0, 304(%rsp)
+	movaps	%xmm0, 288(%rsp)
+	movaps	%xmm0, 272(%rsp)
+	movaps	%xmm0, 256(%rsp)
 	cmpb	$0, (%rsi)
 	je	1f
-	movq	72(%r14), %r15
-	movups	8(%r14), %xmm0
-	movups	24(%r14), %xmm1
-	movups	40(%r14), %xmm2
-	movups	56(%r14), %xmm3
-	xorl	%r12d, %r12d
-	cmpw	$0, 86(%r14)
-	setne	%r12b
+	movups	8(%r14), %xmm1
+	movups	24(%r14), %xmm2
+	movaps	%xmm1, (%rsp)
+	movaps	%xmm2, 16(%rsp)
+	movzwl	80(%r14), %r15d
+	leaq	88(%r14), %rsi
+	movaps	%xmm0, 112(%rsp)
+	movaps	%xmm0, 96(%rsp)
+	movaps	%xmm0, 80(%rsp)
+	movaps	%xmm0, 64(%rsp)
+	leaq	64(%rsp), %rdi
+	movq	%r15, %rdx
+	vj_c_call	memcpy
+	movaps	64(%rsp), %xmm0
+	movaps	80(%rsp), %xmm1
+	movaps	96(%rsp), %xmm2
+	movaps	112(%rsp), %xmm3
 	movaps	%xmm0, 320(%rsp)
 	movaps	%xmm1, 336(%rsp)
 	movaps	%xmm2, 352(%rsp)
 	movaps	%xmm3, 368(%rsp)
-	movq	%r12, 392(%rsp)
-	movzwl	80(%r14), %r13d
-	leaq	88(%r14), %rsi
-	movaps	%xmm8, 48(%rsp)
-	movaps	%xmm8, 32(%rsp)
-	movaps	%xmm8, 16(%rsp)
-	movaps	%xmm8, (%rsp)
+	xorl	%r8d, %r8d
+	cmpw	$0, 86(%r14)
+	setne	%r8b
+	addq	72(%r14), %r15
 	movq	%rsp, %rdi
-	movq	%r13, %rdx
-	vj_c_call	memcpy
-	movaps	(%rsp), %xmm0
-	movaps	16(%rsp), %xmm1
-	movaps	32(%rsp), %xmm2
-	movaps	48(%rsp), %xmm3
-	movaps	%xmm0, 528(%rsp)
-	movaps	%xmm1, 544(%rsp)
-	movaps	%xmm2, 560(%rsp)
-	movaps	%xmm3, 576(%rsp)
-	movq	%r13, 592(%rsp)
-	addq	%r13, %r15
-	movq	%r15, 384(%rsp)
-	xorps	%xmm0, %xmm0
-	movaps	%xmm0, 128(%rsp)
-	movaps	%xmm0, 144(%rsp)
-	movaps	%xmm0, 160(%rsp)
-	movaps	%xmm0, 176(%rsp)
-	leaq	128(%rsp), %rdi
-	leaq	528(%rsp), %rsi
-	movq	%r13, %rdx
-	vj_c_call	memcpy
-	movaps	128(%rsp), %xmm0
-	movaps	144(%rsp), %xmm1
-	movaps	160(%rsp), %xmm2
-	movaps	176(%rsp), %xmm3
-	movaps	%xmm0, 672(%rsp)
-	movaps	%xmm1, 688(%rsp)
-	movaps	%xmm2, 704(%rsp)
-	movaps	%xmm3, 720(%rsp)
-	leaq	320(%rsp), %rdi
-	leaq	672(%rsp), %rsi
+	leaq	320(%rsp), %rsi
 	movq	%r15, %rdx
 	movl	$1, %ecx
-	movl	%r12d, %r8d
 	vj_call	blake2_compress..compress..blake2s..compress_1_x86
-	movaps	320(%rsp), %xmm0
-	movaps	336(%rsp), %xmm1
-	movaps	%xmm0, 256(%rsp)
-	movaps	%xmm1, 272(%rsp)
+	movaps	(%rsp), %xmm0
+	movaps	16(%rsp), %xmm1
+	movaps	%xmm0, 192(%rsp)
+	movaps	%xmm1, 208(%rsp)
 	movzwl	84(%r14), %edx
 	jmp	2f
 1:
-	movq	136(%r14), %r15
-	movups	8(%r14), %xmm0
-	movups	24(%r14), %xmm1
-	movups	40(%r14), %xmm2
-	movups	56(%r14), %xmm3
-	movups	88(%r14), %xmm4
-	movups	72(%r14), %xmm5
-	movups	120(%r14), %xmm6
-	movups	104(%r14), %xmm7
-	xorl	%r12d, %r12d
-	cmpl	$0, 156(%r14)
-	setne	%r12b
-	movups	%xmm0, 320(%rsp)
-	movups	%xmm1, 336(%rsp)
-	movups	%xmm2, 352(%rsp)
-	movups	%xmm3, 368(%rsp)
-	movups	%xmm5, 384(%rsp)
-	movups	%xmm4, 400(%rsp)
-	movups	%xmm7, 416(%rsp)
-	movups	%xmm6, 432(%rsp)
-	movq	%r12, 456(%rsp)
-	movl	144(%r14), %r13d
-	leaq	160(%r14), %rsi
-	movaps	%xmm8, 112(%rsp)
-	movaps	%xmm8, 96(%rsp)
-	movaps	%xmm8, 80(%rsp)
-	movaps	%xmm8, 64(%rsp)
-	movaps	%xmm8, 48(%rsp)
-	movaps	%xmm8, 32(%rsp)
-	movaps	%xmm8, 16(%rsp)
-	movaps	%xmm8, (%rsp)
-	movq	%rsp, %rdi
-	movq	%r13, %rdx
-	vj_c_call	memcpy
-	movaps	(%rsp), %xmm0
-	movaps	16(%rsp), %xmm1
-	movaps	32(%rsp), %xmm2
-	movaps	48(%rsp), %xmm3
-	movaps	%xmm0, 528(%rsp)
-	movaps	%xmm1, 544(%rsp)
-	movaps	%xmm2, 560(%rsp)
-	movaps	%xmm3, 576(%rsp)
-	movaps	64(%rsp), %xmm0
-	movaps	%xmm0, 592(%rsp)
-	movaps	80(%rsp), %xmm0
-	movaps	%xmm0, 608(%rsp)
-	movaps	96(%rsp), %xmm0
-	movaps	%xmm0, 624(%rsp)
-	movaps	112(%rsp), %xmm0
-	movaps	%xmm0, 640(%rsp)
-	movq	%r13, 656(%rsp)
-	xorps	%xmm0, %xmm0
-	movaps	%xmm0, 256(%rsp)
-	movaps	%xmm0, 272(%rsp)
-	movaps	%xmm0, 288(%rsp)
-	movaps	%xmm0, 304(%rsp)
-	addq	%r13, %r15
-	movq	%r15, 448(%rsp)
-	movaps	%xmm0, 128(%rsp)
-	movaps	%xmm0, 144(%rsp)
-	movaps	%xmm0, 160(%rsp)
-	movaps	%xmm0, 176(%rsp)
-	movaps	%xmm0, 192(%rsp)
-	movaps	%xmm0, 208(%rsp)
-	movaps	%xmm0, 224(%rsp)
 	movaps	%xmm0, 240(%rsp)
-	leaq	128(%rsp), %rdi
-	leaq	528(%rsp), %rsi
-	movq	%r13, %rdx
+	movaps	%xmm0, 224(%rsp)
+	movaps	%xmm0, 208(%rsp)
+	movaps	%xmm0, 192(%rsp)
+	movups	8(%r14), %xmm1
+	movups	24(%r14), %xmm2
+	movups	40(%r14), %xmm3
+	movups	56(%r14), %xmm4
+	movups	%xmm1, (%rsp)
+	movups	%xmm2, 16(%rsp)
+	movups	%xmm4, 48(%rsp)
+	movups	%xmm3, 32(%rsp)
+	movl	144(%r14), %r15d
+	leaq	160(%r14), %rsi
+	movaps	%xmm0, 176(%rsp)
+	movaps	%xmm0, 160(%rsp)
+	movaps	%xmm0, 144(%rsp)
+	movaps	%xmm0, 128(%rsp)
+	movaps	%xmm0, 112(%rsp)
+	movaps	%xmm0, 96(%rsp)
+	movaps	%xmm0, 80(%rsp)
+	movaps	%xmm0, 64(%rsp)
+	leaq	64(%rsp), %rdi
+	movq	%r15, %rdx
 	vj_c_call	memcpy
+	movaps	64(%rsp), %xmm0
+	movaps	80(%rsp), %xmm1
+	movaps	96(%rsp), %xmm2
+	movaps	112(%rsp), %xmm3
+	movaps	%xmm0, 320(%rsp)
+	movaps	%xmm1, 336(%rsp)
+	movaps	%xmm2, 352(%rsp)
+	movaps	%xmm3, 368(%rsp)
 	movaps	128(%rsp), %xmm0
-	movaps	144(%rsp), %xmm1
-	movaps	160(%rsp), %xmm2
-	movaps	176(%rsp), %xmm3
-	movaps	%xmm0, 672(%rsp)
-	movaps	%xmm1, 688(%rsp)
-	movaps	%xmm2, 704(%rsp)
-	movaps	%xmm3, 720(%rsp)
-	movaps	192(%rsp), %xmm0
-	movaps	%xmm0, 736(%rsp)
-	movaps	208(%rsp), %xmm0
-	movaps	%xmm0, 752(%rsp)
-	movaps	224(%rsp), %xmm0
-	movaps	%xmm0, 768(%rsp)
-	movaps	240(%rsp), %xmm0
-	movaps	%xmm0, 784(%rsp)
-	leaq	320(%rsp), %rdi
-	leaq	672(%rsp), %rsi
+	movaps	%xmm0, 384(%rsp)
+	movaps	144(%rsp), %xmm0
+	movaps	%xmm0, 400(%rsp)
+	movaps	160(%rsp), %xmm0
+	movaps	%xmm0, 416(%rsp)
+	movaps	176(%rsp), %xmm0
+	movaps	%xmm0, 432(%rsp)
+	xorl	%r8d, %r8d
+	cmpl	$0, 156(%r14)
+	setne	%r8b
+	addq	136(%r14), %r15
+	movq	%rsp, %rdi
+	leaq	320(%rsp), %rsi
 	movq	%r15, %rdx
 	movl	$1, %ecx
-	movl	%r12d, %r8d
 	vj_call	blake2_compress..compress..blake2b..compress_1_x86
-	movups	320(%rsp), %xmm0
-	movups	336(%rsp), %xmm1
-	movups	352(%rsp), %xmm2
-	movups	368(%rsp), %xmm3
-	movaps	%xmm0, 256(%rsp)
-	movaps	%xmm1, 272(%rsp)
-	movaps	%xmm2, 288(%rsp)
-	movaps	%xmm3, 304(%rsp)
+	movups	(%rsp), %xmm0
+	movups	16(%rsp), %xmm1
+	movups	32(%rsp), %xmm2
+	movups	48(%rsp), %xmm3
+	movaps	%xmm0, 192(%rsp)
+	movaps	%xmm1, 208(%rsp)
+	movaps	%xmm2, 224(%rsp)
+	movaps	%xmm3, 240(%rsp)
 	movl	152(%r14), %edx
 2:
-	leaq	464(%rsp), %rdi
-	leaq	256(%rsp), %rsi
+	leaq	256(%rsp), %rdi
+	leaq	192(%rsp), %rsi
 	vj_c_call	memcpy
-	movaps	464(%rsp), %xmm0
-	movaps	480(%rsp), %xmm1
-	movaps	496(%rsp), %xmm2
-	movaps	512(%rsp), %xmm3
+	movaps	256(%rsp), %xmm0
+	movaps	272(%rsp), %xmm1
+	movaps	288(%rsp), %xmm2
+	movaps	304(%rsp), %xmm3
 	movups	%xmm3, 48(%rbx)
 	movups	%xmm2, 32(%rbx)
 	movups	%xmm1, 16(%rbx)
 	movups	%xmm0, (%rbx)
-	addq	$800, %rsp
+	addq	$448, %rsp
 	popq	%rbx
-	popq	%r12
-	popq	%r13
 	popq	%r14
 	popq	%r15
 	retq

@@ -24543,27 +24543,27 @@
 	movl	4(%rdx), %edi
 	movq	8(%rdx), %r15
 	xorps	%xmm0, %xmm0
-	movaps	%xmm0, 256(%rsp)
-	movaps	%xmm0, 240(%rsp)
-	movaps	%xmm0, 224(%rsp)
-	movaps	%xmm0, 208(%rsp)
 	movaps	%xmm0, 192(%rsp)
-	movq	$0, 270(%rsp)
+	movaps	%xmm0, 176(%rsp)
+	movaps	%xmm0, 160(%rsp)
+	movaps	%xmm0, 144(%rsp)
+	movaps	%xmm0, 128(%rsp)
+	movq	$0, 206(%rsp)
 	testb	$1, 32(%rcx)
 	je	1f
 	movzwl	40(%r14), %eax
 	movups	42(%r14), %xmm0
-	movaps	%xmm0, 192(%rsp)
+	movaps	%xmm0, 128(%rsp)
 	movups	58(%r14), %xmm0
-	movaps	%xmm0, 208(%rsp)
+	movaps	%xmm0, 144(%rsp)
 	movups	74(%r14), %xmm0
-	movaps	%xmm0, 224(%rsp)
+	movaps	%xmm0, 160(%rsp)
 	movups	90(%r14), %xmm0
-	movaps	%xmm0, 240(%rsp)
+	movaps	%xmm0, 176(%rsp)
 	movups	106(%r14), %xmm0
-	movaps	%xmm0, 256(%rsp)
+	movaps	%xmm0, 192(%rsp)
 	movq	120(%r14), %rcx
-	movq	%rcx, 270(%rsp)
+	movq	%rcx, 206(%rsp)
 	movb	$1, (%rbx)
 	movw	%ax, 8(%rbx)
 	jmp	37f
@@ -24576,13 +24576,13 @@
 	movq	64(%rsi), %rdx
 	movq	80(%rsi), %r9
 	movq	88(%rsi), %r8
-	movq	%r15, 920(%rsp)
-	movq	%rcx, 928(%rsp)
-	movq	%r13, 936(%rsp)
-	movq	%r12, 944(%rsp)
-	movq	%rdx, 952(%rsp)
-	movq	%r9, 960(%rsp)
-	movq	%r8, 968(%rsp)
+	movq	%r15, 936(%rsp)
+	movq	%rcx, 944(%rsp)
+	movq	%r13, 952(%rsp)
+	movq	%r12, 960(%rsp)
+	movq	%rdx, 968(%rsp)
+	movq	%r9, 976(%rsp)
+	movq	%r8, 984(%rsp)
 	movl	%eax, %eax
 	leaq	.L1_x86_JTI46_0(%rip), %rcx
 	movslq	(%rcx,%rax,4), %rax
@@ -24594,7 +24594,7 @@
 	movq	%r15, %rdi
 	xorl	%esi, %esi
 	vj_c_call	memset
-	leaq	920(%rsp), %rsi
+	leaq	936(%rsp), %rsi
 	movq	%r15, %rdi
 	callq	b2sum..hashes..start..a920819b086c025a_1_x86
 	movb	$1, %cl
@@ -24620,7 +24620,7 @@
 	jmp	22f
 4:
 	movq	%r9, 120(%rsp)
-	movq	%r8, 472(%rsp)
+	movq	%r8, 280(%rsp)
 	movq	%rdx, (%rsp)
 	movl	116(%rsi), %eax
 	movl	%eax, 28(%rsp)
@@ -24638,7 +24638,7 @@
 	movq	(%rsp), %rax
 	cmpq	$16, %rax
 	ja	15f
-	movq	472(%rsp), %r8
+	movq	280(%rsp), %r8
 	cmpq	$16, %r8
 	ja	15f
 	xorps	%xmm0, %xmm0
@@ -24666,78 +24666,78 @@
 	movl	%eax, 1072(%rsp)
 	movl	$0, 1076(%rsp)
 	xorps	%xmm0, %xmm0
-	movaps	%xmm0, 496(%rsp)
-	movaps	%xmm0, 480(%rsp)
+	movaps	%xmm0, 432(%rsp)
+	movaps	%xmm0, 416(%rsp)
 	movd	.L1_x86_CPI46_6(%rip), %xmm0
 	movd	%eax, %xmm1
 	movdqa	%xmm1, 96(%rsp)
 	punpckldq	%xmm1, %xmm0
 	movq	%xmm0, %xmm0
-	movdqa	%xmm0, 416(%rsp)
-	leaq	480(%rsp), %rdi
+	movdqa	%xmm0, 224(%rsp)
+	leaq	416(%rsp), %rdi
 	leaq	1024(%rsp), %rsi
 	vj_c_call	memcpy
-	leaq	496(%rsp), %rdi
+	leaq	432(%rsp), %rdi
 	leaq	1048(%rsp), %rsi
 	movq	%r13, %rdx
 	vj_c_call	memcpy
 	movaps	.L1_x86_CPI46_1(%rip), %xmm0
-	movaps	%xmm0, 448(%rsp)
-	movaps	496(%rsp), %xmm1
+	movaps	%xmm0, 256(%rsp)
+	movaps	432(%rsp), %xmm1
 	xorps	%xmm0, %xmm1
 	movaps	%xmm1, 1392(%rsp)
 	movaps	.L1_x86_CPI46_2(%rip), %xmm0
-	movaps	%xmm0, 432(%rsp)
-	movaps	480(%rsp), %xmm1
+	movaps	%xmm0, 240(%rsp)
+	movaps	416(%rsp), %xmm1
 	xorps	%xmm0, %xmm1
 	movaps	%xmm1, 1376(%rsp)
-	movaps	416(%rsp), %xmm0
+	movaps	224(%rsp), %xmm0
 	xorps	.L1_x86_CPI46_3(%rip), %xmm0
-	movaps	%xmm0, 416(%rsp)
+	movaps	%xmm0, 224(%rsp)
 	xorps	%xmm0, %xmm0
-	movaps	%xmm0, 496(%rsp)
-	movaps	%xmm0, 480(%rsp)
+	movaps	%xmm0, 432(%rsp)
+	movaps	%xmm0, 416(%rsp)
 	movl	%r15d, %eax
 	orl	$33554432, %eax
 	movd	%eax, %xmm0
 	punpckldq	96(%rsp), %xmm0
 	movq	%xmm0, %xmm0
 	movdqa	%xmm0, 96(%rsp)
-	leaq	480(%rsp), %rdi
+	leaq	416(%rsp), %rdi
 	leaq	1024(%rsp), %rsi
 	movq	(%rsp), %rdx
 	vj_c_call	memcpy
-	leaq	496(%rsp), %rdi
+	leaq	432(%rsp), %rdi
 	leaq	1048(%rsp), %rsi
 	movq	%r13, %rdx
 	vj_c_call	memcpy
-	movaps	448(%rsp), %xmm0
-	xorps	496(%rsp), %xmm0
-	movaps	%xmm0, 448(%rsp)
-	movaps	432(%rsp), %xmm0
-	xorps	480(%rsp), %xmm0
-	movaps	%xmm0, 432(%rsp)
+	movaps	256(%rsp), %xmm0
+	xorps	432(%rsp), %xmm0
+	movaps	%xmm0, 256(%rsp)
+	movaps	240(%rsp), %xmm0
+	xorps	416(%rsp), %xmm0
+	movaps	%xmm0, 240(%rsp)
 	movaps	96(%rsp), %xmm0
 	xorps	.L1_x86_CPI46_3(%rip), %xmm0
 	movaps	%xmm0, 96(%rsp)
 	xorps	%xmm0, %xmm0
-	movaps	%xmm0, 1008(%rsp)
-	leaq	1008(%rsp), %rdi
+	movaps	%xmm0, 992(%rsp)
+	leaq	992(%rsp), %rdi
 	movq	%r12, %rsi
 	movq	(%rsp), %r12
 	movq	%r12, %rdx
 	vj_c_call	memcpy
 	xorps	%xmm0, %xmm0
-	movaps	%xmm0, 976(%rsp)
-	leaq	976(%rsp), %rdi
+	movaps	%xmm0, 1008(%rsp)
+	leaq	1008(%rsp), %rdi
 	movq	120(%rsp), %rsi
 	movq	%r13, %rdx
 	vj_c_call	memcpy
+	movaps	992(%rsp), %xmm0
+	movaps	%xmm0, 864(%rsp)
 	movaps	1008(%rsp), %xmm0
-	movaps	%xmm0, 128(%rsp)
-	movaps	976(%rsp), %xmm0
-	movaps	%xmm0, 144(%rsp)
-	movaps	416(%rsp), %xmm0
+	movaps	%xmm0, 880(%rsp)
+	movaps	224(%rsp), %xmm0
 	movaps	%xmm0, 1408(%rsp)
 	movaps	.L1_x86_CPI46_4(%rip), %xmm3
 	movaps	%xmm3, 1424(%rsp)
@@ -24769,9 +24769,9 @@
 	movups	%xmm3, 1752(%rsp)
 	movaps	.L1_x86_CPI46_5(%rip), %xmm4
 	movups	%xmm4, 1768(%rsp)
-	movaps	432(%rsp), %xmm2
+	movaps	240(%rsp), %xmm2
 	movups	%xmm2, 1784(%rsp)
-	movaps	448(%rsp), %xmm1
+	movaps	256(%rsp), %xmm1
 	movups	%xmm1, 1800(%rsp)
 	movups	%xmm3, 1816(%rsp)
 	movups	%xmm4, 1832(%rsp)
@@ -24796,8 +24796,8 @@
 	movq	%rax, 2104(%rsp)
 	movq	%r12, 2112(%rsp)
 	movq	%r13, 2120(%rsp)
-	movaps	128(%rsp), %xmm0
-	movaps	144(%rsp), %xmm1
+	movaps	864(%rsp), %xmm0
+	movaps	880(%rsp), %xmm1
 	movaps	%xmm1, 2144(%rsp)
 	movaps	%xmm0, 2128(%rsp)
 	xorl	%esi, %esi
@@ -24866,46 +24866,46 @@
 	movups	296(%rax), %xmm1
 	movups	312(%rax), %xmm2
 	movups	328(%rax), %xmm3
-	movaps	%xmm3, 528(%rsp)
-	movaps	%xmm2, 512(%rsp)
-	movaps	%xmm1, 496(%rsp)
-	movaps	%xmm0, 480(%rsp)
+	movaps	%xmm3, 464(%rsp)
+	movaps	%xmm2, 448(%rsp)
+	movaps	%xmm1, 432(%rsp)
+	movaps	%xmm0, 416(%rsp)
 	movups	344(%rax), %xmm0
 	movups	360(%rax), %xmm1
 	movups	376(%rax), %xmm2
 	movups	392(%rax), %xmm3
-	movaps	%xmm3, 592(%rsp)
-	movaps	%xmm2, 576(%rsp)
-	movaps	%xmm1, 560(%rsp)
-	movaps	%xmm0, 544(%rsp)
+	movaps	%xmm3, 528(%rsp)
+	movaps	%xmm2, 512(%rsp)
+	movaps	%xmm1, 496(%rsp)
+	movaps	%xmm0, 480(%rsp)
 	movq	1880(%rsp), %rax
-	movq	%rax, 608(%rsp)
+	movq	%rax, 544(%rsp)
 	movaps	1888(%rsp), %xmm0
-	movups	%xmm0, 616(%rsp)
+	movups	%xmm0, 552(%rsp)
 	movaps	2016(%rsp), %xmm0
-	movups	%xmm0, 744(%rsp)
+	movups	%xmm0, 680(%rsp)
 	movaps	2000(%rsp), %xmm0
-	movups	%xmm0, 728(%rsp)
+	movups	%xmm0, 664(%rsp)
 	movaps	1984(%rsp), %xmm0
-	movups	%xmm0, 712(%rsp)
+	movups	%xmm0, 648(%rsp)
 	movaps	1968(%rsp), %xmm0
-	movups	%xmm0, 696(%rsp)
+	movups	%xmm0, 632(%rsp)
 	movaps	1904(%rsp), %xmm0
 	movaps	1920(%rsp), %xmm1
 	movaps	1936(%rsp), %xmm2
 	movaps	1952(%rsp), %xmm3
-	movups	%xmm3, 680(%rsp)
-	movups	%xmm2, 664(%rsp)
-	movups	%xmm1, 648(%rsp)
-	movups	%xmm0, 632(%rsp)
+	movups	%xmm3, 616(%rsp)
+	movups	%xmm2, 600(%rsp)
+	movups	%xmm1, 584(%rsp)
+	movups	%xmm0, 568(%rsp)
 	movaps	2032(%rsp), %xmm0
 	movaps	2048(%rsp), %xmm1
 	movaps	2064(%rsp), %xmm2
 	movaps	2080(%rsp), %xmm3
-	movups	%xmm3, 808(%rsp)
-	movups	%xmm2, 792(%rsp)
-	movups	%xmm1, 776(%rsp)
-	movups	%xmm0, 760(%rsp)
+	movups	%xmm3, 744(%rsp)
+	movups	%xmm2, 728(%rsp)
+	movups	%xmm1, 712(%rsp)
+	movups	%xmm0, 696(%rsp)
 	xorps	%xmm0, %xmm0
 	movaps	%xmm0, 336(%rsp)
 	movaps	%xmm0, 320(%rsp)
@@ -24922,12 +24922,12 @@
 	movaps	%xmm2, 64(%rsp)
 	movaps	%xmm1, 48(%rsp)
 	movaps	%xmm0, 32(%rsp)
-	leaq	480(%rsp), %r15
+	leaq	416(%rsp), %r15
 	leaq	32(%rsp), %rsi
 	movl	$64, %edx
 	movq	%r15, %rdi
 	callq	blake2_state..blake2b..State..take_1_x86
-	movl	$1, 628(%rsp)
+	movl	$1, 564(%rsp)
 	movq	%r15, %rdi
 	jmp	33f
 6:
@@ -24936,7 +24936,7 @@
 	movq	%r15, %rdi
 	xorl	%esi, %esi
 	vj_c_call	memset
-	leaq	920(%rsp), %rsi
+	leaq	936(%rsp), %rsi
 	movq	%r15, %rdi
 	callq	b2sum..hashes..start..782804cb012a25f7_1_x86
 	movb	$1, %cl
@@ -24982,7 +24982,7 @@
 	movq	%r15, %rdi
 	xorl	%esi, %esi
 	vj_c_call	memset
-	leaq	920(%rsp), %rsi
+	leaq	936(%rsp), %rsi
 	movq	%r15, %rdi
 	callq	b2sum..hashes..start..c5fd3bf45536a406_1_x86
 	movb	$1, %cl
@@ -25035,7 +25035,7 @@
 	movaps	%xmm0, 1424(%rsp)
 	movaps	%xmm0, 1408(%rsp)
 	leaq	1408(%rsp), %rdi
-	leaq	920(%rsp), %rsi
+	leaq	936(%rsp), %rsi
 	callq	b2sum..hashes..start..5100c9fa7e8d9213_1_x86
 	movb	$1, %cl
 	testb	%al, %al
@@ -25044,12 +25044,10 @@
 	je	13f
 	callq	blake2_digest..wiping..scrub_stack..4096_1_x86
 13:
-	movq	1472(%rsp), %r15
-	movzwl	1480(%rsp), %eax
-	movq	%rax, (%rsp)
+	movq	1472(%rsp), %r12
+	movzwl	1480(%rsp), %r15d
 	movq	%r14, %rdi
-	movq	8(%rsp), %r12
-	movq	%r12, %rsi
+	movq	8(%rsp), %rsi
 	movq	16(%rsp), %r13
 	movq	%r13, %rdx
 	callq	b2sum..disk..OpenedOpenFile..read..ec2583f154d97a77_1_x86
@@ -25066,43 +25064,43 @@
 	movzbl	40(%r14), %ecx
 	movzbl	41(%r14), %eax
 	movq	120(%r14), %rdx
-	movq	%rdx, 910(%rsp)
+	movq	%rdx, 846(%rsp)
 	movups	106(%r14), %xmm0
-	movaps	%xmm0, 896(%rsp)
-	movups	90(%r14), %xmm0
-	movaps	%xmm0, 880(%rsp)
-	movups	74(%r14), %xmm0
-	movaps	%xmm0, 864(%rsp)
-	movups	58(%r14), %xmm0
-	movaps	%xmm0, 848(%rsp)
-	movups	42(%r14), %xmm0
 	movaps	%xmm0, 832(%rsp)
+	movups	90(%r14), %xmm0
+	movaps	%xmm0, 816(%rsp)
+	movups	74(%r14), %xmm0
+	movaps	%xmm0, 800(%rsp)
+	movups	58(%r14), %xmm0
+	movaps	%xmm0, 784(%rsp)
+	movups	42(%r14), %xmm0
+	movaps	%xmm0, 768(%rsp)
 	jmp	18f
 17:
 	xorps	%xmm0, %xmm0
-	movaps	%xmm0, 896(%rsp)
-	movaps	%xmm0, 880(%rsp)
-	movaps	%xmm0, 864(%rsp)
-	movaps	%xmm0, 848(%rsp)
 	movaps	%xmm0, 832(%rsp)
-	movq	$0, 910(%rsp)
+	movaps	%xmm0, 816(%rsp)
+	movaps	%xmm0, 800(%rsp)
+	movaps	%xmm0, 784(%rsp)
+	movaps	%xmm0, 768(%rsp)
+	movq	$0, 846(%rsp)
 	movb	$40, %al
 	movb	$1, %cl
 18:
 	movb	$1, (%rbx)
 	movb	%cl, 8(%rbx)
 	movb	%al, 9(%rbx)
-	movaps	832(%rsp), %xmm0
-	movaps	848(%rsp), %xmm1
-	movaps	864(%rsp), %xmm2
-	movaps	880(%rsp), %xmm3
+	movaps	768(%rsp), %xmm0
+	movaps	784(%rsp), %xmm1
+	movaps	800(%rsp), %xmm2
+	movaps	816(%rsp), %xmm3
 	movups	%xmm0, 10(%rbx)
 	movups	%xmm1, 26(%rbx)
 	movups	%xmm2, 42(%rbx)
 	movups	%xmm3, 58(%rbx)
-	movaps	896(%rsp), %xmm0
+	movaps	832(%rsp), %xmm0
 	movups	%xmm0, 74(%rbx)
-	movq	910(%rsp), %rax
+	movq	846(%rsp), %rax
 	jmp	38f
 19:
 	leaq	1408(%rsp), %rdi
@@ -25136,17 +25134,18 @@
 	movl	$1, %edx
 	jmp	20b
 24:
-	addq	(%rsp), %r15
-	notq	%r15
+	addq	%r15, %r12
+	notq	%r12
 	jmp	28f
 25:
 	leaq	1408(%rsp), %rdi
 26:
-	movq	%r12, %rsi
+	movq	8(%rsp), %r15
+	movq	%r15, %rsi
 	callq	blake2_state..blake2s..State..take_1_x86
 27:
 	movq	%r14, %rdi
-	movq	%r12, %rsi
+	movq	%r15, %rsi
 	movq	%r13, %rdx
 	callq	b2sum..disk..OpenedOpenFile..read..ec2583f154d97a77_1_x86
 	testb	%al, %al
@@ -25154,14 +25153,15 @@
 28:
 	testq	%rdx, %rdx
 	je	34f
-	subq	%rdx, %r15
+	subq	%rdx, %r12
 	jb	14b
 	cmpq	$1, %rdx
 	jne	25b
 	movzwl	1480(%rsp), %eax
 	cmpq	$64, %rax
 	jae	29f
-	movzbl	(%r12), %ecx
+	movq	8(%rsp), %r15
+	movzbl	(%r15), %ecx
 	movb	%cl, 1488(%rsp,%rax)
 	incl	%eax
 	movw	%ax, 1480(%rsp)
@@ -25172,14 +25172,10 @@
 	jmp	26b
 30:
 	xorps	%xmm0, %xmm0
-	movaps	%xmm0, 176(%rsp)
-	movaps	%xmm0, 160(%rsp)
-	movaps	%xmm0, 144(%rsp)
-	movaps	%xmm0, 128(%rsp)
-	movaps	%xmm0, 720(%rsp)
-	movaps	%xmm0, 704(%rsp)
-	movaps	%xmm0, 688(%rsp)
-	movaps	%xmm0, 672(%rsp)
+	movaps	%xmm0, 912(%rsp)
+	movaps	%xmm0, 896(%rsp)
+	movaps	%xmm0, 880(%rsp)
+	movaps	%xmm0, 864(%rsp)
 	movaps	%xmm0, 656(%rsp)
 	movaps	%xmm0, 640(%rsp)
 	movaps	%xmm0, 624(%rsp)
@@ -25192,7 +25188,11 @@
 	movaps	%xmm0, 512(%rsp)
 	movaps	%xmm0, 496(%rsp)
 	movaps	%xmm0, 480(%rsp)
-	leaq	480(%rsp), %r15
+	movaps	%xmm0, 464(%rsp)
+	movaps	%xmm0, 448(%rsp)
+	movaps	%xmm0, 432(%rsp)
+	movaps	%xmm0, 416(%rsp)
+	leaq	416(%rsp), %r15
 	leaq	1408(%rsp), %rsi
 	movq	%r15, %rdi
 	vj_call	blake2_parallel..lanes..blake2bp..Lanes..outputs_1_x86
@@ -25242,19 +25242,15 @@
 	movups	48(%rsp), %xmm1
 	movups	64(%rsp), %xmm2
 	movups	80(%rsp), %xmm3
-	movaps	%xmm0, 128(%rsp)
-	movaps	%xmm1, 144(%rsp)
-	movaps	%xmm2, 160(%rsp)
-	movaps	%xmm3, 176(%rsp)
+	movaps	%xmm0, 864(%rsp)
+	movaps	%xmm1, 880(%rsp)
+	movaps	%xmm2, 896(%rsp)
+	movaps	%xmm3, 912(%rsp)
 	movq	2904(%rsp), %rdx
-	leaq	128(%rsp), %rsi
+	leaq	864(%rsp), %rsi
 	jmp	35f
 31:
 	xorps	%xmm0, %xmm0
-	movaps	%xmm0, 720(%rsp)
-	movaps	%xmm0, 704(%rsp)
-	movaps	%xmm0, 688(%rsp)
-	movaps	%xmm0, 672(%rsp)
 	movaps	%xmm0, 656(%rsp)
 	movaps	%xmm0, 640(%rsp)
 	movaps	%xmm0, 624(%rsp)
@@ -25267,7 +25263,11 @@
 	movaps	%xmm0, 512(%rsp)
 	movaps	%xmm0, 496(%rsp)
 	movaps	%xmm0, 480(%rsp)
-	leaq	480(%rsp), %r15
+	movaps	%xmm0, 464(%rsp)
+	movaps	%xmm0, 448(%rsp)
+	movaps	%xmm0, 432(%rsp)
+	movaps	%xmm0, 416(%rsp)
+	leaq	416(%rsp), %r15
 	leaq	1408(%rsp), %rsi
 	movq	%r15, %rdi
 	vj_call	blake2_parallel..lanes..blake2sp..Lanes..outputs_1_x86
@@ -25332,67 +25332,41 @@
 34:
 	movaps	1408(%rsp), %xmm0
 	movaps	1424(%rsp), %xmm1
-	movaps	1440(%rsp), %xmm2
-	movaps	1456(%rsp), %xmm3
-	xorl	%r12d, %r12d
-	cmpw	$0, 1486(%rsp)
-	setne	%r12b
-	movaps	%xmm0, 1024(%rsp)
-	movaps	%xmm1, 1040(%rsp)
-	movaps	%xmm2, 1056(%rsp)
-	movaps	%xmm3, 1072(%rsp)
-	movq	%r12, 1096(%rsp)
-	movzwl	1480(%rsp), %r15d
-	xorps	%xmm0, %xmm0
-	movaps	%xmm0, 32(%rsp)
-	movaps	%xmm0, 48(%rsp)
-	movaps	%xmm0, 64(%rsp)
-	movaps	%xmm0, 80(%rsp)
-	movq	1472(%rsp), %r13
-	addq	%r15, %r13
-	leaq	32(%rsp), %rdi
-	leaq	1488(%rsp), %rsi
-	movq	%r15, %rdx
-	vj_c_call	memcpy
-	movaps	32(%rsp), %xmm0
-	movaps	48(%rsp), %xmm1
-	movaps	64(%rsp), %xmm2
-	movaps	80(%rsp), %xmm3
-	movaps	%xmm0, 480(%rsp)
-	movaps	%xmm1, 496(%rsp)
-	movaps	%xmm2, 512(%rsp)
-	movaps	%xmm3, 528(%rsp)
-	movq	%r15, 544(%rsp)
-	movq	%r13, 1088(%rsp)
-	xorps	%xmm0, %xmm0
 	movaps	%xmm0, 288(%rsp)
-	movaps	%xmm0, 304(%rsp)
-	movaps	%xmm0, 320(%rsp)
-	movaps	%xmm0, 336(%rsp)
-	leaq	288(%rsp), %rdi
-	leaq	480(%rsp), %rsi
-	movq	%r15, %rdx
-	vj_c_call	memcpy
-	movaps	288(%rsp), %xmm0
-	movaps	304(%rsp), %xmm1
-	movaps	320(%rsp), %xmm2
-	movaps	336(%rsp), %xmm3
-	movaps	%xmm0, 128(%rsp)
-	movaps	%xmm1, 144(%rsp)
-	movaps	%xmm2, 160(%rsp)
-	movaps	%xmm3, 176(%rsp)
+	movaps	%xmm1, 304(%rsp)
+	movzwl	1480(%rsp), %r12d
+	xorps	%xmm0, %xmm0
+	movaps	%xmm0, 1024(%rsp)
+	movaps	%xmm0, 1040(%rsp)
+	movaps	%xmm0, 1056(%rsp)
+	movaps	%xmm0, 1072(%rsp)
 	leaq	1024(%rsp), %rdi
-	leaq	128(%rsp), %rsi
-	movq	%r13, %rdx
-	movl	$1, %ecx
-	movl	%r12d, %r8d
-	vj_call	blake2_compress..compress..blake2s..compress_1_x86
+	leaq	1488(%rsp), %rsi
+	movq	%r12, %rdx
+	vj_c_call	memcpy
 	movaps	1024(%rsp), %xmm0
 	movaps	1040(%rsp), %xmm1
-	movaps	%xmm0, 976(%rsp)
-	movaps	%xmm1, 992(%rsp)
+	movaps	1056(%rsp), %xmm2
+	movaps	1072(%rsp), %xmm3
+	movaps	%xmm0, 416(%rsp)
+	movaps	%xmm1, 432(%rsp)
+	movaps	%xmm2, 448(%rsp)
+	xorl	%r8d, %r8d
+	cmpw	$0, 1486(%rsp)
+	movaps	%xmm3, 464(%rsp)
+	setne	%r8b
+	addq	1472(%rsp), %r12
+	leaq	288(%rsp), %rdi
+	leaq	416(%rsp), %rsi
+	movq	%r12, %rdx
+	movl	$1, %ecx
+	vj_call	blake2_compress..compress..blake2s..compress_1_x86
+	movaps	288(%rsp), %xmm0
+	movaps	304(%rsp), %xmm1
+	movaps	%xmm0, 32(%rsp)
+	movaps	%xmm1, 48(%rsp)
 	movzwl	1484(%rsp), %edx
-	leaq	976(%rsp), %rsi
+	leaq	32(%rsp), %rsi
 35:
 	movq	16(%rbp), %rdi
 	vj_c_call	memcpy
@@ -25403,17 +25377,17 @@
 	movb	$0, (%rbx)
 	movw	$0, 8(%rbx)
 37:
-	movaps	192(%rsp), %xmm0
-	movaps	208(%rsp), %xmm1
-	movaps	224(%rsp), %xmm2
-	movaps	240(%rsp), %xmm3
+	movaps	128(%rsp), %xmm0
+	movaps	144(%rsp), %xmm1
+	movaps	160(%rsp), %xmm2
+	movaps	176(%rsp), %xmm3
 	movups	%xmm0, 10(%rbx)
 	movups	%xmm1, 26(%rbx)
 	movups	%xmm2, 42(%rbx)
 	movups	%xmm3, 58(%rbx)
-	movaps	256(%rsp), %xmm0
+	movaps	192(%rsp), %xmm0
 	movups	%xmm0, 74(%rbx)
-	movq	270(%rsp), %rax
+	movq	206(%rsp), %rax
 38:
 	movq	%rax, 88(%rbx)
 	leaq	-40(%rbp), %rsp
@@ -26026,109 +26000,65 @@
 	vj_function	blake2_state..blake2b..State..write_digest_1_x86
 	pushq	%r15
 	pushq	%r14
-	pushq	%r13
-	pushq	%r12
 	pushq	%rbx
-	subq	$736, %rsp
+	subq	$384, %rsp
 	movq	%rsi, %rbx
 	movq	%rdi, %r14
-	movq	128(%rdi), %r15
-	movups	(%rdi), %xmm0
-	movups	16(%rdi), %xmm1
-	movups	32(%rdi), %xmm2
-	movups	48(%rdi), %xmm3
-	movups	80(%rdi), %xmm4
-	movups	64(%rdi), %xmm5
-	movups	112(%rdi), %xmm6
-	movups	96(%rdi), %xmm7
-	xorl	%r12d, %r12d
-	cmpl	$0, 148(%rdi)
-	setne	%r12b
-	movups	%xmm0, 320(%rsp)
-	movups	%xmm1, 336(%rsp)
-	movups	%xmm2, 352(%rsp)
-	movups	%xmm3, 368(%rsp)
-	movups	%xmm5, 384(%rsp)
-	movups	%xmm4, 400(%rsp)
-	movups	%xmm7, 416(%rsp)
-	movups	%xmm6, 432(%rsp)
-	movq	%r12, 456(%rsp)
-	movl	136(%rdi), %r13d
-	leaq	152(%rdi), %rsi
 	xorps	%xmm0, %xmm0
+	movaps	%xmm0, 48(%rsp)
+	movaps	%xmm0, 32(%rsp)
+	movaps	%xmm0, 16(%rsp)
+	movaps	%xmm0, (%rsp)
+	movups	(%rdi), %xmm1
+	movups	16(%rdi), %xmm2
+	movups	32(%rdi), %xmm3
+	movups	48(%rdi), %xmm4
+	movups	%xmm1, 64(%rsp)
+	movups	%xmm2, 80(%rsp)
+	movups	%xmm4, 112(%rsp)
+	movups	%xmm3, 96(%rsp)
+	movl	136(%rdi), %r15d
+	leaq	152(%rdi), %rsi
+	movaps	%xmm0, 240(%rsp)
+	movaps	%xmm0, 224(%rsp)
+	movaps	%xmm0, 208(%rsp)
+	movaps	%xmm0, 192(%rsp)
 	movaps	%xmm0, 176(%rsp)
 	movaps	%xmm0, 160(%rsp)
 	movaps	%xmm0, 144(%rsp)
 	movaps	%xmm0, 128(%rsp)
-	movaps	%xmm0, 112(%rsp)
-	movaps	%xmm0, 96(%rsp)
-	movaps	%xmm0, 80(%rsp)
-	movaps	%xmm0, 64(%rsp)
-	leaq	64(%rsp), %rdi
-	movq	%r13, %rdx
+	leaq	128(%rsp), %rdi
+	movq	%r15, %rdx
 	vj_c_call	memcpy
-	movaps	64(%rsp), %xmm0
-	movaps	80(%rsp), %xmm1
-	movaps	96(%rsp), %xmm2
-	movaps	112(%rsp), %xmm3
-	movaps	%xmm0, 464(%rsp)
-	movaps	%xmm1, 480(%rsp)
-	movaps	%xmm2, 496(%rsp)
-	movaps	%xmm3, 512(%rsp)
 	movaps	128(%rsp), %xmm0
-	movaps	%xmm0, 528(%rsp)
-	movaps	144(%rsp), %xmm0
-	movaps	%xmm0, 544(%rsp)
-	movaps	160(%rsp), %xmm0
-	movaps	%xmm0, 560(%rsp)
-	movaps	176(%rsp), %xmm0
-	movaps	%xmm0, 576(%rsp)
-	movq	%r13, 592(%rsp)
-	xorps	%xmm0, %xmm0
-	movaps	%xmm0, (%rsp)
-	movaps	%xmm0, 16(%rsp)
-	movaps	%xmm0, 32(%rsp)
-	movaps	%xmm0, 48(%rsp)
-	addq	%r13, %r15
-	movq	%r15, 448(%rsp)
-	movaps	%xmm0, 192(%rsp)
-	movaps	%xmm0, 208(%rsp)
-	movaps	%xmm0, 224(%rsp)
-	movaps	%xmm0, 240(%rsp)
+	movaps	144(%rsp), %xmm1
+	movaps	160(%rsp), %xmm2
+	movaps	176(%rsp), %xmm3
 	movaps	%xmm0, 256(%rsp)
-	movaps	%xmm0, 272(%rsp)
-	movaps	%xmm0, 288(%rsp)
-	movaps	%xmm0, 304(%rsp)
-	leaq	192(%rsp), %rdi
-	leaq	464(%rsp), %rsi
-	movq	%r13, %rdx
-	vj_c_call	memcpy
+	movaps	%xmm1, 272(%rsp)
+	movaps	%xmm2, 288(%rsp)
+	movaps	%xmm3, 304(%rsp)
 	movaps	192(%rsp), %xmm0
-	movaps	208(%rsp), %xmm1
-	movaps	224(%rsp), %xmm2
-	movaps	240(%rsp), %xmm3
-	movaps	%xmm0, 608(%rsp)
-	movaps	%xmm1, 624(%rsp)
-	movaps	%xmm2, 640(%rsp)
-	movaps	%xmm3, 656(%rsp)
-	movaps	256(%rsp), %xmm0
-	movaps	%xmm0, 672(%rsp)
-	movaps	272(%rsp), %xmm0
-	movaps	%xmm0, 688(%rsp)
-	movaps	288(%rsp), %xmm0
-	movaps	%xmm0, 704(%rsp)
-	movaps	304(%rsp), %xmm0
-	movaps	%xmm0, 720(%rsp)
-	leaq	320(%rsp), %rdi
-	leaq	608(%rsp), %rsi
+	movaps	%xmm0, 320(%rsp)
+	movaps	208(%rsp), %xmm0
+	movaps	%xmm0, 336(%rsp)
+	movaps	224(%rsp), %xmm0
+	movaps	%xmm0, 352(%rsp)
+	movaps	240(%rsp), %xmm0
+	movaps	%xmm0, 368(%rsp)
+	xorl	%r8d, %r8d
+	cmpl	$0, 148(%r14)
+	setne	%r8b
+	addq	128(%r14), %r15
+	leaq	64(%rsp), %rdi
+	leaq	256(%rsp), %rsi
 	movq	%r15, %rdx
 	movl	$1, %ecx
-	movl	%r12d, %r8d
 	vj_call	blake2_compress..compress..blake2b..compress_1_x86
-	movups	320(%rsp), %xmm0
-	movups	336(%rsp), %xmm1
-	movups	352(%rsp), %xmm2
-	movups	368(%rsp), %xmm3
+	movups	64(%rsp), %xmm0
+	movups	80(%rsp), %xmm1
+	movups	96(%rsp), %xmm2
+	movups	112(%rsp), %xmm3
 	movaps	%xmm0, (%rsp)
 	movaps	%xmm1, 16(%rsp)
 	movaps	%xmm2, 32(%rsp)
@@ -26137,10 +26067,8 @@
 	movq	%rsp, %rsi
 	movq	%rbx, %rdi
 	vj_c_call	memcpy
-	addq	$736, %rsp
+	addq	$384, %rsp
 	popq	%rbx
-	popq	%r12
-	popq	%r13
 	popq	%r14
 	popq	%r15
 	retq

@@ -1,4 +1,4 @@
 // Made by tools/build.mjs from dist/wasm/vulfsjor.wasm. Do not edit.
 
 /** The line of dist/MANIFEST for the module. */
-export const line = "3107c02d27565ea992563498e1949ca04a3e14d4c4a506449a5499f60785c50c  wasm/vulfsjor.wasm";
+export const line = "788f9dc86a3cb5a5d981bda9a6dcc70b3ff7c4eba0b7a47d9af12a34281a6aac  wasm/vulfsjor.wasm";

@@ -36,6 +36,7 @@ export class Kind {
     this.stateLength = numbers.stateLength;
     this.stackLength = numbers.stackLength ?? DEEP;
     this.maxNodeOffset = numbers.maxNodeOffset;
+    this.savedLength = numbers.savedLength;
     this.atOnce = numbers.atOnce;
     this.options = numbers.options ?? "basic";
     this.isTree = this.options === "tree";
@@ -57,6 +58,7 @@ export const BLAKE2B_NUMBERS = /* @__PURE__ */ Object.freeze({
   stateLength: 344,
   stackLength: SHALLOW,
   maxNodeOffset: 2n ** 64n - 1n,
+  savedLength: 275,
   atOnce: 4,
   options: "hash",
 });
@@ -69,6 +71,7 @@ export const BLAKE2S_NUMBERS = /* @__PURE__ */ Object.freeze({
   stateLength: 176,
   stackLength: SHALLOW,
   maxNodeOffset: 2n ** 48n - 1n,
+  savedLength: 147,
   atOnce: 8,
   options: "hash",
 });
@@ -122,6 +125,8 @@ class Hash {
     this.final = call("_final");
     this.verify = call("_verify");
     this.reset = call("_reset");
+    this.save = call("_save");
+    this.load = call("_load");
     this.squeeze = call("_squeeze");
     this.left = call("_left");
     this.window = engine.base + STATE + stateLength;
@@ -465,6 +470,32 @@ function resetIn(engine, kind, state) {
   state.fill(0);
   state.set(hash.slot);
   engine.clean(kind, kind.room);
+}
+
+/** A state without a key, with what waits after it, as bytes of the kind's savedLength. */
+export const save = (kind, state, waiting) => withEngine(saveIn, kind, state, waiting);
+
+function saveIn(engine, kind, state, waiting) {
+  const { savedLength } = kind;
+  putWhole(engine, kind, state, waiting);
+  const { window, atWindow, save: write } = engine.hash(kind);
+  granted(write(engine.at.state, atWindow, big(savedLength)));
+  const saved = engine.bytes.slice(window, window + savedLength);
+  engine.clean(kind, Math.max(waiting, savedLength));
+  return saved;
+}
+
+/** A new state that was saved as these bytes, as many as savedLength, or undefined. */
+export const loadState = (kind, saved) => withEngine(loadIn, kind, saved);
+
+function loadIn(engine, kind, saved) {
+  const { atWindow, load: read, slot, window } = engine.hash(kind);
+  const state = newState(kind);
+  engine.bytes.set(saved, window);
+  const status = read(engine.at.state, atWindow, big(kind.savedLength));
+  state.set(slot);
+  engine.clean(kind, kind.savedLength);
+  return status === 0 ? state : undefined;
 }
 
 /** The digest of one message. */

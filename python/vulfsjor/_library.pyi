@@ -84,6 +84,19 @@ class blake2b(_Hasher):
         last_node: bool = False,
         usedforsecurity: bool = True,
     ) -> Self: ...
+    def save(self) -> bytes:
+        """Return the hash object as bytes, which load reads, in every language and later version.
+
+        They contain the input that is pending, up to a block. An object with a key raises
+        ValueError: the bytes would be as good as the key.
+        """
+    @classmethod
+    def load(cls, saved: _Bytes, /) -> Self:
+        """Return the hash object that save returned as these bytes.
+
+        Whoever can change them chooses the digest, so keep them as safe as the input. What is not
+        a saved state of this hash raises ValueError.
+        """
 
 @final
 class blake2s(_Hasher):
@@ -109,6 +122,19 @@ class blake2s(_Hasher):
         last_node: bool = False,
         usedforsecurity: bool = True,
     ) -> Self: ...
+    def save(self) -> bytes:
+        """Return the hash object as bytes, which load reads, in every language and later version.
+
+        They contain the input that is pending, up to a block. An object with a key raises
+        ValueError: the bytes would be as good as the key.
+        """
+    @classmethod
+    def load(cls, saved: _Bytes, /) -> Self:
+        """Return the hash object that save returned as these bytes.
+
+        Whoever can change them chooses the digest, so keep them as safe as the input. What is not
+        a saved state of this hash raises ValueError.
+        """
 
 @final
 class blake2bp(_Hasher):
