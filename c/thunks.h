@@ -77,6 +77,10 @@ CALL(vulfsjor_ffi_blake2b_verify, int32_t, (vulfsjor_blake2b_state *state, const
 CALL(vulfsjor_ffi_blake2b_set_last_node, int32_t, (vulfsjor_blake2b_state *state, uint32_t on),
      (state, on))
 CALL(vulfsjor_ffi_blake2b_reset, int32_t, (vulfsjor_blake2b_state *state), (state))
+CALL(vulfsjor_ffi_blake2b_save, int32_t, (const vulfsjor_blake2b_state *state, uint8_t *out,
+     size_t out_length), (state, out, out_length))
+CALL(vulfsjor_ffi_blake2b_load, int32_t, (vulfsjor_blake2b_state *state, const uint8_t *saved,
+     size_t saved_length), (state, saved, saved_length))
 CALL_VOID(vulfsjor_ffi_blake2b_wipe, (vulfsjor_blake2b_state *state), (state))
 CALL(vulfsjor_ffi_blake2b_digest_size, size_t, (const vulfsjor_blake2b_state *state), (state))
 CALL(vulfsjor_ffi_blake2b_count, uint64_t, (const vulfsjor_blake2b_state *state), (state))
@@ -111,6 +115,10 @@ CALL(vulfsjor_ffi_blake2s_verify, int32_t, (vulfsjor_blake2s_state *state, const
 CALL(vulfsjor_ffi_blake2s_set_last_node, int32_t, (vulfsjor_blake2s_state *state, uint32_t on),
      (state, on))
 CALL(vulfsjor_ffi_blake2s_reset, int32_t, (vulfsjor_blake2s_state *state), (state))
+CALL(vulfsjor_ffi_blake2s_save, int32_t, (const vulfsjor_blake2s_state *state, uint8_t *out,
+     size_t out_length), (state, out, out_length))
+CALL(vulfsjor_ffi_blake2s_load, int32_t, (vulfsjor_blake2s_state *state, const uint8_t *saved,
+     size_t saved_length), (state, saved, saved_length))
 CALL_VOID(vulfsjor_ffi_blake2s_wipe, (vulfsjor_blake2s_state *state), (state))
 CALL(vulfsjor_ffi_blake2s_digest_size, size_t, (const vulfsjor_blake2s_state *state), (state))
 CALL(vulfsjor_ffi_blake2s_count, uint64_t, (const vulfsjor_blake2s_state *state), (state))

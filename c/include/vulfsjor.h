@@ -23,11 +23,11 @@
  * output, a parameter block or tree parameters is null, if any other pointer is null and its length
  * is not 0, or if a key is not null and its length is 0. A call that fails writes nothing and leaves
  * the state unchanged, with two exceptions:
- *   - An init that fails sets the state to zero.
+ *   - An init or a load that fails sets the state to zero.
  *   - verify and verify_short_mac return -1 for a wrong tag, and then wipe the state too.
  *
- * A state is ready after an init that returned 0, until final, verify or wipe sets it to zero.
- * Calls with a status return -1 for a state that is not ready, except the inits.
+ * A state is ready after an init or a load that returned 0, until final, verify or wipe sets it to
+ * zero. Calls with a status return -1 for a state that is not ready, except the inits and load.
  *
  * Preconditions, which no call can check: each pointer points to memory of at least the length that
  * is passed with it. The memory that a call writes (the state, the output) overlaps no other
@@ -69,8 +69,8 @@ extern "C" {
 #define VULFSJOR_VERSION_PATCH 0
 #define VULFSJOR_VERSION_NUMBER 0x000100
 
-/* For functions whose failure would otherwise go unnoticed. init, reset and set_last_node are not
- * marked: if they fail, every later call on the state fails too. */
+/* For functions whose failure would otherwise go unnoticed. init, load, reset and set_last_node are
+ * not marked: if they fail, every later call on the state fails too. */
 #if defined(__GNUC__)
 #define VULFSJOR_MUST_USE __attribute__((warn_unused_result))
 #else
@@ -131,6 +131,9 @@ enum {
 /* The bytes of the shortest tag that _mac and _init_mac make, and that _verify checks. */
 enum { VULFSJOR_TAGBYTES_MIN = 16 };
 
+/* The bytes that _save writes and _load reads. */
+enum { VULFSJOR_BLAKE2B_SAVEDBYTES = 275, VULFSJOR_BLAKE2S_SAVEDBYTES = 147 };
+
 /* The lengths of outputs of BLAKE2Xb and BLAKE2Xs that are not known in advance. */
 #define VULFSJOR_BLAKE2XB_UNKNOWN_LENGTH 0xffffffffu
 #define VULFSJOR_BLAKE2XS_UNKNOWN_LENGTH 0xffffu
@@ -142,7 +145,8 @@ enum { VULFSJOR_TAGBYTES_MIN = 16 };
  * digest without meaning.
  *
  * A version that changes the size, the fields or their meaning also changes the soname of the
- * shared library. Do not write states to files: a later version need not read them. */
+ * shared library. Do not write states to files: a later version need not read them, as it reads what
+ * vulfsjor_blake2b_save writes. */
 typedef struct vulfsjor_blake2b_state {
     uint64_t chain[8];       /* the chaining words */
     uint64_t first[8];       /* the chaining words before the first block */
@@ -393,6 +397,10 @@ int32_t vulfsjor_ffi_blake2b_verify(vulfsjor_blake2b_state *state, const uint8_t
                                     size_t tag_length);
 int32_t vulfsjor_ffi_blake2b_set_last_node(vulfsjor_blake2b_state *state, uint32_t on);
 int32_t vulfsjor_ffi_blake2b_reset(vulfsjor_blake2b_state *state);
+int32_t vulfsjor_ffi_blake2b_save(const vulfsjor_blake2b_state *state, uint8_t *out,
+                                  size_t out_length);
+int32_t vulfsjor_ffi_blake2b_load(vulfsjor_blake2b_state *state, const uint8_t *saved,
+                                  size_t saved_length);
 void vulfsjor_ffi_blake2b_wipe(vulfsjor_blake2b_state *state);
 size_t vulfsjor_ffi_blake2b_digest_size(const vulfsjor_blake2b_state *state);
 uint64_t vulfsjor_ffi_blake2b_count(const vulfsjor_blake2b_state *state);
@@ -424,6 +432,10 @@ int32_t vulfsjor_ffi_blake2s_verify(vulfsjor_blake2s_state *state, const uint8_t
                                     size_t tag_length);
 int32_t vulfsjor_ffi_blake2s_set_last_node(vulfsjor_blake2s_state *state, uint32_t on);
 int32_t vulfsjor_ffi_blake2s_reset(vulfsjor_blake2s_state *state);
+int32_t vulfsjor_ffi_blake2s_save(const vulfsjor_blake2s_state *state, uint8_t *out,
+                                  size_t out_length);
+int32_t vulfsjor_ffi_blake2s_load(vulfsjor_blake2s_state *state, const uint8_t *saved,
+                                  size_t saved_length);
 void vulfsjor_ffi_blake2s_wipe(vulfsjor_blake2s_state *state);
 size_t vulfsjor_ffi_blake2s_digest_size(const vulfsjor_blake2s_state *state);
 uint64_t vulfsjor_ffi_blake2s_count(const vulfsjor_blake2s_state *state);
@@ -870,6 +882,29 @@ static inline int vulfsjor_blake2b_reset(vulfsjor_blake2b_state *S) {
     return vulfsjor_ffi_blake2b_reset(S);
 }
 
+/* Writes a state that has no key to out, as bytes that vulfsjor_blake2b_load reads on every
+ * processor, in every language of this library and in every later version (docs/SPECIFICATION.md,
+ * section 14). They contain the input that is pending, up to 128 bytes. Returns -1 and leaves out
+ * unchanged if the state is not ready, or if it has a key, which the bytes would be as good as. */
+VULFSJOR_MUST_USE static inline int vulfsjor_blake2b_save(
+    const vulfsjor_blake2b_state *S, unsigned char out[VULFSJOR_BLAKE2B_SAVEDBYTES]) {
+    if (!S || !out) return -1;
+    return vulfsjor_ffi_blake2b_save(S, vulfsjor_bytes(out), VULFSJOR_BLAKE2B_SAVEDBYTES);
+}
+
+/* Initializes a state from the bytes that vulfsjor_blake2b_save wrote: every call then does what it
+ * would do with the state that was saved. Whoever can change the bytes chooses the digest, so keep
+ * them as safe as the input. Returns -1 and sets the state to zero if savedlen is not
+ * VULFSJOR_BLAKE2B_SAVEDBYTES, or if the bytes are not a saved state of this hash. */
+VULFSJOR_READS(2, 3)
+static inline int vulfsjor_blake2b_load(vulfsjor_blake2b_state *S, const void *saved,
+                                        size_t savedlen) {
+    if (!S) return -1;
+    memset(vulfsjor_bytes(S), 0, sizeof *S);
+    if (!saved) return -1;
+    return vulfsjor_ffi_blake2b_load(S, vulfsjor_text(saved), savedlen);
+}
+
 /* Sets every byte of the state to zero, whether it is ready or not. Does nothing if S is null. */
 static inline void vulfsjor_blake2b_wipe(vulfsjor_blake2b_state *S) {
     if (S) vulfsjor_ffi_blake2b_wipe(S);
@@ -1099,6 +1134,29 @@ static inline int vulfsjor_blake2s_set_last_node(vulfsjor_blake2s_state *S, int 
 static inline int vulfsjor_blake2s_reset(vulfsjor_blake2s_state *S) {
     if (!S) return -1;
     return vulfsjor_ffi_blake2s_reset(S);
+}
+
+/* Writes a state that has no key to out, as bytes that vulfsjor_blake2s_load reads on every
+ * processor, in every language of this library and in every later version (docs/SPECIFICATION.md,
+ * section 14). They contain the input that is pending, up to 64 bytes. Returns -1 and leaves out
+ * unchanged if the state is not ready, or if it has a key, which the bytes would be as good as. */
+VULFSJOR_MUST_USE static inline int vulfsjor_blake2s_save(
+    const vulfsjor_blake2s_state *S, unsigned char out[VULFSJOR_BLAKE2S_SAVEDBYTES]) {
+    if (!S || !out) return -1;
+    return vulfsjor_ffi_blake2s_save(S, vulfsjor_bytes(out), VULFSJOR_BLAKE2S_SAVEDBYTES);
+}
+
+/* Initializes a state from the bytes that vulfsjor_blake2s_save wrote: every call then does what it
+ * would do with the state that was saved. Whoever can change the bytes chooses the digest, so keep
+ * them as safe as the input. Returns -1 and sets the state to zero if savedlen is not
+ * VULFSJOR_BLAKE2S_SAVEDBYTES, or if the bytes are not a saved state of this hash. */
+VULFSJOR_READS(2, 3)
+static inline int vulfsjor_blake2s_load(vulfsjor_blake2s_state *S, const void *saved,
+                                        size_t savedlen) {
+    if (!S) return -1;
+    memset(vulfsjor_bytes(S), 0, sizeof *S);
+    if (!saved) return -1;
+    return vulfsjor_ffi_blake2s_load(S, vulfsjor_text(saved), savedlen);
 }
 
 /* Sets every byte of the state to zero, whether it is ready or not. Does nothing if S is null. */
@@ -2003,6 +2061,8 @@ static inline int vulfsjor_tree_init_root(vulfsjor_blake2b_state *S, size_t outl
  *                                  has no key
  *   _verify                        the same, or the digest has fewer than VULFSJOR_TAGBYTES_MIN bytes
  *   _set_last_node, _reset         the state is not ready
+ *   _save                          the same, or it has a key
+ *   _load                          savedlen, or the bytes are not a saved state of this hash
  *   BLAKE2Xb and BLAKE2Xs:
  *   _init, _init_salt_personal     an argument that _refused returns
  *   _init_key, _init_mac           an argument that _refused returns, or a key of 0 bytes

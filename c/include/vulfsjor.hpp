@@ -9,9 +9,10 @@
  *     std::vector<std::uint8_t> tag = hasher.digest();
  *
  * A hasher is a value: copies are independent, and one that was moved from stays as it was. It is
- * always ready, since a constructor that fails throws. Only that constructor, `hash`, `digest` and a
- * `verify` that has no key or a short tag throw. Without exceptions (-fno-exceptions), construct it
- * without arguments or by `create`, and write digests by `digest_to`. The destructor wipes the state.
+ * always ready, since a constructor that fails throws. Only that constructor, `hash`, `digest`,
+ * `save` and `load` throw, and a `verify` that has no key or a short tag. Without exceptions
+ * (-fno-exceptions), construct it without arguments, by `create` or by `load_or_nothing`, and write
+ * digests by `digest_to` and saved states by `save_to`. The destructor wipes the state.
  * Threads may share a hasher in const functions only. This header is tested, not proved. */
 #ifndef VULFSJOR_HPP
 #define VULFSJOR_HPP
@@ -286,26 +287,32 @@ VULFSJOR_FAMILY(blake2bp, BLAKE2BP)
 VULFSJOR_FAMILY(blake2sp, BLAKE2SP)
 #undef VULFSJOR_FAMILY
 
-/* Those of nodes of trees, which BLAKE2bp and BLAKE2sp do not have. */
-#define VULFSJOR_NODES(name)                                                                      \
+/* Those of nodes of trees, several messages and saved states, which BLAKE2bp and BLAKE2sp do not
+ * have. */
+#define VULFSJOR_NODES(name, NAME)                                                                \
     struct name##_calls : name##_calls_of_all {                                                   \
         static constexpr bool has_tree = true;                                                    \
         static constexpr auto init_tree = vulfsjor_##name##_init_tree;                            \
         static constexpr auto set_last_node = vulfsjor_##name##_set_last_node;                    \
         static constexpr auto many = vulfsjor_##name##_many;                                      \
+        static constexpr std::size_t saved_length = VULFSJOR_##NAME##_SAVEDBYTES;                 \
+        static constexpr auto save = vulfsjor_##name##_save;                                      \
+        static constexpr auto load = vulfsjor_##name##_load;                                      \
     };                                                                                            \
     struct name##p_calls : name##p_calls_of_all {                                                 \
         static constexpr bool has_tree = false;                                                   \
     };
-VULFSJOR_NODES(blake2b)
-VULFSJOR_NODES(blake2s)
+VULFSJOR_NODES(blake2b, BLAKE2B)
+VULFSJOR_NODES(blake2s, BLAKE2S)
 #undef VULFSJOR_NODES
 
 /* A hasher or MAC of a family: vulfsjor::blake2b, vulfsjor::blake2s, vulfsjor::blake2bp and
- * vulfsjor::blake2sp. The last two refuse tree parameters, and have no set_last_node. */
+ * vulfsjor::blake2sp. The last two refuse tree parameters, and have no set_last_node and no saved
+ * states. */
 template <class Calls> class hasher {
     template <std::size_t N, bool is_one>
     using if_length = std::enable_if_t<(N >= 1 && N <= Calls::max_digest_length) == is_one, int>;
+    template <class C> using if_saved = std::enable_if_t<C::has_tree, int>;
 
   public:
     static constexpr std::size_t block_length = Calls::block_length;
@@ -390,7 +397,50 @@ template <class Calls> class hasher {
     /* How many bytes were absorbed. */
     [[nodiscard]] std::uint64_t count() const noexcept { return Calls::count(&state_); }
 
+    /* Writes the hasher as VULFSJOR_BLAKE2B_SAVEDBYTES or VULFSJOR_BLAKE2S_SAVEDBYTES bytes, which
+     * `load` reads, as vulfsjor.h says. Returns false and writes nothing if it has a key, length is
+     * another, or out is null. */
+    template <class C = Calls, if_saved<C> = 0>
+    [[nodiscard]] bool save_to(void *out, std::size_t length) const noexcept {
+        return length == C::saved_length && !C::save(&state_, static_cast<unsigned char *>(out));
+    }
+    // clang-format off
+    template <class P, detail::if_object<P> = 0> bool save_to(P *, std::size_t) const = delete; // pass what it holds, not the object
+    // clang-format on
+
+    /* The hasher that was saved as these bytes, or nothing if they are not a saved state of this hash.
+     * Whoever can change the bytes chooses the digest. */
+    template <class C = Calls, if_saved<C> = 0>
+    [[nodiscard]] static std::optional<hasher> load_or_nothing(argument saved) noexcept {
+        std::optional<hasher> made(std::in_place);
+        if (C::load(&made->state_, saved.data(), saved.size())) made.reset();
+        return made;
+    }
+
 #ifdef VULFSJOR_THROWS
+    /* The bytes of save_to. Throws std::logic_error if the hasher has a key. */
+    template <class C = Calls, if_saved<C> = 0>
+    [[nodiscard]] std::array<std::uint8_t, C::saved_length> save() const {
+        std::array<std::uint8_t, C::saved_length> out{};
+        if (!save_to(out.data(), out.size())) refuse("a hasher with a key is not saved");
+        return out;
+    }
+
+    /* The hasher that was saved as these bytes. Throws std::invalid_argument if they are not a saved
+     * state of this hash. */
+    template <class C = Calls, if_saved<C> = 0> [[nodiscard]] static hasher load(argument saved) {
+        const auto made = load_or_nothing(saved);
+        if (!made) throw std::invalid_argument("vulfsjor: this is not a saved state of this hash");
+        return *made;
+    }
+    template <class C = Calls, if_saved<C> = 0>
+    [[nodiscard]] static hasher load(const void *saved, std::size_t length) {
+        return load(argument(saved, length));
+    }
+    // clang-format off
+    template <class P, detail::if_object<P> = 0> static hasher load(const P *, std::size_t) = delete; // pass what it holds, not the object
+    // clang-format on
+
     /* Throws std::invalid_argument, with the name that vulfsjor.h has for the argument. */
     explicit hasher(const parameters &given) {
         if (init(given)) throw std::invalid_argument(message(given));

@@ -144,6 +144,37 @@ template <class H> class driver {
         return tag.is_null() ? "! tag" : is_right ? "= yes" : "= no";
     }
 
+    /* As an array, and into room of its length only. */
+    static std::string save(const slot &of) {
+        constexpr std::size_t length = std::tuple_size_v<decltype(of.state->save())>;
+        digest room(length + 9, 0xaa);
+        for (std::size_t other : {std::size_t(0), length - 1, length + 1, length + 9})
+            CHECK(!of.state->save_to(room.data(), other) && room == digest(length + 9, 0xaa));
+        CHECK(!of.state->save_to(nullptr, length) && of.state->save_to(room.data(), length) == !of.has_key);
+        CHECK(digest(room.begin() + (of.has_key ? 0 : length), room.end()) == digest(of.has_key ? length + 9 : 9, 0xaa));
+        try {
+            const auto made = of.state->save();
+            room.resize(length);
+            CHECK(!of.has_key && digest(made.begin(), made.end()) == room);
+            return value_of(room);
+        } catch (const std::logic_error &refused) {
+            CHECK(of.has_key && !strcmp(refused.what(), "vulfsjor: a hasher with a key is not saved"));
+            return "! key";
+        }
+    }
+
+    static std::string load(slot &to, const owned &saved) {
+        to = {H::load_or_nothing(saved.view()), false};
+        try {
+            const H one = H::load(saved.view()), other = H::load(TEXT(saved));
+            CHECK(to.state && one.digest() == to.state->digest() && other.digest() == one.digest());
+            return "";
+        } catch (const std::invalid_argument &refused) {
+            CHECK(!to.state && !strcmp(refused.what(), "vulfsjor: this is not a saved state of this hash"));
+            return "! saved";
+        }
+    }
+
     static std::string update(H &state, const owned &message) {
         const H before = state;
         const bool is_taken = state.update(message.view());
@@ -157,8 +188,10 @@ template <class H> class driver {
         if (IS("new")) return make(of, g);
         if (IS("hash")) return hash(owned(part[2]), g);
         if (IS("equal")) return equal();
-        if constexpr (has_nodes)
+        if constexpr (has_nodes) {
             if (IS("many")) return many(g);
+            if (IS("load")) return load(of, owned(part[3]));
+        }
         if (IS("wipe")) of.state.reset();
         else if (!of.state) return "! state";
         else if (IS("update")) return update(*of.state, owned(part[2]));
@@ -171,6 +204,7 @@ template <class H> class driver {
             of.state.reset();
         } else if constexpr (has_nodes) {
             if (IS("last")) of.state->set_last_node(*part[2] == '1');
+            else if (IS("save")) return save(of);
             else can = 0;
         } else {
             can = 0;

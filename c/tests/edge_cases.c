@@ -174,15 +174,17 @@ static void check_param_refusals(void) {
     }
 }
 
-/* A state from a block with a key's length is the keyed one, and verifies tags once it has absorbed the key's block. */
+/* A state from a block with a key's length is the keyed one, verifies tags once it has absorbed the key's block, and is
+ * not saved, also before it. */
 static void verify_by_block(void) {
     for (size_t keylen = 0; keylen <= MAX; keylen++) {
         param_t param = {.digest_length = MAX, .key_length = (uint8_t)keylen, .fanout = 1, .depth = 1};
-        uint8_t block[BLOCK] = {0}, wanted[MAX];
+        uint8_t block[BLOCK] = {0}, wanted[MAX], saved[CONSTANT(SAVEDBYTES)];
         state_t state;
         memcpy(block, key, keylen);
         CHECK(ONE_CALL(wanted, MAX, bytes, 20, keylen ? key : NULL, keylen) == 0);
-        CHECK(BLAKE(init_param)(&state, &param) == 0 && BLAKE(update)(&state, block, keylen ? BLOCK : 0) == 0);
+        CHECK(BLAKE(init_param)(&state, &param) == 0 && BLAKE(save)(&state, saved) == -(keylen > 0));
+        CHECK(BLAKE(update)(&state, block, keylen ? BLOCK : 0) == 0 && BLAKE(save)(&state, saved) == -(keylen > 0));
         CHECK(BLAKE(update)(&state, bytes, 20) == 0);
         const state_t before = state;
         state_t given = state;

@@ -253,6 +253,34 @@ template <class H> void no_tags() {
     }
 }
 
+/* Whether a hash has saved states. */
+template <class H, class = void> constexpr bool is_saved = false;
+template <class H>
+constexpr bool is_saved<H, std::void_t<decltype(std::declval<H>().save_to(nullptr, 0)), decltype(H::load_or_nothing(""))>> = true;
+static_assert(is_saved<blake2b> && is_saved<blake2s> && !is_saved<vulfsjor::blake2bp> && !is_saved<vulfsjor::blake2sp>);
+
+/* What is saved is loaded as what it was, by each call, and by no other hash. */
+template <class H, class Other> void saved_states() {
+    H hasher = *H::create({9, {}, {}, "purpose", {}}), other;
+    std::array<std::uint8_t, 300> room{};
+    const std::size_t length = H::max_digest_length == 64 ? 275 : 147;
+    CHECK(hasher.update("message") && hasher.save_to(room.data(), length) && !room[length]);
+    const bytes saved(room.data(), length);
+    const auto loaded = H::load_or_nothing(saved);
+    CHECK(loaded && loaded->digest() == hasher.digest() && loaded->count() == 7 && loaded->digest_length() == 9);
+    CHECK(!Other::load_or_nothing(saved) && !H::load_or_nothing(bytes(room.data(), length - 1)));
+    CHECK(!H::load_or_nothing("") && !H::load_or_nothing(bytes()) && !H::load_or_nothing(bytes(nullptr, length)));
+    CHECK(!H::create({{}, "a key", {}, {}, {}})->save_to(room.data(), length));
+    static_assert(noexcept(H::load_or_nothing(saved)) && noexcept(hasher.save_to(nullptr, 0)));
+#ifdef __cpp_exceptions
+    const std::array<std::uint8_t, H::max_digest_length == 64 ? 275 : 147> array = hasher.save();
+    CHECK(!std::memcmp(array.data(), room.data(), length) && H::load(array).save() == array);
+    CHECK(H::load(hasher.save()).digest() == hasher.digest() && H::load(room.data(), length).count() == 7);
+    other = H::load(text(array.begin(), array.end()));
+    CHECK(other.update(" and more") && hasher.update(" and more") && other.save() == hasher.save());
+#endif
+}
+
 /* ---- several messages, outputs and trees: what the conformance cases do not call */
 
 #if defined(__cpp_exceptions) && !defined(TEST_SECRETS)
@@ -395,6 +423,8 @@ template <class H> void call_leaves_nothing() {
         }
     }));
 #endif
+    if constexpr (std::is_same_v<H, blake2b> || std::is_same_v<H, blake2s>)
+        CHECK(!leaves_key(key, [&] { CHECK(!hasher.save_to(std::array<std::uint8_t, 300>().data(), 275)); }));
     CHECK(!leaves_key(key, [&] { CHECK(!hasher.verify(bytes())); }));
     CHECK(!leaves_key(key, [&] { CHECK(!hasher.verify(bytes(nullptr, 64))); }));
     CHECK(!leaves_key(key, [&] { H copy(hasher); CHECK(copy.update("abc")); }));
@@ -468,6 +498,8 @@ int main() {
     family<blake2s>(offsetof(vulfsjor_blake2s_state, counter), 1);
     family<vulfsjor::blake2bp>(offsetof(vulfsjor_blake2bp_state, lanes.counter), 4);
     family<vulfsjor::blake2sp>(offsetof(vulfsjor_blake2sp_state, lanes.counter), 8);
+    saved_states<blake2b, blake2s>();
+    saved_states<blake2s, blake2b>();
 #if defined(__cpp_exceptions) && !defined(TEST_SECRETS)
     several<blake2b>();
     several<blake2s>();
