@@ -44,20 +44,22 @@ check_debian() {
 check_debian_huge() { checking=check_huge check_debian "$@"; }
 
 # Whether rustc refuses the lines of the programs in a folder that end with the comment "refused", and no other lines.
+# A build finds the crates that other tests have built, which a check would compile once more.
 refused_lines() {
     local program name
     for program in "$top/$1"/src/bin/*.rs; do
         name=$(basename "$program" .rs)
-        ! cargo_debian "$1" check -q --bin "$name" --message-format short 2>"$work/said" &&
+        ! cargo_debian "$1" build -q --bin "$name" --message-format short 2>"$work/said" &&
             diff <(sed -n "s/^src.*$name.rs:\([0-9]*\):.* error.*/\1/p" "$work/said" | sort -un) \
                 <(grep -n '// refused$' "$program" | cut -d: -f1) || return
     done
 }
 
-# The wrong uses of tests/misuse, with the crate as the tests before have built it.
+# The wrong uses of tests/misuse, with the crate as the tests before have built it: cargo puts the one of these features
+# there, of several that it has built.
 misuses() {
-    local crates=("$CARGO_TARGET_DIR"/debug/deps/libvulfsjor-*.rlib)
-    python3 "$top/tests/misuse/run.py" rust rustc --edition=2021 --extern "vulfsjor=${crates[0]}" --
+    cargo_here build -q --lib && python3 "$top/tests/misuse/run.py" rust rustc --edition=2021 \
+        --extern "vulfsjor=$CARGO_TARGET_DIR/debug/libvulfsjor.rlib" --
 }
 
 # The digests of a build that this processor would not choose by itself.
@@ -161,7 +163,7 @@ check_debian_huge "the examples in the documentation of vulfsjor-digest" "${dige
 check_debian_huge "vulfsjor-digest without std" "${digest[@]}" -- cargo_debian rust-digest check --no-default-features
 serde=("${digest[@]}" serde_derive=1 serde_json=1 bincode=1)
 check_debian "vulfsjor-digest under the name blake2" "${serde[@]}" -- renamed_program
-check_debian "the tests of digest's macros" "${digest[@]}" blobby=0.3 -- macros_of_digest
+check_debian_huge "the tests of digest's macros" "${digest[@]}" blobby=0.3 -- macros_of_digest
 check_debian_huge "digests by serde" "${serde[@]}" -- cargo_debian rust-digest/tests/renamed test
 check_debian_huge "the program rust/examples/rayon" rayon=1 -- rayon_example
 finish

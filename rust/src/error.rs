@@ -173,6 +173,32 @@ impl fmt::Display for MacError {
 #[cfg(feature = "std")]
 impl std::error::Error for MacError {}
 
+/// The error of saving a hasher that has a key: the bytes would be as good as the key.
+#[derive(Clone, Copy, Debug, PartialEq, Eq, Hash)]
+pub struct KeyedState;
+
+impl fmt::Display for KeyedState {
+    fn fmt(&self, f: &mut fmt::Formatter<'_>) -> fmt::Result {
+        f.write_str("a hasher with a key is not saved")
+    }
+}
+
+#[cfg(feature = "std")]
+impl std::error::Error for KeyedState {}
+
+/// The error of bytes that are not a saved state of the hash.
+#[derive(Clone, Copy, Debug, PartialEq, Eq, Hash)]
+pub struct InvalidState;
+
+impl fmt::Display for InvalidState {
+    fn fmt(&self, f: &mut fmt::Formatter<'_>) -> fmt::Result {
+        f.write_str("not a saved state of this hash")
+    }
+}
+
+#[cfg(feature = "std")]
+impl std::error::Error for InvalidState {}
+
 // An error unless the argument is within these bounds.
 pub(crate) fn check(
     argument: &'static str,

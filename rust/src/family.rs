@@ -2,7 +2,7 @@ use crate::digest::Digest;
 use crate::error::{check_equal, check_range};
 use crate::library::{self, Blake2bState, Blake2bpState, Blake2sState, Blake2spState, Text};
 use crate::params::FamilyLimits;
-use crate::{InvalidArgument, MacError, Params};
+use crate::{InvalidArgument, InvalidState, KeyedState, MacError, Params};
 
 // The number of messages that one call of the library gets in `digest_many`. Their pointers are on
 // the stack.
@@ -254,11 +254,12 @@ macro_rules! family {
     };
 }
 
-// What BLAKE2b and BLAKE2s have besides: tree parameters, the last-node flag and several messages.
+// What BLAKE2b and BLAKE2s have besides: tree parameters, the last-node flag, several messages and
+// saved states.
 macro_rules! sequential {
     (
         $at_once:literal, $hasher:ident, $make:ident, $state:ident, $max:literal, $limits:expr,
-        $many:ident, $init_tree:ident, $set_last_node:ident
+        $many:ident, $init_tree:ident, $set_last_node:ident, $saved:literal, $save:ident, $load:ident
     ) => {
         impl $hasher {
             /// Returns a hasher with these parameters.
@@ -389,6 +390,47 @@ macro_rules! sequential {
                 let status = unsafe { library::$set_last_node(&mut self.state, u32::from(on)) };
                 assert_eq!(status, 0, "a state that new has made");
             }
+
+            /// Returns the hasher as bytes that [`load`](Self::load) reads, on every processor, in
+            /// every language of the library, and in every later version. They contain the input
+            /// that is pending, which is less than a block, or one.
+            ///
+            /// ```
+            #[doc = concat!("use vulfsjor::", stringify!($hasher), ";")]
+            ///
+            #[doc = concat!("let mut hasher = ", stringify!($hasher), "::new();")]
+            /// let saved = hasher.update(b"hello ").save().unwrap();
+            #[doc = concat!("let mut later = ", stringify!($hasher), "::load(&saved).unwrap();")]
+            /// assert_eq!(later.update(b"world").finalize(), hasher.update(b"world").finalize());
+            /// ```
+            ///
+            /// # Errors
+            ///
+            /// [`KeyedState`] exactly if the hasher has a key.
+            pub fn save(&self) -> Result<[u8; $saved], KeyedState> {
+                let mut saved = [0; $saved];
+                // Safety: the state has initialized bytes. The output has this length, and does not
+                // overlap the state.
+                let status = unsafe { library::$save(&self.state, saved.as_mut_ptr(), $saved) };
+                if status == 0 { Ok(saved) } else { Err(KeyedState) }
+            }
+
+            /// Returns the hasher that was saved as these bytes. Whoever can change them chooses the
+            /// digest, so keep them as safe as the input.
+            ///
+            /// # Errors
+            ///
+            /// [`InvalidState`] exactly if [`save`](Self::save) returns these bytes for no hasher,
+            /// such as those of another hash, of a later version, or cut off.
+            pub fn load(saved: &[u8]) -> Result<Self, InvalidState> {
+                library::need_a_build();
+                let mut hasher = $hasher { state: $state::ZEROS };
+                // Safety: the pointer comes from a slice of this length, which the state cannot
+                // overlap.
+                let status =
+                    unsafe { library::$load(&mut hasher.state, saved.as_ptr(), saved.len()) };
+                if status == 0 { Ok(hasher) } else { Err(InvalidState) }
+            }
         }
     };
 }
@@ -508,7 +550,10 @@ sequential!(
     FamilyLimits::BLAKE2B,
     blake2b_many,
     blake2b_init_tree,
-    blake2b_set_last_node
+    blake2b_set_last_node,
+    275,
+    blake2b_save,
+    blake2b_load
 );
 
 sequential!(
@@ -520,7 +565,10 @@ sequential!(
     FamilyLimits::BLAKE2S,
     blake2s_many,
     blake2s_init_tree,
-    blake2s_set_last_node
+    blake2s_set_last_node,
+    147,
+    blake2s_save,
+    blake2s_load
 );
 
 parallel!(

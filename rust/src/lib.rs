@@ -264,7 +264,7 @@ mod tree_params;
 mod xof;
 
 pub use digest::{Digest, HexString};
-pub use error::{Bounds, HexError, InvalidArgument, MacError};
+pub use error::{Bounds, HexError, InvalidArgument, InvalidState, KeyedState, MacError};
 pub use family::{
     Blake2b, Blake2bMac, Blake2bp, Blake2bpMac, Blake2s, Blake2sMac, Blake2sp, Blake2spMac,
 };

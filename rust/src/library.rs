@@ -348,6 +348,8 @@ functions! {
     fn blake2b_verify(state: &mut Blake2bState, tag: *const u8, tag_length: usize) -> i32;
     fn blake2b_set_last_node(state: &mut Blake2bState, on: u32) -> i32;
     fn blake2b_reset(state: &mut Blake2bState) -> i32;
+    fn blake2b_save(state: &Blake2bState, out: *mut u8, out_length: usize) -> i32;
+    fn blake2b_load(state: &mut Blake2bState, saved: *const u8, saved_length: usize) -> i32;
     fn blake2b_wipe(state: &mut Blake2bState);
     fn blake2b_digest_size(state: &Blake2bState) -> usize;
     fn blake2b_count(state: &Blake2bState) -> u64;
@@ -391,6 +393,8 @@ functions! {
     fn blake2s_verify(state: &mut Blake2sState, tag: *const u8, tag_length: usize) -> i32;
     fn blake2s_set_last_node(state: &mut Blake2sState, on: u32) -> i32;
     fn blake2s_reset(state: &mut Blake2sState) -> i32;
+    fn blake2s_save(state: &Blake2sState, out: *mut u8, out_length: usize) -> i32;
+    fn blake2s_load(state: &mut Blake2sState, saved: *const u8, saved_length: usize) -> i32;
     fn blake2s_wipe(state: &mut Blake2sState);
     fn blake2s_digest_size(state: &Blake2sState) -> usize;
     fn blake2s_count(state: &Blake2sState) -> u64;

@@ -344,6 +344,8 @@ fn errors_and_defaults() {
     let of_io = io::Error::from(error);
     assert_eq!((of_io.kind(), of_io.to_string()), (io::ErrorKind::InvalidInput, shown(&error)));
     assert_eq!(shown(&MacError), "a wrong tag");
+    assert_eq!(shown(&KeyedState), "a hasher with a key is not saved");
+    assert_eq!(shown(&InvalidState), "not a saved state of this hash");
     assert_eq!(Tree::default(), Tree::SEQUENTIAL);
     let sequential =
         Tree { fanout: 1, depth: 1, leaf_length: 0, node_offset: 0, node_depth: 0, inner_length: 0 };
@@ -410,4 +412,29 @@ fn what_is_no_digest_is_refused() {
         let text = format!("the slice's length is {length}, and must be 1 to 64");
         assert_eq!(Digest::try_from(&long[..length]).unwrap_err().to_string(), text);
     }
+}
+
+// A hasher is loaded from a slice of any length, and goes on alone. Of a key nothing is saved.
+#[test]
+fn saved_states() {
+    macro_rules! family {
+        ($type:ident, $hasher:ident, $other:ident, $size:literal) => {
+            let mut hasher = Params::new().output_size(9).persona(b"saved").$hasher().unwrap();
+            let saved: [u8; $size] = hasher.update(b"message").save().unwrap();
+            let mut loaded = $type::load(&saved).unwrap();
+            assert_eq!([loaded.finalize(), loaded.clone().finalize()], [hasher.finalize(); 2]);
+            loaded.update(b"more");
+            assert_eq!(hasher.save(), Ok(saved));
+            assert_eq!(hasher.update(b"more").save(), loaded.save());
+            for wrong in [&saved[..$size - 1], b"", &[&saved[..], b"x"].concat(), &[0; $size]] {
+                assert_eq!($type::load(wrong).err(), Some(InvalidState));
+            }
+            let other = Params::new().$other().unwrap().save().unwrap();
+            assert_eq!($type::load(&other).err(), Some(InvalidState));
+            let keyed = Params::new().key(b"key").$hasher().unwrap();
+            assert_eq!([keyed.save(), keyed.clone().update(b"m").save()], [Err(KeyedState); 2]);
+        };
+    }
+    family!(Blake2b, blake2b, blake2s, 275);
+    family!(Blake2s, blake2s, blake2b, 147);
 }

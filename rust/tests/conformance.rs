@@ -9,6 +9,7 @@ mod common;
 
 use common::{bytes, done, hex, run, yes_or_no, Driver, Given};
 use std::io::{Read, Write};
+use std::panic::{catch_unwind, AssertUnwindSafe};
 use vulfsjor::*;
 
 type Outcome = common::Outcome<InvalidArgument>;
@@ -68,6 +69,12 @@ macro_rules! sequential {
     ($make:ident, $hash:ident, $hasher:ident, $mac:ident, $max:literal $(, $last:ident)?) => {
         impl common::Hash<InvalidArgument> for Sequential<$hasher, $mac> {
             fn update(&mut self, message: &[u8]) -> Outcome {
+                if self.hasher.count().checked_add(message.len() as u64).is_none() {
+                    let (digest, count) = (self.hasher.finalize(), self.hasher.count());
+                    assert!(catch_unwind(AssertUnwindSafe(|| self.hasher.update(message).count())).is_err());
+                    assert_eq!((self.hasher.finalize(), self.hasher.count()), (digest, count));
+                    return Some(Ok("! message".into()));
+                }
                 let (one, other) = message.split_at(message.len() / 2);
                 self.hasher.update(one).write_all(other).unwrap();
                 if let Some(mac) = &mut self.mac {
@@ -106,6 +113,11 @@ macro_rules! sequential {
                 self.start.$last(on);
                 self.mac = None; // a MAC has no such call
                 done()
+            }
+            fn save(&mut self) -> Outcome {
+                let saved = self.hasher.save();
+                assert_eq!(self.hasher.save(), saved);
+                Some(Ok(saved.map_or_else(|KeyedState| "! key".into(), |saved| hex(&saved))))
             })?
         }
 
@@ -266,6 +278,21 @@ impl Driver for Crate {
         }))
     }
 
+    fn load(&self, name: &str, saved: &[u8]) -> Option<Option<Box<dyn common::Hash<InvalidArgument>>>> {
+        macro_rules! load {
+            ($hasher:ident, $mac:ident) => {{
+                let made = $hasher::load(saved);
+                assert!(made.as_ref().err().map_or(true, |error| *error == InvalidState));
+                made.ok().map(|hasher| {
+                    let mut start = hasher.clone();
+                    start.reset();
+                    Box::new(Sequential::<$hasher, $mac> { start, hasher, mac: None }) as _
+                })
+            }};
+        }
+        Some(if name == "blake2b" { load!(Blake2b, Blake2bMac) } else { load!(Blake2s, Blake2sMac) })
+    }
+
     fn call(&self, call: &[&str], given: &Given) -> Outcome {
         match call[0] {
             "hash" => hash(call[1], &bytes(call[2])?, given),
@@ -351,5 +378,5 @@ fn hash(name: &str, message: &[u8], given: &Given) -> Outcome {
 #[test]
 fn cases() {
     let names = ["blake2b", "blake2s", "blake2bp", "blake2sp", "blake2xb", "blake2xs", "tree"];
-    run(&Crate, &names, (53412, &[("equal", 25), ("reset", 83), ("skip", 172), ("verify", 108)]));
+    run(&Crate, &names, (61181, &[("equal", 25), ("reset", 83), ("skip", 172), ("verify", 108)]));
 }

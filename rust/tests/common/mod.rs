@@ -100,7 +100,7 @@ macro_rules! calls_that_may_be_absent {
 pub trait Hash<E>: Copies<E> {
     fn update(&mut self, message: &[u8]) -> Outcome<E>;
     calls_that_may_be_absent! {
-        digest() verify(_tag: &[u8]) reset() last(_on: bool) count() left() read(_count: u64)
+        digest() verify(_tag: &[u8]) reset() last(_on: bool) save() count() left() read(_count: u64)
         next(_skip: u64, _leaves: &[u8]) absorb(_leaves: &[u8], _message: &[u8])
     }
 }
@@ -133,6 +133,7 @@ fn call_of_hash<E>(hashes: &mut Hashes<E>, call: &[&str]) -> Outcome<E> {
         }
         "reset" => hash.reset(),
         "last" => hash.last(call[2] == "1"),
+        "save" => hash.save(),
         "count" => hash.count(),
         "left" => hash.left(),
         "read" => hash.read(call[2].parse().unwrap()),
@@ -147,11 +148,14 @@ fn call_of_hash<E>(hashes: &mut Hashes<E>, call: &[&str]) -> Outcome<E> {
     }
 }
 
-/// What a driver has: how a hash is made, the calls without a state, and whether an error is the one of an argument of
-/// this call.
+/// What a driver has: how a hash is made, how one is loaded, which may be absent, the calls without a state, and whether
+/// an error is the one of an argument of this call.
 pub trait Driver {
     type Error: Debug;
     fn make(&self, hash: &str, given: &Given) -> Made<Self::Error>;
+    fn load(&self, _hash: &str, _saved: &[u8]) -> Option<Option<Box<dyn Hash<Self::Error>>>> {
+        None
+    }
     fn call(&self, call: &[&str], given: &Given) -> Outcome<Self::Error>;
     fn is_error(&self, error: &Self::Error, argument: &str, call: &[&str], given: &Given) -> bool;
 }
@@ -184,6 +188,14 @@ pub fn run<D: Driver>(driver: &D, names: &[&str], all: (usize, &[(&str, usize)])
                     hashes.remove(call[1]);
                     let made = driver.make(call[2], &given);
                     made.map(|made| made.map(|hash| drop(hashes.insert(call[1].into(), hash))).map(|()| String::new()))
+                }
+                "load" => {
+                    hashes.remove(call[1]);
+                    let loaded = bytes(call[3]).and_then(|saved| driver.load(call[2], &saved));
+                    loaded.map(|hash| Ok(String::from(match hash.map(|hash| hashes.insert(call[1].into(), hash)) {
+                        Some(_) => "",
+                        None => "! saved",
+                    })))
                 }
                 "wipe" => {
                     hashes.remove(call[1]);
