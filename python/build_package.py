@@ -39,9 +39,10 @@ TEXTS = {"aarch64": ["aarch64/vulfsjor.s"],
          "x86_64": [f"x86_64/vulfsjor-{level}.s" for level in ("v2", "v3", "v4")]}
 MACROS = {"linux": "elf.inc", "macosx": "macho.inc", "windows": "coff.inc"}
 
-# The files of a source distribution: those of this folder, and those of the repository.
-OWN = ("README.md", "build_package.py", "pyproject.toml", "src/by_threads.c", "src/library.[ch]", "src/trees.c",
-       "src/xof.c", "tests/*.py", "vulfsjor/*.py", "vulfsjor/*.pyi", "vulfsjor/py.typed")
+# The module's own sources, and the files of a source distribution: those of this folder, and those of the repository.
+MODULE = [f"src/{name}.c" for name in ("module", "library", "arguments", "by_threads", "trees", "xof")]
+OWN = ("README.md", "build_package.py", "pyproject.toml", *MODULE, "src/library.h", "tests/*.py", "vulfsjor/*.py",
+       "vulfsjor/*.pyi", "vulfsjor/py.typed")
 SHARED = {
     "src/vulfsjor.h": "c/include/vulfsjor.h",
     "src/vulfsjor_threads.h": "c/include/vulfsjor_threads.h",
@@ -181,9 +182,8 @@ def compiled(files):
             [*compiler(system), *COMPILING, f"-fdebug-prefix-map={work}=.",
              *(f"-I{folder}" for folder in sorted(includes)),
              *(["-DPy_GIL_DISABLED=1"] if WITHOUT_GIL else []),
-             *shlex.split(os.environ.get("CFLAGS", "")), *options, "-o", made, "src/library.c",
-             "src/by_threads.c", "src/trees.c", "src/xof.c", *library(system, processor, work),
-             *shlex.split(os.environ.get("LDFLAGS", "")),
+             *shlex.split(os.environ.get("CFLAGS", "")), *options, "-o", made, *MODULE,
+             *library(system, processor, work), *shlex.split(os.environ.get("LDFLAGS", "")),
              *(["-lpython3"] if system == "windows" else [])], cwd=work, check=False)
         if done.returncode:
             has_headers = any(os.path.exists(f"{folder}/Python.h") for folder in includes)

@@ -2,10 +2,6 @@
  * functions of the library vulfsjor, whose assembly is linked with this file. */
 #include "library.h"
 
-#if defined __x86_64__ && !defined VULFSJOR_PORTABLE
-#include <cpuid.h>
-#endif
-
 /* ---- The families */
 
 /* Several messages, held while their digests are computed. */
@@ -16,7 +12,7 @@ typedef struct messages {
 } messages;
 
 /* What differs between them. Each function is one call of the header's. BLAKE2bp and BLAKE2sp have
- * a fixed tree: they ignore that of init, and set_last_node and many are NULL. */
+ * a fixed tree: they ignore that of init, and set_last_node, many, save and load are NULL. */
 typedef struct family {
     const char *name, *prefix, *arguments;
     int block, out, key, salt, person;
@@ -31,10 +27,13 @@ typedef struct family {
     void (*wipe)(void *run);
     int (*many)(uint8_t *out, size_t size, const messages *m, const Py_buffer *key,
                 const Py_buffer *salt, const Py_buffer *person);
+    int saved;
+    int (*save)(const void *run, uint8_t *out);
+    int (*load)(void *run, const void *saved, size_t length, int *size);
 } family;
 
 /* What all have. The formats of the arguments are those of `parse`. */
-#define FAMILY(f, NAME, format, offset, last, many)                                                \
+#define FAMILY(f, NAME, format, offset, last, many, saved, save, load)                             \
     static int f##_update(void *S, const void *in, size_t n) {                                     \
         return vulfsjor_##f##_update(S, in, n);                                                    \
     }                                                                                              \
@@ -50,7 +49,7 @@ typedef struct family {
         VULFSJOR_##NAME##_BLOCKBYTES, VULFSJOR_##NAME##_OUTBYTES, VULFSJOR_##NAME##_KEYBYTES,      \
         VULFSJOR_##NAME##_SALTBYTES, VULFSJOR_##NAME##_PERSONALBYTES,                              \
         sizeof(vulfsjor_##f##_state), offset,                                                      \
-        f##_init, last, f##_update, f##_end, f##_verify, f##_wipe, many};
+        f##_init, last, f##_update, f##_end, f##_verify, f##_wipe, many, saved, save, load};
 
 #define PLAIN(f, NAME, offset)                                                                     \
     static int f##_init(void *S, size_t o, const Py_buffer *k, const Py_buffer *s,                 \
@@ -62,7 +61,14 @@ typedef struct family {
                         const Py_buffer *s, const Py_buffer *p) {                                  \
         return vulfsjor_##f##_many(out, o, m->texts, (size_t)m->count, KEY(k), TEXT(s), TEXT(p));  \
     }                                                                                              \
-    FAMILY(f, NAME, "|O$iy*y*y*iiOOiipp", offset, f##_last, f##_many)
+    static int f##_save(const void *S, uint8_t *out) { return vulfsjor_##f##_save(S, out); }        \
+    static int f##_load(void *S, const void *saved, size_t n, int *size) {                         \
+        int status = vulfsjor_##f##_load(S, saved, n);                                             \
+        *size = (int)vulfsjor_##f##_digest_size(S);                                                \
+        return status;                                                                             \
+    }                                                                                              \
+    FAMILY(f, NAME, "|O$iy*y*y*iiOOiipp", offset, f##_last, f##_many,                              \
+           VULFSJOR_##NAME##_SAVEDBYTES, f##_save, f##_load)
 PLAIN(blake2b, BLAKE2B, UINT64_MAX)
 PLAIN(blake2s, BLAKE2S, ((uint64_t)1 << 48) - 1)
 
@@ -72,27 +78,11 @@ PLAIN(blake2s, BLAKE2S, ((uint64_t)1 << 48) - 1)
         (void)t;                                                                                   \
         return vulfsjor_##f##_init_salt_personal(S, o, KEY(k), TEXT(s), TEXT(p));                  \
     }                                                                                              \
-    FAMILY(f, NAME, "|O$iy*y*y*p", 0, NULL, NULL)
+    FAMILY(f, NAME, "|O$iy*y*y*p", 0, NULL, NULL, 0, NULL, NULL)
 PARALLEL(blake2bp, BLAKE2BP)
 PARALLEL(blake2sp, BLAKE2SP)
 
-/* ---- Arguments: see library.h */
-
-int view_of(PyObject *data, Py_buffer *view) {
-    if (PyUnicode_Check(data)) {
-        PyErr_SetString(PyExc_TypeError, "Strings must be encoded before hashing");
-        return -1;
-    }
-    if (!PyObject_CheckBuffer(data)) {
-        PyErr_SetString(PyExc_TypeError, "object supporting the buffer API required");
-        return -1;
-    }
-    if (PyObject_GetBuffer(data, view, PyBUF_SIMPLE)) return -1;
-    if (view->ndim <= 1) return 0;
-    PyBuffer_Release(view);
-    PyErr_SetString(PyExc_BufferError, "Buffer must be single dimension");
-    return -1;
-}
+/* ---- Arguments */
 
 /* A number from 0 to 2^64 - 1, or 0 if there is none, with hashlib's exceptions. */
 static int number_of(PyObject *given, uint64_t *number) {
@@ -113,61 +103,11 @@ static int number_of(PyObject *given, uint64_t *number) {
     return PyErr_Occurred() ? -1 : 0;
 }
 
-int range_of(PyObject *given, uint64_t least, uint64_t most, const char *name, uint64_t *number) {
-    if (!PyLong_Check(given) || PyBool_Check(given)) {
-        PyErr_Format(PyExc_TypeError, "%s must be an integer", name);
-        return -1;
-    }
-    *number = PyLong_AsUnsignedLongLong(given);
-    if (!PyErr_Occurred() && least <= *number && *number <= most) return 0;
-    PyErr_Format(PyExc_ValueError, "%s must be between %llu and %llu", name,
-                 (unsigned long long)least, (unsigned long long)most);
-    return -1;
-}
-
-int to_size(PyObject *given, void *size) {
-    Py_ssize_t number = PyNumber_AsSsize_t(given, NULL);
-    if (number == -1 && PyErr_Occurred()) return 0;
-    if (PyBool_Check(given)) {
-        PyErr_SetString(PyExc_TypeError, "digest_size must be an integer");
-        return 0;
-    }
-    *(int *)size = number < 0 ? -1 : number > INT_MAX ? INT_MAX : (int)number;
-    return 1;
-}
-
-int check(int number, int least, int most, const char *name, const char *unit) {
-    if (least <= number && number <= most) return 0;
-    PyErr_Format(PyExc_ValueError, "%s must be between %d and %d%s", name, least, most, unit);
-    return -1;
-}
-
 /* As hashlib refuses it. */
 static int check_most(uint64_t number, uint64_t most, const char *name) {
     if (number <= most) return 0;
     PyErr_Format(PyExc_OverflowError, "%s is too large", name);
     return -1;
-}
-
-int check_text(const Py_buffer *text, int most, const char *name) {
-    if (text->len <= most) return 0;
-    PyErr_Format(PyExc_ValueError, "maximum %s length is %d bytes", name, most);
-    return -1;
-}
-
-int check_key(const Py_buffer *key, int most) {
-    if (1 <= key->len && key->len <= most) return 0;
-    PyErr_Format(PyExc_ValueError, "key must have between 1 and %d bytes", most);
-    return -1;
-}
-
-void release(Py_buffer *text) {
-    if (text->obj) PyBuffer_Release(text);
-}
-
-PyObject *refused(PyObject *exception, const char *why) {
-    PyErr_SetString(exception, why);
-    return NULL;
 }
 
 /* ---- Hash objects */
@@ -190,18 +130,6 @@ typedef struct hash {
     short is_keyed, is_mac; /* a MAC's tag is not short, or is so by name */
     state run;
 } hash;
-
-void take_lock(PyThread_type_lock lock) {
-    if (lock && !PyThread_acquire_lock(lock, 0)) {
-        Py_BEGIN_ALLOW_THREADS
-        PyThread_acquire_lock(lock, 1);
-        Py_END_ALLOW_THREADS
-    }
-}
-
-void leave_lock(PyThread_type_lock lock) {
-    if (lock) PyThread_release_lock(lock);
-}
 
 /* Absorbs the bytes. 0, or -1 with an exception. */
 static int absorb(hash *self, PyObject *data) {
@@ -395,15 +323,6 @@ static PyObject *digest(PyObject *self, PyObject *none) {
     return size < 0 ? NULL : PyBytes_FromStringAndSize((const char *)out, size);
 }
 
-PyObject *digits_of(const uint8_t *bytes, Py_ssize_t length) {
-    char digits[128];
-    for (Py_ssize_t i = 0; i < length; i++) {
-        digits[2 * i] = "0123456789abcdef"[bytes[i] >> 4];
-        digits[2 * i + 1] = "0123456789abcdef"[bytes[i] & 15];
-    }
-    return PyUnicode_FromStringAndSize(digits, 2 * length);
-}
-
 static PyObject *hexdigest(PyObject *self, PyObject *none) {
     uint8_t out[64];
     int size = digest_of((hash *)self, out);
@@ -438,6 +357,50 @@ static PyObject *verify(PyObject *object, PyObject *tag) {
     Py_RETURN_NONE;
 }
 
+static PyObject *save(PyObject *object, PyObject *none) {
+    hash *self = (hash *)object;
+    uint8_t saved[VULFSJOR_BLAKE2B_SAVEDBYTES];
+    int status;
+    (void)none;
+    if (self->is_keyed)
+        return refused(PyExc_ValueError, "an object with a key is not saved: the bytes would be as good as the key");
+    take_lock(self->lock);
+    status = self->f->save(&self->run, saved);
+    leave_lock(self->lock);
+    if (status) return refused(PyExc_SystemError, "the library refuses what was checked");
+    return PyBytes_FromStringAndSize((const char *)saved, self->f->saved);
+}
+
+static PyObject *load(PyObject *type, PyObject *saved, const family *f) {
+    hash *self = NULL;
+    Py_buffer view;
+    if (PyUnicode_Check(saved))
+        return refused(PyExc_TypeError, "the saved state must be bytes, as save() returns, not a string");
+    if (view_of(saved, &view)) return NULL;
+    self = new_object((PyTypeObject *)type, f, 0, 0);
+    if (self && f->load(&self->run, view.buf, (size_t)view.len, &self->size)) {
+        PyErr_Format(PyExc_ValueError, "not a saved state of %s", f->name);
+        Py_CLEAR(self);
+    }
+    PyBuffer_Release(&view);
+    return (PyObject *)self;
+}
+
+static PyObject *load_b(PyObject *type, PyObject *saved) { return load(type, saved, &blake2b); }
+static PyObject *load_s(PyObject *type, PyObject *saved) { return load(type, saved, &blake2s); }
+
+/* What pickle and copy.copy call. */
+static PyObject *refuse_pickle(PyObject *object, PyObject *protocol) {
+    const hash *self = (hash *)object;
+    PyObject *name = PyType_GetName(Py_TYPE(object));
+    (void)protocol;
+    if (name)
+        PyErr_Format(PyExc_TypeError, "cannot pickle 'vulfsjor.%U' object%s", name,
+                     self->f->save && !self->is_keyed ? ": pickle what its method save returns" : "");
+    Py_XDECREF(name);
+    return NULL;
+}
+
 static PyObject *name_of(PyObject *self, void *none) {
     (void)none;
     return PyType_GetName(Py_TYPE(self));
@@ -453,22 +416,37 @@ static PyObject *size_of(PyObject *self, void *none) {
     return PyLong_FromLong(((hash *)self)->size);
 }
 
-static PyMethodDef methods[] = {
-    {"copy", copy, METH_NOARGS, "copy($self, /)\n--\n\nReturn a copy of the hash object."},
-    {"digest", digest, METH_NOARGS,
-     "digest($self, /)\n--\n\nReturn the digest value as a bytes object."},
-    {"hexdigest", hexdigest, METH_NOARGS,
-     "hexdigest($self, /)\n--\n\nReturn the digest value as a string of hexadecimal digits."},
-    {"update", update, METH_O,
-     "update($self, data, /)\n--\n\n"
-     "Update this hash object's state with the provided bytes-like object."},
-    {"verify", verify, METH_O,
-     "verify($self, tag, /)\n--\n\n"
-     "Return None if the tag is the whole digest of all input so far, and raise InvalidTag if not.\n\n"
-     "All bytes of a tag of the digest's length are compared, wherever they differ. An object\n"
-     "without a key raises ValueError: compare its digest with hmac.compare_digest. So does one with\n"
-     "a digest of fewer than 16 bytes, unless it is made by blake2b_mac and its like."},
-    {NULL, NULL, 0, NULL}};
+/* Those of all objects, and of those that are saved. */
+#define METHODS                                                                                    \
+    {"copy", copy, METH_NOARGS, "copy($self, /)\n--\n\nReturn a copy of the hash object."},        \
+    {"digest", digest, METH_NOARGS,                                                                \
+     "digest($self, /)\n--\n\nReturn the digest value as a bytes object."},                        \
+    {"hexdigest", hexdigest, METH_NOARGS,                                                          \
+     "hexdigest($self, /)\n--\n\nReturn the digest value as a string of hexadecimal digits."},     \
+    {"update", update, METH_O,                                                                     \
+     "update($self, data, /)\n--\n\n"                                                              \
+     "Update this hash object's state with the provided bytes-like object."},                      \
+    {"verify", verify, METH_O,                                                                     \
+     "verify($self, tag, /)\n--\n\n"                                                               \
+     "Return None if the tag is the whole digest of all input so far, and raise InvalidTag if not.\n\n"\
+     "All bytes of a tag of the digest's length are compared, wherever they differ. An object\n"   \
+     "without a key raises ValueError: compare its digest with hmac.compare_digest. So does one with\n"\
+     "a digest of fewer than 16 bytes, unless it is made by blake2b_mac and its like."},\
+    {"__reduce_ex__", refuse_pickle, METH_O, NULL}
+#define SAVED(load)                                                                                \
+    {"save", save, METH_NOARGS,                                                                    \
+     "save($self, /)\n--\n\n"                                                                      \
+     "Return the hash object as bytes, which load reads, in every language and later version.\n\n"  \
+     "They contain the input that is pending, up to a block. An object with a key raises\n"         \
+     "ValueError: the bytes would be as good as the key."},                                        \
+    {"load", load, METH_O | METH_CLASS,                                                            \
+     "load($type, saved, /)\n--\n\n"                                                               \
+     "Return the hash object that save returned as these bytes.\n\n"                               \
+     "Whoever can change them chooses the digest, so keep them as safe as the input. What is not\n"  \
+     "a saved state of this hash raises ValueError."}
+static PyMethodDef methods[] = {METHODS, {NULL, NULL, 0, NULL}};
+static PyMethodDef methods_b[] = {METHODS, SAVED(load_b), {NULL, NULL, 0, NULL}};
+static PyMethodDef methods_s[] = {METHODS, SAVED(load_s), {NULL, NULL, 0, NULL}};
 
 static PyGetSetDef fields[] = {
     {"name", name_of, NULL, "The name of the hash function.", NULL},
@@ -659,7 +637,7 @@ static PyObject *many_s(PyObject *module, PyObject *args, PyObject *words) {
     return many(args, words, &blake2s, "O|$O&y*y*y*:blake2s_many");
 }
 
-/* ---- The module */
+/* ---- The classes, and the functions of several messages */
 
 #define MANY(f, size, lanes)                                                                       \
     #f "_many(messages, /, *, digest_size=" #size ", key=b'', salt=b'', person=b'')\n--\n\n"       \
@@ -667,7 +645,7 @@ static PyObject *many_s(PyObject *module, PyObject *args, PyObject *words) {
        "Messages in a row of the same length are hashed " lanes " in parallel, which is faster\n"  \
        "on a processor with AVX2. What an iterator yields is copied when it comes, unless it is\n"   \
        "bytes: it may be one buffer that is filled again and again."
-static PyMethodDef functions[] = {
+PyMethodDef hash_functions[] = {
     {"blake2b_many", WITH_WORDS(many_b), MANY(blake2b, 64, "four")},
     {"blake2s_many", WITH_WORDS(many_s), MANY(blake2s, 32, "eight")},
     {NULL, NULL, 0, NULL}};
@@ -678,7 +656,7 @@ static PyMethodDef functions[] = {
 #define EXTENSION(name)                                                                            \
     "\nSalt and person are an extension: the BLAKE2 document gives " name " neither."
 /* An object has room for the state of its family only. */
-#define TYPE(f, size, longest, tree, more)                                                         \
+#define TYPE(f, size, longest, tree, methods, more)                                                \
     static PyObject *make_##f(PyTypeObject *type, PyObject *args, PyObject *words) {               \
         return make(type, args, words, &f);                                                        \
     }                                                                                              \
@@ -695,10 +673,10 @@ static PyMethodDef functions[] = {
     static PyType_Spec spec_##f = {                                                                \
         "vulfsjor." #f, (int)(offsetof(hash, run) + sizeof(vulfsjor_##f##_state)), 0,              \
         Py_TPFLAGS_DEFAULT, slots_##f};
-TYPE(blake2b, 64, 16, TREE, "")
-TYPE(blake2s, 32, 8, TREE, "")
-TYPE(blake2bp, 64, 16, "", EXTENSION("BLAKE2bp"))
-TYPE(blake2sp, 32, 8, "", EXTENSION("BLAKE2sp"))
+TYPE(blake2b, 64, 16, TREE, methods_b, "")
+TYPE(blake2s, 32, 8, TREE, methods_s, "")
+TYPE(blake2bp, 64, 16, "", methods, EXTENSION("BLAKE2bp"))
+TYPE(blake2sp, 32, 8, "", methods, EXTENSION("BLAKE2sp"))
 
 #define MAC(f, size, longest, more)                                                                \
     static PyObject *make_##f##_mac(PyTypeObject *type, PyObject *args, PyObject *words) {         \
@@ -723,16 +701,6 @@ MAC(blake2b, 64, 16, "")
 MAC(blake2s, 32, 8, "")
 MAC(blake2bp, 64, 16, EXTENSION("BLAKE2bp"))
 MAC(blake2sp, 32, 8, EXTENSION("BLAKE2sp"))
-
-/* The class of these classes, so that no program changes them. (The limited API can't set the flag
- * of immutable types on one that has constants.) */
-static int refuse_attribute(PyObject *type, PyObject *name, PyObject *value) {
-    (void)type, (void)value;
-    PyErr_Format(PyExc_TypeError, "cannot set %R attribute of immutable type", name);
-    return -1;
-}
-static PyType_Slot slots_of_types[] = {{Py_tp_setattro, refuse_attribute}, {0, NULL}};
-static PyType_Spec spec_of_types = {"vulfsjor._type", 0, 0, Py_TPFLAGS_DEFAULT, slots_of_types};
 
 /* The next two: 0, or -1 with an exception. */
 static int set_number(PyObject *at, const char *prefix, const char *name, long number) {
@@ -769,53 +737,7 @@ static PyObject *add_class(PyObject *module, PyObject *type_of_types, PyType_Spe
     return type;
 }
 
-/* The class of the exception of a wrong tag, or NULL with an exception. */
-static PyObject *add_invalid_tag(PyObject *module) {
-    PyObject *type = PyErr_NewExceptionWithDoc("vulfsjor.InvalidTag",
-                                               "The tag of a message is wrong: see verify.",
-                                               PyExc_ValueError, NULL);
-    if (type && PyModule_AddObjectRef(module, "InvalidTag", type)) Py_CLEAR(type);
-    return type;
-}
-
-/* The version of the library that is inside: 0, or -1 with an exception. */
-static int add_version(PyObject *module) {
-    uint32_t version = vulfsjor_version();
-    PyObject *text =
-        PyUnicode_FromFormat("%u.%u.%u", version >> 16, version >> 8 & 255, version & 255);
-    int status = text ? PyModule_AddObjectRef(module, "__version__", text) : -1;
-    Py_XDECREF(text);
-    return status;
-}
-
-/* The line of dist/MANIFEST for the text that runs here: 0, or -1 with an exception. */
-static int add_build(PyObject *module) {
-    return PyModule_AddStringConstant(module, "__build__", vulfsjor_build());
-}
-
-#if defined __x86_64__ && !defined VULFSJOR_PORTABLE
-/* Whether the processor has all of x86-64-v2. Where it has not, the first call of the library would
- * end the program (choose.c). */
-static int is_supported(void) {
-    const unsigned v2 =
-        bit_SSE3 | bit_SSSE3 | bit_CMPXCHG16B | bit_SSE4_1 | bit_SSE4_2 | bit_POPCNT;
-    unsigned a, b, first, extended, d;
-    return __get_cpuid(1, &a, &b, &first, &d) && (first & v2) == v2 &&
-           __get_cpuid(0x80000001u, &a, &b, &extended, &d) && extended & bit_LAHF_LM;
-}
-#else
-static int is_supported(void) { return 1; }
-#endif
-
-static int ask_processor(PyObject *module) {
-    (void)module;
-    if (is_supported()) return 0;
-    PyErr_SetString(PyExc_ImportError,
-                    "vulfsjor needs a processor of x86-64-v2, with SSE4.2 and POPCNT");
-    return -1;
-}
-
-static int fill_module(PyObject *module) {
+int add_hash_types(PyObject *module, PyObject *type_of_types) {
     static const struct {
         PyType_Spec *spec, *mac;
         const family *f;
@@ -823,49 +745,13 @@ static int fill_module(PyObject *module) {
                {&spec_blake2s, &spec_blake2s_mac, &blake2s},
                {&spec_blake2bp, &spec_blake2bp_mac, &blake2bp},
                {&spec_blake2sp, &spec_blake2sp_mac, &blake2sp}};
-    PyObject *types = PyType_FromSpecWithBases(&spec_of_types, (PyObject *)&PyType_Type);
-    classes *own = PyModule_GetState(module);
-    int failed;
-    if (!types) return -1;
-    failed = !(own->invalid_tag = add_invalid_tag(module));
+    int failed = 0;
     for (int i = 0; !failed && i < 4; i++) {
-        PyObject *type = add_class(module, types, all[i].spec, all[i].f);
-        PyObject *mac = type ? add_class(module, types, all[i].mac, all[i].f) : NULL;
+        PyObject *type = add_class(module, type_of_types, all[i].spec, all[i].f);
+        PyObject *mac = type ? add_class(module, type_of_types, all[i].mac, all[i].f) : NULL;
         failed = !mac || set_numbers(module, all[i].f->prefix, all[i].f);
         Py_XDECREF(type);
         Py_XDECREF(mac);
     }
-    failed = failed || add_version(module) || add_build(module) || PyModule_AddFunctions(module, tree_functions) ||
-             add_tree_types(module) || add_output_types(module, types);
-    Py_DECREF(types);
     return failed ? -1 : 0;
-}
-
-static int visit_classes(PyObject *module, visitproc visit, void *arg) {
-    classes *own = PyModule_GetState(module);
-    Py_VISIT(own->invalid_tag);
-    return 0;
-}
-
-static int clear_classes(PyObject *module) {
-    classes *own = PyModule_GetState(module);
-    Py_CLEAR(own->invalid_tag);
-    return 0;
-}
-
-static void free_classes(void *module) { clear_classes(module); }
-
-/* The first two say that the module runs without the GIL, which Python knows from 3.13 on, and in
- * interpreters with a GIL each, from 3.12 on. They have their numbers here, since the limited API
- * of 3.11 has no names for them, and an earlier Python refuses them. */
-static PyModuleDef_Slot module_slots[] = {
-    {4, (void *)1}, {3, (void *)2}, {Py_mod_exec, ask_processor}, {Py_mod_exec, fill_module}, {0, NULL}};
-static PyModuleDef module = {
-    PyModuleDef_HEAD_INIT, "vulfsjor._library", "The functions of the package vulfsjor, in C.",
-    sizeof(classes), functions, NULL, visit_classes, clear_classes, free_classes};
-
-/* Every interpreter that loads the module writes the same pointer. */
-PyMODINIT_FUNC PyInit__library(void) {
-    module.m_slots = module_slots + (Py_Version < 0x030d0000) + (Py_Version < 0x030c0000);
-    return PyModuleDef_Init(&module);
 }

@@ -1,4 +1,4 @@
-/* What library.c, trees.c, by_threads.c and xof.c share. They are C, which no proof covers. They keep to the limited API
+/* What the files of this folder share. They are C, which no proof covers. They keep to the limited API
  * of Python 3.11, so that one compiled module serves every later version of CPython. Builds without
  * the GIL have no such API: for them the package is compiled with Py_GIL_DISABLED, for one version.
  *
@@ -25,7 +25,7 @@
 /* An input of this many bytes is hashed without the GIL. */
 enum { LET_OTHERS_RUN_AT = 2048 };
 
-/* ---- Arguments. Each of these but to_size returns 0, or -1 with an exception. */
+/* ---- Arguments, in arguments.c with the locks. Each of these but to_size returns 0, or -1 with an exception. */
 
 /* A view of the bytes of an object. */
 int view_of(PyObject *data, Py_buffer *view);
@@ -67,6 +67,11 @@ typedef struct classes {
 
 /* The digits of at most 64 bytes, as a string. */
 PyObject *digits_of(const uint8_t *bytes, Py_ssize_t length);
+
+/* ---- library.c: the functions of several messages, for the module, and the classes of hashes and MACs, whose class
+ * this is. */
+extern PyMethodDef hash_functions[];
+int add_hash_types(PyObject *module, PyObject *type_of_types);
 
 /* ---- trees.c: the functions of the tree of two levels, for the module, and its classes. */
 extern PyMethodDef tree_functions[];

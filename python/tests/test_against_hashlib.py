@@ -49,11 +49,11 @@ def edge_parameters(longest):
 
 def outcome(act):
     """The result of a call, or the name and the message of its exception: None for the two
-    messages that differ."""
+    messages that differ. That of pickle goes on."""
     try:
         return act()
     except Exception as fault:  # whatever is raised is compared
-        text = str(fault).replace("vulfsjor.", "_blake2.")
+        text = str(fault).replace("vulfsjor.", "_blake2.").removesuffix(": pickle what its method save returns")
         differs = isinstance(fault, OverflowError) or text.startswith("inner_size")
         return type(fault).__name__, None if differs else text
 

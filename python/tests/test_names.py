@@ -114,6 +114,9 @@ RESULTS = {
         "vulfsjor.file_digest(io.BytesIO(), vulfsjor.blake2{}_mac, key=b'k', allow_short=False)":
             "vulfsjor.blake2{}_mac",
     }.items()},
+    **{f"vulfsjor.blake2{family}{call}": kind for family in "bs" for call, kind in {
+        "().save()": "bytes", f".load(vulfsjor.blake2{family}().save())": f"vulfsjor.blake2{family}",
+        f"().load(bytearray(vulfsjor.blake2{family}().save()))": f"vulfsjor.blake2{family}"}.items()},
     "vulfsjor.file_digest(io.BytesIO(), vulfsjor.blake2b, last_node=True)": "vulfsjor.blake2b",
     "vulfsjor.file_digest(io.BytesIO(), vulfsjor.blake2xs, length=5)": "vulfsjor.blake2xs",
     "vulfsjor.file_digest(io.BytesIO(), 'blake2s', inner_size=4).digest()": "bytes",
@@ -181,7 +184,7 @@ CHECKS = (
 )
 # The types of arguments by their names.
 NAMED = {
-    **dict.fromkeys(("context", "data", "digests", "key", "person", "salt", "tag"), "_Bytes"),
+    **dict.fromkeys(("context", "data", "digests", "key", "person", "salt", "saved", "tag"), "_Bytes"),
     **dict.fromkeys(("digest_size", "fanout", "depth", "node_depth", "inner_size", "threads"),
                     "SupportsIndex"),
     **dict.fromkeys(("leaf_size", "node_offset", "length", "first", "skip", "file"), "int"),

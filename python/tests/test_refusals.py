@@ -1,6 +1,8 @@
 """Tests of what calls refuse, with the texts: each call with each of its parameters, and the calls of objects.
 test_conformance.py has what they return, test_against_hashlib.py what hashlib refuses too, and test_names.py what has a
 wrong type or name."""
+import copy
+import ctypes
 from functools import partial
 import mmap
 import pickle
@@ -177,6 +179,59 @@ class Verify(Test):
             vulfsjor.blake2b_mac(b"key").verify(b"")
         again = pickle.loads(pickle.dumps(caught.exception))
         self.assertEqual((type(again), again.args), (vulfsjor.InvalidTag, caught.exception.args))
+
+
+class Saved(Test):
+    """States that are saved and loaded. test_conformance.py has the bytes that are refused."""
+
+    def test_refusals(self):
+        key = "an object with a key is not saved: the bytes would be as good as the key"
+        text = "the saved state must be bytes, as save() returns, not a string"
+        for name, make, *_, longest in FAMILIES:
+            mac = getattr(vulfsjor, f"{name}_mac")
+            self.assertEqual([hasattr(each, call) for each in (make, mac) for call in ("save", "load")],
+                             [name[-1] != "p"] * 2 + [False] * 2)
+            if name[-1] == "p":
+                continue
+            for keyed in (make(key=b"k"), make(b"message", key=bytes(longest)).copy()):
+                self.refuses(ValueError, key, keyed.save)
+            self.refuses(TypeError, text, make.load, make().save().hex())
+            for kind, why, wrong in NOT_BYTES[1:]:
+                self.refuses(kind, why, make.load, wrong)
+            saved = ctypes.create_string_buffer(make().save(), len(make().save()))
+            longer = (ctypes.c_char * (2**32 + len(saved))).from_address(ctypes.addressof(saved))
+            self.assertEqual(make.load(saved).digest(), make().digest())
+            for wrong in (b"", saved.raw[:-1], saved.raw + b"\0", longer, unread(2**57)):
+                self.refuses(ValueError, f"not a saved state of {name}", make.load, wrong)
+
+    def test_loaded_objects(self):
+        """An object is as the one that was saved, and goes on alone."""
+        for name, make, _, _, longest in FAMILIES[:2]:
+            for size in (1, 5, longest):
+                one = make(b"message", digest_size=size, person=b"person")
+                saved = one.save()
+                other = one.load(saved)
+                self.assertEqual((type(other), other.name, other.digest_size, other.block_size, other.digest()),
+                                 (make, name, size, 2 * longest, one.digest()))
+                other.update(b"more")
+                self.assertEqual((one.save(), make.load(memoryview(saved)).digest()), (saved, one.digest()))
+                one.update(b"more")
+                self.assertEqual((one.digest(), one.save()), (other.digest(), other.copy().save()))
+                self.refuses(ValueError, "verify needs a key: compare digests without one with hmac.compare_digest",
+                             other.verify, other.digest())
+
+    def test_pickle(self):
+        """The error says what is pickled instead, if there is something."""
+        for name, make, *_ in FAMILIES:
+            for made in (make(), make(key=b"k"), getattr(vulfsjor, f"{name}_mac")(b"k")):
+                is_saved = type(made) is make and hasattr(make, "save") and made.digest() == make().digest()
+                text = f"cannot pickle 'vulfsjor.{type(made).__name__}' object" + is_saved * (
+                    ": pickle what its method save returns")
+                for call in (pickle.dumps, copy.copy, copy.deepcopy):
+                    self.refuses(TypeError, text, call, made)
+            if hasattr(make, "save"):
+                again = make.load(pickle.loads(pickle.dumps(make(b"x").save())))
+                self.assertEqual(again.digest(), make(b"x").digest())
 
 
 class Parts(Test):
