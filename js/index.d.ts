@@ -298,11 +298,26 @@ declare class Hasher {
 /** An incremental BLAKE2b hash. */
 export class Blake2b extends Hasher {
   constructor(options?: HashOptions & VerifyOptions);
+  /**
+   * Returns the hash as bytes, which `load` reads, in every language and later version. They contain
+   * the input that is pending, up to a block. A hash with a key throws a `TypeError` and goes on: the
+   * bytes would be as good as the key.
+   */
+  save(): Uint8Array;
+  /**
+   * Returns the hash that was saved as these bytes. Whoever can change them chooses the digest, so
+   * keep them as safe as the input. Throws a `RangeError` for what is not a saved state of this hash.
+   */
+  static load<Hash extends Blake2b>(this: new (...options: never[]) => Hash, saved: Bytes): Hash;
 }
 
 /** An incremental BLAKE2s hash. */
 export class Blake2s extends Hasher {
   constructor(options?: HashOptions & VerifyOptions);
+  /** As `save` of `Blake2b`. */
+  save(): Uint8Array;
+  /** As `load` of `Blake2b`. */
+  static load<Hash extends Blake2s>(this: new (...options: never[]) => Hash, saved: Bytes): Hash;
 }
 
 /** An incremental BLAKE2bp hash. */

@@ -1,6 +1,6 @@
 // BLAKE2b of one message, in a module of its own.
 import { BLAKE2B_NUMBERS, Kind, newModule } from "./engine.js";
-import { Hasher } from "./hashers.js";
+import { Hasher, loadState, saveState } from "./hashers.js";
 import { decode } from "./wasm_blake2b.js";
 
 export const BLAKE2B =
@@ -9,5 +9,14 @@ export const BLAKE2B =
 export class Blake2b extends Hasher {
   constructor(options) {
     super(BLAKE2B, "Blake2b", options, arguments.length - 1);
+  }
+
+  save() {
+    return saveState(BLAKE2B, this, arguments.length);
+  }
+
+  static load(saved) {
+    const isOne = this === Blake2b || this?.prototype instanceof Blake2b;
+    return loadState(BLAKE2B, "Blake2b", isOne, this, saved, arguments.length - 1);
   }
 }

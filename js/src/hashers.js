@@ -29,6 +29,19 @@ const ENDED_BY = ", by digest, hex, verify, wipe or a failed call";
 // What pipes.js may do to a hash, and nobody else: the class below fills it in.
 const ofPipes = {};
 
+// What classes with saved states may do, and nobody else can: the class below fills it in.
+const ofStates = {};
+
+/** The bytes of a hash of this kind, after a check of the caller's object and arguments. */
+export const saveState = (kind, hasher, more) => ofStates.save(kind, hasher, more);
+
+/**
+ * The hash of this kind that was saved as these bytes, of the class that the caller called, if that is
+ * one.
+ */
+export const loadState = (kind, name, isOne, called, saved, more) =>
+  ofStates.load(kind, name, isOne, called, saved, more);
+
 /** Whether a value is one of these hashes. */
 export const isHasher = (value) => ofPipes.is(value);
 
@@ -108,6 +121,37 @@ export class Hasher {
     ofPipes.refuseEnded = (hasher, caller) => {
       if (hasher.#hasEnded) throw new TypeError(`${caller}: this hash has ended${ENDED_BY}`);
     };
+    // Called later: esbuild 0.17 cannot read a private method in a static block.
+    ofStates.save = (...values) => Hasher.#save(...values);
+    ofStates.load = (...values) => Hasher.#load(...values);
+  }
+
+  static #save(kind, hasher, more) {
+    if (!isHasher(hasher) || hasher.#kind !== kind) refuseDetached("save", "hash");
+    Hasher.#check(hasher, "save", more, 0);
+    const state = hasher.#own("save");
+    if (hasher.#isKeyed) {
+      throw new TypeError(
+        `${hasher.#caller("save")}: this hash has a key, which the bytes would be as good as`,
+      );
+    }
+    return engine.save(kind, state, hasher.#waiting);
+  }
+
+  static #load(kind, name, isOne, called, saved, more) {
+    if (!isOne) refuseDetached("load", name);
+    const caller = `${name}.load`;
+    refuseMore(more, caller, 1, "a hash has no options then");
+    const given = bytesOf(saved, caller, "saved");
+    const bytes = lengthOf(given) === kind.savedLength ? copyOf(given) : undefined;
+    const state = bytes && engine.loadState(kind, bytes);
+    if (!state) throw new RangeError(`${caller}: this is not a saved state of ${name}`);
+    const hasher = Reflect.construct(Hasher, [kind, name, COPY], called);
+    const numbers = new DataView(bytes.buffer, bytes.length - kind.blockLength - 11);
+    hasher.#count = Number(numbers.getBigUint64(0, true)) + numbers.getUint8(9);
+    hasher.#digestLength = numbers.getUint8(8);
+    hasher.#state = state;
+    return hasher;
   }
 
   // Refuses a call without its hash, which may be any value, and arguments beyond the last. Calls

@@ -69,7 +69,7 @@ for (const [command, program] of [["esbuild", "app.mjs"], ["rollup", "path.mjs"]
 }
 
 // The most bytes of a bundle of one hash; not minified, with comments.
-const MOST = 40_000;
+const MOST = 47_000;
 const MOST_LONG = 80_000;
 
 // Asserts that a bundle of what a program imports has at most so many bytes, and prints this, if anything is given.
@@ -108,8 +108,8 @@ testOf("esbuild", "other programs get what they import, too", async () => {
   const assertSize = (names, most) => assertSmall("esbuild", [names, most],
     `import { ${names} } from "vulfsjor"; console.log(${names});`, "--minify");
   for (const [names, most] of [
-    ["hex, utf8, fromHex", 5_000], ["Blake2b", 46_000], ["Blake2s", 46_000], ["blake2bStream", 51_000],
-    ["blake2sStream", 51_000], ["blake2b, blake2s", 65_000],
+    ["hex, utf8, fromHex", 5_000], ["Blake2b", 55_000], ["Blake2s", 55_000], ["blake2bStream", 59_000],
+    ["blake2sStream", 59_000], ["blake2b, blake2s", 75_000],
   ]) {
     await assertSize(names, most);
   }

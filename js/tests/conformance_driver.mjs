@@ -12,7 +12,7 @@ const NAMES = {
 // What the message of an error has, by the argument that is refused.
 const REASONS = {
   ...NAMES, size: /digestLength|outputLength|: length must/, message: /message/, digests: /digests/, tag: /tag/,
-  first: /first|below byte 2\^58/, left: /are left|: length must/, context: /context/,
+  first: /first|below byte 2\^58/, saved: /saved/, left: /are left|: length must/, context: /context/,
   state: /has ended, by digest, hex, verify, wipe or a failed call$|was wiped, or a call failed$|already being read$/,
 };
 const NO_KEY = /: this hash has no key, so that anybody can make the tag; compare digests with equal\(\)$/;
@@ -123,6 +123,17 @@ class Driver {
     this.isKeyed[other] = this.isKeyed[slot];
   }
   reset([slot]) { this.of(slot).reset(); }
+  save([slot]) {
+    const hash = this.of(slot);
+    const saved = hash.save();
+    check(isSame(hash.copy().save(), saved), "another state of the copy");
+    return saved;
+  }
+  load([slot, name, saved]) {
+    this.objects[slot] = undefined;
+    this.isKeyed[slot] = false;
+    this.objects[slot] = this.vulfsjor[name.replace("b", "B")].load(bytesOf(saved));
+  }
   wipe([slot]) { this.objects[slot]?.wipe(); }
   digest([slot]) {
     const hash = this.of(slot);
@@ -206,7 +217,7 @@ function outcomeOf(driver, call) {
 function isOutcome(got, wanted, call) {
   if (!(got instanceof Error)) return got === wanted;
   const names = wanted.startsWith("! ") ? wanted.slice(2).split(",") : [];
-  const isType = call.includes("none") || names.includes("state");
+  const isType = call.includes("none") || names.includes("state") || call.startsWith("save ");
   return !(got instanceof Wrong) && names.some((name) => got.message.search(REASONS[name]) >= 0) &&
     (got.name === "TypeError") === isType && (isType || got.name === "RangeError");
 }

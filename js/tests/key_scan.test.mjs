@@ -7,7 +7,8 @@ import test from "node:test";
 import { HUGE, top } from "./common.mjs";
 
 const program = join(top, "tests/keep_key.mjs");
-const MOST = 2 ** 22;
+const MOST = 2 ** 18;
+const ZEROS = Buffer.alloc(MOST);
 
 // How often any 8 bytes of the key, at a multiple of 8 of it, are in what the process may write.
 function countPieces(pid, key) {
@@ -30,6 +31,7 @@ function countPieces(pid, key) {
         break; // no memory behind it
       }
       if (length === 0) break;
+      if (length === MOST && buffer.equals(ZEROS)) continue; // most of the memory was never written
       const seen = buffer.subarray(0, length);
       for (const piece of pieces) count += countIn(seen, piece);
     }

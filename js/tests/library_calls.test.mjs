@@ -149,6 +149,25 @@ testCalls("short updates wait, and make no call", () => {
     "blake2xb_init_salt_personal", "blake2xb_update 3", "blake2xb_update 4");
 });
 
+testCalls("what waits is absorbed to be saved, and waits on", () => {
+  const hash = new Blake2b().update(part(3));
+  const saved = hash.save();
+  assertCalls(() => hash.save(), "blake2b_update 3", "blake2b_save");
+  assertCalls(() => hash.update(part(4)).digest(), "blake2b_update 7", "blake2b_final");
+  assertCalls(() => Blake2b.load(saved).save(), "blake2b_load", "blake2b_save");
+  assertCalls(() => Blake2b.load(saved).update(part(1)).update(part(1)).digest(),
+    "blake2b_load", "blake2b_update 2", "blake2b_final");
+  assertCalls(() => assert.throws(() => Blake2b.load(part(saved.length - 1))));
+  assertCalls(() => assert.throws(() => Blake2b.load(part(saved.length))), "blake2b_load");
+  // near the end of what the library accepts nothing waits
+  const one = "blake2b_update 1";
+  for (const [count, ...made] of [[2n ** 53n - 4n], [2n ** 53n - 3n, one], [2n ** 64n - 9n, one]]) {
+    new DataView(saved.buffer).setBigUint64(136, count, true);
+    const late = Blake2b.load(saved);
+    assertCalls(() => late.update(part(1)), ...made);
+  }
+});
+
 testCalls("what waits is never refused, and what may be refused does not wait", () => {
   // all families refuse messages of 2^58 bytes and more
   assert.equal(BLAKE2B.certainBelow, 2 ** 53);
@@ -180,6 +199,7 @@ testCalls("what the library refuses is an error, and the memory is given up", ()
     ["blake2b_init_tree", () => blake2b(some, { tree: {} })],
     ["blake2b_set_last_node", () => blake2b(some, { tree: { lastNode: true } })],
     ["blake2b_final", () => new Blake2b().digest()], ["blake2bp_final", () => new Blake2bp().digest()],
+    ["blake2b_save", () => new Blake2b().save()], ["blake2s_save", () => new Blake2s().update(some).save()],
     ["blake2s_reset", () => new Blake2s().reset()], ["blake2sp_reset", () => new Blake2sp().reset()],
     ["blake2b_many", () => blake2bMany([some])], ["tree_init", () => new TreeHash(tree)],
     ["tree_final", () => new TreeHash(tree).verify(new Uint8Array(64))],

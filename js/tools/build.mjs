@@ -34,7 +34,7 @@ function checkDist() {
 // The functions that src/engine.js calls of BLAKE2b and of BLAKE2s.
 const CALLS = [
   "", "_init_salt_personal", "_init_tree", "_set_last_node", "_update", "_final", "_verify",
-  "_reset",
+  "_reset", "_save", "_load",
 ];
 const exportsOf = (name) => CALLS.map((call) => `vulfsjor_ffi_${name}${call}`);
 const MODULES = {

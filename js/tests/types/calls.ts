@@ -11,6 +11,8 @@ const options: HashOptions = { salt: new DataView(new ArrayBuffer(3)), tree: { n
 const text: string = new Blake2b(options).update(digest).copy().reset().hex();
 const copy: Blake2s = new Blake2s().copy();
 const isSame: boolean = equal(digest, fromHex(hex(digest)));
+const saved: Uint8Array[] = [new Blake2b().save(), Blake2b.load(digest).save(), Blake2s.load(new ArrayBuffer(9)).save()];
+const again: Blake2s = Blake2s.load(saved[0]!);
 try {
   const nothing: void = copy.verify(utf8(text));
   console.log(nothing, isSame, new Blake2b()[Symbol.dispose]);
@@ -43,6 +45,7 @@ class Counted extends Blake2b {
   count = 0;
 }
 new Counted().update(digest).copy().reset().count++;
+Counted.load(again.save()).count++;
 
 // what is undefined is not given
 const no = undefined;
@@ -107,6 +110,11 @@ blake2bpStream(file, { threads: 2 });
 new TreeHash({ leafLength: 5, key: digest }); // a tree has no key
 new Blake2b().digest("hex"); // digest accepts no encoding
 new Blake2b().verify("00"); // a tag is bytes
+new Blake2b().save("hex"); // a saved state is bytes
+Blake2b.load("00");
+Blake2s.load(digest, {}); // which say all that options say
+new Blake2bp().save(); // only BLAKE2b and BLAKE2s have saved states
+TreeHash.load(digest);
 if (new Blake2b({ key: digest }).verify(digest)) console.log(); // a check has no value, which nobody compares
 if (await new Blake2b({ key: digest }).verify(digest)) console.log();
 if (copy.verify) console.log(); // nor is a check that is not called
