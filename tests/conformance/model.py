@@ -11,10 +11,10 @@ import sys
 from typing import Optional
 
 sys.path.insert(0, os.path.join(os.path.dirname(os.path.abspath(__file__)), ".."))
-from b2_model import (  # noqa: E402
-    Input, Place, bytes_of, compress, entries, output, parameter_words, unknown_length)
+from b2_model import Input, Place, output, unknown_length  # noqa: E402
 from oracle import SCALAR, parallel_by_hashlib, parallel_digest, range_digests, root_of_leaves, tree_root  # noqa: E402
 from common import FAMILIES  # noqa: E402
+from saved import Run, begun, loaded  # noqa: E402
 
 HASHES = ("blake2b", "blake2s", "blake2bp", "blake2sp", "blake2xb", "blake2xs", "tree")
 NODE = {"fanout": "fanout", "depth": "depth", "leaf": "leaf_size", "offset": "node_offset", "node": "node_depth",
@@ -29,10 +29,18 @@ class Refused(Exception):
 FIRST = bytes((i + (i >> 8)) & 255 for i in range(1 << 16))  # the first 65,536 bytes of the endless message
 
 
+@functools.cache
+def message_part(k):
+    """The bytes of the endless message from place 65,536 k on, as many: each such part is the one before it, and 1."""
+    return FIRST.translate(bytes((i + k) & 255 for i in range(256)))
+
+
 def message_span(start, end):
-    """The bytes of the endless message from one place to another. Each 65,536 are those before them, and 1."""
-    parts = [FIRST.translate(bytes((i + k) & 255 for i in range(256))) for k in range(start >> 16, (end >> 16) + 1)]
-    return b"".join(parts)[start & 0xffff:end - (start & ~0xffff)]
+    """The bytes of the endless message from one place to another."""
+    first = start >> 16
+    if end >> 16 == first:
+        return message_part(first)[start & 0xffff:end & 0xffff]
+    return b"".join(map(message_part, range(first, (end >> 16) + 1)))[start & 0xffff:end - (first << 16)]
 
 
 @functools.lru_cache(4096)
@@ -104,36 +112,35 @@ def digest(name, message, items, last):
                                               **node | {"last_node": bool(last)}).digest()
 
 
-def digest_after(skipped, name, message, given, last):
-    """The digest of BLAKE2b or BLAKE2s, where each counter is greater by a number."""
-    family = SCALAR[family_of(name)]
-    place = Place(*(given.get(each, otherwise) for each, otherwise in zip(NODE, (1, 1, 0, 0, 0, 0))))
-    texts = {each: given.get(word, b"") for each, word in (("salt", "salt"), ("persona", "person"))}
-    size = given.get("size", family.digest)
-    whole = Input(message, given.get("key"), **texts, place=place, last_node=bool(last))
-    h = [a ^ b for a, b in zip(family.iv, parameter_words(family, size, whole))]
-    for block, counter, *flags in entries(family, whole):
-        h = compress(family, h, (block, counter + skipped, *flags))
-    return bytes_of(family, h)[:size]
-
-
 @dataclasses.dataclass
 class State:
-    """A state: the arguments of its hash, what it has absorbed, how much of an output was read, and the count that it
-    was given."""
+    """A state: the arguments of its hash, what it has absorbed, how much of an output was read, the count that it was
+    given, and what it was loaded as."""
     name: str
     given: dict
     message: bytes = b""
     last: int = 0
     place: Optional[int] = None
     skipped: int = 0
+    base: Optional[Run] = None
 
     def count(self):
-        return self.skipped + len(self.message)
+        return (self.base.count() if self.base else self.skipped) + len(self.message)
+
+    def run(self):
+        """Of BLAKE2b or BLAKE2s, by the model."""
+        base = self.base
+        if not base:
+            family = SCALAR[family_of(self.name)]
+            place = Place(*(self.given.get(each, otherwise) for each, otherwise in zip(NODE, (1, 1, 0, 0, 0, 0))))
+            texts = (self.given.get(each, b"") for each in ("salt", "person"))
+            whole = Input(b"", self.given.get("key"), *texts, place=place)
+            base = begun(family, self.given.get("size", family.digest), whole, self.skipped)
+        return base._replace(last=self.last).absorbed(self.message)
 
     def digest(self):
-        if self.skipped:
-            return digest_after(self.skipped, self.name, self.message, self.given, self.last)
+        if self.skipped or self.base:
+            return self.run().digest()
         return digest(self.name, self.message, tuple(self.given.items()), self.last)
 
     def length(self):
@@ -217,6 +224,7 @@ class Model:
     def reset(self, slot):
         state = self.state(slot)
         state.message, state.place, state.skipped = b"", None, 0
+        state.base = state.base and state.base.restarted()
 
     def last(self, slot, flag):
         self.state(slot).last = int(flag)
@@ -243,6 +251,19 @@ class Model:
         if int(count) > state.left():
             raise Refused("left")
         return state.read(int(count))
+
+    def save(self, slot):
+        state = self.state(slot)
+        if "key" in state.given:
+            raise Refused("key")
+        return state.run().encoded()
+
+    def load(self, slot, name, saved):
+        self.slots[slot] = None
+        run = loaded(SCALAR[family_of(name)], self.some(saved, "saved"))
+        if not run:
+            raise Refused("saved")
+        self.slots[slot] = State(name, {}, last=run.last, base=run)
 
     # ---- calls without a state
 

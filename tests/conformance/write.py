@@ -13,9 +13,11 @@ import random
 import sys
 from concurrent.futures import ProcessPoolExecutor
 
-from model import HASHES, UNKNOWN, Model, family_of, argument_limits
+from model import HASHES, SCALAR, UNKNOWN, Model, argument_limits, family_of, message_span
+from saved import begun, loaded
 
 sys.path.insert(0, os.path.join(os.path.dirname(os.path.abspath(__file__)), ".."))
+from b2_model import Input  # noqa: E402
 from common import FAMILIES, Parser  # noqa: E402
 
 KEY, SALT, PERSON = 5000, 6000, 7000  # where keys, salts and personalizations begin
@@ -37,6 +39,8 @@ PURPOSES = {
     "leaves": "digests of ranges of leaves", "top": "roots of the digests of leaves",
     "next": "leaves that others hash", "counter": "counters that change in each bit, and those near 2^64",
     "empty": "a key of no bytes, which is no absent key",
+    "saved": "states that are saved at each number of pending bytes, loaded and finished",
+    "loaded": "bytes that are loaded, with one changed at each place, and at their edges",
 }
 
 
@@ -395,6 +399,95 @@ def counters(w):
                "update b 0:300", "digest b")
 
 
+def save(w, slot):
+    """Saves a state, and returns the digits."""
+    return w.call(f"save {slot}").split()[-1]
+
+
+def saved_states(w):
+    """A state and what it is loaded as absorb the same and have one digest, which also a state in one piece has."""
+    for pending in range(w.block + 1):
+        for blocks in (pending % 2, 2 + pending % 3) if pending else (0,):
+            given = w.arguments(**w.node() if pending % 3 else {})
+            given.pop("key", None)
+            length, more = blocks * w.block + pending, w.dice.choice([0, 1, w.block - pending, w.dice.randint(0, 300)])
+            w.case("saved", w.new(**given), f"update a {pending}:{pending + length}")
+            w.call(f"load b {w.name} {save(w, 'a')}")
+            for call in ("count b", f"update a 0:{more}", f"update b 0:{more}"):
+                w.call(call)
+            save(w, "b")
+            if w.call("digest a") != w.call("digest b"):
+                sys.exit(f"write.py: hashlib and the model differ on {w.name}, {given}, {length} and {more} bytes")
+    for length in (0, 1, w.block, w.block + 1):
+        w.case("saved", w.new(**w.node()), f"update a 0:{length}")
+        saved = f"{w.name} {save(w, 'a')}"
+        for call in ("copy a b", f"load c {saved}", "update b 0:200", "save b", "digest b", "save b", "save c",
+                     "copy c d", "digest c", "save c", "save d", "wipe d", "save d", "save a"):
+            w.call(call)
+        load = f"load a {saved}"
+        w.case("saved", load, "reset a", "count a", "save a", "update a 0:200", "save a", "digest a")
+        w.case("saved", load, "last a 1", "save a", "last a 0", "save a", "last a 1", "update a 0:9", "save a",
+               "digest a")
+        w.case("saved", load, "update a 0:9", "verify a 00", "save a", load, "update a none", "save a", w.new(), load,
+               "save a", f"{load}00", "save a", "update a 0:1")
+    for key in (1, w.longest):
+        w.case("refused-save", w.new(key=key), "save a", f"update a 0:{w.block}", "save a", "update a 0:1", "copy a b",
+               "save b", "digest b", "save b", "save a", "digest a", "save a")
+        w.case("refused-save", w.new(key=key), f"update a 0:{w.block}", "reset a", "save a", "digest a")
+
+
+def sample(w, length):
+    """A state that has absorbed this many bytes."""
+    return begun(SCALAR[family_of(w.name)], w.longest, Input(b""), 0).absorbed(message_span(7, 7 + length))
+
+
+def loads(w, saved, *calls):
+    """A case in which bytes are loaded and, if they are accepted, saved again and hashed on."""
+    is_saved = loaded(SCALAR[family_of(w.name)], saved)
+    w.case("loaded", f"load a {w.name} {saved.hex() or '-'}",
+           *["count a", "save a", *calls, "digest a"] * bool(is_saved), *["update a 0:1"] * (not is_saved))
+
+
+def loaded_bytes(w):
+    """Each byte of what is saved is changed, and each number in it is at its edges."""
+    numbers, half = 8 + 2 * w.longest, w.block // 2
+    saved = sample(w, w.block + half).encoded()
+    for at in range(len(saved)):
+        loads(w, saved[:at] + bytes([saved[at] ^ 1 << at % 8]) + saved[at + 1:], "update a 0:300")
+    for other in (b"", saved[:1], saved[:7], saved[:8], saved[:numbers], saved[:-1], saved + b"\0", saved + saved,
+                  saved[8:], saved.swapcase(), bytes(len(saved)), b"\xff" * len(saved),
+                  saved.replace(b"BLAKE2", b"BLAKE2X")[:len(saved)]):
+        loads(w, other)
+    for pending in (0, half, w.block):
+        saved = sample(w, pending).encoded()
+        bits, edges = [1 << k for k in range(8)], [0, 1, w.longest, w.longest + 1, 128, 129, 255]
+        for at, values in ((7, (0, 2, 255)), (8 + w.longest + 1, [saved[8 + w.longest + 1] ^ bit for bit in bits]),
+                           (numbers + 8, edges), (numbers + 9, [*edges, half - 1, half + 1, w.block, w.block + 1]),
+                           (numbers + 10, (0, 1, 2, 255))):
+            for value in values:
+                loads(w, saved[:at] + bytes([value]) + saved[at + 1:])
+    other = Writer({"blake2b": "blake2s", "blake2s": "blake2b"}[w.name])
+    for length in (0, 1, other.block):
+        loads(w, sample(other, length).encoded())
+    w.case("loaded", f"load a {w.name} none", "update a 0:1")
+
+
+def loaded_counters(w):
+    """Counters with each bit and around 2^64, which no call but load brings about."""
+    for bit in range(64):
+        run = sample(w, 1 + bit)._replace(counter=2**bit - bit % 2, last=bit % 2)
+        loads(w, run.encoded(), "update a 0:1", "count a", f"update a 0:{2 * w.block}", "save a")
+    for pending in (0, 1, w.block - 1, w.block):
+        run = sample(w, pending)
+        for room in (0, 1, 2, w.block, 3 * w.block + 1):
+            counter = 2**64 - 1 - pending - room
+            loads(w, run._replace(counter=counter).encoded(), f"update a 0:{room + 1}", "update a 0:5000", "count a",
+                  f"update a 0:{room}", "count a", "update a -", "update a 0:1", "save a")
+        for counter in (2**64 - pending, 2**64 - 1):
+            if counter < 2**64 <= counter + pending:
+                loads(w, run._replace(counter=counter).encoded())
+
+
 def empty_keys(w):
     size = w.longest - 1
     w.case("empty-key", w.new(key="-"))
@@ -410,7 +503,9 @@ def text_of(name):
     w = Writer(name)
     for kind in (lengths, sizes, random_hashes, *[nodes] * w.has_nodes, pieces, *[tags] * (not w.is_output), refusals,
                  ended, resets, walks, *[several] * w.has_nodes, *[outputs] * w.is_output,
-                 *[trees, parts_of_trees] * w.is_tree, *[counters] * w.has_nodes, *[empty_keys] * ("key" in w.limits)):
+                 *[trees, parts_of_trees] * w.is_tree,
+                 *[counters, saved_states, loaded_bytes, loaded_counters] * w.has_nodes,
+                 *[empty_keys] * ("key" in w.limits)):
         kind(w)
     return "\n".join([f"# {name}: conformance cases of BLAKE2, format 2. README.md describes them.", *w.lines, ""])
 
