@@ -12,9 +12,7 @@ last has the counts and the hash of the file. The status is 1 if a call is `not 
 docs/MACHINE.md says what is shown, and what is compared of FILE.
 """
 import argparse
-import gc
 import hashlib
-import multiprocessing
 import os
 import platform
 import shutil
@@ -34,7 +32,6 @@ import facts  # noqa: E402
 import functions  # noqa: E402
 import program as programs  # noqa: E402
 import same_code  # noqa: E402
-import terms  # noqa: E402
 
 PACKAGES = {"cc": "gcc", "aarch64-linux-gnu-gcc": "gcc-aarch64-linux-gnu", "ld": "binutils", "objdump": "binutils",
             "aarch64-linux-gnu-ld": "binutils-aarch64-linux-gnu",
@@ -45,7 +42,6 @@ OF_NODE = "wasm.js", "wasm_blake2b.js", "wasm_blake2s.js", "build.js", "worker_t
 OF_CRATE = ("dist/rust/vulfsjor.rs", *(f"dist/{kind}/elf.inc" for kind in same_code.BUILDS),
             *(path for builds in same_code.BUILDS.values() for path in builds.values()))
 SHOWN, ONLY_TESTED, LATER, ABSENT = "shown", "only tested", "not tried: takes ./verify --long", "not in the file"
-TASKS = []                             # the parts of the proof
 
 
 class Stop(Exception):
@@ -137,27 +133,13 @@ def compressions_of(path, names, is_long):
             yield Task(path, calls, partial(check.compress, path, *function))
 
 
-def try_task(k):
-    """The number of a part, and why it is not shown, or None."""
-    gc.disable()                       # as check.py does
-    try:
-        found = TASKS[k].show()
-    except terms.Refused as e:
-        return k, f"{e.kind}: {e}"
-    except Exception as e:             # pylint: disable=broad-exception-caught
-        return k, f"cannot show: {type(e).__name__}: {e}"
-    finally:
-        gc.collect()
-    return k, found[1] or "it fails" if isinstance(found, tuple) and found[0] != "ok" else None
-
-
 def try_all(tasks):
     """Why calls are not shown, by the text and the name."""
-    TASKS.extend(tasks)
+    check.ALL[:] = [check.Job(str(k), None, task.show) for k, task in enumerate(tasks)]
     whys = {}
-    with multiprocessing.get_context("fork").Pool() as pool:
-        for k, why in pool.imap_unordered(try_task, range(len(TASKS)), chunksize=1):
-            whys.update({(TASKS[k].path, name): f"not shown: {why}" for name in TASKS[k].calls if why})
+    for verdict, k, why in check.run_all(None):
+        path, calls, _ = tasks[int(k)]
+        whys.update({(path, name): f"not shown: {why or 'it fails'}" for name in calls if verdict != "ok"})
     return whys
 
 

@@ -112,7 +112,8 @@ def accumulate(n: int, old: list, data: list, k: int) -> list:
 
 # What instructions make of parts of n bytes of vectors, and of a number.
 VECTORS: dict = {
-    "add": ON_VECTORS["add"], "shl": ON_VECTORS["shl"], "usra": accumulate, "uqsub": no_rule, "cmhi": no_rule,
+    "add": ON_VECTORS["add"], "shl": ON_VECTORS["shl"], "usra": accumulate,
+    **dict.fromkeys(("uqsub", "cmhi", "cmeq", "addv", "umaxv", "bic", "orn", "mvn"), no_rule),
     "zip1": lambda n, a, b: joined(x + y for x, y in zip(chunks(a, n), chunks(b, n))),
     "zip2": lambda n, a, b: VECTORS["zip1"](n, a[len(a) // 2:], b[len(b) // 2:]),
     "uzp1": lambda n, a, b: joined(chunks(a + b, n)[::2]), "uzp2": lambda n, a, b: joined(chunks(a + b, n)[1::2]),
@@ -125,7 +126,7 @@ VECTORS: dict = {
     "dup": lambda n, a: a[:n] * (16 // n), "movi": lambda n, k: [k, *[0] * (n - 1)] * (16 // n),
     **dict.fromkeys(("mov", "fmov"), lambda n, a: a),
 }
-COMPUTES, ACCUMULATES = ("add", "uqsub", "cmhi", "shl", "usra"), ("usra",)
+COMPUTES, ACCUMULATES = ("add", "uqsub", "cmhi", "cmeq", "addv", "umaxv", "bic", "orn", "mvn", "shl", "usra"), ("usra",)
 
 
 class Arm(Processor):
@@ -333,6 +334,7 @@ class Arm(Processor):
         a, b, *rest = [self.read(o, size) for o in sources] + [[0] * size] * (len(sources) < 2)
         if name in PRODUCTS:
             need_public(T.word(a + b), "the time of a product or a division")
+        a = m.kept_by(a, b) if operation == "and" else a
         words = [] if name in ADDS else list(map(T.word, rest))
         f = lambda x, y: WORDS[operation](m, x, y, *words)
         data = m.computed(flags, f, a, b) if flags else self.quietly(f, a, b)
@@ -352,7 +354,7 @@ class Arm(Processor):
             return None                # a number that is shifted, or of all bits of each byte
         if name in ACCUMULATES:
             data = [self.read(to)] + data
-        return self.made(name not in COMPUTES, lambda *sources: VECTORS[name](n, *sources, *numbers)[:to.size], data)
+        return self.made(name not in COMPUTES, lambda *sources: VECTORS[name](n, *sources, *numbers), data)[:to.size]
 
     def inserted(self, name: str, old: T.Byte, x: T.Byte, y: T.Byte) -> T.Byte:
         """A byte of which bits are chosen by a mask: exactly if the mask has all or none."""

@@ -270,9 +270,9 @@ PLANTED = (
     Planted("an operation that forgets secrets", _Taint, "mixed", lambda _: (
         lambda self, data: taint.UNKNOWN_BYTE), check_instructions.check, (ARM, "T", 2), True),
     Planted("a carry that inc sets", _X86, "add_and_keep_carry", lambda _: (
-        lambda self, to, step: self.arithmetic(
-            "other", lambda a, b: programs.x86.total(a, b, step), to, programs.x86.ONE)),
-            check_instructions.check, (V3, "T", 2), True),
+        lambda self, i, to: self.arithmetic(
+            "other", lambda a, b: programs.x86.total(a, b, programs.x86.KEEP_CARRY[i.name]), to, programs.x86.ONE)),
+            check_instructions.check, (V3, "T", 6), True),
     Planted("a sum whose range is that of one of two paths that meet", _Taint, "relate", lambda right: (
         lambda self, m, _, visits, *words: right(self, m, m, visits, *words[:2], words[1])),
             check_numbers.check_secrets, (200,)),

@@ -13,6 +13,8 @@ Prints TAP; the status is 1 if something failed.
     tests/machine/check.py --forms    writes forms.txt, after a change of the files or the models
     tests/machine/check.py FILE..     only the proofs of these files, by their paths from the root, with all cases
 
+With VULFSJOR_TEST_ONLY, a regular expression, only the checks in whose titles it is found; none is kept then.
+
 Needs Python, a C compiler and binutils; for ARM aarch64-linux-gnu-gcc and binutils, and qemu-aarch64 to run
 instructions; python3-z3 for whole calls and the rules; node to run the instructions of WebAssembly. What is missing is
 skipped.
@@ -26,6 +28,7 @@ import multiprocessing
 import os
 import platform
 import random
+import re
 import shutil
 import subprocess
 import sys
@@ -53,7 +56,7 @@ import terms as T
 import whole_calls
 from machine import chunks, joined
 
-HUGE = "VULFSJOR_TEST_HUGE"
+HUGE, ONLY = "VULFSJOR_TEST_HUGE", os.environ.get("VULFSJOR_TEST_ONLY", "")
 FORMS = {compression.EachCall: " with a counter each", compression.StripesCall: " in stripes"}
 READ = ("dist/*/vulfsjor*.s", "dist/*/*.wasm", "js/src/wasm*.js")      # the files that must be read
 # The families of exported functions, by the parts in which calls are followed.
@@ -220,6 +223,7 @@ def proofs(path: str, has_all: bool) -> Iterator[Job]:
 
 PAGE = os.path.join(programs.ROOT, "docs", "MACHINE.md")
 COLUMNS = tuple(changes.FILES[name] for name in ("v4", "v3", "v2", "arm", "wasm"))
+NOT_COMPUTED = {"_many": "several messages", "_save": "saved states", "_load": "saved states"}
 GROUPS = {**call_cases.TITLES, "memcmp": "memcmp and wipe", "wipe": "memcmp and wipe", "blake2bp": "BLAKE2bp",
           "blake2sp": "BLAKE2sp", "tree": "trees"}
 
@@ -240,7 +244,7 @@ def table() -> list:
     groups: dict = {}
     for name in constant_time.SIGNATURES:
         family, end = constant_time.NAME.fullmatch(name).groups()        # type: ignore[union-attr]
-        group = "several messages" if end in constant_time.NOT_COMPUTED else GROUPS[family]
+        group = NOT_COMPUTED[end] if end in constant_time.NOT_COMPUTED else GROUPS[family]
         groups.setdefault(group, []).append((family, name))
     lines = []
     for group, calls in groups.items():
@@ -406,6 +410,7 @@ def run(job: Job) -> tuple:
     except Exception as e:
         return "not ok", title, "cannot show: %s: %s" % (type(e).__name__, e)
     finally:
+        T.reset()                      # so that there is little to look at
         gc.collect()
     return (found[0], title, found[1]) if isinstance(found, tuple) else ("ok", title, found)
 
@@ -492,7 +497,7 @@ def main(arguments: list) -> int:
     if unknown:
         print("check.py: there is no list of functions for %s" % unknown[0], file=sys.stderr)
         return 2
-    verdicts = None if arguments or is_long() else kept.Kept()
+    verdicts = None if arguments or is_long() or ONLY else kept.Kept()
     found = verdicts.run() if verdicts else []
     if found:
         return 0 if report((verdict, title, KEPT * (verdict == "ok") + why) for verdict, title, why in found) else 1
@@ -501,6 +506,7 @@ def main(arguments: list) -> int:
         ALL.extend([*tests_of_the_tool(), *joined(map(tests_of_a_file, functions.FILES))])
     if verdicts and len({job.title for job in ALL}) < len(ALL):
         raise AssertionError("two checks have one title")
+    ALL[:] = [job if re.search(ONLY, job.title) else job._replace(gone="match of VULFSJOR_TEST_ONLY") for job in ALL]
     return 0 if report(run_all(verdicts)) else 1
 
 

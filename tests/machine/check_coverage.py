@@ -1,12 +1,7 @@
-#!/usr/bin/env python3
 """Shows, by the solver Z3, that the cases of a call are together all calls: whatever numbers the arguments and the
 state have, one of the cases has them. Pointers are to as much memory as the header says; nothing else is assumed. It
-reads the arguments and the memory that a case passes, not how call_cases.py came to them.
+reads the arguments and the memory that a case passes, not how call_cases.py came to them."""
 
-    tests/machine/check_coverage.py FILE FAMILY EXPORT [some]   one function, such as
-                                dist/x86_64/vulfsjor-v3.s blake2s _update; with some cases, it should fail"""
-
-import sys
 from functools import cached_property
 from typing import Any
 
@@ -59,7 +54,7 @@ class Shape:
         self.case, self.inputs = case, inputs  # name -> integer of Z3, and its most
         self.names: dict = {}          # variables of the case -> integers of Z3
         self.limits: dict = {}         # inputs -> bounds
-        equal = joined(self.parts(name, t) if t.op == "cat" or t.w != 64 else self.set(self.input(name), t)
+        equal = joined(self.parts(name, t) if t.op == "cat" or t.w != 64 else self.set(name, t)
                        for name, t in words_of(case, kinds))
         claims = [c for f in case.known.before + (case.known,) if f.claim for c in f.claim(self.number, facts.either)]
         claims += [facts.is_word(v, t.w) for t, v in self.names.items()]
@@ -68,11 +63,12 @@ class Shape:
     def input(self, name: str, bits: int = 64) -> Any:
         return self.inputs.setdefault(name, (facts.variable(name, bits)[0], (1 << bits) - 1))[0]
 
-    def set(self, n: Any, t: T.Term) -> list:
+    def set(self, name: str, t: T.Term) -> list:
         """That an input is a word. A variable that is a word of its own is named by the input. For the variables of
         a sum, such as blocks and a rest, numbers are proposed, by division; that they add up is a condition too."""
+        n = self.input(name, t.w)
         if t.op == "var" and t not in self.names:
-            self.names[t], self.limits[str(n)] = n, self.case.limits[t.args]
+            self.names[t], self.limits[name] = n, self.case.limits[t.args]
             return []
         constant, items = T.linear(t) if t.op == "add" else (0, {})
         new = sorted((u for u in items if variable_of(u) not in self.names), key=lambda u: -items[u])
@@ -92,7 +88,7 @@ class Shape:
             if u.op not in ("var", "const") and u.taint & T.PUBLIC:
                 raise CannotShow("%s is %r" % (name, u))
             if u.op == "const" or u.taint & T.PUBLIC:
-                equal += self.set(self.input("%s byte %d" % (name, k), u.w), u)
+                equal += self.set("%s byte %d" % (name, k), u)
         return equal
 
     def number(self, t: T.Term) -> Any:
@@ -207,19 +203,3 @@ def check(family: str, is_long: bool = False) -> tuple:
             if not found.needs(shape):
                 return "not ok", "%s: without the case %s nothing is missing" % (found.name, shape.case.title())
     return "ok", "%d cases" % count
-
-
-def main(arguments: list) -> int:
-    facts.run_with_z3(__file__, arguments)
-    path, family, export, *is_some = arguments
-    try:
-        numbers = call_cases.some(family) if is_some else ()
-        print("ok: %d cases, %d questions, %d numbers" % Union(programs.read(path), family, export, numbers).show())
-    except T.Refused as e:
-        print("%s: %s" % (e.kind, e))
-        return 1
-    return 0
-
-
-if __name__ == "__main__":
-    sys.exit(main(sys.argv[1:]))

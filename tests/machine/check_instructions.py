@@ -238,7 +238,7 @@ def machine(program: "Program", user: str, text: str, base: int, data: bytes, pl
     m.general[base] = T.split(buf)
     count, size = vectors_of(program.path)
     for j in range(count):
-        m.vector[j][:size] = word(VECTORS + size * j, size)
+        m.vector[j] = word(VECTORS + size * j, size) + m.vector[j][size:]
     m.masks = [[n >> k & 1 for k in range(64)] for n in struct.unpack_from("<8Q", data, MASKS)]
     zero = T.const(8, data[ZERO])
     m.flags = Flags("sub", zero, T.const(8, 0), zero)

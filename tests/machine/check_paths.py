@@ -1,11 +1,7 @@
-#!/usr/bin/env python3
 """Runs what was proved. For each path of each case of a call, Z3 gives inputs, and the text runs on them: it must
 return and write what is specified, for ARM in qemu. Its C library is hostile.S, which overwrites all that the calling
 convention allows: with zeros, with ones, and with other bytes. Arguments that are only read are also the same, or
-overlap; on ARM pointers have a tag; and the constants are also linked in another order.
-
-    tests/machine/check_paths.py FILE FAMILY EXPORT [all]     one function, such as
-                                dist/x86_64/vulfsjor-v3.s blake2s _final; with all cases, or some"""
+overlap; on ARM pointers have a tag; and the constants are also linked in another order."""
 
 import functools
 import os
@@ -13,7 +9,6 @@ import random
 import re
 import struct
 import subprocess
-import sys
 import tempfile
 from types import SimpleNamespace
 from typing import Any, Callable, Iterator, NamedTuple, cast
@@ -380,18 +375,3 @@ def sees(row: Any) -> tuple:
     found = Paths(programs.read(row.path), family, export, call_cases.some(family))
     why = found.run(row.path, row.edit(programs.source(row.path)))
     return "ok" if why else "not ok", why or "%d calls see no difference" % found.ran
-
-
-def main(arguments: list) -> int:
-    facts.run_with_z3(__file__, arguments)
-    path, family, export, *is_all = arguments
-    try:
-        verdict, why = check(path, family, [export], *[None] * 2 * bool(is_all))
-    except T.Refused as e:
-        verdict, why = e.kind, str(e)
-    print("%s: %s" % (verdict, why))
-    return verdict != "ok"
-
-
-if __name__ == "__main__":
-    sys.exit(main(sys.argv[1:]))

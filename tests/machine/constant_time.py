@@ -48,7 +48,7 @@ LONGEST = {"blake2bp": 896, "blake2sp": 960}
 FAMILIES = ("blake2b", "blake2s", "blake2bp", "blake2sp")
 FINALIZING, ANSWERING = (tuple(name % family for family in FAMILIES)
                          for name in (functions.FINALIZE, functions.IS_DIGEST_OF))
-NOT_COMPUTED = ("_many",)              # of these whole_calls.py does not show what they write
+NOT_COMPUTED = ("_many", "_save", "_load")     # of these whole_calls.py does not show what they write
 OF_C = programs.OF_C
 NOT_FOLLOWED = ("dist/x86_64/vulfsjor-v4.s",)   # masks of AVX-512 are not followed
 # What is not shown, as pairs of a file and a function: pointers have bounds that are too hard for the ranges.
@@ -75,7 +75,7 @@ def kinds_of(family: str, given: str) -> tuple:
             kinds.append(NUMBER)
         elif type_ in ("uint8_t", "vulfsjor_message"):
             next(left)                 # its length
-            of_bytes = {"key": KEY, "block": PUBLIC}.get(name, BYTES) if const else OUT
+            of_bytes = {"key": KEY, "block": PUBLIC, "saved": PUBLIC}.get(name, BYTES) if const else OUT
             kinds.append(of_bytes if type_ == "uint8_t" else TABLE)
         else:
             kinds.append(STATE if type_ == "vulfsjor_%s_state" % family else type_.removeprefix("vulfsjor_"))
@@ -268,10 +268,9 @@ class Analysis:
         if name in ANSWERING:
             if not self.exported.endswith(ANSWERS):
                 raise IsWrong("a comparison whose answer is not that of the call")
-            answer = self.cpu(m).answer()
-            if not m.is_bit(answer[0]):
+            if not m.is_bit(self.cpu(m).answer()[0]):
                 raise CannotShow("the answer of %s may have more values than 0 and 1" % name)
-            answer[0] = (m.new(8, "answer", (0, 1, 1)), 0)
+            self.cpu(m).set_answer([(m.new(8, "answer", (0, 1, 1)), 0)])
         elif name in FINALIZING:
             need_zeros(m, next(b for b in m.regions if b.args == "state0"))
 

@@ -30,10 +30,16 @@ class Elf:
             alignment=h[8], unit=h[9], data=b"" if h[1] == NOBITS else data[h[4]:h[4] + h[5]]) for h in headers]
         self.symbols = []
         for s, header in zip(self.sections, headers):
-            for name, info, other, of in struct.iter_unpack("<IBBH16x", s.data) if s.type == SYMBOLS else ():
+            for name, info, other, of, *place in struct.iter_unpack("<IBBHQQ", s.data) if s.type == SYMBOLS else ():
                 self.symbols.append(SimpleNamespace(
                     name=text_at(self.sections[header[6]].data, name), type=info & 15, binding=info >> 4, section=of,
-                    is_hidden=other & 3 == HIDDEN))
+                    is_hidden=other & 3 == HIDDEN, place=place))
+
+    def places(self) -> list:
+        """The address, the section, the size and the name of each symbol that is in a section. That of a section has
+        its name."""
+        named = [(s, self.sections[s.section].name) for s in self.symbols if UNDEFINED < s.section < len(self.sections)]
+        return [(s.place[0], section, s.place[1], s.name or section) for s, section in named]
 
 
 def text_at(data: bytes, at: int) -> str:

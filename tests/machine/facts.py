@@ -96,6 +96,7 @@ def number(t: T.Term) -> Any:
     return constant(t.args) if t.op == "const" else variable("%s %d" % (t.op, t.serial), t.w)[0]
 
 
+@T.remembering
 def definition(t: T.Term) -> tuple:
     """The parts of a term, and what is so of its integer and theirs, by the meaning of its operator. Of another
     operator only the range is known."""
@@ -273,7 +274,7 @@ class Facts:
             t = waiting.pop()
             if t not in self.defined:
                 self.defined[t] = True
-                inner, claim = T.remembered(definition, t)
+                inner, claim = definition(t)
                 waiting += [u for u in inner if u.op != "const"]
                 told.append(claim)
         for claim in [*told, *(z3.BoolVal(c) if isinstance(c, bool) else c for c in claims)]:
@@ -357,10 +358,10 @@ class Facts:
 
 def least(f: Callable, top: int, low: int = 0) -> int:
     """The least number from `low` up to `top` from which on f holds."""
-    if low == top or f(low):
-        return low
-    if not f(top - 1):
+    if low == top or not f(top - 1):
         return top
+    if f(low):
+        return low
     high = low
     while not f(high):
         low, high = high + 1, min((high + 2) ** 2 - 1, top)

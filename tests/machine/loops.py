@@ -46,12 +46,12 @@ class Induction:
 
     def changed(self, cells: dict) -> set:
         """The bytes that are not as at first."""
-        return {c for c in set(self.first) | set(cells) if self.at(cells, c) != self.at(self.first, c)}
+        return {c for c in {**self.first, **cells} if self.at(cells, c) != self.at(self.first, c)}
 
     def propose(self, changed: set, step: Callable) -> set:
         """Proposes that public words grow, by step(word at first, its bytes), unless that is None. Returns the bytes
         that change otherwise."""
-        for group in {self.group(*c) for c in changed}:
+        for group in {self.group(*c) for c in {(kind, at, k - k % 4) for kind, at, k in changed}}:
             a = self.word(self.first, group)
             n = None if a.taint & ~T.PUBLIC or group[0][0] in self.STILL else step(a, group)
             if n is not None:

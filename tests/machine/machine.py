@@ -52,11 +52,13 @@ class Cells:
 class Operand:
     """A part of an instruction: its kind, and what else its processor says of it. What it does not say is None."""
 
+    kind: str
+    size: Any = None
+    index = value = parts = is_in_file = is_broadcast = mask = zeroes = n = start = size
+    base = offset = mode = name = count = text = data = size
+
     def __init__(self, kind: str, **fields: Any) -> None:
         self.__dict__.update(fields, kind=kind)
-
-    def __getattr__(self, name: str) -> Any:
-        return None
 
 
 class Instruction:
@@ -69,7 +71,10 @@ class Instruction:
         self.address, self.text, self.name = address, text, ""
         self.target: int | None = None
         self.operands: list = []
+        self.action: Any = None        # what executes it, once that is known
         self.read()
+        self.is_jump, self.is_call, self.is_trap = (self.name == name for name in (self.JUMP, self.CALL, self.TRAP))
+        self.is_return = self.name == "ret" and not self.operands
 
     def read(self) -> None:
         """Sets the rest from the text."""
@@ -78,11 +83,6 @@ class Instruction:
     def unknown(self) -> CannotShow:
         return CannotShow("the instruction %s is not modelled: add it to tests/machine/%s.py, and run "
                           "tests/machine/check.py --forms" % (" ".join(self.text.split()), type(self).__module__))
-
-    is_jump = property(lambda self: self.name == self.JUMP)
-    is_call = property(lambda self: self.name == self.CALL)
-    is_trap = property(lambda self: self.name == self.TRAP)
-    is_return = property(lambda self: self.name == "ret" and not self.operands)
 
 
 class Flags(NamedTuple):
@@ -146,17 +146,21 @@ class Values:
         self.masks = self.unknown_masks()
         self.labels: list = []         # of the blocks of WebAssembly that are open
         for name, (count, size) in processor.FILES.items():
-            setattr(self, name, [list(T.remembered(junk, "%s%d" % (name, j), size)) for j in range(count)])
-        self.at_start = {name: [list(r) for r in getattr(self, name)] for name in processor.FILES}
+            setattr(self, name, [junk("%s%d" % (name, j), size) for j in range(count)])
+        self.at_start = {name: list(getattr(self, name)) for name in processor.FILES}
 
     def copy(self) -> Any:
-        """Values that may change without these."""
+        """Values that may change without these. The list of a register's bytes does not change: it gets another."""
         self.check_parts()
         other = copy.copy(self)
         other.memory, other.masks, other.labels = dict(self.memory), list(self.masks), list(self.labels)
         for name in self.processor.FILES:
-            setattr(other, name, [list(r) for r in getattr(self, name)])
+            setattr(other, name, list(getattr(self, name)))
         return other
+
+    def kept_by(self, data: list, mask: list) -> list:
+        """A word whose and with a mask is that of these bytes."""
+        return data
 
     def check_parts(self) -> None:
         """A part of which PARTS does not say what becomes of it is a fault of the tool."""
@@ -198,6 +202,8 @@ class Values:
 
     def set_cells(self, state: dict) -> None:
         """Sets registers and memory to the bytes that cells() returned."""
+        for name in self.processor.FILES:
+            setattr(self, name, [list(r) for r in getattr(self, name)])
         for (kind, at, k), b in state.items():
             if kind == "memory":
                 self.memory[at, k] = b
@@ -356,6 +362,10 @@ class Processor:
         """The register of the result, which is the first on each processor."""
         return self.values.general[0]
 
+    def set_answer(self, data: list) -> None:
+        """Sets the low bytes of the result."""
+        self.values.general[0] = data + self.answer()[len(data):]
+
     def clobber(self, what: str) -> None:
         """What a function may leave in registers that do not belong to its caller. One that compresses leaves zero or
         what there was where compression.py shows that."""
@@ -405,10 +415,11 @@ class Processor:
         if i.is_return:
             return None
         if i.target is None:
-            top = self.values.stack_pointer()
+            (name, at), values = self.STACK_POINTER, self.values
+            top = getattr(values, name)[at]
             self.step(i)
-            if self.values.stack_pointer() is not top:
-                self.values.move_stack()
+            if getattr(values, name)[at] != top:
+                values.move_stack()
             return i.next
         return i.target if i.is_jump or self.values.holds(self.condition(i)) else i.next
 
@@ -466,6 +477,7 @@ def need_public(t: T.Term, what: str) -> None:
             raise CannotShow(text)
 
 
+@T.remembering
 def junk(name: str, n: int) -> list:
     """n bytes of undefined data, as words of 8 bytes."""
     sizes = [min(8, n - k) for k in range(0, n, 8)]
@@ -475,7 +487,7 @@ def junk(name: str, n: int) -> list:
 
 def unknown_bit() -> list:
     """A byte of a mask, which has one for each bit, of which nothing is known."""
-    return T.remembered(junk, "mask", 1)
+    return junk("mask", 1)
 
 
 def chunks(data: Any, n: int) -> list:

@@ -27,9 +27,9 @@ TOOLS: dict = {"x86_64": ([os.environ.get("CC", "cc")], "", ["-M", "intel"]),
 MODELS = {"x86_64": x86, "aarch64": arm, "wasm": wasm}
 
 NAMED = "dist/wasm/vulfsjor.wasm"      # the module that has names of functions
-CONSTANTS = ".rodata"                  # the section of the constants
+CODE, CONSTANTS = ".text", ".rodata"   # the sections of a linked file
 # The sections of a file that a processor sees, by the start of their names, with their flags.
-SECTIONS = ((".text", elf.ALLOCATED | elf.EXECUTABLE), (CONSTANTS, elf.ALLOCATED | elf.MERGED))
+SECTIONS = ((CODE, elf.ALLOCATED | elf.EXECUTABLE), (CONSTANTS, elf.ALLOCATED | elf.MERGED))
 IDENT, STACK_MARK = ".comment", ".note.GNU-stack"       # a section with the compiler, and a mark
 # What the linker reads for branch protection: the kind of a processor's features, and those of all code.
 MARKS = {"x86_64": (0xc0000002, 3), "aarch64": (0xc0000000, 1)}
@@ -53,6 +53,7 @@ OF_CALLS = ("R_X86_64_PLT32", "R_X86_64_PC32", "R_AARCH64_CALL26", "R_AARCH64_JU
 OF_CONSTANTS = ("R_X86_64_PC32", "R_AARCH64_ADR_PREL_PG_HI21", "R_AARCH64_ADD_ABS_LO12_NC",
                 "R_AARCH64_LDST64_ABS_LO12_NC", "R_AARCH64_LDST128_ABS_LO12_NC")
 PREFIX = re.compile(r"66|67|f[023]|26|2e|36|3e|6[45]|4")     # of an instruction for x86-64
+MAPPING = re.compile(r"\$[dx](\..*)?")                   # a symbol that says where code and data begin
 LINE = re.compile(r"\s*([0-9a-f]+):\t([0-9a-f ]+?)\s*\t(.*)")
 
 
@@ -60,6 +61,7 @@ class NotAssembled(CannotShow):
     """The assembler or the linker refuses the file."""
 
 
+PLAIN: dict = {}                       # the lines without directives that check_text has seen, by the processor
 READ: set = set()                      # the paths of files that a check has read, for kept.py
 
 
@@ -94,11 +96,15 @@ def module_of(path: str) -> Any:
         raise CannotShow(str(why)) from why
 
 
+def unchanged(text: Any) -> Any:
+    return text
+
+
 class Program:
     """The functions of a file, by name without version, as lines of text. `edit` changes its source() first."""
 
-    def __init__(self, path: str, edit: Callable = lambda source: source) -> None:
-        self.path, self.kind = path, functions.architecture(path)
+    def __init__(self, path: str, edit: Callable = unchanged) -> None:
+        self.path, self.kind, self.is_original = path, functions.architecture(path), edit is unchanged
         self.model, self.width = MODELS[self.kind], 64
         self.codes: dict = {}          # what code() has read
         self.extents: dict = {}        # and extent()
@@ -124,7 +130,7 @@ class Program:
         """The functions of an assembly text."""
         text = edit(source(self.path))
         check_text(text, self.kind)
-        compiler, prefix, style = TOOLS[self.kind]
+        compiler, prefix, _ = TOOLS[self.kind]
         with tempfile.TemporaryDirectory() as d:
             s, o, so = (os.path.join(d, "a" + suffix) for suffix in (".s", ".o", ".so"))
             with open(s, "w") as f:
@@ -135,17 +141,36 @@ class Program:
                 if found.returncode:
                     raise NotAssembled(found.stderr.strip().split("\n")[-1])
             self.read_symbols(elf.Elf(o))
-            self.constants = constants(elf.Elf(so))
-            out = subprocess.run([prefix + "objdump", "-dzrt", "--insn-width=16"] + style + [so],
-                                 check=True, stdout=subprocess.PIPE, text=True).stdout
-        table, _, code = out.partition("\nDisassembly of ")
-        # The address, the section, the size and the name of each symbol.
-        self.symbols = [(int(m[1], 16), m[2], int(m[3], 16), m[4]) for m in re.finditer(
-            r"^([0-9a-f]{16}) .{7} (\S+)\t([0-9a-f]{16})(?: \.\w+)? (.+)$", table, re.M)]
-        self.functions = {}
-        for name, body in re.findall(r"^[0-9a-f]+ <(.*)>:\n((?:.+\n)*)", code, re.M):
-            self.functions.setdefault(without_version(name), []).extend(
+            linked = elf.Elf(so)
+            with open(so, "rb") as f:
+                self.linked = f.read()
+        self.constants = constants(linked)
+        self.symbols = [s for s in linked.places() if not MAPPING.fullmatch(s[3])]
+        self.functions = dict.fromkeys(without_version(s[3]) for s in self.symbols if s[1] == CODE != s[3])
+
+    def lines(self, name: str) -> list:
+        """The lines of a function: of assembly those of objdump. Of a text that is not changed all are read at once,
+        and otherwise those that are asked for."""
+        if self.functions[name] is None:
+            start, end = self.extent(name)
+            shown = self.disassembled() if self.is_original else self.disassembled(
+                "--start-address=%d" % start, "--stop-address=%d" % end)
+            self.functions.update((n, lines) for n, lines in shown.items() if n in self.functions)
+        return self.functions[name] or []
+
+    def disassembled(self, *options: str) -> dict:
+        """What objdump shows of functions."""
+        _, prefix, style = TOOLS[self.kind]
+        with tempfile.NamedTemporaryFile() as f:
+            f.write(self.linked)
+            f.flush()
+            out = subprocess.run([prefix + "objdump", "-dzr", "--insn-width=16", *style, *options, f.name], check=True,
+                                 stdout=subprocess.PIPE, text=True).stdout
+        found: dict = {}
+        for name, body in re.findall(r"^[0-9a-f]+ <(.*)>:\n((?:.+\n)*)", out, re.M):
+            found.setdefault(without_version(name), []).extend(
                 line for line in body.splitlines() if ":\t" in line or ": R_" in line)
+        return found
 
     def read_symbols(self, file: elf.Elf) -> None:
         """The functions that other files may call, and the symbols that they define, of an object file. All that a
@@ -205,7 +230,7 @@ class Program:
             raise CannotShow("%s has no function %s: the compiler may have inlined it, or it has "
                              "another name now: see tests/machine/functions.py" % (self.path, name))
         if name not in self.codes:
-            self.codes[name] = wasm.parse(self.functions[name]) if self.kind == "wasm" else self.instructions(name)
+            self.codes[name] = wasm.parse(self.lines(name)) if self.kind == "wasm" else self.instructions(name)
         for i in self.codes[name] if user and self.kind != "wasm" else ():
             forms.check(self.kind, str(user), i.text)
         return self.codes[name]
@@ -215,7 +240,7 @@ class Program:
         start, end = self.extent(name)
         later = LATER.get(self.path.rpartition("-")[2])
         found, filled = [], set()
-        for line in self.functions[name]:
+        for line in self.lines(name):
             m = LINE.match(line)
             if not start <= int(m[1] if m else line.partition(":")[0], 16) < end:
                 continue
@@ -243,11 +268,11 @@ class Program:
         """The hash of all that executing a function depends on: its instructions, and where constants are from its
         start on."""
         if name not in self.contents:
-            found: tuple = self.kind, self.functions[name]
+            found: tuple = self.kind, self.lines(name)
             if self.kind != "wasm":
                 start, data = self.constants
                 found = start - self.extent(name)[0], data, [
-                    m.groups()[1:] for m in map(LINE.match, self.functions[name]) if m]
+                    m.groups()[1:] for m in map(LINE.match, self.lines(name)) if m]
             self.contents[name] = hashlib.sha256(repr(found).encode()).hexdigest()
         return self.contents[name]
 
@@ -289,9 +314,9 @@ class Program:
     def texts(self, name: str) -> list:
         """The instructions of a function, as text without comments."""
         if self.kind == "wasm":
-            return self.functions[name]
+            return self.lines(name)
         comment = "#" if self.kind == "x86_64" else "//"
-        return [" ".join(m[3].partition(comment)[0].split()) for m in map(LINE.match, self.functions[name]) if m]
+        return [" ".join(m[3].partition(comment)[0].split()) for m in map(LINE.match, self.lines(name)) if m]
 
     def constant(self, address: int) -> int:
         """The byte of the constants at an address."""
@@ -320,11 +345,13 @@ def found(pattern: str, text: str) -> Any:
 def check_text(text: str, kind: str) -> None:
     """Refuses a text that other tools may read otherwise, and data between instructions: objdump shows some bytes as
     instructions that processors refuse."""
-    section = ".text"
-    for line in text.split("\n"):
+    section, plain = CODE, PLAIN.setdefault(kind, set())
+    lines = [line for line in text.split("\n") if line not in plain]
+    plain.update(line for line in lines if not directives(line, kind))
+    for line in lines:
         for name, what in directives(line, kind):
             if name.endswith("section"):               # what popsection goes back to may be code
-                section = what if what and name != "popsection" else ".text"
+                section = what if what and name != "popsection" else CODE
             elif name in OF_DATA and not section.startswith((CONSTANTS, ".note")):
                 raise CannotShow("there may be data between instructions: .%s in %s" % (name, section))
 

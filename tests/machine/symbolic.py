@@ -160,13 +160,14 @@ class Exact(Values):
 
     def put(self, base: T.Term, places: Any, data: list) -> None:
         """Writes bytes at places that are numbers."""
-        self.memory.update(((base, at), b) for at, b in zip(places, data))
+        self.memory.update(zip(zip(itertools.repeat(base), places), data))
         if base is self.stack:
             self.is_scrubbed = False
             for at, b in zip(places, data):
-                self.secrets.pop(at, None)
                 if self.is_kept(b):
                     self.secrets[at] = is_of_key(b)
+                elif at in self.secrets:
+                    del self.secrets[at]
 
     def copy(self) -> Any:
         other = super().copy()
@@ -175,15 +176,15 @@ class Exact(Values):
 
     def may_be_left(self, j: int, k: int, b: T.Byte) -> bool:
         """Whether a byte of a vector register is zero, as at the entry, or left by the C library."""
-        return b in (0, self.at_start["vector"][j][k]) or isinstance(b, tuple) and str(b[0].args).startswith((
-            AFTER + "~", AFTER_KEY + "~"))
+        return b in (0, self.at_start["vector"][j][k]) or isinstance(b, tuple) and is_left_by_c(b[0])
 
     def is_left(self, j: int, start: int) -> bool:
         """Whether all are zero, from one on, or each is as at the entry or left by the C library."""
         if self.vector[j][start:] == self.at_start["vector"][j][start:]:
             return True
-        data = list(enumerate(self.vector[j]))[start:]
-        return all(b == 0 for _, b in data) or all(b != 0 and self.may_be_left(j, k, b) for k, b in data)
+        data = self.vector[j][start:]
+        return not any(data) or all(data) and all(
+            self.may_be_left(j, k, b) for k, b in enumerate(data, start))
 
     @staticmethod
     def left_by(data: list) -> str:
@@ -346,6 +347,8 @@ class Exact(Values):
         return [self.norm(b) for b in T.split(t)] if t.taint & T.PUBLIC else T.split(t)
 
     def exclusive(self, a: T.Term, b: T.Term) -> Any:
+        if not (a.taint | b.taint) & T.PUBLIC and a.op != "cat" != b.op:
+            return T.xor(a.w, a, b)
         return T.word(bitwise(T.xor, self.normal(a), self.normal(b)))
 
     def either(self, a: T.Term, b: T.Term) -> T.Term:
@@ -585,6 +588,12 @@ def is_secret_byte(b: T.Byte) -> bool:
 def is_of_key(b: T.Byte) -> bool:
     """Whether a byte is by one of a key, or of its block in a state."""
     return not isinstance(b, int) and is_secret_byte(b) and has_key(b[0])
+
+
+@T.remembering
+def is_left_by_c(t: T.Term) -> bool:
+    """Whether a word is what a function of the C library has left."""
+    return str(t.args).startswith((AFTER + "~", AFTER_KEY + "~"))
 
 
 @T.remembering

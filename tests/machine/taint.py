@@ -7,6 +7,7 @@ Public words are terms over public variables. So the offsets of memory are known
 is its width. Where paths meet, what differs becomes a new variable."""
 
 import copy
+import itertools
 from math import gcd
 from typing import Any, Callable, Iterator
 
@@ -139,6 +140,8 @@ class Taint(Values):
     def cleaned(self, data: list, is_word: bool, name: str = "") -> list:
         """Bytes as they are kept: what depends on a secret is only secret. A word of which a byte is not known is a
         new variable."""
+        if data.count(SECRET_BYTE) == len(data):
+            return data
         data = [b if b is SECRET_BYTE or not is_secret(b) or has_name(b) else SECRET_BYTE for b in data]
         if not is_word or UNKNOWN_BYTE not in data:
             return data
@@ -155,10 +158,12 @@ class Taint(Values):
     def new(self, w: int, what: str = "", limits: tuple | None = None) -> T.Term:
         """A public variable of w bits, named by the place of the instruction, that stands for a new value from now
         on."""
+        is_known = T.has_var(w, self.where + what)
         x = T.var(w, self.where + what, T.PUBLIC)
-        self.ranges = {t: r for t, r in self.ranges.items() if x not in T.linear(t)[1]}
-        self.facts = {t: f for t, f in self.facts.items() if not any(
-            x in T.variables(u) for u in [t] + [w for _, a, b, _ in f[0] + f[1] for w in (a, b)])}
+        if is_known:                   # of another, nothing says anything
+            self.ranges = {t: r for t, r in self.ranges.items() if x not in T.linear(t)[1]}
+            self.facts = {t: f for t, f in self.facts.items() if not any(
+                x in T.variables(u) for u in [t] + [w for _, a, b, _ in f[0] + f[1] for w in (a, b)])}
         if limits:
             self.ranges[x] = limits
         return x
@@ -326,8 +331,10 @@ class Taint(Values):
     def relate(self, one: Any, other: Any, visits: int, *words: T.Term) -> None:
         """Learns the range of a word that is another in each of two machines. After some visits, only one that does
         not grow."""
-        old, new = (m.range_of(t) for m, t in zip((one, other), words[1:]))
-        low, high, step = merged_ranges(old, new)
+        old = one.range_of(words[1])
+        if old[1] - old[0] >= 1 << words[0].w - 1:
+            return
+        low, high, step = merged_ranges(old, other.range_of(words[2]))
         if visits <= VISITS or (low, high) == old[:2]:
             a, b, _ = self.range_of(words[0])
             if high - low < min(b - a, 1 << words[0].w - 1):
@@ -410,9 +417,13 @@ class Taint(Values):
                 pass
         return [self.mixed(joined(data))] * len(data[0])
 
+    def kept_by(self, data: list, mask: list) -> list:
+        """Nothing is left of the secret bytes that a mask clears."""
+        return [0 if bits == 0 and is_secret(b) else b for b, bits in zip(data, mask)]
+
     def mixed(self, data: list) -> T.Byte:
         """A byte that may depend on all of these."""
-        return SECRET_BYTE if any(map(is_secret, data)) else UNKNOWN_BYTE
+        return SECRET_BYTE if SECRET_BYTE in data or any(map(is_secret, data)) else UNKNOWN_BYTE
 
     # Memory.
 
@@ -461,7 +472,7 @@ class Taint(Values):
             if base is self.stack and is_secret(new) and lost:
                 raise CannotShow("no bound is known for a place: a secret may overwrite %r on the stack" % lost[0][0])
             data = [joined_byte(b, new) for b in old]
-        self.memory.update(((base, k), b) for k, b in zip(places, data))
+        self.memory.update(zip(zip(itertools.repeat(base), places), data))
 
     def copy_memory(self, to: T.Term, source: T.Term, length: T.Term) -> None:
         """memcpy and memmove."""
@@ -491,7 +502,8 @@ class Taint(Values):
         old, words = self.copy(), []
         self.where = place
         # What holds on both paths. A range that is missing is not known.
-        ranges = {t: merged_ranges(r, other.ranges[t]) for t, r in self.ranges.items() if t in other.ranges}
+        ranges = {t: r if r == other.ranges[t] else merged_ranges(r, other.ranges[t])
+                  for t, r in self.ranges.items() if t in other.ranges}
         self.ranges = {t: r for t, r in ranges.items() if r[1] - r[0] <= 2 * TOP}
         self.facts = {t: f for t, f in self.facts.items() if other.facts.get(t) == f}
         self.bounds |= other.bounds

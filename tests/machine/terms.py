@@ -49,11 +49,12 @@ class IsWrong(Refused):
 class Term:
     """A word of w bits. Two terms of the same normal form are one object."""
 
-    __slots__ = ("op", "w", "args", "serial", "taint", "sum")
+    __slots__ = ("op", "w", "args", "serial", "taint", "sum", "bytes")
 
     def __init__(self, op: str, w: int, args: Any, serial: int, taint: int) -> None:
         self.op, self.w, self.args, self.serial, self.taint = op, w, args, serial, taint
         self.sum: Any = None           # of a sum, what linear() has returned
+        self.bytes: Any = None         # what split() has
 
     def __repr__(self) -> str:
         return show(self, 3)
@@ -63,8 +64,7 @@ class Term:
 Byte = Union[int, Tuple[Term, int]]
 
 _table: dict = {}
-_results: dict = {}                          # what remembered() has returned
-_words: dict = {}                            # what word() has returned
+_memos: list = []                            # what functions of terms have returned, for each by its arguments
 
 
 def _term(op: str, w: int, args: Any, taint: int) -> Term:
@@ -79,22 +79,24 @@ def _term(op: str, w: int, args: Any, taint: int) -> Term:
 
 def reset() -> None:
     """Forgets all terms. Older terms must not be used with later ones."""
-    for kept in (_table, _results, _words):
+    for t in _table.values():          # which are in their own bytes
+        t.bytes = None
+    for kept in (_table, *_memos):
         kept.clear()
-
-
-def remembered(f: Callable, *arguments: Any) -> Any:
-    """The result of a function, computed once for the same arguments."""
-    key = (f,) + arguments
-    found = _results.get(key)
-    if found is None:
-        found = _results[key] = f(*arguments)
-    return found
 
 
 def remembering(f: Callable) -> Callable:
     """A function that computes its result once for the same arguments."""
-    return functools.wraps(f)(functools.partial(remembered, f))
+    memo: dict = {}
+    _memos.append(memo)
+
+    @functools.wraps(f)
+    def found(*arguments: Any) -> Any:
+        result = memo.get(arguments)
+        if result is None:
+            result = memo[arguments] = f(*arguments)
+        return result
+    return found
 
 
 def show(t: Any, depth: int) -> str:
@@ -123,6 +125,11 @@ def const(w: int, n: int) -> Term:
 def var(w: int, name: Any, taint: int) -> Term:
     """The variable of this name."""
     return _term("var", w, name, taint)
+
+
+def has_var(w: int, name: Any) -> bool:
+    """Whether there is a variable of this name."""
+    return ("var", w, name) in _table
 
 
 def ite(w: int, condition: Any, on: int, off: int) -> Term:
@@ -165,6 +172,7 @@ def need_width(w: int, *terms: Term) -> None:
             raise CannotShow("%r has %d bits instead of %d" % (t, t.w, w))
 
 
+@remembering
 def add(w: int, *given: tuple) -> Term:
     """The sum of pairs of a coefficient and a term."""
     constant, has_flag = 0, False
@@ -225,6 +233,7 @@ def _members(terms: tuple) -> tuple:
     return constant, {n: m for n, m in chosen.items() if m}, members
 
 
+@remembering
 def xor(w: int, *terms: Any) -> Term:
     """The exclusive or of terms."""
     need_width(w, *terms)
@@ -245,14 +254,13 @@ def _ror_number(w: int, n: int, k: int) -> int:
     return (n >> k | n << (w - k)) & ((1 << w) - 1)
 
 
+@remembering
 def ror(w: int, t: Any, k: int) -> Term:
     """A rotation to the right by k bits."""
     need_width(w, t)
-    return _ror(w, t, k % w) if k % w else t
-
-
-@remembering
-def _ror(w: int, t: Term, k: int) -> Term:
+    k %= w
+    if k == 0:
+        return t
     if t.op == "xor":
         return xor(w, const(w, _ror_number(w, t.args[0], k)), *[ror(w, u, k) for u in t.args[1]])
     if t.op == "ror":
@@ -322,6 +330,12 @@ and_byte = functools.partial(_of_bytes, operator.and_, 255)
 
 def split(t: Any) -> list:
     """The bytes of a term."""
+    if t.bytes is None:
+        t.bytes = _split(t)
+    return t.bytes[:]
+
+
+def _split(t: Any) -> list:
     n = t.w // 8
     if t.op == "const":
         return list(t.args.to_bytes(n, "little"))
@@ -341,13 +355,11 @@ def split(t: Any) -> list:
 
 def word(bs: Any) -> Term:
     """The term of a list of bytes."""
-    bs = tuple(bs)
-    found = _words.get(bs)
-    if found is None:
-        found = _words[bs] = _word(bs)
-    return found
+    first = bs[0] if isinstance(bs, list) else 0
+    return first[0] if isinstance(first, tuple) and first[0].bytes == bs else _word(tuple(bs))
 
 
+@remembering
 def _word(bs: tuple) -> Term:
     n = len(bs)
     first = bs[0]

@@ -323,7 +323,7 @@ class Calls:
             return self.run_inner(name, m)
         self.cpu(m).clobber(m.left_by(read))
         if name in OF_C:
-            self.cpu(m).answer()[:] = T.split(to)
+            self.cpu(m).set_answer(T.split(to))
         return [m]
 
     def run_inner(self, name: str, m: Any) -> list:
@@ -371,7 +371,7 @@ class Calls:
             return [m]
         found = self.both(m, byte)
         for n in found:
-            self.cpu(n).answer()[0] = n.compared_bytes[1]
+            self.cpu(n).set_answer([n.compared_bytes[1]])
         return found
 
     def compress(self, m: Any, kind: "Kind", lanes: int) -> None:

@@ -3,7 +3,7 @@ add one: most are a line of a table, MOVED or COMPUTED for vectors and ARITHMETI
 
 import functools
 import re
-from typing import Callable
+from typing import Any, Callable
 
 import machine
 import terms as T
@@ -142,9 +142,6 @@ MOVED: dict = {
     **{"pextr" + c: ("a", WIDTH, n, lambda n, imm: [imm % n]) for c, n in BYTES.items()},
     **{"pbroadcast" + c: ("a", WIDTH, n, lambda _: [0] * WIDTH) for c, n in BYTES.items()},
     **{"pmovzx" + c: ("a", n, n, lambda n: [0, n]) for c, n in (("wd", 2), ("dq", 4))},
-    "movhlps": ("ab", 16, 8, lambda n: [n + 1, 1]),
-    "permilpd": ("a", WIDTH, 8, lambda n, imm: [k & -2 | imm >> k & 1 for k in range(n)]),
-    "shufpd": ("ab", WIDTH, 8, lambda n, imm: [n * (k & 1) + (k & -2 | imm >> k & 1) for k in range(n)]),
     "pmovqd": ("a", 8, 4, lambda n: [0]),
 }
 
@@ -191,11 +188,12 @@ COMPUTED: dict = {
         ("padd", 2, "add", "dq"), ("psub", 2, "sub", "q"), ("psrl", 1, "shr", "wdq"), ("psll", 1, "shl", "dq"),
         ("prol", 1, "rol", "dq")) for c in ends},
     "blendvps": (3, 4, blend_by_sign), "blendvpd": (3, 8, blend_by_sign), "pblendvb": (3, 1, blend_by_sign),
-    "pmovsxdq": (1, 4, with_sign), "pcmpgtq": (2, 8, no_rule), "pternlogd": (3, 4, no_rule),
+    "pmovsxdq": (1, 4, with_sign), "pcmpgtq": (2, 8, no_rule), "pcmpeqb": (2, 1, no_rule),
+    "pmovmskb": (1, 1, no_rule), "pternlogd": (3, 4, no_rule),
     "pternlogq": (3, 8, no_rule),
 }
 # Other names for the same.
-ALIKE = {"permpd": "permq", "permilps": "pshufd", "unpcklpd": "punpcklqdq", "movlhps": "punpcklqdq",
+ALIKE = {"permpd": "permq", "unpcklpd": "punpcklqdq", "movlhps": "punpcklqdq",
          "unpckhpd": "punpckhqdq", "unpcklps": "punpckldq", "unpckhps": "punpckhdq", "blendps": "pblendd",
          "perm2f128": "perm2i128",
          "permps": "permd", "broadcastss": "pbroadcastd", "broadcastsd": "pbroadcastq", "extractps": "pextrd",
@@ -307,59 +305,39 @@ class X86(Processor):
         return self.compared(i.name[1:])
 
     def step(self, i: Instruction) -> None:
-        name, ops = i.name, i.operands
-        method = getattr(self, "do_" + name, None)
-        if method:
-            method(i, *ops)
-        elif name in ARITHMETIC:
-            self.compute(i, *ops)
-        elif name in KEEP_CARRY:
-            self.add_and_keep_carry(ops[0], KEEP_CARRY[name])
-        elif name in ADD_CARRY:
-            self.with_carry(ops[0], ops[1], ADD_CARRY[name])
-        elif name in PRODUCTS:
-            self.of_public(name, *ops)
-        elif name.startswith("set") and name[3:] in CONDITIONS:
-            self.write(ops[0], [self.values.bit(self.compared(name[3:]))])
-        elif name.startswith("cmov") and name[4:] in CONDITIONS:
-            self.write(ops[0], self.values.chosen(
-                self.compared(name[4:]), self.read(ops[1], ops[0].size), self.read(ops[0])))
-        elif name in ("mov", "movabs"):
-            self.write(ops[0], self.read(ops[1], ops[0].size or ops[1].size))
-        elif name == "movzx":
-            self.write(ops[0], (self.read(ops[1]) + [0] * 8)[:ops[0].size])
-        elif name == "lea":
-            self.write(ops[0], T.split(self.address(ops[1]))[:ops[0].size])
-        elif MASK.fullmatch(name):
-            self.mask_step(i)
-        elif ops and ops[0].mask is not None:
-            self.masked_move(i)
-        elif name != "nop":
-            self.vector_step(i)
+        if i.action is None:
+            i.action = self.action(i)
+        i.action(self, i, *i.operands)
+
+    @classmethod
+    def action(cls, i: Instruction) -> Callable:
+        """What executes an instruction."""
+        if i.name in ACTIONS:
+            found = ACTIONS[i.name]
+            return getattr(cls, found) if isinstance(found, str) else found
+        if MASK.fullmatch(i.name):
+            return cls.mask_step
+        if i.operands and i.operands[0].mask is not None:
+            return cls.masked_move
+        return cls.vector_step(i)
 
     # Words.
 
-    def do_push(self, i: Instruction, source: Operand) -> None:
+    def push(self, i: Instruction, source: Operand) -> None:
         data = self.read(source)
         if len(data) != 8:
             raise i.unknown()
         self.move_stack(-8)
         self.values.store(self.values.stack_pointer(), data)
 
-    def do_pop(self, i: Instruction, to: Operand) -> None:
+    def pop(self, i: Instruction, to: Operand) -> None:
         data = self.values.load(self.values.stack_pointer(), 8)
         self.move_stack(8)
         self.write(to, data)
 
-    def do_movsx(self, i: Instruction, to: Operand, source: Operand) -> None:
-        """A word as one of more bytes, with its sign."""
-        data = self.read(source)
-        self.write(to, self.values.extended(data, to.size))
-
-    do_movsxd = do_movsx
-
-    def do_cdqe(self, i: Instruction) -> None:
-        self.do_movsx(i, REGISTER["rax"], REGISTER["eax"])
+    def extend(self, to: Operand, source: Operand) -> None:
+        """Sets a word to one of fewer bytes, with its sign."""
+        self.write(to, self.values.extended(self.read(source), to.size))
 
     def compute(self, i: Instruction, to: Operand, source: Operand = ONE) -> None:
         """An instruction of ARITHMETIC. A shift by 0 keeps the flags, and is not modelled."""
@@ -370,58 +348,61 @@ class X86(Processor):
         if name == "xor" and is_same:
             self.write(to, [0] * to.size)
         f = lambda a, b: a if is_same and operation in ("xor", "and") else ON_WORDS[operation](self.values, a, b)
-        self.arithmetic(kind, f, to, source, name not in ONLY_FLAGS)
+        self.arithmetic(kind, f, to, source, name not in ONLY_FLAGS, operation == "and")
 
-    def arithmetic(self, kind: str | None, f: Callable, to: Operand, source: Operand, keep: bool = True) -> None:
+    def arithmetic(self, kind: str | None, f: Callable, to: Operand, source: Operand, keep: bool = True,
+                   masks: bool = False) -> None:
         """Sets a word and the flags, or only one of these."""
         a, b = self.read(to), self.read(source, to.size)
+        if masks:
+            a = self.values.kept_by(a, b)
         result = self.values.computed(kind, f, a, b) if kind else self.quietly(f, a, b)
         if keep:
             self.write(to, result)
 
-    def add_and_keep_carry(self, to: Operand, step: int) -> None:
+    def add_and_keep_carry(self, i: Instruction, to: Operand) -> None:
         """inc and dec keep the carry, which may be that of a secret."""
         old = self.values.flags
-        self.arithmetic("other", lambda a, b: total(a, b, step), to, ONE)
+        self.arithmetic("other", lambda a, b: total(a, b, KEEP_CARRY[i.name]), to, ONE)
         now = self.values.flags
         if old.kind in (UNKNOWN, SECRET, "no carry") and now.kind != SECRET:
             self.values.flags = now._replace(kind="no carry")
 
-    def do_imul(self, i: Instruction, to: Operand, source: Operand) -> None:
+    def multiply(self, i: Instruction, to: Operand, source: Operand) -> None:
         need_public(T.word(self.read(to) + self.read(source, to.size)), "the time of a product")
         self.arithmetic("product", lambda a, b: ON_WORDS["mul"](self.values, a, b), to, source)
 
-    def with_carry(self, to: Operand, source: Operand, sign: int) -> None:
+    def with_carry(self, i: Instruction, to: Operand, source: Operand) -> None:
         """Adds or subtracts the carry too, which must be public."""
+        sign = ADD_CARRY[i.name]
         if self.values.flags.kind in (UNKNOWN, SECRET, "no carry"):
             raise CannotShow("a carry depends on flags that are not public")
         carry = T.word([self.values.bit(self.compared("b"))] + [0] * (to.size - 1))
         self.arithmetic("other", lambda a, b: T.add(a.w, (1, a), (sign, b), (sign, carry)), to, source)
 
-    def of_public(self, name: str, *ops: Operand) -> None:
+    def of_public(self, i: Instruction, *ops: Operand) -> None:
         """A product or a division, whose time may depend on the operands: these must be public. One of bytes has all
         of its result in ax, and is not modelled."""
         *results, source = ops
         if source.size == 1:
             raise CannotShow("a product or a division of bytes")
         register = lambda r: Operand("general", index=r, size=source.size)
-        for o in [source, *map(register, PRODUCTS[name])]:
+        for o in [source, *map(register, PRODUCTS[i.name])]:
             need_public(T.word(self.read(o)), "the time of a product or a division")
         for o in results[::-1] or [register(RAX), register(RDX)]:
             self.write(o, self.values.anything(o.size))
         if not results:                # mulx keeps the flags
             self.values.flags = Flags(UNKNOWN)
 
-    def do_vzeroupper(self, i: Instruction) -> None:
+    def zero_upper(self, i: Instruction) -> None:
         vector = self.values.vector
-        vector[:16] = [r[:16] + [0] * (WIDTH - 16) for r in vector[:16]]
+        vector[:16] = [r[:16] + [0] * (WIDTH - 16) if any(r[16:]) else r for r in vector[:16]]
 
     # Masks.
 
-    def mask_step(self, i: Instruction) -> None:
+    def mask_step(self, i: Instruction, to: Operand, *rest: Operand) -> None:
         action, letter = MASK.fullmatch(i.name).groups()       # type: ignore[union-attr]
         bits, kinds = 8 * BYTES[letter], [o.kind for o in i.operands]
-        to, *rest = i.operands
         masks = [self.values.masks[o.index][:bits] for o in rest if o.kind == "mask"]
         if action == "mov" and kinds == ["mask", "general"]:
             result = [bit_of(b, k) for b in self.read(rest[0])[:bits // 8] for k in range(8)]
@@ -434,9 +415,8 @@ class X86(Processor):
             raise i.unknown()
         self.values.masks[to.index] = result + [0] * (64 - len(result))
 
-    def masked_move(self, i: Instruction) -> None:
+    def masked_move(self, i: Instruction, to: Operand, source: Operand, *rest: Operand) -> None:
         """A move or a broadcast of which a mask chooses the words. A word that it leaves out is not read."""
-        to, source, *rest = i.operands
         n, step = MASKED.get(i.name[1:], (0, 0))
         if not n or rest or source.kind != "memory":
             raise i.unknown()
@@ -449,8 +429,10 @@ class X86(Processor):
 
     # Vectors.
 
-    def vector_step(self, i: Instruction) -> None:
-        """An instruction of a table. The old encodings need operands of 16 bytes in memory to be aligned."""
+    @classmethod
+    def vector_step(cls, i: Instruction) -> Callable:
+        """What executes an instruction of a table. The old encodings need operands of 16 bytes in memory to be
+        aligned."""
         vex, ops = i.name.startswith("v"), [o for o in i.operands if o.kind != "number"]
         name, kinds = i.name[vex:], [o.kind for o in ops]
         count, other = LOW_MOVES.get(name, (0, name))
@@ -458,27 +440,54 @@ class X86(Processor):
         if not 0 < READS.get(name, 0) <= len(ops) or "mask" in kinds or any(o.mask is not None for o in ops):
             raise i.unknown()
         to, is_aligned = ops[0], lambda o: MOVES.get(name, not vex and o.size == 16)
+        sources = [(o, is_aligned(o)) for o in ops[-READS[name]:]]
         is_zero = BITWISE.get(name) == "xor" and same(*ops[-2:])
-        data = [[0] * to.size if is_zero else self.read(o, to.size, is_aligned(o)) for o in ops[-READS[name]:]]
-        if name == "ptest":            # the carry is not as after an and of words
-            self.values.test(*data)
-            return
-        made = self.result(name, data, [o.value for o in i.operands[len(ops):]]) + [0] * (8 * (to.kind == "general"))
-        if len(made) < to.size:
-            raise CannotShow("the result does not fit its operand")
-        self.write(to, made[:to.size], vex, is_aligned(to))
+        make = cls.result(name, [o.value for o in i.operands[len(ops):]])
+        above = [0] * (8 * (to.kind == "general"))
 
-    def result(self, name: str, data: list, numbers: list) -> list:
-        """The bytes that an instruction of a table makes of others."""
+        def step(cpu: Any, *_: Any) -> None:
+            data = [[0] * to.size if is_zero else cpu.read(o, to.size, aligned) for o, aligned in sources]
+            if name == "ptest":        # the carry is not as after an and of words
+                cpu.values.test(*data)
+                return
+            made = make(cpu, data) + above
+            if len(made) < to.size:
+                raise CannotShow("the result does not fit its operand")
+            cpu.write(to, made[:to.size], vex, is_aligned(to))
+        return step
+
+    @staticmethod
+    def result(name: str, numbers: list) -> Callable:
+        """What makes the bytes of an instruction of a table of others, and of its number."""
         if name in BITWISE:
-            return self.values.combined(BITWISE[name], *data)
+            return lambda cpu, data: cpu.values.combined(BITWISE[name], *data)
         if name.startswith("pternlog") and numbers[0] in TERNARY:
             first, second = TERNARY[numbers[0]]
-            return self.values.combined(first, data[0], self.values.combined(second, *data[1:]))
+            return lambda cpu, data: cpu.values.combined(first, data[0], cpu.values.combined(second, *data[1:]))
         if name in MOVED:
-            return self.made(True, lambda *sources: moved(MOVED[name], sources, numbers), data)
+            return lambda cpu, data: cpu.made(True, lambda *sources: moved(MOVED[name], sources, numbers), data)
+        if name == "ptest":
+            return no_rule
         _, n, f = COMPUTED[name]
-        return self.made(False, lambda *sources: f(n, *sources, *numbers), data)
+        return lambda cpu, data: cpu.made(False, lambda *sources: f(n, *sources, *numbers), data)
+
+
+# What executes instructions of these names: methods, or functions.
+ACTIONS: dict = {
+    **dict.fromkeys(ARITHMETIC, "compute"), **dict.fromkeys(KEEP_CARRY, "add_and_keep_carry"),
+    **dict.fromkeys(ADD_CARRY, "with_carry"), **dict.fromkeys(PRODUCTS, "of_public"),
+    **dict.fromkeys(["set" + c for c in CONDITIONS], lambda cpu, i, to: cpu.write(
+        to, [cpu.values.bit(cpu.compared(i.name[3:]))])),
+    **dict.fromkeys(["cmov" + c for c in CONDITIONS], lambda cpu, i, to, source: cpu.write(to, cpu.values.chosen(
+        cpu.compared(i.name[4:]), cpu.read(source, to.size), cpu.read(to)))),
+    **dict.fromkeys(("mov", "movabs"), lambda cpu, i, to, source: cpu.write(
+        to, cpu.read(source, to.size or source.size))),
+    **dict.fromkeys(("movsx", "movsxd"), lambda cpu, i, to, source: cpu.extend(to, source)),
+    "cdqe": lambda cpu, i: cpu.extend(REGISTER["rax"], REGISTER["eax"]),
+    "movzx": lambda cpu, i, to, source: cpu.write(to, (cpu.read(source) + [0] * 8)[:to.size]),
+    "lea": lambda cpu, i, to, source: cpu.write(to, T.split(cpu.address(source))[:to.size]),
+    "push": "push", "pop": "pop", "imul": "multiply", "vzeroupper": "zero_upper", "nop": lambda *_: None,
+}
 
 
 def same(a: Operand, b: Operand) -> bool:
