@@ -716,6 +716,8 @@ def main():
     options = options_of(__doc__, 512, 6, ("long", "kernel", "short", "several", "parallel", "xof", "tree"))
     if options.build and options.write:
         sys.exit("speed: --write needs all builds")
+    if options.write and not run_quietly(["/usr/bin/python3", "-c", "import matplotlib"])[0]:
+        sys.exit("speed: --write draws a plot by matplotlib (python3-matplotlib)")
     if options.build:
         CPUS[:] = [f"x86-64-{options.build}"]
     run_benchmark(options, parts_of, "speed")

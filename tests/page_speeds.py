@@ -7,45 +7,65 @@ from page_sources import measured, newest, rows_of, size, tables
 def of_speeds():
     """The rows of speeds, as in tests/page_numbers.py: a page, a sentence of it with {} for numbers, and these."""
     yield from (("README.md", *row) for row in first_screen())
-    yield from (("docs/SPEED.md", *row) for row in (*summary(), *other_ratios()))
+    yield from (("docs/SPEED.md", *row) for row in (*summary(), *behind(), *other_ratios()))
+
+
+SINGLE = ("one BLAKE2b-512 digest", "one BLAKE2s-256 digest")
+LEAVES = ("one BLAKE2bp-512 digest", "one BLAKE2sp-256 digest")
+MANY = ("4 messages of BLAKE2b-512", "8 messages of BLAKE2b-512", "8 messages of BLAKE2s-256")
+LIBRARY, LANES, ROOT = "`vulfsjor`", "in parallel", "root"
+
+
+def of_builds(title, candidate, *columns):
+    """The cells of these columns of a candidate's build for x86-64-v4, and then of that for x86-64-v3."""
+    rows = measured(title)
+    return [rows[f"ours: {candidate}, x86-64-{build}"][i] for build in ("v4", "v3") for i in columns]
 
 
 def first_screen():
-    memory, b, s = map(measured, ("1 MiB in memory", "one BLAKE2b-512 digest", "one BLAKE2s-256 digest"))
-    best, short_b, short_s = (newest(rows, "`vulfsjor`") for rows in (memory, b, s))
-    avx2, old = (memory[f"ours: `vulfsjor`, x86-64-{level}"] for level in ("v3", "v2"))
-    for name, *ratios in (("1 MiB in memory, with AVX-512", best[1], best[3]),
-                          ("64 bytes in memory, with AVX-512", short_b[3], short_s[3]),
-                          ("1 MiB in memory, with AVX2", avx2[1], avx2[3]),
-                          ("1 MiB in memory, with neither (the others use AVX2)", old[1], old[3])):
-        yield f"| {name} | {{}} | {{}} |", *ratios
+    one = of_builds("1 MiB in memory", LIBRARY, 1) + of_builds("1 MiB in memory", LIBRARY, 3)
+    short = [ratio for title in SINGLE for ratio in of_builds(title, LIBRARY, 5)]
+    many = [ratio for title in MANY[1:] for ratio in of_builds(title, LANES, 3)]
+    for name, ratios in (("1 MiB in memory", one), ("64 bytes in memory", short), ("8 messages of 1,024 bytes", many)):
+        yield f"| {name} | {{}} | {{}} | {{}} | {{}} |", *ratios
+    old = measured("1 MiB in memory")[f"ours: {LIBRARY}, x86-64-v2"]
+    yield "| 1 MiB in memory, with neither | {} | | {} | |", old[1], old[3]
     yield "a JavaScript bundle of one {} kB", round(int(measured("bundle of")["`blake2b`"][0]) / 1000)
 
 
 def summary():
-    """The first table of docs/SPEED.md, and the sentences above it."""
-    memory, b, s, bp, sp, four_b, eight_b, eight_s, roots, xof = map(measured, (
-        "1 MiB in memory", "one BLAKE2b-512 digest", "one BLAKE2s-256 digest", "one BLAKE2bp-512 digest",
-        "one BLAKE2sp-256 digest", "4 messages of BLAKE2b-512", "8 messages of BLAKE2b-512",
-        "8 messages of BLAKE2s-256", "16 MiB", "32,768 bytes of output"))
-    form = " {} GB/s, {} cycles a byte | {} |"
+    """The first table of docs/SPEED.md, and the sentences that have the least and the most of its ratios."""
+    single, several = [], []
+    for ratios, name, unit, *places in (
+            (single, "1 MiB in memory", "GB/s", *(("1 MiB in memory", LIBRARY, i) for i in (0, 2))),
+            (single, "64 bytes in memory", "ns", *((title, LIBRARY, 4) for title in SINGLE)),
+            (single, "65 bytes in memory", "ns", *((title, LIBRARY, 6) for title in SINGLE)),
+            ([], "1 MiB of BLAKE2bp-512 and BLAKE2sp-256", "GB/s", *((title, LIBRARY, 8) for title in LEAVES)),
+            ([], "32 KiB of output of BLAKE2Xb and BLAKE2Xs", "GB/s",
+             *(("32,768 bytes of output", "blocks in parallel", i) for i in (0, 2))),
+            (several, "4 messages of 1,024 bytes in parallel", "ns", (MANY[0], LANES, 2)),
+            (several, "8 messages of 1,024 bytes in parallel", "ns", *((title, LANES, 2) for title in MANY[1:])),
+            (several, "the root of a tree over 16 MiB, leaves of 64 KiB", "GB/s", ("16 MiB", ROOT, 2))):
+        cells = [cell for title, candidate, i in places for cell in of_builds(title, candidate, i, i + 1)]
+        ratios += [round(100 * float(cell) - 100) for cell in cells[1::2]]
+        yield f"| {name} |" + f" {{}} {unit} | {{}} |" * (len(cells) // 2), *cells
+    yield "the library is {} to {} percent faster", min(single[::2]), max(single[::2])
+    yield "with AVX2 alone {} to {} percent", min(single[1::2]), max(single[1::2])
+    yield "trees it is {} to {} percent faster", min(several[::2]), max(several[::2])
+    yield "and {} to {} percent with AVX2", min(several[1::2]), max(several[1::2])
 
-    def cell(speed, ratio):
-        return f"{float(speed):.2f}", f"{2.5 / float(speed):.2f}", ratio
-    one, short_b, short_s, long_bp, long_sp = (newest(rows, "`vulfsjor`") for rows in (memory, b, s, bp, sp))
-    root, outputs, short = newest(roots, "root"), newest(xof, "blocks in parallel"), (short_b[3], short_s[3])
-    several = ((count, newest(rows, "in parallel")) for count, rows in ((4, four_b), (8, eight_b), (8, eight_s)))
-    many = [(count * 1024 / int(row[2]), row[3]) for count, row in several]
-    yield "| 1 MiB in memory |" + form + form, *cell(*one[:2]), *cell(*one[2:4])
-    yield "| a digest of 64 bytes | {} ns | {} | {} ns | {} |", short_b[2], short[0], short_s[2], short[1]
-    yield "| 1 MiB of BLAKE2bp-512 and BLAKE2sp-256 |" + form + form, *cell(*long_bp[-2:]), *cell(*long_sp[-2:])
-    yield "| 32 KiB of output of BLAKE2Xb and BLAKE2Xs |" + form + form, *cell(*outputs[:2]), *cell(*outputs[2:])
-    yield "| 4 messages of 1,024 bytes in parallel |" + form, *cell(*many[0])
-    yield "| 8 messages of 1,024 bytes in parallel |" + form + form, *cell(*many[1]), *cell(*many[2])
-    yield "leaves of 64 KiB |" + form, *cell(*root[2:4])
-    for what, ratios in (("the library is", (one[1], one[3], *short)), ("it is", (*(it[1] for it in many), root[3]))):
-        percents = [round(100 * float(ratio) - 100) for ratio in ratios]
-        yield what + " {} to {} percent faster", min(percents), max(percents)
+
+def behind():
+    """The sentence of docs/SPEED.md on the builds that are slower than the crates."""
+    def least_and_most(*places):
+        ratios = [ratio for title, candidate in places
+                  for ratio in measured(title)[f"ours: {candidate}, x86-64-v2"][1::2]]
+        return min(ratios), max(ratios)
+    yield "has {} of their speed for 1 MiB of BLAKE2b", measured("1 MiB in memory")[f"ours: {LIBRARY}, x86-64-v2"][1]
+    yield ("{} to {} for several messages and the leaves of trees",
+           *least_and_most(*((title, LANES) for title in MANY), ("16 MiB", ROOT)))
+    yield "{} to {} for BLAKE2bp and BLAKE2sp", *least_and_most(*((title, LIBRARY) for title in LEAVES))
+    yield "x86-64-v3 has {} for the root over leaves of 1 MiB", of_builds("16 MiB", ROOT, 5)[1]
 
 
 def other_ratios():
