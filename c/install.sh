@@ -100,7 +100,9 @@ files=("$libdir"/libvulfsjor{,-static,-libb2,-threads,.dll}.a "$libdir"/libvulfs
     "$beside"/{libb2.a,libb2.so.1,libb2.so.1.0.4,pkgconfig/libb2.pc} "$folder/bin/libvulfsjor-1.dll"
     "$include"/{vulfsjor.h,vulfsjor.hpp,vulfsjor_threads.h,vulfsjor-{libb2,reference}/blake2.h})
 if [ "$uninstall" = yes ]; then
-    for name in "${files[@]}"; do rm -f -- "$root$name"; done
+    gone=()
+    for name in "${files[@]}"; do gone+=("$root$name"); done
+    rm -f -- ${gone[@]+"${gone[@]}"}
     rm -f -- "$root$libdir"/libvulfsjor.so.0.* # this version, and older ones
     for name in "$package" "$beside/pkgconfig" "$beside" "$include"/vulfsjor-{libb2,reference}; do
         rmdir -- "$root$name" 2>/dev/null || : # something else is in it

@@ -73,7 +73,7 @@ check "what MANIFEST has" all_are_named
 check "a copy of the repository" make_repository "$repository" '^(crates/[a-z0-9_]*/(specs|proofs|must-fail)|bench)/'
 while read -r builder kinds tools; do
     kinds=$kinds[@] kinds=("${!kinds}")
-    [ -n "${VULFSJOR_TEST_HUGE-}" ] || kinds=("${kinds[@]:0:2}")
+    [ -n "${VULFSJOR_TEST_HUGE-}" ] || kinds=("${kinds[@]:0:1}")
     needs $tools
     [ "$builder" != pip ] || python3 -m pip --version >/dev/null 2>&1 || missing="no pip"
     [ "$builder" != pip ] || python3 -c 'import os, sysconfig

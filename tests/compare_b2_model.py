@@ -20,6 +20,7 @@ import random
 import re
 import shlex
 import subprocess
+import sys
 
 import tap
 from b2_model import B, S, Input, Place, entries, parameter_words, read, run
@@ -27,6 +28,9 @@ from b2sum_support import programs
 from common import FAMILIES, KINDS, TOP, Parser, at_least
 from common import read as read_file
 from oracle import tree_root
+
+sys.path.append(os.path.join(TOP, "tests", "conformance"))
+from saved import begun  # noqa: E402
 
 HUGE = bool(os.environ.get("VULFSJOR_TEST_HUGE"))
 NOTES = re.compile(rb"(usage: b2 .*|b2: a command is missing|b2: the first argument is not a command)\n"
@@ -242,6 +246,9 @@ def worked_examples():
     yield "witness", starts, ["s 6a09e667f2bdc908 "] * 2, "6a09e667f2bdc908"
     yield ("script", printed("script s256", b"u 0 6162\nc 0\nu 0 63\nf 0"), (0, s),
            "`u 0 6162`, `c 0`, `u 0 63`, `f 0`")
+    saved = begun(S, 32, Input(b""), 0).absorbed(b"abc").encoded()
+    yield "saved state", saved[72:86].hex(), "0000000000000000200300616263", saved[72:86].hex()
+    yield "its digest", len(saved), 147, hashlib.blake2s(saved).hexdigest()
     words, listed = parameter_words(B, 64, Input(b"")), entries(B, Input(b"*" * 129))
     yield "the reader's words", words, [0x01010040] + [0] * 7, "0000000001010040 and seven zeros"
     yield "the reader takes", read(B, words, listed), (64, Input(b"*" * 129, None, bytes(16), bytes(16))), ""

@@ -88,13 +88,15 @@ changes() {
         changed "$found" "$file" "$edit" || { echo "$file: $edit" && return 1; }
     done
 }
-check "a change of a file of dist/ is found" changes < <(printf '1 dist/%s $a more\n' $files)
-check "so is one of what is around it, until it is noted" changes < <(printf '1- %s $a /* more */\n' ${around//..\//})
+check "a change of a file of dist/ is found" changes < <(printf '1 dist/%s $a more\n' $(some $files))
+check "so is one of what is around it, until it is noted" changes < <(
+    printf '1- %s $a /* more */\n' $(some ${around//..\//}))
 check "but sums notes no file that is made" changed 1 dist/x86_64/b2.s '$a more' sums
 check "a change of a source is found, and no other" changes < <(
-    printf '1 crates/%s/src/lib.rt $a fn more() {} // more\n' b2 b2sum b2_commands blake2_ffi blake2_state
-    printf '1 %s $a # more\n' tools/{plain_names,clear_registers,object_formats,wasm_{format,values,body,to_c}}.py \
-        tools/{wasm_to_c.c,*.csv,*.sed,shared_functions.txt}
+    printf '1 crates/%s/src/lib.rt $a fn more() {} // more\n' $(some b2 b2sum b2_commands blake2_ffi blake2_state)
+    printf '1 %s $a # more\n' $(some \
+        tools/{plain_names,clear_registers,object_formats,wasm_{format,values,body,to_c}}.py \
+        tools/{wasm_to_c.c,*.csv,*.sed,shared_functions.txt})
     cat <<'END'
 0 crates/b2/src/lib.rt 1i\ \ // more
 0 crates/beside/src/lib.rt $a fn more() {}

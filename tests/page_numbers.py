@@ -44,6 +44,18 @@ def family_rows():
         at = ends
 
 
+def saved_rows():
+    """Those that have the fields of a saved state: eight words have as many bytes as the longest digest."""
+    words, block = (family_numbers("blake2_simd", "Family", name) for name in ("output_bytes", "block_bytes"))
+    at = [0, 0]
+    for name, *lengths in (("name", 7, 7), ("version", 1, 1), ("chaining words", *words), ("start", *words),
+                           ("counter", 8, 8), ("digest bytes", 1, 1), ("pending bytes", 1, 1),
+                           ("last-node flag", 1, 1), ("pending", *block)):
+        ends = [begin + length for begin, length in zip(at, lengths)]
+        yield f"\n{name} {{}} {{}} ", *(f"{begin}..{end}" for begin, end in zip(at, ends))
+        at = ends
+
+
 def program_rows():
     """Those that have the KINDs and the errors."""
     for name, of_b, of_s in (("kind_of", "all except `xof`", "all except `tree`, `root` and `xof`"),
@@ -82,9 +94,9 @@ DEFINED = (
 
 
 def of_specification():
-    found = [*family_rows(), *program_rows()]
-    if len(found) != 29:
-        raise Unreadable(f"tests/page_numbers.py reads {len(found)} rows in the definitions where it wants 29")
+    found = [*family_rows(), *saved_rows(), *program_rows()]
+    if len(found) != 38:
+        raise Unreadable(f"tests/page_numbers.py reads {len(found)} rows in the definitions where it wants 38")
     for place, pattern, shown, form in DEFINED:
         match = re.search(pattern, definition(*place.split("/")))
         if not match:

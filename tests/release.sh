@@ -74,14 +74,19 @@ tools_and_variables() {
         diff - /dev/null
 }
 
-# Another version of everything but the code, with no rt: each package is made, and says its version.
+# Another version of everything but the code, with no rt, in a copy of the repository.
 other_version() {
-    local repository=$work/other next=0.1.99
+    local repository=$work/other
     mkdir "$repository" && cp -R "$work/clone/." "$repository/" && cd "$repository" && git checkout -q -f HEAD ||
         return 1
     printf '#!/bin/sh\necho "rt was called" >&2; exit 1\n' >"$work/rt" && chmod +x "$work/rt"
     PATH=$work:$PATH
-    tools/version.py $next && tools/version.py --check && tools/dist.sh current && tools/exports.py --check &&
+    tools/version.py $next && tools/version.py --check && tools/dist.sh current && tools/exports.py --check
+}
+# Each package of it is made, and says its version.
+packages_of_it() {
+    PATH=$work:$PATH
+    cd "$work/other" &&
         c/install.sh "${one[@]}" "$work/installed" &&
         printf '%s\n' '#include <vulfsjor.h>' "int main(void) { return vulfsjor_version() != 0x000163; }" \
             >"$work/a.c" &&
@@ -230,9 +235,11 @@ same_bytes() {
 }
 check "what tools/release.sh refuses" refused
 check "the tools of a release, and the variables that reach it" tools_and_variables
+next=0.1.99
 check "another version needs no toolchain" other_version
+check_huge "nor do its packages" packages_of_it
 check "the places of the version" places_of_the_version
-check "functions of a later version" interface
+check_huge "functions of a later version" interface
 check "the interfaces of four languages" interfaces_agree
 check "what a public forge runs" forge
 needs dpkg-buildpackage

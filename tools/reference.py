@@ -81,7 +81,9 @@ class Page:
                     raise Unreadable(f"{module.file}:{item.number}: tools/reference.py finds no type in "
                                      f"{item.head[0]!r}")
                 trait, name = match.groups()
-                path = self.paths.get((module.path, name)) or types.get(name)
+                used = re.search(rf"^use crate::([\w:]+)::{name};", read(module.file), re.MULTILINE)
+                where = tuple(used[1].split("::")) if used else module.path
+                path = self.paths.get((where, name)) or types.get(name)
                 if trait and path:
                     impls.setdefault(f"Traits of `{path}`", []).append(item)
                 for member in item.members() if path else ():

@@ -35,12 +35,12 @@ absent_tools() {
 # Prints the first comment of the script.
 show_help() { sed -n '2,/^set /{/^set /d;s/^#\{0,1\} \{0,1\}//;p;}' "$0"; }
 
-# Writes a file anew from standard input: FILE [RIGHTS]
+# Writes a file anew from standard input, under the umask 022: FILE [RIGHTS]. What is so already takes no process.
 write() {
-    mkdir -p -- "${1%/*}"
-    rm -f -- "$1"
+    [ -d "${1%/*}" ] || mkdir -p -- "${1%/*}"
+    { [ ! -e "$1" ] && [ ! -L "$1" ]; } || rm -f -- "$1"
     cat >"$1"
-    chmod "${2:-644}" "$1"
+    [ $# -eq 1 ] || chmod "$2" "$1"
 }
 
 # The version, and the number of the code, which the names in dist/ have.

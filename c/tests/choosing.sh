@@ -316,7 +316,7 @@ test_choosing() {
         return
     fi
     check "made-up processors" made_up_processors 0
-    check "made-up processors, optimized" made_up_processors 2
+    check_huge "made-up processors, optimized" made_up_processors 2
     check "made-up processors, by the functions for Windows and macOS" thunks_choose
     needs clang
     check "choose.c by clang" chooses_by_clang

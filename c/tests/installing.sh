@@ -394,21 +394,24 @@ variables_of_make() {
         make_here uninstall DESTDIR="$root" prefix=/p exec_prefix=/e && [ -z "$(files_below "$root")" ]
 }
 
-# Each of these is built again if what it is made of has changed, or what the compiler gets.
+# Each of these is built again if what the compiler gets has changed, or a file that it is made of, as make itself lists
+# them.
 built_again() {
-    local line
-    make_here -q all || return 1
-    for line in b2 b2sum lib/kind; do ! make_here -q CFLAGS=-O3 "$work/made/$line" || return 1; done
+    local line target files
+    declare -A made_of=()
+    make_here -q all && [ "$(make_here -n CFLAGS=-O3 | grep -c -e ' --build ')" -eq 3 ] || return 1
+    while read -r target files; do made_of[$target]=" $files "; done < <(make_here -pq all |
+        sed -nE "s,^$work/made/(b2|b2sum|lib/kind): ,\\1 ,p")
     for line in tools/launcher.sh:b2 c/{choose.c,system.h,vulfsjor.map,include/vulfsjor.h,make_libraries.sh}:lib/kind \
         c/{libb2/libb2.c,include/{libb2,reference}/blake2.h}:lib/kind \
         dist/{MANIFEST,macros.h,x86_64/{elf.inc,b2sum.s}}:b2sum; do
-        ! make_here -q -W "${line%:*}" "$work/made/${line#*:}" || { echo "$line" && return 1; }
+        [[ ${made_of[${line#*:}]} == *" ${line%:*} "* ]] || { echo "$line" && return 1; }
     done
 }
 
 # Next to files of others, in the folders of the system: nothing is installed, unless by another name; and then the
 # others stay, also when ours go.
-made_next_to_others() {
+refuses_others() {
     local root=$work/others place=$work/others/usr name
     mkdir -p "$place/bin" "$place/share/man/man1" && echo coreutils >"$place/bin/b2sum" &&
         echo Boost >"$place/bin/b2" && echo coreutils >"$place/share/man/man1/b2sum.1" || return 1
@@ -416,6 +419,9 @@ made_next_to_others() {
         refuses 2 'is not ours' make_here install prefix=/usr DESTDIR="$root" $name &&
             [ "$(files_below "$root" | wc -l)" -eq 3 ] || return 1
     done
+}
+made_next_to_others() {
+    local root=$work/others place=$work/others/usr
     make_here install prefix=/usr DESTDIR="$root" PROGRAM_PREFIX=vulfsjor- &&
         files_below "$place" | diff <({ printf '%s\n' bin/b2 bin/b2sum share/man/man1/b2sum.1 &&
             files_of_all vulfsjor-; } | LC_ALL=C sort) - &&
@@ -666,7 +672,7 @@ test_installing() {
     check "what install.sh refuses" refusals
     check "machines without assembly, and --portable" machines_without_assembly
     check "compilers for 32 bits, without a name and with a sanitizer" odd_compilers
-    check "how portable C is optimized" optimized
+    check_huge "how portable C is optimized" optimized
     check "a project with the files by hand" vendored_by_hand
     check "compilers of several words" compilers_of_words
     needs cmake
@@ -675,12 +681,13 @@ test_installing() {
     check "the size of pointers in the package for CMake" size_of_pointers
     check "find_package of an installation" installed_for_cmake
     check "find_package after cmake --install" installed_by_cmake
-    check "find_package after cmake --install of portable C" portable_by_cmake
+    check_huge "find_package after cmake --install of portable C" portable_by_cmake
     needs make
     check "the variables of make" variables_of_make
     check "what make builds again" built_again
     check "make install and make uninstall" made_by_make
-    check "make install next to files of others" made_next_to_others
+    check "make install replaces no file of others" refuses_others &&
+        check_huge "make install next to files of others" made_next_to_others
     check "the other names of the Makefile" run_by_make
     needs
     is_x86 || missing="the processor is not x86-64"

@@ -7,11 +7,10 @@
 source "$(dirname "$(readlink -f "$0")")/common.sh"
 . "$tests/choosing.sh"
 
-# The count of a task of the program, or nothing: TASK SIZE
+# The count of a task of the program, of what its function and all that it calls need, or nothing: TASK SIZE
 count_of() {
-    local without with
-    without=$(instruction_count "$work/calls" "$1" 0 "$2") && with=$(instruction_count "$work/calls" "$1" 1 "$2") &&
-        [ $((with - without)) -gt 1000 ] && echo $((with - without))
+    local count
+    count=$(instruction_count "--toggle-collect=$1" "$work/calls" "$1" 1 "$2") && [ "$count" -gt 1000 ] && echo "$count"
 }
 
 # Whether a task takes at most this many hundredths of an instruction for each of its bytes: TASK LENGTH MOST

@@ -86,6 +86,7 @@ CALL(call_one_call, ONE_CALL(out, SIZE, message, length, key, MAX))
 #if !defined(LIBB2_NAMES) && !defined(TEST_X) && !defined(TEST_P)
 #define TEST_NODES
 static vulfsjor_tree tree = {3, 4096, 2, 2, 0, MAX}, no_tree = {3, 4096, 2, 0, 0, MAX};
+static uint8_t saved[CONSTANT(SAVEDBYTES)]; /* a state without a key */
 
 #define MANY(count) BLAKE(many)(out, MAX, messages, count, key, MAX, 0, 0, 0, 0)
 CALL(call_many_one, MANY(1))
@@ -339,6 +340,12 @@ static int rows(int line) {
     ROW("many, as many as are hashed at once", nothing, 0, call_many_lanes());
     ROW("many, one more, of another length", nothing, 0, call_many_more());
     ROW("set_last_node", start_and_take, 0, BLAKE(set_last_node)(&state, 1));
+    ROW("save, refused for the key", start_keyed, 0, !BLAKE(save)(&state, saved));
+    ROW("save, refused for the key, after an update", start_and_take, 0, !BLAKE(save)(&state, saved));
+    /* Not by the header, which sets the state to zero before. */
+    ROW("load over a keyed state, refused", start_and_take, 1, !LIBRARY(load)(&state, saved, sizeof saved - 1));
+    ROW("load over a keyed state", start_and_take, 0,
+        LIBRARY(load)(&state, saved, sizeof saved) || !is_zero(state.key, sizeof state.key));
 #else
     ROW("which argument of a keyed call is refused, its last", nothing, 0,
         REFUSED(MAX, key, MAX, salt, MAX / 4, salt, MAX) != VULFSJOR_ARGUMENT_PERSONAL);
@@ -353,6 +360,9 @@ int main(void) {
     for (size_t i = 0; i < MAX; i++) key[i] = (uint8_t)(0xA6 ^ (i * 37) ^ (i * i));
     for (size_t i = 0; i < LONGEST; i++) message[i] = (uint8_t)(i * 11 + 3 + (i >> 4) * 5);
     take_length(0);
+#ifdef TEST_NODES
+    CHECK(!BLAKE(init)(&state, MAX) && !BLAKE(update)(&state, message, 9) && !BLAKE(save)(&state, saved));
+#endif
     finds_copies();
     finds_registers();
     rows(0);

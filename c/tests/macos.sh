@@ -162,7 +162,7 @@ for name, function, size in ("B", hashlib.blake2b, 64), ("S", hashlib.blake2s, 3
 test_macos() {
     local processor check
     needs python3
-    check "what a Mac runs, on this system" "$tests/on_a_mac.sh"
+    check "what a Mac runs, on this system" "$tests/on_a_mac.sh" $quick
     needs
     if ! has clang || [ -z "$linker" ] || ! has llvm-nm || ! has llvm-objdump; then
         skip "the library for macOS" "no clang, ld64.lld, llvm-nm or llvm-objdump"

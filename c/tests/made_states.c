@@ -9,6 +9,18 @@
 
 static uint8_t bytes[2048];
 
+#ifdef TEST_NODES
+enum { SAVED = CONSTANT(SAVEDBYTES) };
+
+/* A state that is not saved, and of which nothing is written. */
+static void check_not_saved(const state_t *S) {
+    uint8_t out[SAVED], blank[SAVED];
+    memset(out, 0xaa, SAVED);
+    memset(blank, 0xaa, SAVED);
+    CHECK(BLAKE(save)(S, out) == -1 && LIBRARY(save)(S, out, SAVED) == -1 && SAME(out, blank));
+}
+#endif
+
 /* The calls refuse a state, and it stays as it is. */
 static void check_refused_and_unchanged(state_t state) {
     uint8_t out[MAX], blank[MAX];
@@ -31,6 +43,7 @@ static void check_refused_and_unchanged(state_t state) {
 #endif
 #ifdef TEST_NODES
     CHECK(BLAKE(set_last_node)(&state, 1) == -1 && BLAKE(set_last_node)(&state, 0) == -1);
+    check_not_saved(&state);
 #endif
     CHECK(SAME(state, before) && SAME(out, blank));
     BLAKE(wipe)(&state);
@@ -259,6 +272,79 @@ static void vary_state(state_t *state, int i) {
 }
 #endif
 
+#ifdef TEST_NODES
+/* ---- states that are saved */
+
+/* A state that no call makes is saved as the one that calls do the same with: what follows the pending bytes, the key
+ * and the number of a flag are no part of it. */
+static void saved_without_the_rest(void) {
+    for (size_t pending = 0; pending <= BLOCK; pending++) {
+        state_t made, state, other;
+        uint8_t one[SAVED], again[SAVED];
+        CHECK(BLAKE(init)(&made, 1 + pending % MAX) == 0 && BLAKE(update)(&made, bytes, BLOCK + pending) == 0);
+        if (!pending) CHECK(BLAKE(reset)(&made) == 0);
+        CHECK(BLAKE(save)(&made, again) == 0 && BLAKE(load)(&other, again, SAVED) == 0 && SAME(other, made));
+        CHECK(BLAKE(set_last_node)(&made, 1) == 0 && BLAKE(save)(&made, one) == 0);
+        state = made;
+        SET(state.last_node, (uint64_t)1 << pending % (8 * sizeof state.last_node));
+        memset(state.pending + pending, 0xa5, BLOCK - pending);
+        memset(state.key, 0x5a, sizeof state.key);
+        CHECK(BLAKE(save)(&state, again) == 0 && SAME(one, again));
+        CHECK(BLAKE(load)(&state, one, SAVED) == 0 && SAME(state, made));
+        SET(state.start_length, 1 + pending % BLOCK);
+        check_not_saved(&state);
+    }
+}
+
+/* Each value of each byte that is checked. A state that is loaded is saved as the same bytes. */
+static void load_each_value(void) {
+    for (int pending = 0; pending <= BLOCK; pending += BLOCK / 4) {
+        state_t state;
+        uint8_t saved[SAVED], again[SAVED];
+        CHECK(BLAKE(init)(&state, MAX) == 0 && BLAKE(update)(&state, bytes + 1, (size_t)pending) == 0);
+        CHECK(BLAKE(save)(&state, saved) == 0);
+        for (int i = 0; i < 256 * SAVED; i++) {
+            enum { SIZE_AT = 16 + 2 * MAX };
+            const int at = i / 256, value = i % 256, is_end = at >= SIZE_AT + 3 + pending;
+            const uint8_t kept = saved[at];
+            const int is_same = at < 8 || at == 9 + MAX || is_end;
+            const int is_right = is_same           ? value == kept
+                                 : at == SIZE_AT   ? value >= 1 && value <= MAX
+                                 : at == SIZE_AT + 1 ? value >= pending && value <= BLOCK
+                                                     : at != SIZE_AT + 2 || value < 2;
+            if (!is_right && at == SIZE_AT + 1 && value < pending) continue; /* below */
+            saved[at] = (uint8_t)value;
+            CHECK(BLAKE(load)(memset(&state, 0x5a, sizeof state), saved, SAVED) == -!is_right);
+            CHECK(is_right ? BLAKE(save)(&state, again) == 0 && SAME(saved, again) : is_ended(&state));
+            saved[at] = kept;
+        }
+        /* Fewer pending bytes, of which the next is not 0, as bytes + 1 has none before its end. */
+        for (int fewer = 0; fewer < pending; fewer++) {
+            saved[17 + 2 * MAX] = (uint8_t)fewer;
+            CHECK(BLAKE(load)(&state, saved, SAVED) == -1 && is_ended(&state));
+        }
+    }
+}
+
+static void check_saved(void) {
+    state_t state;
+    uint8_t saved[SAVED + 1], out[SAVED];
+    CHECK(SAVED == (MAX == 64 ? 275 : 147) && BLAKE(init)(&state, MAX) == 0 && BLAKE(save)(&state, saved) == 0);
+    saved[SAVED] = 0;
+    CHECK(!memcmp(saved, "BLAKE2" FAMILY "\1", 8));
+    for (size_t length = 0; length <= SAVED + 1; length++) {
+        CHECK(LIBRARY(load)(&state, saved, length) == -(length != SAVED) && !is_ended(&state) == (length == SAVED));
+        CHECK(BLAKE(load)(&state, saved, length) == -(length != SAVED) && !is_ended(&state) == (length == SAVED));
+        CHECK(BLAKE(load)(memset(&state, 0x5a, sizeof state), NULL, length) == -1 && is_ended(&state));
+        CHECK(BLAKE(load)(NULL, saved, length) == -1);
+    }
+    CHECK_64(LIBRARY(load)(&state, saved, SAVED + TWO_TO(32)) == -1);
+    CHECK(BLAKE(save)(NULL, out) == -1 && BLAKE(init)(&state, MAX) == 0 && BLAKE(save)(&state, NULL) == -1);
+    saved_without_the_rest();
+    load_each_value();
+}
+#endif
+
 /* Random bytes as a state, and in the fields of some a number that a state may have. */
 static void random_states(void) {
     state_t state;
@@ -270,6 +356,10 @@ static void random_states(void) {
         int updated = BLAKE(update)(&state, bytes, (size_t)i % (4 * BLOCK)), other = 0;
         size_t room = room_in(&state) < sizeof out ? (size_t)room_in(&state) : random_below(1 << 24) % sizeof out;
 #ifdef TEST_NODES
+        uint8_t saved[SAVED];
+        for (size_t j = 0; j < SAVED; j++) saved[j] = (uint8_t)random_below(1 << 24);
+        if (BLAKE(save)(&state, saved) == 0) CHECK(BLAKE(load)(&state, saved, SAVED) == 0);
+        else CHECK(BLAKE(load)(&(state_t){.output_size = 1}, saved, SAVED) == -1);
         other = BLAKE(set_last_node)(&state, i % 7);
 #endif
 #ifndef TEST_T
@@ -315,6 +405,9 @@ int main(void) {
     unready_states(made);
     long_counts();
     random_states();
+#ifdef TEST_NODES
+    check_saved();
+#endif
 #ifdef TEST_T
     if (sizeof(size_t) == 8) long_messages();
 #endif

@@ -2,10 +2,11 @@
 # Tests the library and the programs on macOS, by the C compiler, python3 and a plain sh: two test
 # programs of the library over the test vectors and next to hashlib, one of its threads, a digest of b2,
 # and digests, roots, a check and messages of b2sum. Prints the system, a line for each test, and what a failed one
-# said. The status is 0 if none failed. It runs on Linux too. docs/PORTABLE.md says what to do with the lines.
+# said. The status is 0 if none failed. It runs on Linux too: ./test names the degree of optimization, -O0 in place of
+# -O2, and the folder of the cases, VULFSJOR_CONFORMANCE. docs/PORTABLE.md says what to do with the lines.
 cd "$(dirname "$0")/../.." || exit 1
 work=$(mktemp -d) || exit 1
-cc=${CC:-cc}
+cc=${CC:-cc} level=${1:--O2}
 trap 'rm -rf "$work"' EXIT
 failed=0
 
@@ -19,10 +20,10 @@ try() {
         echo "not ok - $name" && tail -n 20 "$work/log"
     fi
 }
-compile() { $cc -std=c99 -O2 $define -Ic/include "c/tests/$1.c" c/choose.c "$work/library.o" -o "$work/$1"; }
+compile() { $cc -std=c99 "$level" $define -Ic/include "c/tests/$1.c" c/choose.c "$work/library.o" -o "$work/$1"; }
 threads() {
     processors=$(nproc 2>/dev/null || getconf _NPROCESSORS_ONLN)
-    $cc -std=gnu99 -O2 -Ic/include c/tests/system.c c/threads.c c/choose.c "$work/library.o" -pthread \
+    $cc -std=gnu99 "$level" -Ic/include c/tests/system.c c/threads.c c/choose.c "$work/library.o" -pthread \
         -o "$work/system" && (cd "$work" && ./system "$processors")
 }
 digest() {
@@ -50,12 +51,14 @@ uname -srm
 [ "$(uname -s)" != Darwin ] || sw_vers
 $cc --version
 try "the library is assembled" $cc -c dist/vulfsjor.S -o "$work/library.o"
-try "the conformance cases are written" python3 tests/conformance/write.py "$work" blake2b blake2s
+cases=${VULFSJOR_CONFORMANCE:-$work}
+[ "$cases" != "$work" ] ||
+    try "the conformance cases are written" python3 tests/conformance/write.py "$work" blake2b blake2s
 for family in b s; do
     define=
     [ $family = b ] || define=-DTEST_S
     try "conformance.c is compiled, blake2$family" compile conformance
-    try "conformance.c, blake2$family" "$work/conformance" "$work/blake2$family.txt"
+    try "conformance.c, blake2$family" "$work/conformance" "$cases/blake2$family.txt"
     try "edge_cases.c is compiled, blake2$family" compile edge_cases
     try "edge_cases.c, blake2$family" "$work/edge_cases"
 done

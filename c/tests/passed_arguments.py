@@ -52,6 +52,7 @@ def prototypes(include, header="vulfsjor.h"):
     """The type and the parameters, each a type and a name, of each function of a header, by its name."""
     with open(f"{include}/{header}", encoding="utf-8") as file:
         text = re.sub(r"/\*.*?\*/|^#.*?$", "", file.read(), flags=re.S | re.M)
+    text = re.sub(r"(\w+)\[VULFSJOR_\w+\]", r"*\1", text)  # an array, which is passed as a pointer
     found = {}
     for kind, name, words in re.findall(
             r"\b(int|void|\w+_t|vulfsjor_argument)\s+(vulfsjor_\w+)\(([^(){};]*)\)\s*[;{]", text):
@@ -76,6 +77,8 @@ class Calls:
                 continue
             for is_least in (False, True) if name not in self.library else (False,):
                 self.passes(name, parameters, is_least)
+            if name.endswith("_load") and name not in self.library:  # whose bytes no state is saved as
+                self.call(f"{name}((void *)state, NULL, NUMBER(113))", "int", [], returned=2**64 - 1)
             if ("uint64_t ", "leaf_length") in parameters:
                 self.passes(name, parameters, False, too_long=True)
         for family, most in ("b", 64), ("s", 32), ("bp", 64), ("sp", 32):
@@ -124,6 +127,8 @@ class Calls:
             self.code.append("memset(state, 16, sizeof state);")  # it has a key and a digest that is no short tag
         if name.endswith("_init_param") and name != of:
             values["block_length"] = "20" if "blake2s" in name else "40"
+        if name.endswith("_save") and name != of:  # the length of its array
+            values["out_length"] = f"{147 if 'blake2s' in name else 275:x}"
         self.call(f"{name}({', '.join(arguments)})", self.all[name][0],
                   [[of] + [values.get(word, ANY if kind.endswith("*") else "0") for kind, word in self.library[of][1]]])
 

@@ -4,9 +4,9 @@ of the calls that are marked as wrong:
 
     c/tests/warned_calls.py FOLDER/include >warned_calls.c
 
-Each pointer that has a length points in turn to one byte less. The output of _many is left out, whose length is a
-product, which no attribute of gcc can say. A status is ignored, which has no warning for an init, which makes later
-calls fail too, reset and set_last_node."""
+Each pointer that has a length points in turn to one byte less, and so does an array. The output of _many is left out,
+whose length is a product, which no attribute of gcc can say. A status is ignored, which has no warning for an init,
+which makes later calls fail too, load, reset and set_last_node."""
 
 import re
 import sys
@@ -16,6 +16,7 @@ from passed_arguments import prototypes
 STATES = "blake2b", "blake2s", "blake2bp", "blake2sp", "blake2xb", "blake2xs", "tree"
 OTHERS = "text|bytes|is_half_key|are_refused|ffi_.*"
 LENGTHS = {"a": "length", "b": "length", "bytes": "length", "messages": "count"}
+ARRAY = "unsigned char *"  # that of save
 
 
 def functions(include):
@@ -27,8 +28,10 @@ def functions(include):
 
 
 def has_length(name, parameters, i):
-    """Whether parameter i is a pointer to bytes or messages whose length is a parameter too."""
+    """Whether parameter i is an array, or a pointer to bytes or messages whose length is a parameter too."""
     kind, word = parameters[i]
+    if kind == ARRAY:
+        return True
     is_product = name.endswith("_many") and word == "out"
     return kind.endswith("*") and not is_product and \
         LENGTHS.get(word, word + "len") in (other for _, other in parameters)
@@ -48,11 +51,14 @@ def calls(include):
     and whether it is right."""
     for name, kind, parameters in functions(include):
         if kind == "int":
-            yield bool(re.search("_(init|reset|set_last_node)", name)), f"{name}({', '.join('0' * len(parameters))});"
+            yield (bool(re.search("_(init|load|reset|set_last_node)", name)),
+                   f"{name}({', '.join('0' * len(parameters))});")
         lengths = [i for i in range(len(parameters)) if has_length(name, parameters, i)]
         for short in [None] + lengths if lengths else []:
             given = [argument(*parameter) for parameter in parameters]
-            if short is not None:
+            if parameters[-1][0] == ARRAY:
+                given[-1] = f"{'saved' if short is None else 'cut'}_{name.split('_')[1]}"
+            elif short is not None:
                 given[short] = "fewer" if given[short] == "messages" else "less"
             yield short is None, f"{'status = ' * (kind == 'int')}{name}({', '.join(given)});"
 
@@ -60,6 +66,8 @@ def calls(include):
 def main():
     every = list(calls(sys.argv[1]))
     print("#include <vulfsjor_threads.h>", *(f"static vulfsjor_{name}_state {name}_run;" for name in STATES),
+          *(f"static unsigned char saved_{name}[VULFSJOR_{name.upper()}_SAVEDBYTES], "
+            f"cut_{name}[VULFSJOR_{name.upper()}_SAVEDBYTES - 1];" for name in STATES[:2]),
           "static char whole[8], less[7];", "static vulfsjor_message messages[8], fewer[7];",
           "static vulfsjor_tree node;", "static volatile int status;", "void calls(void);", "void calls(void) {",
           *(f"    {call}{'' if is_right else ' // NO: .'}" for is_right, call in every), "}", sep="\n")

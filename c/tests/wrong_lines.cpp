@@ -111,8 +111,18 @@ bool lines(blake2b &h, const config &given, config &open, char parameter[32], co
     h.count(); // NO: (nodiscard|unused-result)
     h.digest_length(); // NO: (nodiscard|unused-result)
     blake2b::create(p); // NO: (nodiscard|unused-result)
+    h.save(); // NO: (nodiscard|unused-result)
+    h.save_to(raw, sizeof raw); // NO: (nodiscard|unused-result)
+    blake2b::load(raw); // NO: (nodiscard|unused-result)
+    blake2b::load_or_nothing(raw); // NO: (nodiscard|unused-result)
     blake2b::hash("x"); // NO: (nodiscard|unused-result)
     blake2bp().verify(raw); // NO: (nodiscard|unused-result)
+
+    /* ---- saved states */
+    all = h.save_to(&read, 275) && all; // NO: not the object
+    h = blake2b::load(buffer); // NO: deleted
+    h = blake2b::load(string); // NO: deleted
+    h = blake2b::load(&body, body.size()); // NO: not the object
 
     /* ---- conversions that nobody means */
     h = p; // NO: .
@@ -129,6 +139,10 @@ bool lines(blake2b &h, const config &given, config &open, char parameter[32], co
     all = h.update(raw) && h.update(given.secret) && h.update(load().secret) && h.update(load_key()) && all;
     all = h.update(std::string_view(buffer, length)) && h.update(std::array<char, 4>{}) && all;
     all = h.verify(h.digest()) && h.digest_to(raw, sizeof raw) && all;
+    all = h.save_to(raw, sizeof raw) && blake2b::load_or_nothing(h.save()) && blake2b::load_or_nothing(raw) && all;
+    h = blake2b::load(h.save());
+    h = blake2b::load(buffer, length);
+    h = blake2b::load(body);
     p.key = load_key();
     p.key = raw;
     p.key = load().secret;
