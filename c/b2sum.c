@@ -199,23 +199,30 @@ static void begin_progress(int file, const char *name) {
     shown.start = milliseconds();
 }
 
+/* Writes the line of the file, with the MiB per second since its start, as at this later time.
+ * Returns its length. */
+static size_t write_progress(char *line, size_t room, uint64_t time) {
+    const unsigned long long rate = (shown.count >> 10) * 1000 / (time - shown.start) >> 10;
+    size_t length = (size_t)snprintf(line, room, "\r%s: %llu MiB", shown.name,
+                                     (unsigned long long)(shown.count >> 20));
+
+    if (shown.length)
+        length += (size_t)snprintf(line + length, room - length, " of %llu",
+                                   (unsigned long long)(shown.length >> 20));
+    return length + (size_t)snprintf(line + length, room - length, ", %llu MiB/s\033[K", rate);
+}
+
 /* Prints the line of the file after half a second, and then ten times a second; or removes it. */
 static void draw_progress(bool is_read) {
-    char line[NAME_BYTES + 64];
-    uint64_t time = milliseconds();
-    int length;
+    char line[NAME_BYTES + 80] = "\r\033[K";
+    size_t length = strlen(line);
+    const uint64_t time = milliseconds();
 
     if (is_read && (time - shown.start < 500 || time - shown.printed < 100)) return;
     if (!is_read && !shown.printed) return;
-    length = snprintf(line, sizeof line, "\r%s: %llu MiB", shown.name,
-                      (unsigned long long)(shown.count >> 20));
-    if (shown.length && is_read)
-        length += snprintf(line + length, sizeof line - (size_t)length, " of %llu",
-                           (unsigned long long)(shown.length >> 20));
-    if (!is_read) length = snprintf(line, sizeof line, "\r");
-    length += snprintf(line + length, sizeof line - (size_t)length, "\033[K");
+    if (is_read) length = write_progress(line, sizeof line, time);
     shown.printed = is_read ? time : 0;
-    if (write(STDERR_FILENO, line, (size_t)length) < 0) shown.printed = 0;
+    if (write(STDERR_FILENO, line, length) < 0) shown.printed = 0;
 }
 
 /* Counts what a read of this file has returned. */

@@ -261,7 +261,7 @@ def test_progress(runs):
     os.mkfifo(runs.path("slow"))
     runs.write("--prog", b"k")
     os.chmod(runs.path("--prog"), 0o600)
-    shown = b"\rslow: 0 MiB\x1b[K\r\x1b[K"
+    shown = b"\rslow: 0 MiB, 0 MiB/s\x1b[K\r\x1b[K"
     for words, wanted, parameters in ((["--progress"], shown, {}), (["--prog", "--tag"], shown, {"tag": True}),
                                       (["--key-file", "--prog"], b"", {"key": b"k"}), ([], b"", {})):
         terminal, end = os.openpty()

@@ -77,12 +77,12 @@ static void begin_at(uint64_t at, int file, const char *name) {
 }
 
 static void check_progress(void) {
-    const char *const end = "\rnnnnnnnnnnnnnnnnnnnnnnnnnnnnnnnnnnnnnend: 0 MiB\033[K";
+    const char *const end = "\rnnnnnnnnnnnnnnnnnnnnnnnnnnnnnnnnnnnnnend: 0 MiB, 0 MiB/s\033[K";
     char name[50] = "";
 
     begin_at(1000, 99, "some\x1f\x7f\xff ~");
-    CHECK(shows(99, 1499, 1 << 20, "") && shows(99, 1500, 1 << 20, "\rsome??? ~: 2 MiB\033[K"));
-    CHECK(shows(99, 1599, 1 << 20, "") && shows(99, 1600, (1 << 20) - 1, "\rsome??? ~: 3 MiB\033[K"));
+    CHECK(shows(99, 1499, 1 << 20, "") && shows(99, 1500, 1 << 20, "\rsome??? ~: 2 MiB, 4 MiB/s\033[K"));
+    CHECK(shows(99, 1599, 1 << 20, "") && shows(99, 1600, (1 << 20) - 1, "\rsome??? ~: 3 MiB, 6 MiB/s\033[K"));
     CHECK(shows(99, 1601, 0, "\r\033[K") && shows(99, 1602, 0, ""));
     memset(name, 'n', 49);
     strcpy(name + 41, "end");
@@ -102,11 +102,11 @@ static void check_progress(void) {
  * that some systems have, of 2^62 bytes. */
 static void check_length(void) {
     const int file = fileno(tmpfile());
-    char name[41] = "", line[120];
+    char name[41] = "", line[140];
 
     CHECK(!ftruncate(file, (off_t)1 << 40));
     memset(name, 'n', sizeof name - 1);
-    sprintf(line, "\r%s: 4398046511105 MiB of 1048576\033[K", name);
+    sprintf(line, "\r%s: 4398046511105 MiB of 1048576, 8796093022210 MiB/s\033[K", name);
     begin_at(5600, file, name);
     CHECK(shows(file, 5700, (ssize_t)1 << 62, "") && shows(file, 6100, 1 << 20, line) && shows(file, 6200, 0, "\r\033[K"));
 }
@@ -115,9 +115,10 @@ static void check_length(void) {
 static void check_threads(void) {
     uint64_t before = (uint64_t)3 << 40;
 
-    CHECK(shows(STDIN_FILENO, 7000, 0, "") && shows(STDIN_FILENO, 7600, 1, "\r-: 0 MiB\033[K"));
+    CHECK(shows(STDIN_FILENO, 7000, 0, "") && shows(STDIN_FILENO, 7600, 1, "\r-: 0 MiB, 0 MiB/s\033[K"));
     time_now = 7700;
-    CHECK(report_by_threads(&before, (uint64_t)5 << 20) == 0 && !strcmp(written, "\r-: 3145733 MiB\033[K"));
+    CHECK(report_by_threads(&before, (uint64_t)5 << 20) == 0 &&
+          !strcmp(written, "\r-: 3145733 MiB, 4493904 MiB/s\033[K"));
     written[0] = 0;
 }
 
