@@ -46,8 +46,13 @@ HIDDEN int b2sum_end(int status, const char *path);
  * stack below its calls of the system. */
 static bool is_secret;
 
-/* Whether the next file that is opened is the key's, and whether others may read that. */
-static bool is_key_next, is_key_shared;
+/* Whether the memory is not hidden from other processes, and whether the next file that is opened is
+ * the key's. */
+static bool is_exposed, is_key_next;
+
+/* The path of the key file, if others may read that; otherwise it is empty. */
+enum { PATH_ROOM = 4096 };
+static char shared_key[PATH_ROOM];
 
 /* More than the functions of the program need. */
 enum { STACK_BYTES = 1 << 15 };
@@ -80,7 +85,7 @@ void *b2sum_realloc(void *place, size_t size) {
 HIDDEN OF_TEXT void b2sum_hide_memory(void) __asm__(SYMBOL(HIDE_MEMORY));
 OF_TEXT void b2sum_hide_memory(void) {
     is_secret = is_key_next = true;
-    hide_memory();
+    is_exposed = !hide_memory();
 }
 
 /* ---- The start and the end. */
@@ -150,14 +155,29 @@ static int print_failure(const char *path, const char *what) {
     return 1;
 }
 
-/* Reports a key file that others may read, and a file that could not be closed. Closes standard
- * input, if it was read, and the outputs, since some systems report only then that a read or a write
- * failed. Returns the status of the process: the one of the program, which has this path, or 1. An
- * output that was not open is no error. */
+/* Replaces what a terminal could obey, and what is not ASCII. */
+static void make_printable(char *name) {
+    for (; *name; name++)
+        if (*name < ' ' || *name > '~') *name = '?';
+}
+
+/* Reports who may read the key: others from its file, or other processes from the memory. */
+static void warn_of_readers(const char *path) {
+    make_printable(shared_key);
+    if (*shared_key)
+        dprintf(STDERR_FILENO, "%s: WARNING: others may read the key file %s (chmod 600 prevents it)\n",
+                name_of(path), shared_key);
+    if (is_exposed)
+        dprintf(STDERR_FILENO, "%s: WARNING: other processes may read the key\n", name_of(path));
+}
+
+/* Reports who may read the key, and a file that could not be closed. Closes standard input, if it was
+ * read, and the outputs, since some systems report only then that a read or a write failed. Returns
+ * the status of the process: the one of the program, which has this path, or 1. An output that was
+ * not open is no error. */
 int b2sum_end(int status, const char *path) {
     if (is_secret) wipe_stack();
-    if (is_key_shared)
-        dprintf(STDERR_FILENO, "%s: WARNING: others may read the key file\n", name_of(path));
+    warn_of_readers(path);
     if ((errno = close_error)) status = print_failure(path, "close error");
     if (is_input_read && close(STDIN_FILENO)) status = print_failure(path, "standard input");
     if (close(STDOUT_FILENO) && errno != EBADF) status = print_failure(path, "write error");
@@ -192,8 +212,7 @@ static void begin_progress(int file, const char *name) {
     if (length > NAME_BYTES) name += length - NAME_BYTES;
     shown.file = file;
     strcpy(shown.name, name);
-    for (char *c = shown.name; *c; c++)
-        if (*c < ' ' || *c > '~') *c = '?';
+    make_printable(shown.name);
     shown.length = !fstat(file, &about) && S_ISREG(about.st_mode) ? (uint64_t)about.st_size : 0;
     shown.count = shown.printed = 0;
     shown.start = milliseconds();
@@ -271,7 +290,7 @@ static int move_up(int file) {
 /* Opens the file for reading, from its start to its end. Returns its descriptor, or -1 and sets
  * errno. The path has a frame of its own, so that the stack is wiped below that of b2sum_open. */
 __attribute__((noinline)) static int open_file(const char *name) {
-    char path[4096];
+    char path[PATH_ROOM];
     int file;
 
     if (strlen(name) >= sizeof path) {
@@ -285,6 +304,7 @@ __attribute__((noinline)) static int open_file(const char *name) {
     file = move_up(file);
     if (file < 0) return -1;
     read_ahead(file);
+    if (is_key_next && is_shared(file)) strcpy(shared_key, path);
     if (is_shown) begin_progress(file, path);
     return file;
 }
@@ -296,7 +316,6 @@ OF_TEXT int b2sum_open(const char *name, int flags, ...) {
     (void)flags;
     if (is_secret) wipe_stack();
     file = open_file(name);
-    if (is_key_next && file >= 0) is_key_shared = is_shared(file);
     is_key_next = false;
     return file;
 }

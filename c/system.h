@@ -150,14 +150,16 @@ static inline size_t size_of_block(void *place) {
 #endif
 }
 
-/* Keeps the memory of the process from core files, and on Linux from other processes of its user. */
-static inline void hide_memory(void) {
+/* Keeps the memory of the process from core files, and on Linux from other processes of its user.
+ * Returns whether the system does. */
+static inline bool hide_memory(void) {
     const struct rlimit none = {0, 0};
+    int result = 0;
 
 #ifdef __linux__
-    prctl(PR_SET_DUMPABLE, 0L, 0L, 0L, 0L);
+    result = prctl(PR_SET_DUMPABLE, 0L, 0L, 0L, 0L);
 #endif
-    setrlimit(RLIMIT_CORE, &none);
+    return !setrlimit(RLIMIT_CORE, &none) && !result;
 }
 #else
 #include <io.h>
@@ -334,7 +336,7 @@ static inline uint64_t milliseconds(void) { return GetTickCount64(); }
 
 static inline size_t size_of_block(void *place) { return place ? _msize(place) : 0; }
 
-static inline void hide_memory(void) {}
+static inline bool hide_memory(void) { return true; }
 
 static inline int dprintf(int file, const char *format, ...) {
     char line[256];

@@ -1,8 +1,8 @@
 /* A library to preload into b2sum: some calls of one function of the system fail, or the memory that the process can
  * write is searched for a key at one of them.
  *
- *   FAULT_CALL   readv, pread, openat, write, close, malloc, realloc, or posix_fadvise that says of a whole file that
- *                it is read from its start to its end
+ *   FAULT_CALL   readv, pread, openat, write, close, malloc, realloc, prctl, or posix_fadvise that says of a whole file
+ *                that it is read from its start to its end
  *   FAULT_AT     the number of the first call that fails, from 1
  *   FAULT_LAST   the number of the last one that does
  *   FAULT_ERROR  its errno; 0: it reads or writes one byte; -1: it returns 0, as at the end
@@ -84,7 +84,8 @@ static int is_hit(const char *call) {
     file = (int)syscall(SYS_openat, AT_FDCWD, getenv("FAULT_OUT"), O_CREAT | O_WRONLY, 0600);
     if (key) {
         getrlimit(RLIMIT_CORE, &core);
-        count = sprintf(line, "%lu %d %d\n", found_in_all(key), prctl(PR_GET_DUMPABLE), core.rlim_max != 0);
+        count = sprintf(line, "%lu %ld %d\n", found_in_all(key), syscall(SYS_prctl, PR_GET_DUMPABLE),
+                        core.rlim_max != 0);
         syscall(SYS_write, file, line, count);
     }
     syscall(SYS_close, file);
@@ -126,6 +127,8 @@ ssize_t __write(int file, const void *bytes, size_t size) { return write(file, b
 int openat(int folder, const char *name, int flags, ...) {
     return is_hit("openat") ? -1 : (int)syscall(SYS_openat, folder, name, flags, 0);
 }
+
+int prctl(int option, ...) { return is_hit("prctl") ? -1 : (int)syscall(SYS_prctl, option, 0L, 0L, 0L, 0L); }
 
 int close(int file) { return is_hit("close") ? -1 : (int)syscall(SYS_close, file); }
 

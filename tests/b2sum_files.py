@@ -198,7 +198,7 @@ def test_macs(runs):
                    NO_MATCH + ("\n" + none if given else ""), 1)
     for mode, others in ((0o644, True), (0o640, True), (0o604, True), (0o600, False), (0o733, False), (0o400, False)):
         os.chmod(runs.path("key"), mode)
-        said = "WARNING: others may read the key file" if others else ""
+        said = "WARNING: others may read the key file key (chmod 600 prevents it)" if others else ""
         runs.wants(["--key-file", "key", "b", "key"], line("b", b"abc", key=key) + line("key", key, key=key), said)
         runs.wants(["--key-file", "-", "b", "key"], line("b", b"abc", key=key) + line("key", key, key=key), data=key)
     os.chmod(runs.path("key"), 0o600)

@@ -67,6 +67,11 @@ def test_secrets(runs):
     for at in (1, 3):
         found = scan_memory(runs, ["long", "b"], key, "readv", at)
         runs.holds(["no key", found], found and found[:2] == (0, 1))
+    runs.write("key", key)
+    got = run_with_fault(runs, ["--key-file", "key", "b"], b"", "prctl", 1, 1, errno.EPERM)
+    said = (line("b", b"abc", key=key).encode(), b"b2sum: WARNING: other processes may read the key\n", 0)
+    runs.holds(["memory that is not hidden"], got == said, got)
+    runs.holds(["no key is hidden"], not run_with_fault(runs, ["b"], b"", "prctl", 1, 1, errno.EPERM))
     runs.ends("keys in memory")
 
 

@@ -4,6 +4,8 @@
  * program, and makes its calls of the system fail. */
 #include "../system.h"
 
+#include <stdarg.h>
+
 #include "check.h"
 #include "vulfsjor_threads.h"
 
@@ -31,6 +33,19 @@ static void record_free(void *place) {
 
 static void *malloc_or_fail(size_t size) { return has_no_memory ? NULL : malloc(size); }
 
+/* Whether the memory can be hidden. */
+static bool is_hidden;
+
+static int record_print(int file, const char *format, ...) {
+    va_list arguments;
+
+    CHECK(file == STDERR_FILENO);
+    va_start(arguments, format);
+    vsnprintf(written + strlen(written), sizeof written - strlen(written), format, arguments);
+    va_end(arguments);
+    return 0;
+}
+
 /* How often opening a file is interrupted. */
 static int interrupts;
 
@@ -49,6 +64,8 @@ static int fail_by_threads(vulfsjor_tree_state *state, int file, unsigned thread
 #define vulfsjor_tree_update_fd fail_by_threads
 #define open_path(path) open_or_fail(path)
 #define milliseconds() time_now
+#define hide_memory() is_hidden
+#define dprintf record_print
 #define write record_write
 #define free record_free
 #define malloc malloc_or_fail
@@ -173,6 +190,24 @@ static void check_room(void) {
     close_error = 0;
 }
 
+/* The warnings name the key file in printable characters, and come only if others may read the key. */
+static void check_warnings(void) {
+    is_hidden = true;
+    b2sum_hide_memory();
+    warn_of_readers("b2sum");
+    CHECK(!*written);
+    strcpy(shared_key, "k\x1b\x9b\xc2\x9b\x7f y");
+    warn_of_readers("bin/b2sum");
+    CHECK(!strcmp(written, "b2sum: WARNING: others may read the key file k????? y (chmod 600 prevents it)\n"));
+    *shared_key = written[0] = 0;
+    is_hidden = false;
+    b2sum_hide_memory();
+    warn_of_readers("bin/");
+    CHECK(!strcmp(written, "b2sum: WARNING: other processes may read the key\n"));
+    is_exposed = is_secret = is_key_next = false;
+    written[0] = 0;
+}
+
 /* Whether these bytes are all this one. */
 static bool are_all(const unsigned char *bytes, size_t length, int byte) {
     return bytes[0] == byte && !memcmp(bytes, bytes + 1, length - 1);
@@ -237,6 +272,7 @@ int main(void) {
     check_failure();
     check_names();
     check_room();
+    check_warnings();
     check_memory();
     check_stack();
     return fails != 0;
