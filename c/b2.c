@@ -59,6 +59,17 @@ void *REALLOC(void *place, size_t size);
 static size_t count;
 static char **arguments;
 
+/* Whether an argument is this name, or has it after its first =. b2sum.c calls this. */
+bool b2_has_argument(const char *name);
+bool b2_has_argument(const char *name) {
+    for (size_t i = 1; i < count; i++) {
+        const char *equals = strchr(arguments[i], '=');
+        if (strcmp(arguments[i], name) == 0) return true;
+        if (equals && strcmp(equals + 1, name) == 0) return true;
+    }
+    return false;
+}
+
 #ifdef VULFSJOR_BUILD
 const char *vulfsjor_library_build(void);
 

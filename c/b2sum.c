@@ -34,6 +34,7 @@ HIDDEN OF_TEXT void (*b2sum_signal(int number, void (*handler)(int)))(int);
 HIDDEN void *b2sum_realloc(void *place, size_t size);
 HIDDEN void b2sum_free(void *place);
 HIDDEN int b2sum_end(int status, const char *path);
+HIDDEN bool b2_has_argument(const char *name);
 
 /* The name of a function of the assembly file, from a macro. */
 #define STRING_OF(words) #words
@@ -271,6 +272,60 @@ static void decode_name(char *name) {
     *to = 0;
 }
 
+static bool is_slash(char c) { return c == '/' || c == '\\'; }
+
+/* The length of a word in capitals, if the text begins with it in letters of either case; otherwise
+ * 0. */
+static size_t begins_with(const char *text, const char *word) {
+    size_t i = 0;
+
+    for (; word[i]; i++)
+        if ((text[i] >= 'a' && text[i] <= 'z' ? text[i] - 'a' + 'A' : text[i]) != word[i]) return 0;
+    return i;
+}
+
+/* The length of the first of these words with which the text begins, or 0. A null ends the words. */
+static size_t begins_with_one(const char *text, const char *const *words) {
+    size_t length = 0;
+
+    while (*words && !length) length = begins_with(text, *words++);
+    return length;
+}
+
+/* The length of the name of a device of Windows with which the text begins, or 0. */
+static size_t device_length(const char *text) {
+    static const char *const devices[] = {"CONIN$", "CONOUT$", "CLOCK$", "CON", "PRN", "AUX", "NUL", NULL},
+                      *const ports[] = {"COM", "LPT", NULL},
+                      *const digits[] = {"0", "1", "2", "3", "4", "5", "6", "7", "8", "9",
+                                         "\xc2\xb9", "\xc2\xb2", "\xc2\xb3", NULL};
+    const size_t length = begins_with_one(text, devices), port = begins_with_one(text, ports),
+                 digit = port ? begins_with_one(text + port, digits) : 0;
+
+    return digit ? port + digit : length;
+}
+
+/* Whether a path begins with a drive, as in //?/C:/. */
+static bool begins_with_drive(const char *path) {
+    return is_slash(path[0]) && is_slash(path[1]) && path[2] == '?' && is_slash(path[3]) &&
+           (path[4] | 32) >= 'a' && (path[4] | 32) <= 'z' && path[5] == ':' && is_slash(path[6]);
+}
+
+/* Whether a path, in UTF-8, can be that of a device or of another computer on Windows: it begins
+ * with two slashes or with /?, but not with a drive, or its last part is the name of a device, of
+ * which Windows ignores blanks and what follows a dot or a colon. */
+static bool is_foreign(const char *path) {
+    const char *last = path;
+    size_t length;
+
+    if (is_slash(path[0]) && (is_slash(path[1]) || path[1] == '?')) return !begins_with_drive(path);
+    if (path[0] && path[1] == ':') last += 2;
+    for (const char *c = last; *c; c++)
+        if (is_slash(*c)) last = c + 1;
+    length = device_length(last);
+    while (length && last[length] == ' ') length++;
+    return length && (!last[length] || last[length] == '.' || last[length] == ':');
+}
+
 /* Moves a file that has the number of a standard stream, which was closed at the start, above those.
  * The stream stays closed, so that a read of it fails. Returns the descriptor, or -1 and sets
  * errno. */
@@ -288,7 +343,8 @@ static int move_up(int file) {
 }
 
 /* Opens the file for reading, from its start to its end. Returns its descriptor, or -1 and sets
- * errno. The path has a frame of its own, so that the stack is wiped below that of b2sum_open. */
+ * errno. On Windows it refuses a device or another computer that no argument names: a manifest can
+ * be a stranger's. The path has a frame of its own, so that the stack is wiped below that of b2sum_open. */
 __attribute__((noinline)) static int open_file(const char *name) {
     char path[PATH_ROOM];
     int file;
@@ -299,6 +355,10 @@ __attribute__((noinline)) static int open_file(const char *name) {
     }
     strcpy(path, name);
     decode_name(path);
+    if (HAS_DEVICE_NAMES && is_foreign(path) && !b2_has_argument(path)) {
+        errno = EACCES;
+        return -1;
+    }
     do file = open_path(path);
     while (file < 0 && errno == EINTR);
     file = move_up(file);

@@ -108,6 +108,9 @@ static inline ssize_t read_stream(int file, void *bytes, size_t size) {
 
 /* ---- What only b2sum.c calls. */
 
+/* Whether paths can be names of devices. */
+#define HAS_DEVICE_NAMES 0
+
 /* Reads at most size bytes. */
 static inline ssize_t read_next(int file, void *bytes, size_t size) {
     const struct iovec room = {bytes, size};
@@ -310,6 +313,8 @@ static inline ssize_t read_stream(int file, void *bytes, size_t size) {
 }
 
 /* ---- What only b2sum.c calls. */
+
+#define HAS_DEVICE_NAMES 1
 
 static inline ssize_t read_next(int file, void *bytes, size_t size) {
     return _read(file, bytes, size < 1u << 30 ? (unsigned)size : 1u << 30);

@@ -76,6 +76,22 @@ static void check_arguments(void) {
     CHECK(rattle_arg(((size_t)1 << 32) + 1, bytes, 1) == -1 && bytes[0] == '#');
 }
 
+/* The name of the program is no argument. */
+static void check_names(void) {
+    char *words[] = {"NUL", "--key-file=//HOST/a=b", "--tag", "COM1", "=", NULL}, **before = arguments;
+    const size_t all = count;
+
+    arguments = words;
+    count = 5;
+    CHECK(b2_has_argument("//HOST/a=b") && b2_has_argument("--tag") && b2_has_argument("COM1") && b2_has_argument(""));
+    CHECK(b2_has_argument("--key-file=//HOST/a=b") && !b2_has_argument("NUL") && !b2_has_argument("b"));
+    CHECK(!b2_has_argument("COM") && !b2_has_argument("COM12") && !b2_has_argument("--key-file"));
+    count = 0;
+    CHECK(!b2_has_argument("COM1"));
+    arguments = before;
+    count = all;
+}
+
 static void check_errno(void) {
     errno = EIO;
     CHECK(rattle_errno() == EIO);
@@ -199,6 +215,7 @@ static void check_leaves(void) {}
 
 OF_TEXT int check_all(void) {
     check_arguments();
+    check_names();
     check_errno();
     check_memory();
     check_streams();

@@ -46,6 +46,10 @@ static int record_print(int file, const char *format, ...) {
     return 0;
 }
 
+/* Whether the system is Windows, and the only argument. */
+static bool has_device_names;
+static const char *argument = "";
+
 /* How often opening a file is interrupted. */
 static int interrupts;
 
@@ -66,10 +70,14 @@ static int fail_by_threads(vulfsjor_tree_state *state, int file, unsigned thread
 #define milliseconds() time_now
 #define hide_memory() is_hidden
 #define dprintf record_print
+#undef HAS_DEVICE_NAMES
+#define HAS_DEVICE_NAMES has_device_names
 #define write record_write
 #define free record_free
 #define malloc malloc_or_fail
 #include "../b2sum.c"
+
+bool b2_has_argument(const char *name) { return !strcmp(name, argument); }
 
 OF_TEXT bool b2sum_absorb_proved(ARGUMENTS) { return source && file && threads && state && room && size; }
 
@@ -173,6 +181,31 @@ static void check_names(void) {
     }
 }
 
+/* On Windows a device and a file of another computer are opened only if an argument names them. */
+static void check_devices(void) {
+    static const char *const foreign[] = {
+        "NUL", "nul", "Nul.txt", "NUL .txt", "NUL:", "NUL  ", "dir/NUL", "dir\\con", "C:NUL", "c:/dir/aux.c", "PRN",
+        "COM1", "lpt9.txt", "LPT0", "COM\xc2\xb9", "COM\xc2\xb2.x", "lpt\xc2\xb3", "CONIN$", "conout$", "CLOCK$.x",
+        "//HOST/SHARE/FILE", "\\\\HOST\\SHARE", "/\\HOST/x", "\\/HOST/x", "//", "//?/UNC/HOST/SHARE/x", "//./COM1",
+        "//./C:/x", "//?/C:", "//?/C:x", "//?/1:/x", "\\\\?\\UNC\\x", "//?/Volume/x", "/?\?/UNC/HOST/x", "\\??\\C:\\x"};
+    static const char *const local[] = {
+        "NULL", "null.txt", "xNUL", "NUL/x", "con/x", "dir.NUL/x", "COM", "COM.txt", "COMX", "COM10", "LPTT1",
+        "LPT\xc2\xb4", "lpt\xc2", "CONIN", "file", "/file", "dir/file", "C:/dir/file", "C:file", "//?/C:/dir/file", "\\\\?\\z:\\x",
+        "AU", "", "?", "file:NUL", " NUL", ".NUL", "file.nul"};
+
+    for (size_t i = 0; i < sizeof foreign / sizeof *foreign; i++) CHECK(is_foreign(foreign[i]));
+    for (size_t i = 0; i < sizeof local / sizeof *local; i++) CHECK(!is_foreign(local[i]));
+    has_device_names = true;
+    argument = "/dev/null";
+    CHECK(b2sum_open("//dev/null", 0) == -1 && errno == EACCES);
+    CHECK(b2sum_open("/dev/null", 0) > 2);
+    argument = "//dev/null";
+    CHECK(b2sum_open("//dev/null", 0) > 2);
+    has_device_names = false;
+    argument = "";
+    CHECK(b2sum_open("//dev/null", 0) > 2);
+}
+
 /* A name that has no room is refused before it is copied, and a message is cut to its room. Of the errors of closing
  * files the first is kept. */
 static void check_room(void) {
@@ -271,6 +304,7 @@ int main(void) {
     check_threads();
     check_failure();
     check_names();
+    check_devices();
     check_room();
     check_warnings();
     check_memory();

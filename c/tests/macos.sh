@@ -19,7 +19,8 @@ write_sdk() {
         'void *memmove(void *, const void *, size_t);' 'void *memset(void *, int, size_t);' \
         'int memcmp(const void *, const void *, size_t);' 'int strcmp(const char *, const char *);' \
         'size_t strlen(const char *);' 'char *strcpy(char *, const char *);' \
-        'char *strrchr(const char *, int);' 'char *strerror(int);' >"$sdk/usr/include/string.h"
+        'char *strchr(const char *, int);' 'char *strrchr(const char *, int);' 'char *strerror(int);' \
+        >"$sdk/usr/include/string.h"
     printf 'typedef %s;\n' 'long ssize_t' 'long long off_t' >"$sdk/usr/include/sys/types.h"
     printf '%s\n' '#include <stddef.h>' '#include <sys/types.h>' \
         'ssize_t write(int, const void *, size_t);' 'ssize_t read(int, void *, size_t);' \
@@ -59,7 +60,7 @@ write_sdk() {
         '#define PTHREAD_MUTEX_INITIALIZER {0, {0}}' '#define PTHREAD_COND_INITIALIZER {0, {0}}' \
         >"$sdk/usr/include/pthread.h"
     printf '%s\n' 'int *__error(void);' '#define errno (*__error())' \
-        'enum { EINTR = 4, EIO, EBADF = 9, ENOMEM = 12, EINVAL = 22, EFBIG = 27, ENAMETOOLONG = 63,' \
+        'enum { EINTR = 4, EIO, EBADF = 9, ENOMEM = 12, EACCES, EINVAL = 22, EFBIG = 27, ENAMETOOLONG = 63,' \
         'ECANCELED = 89 };' >"$sdk/usr/include/errno.h"
     printf '%s\n' 'void (*signal(int, void (*)(int)))(int);' 'typedef unsigned sigset_t;' \
         'int pthread_sigmask(int, const sigset_t *, sigset_t *);' \

@@ -177,6 +177,18 @@ sums_by_other_names() {
             diff ../said - <<<"${name%.[eE][xX][eE]}: none: No such file or directory" || return
     done
 }
+# Entries that are devices and files of other computers are not opened, unless an argument is one.
+entries_are_local() {
+    local name
+    cd "$work/sums" && for name in NUL nul.txt dir/NUL //none/share/file; do
+        sums_by_hashlib empty | sed "s|empty|$name|" >../SUMS &&
+            ! "$work/b2sum" --check --ignore-missing ../SUMS >../said 2>../errors &&
+            diff ../said - <<<"$name: FAILED open or read" &&
+            diff <(sed 1q ../errors) - <<<"b2sum: $name: Permission denied" || return
+    done
+    sums_by_hashlib empty | sed 's/empty/NUL/' >../SUMS && "$work/b2sum" --check ../SUMS NUL 2>../errors |
+        diff - <(echo 'NUL: OK') && diff ../errors - <<<'b2sum: NUL: no properly formatted checksum lines found'
+}
 # Folders, devices, keys, trees by threads, and progress, which nobody sees here.
 sums_of_others() {
     cd "$work/sums" && ! "$work/b2sum" dir dir/none NUL >../said 2>../errors &&
@@ -269,6 +281,7 @@ test_windows() {
         check_by_wine "b2sum.exe by other names" sums_by_other_names
         check_by_wine "b2sum.exe --check" sums_are_checked
         check_by_wine "b2sum.exe over folders, devices and with a key" sums_of_others
+        check_by_wine "entries of b2sum.exe that are no files of this computer" entries_are_local
         check_by_wine "b2sum.exe next to coreutils" sums_next_to_coreutils \
             "$([ -n "${VULFSJOR_TEST_HUGE-}" ] && echo 1 || echo 120)"
     fi
