@@ -58,6 +58,8 @@ check "choose.c, thunks.h, the exports and the crate for Rust have the functions
     "$top/tools/exports.py" --check
 check "each place has the version of CHANGELOG.md" "$top/tools/version.py" --check
 check "the man pages are what tools/manual.py makes of their sources" "$top/tools/manual.py" --check
+names_only_what_is_installed() { ! tail -qn +2 "$top"/docs/*.1 | grep -E '\.md|\.py|tests/|### |\]\(|example\)'; }
+check "the man pages of the programs name no page or test of the repository" names_only_what_is_installed
 functions_have_manuals() {
     diff <(functions_of_headers | sort) <(sed -n 's/^\.SS \(vulfsjor_\w*\)()$/\1/p' "$top"/c/man/*.3 | sort)
 }

@@ -43,8 +43,9 @@ def escaped(text):
 
 
 def inline(text):
-    """A paragraph with its code and bold words in bold, and its links as their words."""
-    text = re.sub(r" ?\(\[[^]]*\]\(#[^)]*\)\)", "", " ".join(text.split()))
+    """A paragraph with its code and bold words in bold, and its links as their words. One in parentheses is left out,
+    since it is to a page that is not installed, or to another section."""
+    text = re.sub(r" ?\(\[[^]]*\]\([^)]*\)\)", "", " ".join(text.split()))
     text = escaped(re.sub(r"\[([^]]*)\]\([^)]*\)", r"\1", text))
     return re.sub(r"\*\*(.+?)\*\*|`(.+?)`", lambda match: f"\\fB{match[1] or match[2]}\\fR", text)
 
