@@ -382,19 +382,55 @@ OF_TEXT int b2sum_open(const char *name, int flags, ...) {
 
 /* Reads at most size bytes, after a signal again. Returns their number, 0 at the end, or -1 and
  * sets errno. */
-OF_TEXT ssize_t b2sum_read(int file, void *bytes, size_t size) {
+static ssize_t read_piece(int file, void *bytes, size_t size) {
     ssize_t count;
     int error;
 
-    if (is_secret) wipe_stack();
     do count = read_next(file, bytes, size);
     while (count < 0 && errno == EINTR);
     error = errno;
-    if (file == STDIN_FILENO) is_input_read = true;
-    is_key_next = false;
     if (is_shown) count_progress(file, count);
     errno = error;
     return count;
+}
+
+/* Whether a read fills its room. A tree hashes only leaves of one piece in parallel, and a pipe has
+ * pieces of 64 KiB. */
+static bool is_filling;
+
+/* How the file has ended after bytes that a read returned, which the next one returns: with an error,
+ * or at its end. */
+enum { NOT_ENDED = -1, AT_END = 0 };
+static int ended = NOT_ENDED;
+
+/* As read_piece, but reads until the room is full or the file has ended. */
+static ssize_t read_full(int file, char *bytes, size_t size) {
+    size_t filled = 0;
+    ssize_t count;
+
+    do {
+        count = read_piece(file, bytes + filled, size - filled);
+        if (count > 0) filled += (size_t)count;
+    } while (count > 0 && filled < size);
+    if (!filled) return count;
+    if (count <= 0) ended = count ? errno : AT_END;
+    return (ssize_t)filled;
+}
+
+/* Returns how the file has ended: 0, or -1 and sets errno. */
+static ssize_t end_read(void) {
+    errno = ended;
+    ended = NOT_ENDED;
+    return errno == AT_END ? 0 : -1;
+}
+
+/* As read_piece, or with is_filling as read_full. */
+OF_TEXT ssize_t b2sum_read(int file, void *bytes, size_t size) {
+    if (is_secret) wipe_stack();
+    if (file == STDIN_FILENO) is_input_read = true;
+    is_key_next = false;
+    if (ended != NOT_ENDED) return end_read();
+    return is_filling ? read_full(file, bytes, size) : read_piece(file, bytes, size);
 }
 
 /* ---- Trees. */
@@ -443,6 +479,12 @@ static void absorb_large_file(int file, unsigned threads, vulfsjor_tree_state *s
 HIDDEN OF_TEXT bool b2sum_absorb_tree(ARGUMENTS) __asm__(SYMBOL(ABSORB_TREE));
 HIDDEN OF_TEXT bool b2sum_absorb_proved(ARGUMENTS) __asm__(SYMBOL(PROVED_TREE));
 OF_TEXT bool b2sum_absorb_tree(ARGUMENTS) {
+    bool is_whole;
+
     absorb_large_file(file, threads, state);
-    return b2sum_absorb_proved(source, file, threads, state, room, size);
+    is_filling = true;
+    is_whole = b2sum_absorb_proved(source, file, threads, state, room, size);
+    is_filling = false;
+    ended = NOT_ENDED;
+    return is_whole;
 }

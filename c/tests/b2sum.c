@@ -58,6 +58,18 @@ static int open_or_fail(const char *path) {
     return interrupts-- > 0 ? -1 : open_path(path);
 }
 
+/* What reads return, one after the other, as they do without such a list: numbers of bytes, and errors below 0. */
+static const int *reads;
+
+static ssize_t read_or_pretend(int file, void *bytes, size_t size) {
+    if (!reads) return read_next(file, bytes, size);
+    errno = *reads < 0 ? -*reads : 0;
+    if (*reads++ < 0) return -1;
+    CHECK((size_t)reads[-1] <= size);
+    memset(bytes, 'r', (size_t)reads[-1]);
+    return reads[-1];
+}
+
 /* Threads that count 5 MiB, move the position of the file, and fail. */
 static int fail_by_threads(vulfsjor_tree_state *state, int file, unsigned threads, vulfsjor_progress progress,
                            void *context) {
@@ -68,6 +80,7 @@ static int fail_by_threads(vulfsjor_tree_state *state, int file, unsigned thread
 #define vulfsjor_tree_update_fd fail_by_threads
 #define open_path(path) open_or_fail(path)
 #define milliseconds() time_now
+#define read_next(file, bytes, size) read_or_pretend(file, bytes, size)
 #define hide_memory() is_hidden
 #define dprintf record_print
 #undef HAS_DEVICE_NAMES
@@ -79,7 +92,10 @@ static int fail_by_threads(vulfsjor_tree_state *state, int file, unsigned thread
 
 bool b2_has_argument(const char *name) { return !strcmp(name, argument); }
 
-OF_TEXT bool b2sum_absorb_proved(ARGUMENTS) { return source && file && threads && state && room && size; }
+OF_TEXT bool b2sum_absorb_proved(ARGUMENTS) {
+    ended = AT_END;
+    return is_filling && source && file && threads && state && room && size;
+}
 
 /* ---- Progress. */
 
@@ -159,6 +175,33 @@ static void check_failure(void) {
     absorb_large_file(file, 3, &state);
     is_shown = false;
     CHECK(lseek(file, 0, SEEK_CUR) == 7 && shown.file == file && shown.count == 0);
+}
+
+/* Whether a read with room for 8 bytes returns this, and sets errno to it if it is below 0. */
+static bool reads_some(int wanted) {
+    char bytes[10] = "..........";
+    const ssize_t count = b2sum_read(99, bytes, 8);
+
+    if (wanted < 0) return count == -1 && errno == -wanted && bytes[0] == '.';
+    return count == wanted && !memcmp(bytes, "rrrrrrrr..", (size_t)wanted) && bytes[wanted] == '.';
+}
+
+/* For a tree a read fills its room. An end or an error after bytes comes with the next read, once. */
+static void check_filling(void) {
+    static const int list[] = {3, -EINTR, 4, 1, 8, 2, 0, 0, 5, -EIO, -EBADF, 7, 0, 3, 2};
+    static vulfsjor_tree_state state;
+    static char source[1], room[1];
+
+    reads = list;
+    is_filling = true;
+    CHECK(reads_some(8) && reads_some(8) && reads == list + 5);
+    CHECK(reads_some(2) && reads == list + 7 && reads_some(0) && reads == list + 7 && reads_some(0));
+    CHECK(reads_some(5) && reads == list + 10 && reads_some(-EIO) && reads == list + 10 && reads_some(-EBADF));
+    CHECK(reads_some(7) && reads == list + 13);
+    is_filling = false;
+    CHECK(reads_some(0) && reads == list + 13 && reads_some(3) && reads_some(2));
+    reads = NULL;
+    CHECK(b2sum_absorb_tree(source, 99, 1, &state, room, 1) && !is_filling && ended == NOT_ENDED);
 }
 
 /* ---- Names, messages, and secrets. */
@@ -303,6 +346,7 @@ int main(void) {
     check_length();
     check_threads();
     check_failure();
+    check_filling();
     check_names();
     check_devices();
     check_room();
