@@ -163,7 +163,7 @@ def of_families():
         for name in ("output_bytes", "key_bytes", "salt_bytes", "block_bytes"))
     peer = find(r'startswith\("b2sum \(GNU coreutils\) ([0-9.]+)', read("tests/compare_coreutils.py"),
                 "tests/compare_coreutils.py")
-    longest = int(find(r"char path\[([0-9]+)\]", read("c/b2sum.c"), "c/b2sum.c")) - 1
+    longest = int(find(r"PATH_ROOM = ([0-9]+)", read("c/b2sum.c"), "c/b2sum.c")) - 1
     for form, *values in (
             ("of GNU coreutils {} and has", peer),
             ("at most {} (BLAKE2s and BLAKE2sp: {}), the default", 8 * out_b, 8 * out_s),
