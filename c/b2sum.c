@@ -457,7 +457,7 @@ static int report_by_threads(void *before, uint64_t count) {
 
 /* Absorbs a large regular file from its position to its end, by this many threads, and moves the
  * position. If it is none, or cannot be read so, nothing changes. */
-static void absorb_large_file(int file, unsigned threads, vulfsjor_tree_state *state) {
+static void hash_rest_of_file(int file, unsigned threads, vulfsjor_tree_state *state) {
     const off_t from = large_from(file);
     uint64_t before;
 
@@ -481,7 +481,7 @@ HIDDEN OF_TEXT bool b2sum_absorb_proved(ARGUMENTS) __asm__(SYMBOL(PROVED_TREE));
 OF_TEXT bool b2sum_absorb_tree(ARGUMENTS) {
     bool is_whole;
 
-    absorb_large_file(file, threads, state);
+    hash_rest_of_file(file, threads, state);
     is_filling = true;
     is_whole = b2sum_absorb_proved(source, file, threads, state, room, size);
     is_filling = false;

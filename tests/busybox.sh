@@ -21,30 +21,31 @@ make_repository() {
 }
 
 # Runs a command with only those tools.
-alone() { (cd "$repository" && env -i PATH="$tools" HOME="$work" "$@"); }
+with_these_tools() { (cd "$repository" && env -i PATH="$tools" HOME="$work" "$@"); }
 
 programs_run() {
-    alone ./b2sum "$work/abc" >"$work/sums" && sums_by_hashlib "$work/abc" | diff "$work/sums" - &&
-        alone ./b2sum --check "$work/sums"
+    with_these_tools ./b2sum "$work/abc" >"$work/sums" && sums_by_hashlib "$work/abc" | diff "$work/sums" - &&
+        with_these_tools ./b2sum --check "$work/sums"
 }
 
 # `make install`, under a mask that keeps files from others, which is not that of what is installed.
 make_installs() {
     local place=$work/a\ prefix
-    (umask 077 && alone make -s install "prefix=$place") &&
+    (umask 077 && with_these_tools make -s install "prefix=$place") &&
         files_below "$place" | diff <(files_of_all) - &&
         [ -z "$(find "$place" \( -type d -o -type f \) ! -perm -o=r)" ] && are_copies "$place" &&
         [ "$(cat "$place/share/man/man3/vulfsjor_blake2b_init.3")" = ".so man3/vulfsjor_blake2b.3" ] &&
         "$place/bin/b2sum" "$work/abc" | diff - <(sums_by_hashlib "$work/abc") &&
-        alone make -s uninstall "prefix=$place" && [ -z "$(find "$place" ! -type d)" ]
+        with_these_tools make -s uninstall "prefix=$place" && [ -z "$(find "$place" ! -type d)" ]
 }
 
 # The library that make has built: the same files as with the tools here, and all of them go again.
 installs() {
-    alone c/install.sh --help | grep '^Installs the library' &&
-        alone c/install.sh --built out/make/lib "$work/again/./x/../lib" && diff -r "$prefix" "$work/again/lib" &&
+    with_these_tools c/install.sh --help | grep '^Installs the library' &&
+        with_these_tools c/install.sh --built out/make/lib "$work/again/./x/../lib" &&
+        diff -r "$prefix" "$work/again/lib" &&
         [ "$(readlink "$work/again/lib/lib/libvulfsjor.so")" = libvulfsjor.so.1 ] &&
-        alone c/install.sh --uninstall "$work/again/lib" &&
+        with_these_tools c/install.sh --uninstall "$work/again/lib" &&
         [ -z "$(find "$work/again" ! -type d)" ]
 }
 
@@ -54,8 +55,8 @@ names_what_is_missing() {
     local tool
     for tool in awk cat cut diff find sed sha256sum sort xargs mktemp cc; do
         mv "$tools/$tool" "$work/hidden" && rm -rf "$repository/out" "$work/none"
-        ! alone ./b2sum "$work/abc" >"$work/said" 2>"$work/errors" &&
-            ! alone c/install.sh "$work/none" >>"$work/said" 2>"$work/errors.install" &&
+        ! with_these_tools ./b2sum "$work/abc" >"$work/said" 2>"$work/errors" &&
+            ! with_these_tools c/install.sh "$work/none" >>"$work/said" 2>"$work/errors.install" &&
             [ ! -e "$work/none" ] && [ ! -s "$work/said" ] && mv "$work/hidden" "$tools/$tool" &&
             ! grep -E "not made from|different" "$work/errors" "$work/errors.install" &&
             grep -w -- "$tool" "$work/errors" && grep -w -- "$tool" "$work/errors.install" || {
@@ -75,7 +76,7 @@ fails_to_compare() {
         mv "$tools/$tool" "$work/hidden" && rm -rf "$repository/out" "$work/none" &&
             printf '#!%s\nexit 1\n' "$BASH" >"$tools/$tool" && chmod +x "$tools/$tool"
         # shellcheck disable=SC2086
-        ! alone ${call#*:} >"$work/said" 2>"$work/errors" && rm "$tools/$tool" &&
+        ! with_these_tools ${call#*:} >"$work/said" 2>"$work/errors" && rm "$tools/$tool" &&
             mv "$work/hidden" "$tools/$tool" && [ ! -s "$work/said" ] && [ ! -e "$work/none" ] &&
             ! grep -E "not made from|different" "$work/errors" || { echo "$call" && return 1; }
     done
@@ -88,7 +89,7 @@ has_all_parts() {
     for lost in choose.c split.awk; do
         printf '#!%s\ncase "$*" in *%s*) ;; *) exec "%s/awk" "$@" ;; esac\n' "$BASH" "$lost" "$work" >"$tools/awk" &&
             chmod +x "$tools/awk" &&
-            ! alone CFLAGS="$quick" c/make_libraries.sh "$work/parts" "$top/dist/x86_64/vulfsjor-v2.s" \
+            ! with_these_tools CFLAGS="$quick" c/make_libraries.sh "$work/parts" "$top/dist/x86_64/vulfsjor-v2.s" \
                 2>"$work/errors" && [ ! -e "$work/parts" ] && grep "parts are not there" "$work/errors" || return 1
     done
     mv "$work/awk" "$tools/awk"
@@ -125,7 +126,7 @@ test_busybox() {
         is_x86 || missing="the processor is not x86-64"
         check "an archive has all its parts" has_all_parts
     else
-        skip "the scripts with BusyBox's tools alone" "no busybox, python3 or make"
+        skip "the scripts with BusyBox's tools with_these_tools" "no busybox, python3 or make"
     fi
     needs musl-gcc python3
     check "the library, threads and b2sum over musl" musl

@@ -38,7 +38,7 @@ NOTES = re.compile(rb"(usage: b2 .*|b2: a command is missing|b2: the first argum
 COMMANDS = ("sum", "steps", "script", "witness", "tree", "leaves", "root", "xof", "derive")
 
 
-def block_of(kind):
+def block_size(kind):
     return FAMILIES["s" if kind.startswith(("s", "xs")) else "b"].block
 
 
@@ -67,7 +67,7 @@ class Dice(random.Random):
         words = []
         for name in names:
             if self.random() < 0.5:
-                most = {"key": 64, "salt": 16, "persona": 16}[name] * block_of(kind) // 128
+                most = {"key": 64, "salt": 16, "persona": 16}[name] * block_size(kind) // 128
                 length = self.choice([0, 1, most, self.randint(0, most)]) + (self.random() < 0.04)
                 if name == "persona" and self.random() < 0.3:
                     words.append("persona-text=" + self.text(length))
@@ -76,7 +76,7 @@ class Dice(random.Random):
         self.shuffle(words)
         return words
 
-    def spoiled(self, words):
+    def mutated_words(self, words):
         """Words of which some are gone, repeated, changed or too many; most of the time as they were."""
         words = list(words)
         while self.random() < 0.12:
@@ -103,7 +103,7 @@ class Dice(random.Random):
 
     def sum(self, command="sum"):
         kind = self.choice(list(KINDS))
-        return [command, kind, *self.options(kind, "key", "salt", "persona")], self.message(block_of(kind))
+        return [command, kind, *self.options(kind, "key", "salt", "persona")], self.message(block_size(kind))
 
     def steps(self):
         return self.sum("steps")
@@ -116,7 +116,7 @@ class Dice(random.Random):
             if not live and self.random() < 0.9:
                 break
             slot = self.choice(live) if live and self.random() < 0.99 else self.randrange(len(slots) + 2)
-            name, data = self.choice("uuuucrdf"), self.message(block_of(words[1]))
+            name, data = self.choice("uuuucrdf"), self.message(block_size(words[1]))
             found.append(f"{name} {slot}" + (f" {self.hex(data, 0.01) if data else '-'}" if name == "u" else ""))
             slots += [True] * (name == "c")
             if name == "f" and slot < len(slots):
@@ -127,7 +127,7 @@ class Dice(random.Random):
     def witness(self):
         """Often of two messages with one digest."""
         kind = self.choice(["b0", "b8", "s0", "s8", *KINDS])
-        block, function = block_of(kind), FAMILIES[kind[0]].function
+        block, function = block_size(kind), FAMILIES[kind[0]].function
         a = self.message(block)
         b = self.choice([a, a + b"\0", a[:-1], bytes(block) + a, self.message(block)])
         while kind in ("b8", "s8") and self.random() < 0.995:
@@ -181,7 +181,7 @@ class Dice(random.Random):
     def xof(self):
         kind = self.choice(["xb", "xs", "xb", "xs", self.choice(["b512", "x", "XB"])])
         length = self.output_length(2**32 - 1 if kind == "xb" else 2**16 - 1)
-        return ["xof", kind, length, *self.options(kind, "key", "salt", "persona")], self.message(block_of(kind))
+        return ["xof", kind, length, *self.options(kind, "key", "salt", "persona")], self.message(block_size(kind))
 
     def derive(self):
         context = self.text(self.choice([0, 1, 9, 127, 128, 129]))
@@ -276,7 +276,7 @@ def compare_cases(path, dice, command, cases, unicode):
     wrong, statuses = [], set()
     for number in range(cases):
         words, message = getattr(dice, command)()
-        words = dice.spoiled(words)
+        words = dice.mutated_words(words)
         message = None if dice.random() < 0.02 else message
         if unicode and any(word != word.decode(errors="replace").encode() for word in words):
             continue

@@ -45,14 +45,14 @@ twins_are_compared() {
 check "a file that is not as tools/twins.py makes it is reported" twins_are_compared
 check "the model of the conformance cases has the digests of hashlib" env PYTHONPATH="$top/tests" python3 -c \
     'import oracle, random; oracle.check(random.Random(7693))'
-others_are_as_the_page_says() {
+other_implementations_conform() {
     mkdir "$work/conforming" && "$top/tests/conformance/write.py" "$work/conforming" &&
         "$top/tests/conformance/others.py" --check "$work/conforming"
 }
 needs python3 go
 [ -e /usr/share/gocode/src/golang.org/x/crypto/blake2b ] || missing="no golang-golang-x-crypto-dev"
 python3 -c 'import ctypes.util, sys; sys.exit(not ctypes.util.find_library("b2"))' 2>/dev/null || missing="no libb2"
-check_huge "the conformance cases over hashlib, libb2 and Go" others_are_as_the_page_says
+check_huge "the conformance cases over hashlib, libb2 and Go" other_implementations_conform
 needs python3
 check "choose.c, thunks.h, the exports and the crate for Rust have the functions of vulfsjor.h" \
     "$top/tools/exports.py" --check

@@ -10,7 +10,7 @@
 enum { LENGTH = 32 };
 
 /* Absorbs a file. Returns -1 if it can't be read. */
-static int absorb(vulfsjor_blake2b_state *state, const char *name) {
+static int update_from_file(vulfsjor_blake2b_state *state, const char *name) {
     static unsigned char buffer[1 << 16];
     FILE *file = fopen(name, "rb");
     size_t length;
@@ -31,7 +31,7 @@ int main(int count, char **names) {
     for (int i = 1; i < count; i++) {
         vulfsjor_blake2b_state state;
         if (vulfsjor_blake2b_init(&state, LENGTH)) return 1;
-        if (absorb(&state, names[i])) {
+        if (update_from_file(&state, names[i])) {
             perror(names[i]);
             return 1;
         }

@@ -49,7 +49,7 @@ program_for_arm() {
 }
 
 # The program b2sum of dist/ for aarch64: a digest, a check and a root by several threads.
-sums_for_arm() {
+b2sum_for_arm() {
     assemble "$dist/aarch64/b2sum.s" "$work/b2sum" "${warnings[@]}" && cd "$work" &&
         head -c 3000000 /dev/zero >zeros && ./b2sum zeros | diff - <(sums_by_hashlib zeros) &&
         sums_by_hashlib zeros | ./b2sum --check --strict &&
@@ -99,7 +99,7 @@ test_aarch64() {
     check_huge "the program c/examples/tree_sum.c, for aarch64" tree_sum_example
     check_huge "a project with the files by hand, for aarch64" vendored_by_hand
     check "b2 for aarch64" program_for_arm $([ -n "${VULFSJOR_TEST_HUGE-}" ] && echo 40 || echo 8)
-    check "b2sum for aarch64" sums_for_arm
+    check "b2sum for aarch64" b2sum_for_arm
 }
 
 part test_aarch64 cases

@@ -21,7 +21,7 @@ names_of_object() { nm "$@" | awk 'NF == 3 && $2 ~ /[A-Z]/ { print $3 }' | LC_AL
 without_own() { sed "/_$(code_number)_[a-z0-9]*\$/d;/^vulfsjor_ffi_\(ask\|find\|level\)\$/d"; }
 
 # Header, archive and shared library have the same functions, in the latter with their version, and show nothing else.
-names_are_one() {
+exports_agree() {
     names_of_header >"$work/names" && [ "$(wc -l <"$work/names")" -ge 29 ] || return 1
     names_of_object -g --defined-only "$archive" | without_own | diff "$work/names" - || return 1
     names_of_object -D --defined-only "$shared" | sed '/^VULFSJOR_0[.]1$/d' |
@@ -61,7 +61,7 @@ objects_are_marked() {
 
 # The texts one by one, and those with another number, in one shared library and in one run of the
 # assembler: no name of one is that of another, and none is exported.
-texts_stand_together() {
+texts_link_together() {
     local text count=0 objects=()
     echo "#include \"$dist/macros.h\"" >"$work/all.S"
     for text; do
@@ -292,13 +292,13 @@ test_cost() {
 test_choosing() {
     export CFLAGS=$quick # of the libraries that are made here
     needs nm readelf
-    check "one list of functions" names_are_one
+    check "one list of functions" exports_agree
     check "the shared library's form" shared_library_is_right
     missing=
     is_x86 || missing="the processor is not x86-64"
     check "marks for branch protection" objects_are_marked
     missing=
-    check "the assembly with that of another number" texts_stand_together $(some "${here_texts[@]}")
+    check "the assembly with that of another number" texts_link_together $(some "${here_texts[@]}")
     check "what a program takes of the library" programs_take_what_they_call
     check "hidden names, libvulfsjor.a" names_are_hidden "$archive" "$include"
     check "hidden names, libvulfsjor-libb2.a" libb2_names_are_hidden

@@ -48,7 +48,7 @@ static void nothing(void) {}
 
 static void start_keyed(void) { CHECK(!BLAKE(init_key)(&state, SIZE, key, MAX)); }
 
-static void start_and_take(void) {
+static void init_and_update(void) {
     start_keyed();
     CHECK(!BLAKE(update)(&state, message, length));
 }
@@ -57,13 +57,13 @@ static void start_and_take(void) {
 /* How many bytes of the output have been read, and how many are then. */
 static size_t bytes_read = MAX, asked;
 
-static void start_and_read(void) {
-    start_and_take();
+static void init_and_squeeze(void) {
+    init_and_update();
     CHECK(!bytes_read || !BLAKE(squeeze)(&state, out, bytes_read));
 }
 
 static void start_read_and_reset(void) {
-    start_and_read();
+    init_and_squeeze();
     CHECK(!BLAKE(reset)(&state));
 }
 #endif
@@ -197,7 +197,7 @@ static void take_secrets(void) {
     CHECK(!SEQUENTIAL(init_tree)(&root, MAX, key, MAX, NULL, 0, NULL, 0, &root_place));
     CHECK(!SEQUENTIAL(update)(&root, message, length) && !SEQUENTIAL(final)(&root, key + MAX, MAX) && !call_one_call());
     memcpy(key + 2 * MAX, out, MAX);
-    start_and_take();
+    init_and_update();
     CHECK(!BLAKE(squeeze)(&state, out, MAX) && !memcmp(state.reader.root, key + MAX, MAX));
 }
 #endif
@@ -293,9 +293,9 @@ static int rows(int line) {
     ROW("init_key, refused for its length", start_keyed, 1, !BLAKE(init_key)(&state, NO_SIZE, key, MAX));
     ROW("the hash in one call", nothing, 0, call_one_call());
     ROW("update", start_keyed, 0, call_update());
-    ROW("update, after an update", start_and_take, 0, call_update());
+    ROW("update, after an update", init_and_update, 0, call_update());
 #ifndef TEST_X
-    ROW("final", start_and_take, 1, call_final());
+    ROW("final", init_and_update, 1, call_final());
 #endif
 #ifndef LIBB2_NAMES
     ROW("init_salt_personal with a key", nothing, 0,
@@ -303,27 +303,27 @@ static int rows(int line) {
     /* Not by the header, which sets the state to zero before. */
     ROW("init_salt_personal, refused for its salt", start_keyed, 1,
         !LIBRARY(init_salt_personal)(&state, SIZE, key, MAX, salt, MAX / 4 + 1, salt, 0));
-    ROW("reset", start_and_take, 0, BLAKE(reset)(&state));
-    ROW("wipe", start_and_take, 1, (BLAKE(wipe)(&state), 0));
+    ROW("reset", init_and_update, 0, BLAKE(reset)(&state));
+    ROW("wipe", init_and_update, 1, (BLAKE(wipe)(&state), 0));
 #ifdef TEST_X
     ROW("derive_key", nothing, 0, BLAKE(derive_key)(out, SIZE, key, MAX, message, length));
-    ROW("squeeze, refused for its length", start_and_read, 0, !BLAKE(squeeze)(&state, out, SIZE));
-    ROW("update, refused after a squeeze", start_and_read, 0, !BLAKE(update)(&state, message, length));
-    ROW("reset, after a squeeze", start_and_read, 0, BLAKE(reset)(&state));
+    ROW("squeeze, refused for its length", init_and_squeeze, 0, !BLAKE(squeeze)(&state, out, SIZE));
+    ROW("update, refused after a squeeze", init_and_squeeze, 0, !BLAKE(update)(&state, message, length));
+    ROW("reset, after a squeeze", init_and_squeeze, 0, BLAKE(reset)(&state));
     ROW("update, after a squeeze and a reset", start_read_and_reset, 0, BLAKE(update)(&state, message, length));
-    ROW("wipe, after a squeeze", start_and_read, 1, (BLAKE(wipe)(&state), 0));
+    ROW("wipe, after a squeeze", init_and_squeeze, 1, (BLAKE(wipe)(&state), 0));
     for (size_t i = 0; i < 12; i++) {
         static const size_t lengths[] = {0, 7, MAX, LANES * MAX};
         static char name[100];
 
         if (!line) bytes_read = lengths[i / 4], asked = lengths[i % 4];
         if (!line) snprintf(name, sizeof name, "squeeze, %zu bytes after %zu", asked, bytes_read);
-        ROW(name, start_and_read, 0, BLAKE(squeeze)(&state, out, asked));
+        ROW(name, init_and_squeeze, 0, BLAKE(squeeze)(&state, out, asked));
     }
 #else
-    ROW("verify, a right tag", start_and_take, 1, BLAKE(verify)(&state, tag, MAX));
-    ROW("verify, a wrong tag", start_and_take, 1, !BLAKE(verify)(&state, wrong, MAX));
-    ROW("verify, a tag of another length", start_and_take, 1, !BLAKE(verify)(&state, tag, MAX - 1));
+    ROW("verify, a right tag", init_and_update, 1, BLAKE(verify)(&state, tag, MAX));
+    ROW("verify, a wrong tag", init_and_update, 1, !BLAKE(verify)(&state, wrong, MAX));
+    ROW("verify, a tag of another length", init_and_update, 1, !BLAKE(verify)(&state, tag, MAX - 1));
     ROW("vulfsjor_wipe of a copy of the key", nothing, 0, call_wipe_bytes());
     ROW("vulfsjor_bin2hex and vulfsjor_hex2bin of the key", nothing, 0, call_hexadecimal());
     ROW("which argument of a keyed call is refused, a null salt", nothing, 0,
@@ -339,12 +339,12 @@ static int rows(int line) {
     ROW("many, four messages", nothing, 0, call_many_four());
     ROW("many, as many as are hashed at once", nothing, 0, call_many_lanes());
     ROW("many, one more, of another length", nothing, 0, call_many_more());
-    ROW("set_last_node", start_and_take, 0, BLAKE(set_last_node)(&state, 1));
+    ROW("set_last_node", init_and_update, 0, BLAKE(set_last_node)(&state, 1));
     ROW("save, refused for the key", start_keyed, 0, !BLAKE(save)(&state, saved));
-    ROW("save, refused for the key, after an update", start_and_take, 0, !BLAKE(save)(&state, saved));
+    ROW("save, refused for the key, after an update", init_and_update, 0, !BLAKE(save)(&state, saved));
     /* Not by the header, which sets the state to zero before. */
-    ROW("load over a keyed state, refused", start_and_take, 1, !LIBRARY(load)(&state, saved, sizeof saved - 1));
-    ROW("load over a keyed state", start_and_take, 0,
+    ROW("load over a keyed state, refused", init_and_update, 1, !LIBRARY(load)(&state, saved, sizeof saved - 1));
+    ROW("load over a keyed state", init_and_update, 0,
         LIBRARY(load)(&state, saved, sizeof saved) || !is_zero(state.key, sizeof state.key));
 #else
     ROW("which argument of a keyed call is refused, its last", nothing, 0,

@@ -103,14 +103,14 @@ static int only_noted;
 static uint64_t noted;
 
 /* A number for a place in the input. Sums of others are not the same. */
-static uint64_t mixed(uint64_t place) {
+static uint64_t hash_of_offset(uint64_t place) {
     place = (place ^ place >> 30) * 0xbf58476d1ce4e5b9u;
     place = (place ^ place >> 27) * 0x94d049bb133111ebu;
     return place ^ place >> 31;
 }
 
 static ssize_t note_read(size_t n, off_t from) {
-    __atomic_fetch_add(&noted, mixed((uint64_t)from + n) - mixed((uint64_t)from), __ATOMIC_SEQ_CST);
+    __atomic_fetch_add(&noted, hash_of_offset((uint64_t)from + n) - hash_of_offset((uint64_t)from), __ATOMIC_SEQ_CST);
     return (ssize_t)n;
 }
 
@@ -680,7 +680,7 @@ static void long_inputs(void) {
         for (size_t k = 0; k < COUNT_OF(rows); k++) {
             leaf = leaves[i];
             largest = 0, noted = 0;
-            CHECK(!rows[k].call() && noted == mixed(length) - mixed(rows[k].from));
+            CHECK(!rows[k].call() && noted == hash_of_offset(length) - hash_of_offset(rows[k].from));
             if (!k && leaf < 1 << 18) CHECK(largest == (1 << 20) + leaf / 64);
         }
     only_noted = 0;

@@ -233,7 +233,7 @@ class Engine {
    * Absorbs the first bytes of the window, as many as wait there, and then a message into the state
    * in the slot. Returns false if it is too long.
    */
-  absorb(kind, waiting, message) {
+  updateFromWindow(kind, waiting, message) {
     const hash = this.hash(kind);
     const { window, atWindow } = hash;
     const piece = kind.isTree ? WINDOW_LENGTH : PIECE;
@@ -380,7 +380,7 @@ export const update = (kind, state, waiting, message) =>
 
 function updateIn(engine, kind, state, waiting, message) {
   engine.bytes.set(state, engine.base + STATE);
-  const isAbsorbed = engine.absorb(kind, waiting, message);
+  const isAbsorbed = engine.updateFromWindow(kind, waiting, message);
   if (isAbsorbed) {
     state.set(engine.hash(kind).slot);
     if (waiting > 0) state.fill(0, kind.stateLength);
@@ -512,7 +512,7 @@ function hashIn(engine, kind, message, settings) {
       at.out, big(digestLength), atWindow, big(length), at.key, engine.put(key, KEY)));
   } else {
     engine.begin(kind, settings);
-    if (!engine.absorb(kind, 0, message)) throw new Error("vulfsjor: the message is too long");
+    if (!engine.updateFromWindow(kind, 0, message)) throw new Error("vulfsjor: the message is too long");
     engine.end(kind, digestLength);
   }
   const digest = engine.digest(digestLength);

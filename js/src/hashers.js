@@ -206,14 +206,14 @@ export class Hasher {
     const { stateLength, room, certainBelow } = this.#kind;
     const length = lengthOf(bytes);
     if (this.#waiting + length > room || this.#count >= certainBelow) {
-      return this.#absorb(state, bytes);
+      return this.#updateState(state, bytes);
     }
     state.set(bytes, stateLength + this.#waiting);
     this.#waiting += length;
     return this;
   }
 
-  #absorb(state, bytes) {
+  #updateState(state, bytes) {
     this.#hasEnded = true; // if the call throws
     const isTaken = engine.update(this.#kind, state, this.#waiting, bytes);
     this.#hasEnded = false;

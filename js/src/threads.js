@@ -91,7 +91,7 @@ export class TreeThreads {
     entry.worker = new RangeWorker(this.#caller, {
       onDigests: (digests) => {
         this.#digests.set(entry.range, digests);
-        this.#absorb();
+        this.#absorbDigests();
         this.#idle.push(entry);
         this.#tell(this.#report, entry.length);
         this.#wake();
@@ -107,7 +107,7 @@ export class TreeThreads {
   }
 
   // Absorbs the digests of the next ranges, as far as they are there.
-  #absorb() {
+  #absorbDigests() {
     for (let digests; (digests = this.#digests.get(this.#absorbed)); this.#absorbed++) {
       updateRoot(this.#root, digests);
       this.#digests.delete(this.#absorbed);

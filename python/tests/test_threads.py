@@ -119,7 +119,7 @@ class Shared(unittest.TestCase):
     """Objects that threads share. One updates with many bytes, the others with few as long as it
     does. All are zeros, so that their order does not matter."""
 
-    def shared(self, hasher, call):
+    def update_meanwhile(self, hasher, call):
         """Updates the hasher by threads, calls `call` meanwhile, and returns the number of bytes.
         Threads switch often."""
         self.addCleanup(sys.setswitchinterval, sys.getswitchinterval())
@@ -152,7 +152,7 @@ class Shared(unittest.TestCase):
                 seen.append((len(hasher.digest(*size)), getattr(hasher, "count", 0), getattr(hasher, "digest_size", 0)))
                 hasher.copy().update(b"x")
 
-            length = self.shared(hasher, call)
+            length = self.update_meanwhile(hasher, call)
             self.assertEqual(hasher.digest(*size), wanted(bytes(length)))
             self.assertEqual(seen, sorted(seen))
             self.assertEqual({(length, given) for length, _, given in seen},

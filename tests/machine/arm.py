@@ -163,7 +163,7 @@ class Arm(Processor):
     def leave(self, link: T.Term) -> None:
         """That register belongs to the call."""
 
-    def lost_vector(self, j: int, old: list, what: str) -> list:
+    def clobbered_vector(self, j: int, old: list, what: str) -> list:
         """The low halves of 8 to 15 belong to the caller."""
         start = 8 if 8 <= j < 16 else 0
         return old[:start] + self.values.lost(16 - start, what)

@@ -190,7 +190,7 @@ class Case:
         cpu, sp, back = self.calls.cpu, T.var(64, "sp", T.PUBLIC), T.var(64, "return address", T.PUBLIC)
         m = Exact(self.regions, cpu, alignment, self.known)
         for data in self.structs.values():
-            data[:] = map(m.settler(), data)
+            data[:] = map(m.byte_normalizer(), data)
         arguments = [m.settled(t) for t in self.arguments]
         above = [back] if self.calls.program.kind == "x86_64" else []
         above = [b for t in above + arguments[len(cpu.ARGUMENTS):] for b in T.split(t)]

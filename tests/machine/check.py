@@ -104,7 +104,7 @@ def missing(path: str) -> str | None:
     return next((tool for tool in needed if not shutil.which(tool)), None)
 
 
-def not_runnable(path: str) -> str | None:
+def missing_feature(path: str) -> str | None:
     """What is missing to run a file's instructions, or None."""
     kind = functions.architecture(path)
     runner = {"aarch64": "qemu-aarch64", "x86_64": "cc", "wasm": "node"}[kind]
@@ -269,7 +269,7 @@ def instructions(path: str, user: str) -> tuple:
     rounds = ROUNDS[user][is_long()]
     if functions.architecture(path) == "wasm":
         return check_wasm_instructions.check(path, rounds)
-    other = "" if is_long() or path not in SHORT_OTHERS or not_runnable(V3) else V3
+    other = "" if is_long() or path not in SHORT_OTHERS or missing_feature(V3) else V3
     return check_instructions.check(path, user, rounds, other)[:2]
 
 
@@ -342,7 +342,7 @@ def runs_instructions(path: str, user: str) -> bool:
 def tests_of_the_tool() -> Iterator[Job]:
     """The jobs that test the tool itself, but those of one file."""
     few = lambda n, m: n if is_long() else m
-    assembly = not_runnable(changes.ARM) or not_runnable(changes.V3) or SOLVER
+    assembly = missing_feature(changes.ARM) or missing_feature(changes.V3) or SOLVER
     for title, gone, show, *arguments in (
             *[("the rules of terms at %d bits" % width, SOLVER, check_terms.check, width, is_long())
               for width in few((64, 32, 16, 8), (8,))],
@@ -362,7 +362,7 @@ def tests_of_the_tool() -> Iterator[Job]:
                changes.check_unchanged)] * is_long(),
             *[(row.title(), missing(row.path) or SOLVER, row.check)
               for row in changes.table() if is_long() or row.is_first],
-            *[("seen when it runs, %s" % row.title().partition(": ")[2], not_runnable(row.path) or SOLVER,
+            *[("seen when it runs, %s" % row.title().partition(": ")[2], missing_feature(row.path) or SOLVER,
                check_paths.sees, row)
               for row in changes.table() if row.is_run and (is_long() or row.is_first)],
             *[("the types of tests/machine", None if shutil.which("mypy") else "mypy", types)] * is_long()):
@@ -380,12 +380,12 @@ def tests_of_a_file(path: str) -> Iterator[Job]:
     for user in USERS:
         if runs_instructions(path, user):
             yield job("the model of instructions %s agrees with the processor" % USERS[user],
-                      not_runnable(path) or (SOLVER if user == "W" else None), instructions, path, user)
+                      missing_feature(path) or (SOLVER if user == "W" else None), instructions, path, user)
     for family in call_cases.TITLES if path in check_paths.TEXTS else ():
         exports = SHORT_RUN.get((path, family))
         if is_long() or exports:
             yield job("calls of %s do what was proved of each path" % call_cases.TITLES[family],
-                      not_runnable(path) or SOLVER, check_paths.check, path, family, [] if is_long() else exports)
+                      missing_feature(path) or SOLVER, check_paths.check, path, family, [] if is_long() else exports)
     for entry in functions.FILES[path]:
         if is_long() or (path, entry) == (ARM, functions.ONE_S):
             yield job("random changes of %s are refused" % entry[0], gone, changes.check_random, path, entry)
@@ -473,7 +473,7 @@ def write_forms() -> int:
                 verdict, why, run_forms = check_instructions.check(path, user, 4)
                 found.update(run_forms)
                 return verdict, why
-            verdict, _, why = run(Job(path, not_runnable(path), show))
+            verdict, _, why = run(Job(path, missing_feature(path), show))
             if verdict != "ok":
                 print("check.py: %s: %s" % (path, why), file=sys.stderr)
                 return 1

@@ -74,7 +74,7 @@ class Run:
             ("add", lambda a, b: T.add(64, (first, a), (factor, b), (1, T.const(64, added))),
              first * x + factor * y + added),
             ("and", lambda a, _: m.masked(a, T.const(64, n)), x & n), ("or", m.either, x | y),
-            ("shift", lambda a, _: m.shifted_right(a, k), x >> k), ("xor", m.exclusive, x ^ y),
+            ("shift", lambda a, _: m.shifted_right(a, k), x >> k), ("xor", m.xor_values, x ^ y),
             ("shift back", lambda a, _: m.shifted_right(m.shifted_left(a, k), k), (x << k) % (1 << 64) >> k),
             *((name, None, self.low(name, x, y, n, size)) for name in LOW)))
         self.add(T.word(m.computed(kind, f, *data) if f else self.low_bytes(kind, *data, n, size)), found)
@@ -97,7 +97,7 @@ class Run:
                 self.learn("<", t, T.const(t.w, k), self.value(t) < k)
         if kind == "sign":
             return m.cleaned(m.extended(data, 8), True)
-        made = {"low": low, "sum": total(low, T.word(other)), "flip": m.exclusive(low, T.const(low.w, n))}[kind]
+        made = {"low": low, "sum": total(low, T.word(other)), "flip": m.xor_values(low, T.const(low.w, n))}[kind]
         return T.split(made or m.new(low.w)) + zeros
 
     def learn(self, relation: str, a: T.Term, b: T.Term, holds: bool) -> None:

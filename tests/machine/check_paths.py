@@ -22,7 +22,7 @@ import symbolic
 import terms as T
 import xof_specification as X
 from call_cases import COUNTS, MOST, REFUSED
-from check_specification import LONGEST, Unlucky, value
+from check_specification import LONGEST, UnusableNumbers, value
 
 TEXTS = [path for path in programs.functions.FILES if path.endswith(".s")]
 SOURCE = os.path.join(os.path.dirname(os.path.abspath(__file__)), "hostile.S")
@@ -66,7 +66,7 @@ class Hostile:
         at = len(self.memory) + -len(self.memory) % 8
         self.memory = self.memory.ljust(at, b"\0") + data
         if ARENA + len(self.memory) > BELOW:
-            raise Unlucky
+            raise UnusableNumbers
         return at
 
     def write(self, at: int, data: bytes) -> None:
@@ -158,13 +158,13 @@ class Ran(call_cases.Case):
     def bound(self, numbers: tuple, low: int, high: int) -> None:
         total = sum(n[0] * value(n[1]) if isinstance(n, tuple) else value(n) for n in numbers)
         if not low <= total <= high:
-            raise Unlucky
+            raise UnusableNumbers
 
     def chooses_null(self, name: str, length: Any) -> bool:
         """As in the case."""
         is_null = name in self.of.nulls and self.one_of(False, True)
         if is_null and value(length):
-            raise Unlucky
+            raise UnusableNumbers
         return is_null
 
     def pass_struct(self, name: str, data: Any) -> None:
@@ -225,7 +225,7 @@ class Ran(call_cases.Case):
             tag.data = bytes(right)
         result, state, out = expected(C.A)
         if self.is_long and not self.is_refused:
-            raise Unlucky
+            raise UnusableNumbers
         words = [x.address() if isinstance(x, Placed) else int.from_bytes(bytes(
             b if isinstance(b, int) else self.rng.randrange(256) for b in T.split(x)), "little")
             for x in self.arguments]
@@ -313,14 +313,14 @@ class Paths:
         return found + [Way(None, None, None, TAG)] * is_arm
 
     def differs(self, hostile: Hostile, case: Any, names: dict, way: Way) -> str | None:
-        """What the text does otherwise than is specified, or None. Raises Unlucky if this cannot be run."""
+        """What the text does otherwise than is specified, or None. Raises UnusableNumbers if this cannot be run."""
         T.reset()
         junk = self.rng.randbytes(JUNK) if way.junk is None else bytes([way.junk]) * JUNK
         hostile.start(junk, way.junk is None, way.tag)
         made = Ran(self.rng, self.cases, case, names, way, hostile)
         expected = self.cases.fill(self.export, made)
         if way.shift is not None and not made.shares:
-            raise Unlucky
+            raise UnusableNumbers
         try:
             why = made.differs(self.cases.prefix + self.export, expected)
         except T.IsWrong as e:
@@ -346,7 +346,7 @@ class Paths:
             for k, way in enumerate(self.ways(both[0].is_arm)):
                 try:
                     why = self.differs(both[k % 2], case, names, way)
-                except Unlucky:
+                except UnusableNumbers:
                     continue
                 self.ran += 1
                 if why:

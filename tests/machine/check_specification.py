@@ -19,7 +19,7 @@ def value(n: Any) -> int:
     return n.args if isinstance(n, T.Term) else n
 
 
-class Unlucky(Exception):
+class UnusableNumbers(Exception):
     """The numbers that were made up are not those of the case, or too large."""
 
 
@@ -34,7 +34,7 @@ class Numbers(Terms):
 
     def compress_all(self, kind: R.Kind, chain: list, data: Any, start: Any, k: Any, count: Any) -> list:
         if value(k) > LONGEST:
-            raise Unlucky
+            raise UnusableNumbers
         return R.compress_all(kind, chain, data, value(start), value(k), value(count))
 
 

@@ -359,7 +359,7 @@ class Reads(Induction):
         """The bytes at the head that are not as another iteration starts."""
         cells = m.cells()
         wanted = {**self.first, **self.grown(self.done(self.word(cells, self.place)))}
-        return {c for c in self.wrong(cells, wanted, m.settler()) if c[1] is not self.out} | {
+        return {c for c in self.wrong(cells, wanted, m.byte_normalizer()) if c[1] is not self.out} | {
             c for c in self.left
             if not m.may_be_left(*c[1:], cells[c]) or m.left_by([cells[c]]) != self.what != AFTER_KEY}
 

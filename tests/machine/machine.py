@@ -11,7 +11,7 @@ WORDWISE: dict = {"xor": T.xor, "or": T.either, "and": T.both}
 # What instructions make of two words; the values may know more than the words say.
 ON_WORDS: dict = {
     "add": lambda m, a, b: total(a, b), "sub": lambda m, a, b: total(a, b, -1), "and": lambda m, a, b: m.masked(a, b),
-    "or": lambda m, a, b: m.either(a, b), "xor": lambda m, a, b: m.exclusive(a, b),
+    "or": lambda m, a, b: m.either(a, b), "xor": lambda m, a, b: m.xor_values(a, b),
     "not": lambda m, a, b: T.add(a.w, (-1, a), (-1, T.const(a.w, 1))), "neg": lambda m, a, b: T.add(a.w, (-1, a)),
     "shl": lambda m, a, b: m.shifted_left(a, b.args), "shr": lambda m, a, b: m.shifted_right(a, b.args),
     "mul": lambda m, a, b: T.add(a.w, (b.args, a)) if b.op == "const" else None,
@@ -311,7 +311,7 @@ class Values:
         """A byte, by what is known of it."""
         return b
 
-    def settler(self) -> Callable:
+    def byte_normalizer(self) -> Callable:
         """A function that returns a byte by what the path knows of its variables."""
         return self.norm
 
@@ -342,7 +342,7 @@ class Processor:
     SAVED: tuple = ()                  # the registers that belong to the caller, except the stack pointer
     step: Callable                     # executes an instruction other than a jump, a call or a return
     condition: Callable                # what a conditional jump compares
-    lost_vector: Callable              # what a function may leave in a vector register
+    clobbered_vector: Callable              # what a function may leave in a vector register
     at_entry: Callable                 # the bytes a return must find: its address, the stack pointer, registers
 
     def __init__(self, values: Any) -> None:
@@ -372,7 +372,7 @@ class Processor:
         m = self.values
         m.become(CALL, general=[old if r in self.SAVED + self.STACK_POINTER else m.lost(8, what)
                                 for r, old in enumerate(m.general)],
-                 vector=[self.lost_vector(j, old, what) for j, old in enumerate(m.vector)])
+                 vector=[self.clobbered_vector(j, old, what) for j, old in enumerate(m.vector)])
 
     def quietly(self, f: Callable, a: list, b: list) -> list:
         """The bytes of a result of two words, without the flags."""
@@ -460,7 +460,7 @@ class Processor:
     def check_return(self, entry: tuple, first: int = 0) -> None:
         """Refuses a return with another address, stack pointer or register of the caller than at the entry, from the
         first of these on."""
-        parts, byte = ("return address", "stack pointer", "registers"), self.values.settler()
+        parts, byte = ("return address", "stack pointer", "registers"), self.values.byte_normalizer()
         for what, found, wanted in [*zip(parts, self.at_entry(), entry)][first:]:
             if [byte(b) for b in found] != [byte(b) for b in wanted]:
                 raise IsWrong("the caller's %s: not as at the entry" % what)

@@ -212,7 +212,7 @@ class Exact(Values):
         """A word, in which variables of which the value is known are numbers."""
         return T.substitute(t, self.path_facts.values(), {})
 
-    def settler(self) -> Callable:
+    def byte_normalizer(self) -> Callable:
         values = self.path_facts.values()
         memo: dict = {}
         return lambda b: b if isinstance(b, int) or b[0].taint != T.PUBLIC else T.split(
@@ -223,7 +223,7 @@ class Exact(Values):
         known, self.settled_values = self.settled_values, len(self.path_facts.values())
         if known == self.settled_values:
             return
-        byte = self.settler()
+        byte = self.byte_normalizer()
         for name in self.processor.FILES:
             setattr(self, name, [[byte(b) for b in r] for r in getattr(self, name)])
         self.memory = {at: byte(b) for at, b in self.memory.items()}
@@ -346,7 +346,7 @@ class Exact(Values):
     def normal(self, t: T.Term) -> list:
         return [self.norm(b) for b in T.split(t)] if t.taint & T.PUBLIC else T.split(t)
 
-    def exclusive(self, a: T.Term, b: T.Term) -> Any:
+    def xor_values(self, a: T.Term, b: T.Term) -> Any:
         if not (a.taint | b.taint) & T.PUBLIC and a.op != "cat" != b.op:
             return T.xor(a.w, a, b)
         return T.word(bitwise(T.xor, self.normal(a), self.normal(b)))
@@ -412,7 +412,7 @@ class Exact(Values):
         if name == "and":
             return joined(self.vector_of(lambda p, q: [T.and_byte(*p, *q)], *pair)
                           for pair in zip(chunks(x, 1), chunks(y, 1)))
-        f = self.exclusive if name == "xor" else self.either
+        f = self.xor_values if name == "xor" else self.either
         return joined(T.split(f(T.word(p), T.word(q))) for p, q in zip(chunks(x, 8), chunks(y, 8)))
 
     def vector_of(self, f: Callable, *data: list) -> list:
@@ -458,7 +458,7 @@ class Exact(Values):
         found = [self.memory.get((base, at)) for at in places]
         if None not in found:
             return found
-        byte = self.settler()
+        byte = self.byte_normalizer()
         return [byte(region.initial(at)) if b is None else b for at, b in zip(places, found)]
 
     def load(self, address: T.Term, size: Any, aligned: bool = False) -> list:

@@ -395,10 +395,10 @@ class Taint(Values):
             return r
         return 0, n, n & -n or 1
 
-    def exclusive(self, *_: Any) -> None:
+    def xor_values(self, *_: Any) -> None:
         """An exclusive or, and a field of bits: nothing is known of them."""
 
-    bitfield: Any = exclusive
+    bitfield: Any = xor_values
 
     def shifted_right(self, a: T.Term, k: int) -> Any:
         """The range of a word that is shifted to the right."""

@@ -250,7 +250,7 @@ class X86(Processor):
         self.values.general[RSP] = T.split(T.add(64, (1, self.values.stack_pointer()), (1, T.const(64, n))))
         self.values.forget_below()
 
-    def lost_vector(self, j: int, old: list, what: str) -> list:
+    def clobbered_vector(self, j: int, old: list, what: str) -> list:
         """Zeros above the bytes that belong to the call, and what is as before, stay for all calls that follow."""
         start = 0 if j in UPPER else 16
         is_left = what == LEFT and self.values.is_left(j, start)
