@@ -9,7 +9,9 @@ _b2() {
         2,xof) words="xb xs" ;;
         2,leaves | 3,leaves | 3,tree | 3,root | 3,xof | *,witness) ;;
         4,leaves) words="more last" ;;
+        4,derive) words=raw ;;
         *,tree | *,leaves | *,root) words="salt= persona= persona-text=" ;;
+        4,xof) words="raw key= salt= persona= persona-text=" ;;
         *,sum | *,script | *,steps | *,xof) words="key= salt= persona= persona-text=" ;;
     esac
     mapfile -t COMPREPLY < <(compgen -W "$words" -- "$word")

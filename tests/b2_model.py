@@ -309,14 +309,24 @@ def root_line(command, size, words, source):
 
 
 def derived(words, source):
-    """The line of `derive`."""
+    """The text of `derive`."""
     length = length_below(unknown_length(B), words)
-    if len(words) != 2:
+    if len(words) < 2 or words[2:] not in ([], ["raw"]):
         raise Fault("wrong words")
     key = source()
     if not 1 <= len(key) <= B.key:
         raise Fault("wrong length")
-    return output(B, length, Input(words[1].encode(), key)).hex()
+    return output_text(output(B, length, Input(words[1].encode(), key)), words[2:])
+
+
+def output_text(data, words):
+    """What is printed of these bytes: with `raw` they, and otherwise a line."""
+    return data if words else text_of([data.hex()])
+
+
+def text_of(printed):
+    """These lines."""
+    return "".join(line + "\n" for line in printed).encode()
 
 
 def script_calls(data):
@@ -359,12 +369,12 @@ def fields(family, letter, words, entry=None):
     return " ".join(parts + [str(entry[1]), str(int(entry[2])), entry[0].hex()] if entry else parts)
 
 
-def lines(words, source):
-    """The lines that the arguments request; the source is a function that reads the input."""
+def text(words, source):
+    """What the arguments request; the source is a function that reads the input."""
     if words and words[0] == "derive":
-        return [derived(words[1:], source)]
+        return derived(words[1:], source)
     if words and words[0] == "leaves":
-        return part_lines(words[1:], source)
+        return text_of(part_lines(words[1:], source))
     if not words or words[0] not in KINDS or len(words) < 2 or words[1] not in KINDS[words[0]]:
         raise Fault("wrong words")
     command, (family, size), rest = words[0], KINDS[words[0]][words[1]], words[2:]
@@ -373,25 +383,26 @@ def lines(words, source):
         if len(rest) != 2:
             raise Fault("wrong words")
         pair = witness(family, size, *(Input(message) for message in messages))
-        return [fields(family, "s", h, entry) for h, entry in pair] if pair else ["none"]
+        return text_of([fields(family, "s", h, entry) for h, entry in pair] if pair else ["none"])
     if command in ("tree", "root"):
-        return [root_line(command, size, rest, source)]
+        return text_of([root_line(command, size, rest, source)])
     if command == "xof":
-        length, rest = length_below(unknown_length(family), rest), rest[1:]
+        length, raw = length_below(unknown_length(family), rest), rest[1:2] if rest[1:2] == ["raw"] else []
+        rest = rest[1 + len(raw):]
     given = Input(b"", **options(rest, ("key", "salt", "persona")))
     if max(len(given.salt), len(given.persona)) > family.salt or given.key is not None and not (
             1 <= len(given.key) <= family.key):
         raise Fault("wrong length")
     data = source()
     if command == "script":
-        return script(family, size, given, data)
+        return text_of(script(family, size, given, data))
     given = given._replace(message=data)
     if command == "xof":
-        return [output(family, length, given).hex()]
+        return output_text(output(family, length, given), raw)
     if command == "sum":
-        return [steps(family, size, given)[1].hex()]
+        return text_of([steps(family, size, given)[1].hex()])
     parts = [fields(family, "w", parameter_words(family, size, given))]
-    return parts + [fields(family, "e", [], entry) for entry in entries(family, given)]
+    return text_of(parts + [fields(family, "e", [], entry) for entry in entries(family, given)])
 
 
 def run(words, source):
@@ -401,7 +412,7 @@ def run(words, source):
     except UnicodeDecodeError:
         return 1, b"b2: no memory\n"
     try:
-        return 0, "".join(line + "\n" for line in lines(words, source)).encode()
+        return 0, text(words, source)
     except Fault as fault:
         return 2, f"b2: {fault}\n".encode()
     except OSError:

@@ -82,7 +82,7 @@ class Dice(random.Random):
         while self.random() < 0.12:
             place = self.randrange(len(words) + 1)
             other = self.choice([*words, "", "foo", "key", "key=01", "salt=", "persona=00", "persona-text=", "=",
-                                 "b512", "S256", "-", "61", "xs", "-h", "--help"])
+                                 "b512", "S256", "-", "61", "xs", "raw", "-h", "--help"])
             if self.random() < 0.4:
                 words.insert(place, other)
             elif place < len(words):
@@ -178,14 +178,19 @@ class Dice(random.Random):
         length = self.choice([1, 31, 32, 33, 63, 64, 65, 255, 256, 257, self.randint(1, 600)])
         return self.mostly(str(length), "0", "01", "-1", "+8", "8k", "", str(most), str(most + 1), "99999999999")
 
+    def raw(self):
+        """The word after which bytes are printed, or none."""
+        return ["raw"] * (self.random() < 0.3)
+
     def xof(self):
         kind = self.choice(["xb", "xs", "xb", "xs", self.choice(["b512", "x", "XB"])])
         length = self.output_length(2**32 - 1 if kind == "xb" else 2**16 - 1)
-        return ["xof", kind, length, *self.options(kind, "key", "salt", "persona")], self.message(block_size(kind))
+        words = [*self.raw(), *self.options(kind, "key", "salt", "persona")]
+        return ["xof", kind, length, *words], self.message(block_size(kind))
 
     def derive(self):
         context = self.text(self.choice([0, 1, 9, 127, 128, 129]))
-        return (["derive", self.output_length(2**32 - 1), context],
+        return (["derive", self.output_length(2**32 - 1), context, *self.raw()],
                 self.randbytes(self.choice([1, 16, 32, 63, 64, 64, 65, 0, self.randint(1, 200)])))
 
 

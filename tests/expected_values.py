@@ -11,7 +11,7 @@ import random
 import struct
 
 from b2_model import Input, Place, bytes_of, entries, parameter_words, read
-from b2_model import lines as printed_lines
+from b2_model import text as printed_text
 from common import FAMILIES, KINDS, Parser
 from oracle import SCALAR, check, hashlib_node, range_digests, tree_root
 
@@ -33,7 +33,7 @@ def digest(data):
 def transcript_text(kind, message, **given):
     """What `steps` prints, of a key, a salt and a persona."""
     words = ["steps", kind, *(f"{name}={value.hex()}" for name, value in given.items() if value)]
-    return "".join(line + "\n" for line in printed_lines(words, lambda: message)).encode()
+    return printed_text(words, lambda: message)
 
 
 def copies():

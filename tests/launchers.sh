@@ -234,8 +234,13 @@ b2 root b256 4096 .:salt= persona= persona-text=
 b2 script s256 .:key= salt= persona= persona-text=
 b2 xof .:xb xs
 b2 xof xb .:
-b2 xof xb 8 .:key= salt= persona= persona-text=
+b2 xof xb 8 .:raw key= salt= persona= persona-text=
+b2 xof xb 8 raw .:key= salt= persona= persona-text=
+b2 xof xb 8 r:raw
 b2 derive .:
+b2 derive 8 .:
+b2 derive 8 context .:raw
+b2 derive 8 context raw .:
 b2 sum b512 salt=00 p:persona= persona-text=
 b2 steps b512 k:key=
 b2 other .:

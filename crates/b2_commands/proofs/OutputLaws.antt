@@ -7,7 +7,6 @@ use Rattle.std.specs.Prelude.{◌↔◌, IfSome, IsOkUnless, OnOk, unwrap_or}
 use Rattle.std.specs.Io.KnownBytes.{Appends}
 use Rattle.blake2.specs.Family.{Family, blake2b, blake2s}
 use Rattle.blake2.specs.MacArguments.{key_count, IsRefused}
-use Rattle.blake2.specs.Streams.{line_of}
 use Rattle.blake2_digest.specs.States.{Fresh, Meaning, Updated, digest_now}
 use Rattle.blake2_state.specs.ConstructorArguments.{given_count}
 use Rattle.blake2_xof.specs.Xof.{AdmitsXof, IsKnown, Settings, outputs, settings, unknown_length}
@@ -110,38 +109,42 @@ kept_length f m a b n made now x root known some fresh updated other is =
     sym (length-stream f b root (some_output f b.xof_length other)) ∙ ap length same
     ∙ length-stream f a (root_hash f a (x ++ [])) (omega (arith, size)) ∙ size
 
--- The line of a whole output that was read from its first byte on.
-pub printed_output : {S : Type 0} (f : Family) (m : Meaning S) (a : Settings) (n : ℕ)
+-- What is printed of a whole output that was read from its first byte on.
+pub printed_output : {S : Type 0} (text : List ℕ → List ℕ) (f : Family) (m : Meaning S)
+    (a : Settings) (n : ℕ)
     (made now : S) (x : List ℕ) (position : ℕ) (all : List ℕ) (result : Result (Unit {0}) Fault)
     (old new : Option (List ℕ)) → IsKnown f a.xof_length → 1 ≤ a.xof_length
     → Fresh m (outputs f a) n made → Updated m made x now → position ≡ 0
     → all ≡ digest_now m now
-    → OnOk result (Appends old new (line_of (take a.xof_length (drop position all))))
-    → OnOk result (Appends old new (line_of (xof f a x)))
-printed_output f m a n made now x position all (Ok _) old new known some fresh updated first is line =
-    subst (λ out. Appends old new (line_of out))
+    → OnOk result (Appends old new (text (take a.xof_length (drop position all))))
+    → OnOk result (Appends old new (text (xof f a x)))
+printed_output text f m a n made now x position all (Ok _) old new known some fresh updated first is
+    bytes =
+    subst (λ out. Appends old new (text out))
     (whole_output f m a n made now x position all (take a.xof_length (drop position all)) known some
-    fresh updated first is refl) line
-printed_output f m a n made now x position all (Err _) old new known some fresh updated first is
-    line =
+    fresh updated first is refl) bytes
+printed_output text f m a n made now x position all (Err _) old new known some fresh updated first is
+    bytes =
     tt
 
 -- How an output of all that a source had left ends.
-pub output_ends : {S : Type 0} (f : Family) (m : Meaning S) (a : Settings) (n : ℕ) (made now : S)
-    (position : ℕ) (all : List ℕ) (result : Result (Unit {0}) Fault) (left old new : Option (List ℕ))
+pub output_ends : {S : Type 0} (text : List ℕ → List ℕ) (f : Family) (m : Meaning S)
+    (a : Settings) (n : ℕ) (made now : S) (position : ℕ) (all : List ℕ)
+    (result : Result (Unit {0}) Fault) (left old new : Option (List ℕ))
     → IsKnown f a.xof_length → 1 ≤ a.xof_length → Fresh m (outputs f a) n made
     → IfSome left (λ bytes. (m.count made + length bytes < 2 ^ 64) × Updated m made bytes now)
     → position ≡ 0 → all ≡ digest_now m now → IsOkUnless result WriteFailed
-    → OnOk result (Appends old new (line_of (take a.xof_length (drop position all))))
-    → EndsBy (λ message. line_of (xof f a message)) n result left old new
-output_ends f m a n made now position all (Ok _) None old new known some fresh took first is end line =
+    → OnOk result (Appends old new (text (take a.xof_length (drop position all))))
+    → EndsBy (λ message. text (xof f a message)) n result left old new
+output_ends text f m a n made now position all (Ok _) None old new known some fresh took first is end
+    printed =
     tt
-output_ends f m a n made now position all (Ok x) (Some bytes) old new known some fresh took first is
-    end line = (
+output_ends text f m a n made now position all (Ok x) (Some bytes) old new known some fresh took first
+    is end printed = (
       omega (arith, took.0, fresh.count),
-      printed_output f m a n made now bytes position all (Ok x) old new known some fresh took.1 first is
-          line,
+      printed_output text f m a n made now bytes position all (Ok x) old new known some fresh took.1
+          first is printed,
     )
-output_ends f m a n made now position all (Err fault) left old new known some fresh took first is end
-    line =
+output_ends text f m a n made now position all (Err fault) left old new known some fresh took first is
+    end printed =
     rw end tt

@@ -181,10 +181,10 @@ pub data Task : Type 0 where
   to_leaves : ℕ → ℕ → Bool → Given → Task
   -- `root KIND LEAF [salt=HEX] [persona=HEX]`
   to_root : Kind → ℕ → Given → Task
-  -- `xof KIND LENGTH [key=HEX] [salt=HEX] [persona=HEX]`
-  to_xof : Family → ℕ → Given → Task
-  -- `derive LENGTH CONTEXT`
-  to_derive : ℕ → List ℕ → Task
+  -- `xof KIND LENGTH [raw] [key=HEX] [salt=HEX] [persona=HEX]`, and whether it has `raw`
+  to_xof : Family → ℕ → Bool → Given → Task
+  -- `derive LENGTH CONTEXT [raw]`, and whether it has `raw`
+  to_derive : ℕ → List ℕ → Bool → Task
   -- `--help`
   to_help : Task
   -- `--version`
@@ -248,33 +248,43 @@ abbrev pub leaves_task : List (List ℕ) → Result Task Fault
 leaves_task [] = Err WrongWords
 leaves_task (word ∷ words) = and_then (leaf_value word) (λ n. index_task n words)
 
+-- Whether the first of the arguments is `raw`, for an output that is printed as its bytes.
+abbrev pub begins_raw : List (List ℕ) → Bool
+begins_raw [] = false
+begins_raw (word ∷ words) = bytes_eq word (codes "raw")
+
+-- The arguments after `raw`, or all if the first is not `raw`.
+abbrev pub after_raw : List (List ℕ) → List (List ℕ)
+after_raw [] = []
+after_raw (word ∷ words) = if bytes_eq word (codes "raw") then words else word ∷ words
+
 -- The task of the arguments after KIND of `xof`.
 abbrev pub output_task_of : Family → List (List ℕ) → Result Task Fault
 output_task_of f [] = Err WrongWords
 output_task_of f (word ∷ words) =
     and_then (length_value f word)
-    (λ n. and_then (with_words true nothing_given words) (λ given. Ok (to_xof f n given)))
+    (λ n. and_then (with_words true nothing_given (after_raw words))
+    (λ given. Ok (to_xof f n (begins_raw words) given)))
 
 -- The task of the arguments after `xof`.
 abbrev pub xof_task : List (List ℕ) → Result Task Fault
 xof_task [] = Err WrongWords
 xof_task (word ∷ words) = and_then (output_family_of word) (λ f. output_task_of f words)
 
--- The task of the arguments after LENGTH of `derive`: one, which is the context.
+-- The task of arguments that no other follows.
+abbrev pub only : Task → List (List ℕ) → Result Task Fault
+only task [] = Ok task
+only task (word ∷ words) = Err WrongWords
+
+-- The task of the arguments after LENGTH of `derive`: the context, and possibly `raw`.
 abbrev pub context_task : ℕ → List (List ℕ) → Result Task Fault
 context_task n [] = Err WrongWords
-context_task n (context ∷ []) = Ok (to_derive n context)
-context_task n (context ∷ word ∷ words) = Err WrongWords
+context_task n (context ∷ words) = only (to_derive n context (begins_raw words)) (after_raw words)
 
 -- The task of the arguments after `derive`.
 abbrev pub derive_task : List (List ℕ) → Result Task Fault
 derive_task [] = Err WrongWords
 derive_task (word ∷ words) = and_then (length_value blake2b word) (λ n. context_task n words)
-
--- The task of an argument that no other follows.
-abbrev pub only : Task → List (List ℕ) → Result Task Fault
-only task [] = Ok task
-only task (word ∷ words) = Err WrongWords
 
 -- The task of a command line.
 abbrev pub task_of : List (List ℕ) → Result Task Fault

@@ -1,12 +1,25 @@
 -- The lines that the program prints of transcripts and steps. 32 is a space and 10 a newline. There
 -- is a space before each field.
-use Rattle.std.specs.Prelude.{ℕ, Bool, List, [], ◌∷◌, ◌++◌, map, codes, decimal, if◌then◌else◌}
+use Rattle.std.specs.Prelude.{ℕ, Bool, true, false, List, [], ◌∷◌, ◌++◌, map, codes, decimal}
+use Rattle.std.specs.Prelude.{if◌then◌else◌}
 use Rattle.std.specs.Int.{to_be_bytes}
 use Rattle.std.specs.List.{flat_map}
 use Rattle.hex.specs.Hex.{encode_lower}
 use Rattle.blake2.specs.Family.{Family, word}
 use Rattle.blake2.specs.Hash.{Input, input_parameters, parameter_words, Step, steps}
+use Rattle.blake2.specs.Streams.{line_of}
 use Rattle.blake2.specs.Transcript.{Entry, entry}
+
+-- Bytes of an output as they are printed: raw, as they are, or two lower-case hexadecimal digits
+-- for each.
+abbrev pub piece_text : Bool → List ℕ → List ℕ
+piece_text true bytes = bytes
+piece_text false bytes = encode_lower bytes
+
+-- A whole output as it is printed: raw, or a line of digits.
+abbrev pub output_text : Bool → List ℕ → List ℕ
+output_text true bytes = bytes
+output_text false bytes = line_of bytes
 
 -- The field of a list of bytes: two lower-case hexadecimal digits for each byte.
 abbrev pub bytes_field : List ℕ → List ℕ

@@ -53,11 +53,12 @@ part_task part = to_leaves part.leaf_length part.first part.ends (given_of part.
 -- The task of an output.
 abbrev pub extended_task : Extended → Task
 extended_task output =
-    to_xof (family_value output.family) output.length (given_of output.options)
+    to_xof (family_value output.family) output.length output.raw (given_of output.options)
 
 -- The task of a derivation.
 abbrev pub derivation_task : Derivation → Task
-derivation_task derivation = to_derive derivation.length derivation.context.items
+derivation_task derivation =
+    to_derive derivation.length derivation.context.items derivation.raw
 
 -- The task that the program has read.
 abbrev pub task_value : TaskRead → Task

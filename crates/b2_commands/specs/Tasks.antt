@@ -18,7 +18,7 @@ use Rattle.b2_commands.specs.ArgumentTasks.Task.{to_sum, to_script, to_steps, to
 use Rattle.b2_commands.specs.ArgumentTasks.Task.{to_leaves, to_root}
 use Rattle.b2_commands.specs.ArgumentTasks.Task.{to_xof, to_derive, to_help, to_version}
 use Rattle.b2_commands.specs.LeafDigests.{digest_lines, read_digests}
-use Rattle.b2_commands.specs.PrintedLines.{transcript_lines}
+use Rattle.b2_commands.specs.PrintedLines.{output_text, transcript_lines}
 use Rattle.b2_commands.specs.Scripts.{script_digests}
 use Rattle.b2_commands.specs.PrintedWitnesses.{PrintsWitness}
 
@@ -81,15 +81,15 @@ IsRefusedTask (to_witness kind a b) = ⊥
 IsRefusedTask (to_tree kind leaf_length given) = IsRefusedByTree given
 IsRefusedTask (to_leaves leaf_length first ends given) = IsRefusedByTree given
 IsRefusedTask (to_root kind leaf_length given) = IsRefusedByTree given
-IsRefusedTask (to_xof f n given) = IsRefusedBy f given
-IsRefusedTask (to_derive n context) = ⊥
+IsRefusedTask (to_xof f n raw given) = IsRefusedBy f given
+IsRefusedTask (to_derive n context raw) = ⊥
 IsRefusedTask to_help = ⊥
 IsRefusedTask to_version = ⊥
 
 -- The input of the task has a length that is not accepted: `derive` needs a key of 1 to 64 bytes,
 -- and `leaves` a range of a message's leaves.
 abbrev pub IsRefusedInput : Task → List ℕ → Type 0
-IsRefusedInput (to_derive n context) key = (length key ≡ 0) ⊎ (64 < length key)
+IsRefusedInput (to_derive n context raw) key = (length key ≡ 0) ⊎ (64 < length key)
 IsRefusedInput (to_leaves leaf_length first ends given) part =
     ¬ IsRange leaf_length first ends (length part)
 IsRefusedInput task input = ⊥
@@ -106,7 +106,7 @@ IsTooLongFor (to_script kind given) input = ⊥
 IsTooLongFor (to_steps kind given) input = IsTooLongBy kind.family given input
 IsTooLongFor (to_witness kind a b) input = ⊥
 IsTooLongFor (to_tree kind leaf_length given) input = 2 ^ 58 ≤ length input
-IsTooLongFor (to_xof f n given) input = IsTooLongBy f given input
+IsTooLongFor (to_xof f n raw given) input = IsTooLongBy f given input
 IsTooLongFor task input = ⊥
 
 -- The task allocates memory after its arguments are read. `script`, `steps`, `leaves` and `root`
@@ -156,10 +156,10 @@ Outputs (to_leaves leaf_length first ends given) left old new =
 Outputs (to_root kind leaf_length given) left old new =
     IfSome left (λ input. IsOkAnd (read_digests input)
     (λ digests. Appends old new (line_of (root_over_with kind.bytes leaf_length given digests))))
-Outputs (to_xof f n given) left old new =
-    IfSome left (λ input. Appends old new (line_of (output_with f n given input)))
-Outputs (to_derive n context) left old new =
-    IfSome left (λ key. Appends old new (line_of (derived blake2b key context n)))
+Outputs (to_xof f n raw given) left old new =
+    IfSome left (λ input. Appends old new (output_text raw (output_with f n given input)))
+Outputs (to_derive n context raw) left old new =
+    IfSome left (λ key. Appends old new (output_text raw (derived blake2b key context n)))
 Outputs to_help left old new = Appends old new HELP.now
 Outputs to_version left old new = Appends old new VERSION.now
 

@@ -13,22 +13,23 @@ use blake2::streams::{Sink, write_whole};
 pub(crate) const HELP: &[u8] = b"Usage: b2 COMMAND ARGUMENT..
 Print BLAKE2 digests of standard input in hexadecimal, and what they are made of.
 
-  sum KIND [OPTION]..             the digest
-  script KIND [OPTION]..          the digests of the calls in its lines
-  steps KIND [OPTION]..           the transcript: the words and blocks that are compressed
-  witness KIND MESSAGE MESSAGE    a pair of steps of two messages with equal digests
-  tree KIND LEAF [SALT]..         the root of a tree with leaves of LEAF bytes
-  leaves LEAF FIRST END [SALT]..  the digests of the leaves of a part of a file
-  root KIND LEAF [SALT]..         the root over the digests of all leaves, which it reads
-  xof KIND LENGTH [OPTION]..      LENGTH bytes of output of BLAKE2X
-  derive LENGTH CONTEXT           a key of LENGTH bytes for a context, from the key that is read
-  --help                          this help
-  --version                       the version
+  sum KIND [OPTION]..               the digest
+  script KIND [OPTION]..            the digests of the calls in its lines
+  steps KIND [OPTION]..             the transcript: the words and blocks that are compressed
+  witness KIND MESSAGE MESSAGE      a pair of steps of two messages with equal digests
+  tree KIND LEAF [SALT]..           the root of a tree with leaves of LEAF bytes
+  leaves LEAF FIRST END [SALT]..    the digests of the leaves of a part of a file
+  root KIND LEAF [SALT]..           the root over the digests of all leaves, which it reads
+  xof KIND LENGTH [raw] [OPTION]..  LENGTH bytes of output of BLAKE2X
+  derive LENGTH CONTEXT [raw]       a key of LENGTH bytes for a context, from the key that is read
+  --help                            this help
+  --version                         the version
 
 KIND is b128, b256, b512, s128 or s256: the family, and the bits of the digest. witness accepts
 b0, b8, s0 and s8 too, tree and root only those of BLAKE2b, and xof has xb and xs.
 OPTION is key=HEX, or a SALT: salt=HEX, persona=HEX or persona-text=TEXT.
 MESSAGE is HEX, or - for no bytes.
+raw prints the bytes instead of digits, such as a key for b2sum --key-file.
 FIRST is the index of the part's first leaf, from 0. END is last if the file ends with the part,
 and more if it does not.
 
@@ -94,9 +95,9 @@ fn usage(command: &str) -> &'static [u8]
         "leaves" =>
             b"usage: b2 leaves LEAF FIRST more|last [salt=HEX] [persona=HEX | persona-text=TEXT]\n",
         "root" => b"usage: b2 root KIND LEAF [salt=HEX] [persona=HEX | persona-text=TEXT]\n",
-        "xof" =>
-            b"usage: b2 xof KIND LENGTH [key=HEX] [salt=HEX] [persona=HEX | persona-text=TEXT]\n",
-        "derive" => b"usage: b2 derive LENGTH CONTEXT\n",
+        "xof" => b"usage: b2 xof KIND LENGTH [raw] \
+            [key=HEX] [salt=HEX] [persona=HEX | persona-text=TEXT]\n",
+        "derive" => b"usage: b2 derive LENGTH CONTEXT [raw]\n",
         "--help" => b"usage: b2 --help\n",
         "--version" => b"usage: b2 --version\n",
         _ => b"b2: the first argument is not a command\n",

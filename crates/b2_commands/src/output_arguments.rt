@@ -6,6 +6,7 @@ ghost use Rattle.blake2.specs.Family.{blake2b};
 ghost use Rattle.blake2_xof.specs.Xof.{unknown_length};
 ghost use Rattle.b2_commands.specs.Kinds.{family_value};
 ghost use Rattle.b2_commands.specs.ArgumentTasks.{length_value, output_family_of, IsReadingFault};
+ghost use Rattle.b2_commands.specs.ArgumentTasks.{after_raw, begins_raw};
 
 use crate::arguments::{Options, copy_of};
 use crate::fault::Fault;
@@ -13,11 +14,13 @@ use crate::numbers::number_of;
 use crate::witness_arguments::Family;
 use std::alloc::Global;
 
-/// An output of BLAKE2X of `length` bytes, which is at least 1 and is known in advance.
+/// An output of BLAKE2X of `length` bytes, which is at least 1 and is known in advance. If `raw` is
+/// true, its bytes are printed, and otherwise a line of digits.
 #[derive(Drop)]
 pub(crate) struct Extended {
     pub(crate) family: Family,
     pub(crate) length: u64,
+    pub(crate) raw: bool,
     pub(crate) options: Options,
     ghost some: { 1 ≤ length },
     ghost known: { length < unknown_length (family_value family) },
@@ -27,10 +30,10 @@ impl Extended {
     ghost use Rattle.b2_commands.specs.ReadTasks.{extended_task};
     ghost use Rattle.b2_commands.specs.ArgumentTasks.{xof_task};
 
-    /// Reads the arguments KIND LENGTH [key=HEX] [salt=HEX] [persona=HEX] from left to right, and
-    /// returns the output. The error is a `Fault`, that of the first bad argument: `WrongWords` if
-    /// it is missing, is not expected, is not a KIND or is not a length; `WrongHex` if its HEX is
-    /// wrong; `NoMemory` if an allocation for the bytes of an option fails.
+    /// Reads the arguments KIND LENGTH [raw] [key=HEX] [salt=HEX] [persona=HEX] from left to right,
+    /// and returns the output. The error is a `Fault`, that of the first bad argument: `WrongWords`
+    /// if it is missing, is not expected, is not a KIND or is not a length; `WrongHex` if its HEX
+    /// is wrong; `NoMemory` if an allocation for the bytes of an option fails.
     pub(crate) fn from_words(alloc: Global, words: &[String]) -> Result<Extended, Fault>
         ensures task { IfOk result (λ output.
             xof_task (map string_bytes words.now) ≡ Ok (extended_task output)) }
@@ -46,20 +49,24 @@ impl Extended {
             return Err(Fault::WrongWords);
         };
         let length = length_of(family, length.as_bytes())?;
+        let (raw, words) = split_raw(words);
         let options = Options::from_words(alloc, true, words)?;
         Ok(Extended {
             family,
             length,
+            raw,
             options,
         })
     }
 }
 
-/// A key of `length` bytes, at least 1, that is derived for a context.
+/// A key of `length` bytes, at least 1, that is derived for a context. If `raw` is true, its bytes
+/// are printed, and otherwise a line of digits.
 #[derive(Drop)]
 pub(crate) struct Derivation {
     pub(crate) length: u64,
     pub(crate) context: Vec<u8>,
+    pub(crate) raw: bool,
     ghost some: { 1 ≤ length },
     ghost known: { length < unknown_length blake2b },
 }
@@ -68,9 +75,9 @@ impl Derivation {
     ghost use Rattle.b2_commands.specs.ReadTasks.{derivation_task};
     ghost use Rattle.b2_commands.specs.ArgumentTasks.{derive_task};
 
-    /// Reads the arguments LENGTH CONTEXT from left to right, and returns the derivation. The error
-    /// is a `Fault`: `WrongWords` if an argument is missing or is not expected, or the first is not
-    /// a length; `NoMemory` if an allocation for the bytes of the context fails.
+    /// Reads the arguments LENGTH CONTEXT [raw] from left to right, and returns the derivation. The
+    /// error is a `Fault`: `WrongWords` if an argument is missing or is not expected, or the first
+    /// is not a length; `NoMemory` if an allocation for the bytes of the context fails.
     pub(crate) fn from_words(alloc: Global, words: &[String]) -> Result<Derivation, Fault>
         ensures task { IfOk result (λ derivation.
             derive_task (map string_bytes words.now) ≡ Ok (derivation_task derivation)) }
@@ -85,11 +92,31 @@ impl Derivation {
         let Some((text, words)) = words.split_first() else {
             return Err(Fault::WrongWords);
         };
+        let (raw, words) = split_raw(words);
         if !words.is_empty() {
             return Err(Fault::WrongWords);
         }
         let context = copy_of(alloc, text.as_bytes())?;
-        Ok(Derivation { length, context })
+        Ok(Derivation {
+            length,
+            context,
+            raw,
+        })
+    }
+}
+
+// Returns whether the first of the arguments is `raw`, and those after it, or all if it is not.
+fn split_raw(words: &[String]) -> (bool, &[String])
+    ensures raw { result.0 ≡ begins_raw (map string_bytes words.now) }
+    ensures rest { map string_bytes result.1.now ≡ after_raw (map string_bytes words.now) }
+    ensures fewer { length result.1.now ≤ length words.now }
+{
+    let Some((word, rest)) = words.split_first() else {
+        return (false, words);
+    };
+    match word.as_str() {
+        "raw" => (true, rest),
+        _ => (false, words),
     }
 }
 

@@ -7,14 +7,13 @@ ghost use Rattle.std.specs.Io.KnownBytes.{Appends};
 ghost use Rattle.std.specs.Result.{IsErrOf};
 ghost use Rattle.blake2.specs.Family.{blake2s};
 ghost use Rattle.blake2.specs.MacArguments.{key_count};
-ghost use Rattle.blake2.specs.Streams.{line_of};
-ghost use Rattle.hex.specs.Hex.{encode_lower};
 ghost use Rattle.blake2_digest.specs.States.{Fresh, Updated};
 ghost use Rattle.blake2_xof.specs.Blake2xs.{HasSqueezed, IsAbsorbing, IsReady, length_of, meaning};
 ghost use Rattle.blake2_xof.specs.Blake2xs.{output_now};
 ghost use Rattle.blake2_xof.specs.Xof.{unknown_length};
 ghost use Rattle.b2_commands.specs.declared.fault.Fault.TheVariants.{ReadFailed, TooLong};
 ghost use Rattle.b2_commands.specs.declared.fault.Fault.TheVariants.{WriteFailed};
+ghost use Rattle.b2_commands.specs.PrintedLines.{output_text, piece_text};
 ghost use Rattle.b2_commands.specs.TaskEnds.{EndsBy};
 ghost use Rattle.b2_commands.specs.ReadOptions.{given_of};
 ghost use Rattle.b2_commands.specs.Tasks.{IsRefusedBy, output_with};
@@ -29,11 +28,12 @@ use std::marker::Model;
 // The number of bytes of the output that are printed at a time.
 const PIECE_BYTES: usize = 4096;
 
-/// Prints the output of `size` bytes for all that the source returns, under the options, as a
-/// line. The number is at least 1 and is known in advance. Neither device may have failed before.
-/// The errors are those of `xof`.
+/// Prints the output of `size` bytes for all that the source returns, under the options: the bytes
+/// if `raw` is true, and otherwise a line of digits. The number is at least 1 and is known in
+/// advance. Neither device may have failed before. The errors are those of `xof`.
 pub(crate) fn print_output<S: Source, K: Sink>(
     size: u64,
+    raw: bool,
     options: &Options,
     source: &mut S,
     sink: &mut K,
@@ -47,14 +47,14 @@ pub(crate) fn print_output<S: Source, K: Sink>(
     ensures write { IsErrOf result Fault.WriteFailed ↔ IsTrue (K.failed sink.new) }
     ensures memory { result ≢ Err Fault.NoMemory }
     ensures ends { EndsBy
-        (λ message. line_of (output_with blake2s size (given_of options.now) message))
+        (λ message. output_text raw (output_with blake2s size (given_of options.now) message))
         (key_count blake2s (given_of options.now).key) result (S.left source.old)
         (K.held sink.old) (K.held sink.new) }
 {
     let state = start(size, options)?;
     let mut absorbing = Absorbing { state };
     absorb_stream(source, &mut absorbing)?;
-    print_line(&mut absorbing.into_state(), size, sink)
+    print_next(&mut absorbing.into_state(), size, raw, sink)
 }
 
 // Returns a state that has absorbed no message, with an output of `size` bytes under the options.
@@ -120,31 +120,46 @@ impl Update for Absorbing {
     }
 }
 
-/// Prints the next `count` bytes of the output as a line: two lower-case hexadecimal digits for
-/// each, and a newline. The state must be ready and have that many left, and the sink must not have
-/// failed before. The error is `Fault::WriteFailed`, if a write fails.
-pub(crate) fn print_line<K: Sink>(state: &mut State, count: u64, sink: &mut K) -> Result<(), Fault>
+/// Prints the next `count` bytes of the output: as they are if `raw` is true, and otherwise as a
+/// line, with two lower-case hexadecimal digits for each. The state must be ready and have that
+/// many left, and the sink must not have failed before. The error is `Fault::WriteFailed`, if a
+/// write fails.
+pub(crate) fn print_next<K: Sink>(
+    state: &mut State,
+    count: u64,
+    raw: bool,
+    sink: &mut K,
+) -> Result<(), Fault>
     requires ready { IsReady state.old }
     requires room { state.old.reader.position + count ≤ length_of state.old.reader }
     requires sink { K.failed sink.old ≡ false }
     ensures write { IsErrOf result Fault.WriteFailed ↔ IsTrue (K.failed sink.new) }
     ensures fault { IsOkUnless result Fault.WriteFailed }
-    ensures line { OnOk result (Appends (K.held sink.old) (K.held sink.new)
-        (line_of (take count (drop state.old.reader.position (output_now state.old))))) }
+    ensures bytes { OnOk result (Appends (K.held sink.old) (K.held sink.new)
+        (output_text raw (take count (drop state.old.reader.position (output_now state.old))))) }
 {
     let mut left = count;
     'printing: while left > 0 {
         let size = left.min(PIECE_BYTES as u64);
-        print_digits(state, size as usize, sink)?;
+        print_piece(state, size as usize, raw, sink)?;
         left -= size;
+    }
+    if raw {
+        return Ok(());
     }
     write_whole(sink, b"\n").map_err(|_| Fault::WriteFailed)
 }
 
-// Prints the next `size` bytes of the output, at most `PIECE_BYTES`, as two lower-case hexadecimal
-// digits each. The state must be ready and have that many left, and the sink must not have failed
-// before. The error is `Fault::WriteFailed`, if a write fails.
-fn print_digits<K: Sink>(state: &mut State, size: usize, sink: &mut K) -> Result<(), Fault>
+// Prints the next `size` bytes of the output, at most `PIECE_BYTES`: as they are if `raw` is true,
+// and otherwise as two lower-case hexadecimal digits each. The state must be ready and have that
+// many left, and the sink must not have failed before. The error is `Fault::WriteFailed`, if a
+// write fails.
+fn print_piece<K: Sink>(
+    state: &mut State,
+    size: usize,
+    raw: bool,
+    sink: &mut K,
+) -> Result<(), Fault>
     requires ready { IsReady state.old }
     requires piece { size ≤ PIECE_BYTES }
     requires room { state.old.reader.position + size ≤ length_of state.old.reader }
@@ -153,13 +168,16 @@ fn print_digits<K: Sink>(state: &mut State, size: usize, sink: &mut K) -> Result
     ensures squeezed { HasSqueezed state.old size state.new }
     ensures write { IsErrOf result Fault.WriteFailed ↔ IsTrue (K.failed sink.new) }
     ensures fault { IsOkUnless result Fault.WriteFailed }
-    ensures digits { OnOk result (Appends (K.held sink.old) (K.held sink.new)
-        (encode_lower (take size (drop state.old.reader.position (output_now state.old))))) }
+    ensures bytes { OnOk result (Appends (K.held sink.old) (K.held sink.new)
+        (piece_text raw (take size (drop state.old.reader.position (output_now state.old))))) }
 {
     let mut piece = [0u8; PIECE_BYTES];
     let mut digits = [0u8; 2 * PIECE_BYTES];
     let bytes = &mut piece[..size];
     state.squeeze(bytes);
+    if raw {
+        return write_whole(sink, bytes).map_err(|_| Fault::WriteFailed);
+    }
     let text = &mut digits[..2 * size];
     hex::encode_to_slice(bytes, text).unwrap();
     write_whole(sink, text).map_err(|_| Fault::WriteFailed)

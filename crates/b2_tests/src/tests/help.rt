@@ -63,7 +63,21 @@ fn notes_what_is_wrong(rt: HostRuntime) {
             b"usage: b2 witness KIND MESSAGE MESSAGE\n"
         )
     );
-    assert!(rt; notes(alloc, "derive 0 a", b"usage: b2 derive LENGTH CONTEXT\n"));
+    assert!(rt;
+        notes(
+            alloc,
+            "derive 0 a",
+            b"usage: b2 derive LENGTH CONTEXT [raw]\n"
+        )
+    );
+    assert!(rt;
+        notes(
+            alloc,
+            "xof xb 0",
+            b"usage: b2 xof KIND LENGTH [raw] \
+            [key=HEX] [salt=HEX] [persona=HEX | persona-text=TEXT]\n"
+        )
+    );
     assert!(rt;
         notes(
             alloc,

@@ -87,11 +87,21 @@ xof xb 4294967295||b2: wrong words\n\
 xof xs 65535||b2: wrong words\n\
 xof xb 99999999999||b2: wrong words\n\
 xof xb 8 foo||b2: wrong words\n\
+xof xb 8 Raw||b2: wrong words\n\
+xof xb 8 raw raw||b2: wrong words\n\
+xof xb 8 key=01 raw||b2: wrong words\n\
+xof xb raw 8||b2: wrong words\n\
+xof xb 8 raw key=1||b2: wrong hex\n\
+xof xb 8 raw key=||b2: wrong length\n\
 derive||b2: wrong words\n\
 derive 32||b2: wrong words\n\
 derive 0 a||b2: wrong words\n\
 derive 4294967295 a||b2: wrong words\n\
 derive 32 a b||b2: wrong words\n\
+derive 32 a raw raw||b2: wrong words\n\
+derive 32 a raw b||b2: wrong words\n\
+derive raw 32 a||b2: wrong words\n\
+sum b512 raw||b2: wrong words\n\
 --help sum||b2: wrong words\n\
 --version sum||b2: wrong words\n\
 --hel||b2: wrong words\n\

@@ -5,14 +5,15 @@ use Rattle.blake2.specs.Family.{blake2s}
 use Rattle.blake2_digest.specs.States.{digest_now}
 use Rattle.blake2_xof.specs.Blake2xs.{meaning, output_now, settings_of}
 use Rattle.blake2_xof.specs.Xof.{Settings, settings}
+use Rattle.b2_commands.specs.PrintedLines.{output_text}
 use Rattle.b2_commands.specs.ReadOptions.{given_of}
 use Rattle.b2_commands.specs.ArgumentTasks.{Given}
 use Rattle.b2_commands.proofs.OutputLaws.{kept_length, output_ends}
 use Rattle.b2_commands.proofs.PrintedDigits.{absorbed_all}
 use Rattle.b2_commands.proofs.outputs.blake2xs.print_output.Goals as goal
 
-pub print_line-requires-clause-room : goal.print_line-requires-clause-room
-print_line-requires-clause-room g c =
+pub print_next-requires-clause-room : goal.print_next-requires-clause-room
+print_next-requires-clause-room g c =
     let given : Given = given_of c.args.options.now in
     let a : Settings = settings c.args.size (unwrap_or given.key []) (unwrap_or given.salt [])
     (unwrap_or given.persona []) in
@@ -33,7 +34,7 @@ returns-clause-ends g c =
     let absorbing = c.into_state.ensures.absorbing in
     let is : output_now now ≡ digest_now meaning now = rw absorbing.absorbs refl in
     let took = rw (← c.into_state.ensures.same) at c.in_ok-absorb_stream.ensures.whole in
-    output_ends blake2s meaning a _ c.in_ok-state.state now now.reader.position (output_now now)
-    c.print_line.result _ _ _ c.requires.known c.requires.some c.in_ok-state.ensures.fresh
-    (absorbed_all meaning _ _ _ _ _ took) absorbing.none_read is c.print_line.ensures.fault
-    c.print_line.ensures.line
+    output_ends (output_text c.args.raw) blake2s meaning a _ c.in_ok-state.state now now.reader.position (output_now now)
+    c.print_next.result _ _ _ c.requires.known c.requires.some c.in_ok-state.ensures.fresh
+    (absorbed_all meaning _ _ _ _ _ took) absorbing.none_read is c.print_next.ensures.fault
+    c.print_next.ensures.bytes

@@ -1,10 +1,11 @@
+-- Made by tools/twins.py from proofs/outputs/blake2xb/print_next/Invariants.antt.
 use Rattle.std.proofs.Common.{◌≡◌, ◌+◌, ◌-◌, ◌≤◌, false, take, drop}
 use Rattle.std.specs.Io.KnownBytes.{Appends}
-use Rattle.hex.specs.Hex.{encode_lower}
-use Rattle.blake2_xof.specs.Blake2xb.{IsReady, output_now}
-use Rattle.b2_commands.proofs.outputs.blake2xb.print_line.Given as goal
+use Rattle.blake2_xof.specs.Blake2xs.{IsReady, output_now}
+use Rattle.b2_commands.specs.PrintedLines.{piece_text}
+use Rattle.b2_commands.proofs.outputs.blake2xs.print_next.Given as goal
 
--- The digits of what was read are printed.
+-- What was read is printed.
 abbrev pub invariant-printing : goal.invariant-printing
 invariant-printing g l = record {
   ready : IsReady l.state;
@@ -14,7 +15,7 @@ invariant-printing g l = record {
   position : l.state.reader.position ≡ l.fn.state.reader.position + (l.fn.count - l.left);
   unfailed : g.K.Sink.failed l.sink ≡ false;
   printed : Appends (g.K.Sink.held l.fn.sink) (g.K.Sink.held l.sink)
-      (encode_lower (take (l.fn.count - l.left)
+      (piece_text l.fn.raw (take (l.fn.count - l.left)
       (drop l.fn.state.reader.position (output_now l.fn.state))));
 }
 
