@@ -61,6 +61,8 @@ def test_help(runs):
     runs.holds("--help", said[1:] == (b"", 0) and max(map(len, lines)) <= 100, said)
     runs.holds("its commands", [line.split()[0] for line in lines if re.match("  [a-z-]", line)] == [
         "sum", "script", "steps", "witness", "tree", "leaves", "root", "xof", "derive", "--help", "--version"], said)
+    for word in ("-h", "help"):
+        runs.holds(word, runs.run([word]) == said)
     runs.ends("--help names every command")
 
 

@@ -31,6 +31,8 @@ usage_of command =
     then usage_line (codes "xof KIND LENGTH [raw]" ++ options_usage)
     else if bytes_eq command (codes "derive") then usage_line (codes "derive LENGTH CONTEXT [raw]")
     else if bytes_eq command (codes "--help") then usage_line (codes "--help")
+    else if bytes_eq command (codes "-h") then usage_line (codes "--help")
+    else if bytes_eq command (codes "help") then usage_line (codes "--help")
     else if bytes_eq command (codes "--version") then usage_line (codes "--version")
     else codes "b2: the first argument is not a command" ++ 10 ∷ []
 

@@ -185,7 +185,7 @@ pub data Task : Type 0 where
   to_xof : Family → ℕ → Bool → Given → Task
   -- `derive LENGTH CONTEXT [raw]`, and whether it has `raw`
   to_derive : ℕ → List ℕ → Bool → Task
-  -- `--help`
+  -- `--help`, `-h` or `help`
   to_help : Task
   -- `--version`
   to_version : Task
@@ -300,5 +300,7 @@ task_of (command ∷ words) =
     else if bytes_eq command (codes "xof") then xof_task words
     else if bytes_eq command (codes "derive") then derive_task words
     else if bytes_eq command (codes "--help") then only to_help words
+    else if bytes_eq command (codes "-h") then only to_help words
+    else if bytes_eq command (codes "help") then only to_help words
     else if bytes_eq command (codes "--version") then only to_version words
     else Err WrongWords

@@ -22,7 +22,7 @@ Print BLAKE2 digests of standard input in hexadecimal, and what they are made of
   root KIND LEAF [SALT]..           the root over the digests of all leaves, which it reads
   xof KIND LENGTH [raw] [OPTION]..  LENGTH bytes of output of BLAKE2X
   derive LENGTH CONTEXT [raw]       a key of LENGTH bytes for a context, from the key that is read
-  --help                            this help
+  --help (or -h, help)              this help
   --version                         the version
 
 KIND is b128, b256, b512, s128 or s256: the family, and the bits of the digest. witness accepts
@@ -98,7 +98,7 @@ fn usage(command: &str) -> &'static [u8]
         "xof" => b"usage: b2 xof KIND LENGTH [raw] \
             [key=HEX] [salt=HEX] [persona=HEX | persona-text=TEXT]\n",
         "derive" => b"usage: b2 derive LENGTH CONTEXT [raw]\n",
-        "--help" => b"usage: b2 --help\n",
+        "--help" | "-h" | "help" => b"usage: b2 --help\n",
         "--version" => b"usage: b2 --version\n",
         _ => b"b2: the first argument is not a command\n",
     }

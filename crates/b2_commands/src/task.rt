@@ -37,7 +37,7 @@ pub(crate) enum Task {
     Xof(Extended),
     /// `derive`.
     Derive(Derivation),
-    /// `--help`.
+    /// `--help`, `-h` or `help`.
     Help,
     /// `--version`.
     Version,
@@ -71,7 +71,7 @@ impl Task {
             "root" => return Ok(Task::Tree(Root::from_words(alloc, Over::Leaves, words)?)),
             "xof" => return Ok(Task::Xof(Extended::from_words(alloc, words)?)),
             "derive" => return Ok(Task::Derive(Derivation::from_words(alloc, words)?)),
-            "--help" => return Self::alone(Task::Help, words),
+            "--help" | "-h" | "help" => return Self::alone(Task::Help, words),
             "--version" => return Self::alone(Task::Version, words),
             _ => return Err(Fault::WrongWords),
         };

@@ -30,7 +30,12 @@ fn prints(alloc: Global, text: &str, start: &[u8], end: &[u8]) -> bool {
 #[test]
 fn prints_help(rt: HostRuntime) {
     let alloc = rt.alloc();
-    assert!(rt; prints(alloc, "--help", b"Usage: b2 COMMAND", b"standard output.\n"));
+    for text in ["--help", "-h", "help"] {
+        assert!(rt;
+            prints(alloc, text, b"Usage: b2 COMMAND", b"standard output.\n"),
+            "b2 {text}"
+        );
+    }
     assert!(rt; prints(alloc, "--version", b"b2 (Vulfsjor) ", b"\n"));
 }
 
@@ -92,7 +97,9 @@ fn notes_what_is_wrong(rt: HostRuntime) {
             b"usage: b2 root KIND LEAF [salt=HEX] [persona=HEX | persona-text=TEXT]\n"
         )
     );
-    assert!(rt; notes(alloc, "--help sum", b"usage: b2 --help\n"));
+    for text in ["--help sum", "-h sum", "help sum"] {
+        assert!(rt; notes(alloc, text, b"usage: b2 --help\n"), "b2 {text}");
+    }
 }
 
 // Returns whether a command fails, and has no notes.

@@ -103,6 +103,10 @@ derive 32 a raw b||b2: wrong words\n\
 derive raw 32 a||b2: wrong words\n\
 sum b512 raw||b2: wrong words\n\
 --help sum||b2: wrong words\n\
+-h sum||b2: wrong words\n\
+help sum||b2: wrong words\n\
+-H||b2: wrong words\n\
+Help||b2: wrong words\n\
 --version sum||b2: wrong words\n\
 --hel||b2: wrong words\n\
 sum b512 persona=01 persona-text=a||b2: wrong words\n\
