@@ -254,7 +254,7 @@ def options(words, names):
         name, equals, value = word.partition("=")
         is_text = name == "persona-text"
         name = "persona" if is_text else name
-        if not equals or name not in names or name in given:
+        if not equals or name not in names or name in given or is_text and not value:
             raise Fault("wrong words")
         given[name] = value.encode() if is_text else hex_bytes(value)
     return given

@@ -57,6 +57,10 @@ is_blake2b blake2s = false
 abbrev pub hex_value : List ℕ → Result (List ℕ) Fault
 hex_value digits = result_map_both (λ bytes. bytes) (λ _. WrongHex) (decode_of digits)
 
+-- The bytes of TEXT, which is not empty.
+abbrev pub text_value : List ℕ → Result (List ℕ) Fault
+text_value text = if bytes_eq text [] then Err WrongWords else Ok text
+
 -- The kind of digests that `witness` compares, as an argument names it.
 abbrev pub compared_kind_of : List ℕ → Result Kind Fault
 compared_kind_of word =
@@ -138,7 +142,7 @@ first_value (Some bytes) digits = Err WrongWords
 
 -- The bytes of TEXT, for an option that was not given before.
 abbrev pub first_text : Option (List ℕ) → List ℕ → Result (List ℕ) Fault
-first_text None text = Ok text
+first_text None text = text_value text
 first_text (Some bytes) text = Err WrongWords
 
 -- The options with one more argument NAME=HEX or NAME=TEXT, whose name is checked before the value

@@ -4,7 +4,8 @@ ghost use Rattle.std.specs.Prelude.{◌≡◌, ◌≢◌, ◌<◌, ◌≤◌, �
 ghost use Rattle.std.specs.Prelude.{IsTrue, IfOk, IfErr, OnOk, IsOkUnless};
 ghost use Rattle.std.specs.String.{string_bytes};
 ghost use Rattle.blake2.specs.Views.{key_of};
-ghost use Rattle.b2_commands.specs.ArgumentTasks.{hex_value, message_value, IsReadingFault};
+ghost use Rattle.b2_commands.specs.ArgumentTasks.{hex_value, message_value, text_value};
+ghost use Rattle.b2_commands.specs.ArgumentTasks.{IsReadingFault};
 
 use crate::fault::Fault;
 use hex::FromHexError;
@@ -121,9 +122,9 @@ impl Options {
     /// Reads the arguments NAME=HEX from left to right, and returns their bytes. The names are
     /// `salt`, `persona` and, if `takes_key` is true, `key`. `persona-text=TEXT` is a persona of
     /// these bytes. They come in any order, each at most once. The error is a `Fault`, that of the
-    /// first bad argument, whose name is checked before its HEX: `WrongWords` if it has no `=`, or
-    /// its name is unknown or comes again; `WrongHex` if its HEX is not an even number of
-    /// hexadecimal digits; `NoMemory` if an allocation for its bytes fails.
+    /// first bad argument, whose name is checked before its HEX: `WrongWords` if it has no `=`, its
+    /// name is unknown or comes again, or its TEXT is empty; `WrongHex` if its HEX is not an even
+    /// number of hexadecimal digits; `NoMemory` if an allocation for its bytes fails.
     pub(crate) fn from_words(
         alloc: Global,
         takes_key: bool,
@@ -169,7 +170,7 @@ impl Options {
                 digits.as_bytes(),
             )?),
             "persona-text" if self.persona.is_none() => {
-                self.persona = Some(copy_of(alloc, digits.as_bytes())?)
+                self.persona = Some(text_of(alloc, digits.as_bytes())?)
             }
             _ => return Err(Fault::WrongWords),
         }
@@ -228,6 +229,18 @@ impl Options {
         ensures { IsTrue result ↔ (given_of self.now ≡ nothing_given) }
     {
         matches!((&self.key, &self.salt, &self.persona), (None, None, None))
+    }
+}
+
+// Returns the bytes of TEXT. The error is a `Fault`: `WrongWords` if it is empty, `NoMemory` if an
+// allocation fails.
+fn text_of(alloc: Global, text: &[u8]) -> Result<Vec<u8>, Fault>
+    ensures bytes { IfOk result (λ bytes. text_value text.now ≡ Ok bytes.items) }
+    ensures fault { IfErr result (λ fault. IsReadingFault fault (text_value text.now)) }
+{
+    match text {
+        b"" => Err(Fault::WrongWords),
+        _ => copy_of(alloc, text),
     }
 }
 

@@ -111,6 +111,16 @@ Help||b2: wrong words\n\
 --hel||b2: wrong words\n\
 sum b512 persona=01 persona-text=a||b2: wrong words\n\
 sum b512 persona-text=a persona-text=a||b2: wrong words\n\
+sum b512 persona-text=||b2: wrong words\n\
+sum b512 persona-text= salt=1||b2: wrong words\n\
+sum b512 salt=1 persona-text=||b2: wrong hex\n\
+sum s256 persona= persona-text=||b2: wrong words\n\
+script s128 persona-text=||b2: wrong words\n\
+steps b512 key=01 persona-text=||b2: wrong words\n\
+tree b256 4 persona-text=||b2: wrong words\n\
+leaves 4 0 last persona-text=||b2: wrong words\n\
+root b512 4 persona-text=||b2: wrong words\n\
+xof xb 8 raw persona-text=||b2: wrong words\n\
 tree b512 4 key-text=a||b2: wrong words\n\
 xof xb 8 key=1||b2: wrong hex\n\
 xof xb 8 key=||b2: wrong length\n\
