@@ -19,8 +19,8 @@ _b2sum() {
                 return
             fi
             words="--algorithm --binary --check --help --ignore-missing --key-file --length --no-names
-                --personal --personal-text --progress --quiet --raw --salt --show-digests --status --strict
-                --tag --text --threads --tree --version --warn --zero"
+                --personal --personal-text --progress --quiet --raw --salt --seal --sealed --show-digests --status
+                --strict --tag --text --threads --tree --version --warn --zero"
             ;;
     esac
     mapfile -t COMPREPLY < <(compgen -W "$words" -- "$word")

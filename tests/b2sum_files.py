@@ -223,7 +223,7 @@ def commands_of_manual(runs, number):
     """The status of the commands in the manual that make a manifest and its MAC, or of those that check both, and what
     they print."""
     with open(os.path.join(TOP, "docs", "B2SUM.md")) as page:
-        section = page.read().partition("### Checking with a key")[2]
+        section = page.read().partition("### Sealed lists")[2]
     text = re.findall(r"(?:^    .+\n)+", section, re.MULTILINE)[number]
     text = 'b2sum() { "$0" "$@"; }\n' + text.replace("KEY", "key").replace("FILE..", "b a x")
     done = subprocess.run(["sh", "-c", text, runs.program], cwd=runs.folder, stdout=subprocess.PIPE,
@@ -231,33 +231,29 @@ def commands_of_manual(runs, number):
     return done.returncode, done.stdout
 
 
-def test_manifest_macs(runs):
-    """The commands of the manual that authenticate a manifest: they refuse what somebody without the key can write."""
+def test_sealed_manifests(runs):
+    """The commands of the manual that seal a list and check it: they refuse what somebody without the key can write."""
     key = bytes(range(32))
     mac, other = line("b", b"abc", tag=True, key=key), line("a", b"", tag=True, key=key)
     forged = mac + mac.replace("(b)", "(a)")
     for name, data in (("key", key), ("x", forged.encode())):
         runs.write(name, data)
     runs.holds("made", commands_of_manual(runs, 0) == (0, b""))
-    made = {}
-    for name in ("SUMS", "SUMS.mac"):
-        with open(runs.path(name)) as file:
-            made[name] = file.read()
+    with open(runs.path("SUMS")) as file:
+        made = file.read()
     file_mac = line("x", forged.encode(), tag=True, key=key)
-    runs.holds("the manifest", made["SUMS"] == mac + other + file_mac)
+    seal = made.splitlines(True)[-1]
+    runs.holds("the list", made == mac + other + file_mac + seal and seal.startswith("# sealed 3 "))
     runs.holds("right", commands_of_manual(runs, 1) == (0, b"b: OK\na: OK\nx: OK\n"))
     runs.write("a", b"abc")
-    runs.write("old", made["SUMS"].encode())
-    named = file_mac.replace("(x)", "(SUMS)")
-    for sums_mac in (made["SUMS.mac"], mac, made["SUMS.mac"].replace("(SUMS)", "(old)"), named, file_mac,
-                     named.replace("-key", "-key-personal"), named.split()[-1] + "  SUMS\n", "",
-                     made["SUMS.mac"].replace("(SUMS)", "(old)") + made["SUMS.mac"]):
-        runs.write("SUMS", forged.encode())
-        runs.write("SUMS.mac", sums_mac.encode())
-        runs.wants(["--key-file", "key", "-c", "SUMS"], "b: OK\na: OK\n")
+    of_file = f"# sealed 2 {file_mac.split()[-1]}\n"
+    for last in ("", seal, seal.replace("3", "2"), mac, other, file_mac, of_file, of_file + seal, "# sealed 2 \n"):
+        runs.write("SUMS", (forged + last).encode())
+        if last != other:
+            runs.wants(["--key-file", "key", "-c", "--quiet", "SUMS"], "")
         got = commands_of_manual(runs, 1)
-        runs.holds(sums_mac, got == (1, b""), got)
-    runs.ends("MACs of manifests by the commands of the manual")
+        runs.holds(last, got == (1, b""), got)
+    runs.ends("sealed lists by the commands of the manual")
 
 
 def test_trees(runs):
@@ -491,7 +487,7 @@ def test_differences(runs):
     runs.write(deep + "\udcff\udcff\udcff", b"")
     said = runs.run([deep + "\udcff\udcff\udcff"])
     runs.holds("a long name", said[2] == 1 and os.fsencode(os.strerror(errno.ENAMETOOLONG)) in said[1], said)
-    for option, possible in (("--s", "'--status' '--strict' '--salt' '--show-digests'"),
+    for option, possible in (("--s", "'--status' '--strict' '--salt' '--show-digests' '--seal' '--sealed'"),
                              ("--p", "'--personal' '--personal-text' '--progress'"),
                              ("--persona", "'--personal' '--personal-text'"),
                              ("--t", "'--tag' '--text' '--tree' '--threads'")):
@@ -500,6 +496,6 @@ def test_differences(runs):
 
 
 COMPUTING = (test_lengths, test_random, test_trees)
-TESTS = (*COMPUTING, test_parameters, test_tags, test_macs, test_manifest_macs, test_names, test_differences,
+TESTS = (*COMPUTING, test_parameters, test_tags, test_macs, test_sealed_manifests, test_names, test_differences,
          test_key_input)
 run_tests(TESTS, COMPUTING if HUGE else ())

@@ -51,8 +51,8 @@ WRONG = [b"-l 8", b"-l 0", b"-l\n8", *rb"""--foo -x -l --length --tag=x --i=3 -l
 OPTIONS = b"""-b -c -t -w -z -l8 -l512 -l520 -l7 -l0 --binary --check --ignore-missing --length=256 --quiet --status
     --strict --tag --text --warn --zero -- --nothing -x""".split()
 LONG = b"binary check ignore-missing length=16 quiet status strict tag text warn zero".split()
-# The abbreviations that our options --algorithm, --key-file, --personal, --progress, --salt, --show-digests and --tree
-# change.
+# The abbreviations that our options --algorithm, --key-file, --personal, --progress, --salt, --seal, --sealed,
+# --show-digests and --tree change.
 OURS = (b"a", b"k", b"p", b"s", b"t")
 
 

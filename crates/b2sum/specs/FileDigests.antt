@@ -1,5 +1,5 @@
 -- The digests that files can have.
-use Rattle.std.specs.Prelude.{ℕ, false, List}
+use Rattle.std.specs.Prelude.{ℕ, false, List, codes, take}
 use Rattle.blake2_simd.specs.Family.{blake2b, blake2s}
 use Rattle.blake2_compress.specs.Hash.{sequential}
 use Rattle.blake2.specs.States.{node_digest_of}
@@ -34,3 +34,10 @@ digest_by (Tree leaf) n key salt persona text = tree_root n (tree_parameters sal
 abbrev pub digest_with : Options → Function → List ℕ → List ℕ
 digest_with o f text =
     digest_by f.algorithm f.bytes o.key.items o.salt.items o.persona.items text
+
+-- The MAC that seals a list: that of BLAKE2b with 64 bytes, under the key and the salt of the
+-- options, and a personalization of seals. A key has at most 64 bytes, and a salt 16: more do not
+-- count.
+abbrev pub seal_with : Options → List ℕ → List ℕ
+seal_with o list =
+    digest_by Blake2b 64 (take 64 o.key.items) (take 16 o.salt.items) (codes "b2sum sealed") list

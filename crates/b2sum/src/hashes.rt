@@ -8,6 +8,10 @@ ghost use Rattle.blake2_streams.specs.Streams.{GivesAll};
 ghost use Rattle.blake2_state.specs.TreeStates.{IsReady as IsReadyTree, count, future};
 ghost use Rattle.blake2_tree.specs.TreeLengths.{AcceptsLengths, lengths_of};
 ghost use Rattle.blake2_tree.specs.TreeRoot.{tree_parameters, tree_root};
+ghost use Rattle.blake2_simd.specs.Family.{blake2b};
+ghost use Rattle.blake2_compress.specs.Hash.{sequential};
+ghost use Rattle.blake2_state.specs.ConstructorArguments.{AdmitsState, digest_given};
+ghost use Rattle.blake2_state.specs.ConstructorArguments.{parameters_given};
 ghost use Rattle.b2sum.specs.FileDigests.{digest_with};
 ghost use Rattle.b2sum.specs.RefusedTexts.{IsTooLong, AcceptsOptions, counted_key, limit_of};
 
@@ -30,14 +34,21 @@ const PIECE_BYTES: usize = 1 << 16;
 // The number of bytes that one read for a tree requests: many leaves.
 const TREE_PIECE_BYTES: usize = 1 << 20;
 
+// The personalization of seals.
+const SEAL_PERSONA: &[u8] = b"b2sum sealed";
+
 // The bytes of the stack that are overwritten after a state is initialized under a key: more than
 // that needs.
 const START_BYTES: usize = 4096;
 
 impl Hashes for Blake2 {
-    ghost use Rattle.b2sum.specs.FileDigests.{digest_with};
+    ghost use Rattle.b2sum.specs.FileDigests.{digest_with, seal_with};
 
-    ghost hashing = { record { digest = digest_with; rejects = λ _ _. true } };
+    ghost hashing = { record {
+      digest = digest_with;
+      rejects = λ _ _. true;
+      seal = seal_with;
+    } };
 
     fn digest_source<S: OpenFile>(
         &self,
@@ -78,6 +89,16 @@ impl Hashes for Blake2 {
                 digest_tree(leaf, options.threads, &given, source, buffer, out)
             }
         }
+    }
+
+    fn seal(&self, options: &Options, list: &[u8], out: &mut [u8; 64]) {
+        let given = StateParameters {
+            output_size: 64,
+            key: front(options.key.as_slice(), 64),
+            salt: front(options.salt.as_slice(), 16),
+            persona: SEAL_PERSONA,
+        };
+        digest_list(&given, list, out);
     }
 
     fn piece_bytes(&self, options: &Options) -> usize {
@@ -179,6 +200,35 @@ fn digest<H: HashState + Drop, S: OpenFile>(
     }
     state.write_digest(&mut out[..]);
     Ok(())
+}
+
+// Writes the digest of a list, by BLAKE2b with 64 bytes, with these parameters, which must be those
+// of a hash.
+fn digest_list(given: &StateParameters<'_>, list: &[u8], out: &mut [u8; 64])
+    requires size { given.now.output_size ≡ 64 }
+    requires accepted { AdmitsState blake2b (parameters_given given.now sequential) }
+    ensures { out.new ≡ digest_given blake2b given.now sequential false list.now }
+{
+    let mut state = blake2b::State::zeros();
+    if start(&mut state, given) {
+        if !given.key.is_empty() {
+            scrub_stack::<START_BYTES>();
+        }
+        state.absorb(list);
+        state.write_digest(&mut out[..]);
+    }
+}
+
+// Returns the first bytes, at most so many.
+fn front(bytes: &[u8], most: usize) -> &[u8]
+    ensures front { result.now ≡ take most bytes.now }
+    ensures bound { length result.now ≤ most }
+{
+    if bytes.len() <= most {
+        bytes
+    } else {
+        &bytes[..most]
+    }
 }
 
 // Absorbs what the source returns, to its end. Returns whether it got there: otherwise a read has

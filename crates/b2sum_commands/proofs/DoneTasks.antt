@@ -3,8 +3,7 @@ use Rattle.std.proofs.Common.{◌≡◌, ℕ, Bool, true, false, List, Option, a
 use Rattle.b2sum_commands.specs.declared.options.Options.{Options}
 use Rattle.b2sum_commands.specs.World.{Streams}
 use Rattle.b2sum_commands.specs.World.{World, AllInTurn}
-use Rattle.b2sum_commands.specs.PrintedSums.{IsSum}
-use Rattle.b2sum_commands.specs.ManifestChecks.{IsChecked}
+use Rattle.b2sum_commands.specs.SealedLists.{ArePrinted, IsCheckedAs}
 use Rattle.b2sum_commands.specs.CommandLine.{Choice}
 use Rattle.b2sum_commands.specs.AcceptedOptions.{AreOptions}
 use Rattle.b2sum_commands.specs.ProgramRuns.{AreDone, DoesTask, HasKey, AfterKey}
@@ -21,7 +20,7 @@ pub checks_done : (w : World) (c : Choice) (o : Options) (names : List (List ℕ
     (old keyed warned begun new : Streams) (end : Option Bool) → AreOptions c o × HasKey w old.left c o
     → AfterKey c.key_file old keyed
     → WarnsOfMacs (are_short_macs o) w.program keyed warned → o.checks ≡ true → begun ≡ warned
-    → AllInTurn (IsChecked w o) names begun new end → DoesTask w c names old new end
+    → AllInTurn (IsCheckedAs o.is_sealed w o) names begun new end → DoesTask w c names old new end
 checks_done w c o names old keyed warned begun new end are after warns checks at done = (
   o,
   are.0,
@@ -31,7 +30,7 @@ checks_done w c o names old keyed warned begun new end are after warns checks at
   warned,
   warns,
   subst (λ (b : Bool). AreDone b w o names warned new end) (sym checks)
-      (subst (λ (s : Streams). AllInTurn (IsChecked w o) names s new end) at done),
+      (subst (λ (s : Streams). AllInTurn (IsCheckedAs o.is_sealed w o) names s new end) at done),
 )
 
 -- The lines of files are the task of a choice.
@@ -39,7 +38,7 @@ pub sums_done : (w : World) (c : Choice) (o : Options) (names : List (List ℕ))
     (old keyed warned begun new : Streams) (end : Option Bool) → AreOptions c o × HasKey w old.left c o
     → AfterKey c.key_file old keyed
     → WarnsOfMacs (are_short_macs o) w.program keyed warned → o.checks ≡ false → begun ≡ warned
-    → AllInTurn (IsSum w o) names begun new end → DoesTask w c names old new end
+    → ArePrinted o.is_sealed w o names begun new end → DoesTask w c names old new end
 sums_done w c o names old keyed warned begun new end are after warns checks at done = (
   o,
   are.0,
@@ -49,5 +48,5 @@ sums_done w c o names old keyed warned begun new end are after warns checks at d
   warned,
   warns,
   subst (λ (b : Bool). AreDone b w o names warned new end) (sym checks)
-      (subst (λ (s : Streams). AllInTurn (IsSum w o) names s new end) at done),
+      (subst (λ (s : Streams). ArePrinted o.is_sealed w o names s new end) at done),
 )

@@ -2,6 +2,9 @@ pub mod OneMore
 pub mod StandardInputName
 pub mod KnownBytes
 pub mod DoneInTurn
+pub mod KeptLines
+pub mod SealedTexts
+pub mod SealedChecks
 pub mod Verdicts
 pub mod VerdictCounts
 pub mod CutLines
@@ -12,7 +15,7 @@ pub mod DoneTasks
 pub mod MessagesInTurn
 pub mod ManifestMessages
 pub mod StopsOfParts
-pub mod LastPathPart
+pub mod LastTextPart
 pub mod CommandLines
 pub mod KeyFiles
 pub mod OpenedManifests

@@ -85,13 +85,22 @@ goes_with_sums c =
 abbrev pub has_one_persona : Choice → Bool
 has_one_persona c = not (has_bytes c.persona && has_bytes c.persona_text)
 
+-- The options go with a list that is sealed: its lines have tags, names and a key. A tree has no
+-- key. To be checked a sealed list needs a key too.
+abbrev pub goes_with_seals : Choice → Bool
+goes_with_seals c =
+    (not c.seals || (is_some c.key_file && (is_none c.leaf && (not c.checks
+    && (not c.ends_zero && (not (c.has_no_names || c.is_raw) && not (is_text c.is_binary)))))))
+    && (not c.is_sealed || (c.checks && is_some c.key_file))
+
 -- The options go together.
 abbrev pub goes_together : Choice → Bool
 goes_together c =
-    not (c.is_tagged && is_text c.is_binary)
+    goes_with_seals c
+    && (not (c.is_tagged && is_text c.is_binary)
     && (not (c.is_tagged && (c.has_no_names || c.is_raw))
     && (has_one_persona c
-    && (goes_with_tree c && (if c.checks then goes_with_check c else goes_with_sums c))))
+    && (goes_with_tree c && (if c.checks then goes_with_check c else goes_with_sums c)))))
 
 -- The file of the key, if there is one, is standard input.
 abbrev pub is_input : Option (List ℕ) → Bool
@@ -157,6 +166,7 @@ pub record AreOptions (c : Choice) (o : Options) : Type 0 where
   pub report : o.report ≡ c.report
   pub shows_digests : o.shows_digests ≡ c.shows_digests
   pub is_strict : o.is_strict ≡ (c.is_strict || is_some c.key_file)
+  pub is_sealed : o.is_sealed ≡ (c.seals || c.is_sealed)
   pub threads : o.threads ≡ unwrap_or c.threads 0
   pub shows_progress : o.shows_progress ≡ c.shows_progress
 

@@ -19,7 +19,7 @@ use Rattle.b2sum_commands.specs.declared.option_names.Flag.TheVariants.{ShowDige
 use Rattle.b2sum_commands.specs.declared.option_names.Flag.TheVariants.{Threads, NoNames, Raw}
 use Rattle.b2sum_commands.specs.declared.option_names.Flag.TheVariants.{Check, IgnoreMissing, Quiet}
 use Rattle.b2sum_commands.specs.declared.option_names.Flag.TheVariants.{Status, Warn, Strict, Tag}
-use Rattle.b2sum_commands.specs.declared.option_names.Flag.TheVariants.{Zero}
+use Rattle.b2sum_commands.specs.declared.option_names.Flag.TheVariants.{Seal, Sealed, Zero}
 use Rattle.b2sum_commands.specs.declared.option_names.Flag.TheVariants.{Binary, Text, Help, Version}
 use Rattle.b2sum_commands.specs.declared.options.Report.{Report}
 use Rattle.b2sum_commands.specs.declared.options.Report.TheVariants.{Each, Warnings, Failures}
@@ -36,7 +36,8 @@ pub data End : Type 0 where
 
 -- What the options choose. `names_algorithm` is that there is `--algorithm`. A length of 0 bits is
 -- the algorithm's longest. A persona is given by digits or as a text; one that is not given has no
--- bytes. `is_binary` is that of the last of `--binary`, `--text` and `--tag`.
+-- bytes. `is_binary` is that of the last of `--binary`, `--text`, `--tag` and `--seal`. Lines that
+-- are to be sealed have tags.
 pub record Choice : Type 0 where
   pub algorithm : entry.Algorithm
   pub names_algorithm : Bool
@@ -58,6 +59,8 @@ pub record Choice : Type 0 where
   pub has_no_names : Bool
   pub is_raw : Bool
   pub shows_digests : Bool
+  pub seals : Bool
+  pub is_sealed : Bool
 
 -- The choice of no options.
 abbrev pub no_choice : Choice
@@ -82,6 +85,8 @@ no_choice = record {
   has_no_names = false;
   is_raw = false;
   shows_digests = false;
+  seals = false;
+  is_sealed = false;
 }
 
 -- ---- values
@@ -163,6 +168,8 @@ set_flag Status c = Ok (record c { report = Nothing })
 set_flag Warn c = Ok (record c { report = Warnings })
 set_flag Strict c = Ok (record c { is_strict = true })
 set_flag Tag c = Ok (record c { is_tagged = true; is_binary = Some true })
+set_flag Seal c = Ok (record c { seals = true; is_tagged = true; is_binary = Some true })
+set_flag Sealed c = Ok (record c { is_sealed = true })
 set_flag Zero c = Ok (record c { ends_zero = true })
 set_flag Binary c = Ok (record c { is_binary = Some true })
 set_flag Text c = Ok (record c { is_binary = Some false })
@@ -208,6 +215,8 @@ set_value Status v c = Ok c
 set_value Warn v c = Ok c
 set_value Strict v c = Ok c
 set_value Tag v c = Ok c
+set_value Seal v c = Ok c
+set_value Sealed v c = Ok c
 set_value Zero v c = Ok c
 set_value Binary v c = Ok c
 set_value Text v c = Ok c
@@ -219,7 +228,7 @@ abbrev pub all_flags : List Flag
 all_flags =
     Length ∷ Check ∷ IgnoreMissing ∷ Quiet ∷ Status ∷ Warn ∷ Strict ∷ Tag ∷ Zero ∷ Binary ∷ Text
     ∷ Algorithm ∷ KeyFile ∷ Personal ∷ PersonalText ∷ Salt ∷ Tree ∷ Threads ∷ Progress ∷ NoNames
-    ∷ Raw ∷ ShowDigests ∷ Help ∷ Version ∷ []
+    ∷ Raw ∷ ShowDigests ∷ Seal ∷ Sealed ∷ Help ∷ Version ∷ []
 
 -- The first of two options that is there.
 abbrev pub or_else : Option Flag → Option Flag → Option Flag

@@ -35,6 +35,8 @@ choice_of r = record {
   has_no_names = r.has_no_names;
   is_raw = r.is_raw;
   shows_digests = r.shows_digests;
+  seals = r.seals;
+  is_sealed = r.is_sealed;
 }
 
 -- What the next word is.

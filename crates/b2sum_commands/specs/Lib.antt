@@ -1,6 +1,7 @@
 pub mod Messages
 pub mod LineNeeds
 pub mod World
+pub mod TextParts
 pub mod ProgramName
 pub mod PrintedSums
 pub mod Manifests
@@ -8,6 +9,7 @@ pub mod LineReads
 pub mod Quoting
 pub mod Reports
 pub mod ManifestChecks
+pub mod SealedLists
 pub mod ReadBack
 pub mod ProgramRuns
 pub mod OptionNames

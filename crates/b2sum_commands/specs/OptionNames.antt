@@ -9,7 +9,7 @@ use Rattle.b2sum_commands.specs.declared.option_names.Flag.TheVariants.{ShowDige
 use Rattle.b2sum_commands.specs.declared.option_names.Flag.TheVariants.{Threads, NoNames, Raw}
 use Rattle.b2sum_commands.specs.declared.option_names.Flag.TheVariants.{Check, IgnoreMissing, Quiet}
 use Rattle.b2sum_commands.specs.declared.option_names.Flag.TheVariants.{Status, Warn, Strict, Tag}
-use Rattle.b2sum_commands.specs.declared.option_names.Flag.TheVariants.{Zero}
+use Rattle.b2sum_commands.specs.declared.option_names.Flag.TheVariants.{Seal, Sealed, Zero}
 use Rattle.b2sum_commands.specs.declared.option_names.Flag.TheVariants.{Binary, Text, Help, Version}
 
 -- The name of the long option, which follows two hyphens.
@@ -33,6 +33,8 @@ long_name Status = codes "status"
 long_name Warn = codes "warn"
 long_name Strict = codes "strict"
 long_name Tag = codes "tag"
+long_name Seal = codes "seal"
+long_name Sealed = codes "sealed"
 long_name Zero = codes "zero"
 long_name Binary = codes "binary"
 long_name Text = codes "text"
@@ -60,6 +62,8 @@ has_value Status = false
 has_value Warn = false
 has_value Strict = false
 has_value Tag = false
+has_value Seal = false
+has_value Sealed = false
 has_value Zero = false
 has_value Binary = false
 has_value Text = false

@@ -74,6 +74,12 @@ entry_of w o name text = record {
   style = o.style;
 }
 
+-- A list has what was printed after it, if it is kept.
+abbrev pub IsKept : Bool → Option (List ℕ) → Option (List ℕ) → List ℕ → List ℕ → Type 0
+IsKept false old new before after = ⊤
+IsKept true old new before after =
+    (text : List ℕ) × Appends old new text × (after ≡ before ++ text)
+
 -- A sink accepted this much of the line of the file of this name, which has the digest of all its
 -- text.
 abbrev pub HasSum : (Option (List ℕ) → Option (List ℕ) → List ℕ → Type 0) → World → Options

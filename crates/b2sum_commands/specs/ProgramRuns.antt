@@ -8,17 +8,18 @@ use Rattle.b2sum_commands.specs.declared.options.Options.{Options}
 use Rattle.b2sum_commands.specs.Messages.{Cannot, ShortMacs, Usage, Value, is_dash, message}
 use Rattle.b2sum_commands.specs.World.{Files, World, Streams, AllInTurn, IsKey, IsNoKey, Tells}
 use Rattle.b2sum_commands.specs.World.{StopsIn, IsEnded, OnlyTells, TellsText}
-use Rattle.b2sum_commands.specs.PrintedSums.{IsSum, CannotGet}
-use Rattle.b2sum_commands.specs.ManifestChecks.{IsChecked}
+use Rattle.b2sum_commands.specs.PrintedSums.{CannotGet}
+use Rattle.b2sum_commands.specs.SealedLists.{ArePrinted, IsCheckedAs}
 use Rattle.b2sum_commands.specs.CommandLine.{Choice, End, Helped, Versioned, Refused}
 use Rattle.b2sum_commands.specs.AcceptedOptions.{AreOptions, is_input}
 
--- The files are checked as manifests, or their lines are printed. The result is whether each holds,
--- or was read. There is none if an error ended it.
+-- The files are checked as manifests, or their lines are printed, each as lists that are sealed or
+-- not. The result is whether each holds, or was read. There is none if an error ended it.
 abbrev pub AreDone : Bool → World → Options → List (List ℕ) → Streams → Streams → Option Bool
     → Type 0
-AreDone true w o names old new end = AllInTurn (IsChecked w o) names old new end
-AreDone false w o names old new end = AllInTurn (IsSum w o) names old new end
+AreDone true w o names old new end =
+    AllInTurn (IsCheckedAs o.is_sealed w o) names old new end
+AreDone false w o names old new end = ArePrinted o.is_sealed w o names old new end
 
 -- The bytes of the key file of this name: those that are left of standard input for `-`.
 abbrev pub key_file_bytes : Files → Option (List ℕ) → List ℕ → Option (List ℕ)

@@ -17,11 +17,12 @@ pub record Files : Type 1 where
   pub refuses : List ℕ → Error → Type 0
   pub describes : Error → List ℕ → Type 0
 
--- Hash functions, with the parameters of options: the digest of a text, and whether a digest may be
--- refused.
+-- Hash functions, with the parameters of options: the digest of a text, whether a digest may be
+-- refused, and the MAC that seals a list.
 pub record Hashing : Type 0 where
   pub digest : Options → Function → List ℕ → List ℕ
   pub rejects : Options → Function → Bool
+  pub seal : Options → List ℕ → List ℕ
 
 -- The manifest that is checked, as far as it is read: its name, the spacing of its lines, how many
 -- they are, at most 2^64 - 1.

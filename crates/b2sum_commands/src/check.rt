@@ -25,6 +25,7 @@ ghost use Rattle.b2sum_commands.specs.Manifests.{are_shown, digest_lines, full_o
 ghost use Rattle.b2sum_commands.specs.Manifests.{is_warnings};
 ghost use Rattle.b2sum_commands.specs.ManifestChecks.{item_value, IfListed, IsChecked, GoesOn};
 ghost use Rattle.b2sum_commands.specs.ManifestChecks.{AreRead, EndsAt, AreStopped, TellsUnopened};
+ghost use Rattle.b2sum_commands.specs.SealedLists.{IsCheckedAs};
 ghost use Rattle.b2sum_commands.specs.declared.line_reader.LineEnd.TheVariants.{Failure};
 ghost use Rattle.b2sum_commands.specs.declared.check.Verdict.TheVariants.{Equal, Different};
 ghost use Rattle.b2sum_commands.specs.declared.check.Verdict.TheVariants.{Skipped, Malformed};
@@ -41,6 +42,7 @@ use crate::messages::{
     warn_of_read,
 };
 use crate::options::{Options, Report};
+use crate::sealed_checks::check_sealed;
 use crate::session::{Host, Program, Session};
 use crate::sums::{Read, digest_file, is_dash};
 use b2sum_lines::{Entry, Spacing, Style, push_escaped, read_line};
@@ -87,7 +89,7 @@ pub struct Counts {
 }
 
 impl Counts {
-    fn none() -> Counts
+    pub(crate) fn none() -> Counts
         ensures { AreCounted [] result }
     {
         Counts {
@@ -102,7 +104,7 @@ impl Counts {
     }
 
     // Adds a line with this verdict.
-    fn add(&mut self, verdict: Verdict)
+    pub(crate) fn add(&mut self, verdict: Verdict)
         ensures { Adds verdict self.old self.new }
     {
         match verdict {
@@ -142,14 +144,15 @@ impl Counts {
     }
 }
 
-/// Checks each manifest, from the first to the last. Returns whether all hold.
+/// Checks each manifest, from the first to the last, as a sealed list if the options say so.
+/// Returns whether all hold.
 pub fn check_manifests<H: Hashes, D: Disk, K: Output, E: Sink>(
     host: &Host<H, D>,
     options: &Options,
     session: &mut Session<D::File, K, E>,
     names: &[Vec<u8>],
 ) -> Result<bool, Fault>
-    ensures checked { AllInTurn (IsChecked
+    ensures checked { AllInTurn (IsCheckedAs options.now.is_sealed
         (world_of host.now.program.name.items D.File.named D.File.failed D.File.failure
         (D.files host.now.disk) H.hashing) options.now)
         (map (λ name. name.items) names.now) session.old session.new (result_ok result) }
@@ -157,10 +160,31 @@ pub fn check_manifests<H: Hashes, D: Disk, K: Output, E: Sink>(
 {
     let mut all_hold = true;
     for name in names {
-        let holds = check_manifest(host, options, session, name.as_slice())?;
+        let holds = check_list(host, options, session, name.as_slice())?;
         all_hold &= holds;
     }
     Ok(all_hold)
+}
+
+// Checks the manifest of this name, as a sealed list if the options say so. Returns whether it
+// holds.
+fn check_list<H: Hashes, D: Disk, K: Output, E: Sink>(
+    host: &Host<H, D>,
+    options: &Options,
+    session: &mut Session<D::File, K, E>,
+    name: &[u8],
+) -> Result<bool, Fault>
+    ensures checked { IsCheckedAs options.now.is_sealed
+        (world_of host.now.program.name.items D.File.named D.File.failed D.File.failure
+        (D.files host.now.disk) H.hashing)
+        options.now name.now session.old session.new (result_ok result) }
+    ensures write { IsErrOf result Fault.WriteFailed → session.new.output_failed ≡ true }
+{
+    if options.is_sealed {
+        check_sealed(host, options, session, name)
+    } else {
+        check_manifest(host, options, session, name)
+    }
 }
 
 /// Checks the manifest of this name, or standard input for `-`, line by line as it is read. Returns
@@ -330,7 +354,7 @@ fn counted(end: LineEnd, counts: Counts) -> Option<Counts>
 }
 
 // Checks the next line of a manifest. `is_input` says that the manifest is standard input.
-fn check_line<H: Hashes, D: Disk, K: Output, E: Sink>(
+pub(crate) fn check_line<H: Hashes, D: Disk, K: Output, E: Sink>(
     host: &Host<H, D>,
     options: &Options,
     session: &mut Session<D::File, K, E>,
@@ -659,7 +683,7 @@ fn print_outcome<K: Sink>(
 
 // Prints the last messages of a manifest of this name, and returns whether it holds: that a read
 // failed, or what its lines need, and how many came to what.
-fn end_manifest<E: Sink>(
+pub(crate) fn end_manifest<E: Sink>(
     program: &Program,
     options: &Options,
     messages: &mut E,

@@ -9,7 +9,7 @@ ghost use Rattle.b2sum_lines.specs.declared.entry.Algorithm.TheVariants.{Tree};
 ghost use Rattle.b2sum_lines.specs.declared.entry.Style.TheVariants.{Tagged, Text, Binary};
 ghost use Rattle.b2sum_commands.specs.declared.options.Report.TheVariants.{Each};
 ghost use Rattle.b2sum_commands.specs.AcceptedOptions.{accepted, has_length, has_labels};
-ghost use Rattle.b2sum_commands.specs.AcceptedOptions.{goes_together};
+ghost use Rattle.b2sum_commands.specs.AcceptedOptions.{goes_together, goes_with_seals};
 ghost use Rattle.b2sum_commands.specs.AcceptedOptions.{goes_with_check, goes_with_sums};
 ghost use Rattle.b2sum_commands.specs.AcceptedOptions.{goes_with_files};
 ghost use Rattle.b2sum_commands.specs.AcceptedOptions.{chosen_needs, chosen_style, chosen_shape};
@@ -52,6 +52,7 @@ pub(crate) fn finish(alloc: Global, reader: Reader, files: Vec<Vec<u8>>) -> Resu
         report: reader.report,
         shows_digests: reader.shows_digests,
         is_strict: reader.is_strict || reader.key_file.is_some(),
+        is_sealed: reader.seals || reader.is_sealed,
         threads: reader.threads.unwrap_or(0),
         shows_progress: reader.shows_progress,
         salt: reader.salt,
@@ -243,6 +244,9 @@ fn conflict(reader: &Reader) -> Option<&'static [u8]>
         → (reader.now.ignores_missing ≡ false) × (reader.now.is_strict ≡ false)
         × (reader.now.report ≡ Each) }
 {
+    if let Some(text) = conflict_of_seals(reader) {
+        return Some(text);
+    }
     if reader.is_tagged && reader.is_binary == Some(false) {
         return Some(b"--tag does not support --text mode");
     }
@@ -270,6 +274,39 @@ fn conflict(reader: &Reader) -> Option<&'static [u8]>
     } else {
         conflict_of_sums(reader)
     }
+}
+
+// Returns the message of options that do not go with a sealed list.
+fn conflict_of_seals(reader: &Reader) -> Option<&'static [u8]>
+    ensures { is_none result ≡ goes_with_seals (choice_of reader.now) }
+{
+    if reader.seals {
+        if reader.checks {
+            return Some(b"the --seal option is meaningless when verifying checksums");
+        }
+        if reader.leaf.is_some() {
+            return Some(b"the --seal option does not support --tree");
+        }
+        if reader.ends_zero {
+            return Some(b"the --seal option does not support --zero");
+        }
+        if reader.has_no_names || reader.is_raw {
+            return Some(b"the --seal option does not support --no-names and --raw");
+        }
+        if reader.is_binary == Some(false) {
+            return Some(b"--seal does not support --text mode");
+        }
+    }
+    if reader.seals && reader.key_file.is_none() {
+        return Some(b"the --seal option needs --key-file");
+    }
+    if reader.is_sealed && !reader.checks {
+        return Some(b"the --sealed option is meaningful only when verifying checksums");
+    }
+    if reader.is_sealed && reader.key_file.is_none() {
+        return Some(b"the --sealed option needs --key-file");
+    }
+    None
 }
 
 // Returns whether there is a persona of digits and one of a text.

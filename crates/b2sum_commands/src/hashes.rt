@@ -51,6 +51,11 @@ pub trait Hashes {
             ≡ hashing.digest options.now function text)) }
         ensures name { S.named source.new ≡ S.named source.old };
 
+    /// Writes the MAC that seals a list, by the key and the salt of the options, and a
+    /// personalization of seals. Of the key the first 64 bytes count, and of the salt the first 16.
+    fn seal(&self, options: &Options, list: &[u8], out: &mut [u8; 64])
+        ensures { out.new ≡ hashing.seal options.now list.now };
+
     /// Returns the best length of a buffer, in bytes.
     fn piece_bytes(&self, options: &Options) -> usize
         ensures some { 0 < result }

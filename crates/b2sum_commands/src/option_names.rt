@@ -28,6 +28,8 @@ pub(crate) enum Flag {
     Warn,
     Strict,
     Tag,
+    Seal,
+    Sealed,
     Zero,
     Binary,
     Text,
@@ -60,6 +62,8 @@ impl Flag {
             Flag::Warn => b"warn",
             Flag::Strict => b"strict",
             Flag::Tag => b"tag",
+            Flag::Seal => b"seal",
+            Flag::Sealed => b"sealed",
             Flag::Zero => b"zero",
             Flag::Binary => b"binary",
             Flag::Text => b"text",
@@ -103,7 +107,7 @@ impl Flag {
 }
 
 /// The long options, in the order in which messages list them.
-pub(crate) static FLAGS: [Flag; 24] = [
+pub(crate) static FLAGS: [Flag; 26] = [
     Flag::Length,
     Flag::Check,
     Flag::IgnoreMissing,
@@ -126,6 +130,8 @@ pub(crate) static FLAGS: [Flag; 24] = [
     Flag::NoNames,
     Flag::Raw,
     Flag::ShowDigests,
+    Flag::Seal,
+    Flag::Sealed,
     Flag::Help,
     Flag::Version,
 ];

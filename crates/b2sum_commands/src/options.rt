@@ -80,6 +80,8 @@ pub struct Options {
     pub shows_digests: bool,
     /// A check fails for lines that are not properly formatted. It always does under a key.
     pub is_strict: bool,
+    /// The list that is printed is sealed, or those that are checked are.
+    pub is_sealed: bool,
     /// The number of threads that read a large file for a tree, 0 for one on each processor.
     pub threads: u32,
     /// The progress of long reads is shown on a terminal.
@@ -154,6 +156,8 @@ pub(crate) struct Reader {
     pub(crate) has_no_names: bool,
     pub(crate) is_raw: bool,
     pub(crate) shows_digests: bool,
+    pub(crate) seals: bool,
+    pub(crate) is_sealed: bool,
 }
 
 impl Reader {
@@ -182,6 +186,8 @@ impl Reader {
             has_no_names: false,
             is_raw: false,
             shows_digests: false,
+            seals: false,
+            is_sealed: false,
         }
     }
 }
@@ -434,6 +440,12 @@ fn take_flag(reader: &mut Reader, flag: Flag) -> Result<(), Stop>
             reader.is_tagged = true;
             reader.is_binary = Some(true);
         }
+        Flag::Seal => {
+            reader.seals = true;
+            reader.is_tagged = true;
+            reader.is_binary = Some(true);
+        }
+        Flag::Sealed => reader.is_sealed = true,
         Flag::Zero => reader.ends_zero = true,
         Flag::Binary => reader.is_binary = Some(true),
         Flag::Text => reader.is_binary = Some(false),

@@ -22,8 +22,8 @@ use crate::messages::{
     warn_of_memory, warn_of_short_macs, warn_of_usage, warn_of_value, warn_of_write,
 };
 use crate::options::{Arguments, Options, Stop, joined, read_arguments};
+use crate::seals::print_list;
 use crate::session::{Host, Program, Session};
-use crate::sums::print_sums;
 use blake2_streams::Sink;
 
 // What comes after `Usage: ` and the program's name.
@@ -36,6 +36,7 @@ Print or check BLAKE2 digests. With no FILE, or if FILE is -, read standard inpu
   -b, --binary          print * before each name
   -t, --text            print a space before each name (the default)
       --tag             print lines that name the algorithm
+      --seal            print lines as --tag does, and one more that seals them under the key
   -z, --zero            end each line with a zero byte, and do not escape names
       --no-names        print only the digits of each digest
       --raw             print only the bytes of the digest of one FILE
@@ -50,6 +51,7 @@ Print or check BLAKE2 digests. With no FILE, or if FILE is -, read standard inpu
       --ignore-missing  do not fail for missing files
       --quiet           do not print OK
       --status          print nothing, the status shows success
+      --sealed          check lists that --seal printed, and believe none whose seal does not hold
       --strict          fail for improperly formatted lines
       --show-digests    print the expected and the found digest of each file that differs
   -w, --warn            warn about improperly formatted lines
@@ -192,7 +194,7 @@ fn run_task<H: Hashes, D: Disk, K: Output, E: Sink>(
     if options.checks {
         check_manifests(host, &options, session, names)
     } else {
-        print_sums(host, &options, session, names)
+        print_list(host, &options, session, names)
     }
 }
 

@@ -2,7 +2,8 @@
 
 ghost use Rattle.std.specs.Prelude.{◌≡◌, ◌<◌, ◌≤◌, ◌^◌, ◌∷◌, [], length, IfOk, IsErr, OnOk};
 ghost use Rattle.b2sum_commands.specs.Manifests.{first_place};
-ghost use Rattle.b2sum_commands.specs.ProgramName.{last_part, program_name};
+ghost use Rattle.b2sum_commands.specs.ProgramName.{program_name};
+ghost use Rattle.b2sum_commands.specs.TextParts.{after_last};
 ghost use Rattle.b2sum_lines.specs.declared.entry.Spacing.TheVariants.{Open};
 
 use crate::devices::{OpenFile, Output};
@@ -30,7 +31,7 @@ impl Program {
     pub fn new(alloc: Global, path: &[u8]) -> Result<Program, AllocError>
         ensures { IfOk result (λ p. p.name.items ≡ program_name path.now) }
     {
-        let part = last_part(path);
+        let part = after_last(path, b'/');
         let name: &[u8] = if part.is_empty() { b"b2sum" } else { part };
         Ok(Program {
             alloc,
@@ -39,15 +40,16 @@ impl Program {
     }
 }
 
-// Returns what is after the last slash of a path, or all of it if there is none.
-fn last_part(path: &[u8]) -> &[u8]
-    ensures { result.now ≡ last_part path.now }
+/// Returns what is after the last such byte of a text, or all of it if there is none.
+pub(crate) fn after_last(text: &[u8], byte: u8) -> &[u8]
+    ensures part { result.now ≡ after_last byte text.now }
+    ensures shorter { length result.now ≤ length text.now }
 {
-    let mut at = path.len();
-    'part: while at > 0 && path[at - 1] != b'/' {
+    let mut at = text.len();
+    'part: while at > 0 && text[at - 1] != byte {
         at -= 1;
     }
-    &path[at..]
+    &text[at..]
 }
 
 /// The program, the hash functions and the files of a run.

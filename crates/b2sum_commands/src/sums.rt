@@ -4,14 +4,15 @@ ghost use Rattle.std.specs.Prelude.{◌++◌, ◌∷◌, []};
 ghost use Rattle.hex.specs.Hex.{encode_lower};
 ghost use Rattle.b2sum_commands.specs.PrintedSums.{printed, end_of};
 ghost use Rattle.std.specs.Prelude.{◌≡◌, ◌≢◌, ℕ, ◌≤◌, List, length, map, take, true, false, IfOk};
-ghost use Rattle.std.specs.Prelude.{IsErrOf, IsOkUnless, IfErr, OnOk, Some, ◌⊎◌, ◌<◌, ◌^◌};
+ghost use Rattle.std.specs.Prelude.{IsErrOf, IsOkUnless, IfErr, OnOk, OnErr, Some, ◌⊎◌, ◌<◌, ◌^◌};
+ghost use Rattle.std.specs.Io.KnownBytes.{Appends};
 ghost use Rattle.blake2_streams.specs.Streams.{GivesAll};
 ghost use Rattle.std.specs.Result.{result_ok};
 ghost use Rattle.b2sum_commands.specs.declared.sums.Read.TheVariants.{Whole, Missing, Failed};
 ghost use Rattle.b2sum_commands.specs.Messages.{is_dash};
-ghost use Rattle.b2sum_commands.specs.World.{world_of, AllInTurn, KeepsOutput};
+ghost use Rattle.b2sum_commands.specs.World.{world_of, AllInTurn, KeepsOutput, StopsIn};
 ghost use Rattle.b2sum_commands.specs.PrintedSums.{ReadsAs, LeavesInput, IsMissing, IsSum};
-ghost use Rattle.b2sum_commands.specs.PrintedSums.{ended_line, TellsCause};
+ghost use Rattle.b2sum_commands.specs.PrintedSums.{ended_line, IsKept, TellsCause};
 
 use crate::devices::{Disk, Fault, OpenFile, Output, put};
 use crate::hashes::{Function, Hashes};
@@ -136,26 +137,52 @@ pub fn print_sums<H: Hashes, D: Disk, K: Output, E: Sink>(
         (map (λ name. name.items) names.now) session.old session.new (result_ok result) }
     ensures write { IsErrOf result Fault.WriteFailed → session.new.output_failed ≡ true }
 {
+    let mut list = Vec::new(host.program.alloc);
+    print_lines(host, options, session, names, &mut list)
+}
+
+/// Prints the lines of files, as `print_sums` does, and appends them to the list, if it is to be
+/// sealed.
+pub(crate) fn print_lines<H: Hashes, D: Disk, K: Output, E: Sink>(
+    host: &Host<H, D>,
+    options: &Options,
+    session: &mut Session<D::File, K, E>,
+    names: &[Vec<u8>],
+    list: &mut Vec<u8>,
+) -> Result<bool, Fault>
+    requires { options.now.bytes ≤ 64 }
+    ensures lines { AllInTurn (IsSum
+        (world_of host.now.program.name.items D.File.named D.File.failed D.File.failure
+        (D.files host.now.disk) H.hashing) options.now)
+        (map (λ name. name.items) names.now) session.old session.new (result_ok result) }
+    ensures kept { IfOk result (λ _. IsKept options.now.is_sealed session.old.held session.new.held
+        list.old.items list.new.items) }
+    ensures write { IsErrOf result Fault.WriteFailed → session.new.output_failed ≡ true }
+{
     let mut are_read = true;
     for name in names {
-        let is_read = print_sum(host, options, session, name.as_slice())?;
+        let is_read = print_sum(host, options, session, name.as_slice(), list)?;
         are_read &= is_read;
     }
     Ok(are_read)
 }
 
-// Prints the line of a file. Returns whether it was read.
+// Prints the line of a file, and appends it to the list, if that is to be sealed. Returns whether
+// the file was read.
 fn print_sum<H: Hashes, D: Disk, K: Output, E: Sink>(
     host: &Host<H, D>,
     options: &Options,
     session: &mut Session<D::File, K, E>,
     name: &[u8],
+    list: &mut Vec<u8>,
 ) -> Result<bool, Fault>
     requires { options.now.bytes ≤ 64 }
     ensures line { IsSum
         (world_of host.now.program.name.items D.File.named D.File.failed D.File.failure
         (D.files host.now.disk) H.hashing)
         options.now name.now session.old session.new (result_ok result) }
+    ensures kept { IfOk result (λ _. IsKept options.now.is_sealed session.old.held session.new.held
+        list.old.items list.new.items) }
     ensures write { IsErrOf result Fault.WriteFailed → session.new.output_failed ≡ true }
 {
     let mut digest = [0u8; 64];
@@ -170,8 +197,28 @@ fn print_sum<H: Hashes, D: Disk, K: Output, E: Sink>(
     }
     let all = &digest[..];
     let line = printed(host.program.alloc, options, &all[..size], name)?;
-    put(&mut session.output, line.as_slice())?;
+    put_line(options, &mut session.output, list, line.as_slice())?;
     Ok(true)
+}
+
+// Prints a line, and appends it to the list, if that is to be sealed.
+fn put_line<K: Sink>(
+    options: &Options,
+    output: &mut K,
+    list: &mut Vec<u8>,
+    line: &[u8],
+) -> Result<(), Fault>
+    ensures whole { OnOk result (Appends (K.held output.old) (K.held output.new) line.now) }
+    ensures part { OnErr result (StopsIn (K.held output.old) (K.held output.new) line.now) }
+    ensures kept { OnOk result (IsKept options.now.is_sealed (K.held output.old)
+        (K.held output.new) list.old.items list.new.items) }
+    ensures write { IsErrOf result Fault.WriteFailed → K.failed output.new ≡ true }
+{
+    if options.is_sealed {
+        list.extend_from_slice(line)?;
+    }
+    put(output, line)?;
+    Ok(())
 }
 
 // Returns what is printed of a digest and a name.

@@ -4,7 +4,7 @@ use Rattle.b2sum_commands.proofs.EndedByErrors.{stops}
 use Rattle.b2sum_commands.proofs.DoneInTurn.{sofar_start, name_step, name_stops, names_end}
 use Rattle.b2sum_commands.proofs.DoneInTurn.{items_of}
 use Rattle.b2sum_commands.specs.World.{world_of, AllInTurn, Ends, Stops}
-use Rattle.b2sum_commands.specs.ManifestChecks.{IsChecked}
+use Rattle.b2sum_commands.specs.SealedLists.{IsCheckedAs}
 use Rattle.b2sum_commands.proofs.check.check_manifests.Goals as goal
 
 pub loop-name-init : goal.loop-name-init
@@ -16,7 +16,7 @@ loop-name-preserved g c =
     let one : Bool = c.in_ok-holds.holds in (
       before.0 ++ (one ∷ []),
       name_step _ c.args.names.now _ c.loop-name.name-index c.name-item.result c.as_slice.result.now
-          c.loop-name.session c.check_manifest.new.session before.0 one c.loop-name-test.true c.name-item.is
+          c.loop-name.session c.check_list.new.session before.0 one c.loop-name-test.true c.name-item.is
           c.as_slice.ensures.value before.1 c.in_ok-holds.ensures.checked,
       ap (λ b. b && one) before.2 ∙ sym (all_more (λ well. well) before.0 one),
     )
@@ -36,12 +36,12 @@ returns-in_err-holds-clause-checked g c =
     g.D.File.OpenFile.named g.D.File.OpenFile.failed
     g.D.File.OpenFile.failure (g.D.Disk.files c.args.host.now.disk)
     g.H.Hashes.hashing in
-    let does = IsChecked w c.args.options.now in
+    let does = IsCheckedAs c.args.options.now.is_sealed w c.args.options.now in
     let names = c.args.names.now in
     let before = c.loop-name.invariant in
-    stops (AllInTurn does (items_of names) c.args.session.now c.check_manifest.new.session)
+    stops (AllInTurn does (items_of names) c.args.session.now c.check_list.new.session)
     c.from_residual.result _ c.from_residual.ensures.1
     (name_stops (Ends does) (Stops does) names c.args.session.now c.loop-name.name-index
-    c.name-item.result c.as_slice.result.now c.loop-name.session c.check_manifest.new.session before.0
+    c.name-item.result c.as_slice.result.now c.loop-name.session c.check_list.new.session before.0
     c.loop-name-test.true c.name-item.is c.as_slice.ensures.value before.1
     c.in_err-holds.ensures.checked)

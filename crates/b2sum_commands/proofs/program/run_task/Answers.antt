@@ -4,8 +4,7 @@ use Rattle.std.specs.Result.{result_ok}
 use Rattle.b2sum_commands.specs.declared.options.Options.{Options}
 use Rattle.b2sum_commands.specs.World.{Streams}
 use Rattle.b2sum_commands.specs.World.{world_of, AllInTurn}
-use Rattle.b2sum_commands.specs.PrintedSums.{IsSum}
-use Rattle.b2sum_commands.specs.ManifestChecks.{IsChecked}
+use Rattle.b2sum_commands.specs.SealedLists.{ArePrinted, IsCheckedAs}
 use Rattle.b2sum_commands.specs.AcceptedOptions.{AreOptions}
 use Rattle.std.specs.Option.{option_map}
 use Rattle.b2sum_commands.specs.ProgramRuns.{HasKey, AfterKey, IsKeyless, DoesChoice}
@@ -49,7 +48,7 @@ returns-then-options-2-clause-choice g c = λ ch are given.
     inl (checks_done w ch o
     (items_of c.args.arguments.files.items) old keyed warned c.make_room.new.self
     c.check_manifests.new.session end chosen after c.warn_if_short.ensures c.if-options-2.true begun
-    (subst (λ (ns : List (Vec ℕ Global)). AllInTurn (IsChecked w o) (items_of ns)
+    (subst (λ (ns : List (Vec ℕ Global)). AllInTurn (IsCheckedAs o.is_sealed w o) (items_of ns)
     c.make_room.new.self c.check_manifests.new.session end) c.as_slice-names.ensures.value
     c.check_manifests.ensures.checked))
 
@@ -71,13 +70,13 @@ returns-clause-choice g c = λ ch are given.
     c.in_ok-options.ensures.kept) in
     let warned = c.warn_if_short.new.session in
     let begun : c.make_room.new.self ≡ warned = c.make_room.ensures in
-    let end = result_ok c.print_sums.result in
+    let end = result_ok c.print_list.result in
     inl (sums_done w ch o
     (items_of c.args.arguments.files.items) old keyed warned c.make_room.new.self
-    c.print_sums.new.session end chosen after c.warn_if_short.ensures c.if-options-2.false begun
-    (subst (λ (ns : List (Vec ℕ Global)). AllInTurn (IsSum w o) (items_of ns)
-    c.make_room.new.self c.print_sums.new.session end) c.as_slice-names.ensures.value
-    c.print_sums.ensures.lines))
+    c.print_list.new.session end chosen after c.warn_if_short.ensures c.if-options-2.false begun
+    (subst (λ (ns : List (Vec ℕ Global)). ArePrinted o.is_sealed w o (items_of ns)
+    c.make_room.new.self c.print_list.new.session end) c.as_slice-names.ensures.value
+    c.print_list.ensures.lines))
 
 pub returns-in_err-options-clause-choice : goal.returns-in_err-options-clause-choice
 returns-in_err-options-clause-choice g c = λ ch are given.

@@ -3,32 +3,44 @@ use Rattle.b2sum_commands.proofs.OneMore.{all_more}
 use Rattle.b2sum_commands.proofs.EndedByErrors.{stops}
 use Rattle.b2sum_commands.proofs.DoneInTurn.{sofar_start, name_step, name_stops, names_end}
 use Rattle.b2sum_commands.proofs.DoneInTurn.{items_of}
+use Rattle.b2sum_commands.proofs.KeptLines.{kept_none, kept_more}
 use Rattle.b2sum_commands.specs.World.{world_of, AllInTurn, Ends, Stops}
 use Rattle.b2sum_commands.specs.PrintedSums.{IsSum}
-use Rattle.b2sum_commands.proofs.sums.print_sums.Goals as goal
+use Rattle.b2sum_commands.proofs.sums.print_lines.Goals as goal
 
 pub loop-name-init : goal.loop-name-init
-loop-name-init g c = ([], sofar_start _ _ _, refl)
+loop-name-init g c = record {
+  kept = kept_none c.args.options.now.is_sealed c.args.session.now.held c.args.list.now.items;
+  lines = ([], sofar_start _ _ _, refl);
+}
 
 pub loop-name-preserved : goal.loop-name-preserved
 loop-name-preserved g c =
-    let before = c.loop-name.invariant in
-    let one : Bool = c.in_ok-is_read.is_read in (
-      before.0 ++ (one ∷ []),
-      name_step _ c.args.names.now _ c.loop-name.name-index c.name-item.result c.as_slice.result.now
-          c.loop-name.session c.print_sum.new.session before.0 one c.loop-name-test.true c.name-item.is
-          c.as_slice.ensures.value before.1 c.in_ok-is_read.ensures.line,
-      ap (λ b. b && one) before.2 ∙ sym (all_more (λ well. well) before.0 one),
-    )
+    let before = c.loop-name.invariant.lines in
+    let one : Bool = c.in_ok-is_read.is_read in
+    record {
+      kept = kept_more c.args.options.now.is_sealed _ _ _ _ _ _ c.loop-name.invariant.kept
+          c.in_ok-is_read.ensures.kept;
+      lines = (
+        before.0 ++ (one ∷ []),
+        name_step _ c.args.names.now _ c.loop-name.name-index c.name-item.result c.as_slice.result.now
+            c.loop-name.session c.print_sum.new.session before.0 one c.loop-name-test.true c.name-item.is
+            c.as_slice.ensures.value before.1 c.in_ok-is_read.ensures.line,
+        ap (λ b. b && one) before.2 ∙ sym (all_more (λ well. well) before.0 one),
+      );
+    }
 
 pub returns-clause-lines : goal.returns-clause-lines
 returns-clause-lines g c =
-    let before = c.loop-name.invariant in (
+    let before = c.loop-name.invariant.lines in (
       before.0,
       names_end _ c.args.names.now _ c.loop-name.name-index c.loop-name.session before.0
           (omega (arith, c.loop-name-test.false)) before.1,
       before.2,
     )
+
+pub returns-clause-kept : goal.returns-clause-kept
+returns-clause-kept g c = c.loop-name.invariant.kept
 
 pub returns-in_err-is_read-clause-lines : goal.returns-in_err-is_read-clause-lines
 returns-in_err-is_read-clause-lines g c =
@@ -38,7 +50,7 @@ returns-in_err-is_read-clause-lines g c =
     g.H.Hashes.hashing in
     let does = IsSum w c.args.options.now in
     let names = c.args.names.now in
-    let before = c.loop-name.invariant in
+    let before = c.loop-name.invariant.lines in
     stops (AllInTurn does (items_of names) c.args.session.now c.print_sum.new.session)
     c.from_residual.result _ c.from_residual.ensures.1
     (name_stops (Ends does) (Stops does) names c.args.session.now c.loop-name.name-index

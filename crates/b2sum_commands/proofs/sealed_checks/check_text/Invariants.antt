@@ -1,0 +1,19 @@
+use Rattle.std.proofs.Common.{List, length}
+use Rattle.text_lines.specs.Cuts.{lines_of}
+use Rattle.b2sum_commands.specs.Manifests.{IsLine}
+use Rattle.b2sum_commands.specs.Reports.{AreCounted}
+use Rattle.b2sum_commands.specs.World.{world_of}
+use Rattle.b2sum_commands.specs.declared.check.Verdict.{Verdict}
+use Rattle.b2sum_commands.proofs.DoneInTurn.{Sofar}
+use Rattle.b2sum_commands.proofs.sealed_checks.check_text.Given as goal
+
+abbrev pub invariant-line : goal.invariant-line
+invariant-line g l =
+    (vs : List Verdict) × Sofar (IsLine (world_of l.host.program.name.items
+    g.D.File.OpenFile.named g.D.File.OpenFile.failed
+    g.D.File.OpenFile.failure (g.D.Disk.files l.host.disk) g.H.Hashes.hashing) l.options
+    l.is_input) (lines_of l.fn.text) l.fn.session (lines_of l.rest) l.session vs
+    × AreCounted vs l.counts
+
+abbrev pub decreases-line : goal.decreases-line
+decreases-line g l = length l.rest
