@@ -230,11 +230,13 @@ static void check_devices(void) {
         "NUL", "nul", "Nul.txt", "NUL .txt", "NUL:", "NUL  ", "dir/NUL", "dir\\con", "C:NUL", "c:/dir/aux.c", "PRN",
         "COM1", "lpt9.txt", "LPT0", "COM\xc2\xb9", "COM\xc2\xb2.x", "lpt\xc2\xb3", "CONIN$", "conout$", "CLOCK$.x",
         "//HOST/SHARE/FILE", "\\\\HOST\\SHARE", "/\\HOST/x", "\\/HOST/x", "//", "//?/UNC/HOST/SHARE/x", "//./COM1",
-        "//./C:/x", "//?/C:", "//?/C:x", "//?/1:/x", "\\\\?\\UNC\\x", "//?/Volume/x", "/?\?/UNC/HOST/x", "\\??\\C:\\x"};
+        "//./C:/x", "//?/C:", "//?/C:x", "//?/1:/x", "//?/{:/x", "\\\\?\\UNC\\x",
+        "//?/Volume/x", "/?\?/UNC/HOST/x", "\\??\\C:\\x"};
     static const char *const local[] = {
         "NULL", "null.txt", "xNUL", "NUL/x", "con/x", "dir.NUL/x", "COM", "COM.txt", "COMX", "COM10", "LPTT1",
-        "LPT\xc2\xb4", "lpt\xc2", "CONIN", "file", "/file", "dir/file", "C:/dir/file", "C:file", "//?/C:/dir/file", "\\\\?\\z:\\x",
-        "AU", "", "?", "file:NUL", " NUL", ".NUL", "file.nul"};
+        "LPT\xc2\xb4", "lpt\xc2", "CONIN", "file", "/file", "dir/file", "C:/dir/file", "C:file",
+        "//?/C:/dir/file", "\\\\?\\z:\\x",
+        "//?/a:/x", "AU", "", "?", "file:NUL", " NUL", ".NUL", "file.nul"};
 
     for (size_t i = 0; i < sizeof foreign / sizeof *foreign; i++) CHECK(is_foreign(foreign[i]));
     for (size_t i = 0; i < sizeof local / sizeof *local; i++) CHECK(!is_foreign(local[i]));
