@@ -13,7 +13,8 @@ import sys
 import tap
 from common import TOP, read
 
-GLOSSARY, BEGIN, END = "docs/GLOSSARY.md", "## Names of calls\n", "\n## Transcripts"
+GLOSSARY, PARAMETERS, BEGIN, END = (
+    "docs/GLOSSARY.md", "## Names of parameters\n", "## Names of calls\n", "\n## Transcripts")
 # Where each language declares what a program may call, and what a comment is there.
 SOURCES = {
     "C++": (["c/include/vulfsjor.hpp"], r"/\*.*?\*/|//[^\n]*"),
@@ -74,15 +75,26 @@ def wrong_names(language):
                 yield f"docs/SURFACE.tsv: {row['C']} is {name} in {language}, which is not in {places(language)}"
 
 
+def is_known(name, cells):
+    """Whether each language that has a call names it as C does, in its own way to join words, or by a parameter, of
+    which GLOSSARY.md has the names above."""
+    parameters = re.findall(r"  (\w+)\b", read(GLOSSARY).partition(PARAMETERS)[2].partition(BEGIN)[0])
+
+    def plain(word):
+        return re.sub("^(blake2x?[bs]p?|tree)_", "", re.sub("(?<=[a-z])(?=[A-Z])", "_", word).lower())
+    return all(cell.startswith("- ") or cell in parameters or plain(cell) == plain(name) for cell in cells)
+
+
 def table():
-    """The table of GLOSSARY.md: what several functions have under one name in each language is one row."""
+    """The table of GLOSSARY.md: what several functions have under one name in each language is one row, and a call
+    whose names are known has none."""
     columns = ("C", "C++", "Rust", "Python", "JavaScript")
     lines, seen = [columns], set()
     for row in rows():
         family = row["families"].split()[0]
         name, *cells = (re.sub("(?<=lake2)F", family, row[language]) for language in columns)
         kind = name.partition("_")[2], *cells
-        if kind not in seen and not all(text.startswith("- ") for text in cells):
+        if kind not in seen and not is_known(name, cells):
             lines.append([name, *(f"({text[2:]})" if text.startswith("- ") else text for text in cells)])
         seen.add(kind)
     widths = [max(map(len, column)) + 2 for column in zip(*lines)]
@@ -96,9 +108,9 @@ def wrong_glossary():
 
 def page():
     return ("\nThe names in C follow `vulfsjor_`. What is in parentheses says why there is none. Rows of BLAKE2b are "
-            "also those of the\nother hashes and of trees that have the call: [SURFACE.tsv](SURFACE.tsv) says which "
-            "do, and has the calls that only C\nhas, and those of the "
-            "[conformance cases](../tests/conformance/README.md).\n\n```text\n" + table() + "```\n")
+            "also those of the\nother hashes and of trees that have the call. [SURFACE.tsv](SURFACE.tsv) says which "
+            "do, and has all calls, also those\nwithout a row here: each language that has one names it as C does, "
+            "such as `save`, or by a parameter above.\n\n```text\n" + table() + "```\n")
 
 
 def main():
