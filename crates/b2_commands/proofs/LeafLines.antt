@@ -1,5 +1,6 @@
 -- Joined digests in lines: read a line at a time, and printed one after the other.
-use Rattle.std.proofs.Common.{◌≡◌, ℕ, zero, suc, ◌+◌, ◌<◌, List, [], ◌∷◌, ◌++◌, length, append_assoc}
+use Rattle.std.proofs.Common.{◌≡◌, ℕ, zero, suc, ◌+◌, ◌<◌, List, [], ◌∷◌, ◌++◌, length}
+use Rattle.std.proofs.Common.{append_assoc}
 use Rattle.std.proofs.Common.{append-nil, Option, Result, Ok, Err, refl, sym, ap, ◌∙◌, subst, arith}
 use Rattle.std.proofs.KnownBytes.{Appends-trans}
 use Rattle.std.specs.Io.KnownBytes.{Appends}
@@ -23,11 +24,11 @@ one_more digests digest (Err fault) = refl
 
 -- The next line has a digest: the digests of all lines are the earlier ones, that one, and those of
 -- the later lines.
-pub read_on : (all : Result (List ℕ) Fault) (digests digest : List ℕ) (number : ℕ)
+pub reads_next_line : (all : Result (List ℕ) Fault) (digests digest : List ℕ) (number : ℕ)
     (line : List ℕ) (lines rest : List (List ℕ)) → all ≡ followed digests (digests_from number rest)
     → rest ≡ line ∷ lines → digest_at number line ≡ Ok digest
     → all ≡ followed (digests ++ digest) (digests_from (number + 1) lines)
-read_on all digests digest number line lines rest is first read =
+reads_next_line all digests digest number line lines rest is first read =
     is ∙ rw (first, read) (one_more digests digest (digests_from (number + 1) lines))
 
 -- A text that is not empty is read from its first line on.

@@ -19,10 +19,10 @@ one_more calls call (Err fault) = refl
 
 -- The next line has a call: the calls of all lines are the earlier ones, that call, and those of
 -- the later lines.
-pub read_on : (all : Result (List Call) Fault) (calls : List Call) (call : Call) (number : ℕ)
+pub reads_next_line : (all : Result (List Call) Fault) (calls : List Call) (call : Call) (number : ℕ)
     (line : List ℕ) (lines rest : List (List ℕ)) → all ≡ behind calls (calls_from number rest)
     → rest ≡ line ∷ lines
     → call_at number line ≡ Ok call → all ≡ behind (calls ++ call ∷ [])
     (calls_from (number + 1) lines)
-read_on all calls call number line lines rest is first read =
+reads_next_line all calls call number line lines rest is first read =
     is ∙ rw (first, read) (one_more calls call (calls_from (number + 1) lines))

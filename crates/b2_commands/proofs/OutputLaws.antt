@@ -11,9 +11,9 @@ use Rattle.blake2_digest.specs.States.{Fresh, Meaning, Updated, digest_now}
 use Rattle.blake2_state.specs.ConstructorArguments.{given_count}
 use Rattle.blake2_xof.specs.Xof.{AdmitsXof, IsKnown, Settings, outputs, settings, unknown_length}
 use Rattle.blake2_xof.specs.Xof.{xof}
-use Rattle.blake2_xof.specs.Xof.{output_length, root_hash, stream}
+use Rattle.blake2_xof.specs.Xof.{output_length, root_hash, xof_output}
 use Rattle.blake2_xof.proofs.KnownOutputs.{known_length, whole_output}
-use Rattle.blake2_xof.proofs.OutputBlocks.{length-stream}
+use Rattle.blake2_xof.proofs.OutputBlocks.{length-xof_output}
 use Rattle.b2_commands.specs.declared.fault.Fault.{Fault}
 use Rattle.b2_commands.specs.declared.fault.Fault.TheVariants.{WriteFailed}
 use Rattle.b2_commands.specs.TaskEnds.{EndsBy}
@@ -100,14 +100,14 @@ some_output blake2s n some = grind (arith, nat_tests)
 -- After an update an output has the length that it was made with.
 pub kept_length : {S : Type 0} (f : Family) (m : Meaning S) (a b : Settings) (n : ℕ) (made now : S)
     (x root : List ℕ) → IsKnown f a.xof_length → 1 ≤ a.xof_length → Fresh m (outputs f a) n made
-    → Updated m made x now → 1 ≤ b.xof_length → m.future now false [] ≡ stream f b root
+    → Updated m made x now → 1 ≤ b.xof_length → m.future now false [] ≡ xof_output f b root
     → output_length f b.xof_length ≡ a.xof_length
 kept_length f m a b n made now x root known some fresh updated other is =
     let size = known_length f a.xof_length known in
-    let same : stream f b root ≡ xof f a (x ++ []) =
+    let same : xof_output f b root ≡ xof f a (x ++ []) =
     sym is ∙ updated.future false [] ∙ fresh.future false (x ++ []) in
-    sym (length-stream f b root (some_output f b.xof_length other)) ∙ ap length same
-    ∙ length-stream f a (root_hash f a (x ++ [])) (omega (arith, size)) ∙ size
+    sym (length-xof_output f b root (some_output f b.xof_length other)) ∙ ap length same
+    ∙ length-xof_output f a (root_hash f a (x ++ [])) (omega (arith, size)) ∙ size
 
 -- What is printed of a whole output that was read from its first byte on.
 pub printed_output : {S : Type 0} (text : List ℕ → List ℕ) (f : Family) (m : Meaning S)

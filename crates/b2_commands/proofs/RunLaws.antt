@@ -1,6 +1,7 @@
 -- What a list of calls returns of padded digests: the padded digests that it returns of the digests.
 use Rattle.std.proofs.Common.{◌≡◌, ℕ, ◌+◌, Bool, true, false, if◌then◌else◌, List, [], ◌∷◌, ◌++◌}
-use Rattle.std.proofs.Common.{Option, Some, None, Result, Ok, Err, map, length, take, refl, sym, ap, ◌∙◌}
+use Rattle.std.proofs.Common.{Option, Some, None, Result, Ok, Err, map, length, take, refl, sym, ap}
+use Rattle.std.proofs.Common.{◌∙◌}
 use Rattle.std.proofs.Common.{◌⊎◌, inl, inr}
 use Rattle.blake2_digest.specs.Texts.{padded}
 use Rattle.blake2_digest.proofs.Texts.{take-padded}

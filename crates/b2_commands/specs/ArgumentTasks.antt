@@ -276,14 +276,15 @@ xof_task [] = Err WrongWords
 xof_task (word ∷ words) = and_then (output_family_of word) (λ f. output_task_of f words)
 
 -- The task of arguments that no other follows.
-abbrev pub only : Task → List (List ℕ) → Result Task Fault
-only task [] = Ok task
-only task (word ∷ words) = Err WrongWords
+abbrev pub without_more_words : Task → List (List ℕ) → Result Task Fault
+without_more_words task [] = Ok task
+without_more_words task (word ∷ words) = Err WrongWords
 
 -- The task of the arguments after LENGTH of `derive`: the context, and possibly `raw`.
 abbrev pub context_task : ℕ → List (List ℕ) → Result Task Fault
 context_task n [] = Err WrongWords
-context_task n (context ∷ words) = only (to_derive n context (begins_raw words)) (after_raw words)
+context_task n (context ∷ words) =
+    without_more_words (to_derive n context (begins_raw words)) (after_raw words)
 
 -- The task of the arguments after `derive`.
 abbrev pub derive_task : List (List ℕ) → Result Task Fault
@@ -303,8 +304,8 @@ task_of (command ∷ words) =
     else if bytes_eq command (codes "root") then tree_task to_root words
     else if bytes_eq command (codes "xof") then xof_task words
     else if bytes_eq command (codes "derive") then derive_task words
-    else if bytes_eq command (codes "--help") then only to_help words
-    else if bytes_eq command (codes "-h") then only to_help words
-    else if bytes_eq command (codes "help") then only to_help words
-    else if bytes_eq command (codes "--version") then only to_version words
+    else if bytes_eq command (codes "--help") then without_more_words to_help words
+    else if bytes_eq command (codes "-h") then without_more_words to_help words
+    else if bytes_eq command (codes "help") then without_more_words to_help words
+    else if bytes_eq command (codes "--version") then without_more_words to_version words
     else Err WrongWords

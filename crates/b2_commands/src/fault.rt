@@ -58,7 +58,7 @@ impl Fault {
             line.push_decimal(number as u64);
             line.push(b": ");
         }
-        line.push(self.cause().as_bytes());
+        line.push(self.message_text().as_bytes());
         line
     }
 
@@ -76,7 +76,7 @@ impl Fault {
     }
 
     // Returns what the error's line says of its cause, or nothing for `WriteFailed`.
-    fn cause(self) -> &'static str
+    fn message_text(self) -> &'static str
         ensures { result.now ≡ fault_text self }
     {
         match self {

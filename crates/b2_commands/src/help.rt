@@ -59,14 +59,14 @@ pub(crate) fn advise<N: Sink>(words: &[String], notes: &mut N)
     ensures { N.failed notes.new ≡ false → Appends (N.held notes.old) (N.held notes.new)
         (advice (map string_bytes words.now)) }
 {
-    let Ok(()) = write_whole(notes, said_of(words)) else {
+    let Ok(()) = write_whole(notes, usage_for(words)) else {
         return;
     };
     let _ = write_whole(notes, HINT);
 }
 
 // Returns the line of the usage of the command, or that there is none.
-fn said_of(words: &[String]) -> &'static [u8]
+fn usage_for(words: &[String]) -> &'static [u8]
     ensures { result.now ≡ named (map string_bytes words.now) }
 {
     match words.split_first() {

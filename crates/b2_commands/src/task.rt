@@ -45,7 +45,7 @@ pub(crate) enum Task {
 
 impl Task {
     ghost use Rattle.b2_commands.specs.ReadTasks.{output_task, task_value};
-    ghost use Rattle.b2_commands.specs.ArgumentTasks.{given_task, only};
+    ghost use Rattle.b2_commands.specs.ArgumentTasks.{given_task, without_more_words};
 
     /// Reads the arguments from left to right, the command, its KIND and then the rest, and
     /// returns the task. The error is a `Fault`, that of the first bad argument: `WrongWords` if
@@ -87,9 +87,11 @@ impl Task {
     // does.
     fn alone(task: Task, words: &[String]) -> Result<Task, Fault>
         ensures task { IfOk result (λ same.
-            only (task_value task) (map string_bytes words.now) ≡ Ok (task_value same)) }
+            without_more_words (task_value task) (map string_bytes words.now)
+            ≡ Ok (task_value same)) }
         ensures fault { IfErr result (λ fault.
-            IsReadingFault fault (only (task_value task) (map string_bytes words.now))) }
+            IsReadingFault fault
+            (without_more_words (task_value task) (map string_bytes words.now))) }
         ensures memory { result ≢ Err Fault.NoMemory }
     {
         match words.split_first() {

@@ -108,7 +108,7 @@ fn print_root<S: Source, K: Sink, const N: usize>(
     }
     let mut piece = vec![in alloc; 0u8; best_piece_length(leaf_length)]?;
     let mut hasher = TreeHasher::<N>::new(salt, persona, leaf_length);
-    absorb(source, piece.as_mut_slice(), &mut hasher)?;
+    absorb_source(source, piece.as_mut_slice(), &mut hasher)?;
     print_digest(&hasher.finalize(), sink)
 }
 
@@ -116,7 +116,7 @@ fn print_root<S: Source, K: Sink, const N: usize>(
 // least 1 and at most 16 MiB, so that a longer piece fails the proof. The source must not have
 // failed before. The error is a `Fault`: `ReadFailed` if a read returns an error, `TooLong` if
 // the hasher's count would reach 2^58.
-fn absorb<S: Source, const N: usize>(
+fn absorb_source<S: Source, const N: usize>(
     source: &mut S,
     buffer: &mut [u8],
     hasher: &mut TreeHasher<N>,

@@ -9,9 +9,10 @@ use Rattle.blake2_compress.specs.Hash.{Tree, final, cut, chain, last_chain, bloc
 use Rattle.blake2_compress.specs.Hash.{key_block, digest}
 use Rattle.blake2_compress.proofs.ByteSizes.{length-padded}
 use Rattle.blake2_compress.proofs.ParameterSizes.{key_bytes_fit}
-use Rattle.blake2_digest.specs.Blocks.{handed_on, held_back}
+use Rattle.blake2_digest.specs.Blocks.{compressed_blocks, pending_bytes}
 use Rattle.blake2_digest.specs.States.{Meaning, Updated, Fresh, NodeSet}
-use Rattle.blake2_digest.proofs.Cutting.{handed_and_held, length-handed_on, length-held_back}
+use Rattle.blake2_digest.proofs.Cutting.{handed_and_held, length-compressed_blocks}
+use Rattle.blake2_digest.proofs.Cutting.{length-pending_bytes}
 use Rattle.blake2.specs.Cores.{CoreState, node_parameters, absorbed, last_output}
 use Rattle.blake2.specs.States.{tail, State, future, started, count, start_count, meaning_by}
 use Rattle.blake2.specs.States.{unflagged, fresh, node_set, node_digest_of}
@@ -21,8 +22,8 @@ use Rattle.blake2.proofs.Streaming.{tail_handed}
 -- A state after it absorbs x: the core has absorbed what the buffer passes on.
 abbrev pub updated : Family → State → List ℕ → State
 updated f s x = record s {
-  core = absorbed f s.core (handed_on (block_bytes f) (s.pending ++ x));
-  pending = held_back (block_bytes f) (s.pending ++ x);
+  core = absorbed f s.core (compressed_blocks (block_bytes f) (s.pending ++ x));
+  pending = pending_bytes (block_bytes f) (s.pending ++ x);
 }
 
 -- States with equal parts are equal.
@@ -42,7 +43,7 @@ pub count-updated : (f : Family) (s : State) (x : List ℕ)
 count-updated f s x =
     omega (
       arith,
-      count-absorbed f s.core (handed_on (block_bytes f) (s.pending ++ x)),
+      count-absorbed f s.core (compressed_blocks (block_bytes f) (s.pending ++ x)),
       handed_and_held (block_bytes f) (s.pending ++ x) (block_positive f),
       length-append s.pending x,
     )
@@ -73,26 +74,26 @@ IsLazy f s = s.core.count ≡ block_bytes f * (block_count f (count s) - 1)
 
 pub within-updated : (f : Family) (s : State) (x : List ℕ)
     → length (updated f s x).pending ≤ block_bytes f
-within-updated f s x = length-held_back (block_bytes f) (s.pending ++ x) (block_positive f)
+within-updated f s x = length-pending_bytes (block_bytes f) (s.pending ++ x) (block_positive f)
 
 pub IsLazy-updated : (f : Family) (s : State) (x : List ℕ) → IsLazy f s → IsLazy f (updated f s x)
 IsLazy-updated blake2b s x h =
     omega (
       arith,
-      count-absorbed blake2b s.core (handed_on 128 (s.pending ++ x)),
+      count-absorbed blake2b s.core (compressed_blocks 128 (s.pending ++ x)),
       handed_and_held 128 (s.pending ++ x) (omega arith),
       length-append s.pending x,
-      length-held_back 128 (s.pending ++ x) (omega arith),
-      length-handed_on 128 (s.pending ++ x),
+      length-pending_bytes 128 (s.pending ++ x) (omega arith),
+      length-compressed_blocks 128 (s.pending ++ x),
     )
 IsLazy-updated blake2s s x h =
     omega (
       arith,
-      count-absorbed blake2s s.core (handed_on 64 (s.pending ++ x)),
+      count-absorbed blake2s s.core (compressed_blocks 64 (s.pending ++ x)),
       handed_and_held 64 (s.pending ++ x) (omega arith),
       length-append s.pending x,
-      length-held_back 64 (s.pending ++ x) (omega arith),
-      length-handed_on 64 (s.pending ++ x),
+      length-pending_bytes 64 (s.pending ++ x) (omega arith),
+      length-compressed_blocks 64 (s.pending ++ x),
     )
 
 -- What holds for every hasher and MAC holds after an update.

@@ -8,8 +8,8 @@ use Rattle.std.specs.Simd.{first_chunks}
 use Rattle.blake2_simd.specs.Family.{Family, blake2b, blake2s, block_bytes}
 use Rattle.blake2_compress.specs.Hash.{Flags, padded, bytes_of, cut, chain, block_count}
 use Rattle.blake2_compress.proofs.SplitRuns.{cut-prefix, last_chain_from}
-use Rattle.blake2_digest.specs.Blocks.{handed_on, held_back}
-use Rattle.blake2_digest.proofs.Cutting.{length-handed_on}
+use Rattle.blake2_digest.specs.Blocks.{compressed_blocks, pending_bytes}
+use Rattle.blake2_digest.proofs.Cutting.{length-compressed_blocks}
 use Rattle.blake2.specs.Cores.{CoreState, absorbed}
 use Rattle.blake2.specs.States.{tail}
 
@@ -36,8 +36,8 @@ handed_fits blake2b y = omega arith
 handed_fits blake2s y = omega arith
 
 -- The blocks that are passed on are the first of those that the list is cut into.
-handed_on-cut : (f : Family) (y : List ℕ) → handed_on (block_bytes f) y ≡ cut f (handed_count f y) y
-unfolding handed_on
+handed_on-cut : (f : Family) (y : List ℕ) → compressed_blocks (block_bytes f) y ≡ cut f (handed_count f y) y
+unfolding compressed_blocks
 handed_on-cut f y = first_chunks-cut f (handed_count f y) y (handed_fits f y)
 
 -- If something is passed on, something is held back.
@@ -47,8 +47,8 @@ handed_less blake2b y h = omega arith
 handed_less blake2s y h = omega arith
 
 held_some : (f : Family) (y : List ℕ) → (handed_count f y ≡ 0) ⊎
-    (0 < length (held_back (block_bytes f) y))
-unfolding held_back
+    (0 < length (pending_bytes (block_bytes f) y))
+unfolding pending_bytes
 held_some f y = elim (cases_lt 0 (handed_count f y)) [
   | inr none ↦ inl (omega arith)
   | inl some ↦
@@ -74,14 +74,14 @@ tail_cut f flags h c k y z whole some =
 
 -- With the blocks that the buffer passes on compressed and the rest pending, the tail is as before.
 pub tail_handed : (f : Family) (flags : Flags) (core : CoreState) (y z : List ℕ)
-    → tail f (absorbed f core (handed_on (block_bytes f) y)).h
-    (absorbed f core (handed_on (block_bytes f) y)).count (held_back (block_bytes f) y ++ z) flags
+    → tail f (absorbed f core (compressed_blocks (block_bytes f) y)).h
+    (absorbed f core (compressed_blocks (block_bytes f) y)).count (pending_bytes (block_bytes f) y ++ z) flags
     ≡ tail f core.h core.count (y ++ z) flags
-unfolding absorbed held_back
+unfolding absorbed pending_bytes
 tail_handed f flags core y z =
     let k : ℕ = handed_count f y in
-    let number : length (handed_on (block_bytes f) y) ≡ k = length-handed_on (block_bytes f) y in
+    let number : length (compressed_blocks (block_bytes f) y) ≡ k = length-compressed_blocks (block_bytes f) y in
     let order : block_bytes f * k ≡ k * block_bytes f = omega arith in
     let cut_off = tail_cut f flags core.h core.count k y z (handed_fits f y)
-    (unfold held_back in held_some f y) in
+    (unfold pending_bytes in held_some f y) in
     rw (number, handed_on-cut f y, order) cut_off

@@ -104,7 +104,7 @@ where
 }
 
 // The digest that such a list returns, which is checked to be the only one.
-fn only_digest<H, const N: usize>(
+fn single_digest<H, const N: usize>(
     rt: &(impl Abort + AllocGlobal),
     first: H,
     length: usize,
@@ -126,7 +126,7 @@ fn count_blake2b_to_the_greatest(rt: HostRuntime) {
     Update::update(&mut hasher, &[0; 127]);
     assert!(rt; hasher.counted() == u64::MAX);
     check_digest(&rt, &hasher.finalize(), &GREATEST_BLAKE2B);
-    let digest: [u8; 64] = only_digest(&rt, blake2b_near_the_limit(), 127);
+    let digest: [u8; 64] = single_digest(&rt, blake2b_near_the_limit(), 127);
     check_digest(&rt, &digest, &GREATEST_BLAKE2B);
     let one_more = Call::Update(0, b"\0");
     let refused = replay_zeros::<_, 64>(&rt, blake2b_near_the_limit(), 127, one_more);
@@ -140,7 +140,7 @@ fn count_blake2s_to_the_greatest(rt: HostRuntime) {
     Update::update(&mut hasher, &[0; 63]);
     assert!(rt; hasher.counted() == u64::MAX);
     check_digest(&rt, &hasher.finalize(), &GREATEST_BLAKE2S);
-    let digest: [u8; 32] = only_digest(&rt, blake2s_near_the_limit(), 63);
+    let digest: [u8; 32] = single_digest(&rt, blake2s_near_the_limit(), 63);
     check_digest(&rt, &digest, &GREATEST_BLAKE2S);
     let one_more = Call::Update(0, b"\0");
     let refused = replay_zeros::<_, 32>(&rt, blake2s_near_the_limit(), 63, one_more);

@@ -27,7 +27,7 @@ pub fn settle<const N: usize>(bytes: &[u8; N]) {
 
 // Returns the result of the call, which has a separate frame.
 #[inline(never)]
-fn framed<R, F: FnOnce() -> R>(call: F) -> R
+fn in_own_frame<R, F: FnOnce() -> R>(call: F) -> R
     requires { F.pre call }
     ensures { F.post call result }
 {
@@ -55,7 +55,7 @@ pub fn scrubbed<R, F: FnOnce() -> R>(call: F) -> R
     requires { F.pre call }
     ensures { F.post call result }
 {
-    let result = framed(call);
+    let result = in_own_frame(call);
     scrub_stack::<SCRUBBED_BYTES>();
     result
 }

@@ -1,6 +1,6 @@
 //! Lists of calls on hashers.
 
-use crate::checks::{check_digits, take};
+use crate::checks::{check_digits, update_checked};
 use blake2::calls::{Call, replay};
 use blake2::digest::{Duplicate, FixedOutput, FixedOutputReset, Reset, Update};
 use blake2::{Blake2b256, Blake2b512, Blake2s256, Digest};
@@ -59,7 +59,7 @@ where
     assert!(rt; digests.len() == 1000, "{wanted}");
     let mut hasher = Blake2b256::new();
     for digest in &digests {
-        take(rt, &mut hasher, digest.as_slice());
+        update_checked(rt, &mut hasher, digest.as_slice());
     }
     check_digits(rt, &hasher.finalize(), wanted);
 }

@@ -73,7 +73,7 @@ fn read_words<W: Word<B>, const B: usize>(
 }
 
 // An entry with one bit turned: of its counter, then of one of its two flags, then of its block.
-fn turned_entry<const B: usize>(entry: &Entry<B>, bit: usize) -> Entry<B> {
+fn entry_with_flipped_bit<const B: usize>(entry: &Entry<B>, bit: usize) -> Entry<B> {
     let mut other = *entry;
     if bit < 64 {
         other.counter ^= 1u64.wrapping_shl(bit as u32);
@@ -98,7 +98,7 @@ fn read_entries<W: Word<B>, const B: usize>(
     let (mut counters, mut flags, mut blocks) = (0u32, 0u32, 0u32);
     for (place, entry) in told.entries.iter().enumerate() {
         for bit in 0..66 + 8 * B {
-            let other = turned_entry(entry, bit);
+            let other = entry_with_flipped_bit(entry, bit);
             let is_read = is_read_with(rt, told, told.words, place, other);
             counters = counters.saturating_add(u32::from(is_read && bit < 64));
             flags = flags.saturating_add(u32::from(is_read && 64 <= bit && bit < 66));

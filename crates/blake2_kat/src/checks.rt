@@ -27,7 +27,7 @@ pub(crate) fn check_digest_of(rt: &impl Abort, bytes: &[u8], wanted: &str) {
 }
 
 /// Absorbs a short piece, if few bytes are counted so far, and checks the new count.
-pub(crate) fn take<S: Update>(rt: &impl Abort, state: &mut S, piece: &[u8]) {
+pub(crate) fn update_checked<S: Update>(rt: &impl Abort, state: &mut S, piece: &[u8]) {
     let before = state.counted();
     assert!(rt; before <= 0x10_0000 && piece.len() <= 0x1000);
     state.update(piece);

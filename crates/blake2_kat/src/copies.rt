@@ -3,7 +3,7 @@
 
 ghost use Rattle.std.specs.Prelude.{◌≤◌, length};
 
-use crate::checks::{check_digits, take};
+use crate::checks::{check_digits, update_checked};
 use blake2::digest::{Duplicate, FixedOutput, FixedOutputReset, Reset};
 use blake2::{
     Blake2b128, Blake2b256, Blake2b512, Blake2bMac512, Blake2s128, Blake2s256, Blake2sMac256,
@@ -19,7 +19,7 @@ fn check_output<S: FixedOutput<N> + Drop, const N: usize>(
     piece: &[u8],
     wanted: &[u8],
 ) {
-    take(rt, &mut state, piece);
+    update_checked(rt, &mut state, piece);
     let output = state.finalize_fixed();
     assert!(rt; output.as_slice() == wanted);
 }
@@ -31,7 +31,7 @@ fn output_of<S: FixedOutput<N> + Duplicate + Drop, const N: usize>(
     message: &[u8],
 ) -> [u8; N] {
     let mut state = start.duplicate();
-    take(rt, &mut state, message);
+    update_checked(rt, &mut state, message);
     state.finalize_fixed()
 }
 
@@ -46,7 +46,7 @@ where
     let of_second = output_of(rt, start, second);
     let of_both = output_of(rt, start, message);
     let mut state = start.duplicate();
-    take(rt, &mut state, first);
+    update_checked(rt, &mut state, first);
     let clone = state.clone().expect(rt, "a clone");
     check_output(rt, clone, second, of_both.as_slice());
     check_output(rt, state.duplicate(), second, of_both.as_slice());
@@ -73,7 +73,7 @@ where
         for second in LENGTHS {
             assert!(rt; first <= 257 && second <= 257);
             let output: [u8; N] = check_pieces(rt, start, &message[..first + second], first);
-            take(rt, &mut outputs, output.as_slice());
+            update_checked(rt, &mut outputs, output.as_slice());
         }
     }
     check_digits(rt, &outputs.finalize(), wanted);
@@ -149,9 +149,9 @@ fn check_digest_calls<H: Digest<N> + Drop, const N: usize>(
     let of_second = H::digest(second);
     let of_both = H::digest(message);
     let mut hasher = H::new().chain_update(first);
-    take(rt, digests, hasher.finalize_reset().as_slice());
-    take(rt, &mut hasher, second);
-    take(rt, digests, hasher.finalize_reset().as_slice());
+    update_checked(rt, digests, hasher.finalize_reset().as_slice());
+    update_checked(rt, &mut hasher, second);
+    update_checked(rt, digests, hasher.finalize_reset().as_slice());
     let mut hasher = H::new().chain_update(first);
     Digest::reset(&mut hasher);
     check_output(rt, hasher, second, of_second.as_slice());

@@ -2,7 +2,7 @@
 
 ghost use Rattle.std.specs.Prelude.{◌≤◌, length};
 
-use crate::checks::{check_digits, take};
+use crate::checks::{check_digits, update_checked};
 use blake2::{Blake2b, Blake2b512, Blake2s, Blake2s256, Digest};
 use blake2_test_support::inputs::reads;
 use std::process::Abort;
@@ -63,7 +63,7 @@ fn digest_of_pieces<H: Digest<N> + Drop, const N: usize>(
 {
     let mut hasher = H::new();
     for piece in pieces {
-        take(rt, &mut hasher, piece);
+        update_checked(rt, &mut hasher, piece);
     }
     hasher.finalize()
 }

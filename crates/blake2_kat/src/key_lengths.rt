@@ -1,7 +1,7 @@
 //! The lengths of keys, salts and personas that are accepted, and those that are refused. The
 //! expected digests of the outputs are those of `tests/expected_values.py`, under `lengths`.
 
-use crate::checks::take;
+use crate::checks::update_checked;
 use blake2::digest::{FixedOutput, InvalidLength, KeyInit};
 use blake2::{Blake2b256, Blake2bMac512, Blake2bVarCore, Blake2sMac256, Blake2sVarCore, Digest};
 use blake2_test_support::inputs::{count_up, input, reads};
@@ -22,7 +22,7 @@ fn check_parts<M: FixedOutput<N> + Drop, const N: usize>(
         "{lengths:?}"
     );
     if let Ok(mac) = mac {
-        take(rt, outputs, mac.finalize_fixed().as_slice());
+        update_checked(rt, outputs, mac.finalize_fixed().as_slice());
     }
 }
 

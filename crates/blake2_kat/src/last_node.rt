@@ -2,7 +2,7 @@
 
 ghost use Rattle.std.specs.Prelude.{◌<◌, ◌≤◌};
 
-use crate::checks::take;
+use crate::checks::update_checked;
 use blake2::digest::{Duplicate, FixedOutputReset, LazyBuffer, Reset, VariableOutputCore};
 use blake2::{Blake2b128, Blake2bVarCore, Blake2s128, Blake2sVarCore, Digest, LastNode, Tree};
 use blake2_test_support::inputs::reads;
@@ -88,11 +88,11 @@ fn check_starts<H, const N: usize>(rt: &impl Abort, state: &mut H, digest: &str)
 where
     H: FixedOutputReset<N>,
 {
-    take(rt, state, b"c");
+    update_checked(rt, state, b"c");
     assert!(rt; reads(&state.finalize_fixed_reset(), digest), "{digest}");
-    take(rt, state, b"dropped");
+    update_checked(rt, state, b"dropped");
     state.reset();
-    take(rt, state, b"abc");
+    update_checked(rt, state, b"abc");
     assert!(rt; reads(&state.finalize_fixed_reset(), digest), "{digest}");
 }
 
@@ -108,9 +108,9 @@ where
     H: FixedOutputReset<N> + LastNode,
 {
     state.set_last_node(flags.0);
-    take(rt, state, b"ab");
+    update_checked(rt, state, b"ab");
     state.set_last_node(flags.1);
-    take(rt, state, b"c");
+    update_checked(rt, state, b"c");
     assert!(rt;
         reads(&state.finalize_fixed_reset(), digest),
         "{flags:?}, {digest}"
@@ -124,7 +124,7 @@ where
     H: FixedOutputReset<N> + Duplicate + LastNode + Drop,
 {
     let mut hasher = fresh;
-    take(rt, &mut hasher, b"ab");
+    update_checked(rt, &mut hasher, b"ab");
     let mut copy = hasher.duplicate();
     hasher.set_last_node(true);
     let mut flagged = hasher.duplicate();

@@ -1,6 +1,6 @@
 //! Outputs of the MACs, personas of the hashers, and what constructors refuse.
 
-use crate::checks::{check_digits, take};
+use crate::checks::{check_digits, update_checked};
 use blake2::digest::{
     CustomizedInit, FixedOutput, InvalidLength, InvalidOutputSize, KeyInit, Mac, VariableOutputCore,
 };
@@ -39,7 +39,7 @@ fn authenticate_with_salt_and_persona(rt: HostRuntime) {
 #[test]
 fn personalize_a_hasher(rt: HostRuntime) {
     let mut hasher = Blake2b128::new_customized(b"personal");
-    take(&rt, &mut hasher, b"hello");
+    update_checked(&rt, &mut hasher, b"hello");
     assert!(rt; reads(&hasher.finalize_fixed(), "5a5eb0aecc053af1ce6de25354c1c761"));
     let mac = Blake2bMac::<16>::new_with_salt_and_personal(None, b"", b"personal");
     let mut mac = mac.expect(&rt, "a MAC without a key");

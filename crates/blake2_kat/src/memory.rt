@@ -87,7 +87,7 @@ fn is_owed(alloc: Global, is_enough: bool, calls: &[Call<'_>], owed: Option<Repl
 
 // Whether lists whose first call is bad are refused for that call, long ones too: nothing is
 // allocated for the calls after it.
-fn bad_first_calls_are_owed(alloc: Global, is_enough: bool) -> bool {
+fn bad_first_call_needs_no_memory(alloc: Global, is_enough: bool) -> bool {
     let owed = Some(ReplayFault::NoSuchSlot(0));
     let mut copies = [Call::Clone(0); 300];
     copies[0] = Call::Reset(1);
@@ -119,7 +119,7 @@ fn replay_bad_with(alloc: Global, left: usize) -> Found
 {
     let plug = plug(alloc, left);
     let is_enough = replay::<_, 64>(alloc, Blake2b512::new(), &[]).is_ok();
-    let are_owed = bad_first_calls_are_owed(alloc, is_enough)
+    let are_owed = bad_first_call_needs_no_memory(alloc, is_enough)
         & bad_later_calls_are_owed(alloc, is_enough);
     if plug.is_err() || !are_owed {
         return Found::Other;

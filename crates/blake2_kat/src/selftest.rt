@@ -3,7 +3,7 @@
 
 ghost use Rattle.std.specs.Prelude.{◌≤◌};
 
-use crate::checks::take;
+use crate::checks::update_checked;
 use blake2::digest::FixedOutput;
 use blake2::{Blake2b, Blake2b256, Blake2bMac, Blake2s, Blake2s256, Blake2sMac, Digest};
 use blake2_test_support::inputs::reads;
@@ -32,11 +32,11 @@ fn take_blake2b<const N: usize>(rt: &impl Abort, digests: &mut Blake2b256)
         let mut room = [0; 1024];
         let message = &mut room[..length as usize];
         fill(message, length);
-        take(rt, digests, Blake2b::<N>::digest(message).as_slice());
+        update_checked(rt, digests, Blake2b::<N>::digest(message).as_slice());
         let mac = Blake2bMac::<N>::new_with_salt_and_personal(Some(&key), b"", b"");
         let mut mac = mac.expect(rt, "a MAC under this key");
-        take(rt, &mut mac, message);
-        take(rt, digests, mac.finalize_fixed().as_slice());
+        update_checked(rt, &mut mac, message);
+        update_checked(rt, digests, mac.finalize_fixed().as_slice());
     }
 }
 
@@ -51,11 +51,11 @@ fn take_blake2s<const N: usize>(rt: &impl Abort, digests: &mut Blake2s256)
         let mut room = [0; 1024];
         let message = &mut room[..length as usize];
         fill(message, length);
-        take(rt, digests, Blake2s::<N>::digest(message).as_slice());
+        update_checked(rt, digests, Blake2s::<N>::digest(message).as_slice());
         let mac = Blake2sMac::<N>::new_with_salt_and_personal(Some(&key), b"", b"");
         let mut mac = mac.expect(rt, "a MAC under this key");
-        take(rt, &mut mac, message);
-        take(rt, digests, mac.finalize_fixed().as_slice());
+        update_checked(rt, &mut mac, message);
+        update_checked(rt, digests, mac.finalize_fixed().as_slice());
     }
 }
 

@@ -10,7 +10,7 @@ use Rattle.std.specs.List.{flat_map, range_with_len}
 use Rattle.blake2_simd.specs.Family.{Family, blake2b, blake2s, block_bytes}
 use Rattle.blake2_compress.specs.MessagePieces.{piece}
 use Rattle.blake2_compress.proofs.MessagePieces.{piece-zero, piece-more}
-use Rattle.blake2_parallel.specs.Parallel.{leaves, stripe_bytes, stripe_count, dealt}
+use Rattle.blake2_parallel.specs.Parallel.{leaves, stripe_bytes, stripe_count, leaf_message}
 
 -- A list over a range that begins one later.
 flat_map-range_more : {A : Type 0} (f g : ℕ → List A) → ((i : ℕ) → f (i + 1) ≡ g i) → (a n : ℕ)
@@ -76,8 +76,8 @@ abbrev blocks_of : Family → List ℕ → ℕ → ℕ → List ℕ
 blocks_of f z j n = flat_map (λ i. piece (block_bytes f) z (i * leaves f + j)) (range_with_len 0 n)
 
 dealt-blocks : (f : Family) (z : List ℕ) (j : ℕ)
-    → dealt f z j ≡ blocks_of f z j (stripe_count f (length z))
-unfolding dealt
+    → leaf_message f z j ≡ blocks_of f z j (stripe_count f (length z))
+unfolding leaf_message
 dealt-blocks f z j = refl
 
 -- The first block of a leaf, and the others.
@@ -93,7 +93,7 @@ blocks_of-more f z j n =
 
 -- A whole stripe: a block, and what the leaf gets of the rest.
 pub dealt-stripe : (f : Family) (z : List ℕ) (j : ℕ) → stripe_bytes f ≤ length z
-    → dealt f z j ≡ piece (block_bytes f) z j ++ dealt f (drop (stripe_bytes f) z) j
+    → leaf_message f z j ≡ piece (block_bytes f) z j ++ leaf_message f (drop (stripe_bytes f) z) j
 dealt-stripe f z j whole =
     let rest : List ℕ = drop (stripe_bytes f) z in
     dealt-blocks f z j
@@ -104,7 +104,7 @@ dealt-stripe f z j whole =
 
 -- At most a stripe: a block, or no bytes.
 pub dealt-one : (f : Family) (z : List ℕ) (j : ℕ) → length z ≤ stripe_bytes f
-    → dealt f z j ≡ piece (block_bytes f) z j
+    → leaf_message f z j ≡ piece (block_bytes f) z j
 dealt-one f z j fits =
     elim (cases_lt 0 (length z)) [
       | inl some ↦
@@ -132,7 +132,7 @@ second_past blake2s n j fits = omega arith
 
 -- At most two stripes: two blocks.
 pub dealt-two : (f : Family) (z : List ℕ) (j : ℕ) → length z ≤ 2 * stripe_bytes f
-    → dealt f z j ≡ piece (block_bytes f) z j ++ piece (block_bytes f) z (leaves f + j)
+    → leaf_message f z j ≡ piece (block_bytes f) z j ++ piece (block_bytes f) z (leaves f + j)
 dealt-two f z j fits =
     elim (cases_lt (stripe_bytes f) (length z)) [
       | inl more ↦
@@ -149,10 +149,10 @@ dealt-two f z j fits =
 
 -- A leaf whose first block has a byte gets some bytes.
 pub dealt-some : (f : Family) (z : List ℕ) (j : ℕ) → j * block_bytes f < length z
-    → 0 < length (dealt f z j)
+    → 0 < length (leaf_message f z j)
 dealt-some f z j some =
     let n : ℕ = stripe_count f (length z) - 1 in
-    let is : dealt f z j
+    let is : leaf_message f z j
     ≡ piece (block_bytes f) z j ++ blocks_of f (drop (stripe_bytes f) z) j n =
     dealt-blocks f z j ∙ ap (blocks_of f z j) (stripe_count-some f (length z) (omega arith))
     ∙ blocks_of-more f z j n in
@@ -219,10 +219,10 @@ piece-repeated b (suc n) block y (suc j) long lane =
 
 -- A block for each leaf comes first in what each leaf gets.
 pub dealt-repeated : (f : Family) (block y : List ℕ) (j : ℕ) → length block ≡ block_bytes f
-    → j < leaves f → dealt f (repeated (leaves f) block ++ y) j ≡ block ++ dealt f y j
+    → j < leaves f → leaf_message f (repeated (leaves f) block ++ y) j ≡ block ++ leaf_message f y j
 dealt-repeated f block y j long lane =
     let x : List ℕ = repeated (leaves f) block in
     let size : length x ≡ stripe_bytes f = length-repeated (leaves f) (block_bytes f) block long in
     dealt-stripe f (x ++ y) j (omega (arith, length-append x y, size))
     ∙ (λ i. piece-repeated (block_bytes f) (leaves f) block y j long lane i
-    ++ dealt f (drop_at x y (stripe_bytes f) size i) j)
+    ++ leaf_message f (drop_at x y (stripe_bytes f) size i) j)

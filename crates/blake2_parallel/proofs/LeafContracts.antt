@@ -13,7 +13,7 @@ use Rattle.blake2_compress.specs.Hash.{start}
 use Rattle.blake2_compress.specs.MessagePieces.{piece}
 use Rattle.blake2_compress.proofs.ByteSizes.{length-padded}
 use Rattle.blake2_compress.proofs.Padding.{padded-whole}
-use Rattle.blake2_parallel.specs.Parallel.{Settings, dealt, parallel_key_count, leaf_key}
+use Rattle.blake2_parallel.specs.Parallel.{Settings, leaf_message, parallel_key_count, leaf_key}
 use Rattle.blake2_parallel.specs.Parallel.{leaf_output}
 use Rattle.blake2_parallel.specs.Parallel.{leaves, parameters_at, output_from, parallel_digest}
 use Rattle.blake2_parallel.specs.Parallel.{stripe_bytes}
@@ -27,7 +27,7 @@ use Rattle.blake2_parallel.proofs.LongerRuns.{last_chain-stripe, piece-place}
 
 -- The output of leaf j over these bytes, from these words.
 abbrev over : Family → List ℕ → ℕ → List ℕ → ℕ → List ℕ
-over f h c z j = output_from f h c (dealt f z j) (nat_eq (j + 1) (leaves f))
+over f h c z j = output_from f h c (leaf_message f z j) (nat_eq (j + 1) (leaves f))
 
 leaf_future-over : (f : Family) (s : Leaves) (y : List ℕ) (j : ℕ)
     → leaf_future f s y j ≡ over f (s.words j) s.count (s.pending ++ y) j
@@ -114,7 +114,7 @@ over-stripe f h new c z y j lane more is =
     let flags : Flags = final (nat_eq (j + 1) (leaves f)) in
     sym (ap (bytes_of f) (last_chain-stripe f flags h c (z ++ y) j lane long)
     ∙ (λ i. output_from f (compress f h (block i) (c + b) inner) (c + b)
-    (dealt f (rest i) j) (nat_eq (j + 1) (leaves f)))
+    (leaf_message f (rest i) j) (nat_eq (j + 1) (leaves f)))
     ∙ ap (λ (w : List ℕ). over f w (c + b) (drop (stripe_bytes f) z ++ y) j) (sym is))
 
 -- A stripe more, and where it begins.
@@ -387,7 +387,7 @@ pub record AtStart (f : Family) (a : Settings) (s : Leaves) : Type 0 where
   pub words : (j : ℕ) → j < leaves f → s.words j ≡ start f (parameters_at f a j 0)
   pub count : s.count ≡ 0
   pub pending : (y : List ℕ) (j : ℕ) → j < leaves f
-      → dealt f (s.pending ++ y) j ≡ leaf_key f a.key ++ dealt f y j
+      → leaf_message f (s.pending ++ y) j ≡ leaf_key f a.key ++ leaf_message f y j
   pub long : length s.pending ≡ parallel_key_count f a.key
 
 -- The digests of a hasher at its start are those of the definition.
@@ -415,10 +415,10 @@ key_fits blake2s key fits = omega arith
 pub pending-start : (f : Family) (key : List ℕ) (n : ℕ) → length key ≤ key_bytes f
     → (length key ≡ 0 → n ≡ 0) → (0 < length key → n ≡ stripe_bytes f) → (y : List ℕ) (j : ℕ)
     → j < leaves f
-    → dealt f (take n (repeated (leaves f) (padded (block_bytes f) key)) ++ y) j
-    ≡ leaf_key f key ++ dealt f y j
+    → leaf_message f (take n (repeated (leaves f) (padded (block_bytes f) key)) ++ y) j
+    ≡ leaf_key f key ++ leaf_message f y j
 pending-start f [] n fits none some y j lane =
-    ap (λ (k : ℕ). dealt f (take k (repeated (leaves f) (padded (block_bytes f) [])) ++ y) j)
+    ap (λ (k : ℕ). leaf_message f (take k (repeated (leaves f) (padded (block_bytes f) [])) ++ y) j)
     (none refl)
 pending-start f (x ∷ xs) n fits none some y j lane =
     let key : List ℕ = x ∷ xs in
@@ -429,7 +429,7 @@ pending-start f (x ∷ xs) n fits none some y j lane =
     length-repeated (leaves f) (block_bytes f) block long in
     let all : take n (repeated (leaves f) block) ≡ repeated (leaves f) block =
     take_all n (repeated (leaves f) block) (omega (arith, size, some (omega arith))) in
-    ap (λ (z : List ℕ). dealt f (z ++ y) j) all
+    ap (λ (z : List ℕ). leaf_message f (z ++ y) j) all
     ∙ dealt-repeated f block y j long lane
 
 -- ---- the pending stripe
@@ -482,7 +482,7 @@ pub at_start : (f : Family) (a : Settings) (n : ℕ) (block : List ℕ) (words :
 at_start f a n block words fits is none some begun = record {
   words = begun;
   count = refl;
-  pending = λ y j lane. ap (λ (b : List ℕ). dealt f (take n (repeated (leaves f) b) ++ y) j) is
+  pending = λ y j lane. ap (λ (b : List ℕ). leaf_message f (take n (repeated (leaves f) b) ++ y) j) is
       ∙ pending-start f a.key n fits none some y j lane;
   long = ap (λ (b : List ℕ). length (take n (repeated (leaves f) b))) is
       ∙ count-start f a.key n fits none some;
@@ -495,7 +495,7 @@ pub at_start-same : (f : Family) (a : Settings) (old new : Leaves)
 at_start-same f a old new words count pending begun = record {
   words = λ j lane. words j ∙ begun.words j lane;
   count = count ∙ begun.count;
-  pending = λ y j lane. ap (λ (p : List ℕ). dealt f (p ++ y) j) pending ∙ begun.pending y j lane;
+  pending = λ y j lane. ap (λ (p : List ℕ). leaf_message f (p ++ y) j) pending ∙ begun.pending y j lane;
   long = ap length pending ∙ begun.long;
 }
 

@@ -15,7 +15,7 @@ use Rattle.blake2_compress.proofs.ByteSizes.{length-padded}
 use Rattle.blake2_compress.proofs.Padding.{padded-before, padded-past, padded-whole}
 use Rattle.blake2_compress.proofs.SplitRuns.{last_chain_from}
 use Rattle.blake2_parallel.specs.LeafStates.{leaf_chain}
-use Rattle.blake2_parallel.specs.Parallel.{dealt, leaves, stripe_bytes}
+use Rattle.blake2_parallel.specs.Parallel.{leaf_message, leaves, stripe_bytes}
 use Rattle.blake2_parallel.proofs.DealtStripes.{dealt-some, dealt-stripe, piece-held}
 
 -- The first block of more data.
@@ -73,13 +73,13 @@ some_after blake2s n j more lane = omega arith
 -- The run of a leaf after its block of the first stripe, if each leaf has bytes after it.
 pub last_chain-stripe : (f : Family) (flags : Flags) (h : List ℕ) (c : ℕ) (z : List ℕ) (j : ℕ)
     → j < leaves f → enough f < length z
-    → last_chain f h c (dealt f z j) flags
+    → last_chain f h c (leaf_message f z j) flags
     ≡ last_chain f (compress f h (piece (block_bytes f) z j) (c + block_bytes f) inner)
-    (c + block_bytes f) (dealt f (drop (stripe_bytes f) z) j) flags
+    (c + block_bytes f) (leaf_message f (drop (stripe_bytes f) z) j) flags
 last_chain-stripe f flags h c z j lane more =
     let b : ℕ = block_bytes f in
     let p : List ℕ = piece b z j in
-    let d : List ℕ = dealt f (drop (stripe_bytes f) z) j in
+    let d : List ℕ = leaf_message f (drop (stripe_bytes f) z) j in
     let whole : stripe_bytes f ≤ length z = omega arith in
     let long : length p ≡ b =
     length-take-le b (drop (j * b) z)

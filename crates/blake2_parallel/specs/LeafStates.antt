@@ -6,7 +6,7 @@ use Rattle.std.specs.List.{flat_map, range_with_len}
 use Rattle.blake2_simd.specs.Family.{Family, block_bytes}
 use Rattle.blake2_compress.specs.Hash.{Flags, compress, final, inner}
 use Rattle.blake2_compress.specs.MessagePieces.{piece}
-use Rattle.blake2_parallel.specs.Parallel.{dealt, leaves, output_from}
+use Rattle.blake2_parallel.specs.Parallel.{leaf_message, leaves, output_from}
 
 -- The chaining words of leaf j, the number of bytes that each leaf has counted, and the bytes that
 -- are pending.
@@ -18,7 +18,8 @@ pub record Leaves : Type 0 where
 -- The output of leaf j after the leaves absorb y too.
 unfoldable pub leaf_future : Family → Leaves → List ℕ → ℕ → List ℕ
 leaf_future f s y j =
-    output_from f (s.words j) s.count (dealt f (s.pending ++ y) j) (nat_eq (j + 1) (leaves f))
+    output_from f (s.words j) s.count (leaf_message f (s.pending ++ y) j)
+    (nat_eq (j + 1) (leaves f))
 
 -- The number of bytes that the leaves have absorbed, those of the key's blocks among them.
 abbrev pub total : Family → Leaves → ℕ

@@ -27,8 +27,8 @@ abbrev pub stripe_count : Family → ℕ → ℕ
 stripe_count f n = (n + (stripe_bytes f - 1)) / stripe_bytes f
 
 -- What leaf j gets of a message: its blocks j, P + j, 2·P + j and so on, joined.
-unfoldable pub dealt : Family → List ℕ → ℕ → List ℕ
-dealt f message j =
+unfoldable pub leaf_message : Family → List ℕ → ℕ → List ℕ
+leaf_message f message j =
     flat_map (λ i. piece (block_bytes f) message (i * leaves f + j))
     (range_with_len 0 (stripe_count f (length message)))
 
@@ -102,7 +102,7 @@ parallel_key_count f key = leaves f * length (leaf_key f key)
 -- The whole output of leaf j. The last leaf has the last-node flag.
 abbrev pub leaf_output : Family → Settings → List ℕ → ℕ → List ℕ
 leaf_output f a message j =
-    output_from f (start f (parameters_at f a j 0)) 0 (leaf_key f a.key ++ dealt f message j)
+    output_from f (start f (parameters_at f a j 0)) 0 (leaf_key f a.key ++ leaf_message f message j)
     (nat_eq (j + 1) (leaves f))
 
 -- The digest of a message: the first bytes of the root's output, which hashes the outputs of the

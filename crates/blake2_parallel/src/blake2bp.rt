@@ -5,7 +5,7 @@ ghost use Rattle.std.specs.Prelude.{IsErr, IsTrue, true, slice_index_or, ℕ};
 ghost use Rattle.std.specs.List.{flat_map};
 ghost use Rattle.blake2_simd.specs.Family.{blake2b};
 ghost use Rattle.blake2_simd.specs.Lanes.{in_lane};
-ghost use Rattle.blake2_simd.specs.Rows.{eight};
+ghost use Rattle.blake2_simd.specs.Rows.{chaining_words};
 ghost use Rattle.blake2_compress.specs.Hash.{start};
 ghost use Rattle.blake2_compress.specs.Views.{given_parameters};
 ghost use Rattle.blake2_digest.specs.States.{Fresh, Updated, StartedAgain, digest_now};
@@ -87,7 +87,7 @@ fn start_length(key: &[u8]) -> usize
 // The output of a node that has the chaining words `h` before its data.
 fn output_of(h: [u64x4; 2], bytes: &[u8], last_node: bool) -> [u8; 64]
     requires { length bytes.now < 2 ^ 64 }
-    ensures { result ≡ output_from blake2b (eight h) 0 bytes.now last_node }
+    ensures { result ≡ output_from blake2b (chaining_words h) 0 bytes.now last_node }
 {
     let mut words = h;
     let mut count = 0;

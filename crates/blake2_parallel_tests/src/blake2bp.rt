@@ -31,7 +31,7 @@ const ROWS_20: &str = "\
 ";
 
 // Absorbs the input.
-fn take(rt: &impl Abort, state: &mut State, input: &[u8]) {
+fn update_or_abort(rt: &impl Abort, state: &mut State, input: &[u8]) {
     assert!(rt; state.is_ready() && input.len() as u64 <= u64::MAX - state.counted());
     state.update(input);
 }
@@ -41,7 +41,7 @@ fn take(rt: &impl Abort, state: &mut State, input: &[u8]) {
 fn check(rt: &impl Abort, state: &mut State, message: &[u8], piece: usize, wanted: &str) {
     assert!(rt; piece >= 1);
     for part in message.chunks(piece) {
-        take(rt, state, part);
+        update_or_abort(rt, state, part);
     }
     assert!(rt; state.is_ready() && state.output_size <= 64);
     let mut out = [0; 64];

@@ -3,7 +3,7 @@ use Rattle.std.proofs.Common.{◌≡◌, ℕ, zero, suc, ◌<◌, List, [], ◌�
 use Rattle.std.proofs.Common.{slice_index_or, refl, arith}
 use Rattle.blake2_simd.specs.Family.{Family}
 use Rattle.blake2_simd.specs.Round.{mix}
-use Rattle.blake2_simd.specs.Rows.{sixteen, columns}
+use Rattle.blake2_simd.specs.Rows.{work_words, columns}
 use Rattle.blake2_simd.specs.Lanes.{in_lane}
 
 -- What holds for each of n lanes.
@@ -67,7 +67,7 @@ listed_in_eight p a b c d e f g h =
 pub columns_by_lanes : (f : Family) (a b c d x y p q r s : List ℕ)
     → ((j : ℕ) → j < 4 → in_lane j (p ∷ q ∷ r ∷ s ∷ [])
     ≡ mix f (in_lane j (a ∷ b ∷ c ∷ d ∷ [])) 0 1 2 3 (slice_index x j) (slice_index y j))
-    → sixteen (p ∷ q ∷ r ∷ s ∷ []) ≡ columns f (sixteen (a ∷ b ∷ c ∷ d ∷ [])) x y
+    → work_words (p ∷ q ∷ r ∷ s ∷ []) ≡ columns f (work_words (a ∷ b ∷ c ∷ d ∷ [])) x y
 unfolding mix columns
 columns_by_lanes f a b c d x y p q r s e =
     let e0 = e 0 (omega arith) in

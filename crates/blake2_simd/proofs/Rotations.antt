@@ -58,9 +58,9 @@ rotated_back w n k le fits =
     ∙ places_changed k j (n % 2 ^ k) (n / 2 ^ k) high low ∙ shr_split n k
 
 -- A word has at least one bit.
-bits_pos : (f : Family) → 0 < bits (word f)
-bits_pos blake2b = lit< tt
-bits_pos blake2s = lit< tt
+word_has_bits : (f : Family) → 0 < bits (word f)
+word_has_bits blake2b = lit< tt
+word_has_bits blake2s = lit< tt
 
 -- What `rotate_right` computes of a number n of w bits, for k below w.
 abbrev right_by : ℕ → ℕ → ℕ → ℕ
@@ -121,13 +121,13 @@ right_by-left_by w n k low fits = elim (cases_eq k 0) [
 pub rotate_left-rotate_right : (f : Family) (n r : ℕ) → n < 2 ^ bits (word f)
     → rotate_left (word f) (rotate_right (word f) n r) r ≡ n
 rotate_left-rotate_right f n r fits = left_by-right_by (bits (word f)) n (r % bits (word f))
-    (mod-lt r (bits_pos f)) fits
+    (mod-lt r (word_has_bits f)) fits
 
 -- A word rotated to the left by r bits and then to the right by r bits is the word again.
 pub rotate_right-rotate_left : (f : Family) (n r : ℕ) → n < 2 ^ bits (word f)
     → rotate_right (word f) (rotate_left (word f) n r) r ≡ n
 rotate_right-rotate_left f n r fits = right_by-left_by (bits (word f)) n (r % bits (word f))
-    (mod-lt r (bits_pos f)) fits
+    (mod-lt r (word_has_bits f)) fits
 
 -- A word rotated to the right by r bits, as a sum: its low r bits above the others.
 pub rotate_right-sum : (f : Family) (n r : ℕ) → 0 < r → r < bits (word f) → n < 2 ^ bits (word f)

@@ -2,7 +2,7 @@
 use Rattle.std.proofs.Common.{◌≡◌, ℕ, List, [], ◌∷◌, slice_index, refl}
 use Rattle.blake2_simd.specs.Family.{Family}
 use Rattle.blake2_simd.specs.Round.{mix, round}
-use Rattle.blake2_simd.specs.Rows.{sixteen, columns, shuffled_rows}
+use Rattle.blake2_simd.specs.Rows.{work_words, columns, shuffled_rows}
 
 -- The words of m whose indices are at i, j, k and l of s.
 abbrev pub picked : List ℕ → List ℕ → ℕ → ℕ → ℕ → ℕ → List ℕ
@@ -14,8 +14,8 @@ picked m s i j k l =
 -- moved to the left by 3, 1 and 2 lanes. The diagonal of column 3 comes first there, so its words
 -- are picked first.
 pub round_by_rows : (f : Family) (v : List (List ℕ)) (m s : List ℕ)
-    → shuffled_rows 1 0 3 2 (columns f (shuffled_rows 3 0 1 2 (columns f (sixteen v) (picked m s 0 2
+    → shuffled_rows 1 0 3 2 (columns f (shuffled_rows 3 0 1 2 (columns f (work_words v) (picked m s 0 2
     4 6) (picked m s 1 3 5 7))) (picked m s 14 8 10 12) (picked m s 15 9 11 13))
-    ≡ round f (sixteen v) m s
+    ≡ round f (work_words v) m s
 unfolding mix round columns
 round_by_rows f v m s = refl

@@ -49,14 +49,14 @@ abbrev pub lane : List (List ℕ) → ℕ → ℕ → ℕ
 lane v r j = slice_index (slice_index_or v r []) j
 
 -- The eight words of two rows, such as those of the state vector h (3.2).
-abbrev pub eight : List (List ℕ) → List ℕ
-eight h =
+abbrev pub chaining_words : List (List ℕ) → List ℕ
+chaining_words h =
     lane h 0 0 ∷ lane h 0 1 ∷ lane h 0 2 ∷ lane h 0 3 ∷
     lane h 1 0 ∷ lane h 1 1 ∷ lane h 1 2 ∷ lane h 1 3 ∷ []
 
 -- The sixteen words of four rows, such as those of the local vector v (3.2).
-abbrev pub sixteen : List (List ℕ) → List ℕ
-sixteen v =
+abbrev pub work_words : List (List ℕ) → List ℕ
+work_words v =
     lane v 0 0 ∷ lane v 0 1 ∷ lane v 0 2 ∷ lane v 0 3 ∷
     lane v 1 0 ∷ lane v 1 1 ∷ lane v 1 2 ∷ lane v 1 3 ∷
     lane v 2 0 ∷ lane v 2 1 ∷ lane v 2 2 ∷ lane v 2 3 ∷
@@ -79,7 +79,7 @@ rows_rotated f rows =
 
 -- The sixteen words of four rows after the rotation by R3 bits that the last row still lacks (3.1).
 abbrev pub last_row_rotated : Family → List ℕ × List ℕ × List ℕ × List ℕ → List ℕ
-last_row_rotated f rows = sixteen (rows_rotated f rows)
+last_row_rotated f rows = work_words (rows_rotated f rows)
 
 -- The sixteen words v, with rows 0 to 3 moved to the left by k0, k1, k2 and k3 lanes.
 abbrev pub shuffled_rows : ℕ → ℕ → ℕ → ℕ → List ℕ → List ℕ

@@ -17,12 +17,12 @@ use std::io;
 use std::io::{ErrorKind, Read, Write};
 
 #[derive(Drop)]
-struct Base31 {
+struct PolynomialHash {
     value: u32,
     count: u64,
 }
 
-impl Update for Base31 {
+impl Update for PolynomialHash {
     ghost meaning = { record {
       future = λ s _ y. to_be_bytes w32 (fold (λ a b. (a * 31 % 2 ^ 32 + b) % 2 ^ 32) s.value y);
       started = λ s _ y. to_be_bytes w32 (fold (λ a b. (a * 31 % 2 ^ 32 + b) % 2 ^ 32) 0 y);
@@ -43,7 +43,7 @@ impl Update for Base31 {
     }
 }
 
-impl FixedOutput<4> for Base31 {
+impl FixedOutput<4> for PolynomialHash {
     ghost output_fits = { λ s. Prim.omega arith };
 
     fn finalize_into(self, out: &mut [u8; 4]) {
@@ -51,10 +51,10 @@ impl FixedOutput<4> for Base31 {
     }
 }
 
-fn fresh() -> Base31
+fn fresh() -> PolynomialHash
     ensures { result ≡ record { value = 0; count = 0 } }
 {
-    Base31 { value: 0, count: 0 }
+    PolynomialHash { value: 0, count: 0 }
 }
 
 // The line of some bytes, through a reader and a writer that say which bytes they have.

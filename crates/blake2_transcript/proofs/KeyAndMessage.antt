@@ -7,7 +7,7 @@ use Rattle.std.proofs.lemmas.Bool.{cases_lt}
 use Rattle.blake2_simd.specs.Family.{Family, block_bytes, key_bytes}
 use Rattle.blake2_compress.specs.Hash.{AreBytes, padded, data_bytes, key_block, key_size}
 use Rattle.blake2_compress.specs.Inputs.{KeyFits}
-use Rattle.blake2_transcript.specs.Reader.{told_key, told_message}
+use Rattle.blake2_transcript.specs.Reader.{described_key, described_message}
 use Rattle.blake2_compress.proofs.ParameterSizes.{key_bytes_fit}
 use Rattle.blake2_compress.proofs.ByteSizes.{length-padded, AreBytes-take, AreBytes-drop}
 use Rattle.blake2_compress.proofs.Padding.{padded-past, padded-before}
@@ -16,7 +16,7 @@ use Rattle.blake2_compress.proofs.Padding.{padded-past, padded-before}
 pub key_data : (f : Family) (n : ℕ) (z : List ℕ) → n ≤ key_bytes f
     → (0 < n → block_bytes f ≤ length z)
     → (0 < n → (i : ℕ) → n ≤ i → i < block_bytes f → get_or z i 0 ≡ 0)
-    → data_bytes f (told_key n z) (told_message f n z) ≡ z
+    → data_bytes f (described_key n z) (described_message f n z) ≡ z
 unfolding key_block
 key_data f zero z fits counted zeros = refl
 key_data f (suc k) z fits counted zeros =
@@ -40,13 +40,13 @@ key_data f (suc k) z fits counted zeros =
     (λ i. front i ++ drop b z) ∙ take-append-drop b z
 
 -- The length of a key that is read.
-pub told_key-size : (n : ℕ) (z : List ℕ) → n ≤ length z → key_size (told_key n z) ≡ n
+pub told_key-size : (n : ℕ) (z : List ℕ) → n ≤ length z → key_size (described_key n z) ≡ n
 told_key-size zero z h = refl
 told_key-size (suc n) z h = length-take-le (suc n) z h
 
 -- A key that is read fits.
 pub told_key-fits : (f : Family) (n : ℕ) (z : List ℕ) → AreBytes z → n ≤ length z → n ≤ key_bytes f
-    → KeyFits f (told_key n z)
+    → KeyFits f (described_key n z)
 told_key-fits f zero z are h fits = tt
 told_key-fits f (suc n) z are h fits =
     let l : length (take (suc n) z) ≡ suc n = length-take-le (suc n) z h in
@@ -54,6 +54,6 @@ told_key-fits f (suc n) z are h fits =
 
 -- A message that is read has bytes.
 pub told_message-bytes : (f : Family) (n : ℕ) (z : List ℕ) → AreBytes z
-    → AreBytes (told_message f n z)
+    → AreBytes (described_message f n z)
 told_message-bytes f zero z are = are
 told_message-bytes f (suc n) z are = AreBytes-drop (block_bytes f) z are

@@ -11,7 +11,8 @@ use Rattle.blake2_compress.specs.Hash.{input_data, data_bytes, key_block, key_si
 use Rattle.blake2_compress.specs.Inputs.{KeyFits}
 use Rattle.blake2_transcript.specs.Transcript.{Entry, joined, Reads, ReadsOnly, IsOfSomeInput}
 use Rattle.blake2_transcript.specs.Transcript.{no_entry}
-use Rattle.blake2_transcript.specs.Reader.{last_entry, told_count, IsReadable, told_input, AreTyped}
+use Rattle.blake2_transcript.specs.Reader.{last_entry, described_count, IsReadable, described_input}
+use Rattle.blake2_transcript.specs.Reader.{AreTyped}
 use Rattle.blake2_compress.specs.ParameterBlock.{parameters_in}
 use Rattle.blake2_compress.proofs.ParameterSizes.{AreParameters, key_bytes_fit}
 use Rattle.blake2_compress.proofs.ByteSizes.{length-padded, AreBytes-padded, AreBytes-take}
@@ -28,15 +29,15 @@ use Rattle.blake2_transcript.proofs.KeyAndMessage.{told_message-bytes}
 -- The law: if the tests hold, the words and entries are the transcript of what is read.
 readable_reads : (f : Family) (p : Parameters) (words : List ℕ) (entries : List Entry)
     → p ≡ parameters_in f (bytes_of f words) → AreTyped f entries → IsReadable f p words entries
-    → Reads f words entries p.size (told_input f p entries)
+    → Reads f words entries p.size (described_input f p entries)
 readable_reads f p words entries named typed test =
     let b : ℕ = block_bytes f in
     let n : ℕ = length entries in
-    let c : ℕ = told_count entries in
+    let c : ℕ = described_count entries in
     let j : List ℕ = joined entries in
     let z : List ℕ = take c j in
     let kk : ℕ = p.key_size in
-    let a : Input = told_input f p entries in
+    let a : Input = described_input f p entries in
     let lj : length j ≡ n * b = joined-length f entries typed.whole in
     let room : c ≤ length j = rw (lj, test.run.number) (block_count-fits f c) in
     let lz : length z ≡ c = length-take-le c j room in
@@ -118,7 +119,7 @@ reads_readable f words entries size a r =
     let named : parameters_in f (bytes_of f words) ≡ whole f p =
     ap (λ (ws : List ℕ). parameters_in f (bytes_of f ws)) r.is.parameters
     ∙ parameters_in-words f p good in
-    let count_is : told_count entries ≡ length z = (r.is.ends no_entry).0 in
+    let count_is : described_count entries ≡ length z = (r.is.ends no_entry).0 in
     let blocks : joined entries ≡ padded (length entries * b) z = r.is.blocks in
     let test : IsReadable f (whole f p) words entries = record {
       fits = whole-fits f p good.fits;
@@ -162,7 +163,7 @@ test_tells f words rows block p given entries r rows_are bytes_are at are readab
     let named = named_by f words rows block p rows_are bytes_are at in (
       λ t. subst (IsOfSomeInput f words) are (
         p.size,
-        told_input f p given,
+        described_input f p given,
         readable_reads f p words given named (typed t) (readable.0 t),
       ),
       λ (size, a, reads). readable.1 (subst (λ (es : List Entry). IsReadable f p words es) (sym are)
@@ -174,7 +175,7 @@ test_tells f words rows block p given entries r rows_are bytes_are at are readab
 pub reads_told : (f : Family) (words rows block : List ℕ) (p : Parameters)
     (given entries : List Entry) (size : ℕ) (x : Input) → rows ≡ words → block ≡ bytes_of f rows
     → p ≡ parameters_in f block → given ≡ entries → IsReadable f p words given → AreTyped f given
-    → size ≡ p.size → x ≡ told_input f p given → ReadsOnly f words entries size x
+    → size ≡ p.size → x ≡ described_input f p given → ReadsOnly f words entries size x
 reads_told f words rows block p given entries size x of by at are test typed sized told =
     let named = named_by f words rows block p of by at in
     let reads : Reads f words entries size x =

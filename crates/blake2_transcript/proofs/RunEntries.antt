@@ -15,7 +15,8 @@ use Rattle.blake2_compress.specs.Hash.{AreBytes, block_count}
 use Rattle.blake2_transcript.specs.declared.steps.Entry as GivenEntry
 use Rattle.blake2_transcript.specs.StepViews.{entry_of}
 use Rattle.blake2_transcript.specs.Transcript.{Entry, joined, no_entry}
-use Rattle.blake2_transcript.specs.Reader.{told_count, last_entry, told_key, told_message, AreInner}
+use Rattle.blake2_transcript.specs.Reader.{described_count, last_entry, described_key}
+use Rattle.blake2_transcript.specs.Reader.{described_message, AreInner}
 use Rattle.blake2_transcript.specs.Reader.{IsInner, AreWholeBlocks, IsRun, HasKey, EndsRun}
 use Rattle.blake2_transcript.specs.Reader.{IsZeroFrom}
 use Rattle.blake2_simd.proofs.Texts.{AreBytes-append}
@@ -83,7 +84,7 @@ given_blocks (x ∷ es) e some at =
 -- The number of counted bytes is the counter of the last entry.
 pub given_count : {B : ℕ} (es : List (GivenEntry.Entry B)) (e : GivenEntry.Entry B) → 0 < length es
     → e ≡ get_or es (length es - 1) e
-    → told_count (map entry_of es) ≡ e.counter
+    → described_count (map entry_of es) ≡ e.counter
 given_count es e some at =
     ap (λ (n : ℕ). (get_or (map entry_of es) (n - 1) no_entry).counter) (length-map es entry_of)
     ∙ ap (λ (x : Entry). x.counter) (entry_of-at es (length es - 1) e (omega arith) at)
@@ -142,7 +143,7 @@ given_run f b es xs e family split whole end inners =
     let bytes : length (joined ys) ≡ length xs * b =
     joined-length f ys whole ∙ (λ i. count i * family i) in
     let at : last_entry (ys ++ y ∷ []) ≡ y = last_entry-snoc ys y in
-    let counts : told_count (ys ++ y ∷ []) ≡ e.counter = ap (λ (x : Entry). x.counter) at in
+    let counts : described_count (ys ++ y ∷ []) ≡ e.counter = ap (λ (x : Entry). x.counter) at in
     let low : length xs * block_bytes f ≤ e.counter =
     block_within f e.counter (length xs) (omega (arith, end.number)) in
     let order : length xs * block_bytes f ≡ length xs * b =
@@ -187,7 +188,7 @@ zero_rest xs n fits = (
 
 -- The first block is that of a key exactly if it is zero after the key.
 pub has_key : (f : Family) (n : ℕ) (es : List Entry) (block rest : List ℕ)
-    → joined es ≡ block ++ rest → length block ≡ block_bytes f → block_bytes f ≤ told_count es
+    → joined es ≡ block ++ rest → length block ≡ block_bytes f → block_bytes f ≤ described_count es
     → IsZeroFrom n block ↔ HasKey f n es
 has_key f n es block rest split whole counted =
     let first : (i : ℕ) → i < block_bytes f → get_or (joined es) i 0 ≡ get_or block i 0 =
@@ -221,7 +222,7 @@ take-append n xs ys = elim (cases_lt n (length xs)) [
 
 -- A key is at the beginning of the first block.
 pub key_told : (n c : ℕ) (z block rest : List ℕ) → z ≡ block ++ rest → 0 < n → n ≤ length block
-    → n ≤ c → told_key n (take c z) ≡ Some (take n block)
+    → n ≤ c → described_key n (take c z) ≡ Some (take n block)
 key_told zero c z block rest split some short within = absurd (omega arith)
 key_told (suc k) c z block rest split some short within =
     ap (λ (l : List ℕ). Some l) (take-take (suc k) c z within ∙ ap (take (suc k)) split
@@ -230,7 +231,7 @@ key_told (suc k) c z block rest split some short within =
 -- The message comes after the key.
 pub message_told : (f : Family) (n c : ℕ) (z block rest : List ℕ) → z ≡ block ++ rest → 0 < n
     → length block ≡ block_bytes f → block_bytes f ≤ c
-    → told_message f n (take c z) ≡ take (c - block_bytes f) rest
+    → described_message f n (take c z) ≡ take (c - block_bytes f) rest
 message_told f zero c z block rest split some whole within = absurd (omega arith)
 message_told f (suc k) c z block rest split some whole within =
     let b : ℕ = block_bytes f in

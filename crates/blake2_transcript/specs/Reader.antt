@@ -14,8 +14,8 @@ abbrev pub last_entry : List Entry → Entry
 last_entry entries = slice_index_or entries (length entries - 1) no_entry
 
 -- The number of counted bytes, which is the counter of the last entry.
-abbrev pub told_count : List Entry → ℕ
-told_count entries = (last_entry entries).counter
+abbrev pub described_count : List Entry → ℕ
+described_count entries = (last_entry entries).counter
 
 -- The entry at index i is one that others follow: its counter is (i+1)·bb, and its flags are off.
 pub record IsInner (f : Family) (i : ℕ) (e : Entry) : Type 0 where
@@ -37,15 +37,15 @@ IsZeroFrom n xs = (i : ℕ) → n ≤ i → slice_index xs i ≡ 0
 
 -- The entries are those of a run over some data (3.3).
 pub record IsRun (f : Family) (entries : List Entry) : Type 0 where
-  pub number : length entries ≡ block_count f (told_count entries)
+  pub number : length entries ≡ block_count f (described_count entries)
   pub below : (i : ℕ) → i + 1 < length entries → IsInner f i (slice_index_or entries i no_entry)
   pub last : IsTrue (last_entry entries).flags.last
-  pub zeros : IsZeroFrom (told_count entries) (joined entries)
+  pub zeros : IsZeroFrom (described_count entries) (joined entries)
 
 -- The data begins with the block of a key of n bytes: a whole block is counted, and it is zero
 -- after n bytes (3.3).
 pub record HasKey (f : Family) (n : ℕ) (entries : List Entry) : Type 0 where
-  pub counted : block_bytes f ≤ told_count entries
+  pub counted : block_bytes f ≤ described_count entries
   pub zeros : (i : ℕ) → n ≤ i → i < block_bytes f → slice_index (joined entries) i ≡ 0
 
 -- ---- words and entries together
@@ -59,29 +59,29 @@ pub record IsReadable (f : Family) (p : Parameters) (ws : List ℕ) (es : List E
   pub key : 0 < p.key_size → HasKey f p.key_size es
 
 -- The data of the entries: the counted bytes of their blocks.
-abbrev pub told_data : List Entry → List ℕ
-told_data entries = take (told_count entries) (joined entries)
+abbrev pub described_data : List Entry → List ℕ
+described_data entries = take (described_count entries) (joined entries)
 
 -- The key of n bytes at the beginning of the data z, or none if n is 0.
-abbrev pub told_key : ℕ → List ℕ → Option (List ℕ)
-told_key zero z = None
-told_key (suc n) z = Some (take (suc n) z)
+abbrev pub described_key : ℕ → List ℕ → Option (List ℕ)
+described_key zero z = None
+described_key (suc n) z = Some (take (suc n) z)
 
 -- The message in the data z: the bytes after the block of a key of n bytes, or all if n is 0.
-abbrev pub told_message : Family → ℕ → List ℕ → List ℕ
-told_message f zero z = z
-told_message f (suc n) z = drop (block_bytes f) z
+abbrev pub described_message : Family → ℕ → List ℕ → List ℕ
+described_message f zero z = z
+described_message f (suc n) z = drop (block_bytes f) z
 
 -- The input that the parameters and the entries describe. Its salt and personalization are padded
 -- with zeros.
-abbrev pub told_input : Family → Parameters → List Entry → Input
-told_input f p entries = record {
+abbrev pub described_input : Family → Parameters → List Entry → Input
+described_input f p entries = record {
   salt = padded (salt_bytes f) p.salt;
   persona = padded (salt_bytes f) p.persona;
-  key = told_key p.key_size (told_data entries);
+  key = described_key p.key_size (described_data entries);
   tree = p.tree;
   last_node = (last_entry entries).flags.last_node;
-  message = told_message f p.key_size (told_data entries);
+  message = described_message f p.key_size (described_data entries);
 }
 
 -- ---- what the types of the code promise
@@ -99,4 +99,4 @@ AreWholeBlocks f entries =
 -- The blocks are whole, and the last counter is below 2^64.
 pub record AreTyped (f : Family) (entries : List Entry) : Type 0 where
   pub whole : AreWholeBlocks f entries
-  pub counter : told_count entries < 2 ^ 64
+  pub counter : described_count entries < 2 ^ 64

@@ -143,7 +143,7 @@ range_digests-long s first ends bytes some long =
     (sym (range_digests-digests_of s (first + 1) ends rest))
 
 -- The leaves of a whole message are those from index 0 on.
-pub range_digests-first : (s : TreeParameters) (message : List ℕ)
+pub range_digests-from_0 : (s : TreeParameters) (message : List ℕ)
     → range_digests s 0 true message ≡ leaf_digests s message
 unfolding range_digests leaf_digests
-range_digests-first s message = simp zero-add
+range_digests-from_0 s message = simp zero-add

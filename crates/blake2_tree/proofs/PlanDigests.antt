@@ -18,7 +18,7 @@ use Rattle.blake2_tree.specs.LeafRanges.{range_digests}
 use Rattle.blake2_tree.specs.PartPlans.{HasParts, part_digests, count_of_parts, HasDigests}
 use Rattle.blake2_tree.specs.PartPlans.{HasLeafDigests}
 use Rattle.blake2_tree.proofs.JoinedRanges.{flat_map-range_more}
-use Rattle.blake2_tree.proofs.MessageLeaves.{range_digests-first}
+use Rattle.blake2_tree.proofs.MessageLeaves.{range_digests-from_0}
 use Rattle.blake2_tree.proofs.RangeLaws.{range_digests-whole}
 use Rattle.blake2_tree.proofs.PlanParts.{begins-within, last-reaches}
 
@@ -135,7 +135,7 @@ has_digests p is_plan ends =
     λ s message same size.
     joined p s 0 message is_plan same size (omega (arith, is_plan.count, ends))
     ∙ ap (λ b. range_digests s 0 b message) flag
-    ∙ range_digests-first s message in
+    ∙ range_digests-from_0 s message in
     record {
       digests = all;
       root = λ n s message same size.

@@ -1,17 +1,19 @@
 -- The parts of a plan.
-use Rattle.std.proofs.Common.{◌≡◌, ℕ, ◌+◌, ◌-◌, ◌*◌, ◌/◌, ◌%◌, ◌^◌, ◌<◌, ◌≤◌, ◌⊎◌, inl, inr, min, max}
+use Rattle.std.proofs.Common.{◌≡◌, ℕ, ◌+◌, ◌-◌, ◌*◌, ◌/◌, ◌%◌, ◌^◌, ◌<◌, ◌≤◌, ◌⊎◌, inl, inr, min}
+use Rattle.std.proofs.Common.{max}
 use Rattle.std.proofs.Common.{arith, ap, refl, sym, ◌∙◌, suc, if◌then◌else◌}
 use Rattle.std.specs.Int.{div_ceil}
 use Rattle.std.proofs.lemmas.Grind.{div_ceil_times}
 use Rattle.std.proofs.lemmas.Bool.{cases_lt, cases_eq, le-leb, lt-leb, ne_eqb}
-use Rattle.std.proofs.Math.Nat.{mul-le-mul_right, mul-le-mul_left, mul-mod_left, mod_self, mod-eq_of_lt}
+use Rattle.std.proofs.Math.Nat.{mul-le-mul_right, mul-le-mul_left, mul-mod_left, mod_self}
+use Rattle.std.proofs.Math.Nat.{mod-eq_of_lt}
 use Rattle.blake2_tree.specs.declared.thread_plan.Plan.{Plan}
 use Rattle.blake2_tree.specs.declared.thread_plan.Limits.{Limits}
 use Rattle.blake2_tree.specs.declared.thread_plan.Part.{Part}
 use Rattle.blake2_tree.specs.TreeRoot.{leaf_count}
 use Rattle.blake2_tree.specs.PartPlans.{HasParts, IsPlan, IsPart, IsInOrder, start_of_part}
 use Rattle.blake2_tree.specs.PartPlans.{count_of_parts}
-use Rattle.blake2_tree.specs.PartPlans.{in_fours, share, part_leaves, AreParts}
+use Rattle.blake2_tree.specs.PartPlans.{in_fours, leaves_per_thread, part_leaves, AreParts}
 use Rattle.blake2_tree.specs.PartPlans.{head_length, whole_length, IsOfUpdate, IsPlanOf, HasRest}
 use Rattle.blake2_tree.specs.PartPlans.{length_of_digests}
 use Rattle.blake2_tree.proofs.MessageLeaves.{leaf_count-short}
@@ -223,7 +225,7 @@ in_fours-fours leaves threads even =
 
 -- A share of four leaves or more is in fours.
 share-fours : (leaves threads : ℕ) → 1 ≤ threads → 4 * threads ≤ leaves
-    → (q : ℕ) × (share leaves threads ≡ q * 4)
+    → (q : ℕ) × (leaves_per_thread leaves threads ≡ q * 4)
 share-fours leaves threads some many =
     let k : ℕ = div_ceil leaves threads in
     let least : leaves ≤ k * threads = (div_ceil_times leaves threads some).0 in
@@ -266,7 +268,7 @@ part_leaves-cases : (l : Limits) (threads size n : ℕ) → 1 ≤ size
     × ((part_leaves l threads size n * size ≤ l.most_bytes) ⊎ (part_leaves l threads size n ≡ 1))
 part_leaves-cases l threads size n some =
     let fours : ℕ = max (l.part_bytes / size / 4) 1 * 4 in
-    let leaves : ℕ = min fours (share (leaf_count size n) threads) in
+    let leaves : ℕ = min fours (leaves_per_thread (leaf_count size n) threads) in
     let room : fours * size ≤ max l.part_bytes (4 * size) = fours-length l.part_bytes size some in
     let less : leaves * size ≤ fours * size =
     mul-le-mul_right {m = leaves} {n = fours} size (omega arith) in
@@ -299,7 +301,7 @@ part_leaves-fours : (l : Limits) (threads size n : ℕ) → 1 ≤ size → 1 ≤
     → part_leaves l threads size n % 4 ≡ 0
 part_leaves-fours l threads size n some are many fit =
     let fours : ℕ = max (l.part_bytes / size / 4) 1 * 4 in
-    let each : ℕ = share (leaf_count size n) threads in
+    let each : ℕ = leaves_per_thread (leaf_count size n) threads in
     let leaves : ℕ = min fours each in
     elim (cases_lt l.most_bytes (leaves * size)) [
       | inl long ↦

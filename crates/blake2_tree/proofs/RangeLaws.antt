@@ -19,7 +19,7 @@ use Rattle.blake2_tree.specs.LeafRanges.{IsRange, TakesPlace, with_part, ArePart
 use Rattle.blake2_tree.specs.LeafRanges.{IsRootOfChanges}
 use Rattle.blake2_tree.proofs.NodeLemmas.{length-leaf_digests}
 use Rattle.blake2_tree.proofs.MessageLeaves.{range_digests-short, range_digests-long}
-use Rattle.blake2_tree.proofs.MessageLeaves.{range_digests-first}
+use Rattle.blake2_tree.proofs.MessageLeaves.{range_digests-from_0}
 use Rattle.blake2_tree.proofs.MessageLeaves.{leaf_count-short, leaf_count-more}
 use Rattle.blake2_tree.proofs.JoinedRanges.{length-flat_map-range}
 
@@ -125,7 +125,7 @@ cut_digests-all s front last some cut =
       | inr one ↦ ap (λ f. cut_digests s 0 f last) one
           ∙ ap (λ f. range_digests s 0 true (concat f ++ last)) (sym one)
     ]
-    ∙ range_digests-first s (concat front ++ last)
+    ∙ range_digests-from_0 s (concat front ++ last)
 
 -- ---- a range of a message, or one that replaces another
 
@@ -170,12 +170,12 @@ leaf_digests-begun : (s : TreeParameters) (first : ℕ) (before rest : List ℕ)
 unfolding digests_in_front
 leaf_digests-begun s zero before rest some whole begins =
     let nothing : before ≡ [] = nil_from_length before (omega arith) in
-    sym (range_digests-first s (before ++ rest))
+    sym (range_digests-from_0 s (before ++ rest))
     ∙ ap (λ b. range_digests s 0 true (b ++ rest)) nothing
 leaf_digests-begun s (suc k) before rest some whole begins =
     let at : 0 + suc k ≡ suc k = omega arith in
     let more : 0 < length rest = elim begins [ inl none ↦ absurd (omega arith) | inr more ↦ more ] in
-    sym (range_digests-first s (before ++ rest))
+    sym (range_digests-from_0 s (before ++ rest))
     ∙ range_digests-whole s 0 k true before rest some whole more
     ∙ ap (λ p. range_digests s 0 false before ++ range_digests s p true rest) at
 

@@ -11,7 +11,7 @@ use Rattle.blake2_tree.specs.TreeRoot.{TreeParameters, tree_root}
 use Rattle.blake2_tree.specs.LeafRanges.{AreWholeLeaves, range_digests}
 use Rattle.blake2_tree.specs.OpenTrees.{digests_to_come, OpenTree, open_tree, count, future, Took}
 use Rattle.blake2_tree.specs.OpenTrees.{WentOn}
-use Rattle.blake2_tree.proofs.MessageLeaves.{range_digests-first}
+use Rattle.blake2_tree.proofs.MessageLeaves.{range_digests-from_0}
 use Rattle.blake2_tree.proofs.RangeLaws.{length-range_digests, range_digests-cut, leaf_count-is}
 use Rattle.blake2_tree.proofs.FourLeaves.{range_digests-last_four}
 use Rattle.blake2_tree.proofs.OpenLeaves.{digests_to_come-begun, digests_to_come-took}
@@ -46,7 +46,7 @@ future-made {leaves} s n {leaf} some is_leaf is_root y =
     (digests_to_come s (leaves.future leaf) (s.leaf_length - leaves.count leaf) 1 y)
     ∙ ap (node_digest n s 0 1 true)
     (digests_to_come-opened leaves s 0 leaf y some (IsOpened-fresh leaves s 0 leaf is_leaf)
-    ∙ range_digests-first s y)
+    ∙ range_digests-from_0 s y)
 
 -- The open leaf absorbs the beginning of what comes, under either value of its flag.
 pub future-took : {R S : Type 0} (roots : Meaning R) (leaves : Meaning S) (s : TreeParameters)

@@ -32,8 +32,8 @@ in_fours leaves threads even =
     else even / 4 * 4
 
 -- The share of each thread, rounded up, and in fours if it is four leaves or more.
-abbrev pub share : ℕ → ℕ → ℕ
-share leaves threads =
+abbrev pub leaves_per_thread : ℕ → ℕ → ℕ
+leaves_per_thread leaves threads =
     if nat_le (div_ceil leaves threads) 3 then div_ceil leaves threads
     else in_fours leaves threads (div_ceil leaves threads)
 
@@ -49,7 +49,7 @@ that_fit most size leaves =
 abbrev pub part_leaves : Limits → ℕ → ℕ → ℕ → ℕ
 part_leaves l threads size n =
     that_fit l.most_bytes size
-    (min (max (l.part_bytes / size / 4) 1 * 4) (share (leaf_count size n) threads))
+    (min (max (l.part_bytes / size / 4) 1 * 4) (leaves_per_thread (leaf_count size n) threads))
 
 -- A part of a plan of n bytes is a multiple of four leaves, since four are hashed in parallel. It
 -- has fewer only if a thread would have fewer than four, or if four have more bytes than

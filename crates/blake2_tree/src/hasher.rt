@@ -286,7 +286,7 @@ impl<const N: usize> TreeHasher<N> {
         ensures { result ≡ future self.entry input.now }
     {
         let rest = self.close_fours(input);
-        if many::blake2b::lanes() >= 4 && rest.len() == self.nodes.four_leaves() {
+        if many::blake2b::best_lane_count() >= 4 && rest.len() == self.nodes.four_leaves() {
             self.finish_four(rest)
         } else {
             self.update(rest);

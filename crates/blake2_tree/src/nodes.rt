@@ -202,7 +202,7 @@ impl Nodes {
             (shared_parameters self.now) i false (take (result * self.now.leaf_length) text.now) }
     {
         let length = self.leaf_length as usize;
-        let lanes = many::blake2b::lanes();
+        let lanes = many::blake2b::best_lane_count();
         if lanes >= 8 && text.len() > 8 * length {
             digests.copy_from_slice(self.hash_eight(i, text).as_flattened());
             8
@@ -263,15 +263,15 @@ impl Nodes {
         requires room { length out.old ≡ 64 * leaf_count self.now.leaf_length (length bytes.now) }
         ensures { out.new ≡ range_digests (shared_parameters self.now) first ends bytes.now }
     {
-        if many::blake2b::lanes() >= 4 && bytes.len() == self.four_leaves() {
+        if many::blake2b::best_lane_count() >= 4 && bytes.len() == self.four_leaves() {
             out.copy_from_slice(self.hash_four(first, ends, bytes).as_flattened());
         } else {
-            self.write_each(first, ends, bytes, out);
+            self.write_one_by_one(first, ends, bytes, out);
         }
     }
 
     // The same, one leaf at a time.
-    fn write_each(&self, first: u64, ends: bool, bytes: &[u8], out: &mut [u8])
+    fn write_one_by_one(&self, first: u64, ends: bool, bytes: &[u8], out: &mut [u8])
         requires short { length bytes.now ≤ 4 * self.now.leaf_length }
         requires place { first + 3 < 2 ^ 64 }
         requires room { length out.old ≡ 64 * leaf_count self.now.leaf_length (length bytes.now) }

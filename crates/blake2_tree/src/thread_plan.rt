@@ -3,7 +3,8 @@
 //! [`hash_leaves`](crate::hash_leaves), and writes the digests where the part says.
 
 ghost use Rattle.std.specs.Prelude.{◌≡◌, ◌+◌, ◌-◌, ◌*◌, ◌/◌, ◌%◌, ◌^◌, ◌<◌, ◌≤◌, ◌↔◌, IsTrue};
-ghost use Rattle.blake2_tree.specs.PartPlans.{AreLimits, threads_for, share, part_leaves, IsPlanOf};
+ghost use Rattle.blake2_tree.specs.PartPlans.{AreLimits, threads_for, leaves_per_thread};
+ghost use Rattle.blake2_tree.specs.PartPlans.{part_leaves, IsPlanOf};
 ghost use Rattle.blake2_tree.specs.PartPlans.{IsPlan, IsPart, IsInOrder, AreParts, head_length};
 ghost use Rattle.blake2_tree.specs.PartPlans.{whole_length, IsOfUpdate, HasDigests, HasLeafDigests};
 ghost use Rattle.blake2_tree.specs.PartPlans.{HasParts, HasRest, length_of_digests};
@@ -99,7 +100,7 @@ impl Limits {
     {
         let leaf = u64::from(leaf_length);
         let fours = (self.part_bytes / leaf / 4).max(1);
-        let share = share(leaf_count(leaf_length, length), threads);
+        let share = leaves_per_thread(leaf_count(leaf_length, length), threads);
         let leaves = (fours * 4).min(share);
         if leaves * leaf <= self.most_bytes {
             leaves
@@ -111,11 +112,11 @@ impl Limits {
 
 // The leaves of each thread if all have the same number, and in fours if these are four or more:
 // rounded up, or down if a thread would have none.
-fn share(leaves: u64, threads: u64) -> u64
+fn leaves_per_thread(leaves: u64, threads: u64) -> u64
     requires some { 1 ≤ leaves }
     requires fits { leaves < 2 ^ 58 }
     requires threads { 1 ≤ threads }
-    ensures is { result ≡ share leaves threads }
+    ensures is { result ≡ leaves_per_thread leaves threads }
     ensures some { 1 ≤ result }
     ensures most { result ≤ leaves + 3 }
 {

@@ -6,7 +6,7 @@ use Rattle.std.proofs.lemmas.List.{take_all}
 use Rattle.blake2_simd.specs.Family.{Family, blake2b, blake2s}
 use Rattle.blake2_digest.specs.States.{Fresh, Meaning, Updated, digest_now}
 use Rattle.blake2_xof.specs.Xof.{IsKnown, Settings, outputs, output_length, root_hash, xof}
-use Rattle.blake2_xof.proofs.OutputBlocks.{length-stream}
+use Rattle.blake2_xof.proofs.OutputBlocks.{length-xof_output}
 
 -- The length of such an output.
 pub known_length : (f : Family) (n : ℕ) → IsKnown f n → output_length f n ≡ n
@@ -24,6 +24,6 @@ whole_output f m a n made now x position all out known some fresh updated first 
     is ∙ updated.future own [] ∙ fresh.future own (x ++ []) ∙ ap (xof f a) (append-nil x) in
     let size = known_length f a.xof_length known in
     let long : length (xof f a x) ≡ a.xof_length =
-    length-stream f a (root_hash f a x) (omega (arith, size)) ∙ size in
+    length-xof_output f a (root_hash f a x) (omega (arith, size)) ∙ size in
     read ∙ (λ i. take a.xof_length (drop (first i) (whole i)))
     ∙ take_all a.xof_length (xof f a x) (omega (arith, long))

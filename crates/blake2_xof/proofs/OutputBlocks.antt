@@ -1,6 +1,7 @@
 -- Blocks of an output: how each is made, and what is read from the output.
 use Rattle.std.proofs.Common.{◌≡◌, ℕ, ◌+◌, ◌-◌, ◌*◌, ◌<◌, ◌≤◌, List, [], ◌++◌, length}
-use Rattle.std.proofs.Common.{take, drop, min, slice_index_or, refl, sym, ap, ◌∙◌, arith, false, length-append, length-drop}
+use Rattle.std.proofs.Common.{take, drop, min, slice_index_or, refl, sym, ap, ◌∙◌, arith, false}
+use Rattle.std.proofs.Common.{length-append, length-drop}
 use Rattle.std.proofs.lemmas.List.{take_all, take-take, drop-take}
 use Rattle.blake2_simd.specs.Family.{Family, blake2b, blake2s, block_bytes, output_bytes}
 use Rattle.blake2_compress.specs.Hash.{Flags, block_count, bytes_of, chain, compress, cut, digest}
@@ -10,8 +11,9 @@ use Rattle.blake2_compress.proofs.ParameterSizes.{length-start}
 use Rattle.blake2_compress.proofs.RunSizes.{length-bytes_of, length-digest}
 use Rattle.blake2_compress.proofs.WordSizes.{length-compress}
 use Rattle.blake2_xof.specs.Xof.{Settings, block_input, block_parameters, block_size, output_block}
-use Rattle.blake2_xof.specs.Xof.{output_blocks, output_length, stream}
-use Rattle.blake2_xof.proofs.JoinedLists.{drop-joined, joined, joined-range, read-joined, read_whole-joined}
+use Rattle.blake2_xof.specs.Xof.{output_blocks, output_length, xof_output}
+use Rattle.blake2_xof.proofs.JoinedLists.{drop-joined, joined, joined-range, read-joined}
+use Rattle.blake2_xof.proofs.JoinedLists.{read_whole-joined}
 
 one_block : (f : Family) (n : ℕ) → n ≤ block_bytes f → block_count f n ≡ 1
 one_block blake2b n fits = omega arith
@@ -56,8 +58,8 @@ length-block f a root i =
 pub read_block : (f : Family) (a : Settings) (root out : List ℕ) (p n i x : ℕ) → 0 < n
     → p ≡ i * output_bytes f + x → x + n ≤ output_bytes f → p + n ≤ output_length f a.xof_length
     → take (block_size f a.xof_length i) out ≡ output_block f a root i
-    → take n (drop x out) ≡ take n (drop p (stream f a root))
-unfolding stream
+    → take n (drop x out) ≡ take n (drop p (xof_output f a root))
+unfolding xof_output
 read_block f a root out p n i x some at within room made =
     let size : ℕ = block_size f a.xof_length i in
     let total : ℕ = output_length f a.xof_length in
@@ -102,8 +104,8 @@ pub read_blocks : (f : Family) (a : Settings) (root : List ℕ) (outs : List (Li
     → ((j : ℕ) → j < k → slice_index_or outs j [] ≡ bytes_of f (compress f
     (start f (block_parameters f a (i + j))) (padded (block_bytes f) root) (length root)
     (final false)))
-    → flat_map (λ x. x) outs ≡ take (k * output_bytes f) (drop p (stream f a root))
-unfolding stream
+    → flat_map (λ x. x) outs ≡ take (k * output_bytes f) (drop p (xof_output f a root))
+unfolding xof_output
 read_blocks f a root outs p i k fits long at room made =
     let total : ℕ = output_length f a.xof_length in
     let g : ℕ → List ℕ = output_block f a root in
@@ -133,17 +135,17 @@ read_blocks f a root outs p i k fits long at room made =
 
     at_most : (f : Family) (out w : List ℕ) {n : ℕ} → out ≡ bytes_of f w → length w ≡ 8
         → n ≡ output_bytes f → length out ≤ n
-    at_most blake2b out w is eight all =
+    at_most blake2b out w is chaining_words all =
         omega (arith, ap length is, length-bytes_of blake2b w)
-    at_most blake2s out w is eight all =
+    at_most blake2s out w is chaining_words all =
         omega (arith, ap length is, length-bytes_of blake2s w)
 
 -- The number of bytes of the output.
-pub length-stream : (f : Family) (a : Settings) (root : List ℕ)
+pub length-xof_output : (f : Family) (a : Settings) (root : List ℕ)
     → 1 ≤ output_length f a.xof_length
-    → length (stream f a root) ≡ output_length f a.xof_length
-unfolding stream
-length-stream f a root some =
+    → length (xof_output f a root) ≡ output_length f a.xof_length
+unfolding xof_output
+length-xof_output f a root some =
     let total : ℕ = output_length f a.xof_length in
     let g : ℕ → List ℕ = output_block f a root in
     let n : ℕ = output_blocks f total in

@@ -12,7 +12,7 @@ use Rattle.blake2_state.specs.declared.StateParameters.{StateParameters}
 use Rattle.blake2_xof.specs.States.{xof_meaning_by}
 use Rattle.blake2_xof.specs.Xof.{Settings, block_input, block_size, output_block, outputs}
 use Rattle.blake2_xof.specs.Xof.{output_blocks, output_length, root_hash, settings}
-use Rattle.blake2_xof.specs.Xof.{stream}
+use Rattle.blake2_xof.specs.Xof.{xof_output}
 
 -- ---- salt and personalization
 
@@ -31,10 +31,10 @@ block-padded f n i salt persona root key fits_salt fits_persona =
 pub stream-padded : (f : Family) (n : ℕ) (key salt persona s p root : List ℕ)
     → length salt ≤ salt_bytes f → length persona ≤ salt_bytes f
     → s ≡ padded (salt_bytes f) salt → p ≡ padded (salt_bytes f) persona
-    → stream f (settings n [] s p) root ≡ stream f (settings n key salt persona) root
-unfolding stream
+    → xof_output f (settings n [] s p) root ≡ xof_output f (settings n key salt persona) root
+unfolding xof_output
 stream-padded f n key salt persona s p root fits_salt fits_persona salts personas =
-    (λ j. stream f (settings n [] (salts j) (personas j)) root)
+    (λ j. xof_output f (settings n [] (salts j) (personas j)) root)
     ∙ (λ j. flat_map (λ i. block-padded f n i salt persona root key fits_salt fits_persona j)
     (range_with_len 0 (output_blocks f (output_length f n))))
 
@@ -45,15 +45,15 @@ pub Fresh_by : {S R : Type 0} (f : Family) (m : Meaning R) (root_of : S → R)
     (settings_of : S → Settings) (s : S) (a : Settings) (given : StateParameters) (tree : Tree)
     (n : ℕ) → Fresh m (digest_given f given tree) n (root_of s)
     → ((y : List ℕ) → digest_given f given tree false y ≡ root_hash f a y)
-    → ((x : List ℕ) → stream f (settings_of s) x ≡ stream f a x)
+    → ((x : List ℕ) → xof_output f (settings_of s) x ≡ xof_output f a x)
     → Fresh (xof_meaning_by f m root_of settings_of) (outputs f a) n s
 Fresh_by f m root_of settings_of s a given tree n fresh same texts =
     let own : Bool = m.last_node (root_of s) in
     let off = λ (y : List ℕ).
     ap (λ (b : Bool). digest_given f given tree b y) fresh.last_node ∙ same y in
     record {
-      future = λ flag y. texts _ ∙ ap (stream f a) (fresh.future own y ∙ off y);
-      started = λ flag y. texts _ ∙ ap (stream f a) (fresh.started own y ∙ off y);
+      future = λ flag y. texts _ ∙ ap (xof_output f a) (fresh.future own y ∙ off y);
+      started = λ flag y. texts _ ∙ ap (xof_output f a) (fresh.started own y ∙ off y);
       last_node = refl;
       count = fresh.count;
       start_count = fresh.start_count;
@@ -69,10 +69,10 @@ pub Updated_by : {S R : Type 0} (f : Family) (m : Meaning R) (root_of : S → R)
 Updated_by f m root_of settings_of old x new same u =
     let own : Bool = m.last_node (root_of old) in
     record {
-      future = λ flag y. (λ i. stream f (same i) (m.future (root_of new) (u.last_node i) y))
-          ∙ ap (stream f (settings_of old)) (u.future own y);
-      started = λ flag y. (λ i. stream f (same i) (m.started (root_of new) (u.last_node i) y))
-          ∙ ap (stream f (settings_of old)) (u.started own y);
+      future = λ flag y. (λ i. xof_output f (same i) (m.future (root_of new) (u.last_node i) y))
+          ∙ ap (xof_output f (settings_of old)) (u.future own y);
+      started = λ flag y. (λ i. xof_output f (same i) (m.started (root_of new) (u.last_node i) y))
+          ∙ ap (xof_output f (settings_of old)) (u.started own y);
       last_node = refl;
       count = u.count;
       start_count = u.start_count;
@@ -86,10 +86,10 @@ pub StartedAgain_by : {S R : Type 0} (f : Family) (m : Meaning R) (root_of : S �
 StartedAgain_by f m root_of settings_of old new same again =
     let own : Bool = m.last_node (root_of old) in
     record {
-      future = λ flag y. (λ i. stream f (same i) (m.future (root_of new) (again.last_node i) y))
-          ∙ ap (stream f (settings_of old)) (again.future own y);
-      started = λ flag y. (λ i. stream f (same i) (m.started (root_of new) (again.last_node i) y))
-          ∙ ap (stream f (settings_of old)) (again.started own y);
+      future = λ flag y. (λ i. xof_output f (same i) (m.future (root_of new) (again.last_node i) y))
+          ∙ ap (xof_output f (settings_of old)) (again.future own y);
+      started = λ flag y. (λ i. xof_output f (same i) (m.started (root_of new) (again.last_node i) y))
+          ∙ ap (xof_output f (settings_of old)) (again.started own y);
       last_node = refl;
       count = again.count;
       start_count = again.start_count;

@@ -9,7 +9,7 @@ use Rattle.blake2_state.specs.States.{is_on}
 use Rattle.blake2_xof.specs.declared.blake2xs.State.{State}
 use Rattle.blake2_xof.specs.declared.reader.blake2xs.Reader.{Reader}
 use Rattle.blake2_xof.specs.States.{xof_meaning_by}
-use Rattle.blake2_xof.specs.Xof.{Settings, output_length, settings, stream, unknown_length}
+use Rattle.blake2_xof.specs.Xof.{Settings, output_length, settings, xof_output, unknown_length}
 
 -- ---- readers
 
@@ -20,7 +20,7 @@ settings_of s = settings s.xof_length [] (take 8 s.texts) (drop 8 s.texts)
 
 -- The whole output of a reader, from its first byte on.
 abbrev pub output_of : Reader → List ℕ
-output_of s = stream blake2s (settings_of s) s.root
+output_of s = xof_output blake2s (settings_of s) s.root
 
 -- The number of bytes of the whole output.
 abbrev pub length_of : Reader → ℕ
@@ -40,8 +40,8 @@ pub record HasRead (old : Reader) (n : ℕ) (new : Reader) : Type 0 where
   pub position : new.position ≡ old.position + n
 
 -- The zeroed reader, from which nothing can be read.
-abbrev pub no_reader : Reader
-no_reader = record {
+abbrev pub wiped_reader : Reader
+wiped_reader = record {
   root = replicate 32 0;
   texts = replicate 16 0;
   xof_length = 0;
@@ -85,4 +85,4 @@ pub record HasSqueezed (old : State) (n : ℕ) (new : State) : Type 0 where
 
 -- The zeroed state, which returns no output.
 abbrev pub zeros : State
-zeros = record { root = Root.zeros; reader = no_reader; reading = 0 }
+zeros = record { root = Root.zeros; reader = wiped_reader; reading = 0 }

@@ -126,14 +126,14 @@ unfoldable pub output_block : Family → Settings → List ℕ → ℕ → List 
 output_block f a root i = digest f (block_size f a.xof_length i) (block_input f a root i)
 
 -- The output for this root hash: its blocks, joined.
-unfoldable pub stream : Family → Settings → List ℕ → List ℕ
-stream f a root =
+unfoldable pub xof_output : Family → Settings → List ℕ → List ℕ
+xof_output f a root =
     flat_map (output_block f a root)
     (range_with_len 0 (output_blocks f (output_length f a.xof_length)))
 
 -- The output for a message.
 abbrev pub xof : Family → Settings → List ℕ → List ℕ
-xof f a message = stream f a (root_hash f a message)
+xof f a message = xof_output f a (root_hash f a message)
 
 -- The same as a function of a last-node flag too, which changes nothing.
 abbrev pub outputs : Family → Settings → Bool → List ℕ → List ℕ

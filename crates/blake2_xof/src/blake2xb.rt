@@ -164,7 +164,7 @@ impl State {
     }
 
     // Computes the root hash, unless the output is already being read.
-    fn begin(&mut self)
+    fn begin_reading(&mut self)
         requires { IsReady self.old }
         ensures output { output_of self.new.reader ≡ output_now self.old }
         ensures reading { IsTrue (is_on self.new.reading) }
@@ -190,7 +190,7 @@ impl State {
         ensures output { out.new
             ≡ take (length out.old) (drop self.old.reader.position (output_now self.old)) }
     {
-        self.begin();
+        self.begin_reading();
         self.reader.read(out);
     }
 }

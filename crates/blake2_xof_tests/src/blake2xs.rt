@@ -13,7 +13,7 @@ c9
 ";
 
 // Absorbs the message, in two pieces.
-fn take(rt: &impl Abort, state: &mut State, message: &[u8]) {
+fn update_or_abort(rt: &impl Abort, state: &mut State, message: &[u8]) {
     let (first, rest) = message.split_at(message.len() / 2);
     for part in [first, rest] {
         assert!(rt; state.is_absorbing() && part.len() as u64 <= u64::MAX - state.counted());
@@ -53,7 +53,7 @@ fn outputs(rt: HostRuntime) {
         let made = State::init(xof_length, &message[..key_length], &[], &[]);
         let mut state = made.expect(&rt, row);
         for piece in [1usize, 31, 32, 256, 512] {
-            take(&rt, &mut state, &message[..length]);
+            update_or_abort(&rt, &mut state, &message[..length]);
             check(&rt, &mut state, piece, digits);
             reset(&rt, &mut state);
         }
@@ -65,7 +65,7 @@ fn outputs(rt: HostRuntime) {
 fn salt_and_persona(rt: HostRuntime) {
     let made = State::init(70, &[], &[1, 2, 3, 4, 5, 6, 7, 8], b"personal");
     let mut state = made.expect(&rt, "a state");
-    take(&rt, &mut state, b"abc");
+    update_or_abort(&rt, &mut state, b"abc");
     let (mut first, mut rest) = ([0; 32], [0; 38]);
     squeeze(&rt, &mut state, &mut first);
     assert!(&rt; state.reader.is_ready() && state.reader.left() == 38);

@@ -50,7 +50,7 @@ pub(crate) fn print_output<S: Source, K: Sink>(
         (key_count blake2b (given_of options.now).key) result (S.left source.old)
         (K.held sink.old) (K.held sink.new) }
 {
-    let state = start(size, options)?;
+    let state = init_output(size, options)?;
     let mut absorbing = Absorbing { state };
     absorb_stream(source, &mut absorbing)?;
     print_next(&mut absorbing.into_state(), size, raw, sink)
@@ -59,7 +59,7 @@ pub(crate) fn print_output<S: Source, K: Sink>(
 // Returns a state that has absorbed no message, with an output of `size` bytes under the options.
 // The number is at least 1 and is known in advance. The error is `Fault::WrongLength`, exactly if
 // BLAKE2Xb does not accept a length of the options.
-fn start(size: u64, options: &Options) -> Result<State, Fault>
+fn init_output(size: u64, options: &Options) -> Result<State, Fault>
     requires some { 1 ≤ size }
     requires known { size < unknown_length blake2b }
     ensures length { IsErr result ↔ IsRefusedBy blake2b (given_of options.now) }

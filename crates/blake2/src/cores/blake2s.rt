@@ -34,14 +34,14 @@ pub struct Blake2sVarCore {
 }
 
 impl Model for Blake2sVarCore {
-    ghost use Rattle.blake2_simd.specs.Rows.{eight};
+    ghost use Rattle.blake2_simd.specs.Rows.{chaining_words};
     ghost use Rattle.blake2.specs.Cores.{CoreState};
 
     ghost Value = { CoreState };
 
     ghost view = { λ core. record {
-      h = eight core.h;
-      start = eight core.start;
+      h = chaining_words core.h;
+      start = chaining_words core.start;
       count = core.counter;
       last_node = core.last_node;
     } };

@@ -6,7 +6,7 @@ ghost use Rattle.std.specs.Prelude.{replicate, slice_index, slice_index_or, IsTr
 ghost use Rattle.std.specs.List.{flat_map};
 ghost use Rattle.blake2_simd.specs.Family.{blake2b};
 ghost use Rattle.blake2_simd.specs.Lanes.{in_lane};
-ghost use Rattle.blake2_simd.specs.Rows.{eight};
+ghost use Rattle.blake2_simd.specs.Rows.{chaining_words};
 ghost use Rattle.blake2_compress.specs.Hash.{bytes_of, compress as F, final, padded as filled};
 ghost use Rattle.blake2_compress.specs.Lanes.{flags_at, texts};
 ghost use Rattle.blake2_compress.specs.MessagePieces.{piece};
@@ -93,7 +93,7 @@ fn compress_leaf(h: [u64x4; 2], bytes: &[u8], j: usize, counter: u64, count: usi
     requires lane { j < 4 }
     requires whole { 512 * count ≤ length bytes.now }
     requires counted { counter + 128 * count < 2 ^ 64 }
-    ensures { result ≡ leaf_chain blake2b (eight h) counter bytes.now j count }
+    ensures { result ≡ leaf_chain blake2b (chaining_words h) counter bytes.now j count }
 {
     let (blocks, _) = bytes.as_chunks::<128>();
     let mut words = h;
@@ -130,7 +130,7 @@ fn compress_stripes(rows: &mut [u64x4; 8], bytes: &[u8], counter: u64, count: us
     ensures { (j : ℕ) → j < 4 → in_lane j rows.new
         ≡ leaf_chain blake2b (in_lane j rows.old) counter bytes.now j count }
 {
-    if many::lanes() >= 4 {
+    if many::best_lane_count() >= 4 {
         compress_in_lanes(rows, bytes, counter, count);
     } else {
         compress_by_leaf(rows, bytes, counter, count);
@@ -141,7 +141,7 @@ fn compress_stripes(rows: &mut [u64x4; 8], bytes: &[u8], counter: u64, count: us
 
 // The chaining words of a leaf after one more block.
 fn compress_one(h: [u64x4; 2], block: &[u8; 128], counter: u64, flags: Flags) -> [u64; 8]
-    ensures { result ≡ F blake2b (eight h) block.now counter (given_flags flags) }
+    ensures { result ≡ F blake2b (chaining_words h) block.now counter (given_flags flags) }
 {
     let mut words = h;
     compress(&mut words, block, counter, flags);
@@ -181,7 +181,7 @@ fn compress_each(
         ≡ F blake2b (in_lane j rows.old) (slice_index_or (texts blocks.now) j [])
         (slice_index counters.now j) (flags_at flags.now j) }
 {
-    if many::lanes() >= 4 {
+    if many::best_lane_count() >= 4 {
         many::compress_each(rows, blocks, counters, flags);
     } else {
         compress_one_by_one(rows, blocks, counters, flags);
@@ -366,7 +366,7 @@ impl Lanes {
     }
 
     // Absorbs an input that there is room for.
-    fn keep(&mut self, input: &[u8])
+    fn append_pending(&mut self, input: &[u8])
         requires sound { IsSound self.old }
         requires room { self.old.length + length input.now ≤ 896 }
         requires counted { total blake2b (leaves_of self.old) + length input.now < 2 ^ 64 }
@@ -436,7 +436,7 @@ impl Lanes {
         ensures fewer { self.new.length + length result.now < self.old.length + length input.now }
     {
         let (head, rest) = input.split_at(512 - self.length);
-        self.keep(head);
+        self.append_pending(head);
         self.compress_held(rest);
         rest
     }
@@ -473,7 +473,7 @@ impl Lanes {
         while rest.len() > 896 - self.length {
             rest = self.take_stripes(rest);
         }
-        self.keep(rest);
+        self.append_pending(rest);
     }
 
     // The outputs of the leaves, if nothing more comes.

@@ -7,7 +7,7 @@ ghost use Rattle.std.specs.Prelude.{replicate, slice_index, slice_index_or, IsTr
 ghost use Rattle.std.specs.List.{flat_map};
 ghost use Rattle.blake2_simd.specs.Family.{blake2s};
 ghost use Rattle.blake2_simd.specs.Lanes.{in_lane};
-ghost use Rattle.blake2_simd.specs.Rows.{eight};
+ghost use Rattle.blake2_simd.specs.Rows.{chaining_words};
 ghost use Rattle.blake2_compress.specs.Hash.{bytes_of, compress as F, final, padded as filled};
 ghost use Rattle.blake2_compress.specs.Lanes.{flags_at, texts};
 ghost use Rattle.blake2_compress.specs.MessagePieces.{piece};
@@ -103,7 +103,7 @@ fn compress_leaf(h: [u32x4; 2], bytes: &[u8], j: usize, counter: u64, count: usi
     requires lane { j < 8 }
     requires whole { 512 * count ≤ length bytes.now }
     requires counted { counter + 64 * count < 2 ^ 64 }
-    ensures { result ≡ leaf_chain blake2s (eight h) counter bytes.now j count }
+    ensures { result ≡ leaf_chain blake2s (chaining_words h) counter bytes.now j count }
 {
     let (blocks, _) = bytes.as_chunks::<64>();
     let mut words = h;
@@ -144,7 +144,7 @@ fn compress_stripes(rows: &mut [u32x8; 8], bytes: &[u8], counter: u64, count: us
     ensures { (j : ℕ) → j < 8 → in_lane j rows.new
         ≡ leaf_chain blake2s (in_lane j rows.old) counter bytes.now j count }
 {
-    if many::lanes() >= 8 {
+    if many::best_lane_count() >= 8 {
         compress_in_lanes(rows, bytes, counter, count);
     } else {
         compress_by_leaf(rows, bytes, counter, count);
@@ -155,7 +155,7 @@ fn compress_stripes(rows: &mut [u32x8; 8], bytes: &[u8], counter: u64, count: us
 
 // The chaining words of a leaf after one more block.
 fn compress_one(h: [u32x4; 2], block: &[u8; 64], counter: u64, flags: Flags) -> [u32; 8]
-    ensures { result ≡ F blake2s (eight h) block.now counter (given_flags flags) }
+    ensures { result ≡ F blake2s (chaining_words h) block.now counter (given_flags flags) }
 {
     let mut words = h;
     compress(&mut words, block, counter, flags);
@@ -199,7 +199,7 @@ fn compress_each(
         ≡ F blake2s (in_lane j rows.old) (slice_index_or (texts blocks.now) j [])
         (slice_index counters.now j) (flags_at flags.now j) }
 {
-    if many::lanes() >= 8 {
+    if many::best_lane_count() >= 8 {
         many::compress_each(rows, blocks, counters, flags);
     } else {
         compress_one_by_one(rows, blocks, counters, flags);
@@ -403,7 +403,7 @@ impl Lanes {
     }
 
     // Absorbs an input that there is room for.
-    fn keep(&mut self, input: &[u8])
+    fn append_pending(&mut self, input: &[u8])
         requires sound { IsSound self.old }
         requires room { self.old.length + length input.now ≤ 960 }
         requires counted { total blake2s (leaves_of self.old) + length input.now < 2 ^ 64 }
@@ -473,7 +473,7 @@ impl Lanes {
         ensures fewer { self.new.length + length result.now < self.old.length + length input.now }
     {
         let (head, rest) = input.split_at(512 - self.length);
-        self.keep(head);
+        self.append_pending(head);
         self.compress_held(rest);
         rest
     }
@@ -510,7 +510,7 @@ impl Lanes {
         while rest.len() > 960 - self.length {
             rest = self.take_stripes(rest);
         }
-        self.keep(rest);
+        self.append_pending(rest);
     }
 
     // The outputs of the leaves, if nothing more comes.

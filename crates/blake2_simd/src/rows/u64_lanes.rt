@@ -7,7 +7,8 @@ ghost use Rattle.blake2_simd.specs.Family.{blake2b, word};
 ghost use Rattle.blake2_simd.specs.Round.{AreWords, mix, round};
 ghost use Rattle.blake2_simd.specs.Lanes.{columns_of_four, in_lane};
 ghost use Rattle.blake2_simd.specs.Rows.{four, lane, lane_sums, lane_xors, lane_rotations};
-ghost use Rattle.blake2_simd.specs.Rows.{shuffle_left, shuffle_right, word_at, lane_bytes, sixteen};
+ghost use Rattle.blake2_simd.specs.Rows.{shuffle_left, shuffle_right, word_at, lane_bytes};
+ghost use Rattle.blake2_simd.specs.Rows.{work_words};
 ghost use Rattle.blake2_simd.specs.Rows.{columns, rows_rotated, last_row_rotated, shuffled_rows};
 
 use blake2_digest::Wipe;
@@ -287,7 +288,7 @@ impl u64x4 {
     // `x` and of `y`, except for the last rotation of row 3 (RFC 7693, section 3.2).
     #[inline(always)]
     fn mix_rows(v: [Self; 4], x: Self, y: Self) -> (Self, Self, Self, Self)
-        ensures { last_row_rotated blake2b result ≡ columns blake2b (sixteen v) x y }
+        ensures { last_row_rotated blake2b result ≡ columns blake2b (work_words v) x y }
     {
         let [a, b, c, d] = v;
         Self::mix(a, b, c, d, x, y)
@@ -297,7 +298,7 @@ impl u64x4 {
     // stays in place.
     #[inline(always)]
     fn diagonals_to_columns(rows: (Self, Self, Self, Self)) -> [Self; 4]
-        ensures { sixteen result ≡ shuffled_rows 3 0 1 2 (last_row_rotated blake2b rows) }
+        ensures { work_words result ≡ shuffled_rows 3 0 1 2 (last_row_rotated blake2b rows) }
     {
         let (a, b, c, d) = rows;
         [
@@ -311,7 +312,7 @@ impl u64x4 {
     // The last row is rotated, and the columns become diagonals again.
     #[inline(always)]
     fn columns_to_diagonals(rows: (Self, Self, Self, Self)) -> [Self; 4]
-        ensures { sixteen result ≡ shuffled_rows 1 0 3 2 (last_row_rotated blake2b rows) }
+        ensures { work_words result ≡ shuffled_rows 1 0 3 2 (last_row_rotated blake2b rows) }
     {
         let (a, b, c, d) = rows;
         [
@@ -328,7 +329,7 @@ impl u64x4 {
     #[inline(always)]
     pub fn round(v: &mut [Self; 4], m: &[u64; 16], s: &[usize; 16])
         requires { (j : ℕ) → j < 16 → slice_index s.now j < 16 }
-        ensures { sixteen v.new ≡ round blake2b (sixteen v.old) m.now s.now }
+        ensures { work_words v.new ≡ round blake2b (work_words v.old) m.now s.now }
     {
         let columns = Self::mix_rows(
             *v,
@@ -346,7 +347,7 @@ impl u64x4 {
     /// Returns the sixteen words of the rows `v`, those of row 0 first.
     #[inline(always)]
     pub fn words(v: &[Self; 4]) -> [u64; 16]
-        ensures { result ≡ sixteen v.now }
+        ensures { result ≡ work_words v.now }
     {
         let [a, b, c, d] = *v;
         let [w0, w1, w2, w3] = a.to_array();
@@ -360,8 +361,8 @@ impl u64x4 {
 
     // The four rows of sixteen words, row 0 having the first.
     fn to_rows(words: &[u64; 16]) -> [Self; 4]
-        ensures rows { sixteen result ≡ words.now }
-        ensures are_words { AreWords blake2b (sixteen result) }
+        ensures rows { work_words result ≡ words.now }
+        ensures are_words { AreWords blake2b (work_words result) }
     {
         [
             Self::gather(words, 0, 1, 2, 3),
@@ -375,9 +376,9 @@ impl u64x4 {
     /// turns into those that were given. Each number of `s` must be below 16.
     pub fn unround(v: &mut [Self; 4], m: &[u64; 16], s: &[usize; 16])
         requires { (j : ℕ) → j < 16 → slice_index s.now j < 16 }
-        ensures undoes { round blake2b (sixteen v.new) m.now s.now ≡ sixteen v.old }
+        ensures undoes { round blake2b (work_words v.new) m.now s.now ≡ work_words v.old }
         ensures only { (u : List ℕ) → AreWords blake2b u → length u ≡ 16
-            → round blake2b u m.now s.now ≡ sixteen v.old → u ≡ sixteen v.new }
+            → round blake2b u m.now s.now ≡ work_words v.old → u ≡ work_words v.new }
     {
         let mut w = Self::words(v);
         unmix(&mut w, 3, 4, 9, 14, m[s[14]], m[s[15]]);

@@ -6,13 +6,13 @@ use blake2_test_support::inputs::{count_up, reads};
 use std::process::Abort;
 
 // Absorbs the input.
-fn take(rt: &impl Abort, state: &mut State, input: &[u8]) {
+fn update_or_abort(rt: &impl Abort, state: &mut State, input: &[u8]) {
     assert!(rt; state.is_ready() && input.len() as u64 <= u64::MAX - state.counted());
     state.update(input);
 }
 
 // Goes back to the start.
-fn start_again(rt: &impl Abort, state: &mut State) {
+fn reset_or_abort(rt: &impl Abort, state: &mut State) {
     assert!(rt; state.is_ready());
     state.reset();
 }
@@ -35,10 +35,10 @@ fn in_pieces_and_after_a_reset(rt: HostRuntime) {
     let mut state = State::init_salt_personal(&keyed()).expect(&rt, "a keyed state");
     let mut text = [0; 300];
     count_up(&mut text);
-    take(&rt, &mut state, &text[..3]);
-    start_again(&rt, &mut state);
-    take(&rt, &mut state, &text[..7]);
-    take(&rt, &mut state, &text[7..]);
+    update_or_abort(&rt, &mut state, &text[..3]);
+    reset_or_abort(&rt, &mut state);
+    update_or_abort(&rt, &mut state, &text[..7]);
+    update_or_abort(&rt, &mut state, &text[7..]);
     check_digest(&rt, &state, "7ad5dc2e868f563e16bada5547b7f4e84fe3db49");
 }
 
@@ -49,7 +49,7 @@ fn from_a_node_of_a_tree(rt: HostRuntime) {
     let mut block = [0; 64];
     block[..18].copy_from_slice(&[64, 0, 2, 3, 0, 16, 0, 0, 5, 0, 0, 0, 0, 0, 0, 0, 1, 64]);
     let mut state = State::init_param(&block).expect(&rt, "a node");
-    take(&rt, &mut state, b"abc");
+    update_or_abort(&rt, &mut state, b"abc");
     let wanted = "89ac394621e9b04625bc4da49cd8976f9feec66402217e136b26c7e9f40f08be\
         4ba126114472d1aea920e9c6a2f2d3ad577c1e7aedd5d5ac266b3b177dcbb444";
     check_digest(&rt, &state, wanted);
@@ -60,14 +60,14 @@ fn a_keyed_node_of_a_tree(rt: HostRuntime) {
     let tree = node(64);
     assert!(rt; State::admits_tree(&tree));
     let mut state = State::init_tree(&keyed(), &tree).expect(&rt, "a node");
-    take(&rt, &mut state, b"abc");
+    update_or_abort(&rt, &mut state, b"abc");
     check_digest(&rt, &state, "175b5f9bce20ac14476a90f58f14b6495b14ae81");
     // The last node of its level, also after a reset, which keeps the flag.
     let wanted = "12442b5f86379fe8f3a95801253b0b71e42bcacd";
     assert!(rt; state.is_ready());
     state.set_last_node(true);
     check_digest(&rt, &state, wanted);
-    start_again(&rt, &mut state);
-    take(&rt, &mut state, b"abc");
+    reset_or_abort(&rt, &mut state);
+    update_or_abort(&rt, &mut state, b"abc");
     check_digest(&rt, &state, wanted);
 }

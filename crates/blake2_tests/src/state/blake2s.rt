@@ -6,13 +6,13 @@ use blake2_test_support::inputs::{count_up, reads};
 use std::process::Abort;
 
 // Absorbs the input.
-fn take(rt: &impl Abort, state: &mut State, input: &[u8]) {
+fn update_or_abort(rt: &impl Abort, state: &mut State, input: &[u8]) {
     assert!(rt; state.is_ready() && input.len() as u64 <= u64::MAX - state.counted());
     state.update(input);
 }
 
 // Goes back to the start.
-fn start_again(rt: &impl Abort, state: &mut State) {
+fn reset_or_abort(rt: &impl Abort, state: &mut State) {
     assert!(rt; state.is_ready());
     state.reset();
 }
@@ -35,10 +35,10 @@ fn in_pieces_and_after_a_reset(rt: HostRuntime) {
     let mut state = State::init_salt_personal(&keyed()).expect(&rt, "a keyed state");
     let mut text = [0; 300];
     count_up(&mut text);
-    take(&rt, &mut state, &text[..3]);
-    start_again(&rt, &mut state);
-    take(&rt, &mut state, &text[..7]);
-    take(&rt, &mut state, &text[7..]);
+    update_or_abort(&rt, &mut state, &text[..3]);
+    reset_or_abort(&rt, &mut state);
+    update_or_abort(&rt, &mut state, &text[..7]);
+    update_or_abort(&rt, &mut state, &text[7..]);
     check_digest(&rt, &state, "3c4eb23323bc8b4dd1d2f1421170a6584a46556a");
 }
 
@@ -49,7 +49,7 @@ fn from_a_node_of_a_tree(rt: HostRuntime) {
     let mut block = [0; 32];
     block[..16].copy_from_slice(&[32, 0, 2, 3, 0, 16, 0, 0, 5, 0, 0, 0, 0, 0, 1, 32]);
     let mut state = State::init_param(&block).expect(&rt, "a node");
-    take(&rt, &mut state, b"abc");
+    update_or_abort(&rt, &mut state, b"abc");
     let wanted = "4e3f59091cd7e7a9fed4ff8c600e8b6f834d33efb2ebaabe2a1cc11ee44378ee";
     check_digest(&rt, &state, wanted);
 }
@@ -59,14 +59,14 @@ fn a_keyed_node_of_a_tree(rt: HostRuntime) {
     let tree = node(32);
     assert!(rt; State::admits_tree(&tree));
     let mut state = State::init_tree(&keyed(), &tree).expect(&rt, "a node");
-    take(&rt, &mut state, b"abc");
+    update_or_abort(&rt, &mut state, b"abc");
     check_digest(&rt, &state, "55e4285ff1ff765463e13a3e9a7a826dc915fd78");
     // The last node of its level, also after a reset, which keeps the flag.
     let wanted = "244118f9b5727c41d2c3bda67bcb465d9df59cc4";
     assert!(rt; state.is_ready());
     state.set_last_node(true);
     check_digest(&rt, &state, wanted);
-    start_again(&rt, &mut state);
-    take(&rt, &mut state, b"abc");
+    reset_or_abort(&rt, &mut state);
+    update_or_abort(&rt, &mut state, b"abc");
     check_digest(&rt, &state, wanted);
 }

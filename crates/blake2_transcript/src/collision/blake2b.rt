@@ -2,7 +2,7 @@
 
 ghost use Rattle.std.specs.Prelude.{◌≡◌, ◌≤◌, ◌↔◌, IsTrue, IsOk, IsSome, IfOk, IfSome, MatchOption};
 ghost use Rattle.blake2_simd.specs.Family.{blake2b, output_bytes};
-ghost use Rattle.blake2_simd.specs.Rows.{eight};
+ghost use Rattle.blake2_simd.specs.Rows.{chaining_words};
 ghost use Rattle.blake2_compress.specs.Hash;
 ghost use Rattle.blake2_compress.specs.Hash.{bytes_of, digest, input_start, output};
 ghost use Rattle.blake2_compress.specs.Inputs.{Accepts};
@@ -12,7 +12,7 @@ ghost use Rattle.blake2_compress.specs.Views.{input_of};
 ghost use Rattle.blake2_transcript.specs.StepViews.{entry_of, step_of};
 ghost use Rattle.blake2_compress.specs.Run;
 
-use super::same_inputs::same;
+use super::same_inputs::are_same_inputs;
 use crate::steps::entries::entry_at;
 use crate::steps::{Entry, Step};
 use blake2_compress::compress::{Flags, blake2b as words};
@@ -23,17 +23,17 @@ use blake2_simd::rows::u64x4;
 use std::alloc::{AllocError, Global};
 
 // The chaining words before the first block of an input's run.
-fn start(input: &Input<'_>, output_size: usize) -> [u64x4; 2]
+fn input_start_rows(input: &Input<'_>, output_size: usize) -> [u64x4; 2]
     requires accepted { Accepts blake2b (input_of input.now) }
     requires size { output_size ≤ output_bytes blake2b }
-    ensures { eight result ≡ input_start blake2b output_size (input_of input.now) }
+    ensures { chaining_words result ≡ input_start blake2b output_size (input_of input.now) }
 {
     params::start_rows(&input_parameters(input, output_size))
 }
 
 // The step of an entry, at the chaining words before it.
 fn step_at(chain: &[u64x4; 2], entry: &Entry<128>) -> Step<u64, 128>
-    ensures { step_of result ≡ Transcript.step_at (eight chain.now) (entry_of entry.now) }
+    ensures { step_of result ≡ Transcript.step_at (chaining_words chain.now) (entry_of entry.now) }
 {
     Step {
         chain: words::to_words(chain),
@@ -46,8 +46,8 @@ fn step_at(chain: &[u64x4; 2], entry: &Entry<128>) -> Step<u64, 128>
 
 // What F returns for that step.
 fn output_of(chain: &[u64x4; 2], entry: &Entry<128>) -> [u64x4; 2]
-    ensures { eight result
-        ≡ output blake2b (Transcript.step_at (eight chain.now) (entry_of entry.now)) }
+    ensures { chaining_words result
+        ≡ output blake2b (Transcript.step_at (chaining_words chain.now) (entry_of entry.now)) }
 {
     let mut after = *chain;
     let flags = Flags {
@@ -62,11 +62,11 @@ fn output_of(chain: &[u64x4; 2], entry: &Entry<128>) -> [u64x4; 2]
 fn last_step(input: &Input<'_>, output_size: usize) -> ([u64x4; 2], Entry<128>)
     requires accepted { Accepts blake2b (input_of input.now) }
     requires size { output_size ≤ output_bytes blake2b }
-    ensures { Transcript.step_at (eight result.0) (entry_of result.1)
+    ensures { Transcript.step_at (chaining_words result.0) (entry_of result.1)
         ≡ Run.last_step blake2b output_size (input_of input.now) }
 {
     let last = step_count::<128>(input) - 1;
-    let mut chain = start(input, output_size);
+    let mut chain = input_start_rows(input, output_size);
     for i in 0..last {
         chain = output_of(&chain, &entry_at(input, i));
     }
@@ -77,7 +77,7 @@ fn last_step(input: &Input<'_>, output_size: usize) -> ([u64x4; 2], Entry<128>)
 // digest.
 fn bytes_after(chain: &[u64x4; 2], entry: &Entry<128>) -> [u8; 64]
     ensures { result ≡ bytes_of blake2b
-        (output blake2b (Transcript.step_at (eight chain.now) (entry_of entry.now))) }
+        (output blake2b (Transcript.step_at (chaining_words chain.now) (entry_of entry.now))) }
 {
     words::to_bytes(&output_of(chain, entry))
 }
@@ -92,9 +92,9 @@ fn same_digest(
 ) -> bool
     requires size { output_size ≤ output_bytes blake2b }
     ensures { (a b : Hash.Input)
-        → Transcript.step_at (eight chain_a.now) (entry_of x.now)
+        → Transcript.step_at (chaining_words chain_a.now) (entry_of x.now)
         ≡ Run.last_step blake2b output_size a
-        → Transcript.step_at (eight chain_b.now) (entry_of y.now)
+        → Transcript.step_at (chaining_words chain_b.now) (entry_of y.now)
         ≡ Run.last_step blake2b output_size b
         → IsTrue result ↔ (digest blake2b output_size a ≡ digest blake2b output_size b) }
 {
@@ -106,8 +106,8 @@ fn same_digest(
 // Whether the steps of two entries, each at the chaining words before it, are equal.
 fn same_step(chain_a: &[u64x4; 2], x: &Entry<128>, chain_b: &[u64x4; 2], y: &Entry<128>) -> bool
     ensures { IsTrue result
-        ↔ (Transcript.step_at (eight chain_a.now) (entry_of x.now)
-        ≡ Transcript.step_at (eight chain_b.now) (entry_of y.now)) }
+        ↔ (Transcript.step_at (chaining_words chain_a.now) (entry_of x.now)
+        ≡ Transcript.step_at (chaining_words chain_b.now) (entry_of y.now)) }
 {
     words::to_words(chain_a) == words::to_words(chain_b) && x == y
 }
@@ -128,8 +128,8 @@ fn last_pair(
         (λ p. IsWitness blake2b (input_of a.now) (input_of b.now) output_size
         (step_of p.0) (step_of p.1)) }
 {
-    let mut chain_a = start(a, output_size);
-    let mut chain_b = start(b, output_size);
+    let mut chain_a = input_start_rows(a, output_size);
+    let mut chain_b = input_start_rows(b, output_size);
     let mut kept = None;
     for i in 0..step_count::<128>(a) {
         let x = entry_at(a, i);
@@ -172,7 +172,7 @@ pub fn witness(
         IsWitness blake2b (input_of a.now) (input_of b.now) output_size
         (step_of p.0) (step_of p.1))) }
 {
-    if same::<16>(a, b) {
+    if are_same_inputs::<16>(a, b) {
         return Ok(None);
     }
     let (last_a, x) = last_step(a, output_size);

@@ -10,7 +10,7 @@ use blake2_simd::padded;
 
 // Whether salts and personas, with zeros up to S bytes, keys, trees, last-node flags and messages
 // are equal.
-pub(crate) fn same<const S: usize>(a: &Input<'_>, b: &Input<'_>) -> bool
+pub(crate) fn are_same_inputs<const S: usize>(a: &Input<'_>, b: &Input<'_>) -> bool
     ghost f: { Family }
     requires salt { salt_bytes f ≡ S }
     requires a { Accepts f (input_of a.now) }

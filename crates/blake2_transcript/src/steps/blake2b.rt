@@ -72,5 +72,5 @@ pub fn read_transcript(
     if !is_readable(&told, words, entries) {
         return Ok(None);
     }
-    Ok(Some(reader::reading(alloc, &told, entries)?))
+    Ok(Some(reader::input_of_entries(alloc, &told, entries)?))
 }

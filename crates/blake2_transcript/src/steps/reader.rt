@@ -9,8 +9,9 @@ ghost use Rattle.blake2_compress.specs.Views.{given_parameters};
 ghost use Rattle.blake2_transcript.specs.StepViews.{entry_of, items_of, reading_of};
 ghost use Rattle.blake2_transcript.specs.Reader.{AreInner, AreWholeBlocks, EndsRun, HasKey};
 ghost use Rattle.blake2_transcript.specs.Reader.{IsInner};
-ghost use Rattle.blake2_transcript.specs.Reader.{IsRun, IsWhole, IsZeroFrom, told_count, told_data};
-ghost use Rattle.blake2_transcript.specs.Reader.{told_input, told_key, told_message};
+ghost use Rattle.blake2_transcript.specs.Reader.{IsRun, IsWhole, IsZeroFrom, described_count};
+ghost use Rattle.blake2_transcript.specs.Reader.{described_data};
+ghost use Rattle.blake2_transcript.specs.Reader.{described_input, described_key, described_message};
 ghost use Rattle.blake2_transcript.specs.Transcript.{joined};
 
 use super::{Entry, Reading};
@@ -77,7 +78,7 @@ pub(crate) fn is_run<const B: usize>(entries: &[Entry<B>]) -> bool
     requires family { block_bytes f ≡ B }
     ensures run { IsTrue result ↔ IsRun f (map entry_of entries.now) }
     ensures whole { IsTrue result → AreWholeBlocks f (map entry_of entries.now) }
-    ensures counter { IsTrue result → told_count (map entry_of entries.now) < 2 ^ 64 }
+    ensures counter { IsTrue result → described_count (map entry_of entries.now) < 2 ^ 64 }
 {
     let Some((last, before)) = entries.split_last() else {
         return false;
@@ -132,9 +133,10 @@ fn key_and_message<const B: usize>(
     requires whole { AreWholeBlocks f (map entry_of entries.now) }
     requires key { 0 < key_size → HasKey f key_size (map entry_of entries.now) }
     ensures key { IfOk result
-        (λ p. items_of p.0 ≡ told_key key_size (told_data (map entry_of entries.now))) }
+        (λ p. items_of p.0 ≡ described_key key_size (described_data (map entry_of entries.now))) }
     ensures message { IfOk result
-        (λ p. p.1.items ≡ told_message f key_size (told_data (map entry_of entries.now))) }
+        (λ p. p.1.items
+        ≡ described_message f key_size (described_data (map entry_of entries.now))) }
 {
     let counted = entries[entries.len() - 1].counter as usize;
     if key_size == 0 {
@@ -146,7 +148,7 @@ fn key_and_message<const B: usize>(
 }
 
 // What the entries of a run are read as, under the parameters that its words name.
-pub(crate) fn reading<const B: usize, const S: usize>(
+pub(crate) fn input_of_entries<const B: usize, const S: usize>(
     alloc: Global,
     told: &Parameters<'_>,
     entries: &[Entry<B>],
@@ -161,7 +163,7 @@ pub(crate) fn reading<const B: usize, const S: usize>(
     requires key { 0 < told.now.key_size → HasKey f told.now.key_size (map entry_of entries.now) }
     ensures size { IfOk result (λ x. x.output_size ≡ told.now.output_size) }
     ensures input { IfOk result (λ x. reading_of x
-        ≡ told_input f (given_parameters told.now) (map entry_of entries.now)) }
+        ≡ described_input f (given_parameters told.now) (map entry_of entries.now)) }
 {
     let (key, message) = key_and_message(alloc, entries, told.key_size)?;
     Ok(Reading {

@@ -4,10 +4,11 @@ ghost use Rattle.std.specs.Prelude.{◌≡◌, ℕ, ◌+◌, ◌-◌, ◌*◌, �
 ghost use Rattle.std.specs.Prelude.{IsTrue, length, take, drop, slice_index_or};
 ghost use Rattle.blake2_simd.specs.Family.{blake2b};
 ghost use Rattle.blake2_simd.specs.Lanes.{in_lane};
-ghost use Rattle.blake2_simd.specs.Rows.{eight};
+ghost use Rattle.blake2_simd.specs.Rows.{chaining_words};
 ghost use Rattle.blake2_compress.specs.Hash;
 ghost use Rattle.blake2_compress.specs.Hash.{padded as filled, start};
-ghost use Rattle.blake2_xof.specs.Blake2xb.{HasRead, IsReadable, length_of, no_reader, output_of};
+ghost use Rattle.blake2_xof.specs.Blake2xb.{HasRead, IsReadable, length_of, wiped_reader};
+ghost use Rattle.blake2_xof.specs.Blake2xb.{output_of};
 ghost use Rattle.blake2_xof.specs.Blake2xb.{settings_of};
 ghost use Rattle.blake2_xof.specs.Xof.{block_parameters, block_size, output_block, output_length};
 ghost use Rattle.blake2_xof.specs.Xof.{unknown_length};
@@ -73,7 +74,7 @@ impl Reader {
 
     /// Returns the zeroed reader, from which nothing can be read.
     pub fn zeros() -> Self
-        ensures { result ≡ no_reader }
+        ensures { result ≡ wiped_reader }
     {
         Reader {
             root: [0; 64],
@@ -131,10 +132,10 @@ impl Reader {
     }
 
     // The words that block `i` starts from.
-    fn start(&self, i: u64) -> [u64x4; 2]
+    fn block_start_rows(&self, i: u64) -> [u64x4; 2]
         requires ready { IsReadable self.now }
         requires block { i < 2 ^ 32 }
-        ensures { eight result
+        ensures { chaining_words result
             ≡ start blake2b (block_parameters blake2b (settings_of self.now) i) }
     {
         start_of(&self.parameter_block(i))
@@ -147,7 +148,7 @@ impl Reader {
         ensures { take (block_size blake2b self.now.xof_length i) result
             ≡ output_block blake2b (settings_of self.now) self.now.root i }
     {
-        let mut h = self.start(i);
+        let mut h = self.block_start_rows(i);
         let block = padded::<128>(&self.root);
         compress(&mut h, &block, 64, Flags::last_block(false));
         to_bytes(&h)
@@ -162,10 +163,10 @@ impl Reader {
             ≡ start blake2b (block_parameters blake2b (settings_of self.now) (i + j)) }
     {
         many::interleave(&[
-            to_words(&self.start(i)),
-            to_words(&self.start(i + 1)),
-            to_words(&self.start(i + 2)),
-            to_words(&self.start(i + 3)),
+            to_words(&self.block_start_rows(i)),
+            to_words(&self.block_start_rows(i + 1)),
+            to_words(&self.block_start_rows(i + 2)),
+            to_words(&self.block_start_rows(i + 3)),
         ])
     }
 
@@ -219,7 +220,7 @@ impl Reader {
         ensures output { out.new ≡ take result (drop self.old.position (output_of self.old))
             ++ drop result out.old }
     {
-        if many::lanes() >= 4 && out.len() >= 256 && self.position % 64 == 0 {
+        if many::best_lane_count() >= 4 && out.len() >= 256 && self.position % 64 == 0 {
             self.read_four_blocks(out);
             return 256;
         }

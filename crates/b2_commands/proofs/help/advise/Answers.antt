@@ -16,6 +16,6 @@ pub returns : goal.returns
 returns g c unfailed =
     let told = c.write_whole-2.ensures in
     subst (λ text. Appends (g.N.Sink.held c.args.notes.now) (g.N.Sink.held c.write_whole-2.new.sink)
-    (text ++ hint)) c.said_of.ensures
+    (text ++ hint)) c.usage_for.ensures
     (Appends-trans _ _ _ _ _ c.in-Ok.ensures.whole
     (unless_failed c.write_whole-2.result _ told.fails unfailed told.whole))

@@ -1,7 +1,8 @@
-use Rattle.std.proofs.Common.{◌≡◌, ◌+◌, ◌/◌, List, ℕ, [], ◌++◌, length, length-append, Ok, arith, rules}
+use Rattle.std.proofs.Common.{◌≡◌, ◌+◌, ◌/◌, List, ℕ, [], ◌++◌, length, length-append, Ok, arith}
+use Rattle.std.proofs.Common.{rules}
 use Rattle.text_lines.specs.Cuts.{lines_of}
 use Rattle.b2_commands.specs.LeafDigests.{digest_at, read_digests}
-use Rattle.b2_commands.proofs.LeafLines.{read_first, read_on}
+use Rattle.b2_commands.proofs.LeafLines.{read_first, reads_next_line}
 use Rattle.b2_commands.proofs.leaf_lines.digests_of.Goals as goal
 
 pub lines-init : goal.lines-init
@@ -22,6 +23,6 @@ lines-preserved c =
     let pushed : c.extend_from_slice.new.self.items ≡ items ++ digest = search rules in
     let size : length digest ≡ 64 = search rules in
     let next : (count + length digest) / 64 + 1 ≡ count / 64 + 1 + 1 = omega arith in
-    let on = read_on (read_digests c.args.text.now) items digest (count / 64 + 1) line
+    let on = reads_next_line (read_digests c.args.text.now) items digest (count / 64 + 1) line
     (lines_of after) (lines_of c.lines.rest.now) c.lines.invariant c.split_line.ensures.first read in
     rw (pushed, length-append items digest, next) on

@@ -7,11 +7,11 @@ use Rattle.b2_commands.proofs.tree.print_root.Goals as goal
 
 pub returns-clause-root : goal.returns-clause-root
 returns-clause-root g c =
-    let taken = c.absorb.new.hasher in
+    let taken = c.absorb_source.new.hasher in
     printed_root (root_with g.row.N c.args.leaf_length (given_of c.args.options.now))
     c.new-hasher.result taken c.finalize.result c.print_digest.result _ _ _
     (λ y. c.new-hasher.ensures.root y
     ∙ (λ k. tree_root g.row.N (tree_parameters (c.salt-salt.ensures k)
     (c.persona-persona.ensures k) c.args.leaf_length) y))
-    c.new-hasher.ensures.nothing c.in_ok-absorb.ensures.whole taken.counted
+    c.new-hasher.ensures.nothing c.in_ok-absorb_source.ensures.whole taken.counted
     c.finalize.ensures c.print_digest.ensures.line

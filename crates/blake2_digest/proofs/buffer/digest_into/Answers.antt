@@ -21,7 +21,7 @@ returns-then-input-room-clause-pending g c =
     (omega (arith, c.requires.within, c.told-bytes)) in
     let short : length (p ++ c.args.input.now) ≤ g.row.B =
     omega (arith, length-append p c.args.input.now, lp) in
-    c.put_behind.ensures.placed ∙ sym (held_all g.row.B _ c.requires.nonzero short)
+    c.write_after.ensures.placed ∙ sym (held_all g.row.B _ c.requires.nonzero short)
 
 -- After the input the block is zero, as it was.
 pub returns-then-input-room-clause-rest : goal.returns-then-input-room-clause-rest
@@ -29,7 +29,7 @@ returns-then-input-room-clause-rest g c = λ zero.
     let pos : ℕ = c.args.pos in
     let n : ℕ = length c.args.input.now in
     let less : g.row.B - pos - n ≡ g.row.B - (pos + n) = omega arith in
-    c.put_behind.ensures.rest ∙ sym (drop-drop n pos c.args.bytes.now) ∙ ap (drop n) zero
+    c.write_after.ensures.rest ∙ sym (drop-drop n pos c.args.bytes.now) ∙ ap (drop n) zero
     ∙ drop-replicate n (g.row.B - pos) 0
     ∙ ap (λ (m : ℕ). replicate m 0) less
 
@@ -42,8 +42,8 @@ returns-clause-handed g c =
 
 pub returns-clause-pending : goal.returns-clause-pending
 returns-clause-pending g c =
-    ap (λ (n : ℕ). take n c.put_behind-2.new.bytes) (sym (zero-add _))
-    ∙ c.put_behind-2.ensures.placed ∙ take_rest c.pass_pending-rest.result.now _
+    ap (λ (n : ℕ). take n c.write_after-2.new.bytes) (sym (zero-add _))
+    ∙ c.write_after-2.ensures.placed ∙ take_rest c.pass_pending-rest.result.now _
     ∙ rw c.saturating_sub.ensures
     (held_from g.row.B c.pass_pending-rest.result.now c.requires.nonzero)
     ∙ c.pass_pending-rest.ensures.held

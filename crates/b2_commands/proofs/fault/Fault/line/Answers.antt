@@ -34,7 +34,7 @@ push-requires-in-Some c =
 
 pub push-requires-2 : goal.push-requires-2
 push-requires-2 c =
-    rw (c.as_bytes.ensures.value, c.cause.ensures) (
+    rw (c.as_bytes.ensures.value, c.message_text.ensures) (
     elim c.match-script_line.branch [
       | in-Some w ↦
           let number = w.in-Some.number in
@@ -53,7 +53,7 @@ push-requires-2 c =
 
 pub returns-clause-room : goal.returns-clause-room
 returns-clause-room c =
-    rw (c.push-2.ensures, c.as_bytes.ensures.value, c.cause.ensures) (
+    rw (c.push-2.ensures, c.as_bytes.ensures.value, c.message_text.ensures) (
     elim c.match-script_line.branch [
       | in-Some w ↦
           let number = w.in-Some.number in

@@ -1,7 +1,7 @@
 -- Made by tools/twins.py from proofs/lanes/blake2bp/compress_leaf/Answers.antt.
 use Rattle.std.proofs.Common.{◌≡◌, ℕ, ◌+◌, ◌*◌, List, ap, ◌∙◌, arith}
 use Rattle.blake2_simd.specs.Family.{blake2s}
-use Rattle.blake2_simd.specs.Rows.{eight}
+use Rattle.blake2_simd.specs.Rows.{chaining_words}
 use Rattle.blake2_compress.specs.MessagePieces.{piece}
 use Rattle.blake2_parallel.specs.LeafStates.{leaf_chain}
 use Rattle.blake2_parallel.proofs.LongerRuns.{chunk_read, leaf_chain-more, leaf_chain-none}
@@ -25,4 +25,4 @@ loop-i-preserved c =
 pub returns : goal.returns
 returns c =
     c.to_words.ensures ∙ c.loop-i.invariant
-    ∙ ap (leaf_chain blake2s (eight c.args.h) c.args.counter c.args.bytes.now c.args.j) (omega arith)
+    ∙ ap (leaf_chain blake2s (chaining_words c.args.h) c.args.counter c.args.bytes.now c.args.j) (omega arith)

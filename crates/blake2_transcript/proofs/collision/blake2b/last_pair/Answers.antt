@@ -7,7 +7,7 @@ use Rattle.blake2_transcript.proofs.collision.blake2b.last_pair.Goals.{else-not-
 
 pub loop-i-init : goal.loop-i-init
 loop-i-init c =
-    walk_starts 128 blake2b _ _ _ _ _ c.start-chain_a.ensures c.start-chain_b.ensures
+    walk_starts 128 blake2b _ _ _ _ _ c.input_start_rows-chain_a.ensures c.input_start_rows-chain_b.ensures
 
 pub loop-i-preserved : goal.loop-i-preserved
 loop-i-preserved c =

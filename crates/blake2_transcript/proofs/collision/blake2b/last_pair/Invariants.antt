@@ -1,5 +1,5 @@
 use Rattle.blake2_simd.specs.Family.{blake2b}
-use Rattle.blake2_simd.specs.Rows.{eight}
+use Rattle.blake2_simd.specs.Rows.{chaining_words}
 use Rattle.blake2_compress.specs.Views.{input_of}
 use Rattle.blake2_transcript.proofs.LastDifference.{Walk}
 use Rattle.blake2_transcript.proofs.collision.blake2b.last_pair.Given as goal
@@ -12,4 +12,4 @@ ghost-entry_at a = blake2b
 
 abbrev pub invariant-loop-i : goal.invariant-loop-i
 invariant-loop-i l = Walk 128 blake2b l.output_size (input_of l.a) (input_of l.b) l.i
-    (eight l.chain_a) (eight l.chain_b) l.kept
+    (chaining_words l.chain_a) (chaining_words l.chain_b) l.kept

@@ -5,7 +5,7 @@ use Rattle.blake2_transcript.proofs.LastDifference.{first_chain, next_chain, las
 use Rattle.blake2_transcript.proofs.collision.blake2b.last_step.Goals as goal
 
 pub loop-i-init : goal.loop-i-init
-loop-i-init c = first_chain blake2b _ (input_of c.args.input.now) _ c.start-chain.ensures
+loop-i-init c = first_chain blake2b _ (input_of c.args.input.now) _ c.input_start_rows-chain.ensures
 
 pub loop-i-preserved : goal.loop-i-preserved
 loop-i-preserved c =

@@ -1,6 +1,6 @@
 use Rattle.std.proofs.Common.{◌≡◌}
 use Rattle.blake2_simd.specs.Family.{blake2b}
-use Rattle.blake2_simd.specs.Rows.{eight}
+use Rattle.blake2_simd.specs.Rows.{chaining_words}
 use Rattle.blake2_compress.specs.Views.{input_of}
 use Rattle.blake2_compress.specs.Run.{run_step}
 use Rattle.blake2_transcript.proofs.collision.blake2b.last_step.Given as goal
@@ -13,4 +13,4 @@ ghost-entry_at a = blake2b
 
 abbrev pub invariant-loop-i : goal.invariant-loop-i
 invariant-loop-i l =
-    eight l.chain ≡ (run_step blake2b l.output_size (input_of l.input) l.i).chain
+    chaining_words l.chain ≡ (run_step blake2b l.output_size (input_of l.input) l.i).chain

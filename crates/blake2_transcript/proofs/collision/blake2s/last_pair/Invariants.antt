@@ -1,6 +1,6 @@
 -- Made by tools/twins.py from proofs/collision/blake2b/last_pair/Invariants.antt.
 use Rattle.blake2_simd.specs.Family.{blake2s}
-use Rattle.blake2_simd.specs.Rows.{eight}
+use Rattle.blake2_simd.specs.Rows.{chaining_words}
 use Rattle.blake2_compress.specs.Views.{input_of}
 use Rattle.blake2_transcript.proofs.LastDifference.{Walk}
 use Rattle.blake2_transcript.proofs.collision.blake2s.last_pair.Given as goal
@@ -13,4 +13,4 @@ ghost-entry_at a = blake2s
 
 abbrev pub invariant-loop-i : goal.invariant-loop-i
 invariant-loop-i l = Walk 64 blake2s l.output_size (input_of l.a) (input_of l.b) l.i
-    (eight l.chain_a) (eight l.chain_b) l.kept
+    (chaining_words l.chain_a) (chaining_words l.chain_b) l.kept

@@ -10,8 +10,8 @@ returns-then-not-is_readable-clause-some c =
     c.parameters_in-told.ensures (ap (map entry_of) c.as_slice-entries.ensures.value)
     c.if-not-is_readable.ensures.readable c.if-not-is_readable.ensures.typed
 
-pub returns-in_err-reading-clause-memory : goal.returns-in_err-reading-clause-memory
-returns-in_err-reading-clause-memory c =
+pub returns-in_err-input_of_entries-clause-memory : goal.returns-in_err-input_of_entries-clause-memory
+returns-in_err-input_of_entries-clause-memory c =
     let told =
     test_tells blake2b _ _ _ _ _ _ _ c.to_rows.ensures c.to_bytes-block.ensures
     c.parameters_in-told.ensures (ap (map entry_of) c.as_slice-entries.ensures.value)
@@ -29,4 +29,4 @@ returns-clause-reading c =
     reads_told blake2b _ _ _ _ _ _ _ _ c.to_rows.ensures c.to_bytes-block.ensures
     c.parameters_in-told.ensures (ap (map entry_of) c.as_slice-entries.ensures.value)
     (c.if-not-is_readable.ensures.readable.0 refl) (c.if-not-is_readable.ensures.typed refl)
-    c.in_ok-reading.ensures.size c.in_ok-reading.ensures.input
+    c.in_ok-input_of_entries.ensures.size c.in_ok-input_of_entries.ensures.input

@@ -2,5 +2,5 @@
 use Rattle.blake2_simd.specs.Family.{blake2s}
 use Rattle.blake2_transcript.proofs.steps.blake2s.read_transcript.Given as goal
 
-abbrev pub ghost-reading : goal.ghost-reading
-ghost-reading a = blake2s
+abbrev pub ghost-input_of_entries : goal.ghost-input_of_entries
+ghost-input_of_entries a = blake2s

@@ -2,7 +2,7 @@ use Rattle.std.proofs.Common.{◌≡◌, ◌<◌, ◌-◌, List, length, map, ge
 use Rattle.blake2_simd.specs.Family.{block_bytes}
 use Rattle.blake2_transcript.specs.declared.steps.Entry.{Entry}
 use Rattle.blake2_transcript.specs.StepViews.{entry_of}
-use Rattle.blake2_transcript.specs.Reader.{told_count}
+use Rattle.blake2_transcript.specs.Reader.{described_count}
 use Rattle.blake2_transcript.proofs.RunEntries.{given_count, given_blocks, has_key}
 use Rattle.blake2_transcript.proofs.steps.reader.has_key.Goals as goal
 
@@ -15,7 +15,7 @@ returns-then-last g c =
     let some : 0 < length es = assumption c.in-Some-Some.ensures in
     let at_first : first ≡ get_or es 0 first = assumption c.in-Some-Some.ensures in
     let at_last : last ≡ get_or es (length es - 1) last = assumption c.in-Some-Some.ensures' in
-    let counts : told_count (map entry_of es) ≡ last.counter = given_count es last some at_last in
+    let counts : described_count (map entry_of es) ≡ last.counter = given_count es last some at_last in
     let zeros = has_key g.f c.args.key_size (map entry_of es) first.block _
     (given_blocks es first some at_first) (c.is_zero_from.ensures.whole ∙ sym family)
     (omega arith) in (

@@ -5,7 +5,7 @@ use Rattle.blake2_simd.specs.Family.{block_bytes}
 use Rattle.blake2_transcript.specs.declared.steps.Entry.{Entry}
 use Rattle.blake2_transcript.specs.Transcript.{joined}
 use Rattle.blake2_transcript.specs.StepViews.{entry_of}
-use Rattle.blake2_transcript.specs.Reader.{told_count, HasKey, IsRun}
+use Rattle.blake2_transcript.specs.Reader.{described_count, HasKey, IsRun}
 use Rattle.blake2_transcript.proofs.RunEntries.{given_some, given_first, given_count, given_blocks}
 use Rattle.blake2_transcript.proofs.RunEntries.{key_told, message_told}
 use Rattle.blake2_transcript.proofs.steps.reader.key_and_message.Goals as goal
@@ -23,19 +23,19 @@ returns g c =
     let blocks = given_blocks es _ some c.index-entries-0.is in
     let family : block_bytes g.f ≡ g.row.B = assumption c in
     let last : Entry g.row.B = c.index-entries-entries.result in
-    let counts : (get_or es (length es - 1) last).counter ≡ told_count (map entry_of es) =
+    let counts : (get_or es (length es - 1) last).counter ≡ described_count (map entry_of es) =
     ap (λ (e : Entry g.row.B). e.counter) (sym c.index-entries-entries.is)
     ∙ sym (given_count es last some c.index-entries-entries.is) in
     let left : (get_or es (length es - 1) last).counter - g.row.B
-    ≡ told_count (map entry_of es) - block_bytes g.f = λ i. counts i - sym family i in record {
+    ≡ described_count (map entry_of es) - block_bytes g.f = λ i. counts i - sym family i in record {
       key =
           ap (λ (l : List ℕ). Some l) (c.in_ok-key.ensures.items_if_clones_equal (λ x y e. e)
           ∙ ap (λ (e : Entry g.row.B). take n e.block) (sym c.index-entries-0.is))
-          ∙ sym (key_told n (told_count (map entry_of es)) _ _ _ blocks given (omega arith)
+          ∙ sym (key_told n (described_count (map entry_of es)) _ _ _ blocks given (omega arith)
           (omega (arith, (key given).counted)));
       message =
           c.in_ok-message.ensures
           ∙ (λ i. take (left i) (joined (map entry_of (take_rest es 1 i))))
-          ∙ sym (message_told g.f n (told_count (map entry_of es)) _ _ _ blocks given size
+          ∙ sym (message_told g.f n (described_count (map entry_of es)) _ _ _ blocks given size
           (key given).counted);
     }

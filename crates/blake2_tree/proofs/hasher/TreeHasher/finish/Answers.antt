@@ -9,7 +9,7 @@ returns-then-rest-four_leaves g c =
     ∙ c.close_fours-rest.ensures.future []
     ∙ ap (future c.args.self) (append-nil c.args.input.now)
 
-pub returns-else-lanes-ge4 : goal.returns-else-lanes-ge4
-returns-else-lanes-ge4 g c =
+pub returns-else-best_lane_count-ge4 : goal.returns-else-best_lane_count-ge4
+returns-else-best_lane_count-ge4 g c =
     c.finalize.ensures ∙ c.update.ensures.future [] ∙ c.close_fours-rest.ensures.future []
     ∙ ap (future c.args.self) (append-nil c.args.input.now)

@@ -7,7 +7,7 @@ use Rattle.blake2_state.specs.ConstructorArguments.{digest_given, given_count}
 use Rattle.blake2_state.specs.Blake2s as Root
 use Rattle.blake2_state.specs.declared.StateParameters.{StateParameters}
 use Rattle.blake2_xof.specs.Blake2xs.{settings_of}
-use Rattle.blake2_xof.specs.Xof.{Settings, settings, stream}
+use Rattle.blake2_xof.specs.Xof.{Settings, settings, xof_output}
 use Rattle.blake2_xof.proofs.StateLaws.{Fresh_by, stream-padded}
 use Rattle.blake2_xof.proofs.blake2xs.State.init.Goals as goal
 
@@ -28,6 +28,6 @@ returns-clause-fresh c =
     Fresh_by blake2s Root.meaning (λ s. s.root) (λ s. settings_of s.reader) _ a given
     (tree_of c.root_place.result) (given_count blake2s c.args.key.now) c.in_ok-root.ensures.fresh
     (λ y. ap (λ (t : Tree). digest_given blake2s given t false y) c.root_place.ensures)
-    (λ x. (λ i. stream blake2s (settings (made.xof_length i) [] (take 8 texts) (drop 8 texts)) x)
+    (λ x. (λ i. xof_output blake2s (settings (made.xof_length i) [] (take 8 texts) (drop 8 texts)) x)
     ∙ stream-padded blake2s c.args.xof_length c.args.key.now c.args.salt.now c.args.persona.now
     (take 8 texts) (drop 8 texts) x salt persona made.salt made.persona)

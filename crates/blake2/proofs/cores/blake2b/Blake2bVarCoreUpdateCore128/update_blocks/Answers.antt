@@ -1,6 +1,6 @@
 use Rattle.std.proofs.Common.{sym, ap, ◌∙◌, arith}
 use Rattle.blake2_simd.specs.Family.{blake2b}
-use Rattle.blake2_simd.specs.Rows.{eight}
+use Rattle.blake2_simd.specs.Rows.{chaining_words}
 use Rattle.blake2.specs.CoreLaws.{absorbed-nil}
 use Rattle.blake2.specs.Cores.{CoreState}
 use Rattle.blake2.proofs.CoreSteps.{absorbed-one, absorbed-next}
@@ -16,6 +16,6 @@ pub each-preserved : goal.each-preserved
 each-preserved c = record {
   taken = absorbed-next blake2b c.args.self.now _ _ c.args.blocks.now c.each.block-index
       c.each-test.true c.each.invariant.taken
-      (absorbed-one blake2b _ _ (eight c.compress.new.h) c.compress.ensures);
+      (absorbed-one blake2b _ _ (chaining_words c.compress.new.h) c.compress.ensures);
   counted = omega (arith, c.each.invariant.counted);
 }

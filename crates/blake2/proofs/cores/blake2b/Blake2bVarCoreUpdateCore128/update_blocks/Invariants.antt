@@ -1,14 +1,14 @@
 use Rattle.std.proofs.Common.{◌≡◌, ◌+◌, ◌*◌, take}
 use Rattle.blake2_simd.specs.Family.{blake2b}
-use Rattle.blake2_simd.specs.Rows.{eight}
+use Rattle.blake2_simd.specs.Rows.{chaining_words}
 use Rattle.blake2.specs.Cores.{CoreState, absorbed}
 use Rattle.blake2.proofs.cores.blake2b.Blake2bVarCoreUpdateCore128.update_blocks.Given as goal
 
 abbrev pub invariant-each : goal.invariant-each
 invariant-each l =
     let held : CoreState = record {
-      h = eight l.self-inside.h;
-      start = eight l.self-inside.start;
+      h = chaining_words l.self-inside.h;
+      start = chaining_words l.self-inside.start;
       count = l.self-inside.counter;
       last_node = l.self-inside.last_node;
     } in record {

@@ -1,7 +1,7 @@
 -- Made by tools/twins.py from proofs/cores/blake2b/Blake2bVarCoreVariableOutputCore12864/finalize_variable_core/Answers.antt.
 use Rattle.std.proofs.Common.{ap, ◌∙◌}
 use Rattle.blake2_simd.specs.Family.{blake2s}
-use Rattle.blake2_simd.specs.Rows.{eight}
+use Rattle.blake2_simd.specs.Rows.{chaining_words}
 use Rattle.blake2_compress.specs.Hash.{bytes_of}
 use Rattle.blake2.specs.Cores.{CoreState, completed}
 use Rattle.blake2.proofs.CoreSteps.{completed-by}
@@ -10,7 +10,7 @@ use Rattle.blake2.proofs.cores.blake2s.Blake2sVarCoreVariableOutputCore6432.fina
 pub returns-clause-core : goal.returns-clause-core
 returns-clause-core c =
     completed-by blake2s _ c.args.buffer.now c.get_pos.result c.pad_with_zeros-block.result
-    (eight c.compress.new.h) _
+    (chaining_words c.compress.new.h) _
     c.get_pos.ensures.pending c.pad_with_zeros-block.ensures.padded c.last_block-flags.ensures c.compress.ensures
     ∙ ap (λ (core : CoreState). completed blake2s core c.args.buffer.now) c.self.view_is
 

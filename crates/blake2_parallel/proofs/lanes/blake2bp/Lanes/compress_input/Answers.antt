@@ -1,4 +1,5 @@
-use Rattle.std.proofs.Common.{ℕ, [], List, take, refl, ap, sym, ◌∙◌, ◌*◌, ◌≡◌, ◌+◌, ◌-◌, ◌/◌, arith, drop, length}
+use Rattle.std.proofs.Common.{ℕ, [], List, take, refl, ap, sym, ◌∙◌, ◌*◌, ◌≡◌, ◌+◌, ◌-◌, ◌/◌, arith}
+use Rattle.std.proofs.Common.{drop, length}
 use Rattle.std.proofs.lemmas.List.{take_rest}
 use Rattle.blake2_simd.specs.Family.{blake2b}
 use Rattle.blake2_simd.specs.Lanes.{in_lane}

@@ -20,5 +20,5 @@ loop-self-preserved c = record {
 pub returns-clause-took : goal.returns-clause-took
 returns-clause-took c =
     Took-rest blake2b _ _ _ _ _ c.loop-self.invariant.went_on
-    (Took-kept blake2b _ _ _ (λ j. ap (in_lane j) c.keep.ensures.rows) c.keep.ensures.counter
-    c.keep.ensures.pending)
+    (Took-kept blake2b _ _ _ (λ j. ap (in_lane j) c.append_pending.ensures.rows) c.append_pending.ensures.counter
+    c.append_pending.ensures.pending)

@@ -15,8 +15,8 @@ returns-clause-went_on c =
     sym ((λ i. c.split_at.ensures.front i ++ c.split_at.ensures.back i) ∙ take-append-drop k input)
     in
     WentOn-then blake2s _ _ _ input _ _
-    (WentOn-kept blake2s (leaves_of c.args.self.now) (leaves_of c.keep.new.self)
+    (WentOn-kept blake2s (leaves_of c.args.self.now) (leaves_of c.append_pending.new.self)
     c.split_at.result.0.now c.split_at.result.1.now input joined
-    (Took-kept blake2s _ _ _ (λ j. ap (in_lane j) c.keep.ensures.rows) c.keep.ensures.counter
-    c.keep.ensures.pending))
+    (Took-kept blake2s _ _ _ (λ j. ap (in_lane j) c.append_pending.ensures.rows) c.append_pending.ensures.counter
+    c.append_pending.ensures.pending))
     c.compress_held.ensures.went_on

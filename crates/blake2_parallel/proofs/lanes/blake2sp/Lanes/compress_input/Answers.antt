@@ -1,5 +1,6 @@
 -- Made by tools/twins.py from proofs/lanes/blake2bp/Lanes/compress_input/Answers.antt.
-use Rattle.std.proofs.Common.{ℕ, [], List, take, refl, ap, sym, ◌∙◌, ◌*◌, ◌≡◌, ◌+◌, ◌-◌, ◌/◌, arith, drop, length}
+use Rattle.std.proofs.Common.{ℕ, [], List, take, refl, ap, sym, ◌∙◌, ◌*◌, ◌≡◌, ◌+◌, ◌-◌, ◌/◌, arith}
+use Rattle.std.proofs.Common.{drop, length}
 use Rattle.std.proofs.lemmas.List.{take_rest}
 use Rattle.blake2_simd.specs.Family.{blake2s}
 use Rattle.blake2_simd.specs.Lanes.{in_lane}

@@ -1,7 +1,7 @@
 use Rattle.std.proofs.Common.{ℕ, rules, refl, sym, ◌∙◌, get_or, Fits, w32}
 use Rattle.blake2_simd.specs.Family.{blake2s}
 use Rattle.blake2_simd.specs.Round.{round}
-use Rattle.blake2_simd.specs.Rows.{sixteen}
+use Rattle.blake2_simd.specs.Rows.{work_words}
 use Rattle.blake2_simd.proofs.Undoing.{round_injective}
 use Rattle.blake2_simd.proofs.rows.u32_lanes.u32x4.unround.Goals as goal
 
@@ -23,6 +23,6 @@ returns-clause-undoes c =
 pub returns-clause-only : goal.returns-clause-only
 returns-clause-only c u words long same =
     let m : (i : ℕ) → Fits w32 (get_or c.args.m.now i 0) = search rules in
-    round_injective blake2s u (sixteen c.to_rows.result) c.args.m.now c.args.s.now words
+    round_injective blake2s u (work_words c.to_rows.result) c.args.m.now c.args.s.now words
     c.to_rows.ensures.are_words (λ i. (m i).fits) long refl
     (same ∙ sym (returns-clause-undoes c))

@@ -9,5 +9,5 @@ returns c =
     let self = c.args.self.now in
     let long : length self.root ≡ 64 = search rules in
     block_from blake2b (settings_of self) self.root c.args.i 64 _ _ _ _ _ (omega arith)
-    c.start-h.ensures c.padded-block.ensures (sym long) c.last_block.ensures c.compress.ensures
+    c.block_start_rows-h.ensures c.padded-block.ensures (sym long) c.last_block.ensures c.compress.ensures
     c.to_bytes.ensures

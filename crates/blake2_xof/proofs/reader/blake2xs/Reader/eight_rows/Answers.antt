@@ -14,13 +14,13 @@ returns c j lane =
     let first : i ≡ i + 0 = omega arith in
     let of = λ (k : ℕ). start blake2s (block_parameters blake2s (settings_of c.args.self.now) k) in
     let words = listed_in_eight (λ k. of (i + k)) _ _ _ _ _ _ _ _
-    (c.to_words.ensures ∙ c.start.ensures ∙ ap of first)
-    (c.to_words-2.ensures ∙ c.start-2.ensures)
-    (c.to_words-3.ensures ∙ c.start-3.ensures)
-    (c.to_words-4.ensures ∙ c.start-4.ensures)
-    (c.to_words-5.ensures ∙ c.start-5.ensures)
-    (c.to_words-6.ensures ∙ c.start-6.ensures)
-    (c.to_words-7.ensures ∙ c.start-7.ensures)
-    (c.to_words-8.ensures ∙ c.start-8.ensures) j lane in
+    (c.to_words.ensures ∙ c.block_start_rows.ensures ∙ ap of first)
+    (c.to_words-2.ensures ∙ c.block_start_rows-2.ensures)
+    (c.to_words-3.ensures ∙ c.block_start_rows-3.ensures)
+    (c.to_words-4.ensures ∙ c.block_start_rows-4.ensures)
+    (c.to_words-5.ensures ∙ c.block_start_rows-5.ensures)
+    (c.to_words-6.ensures ∙ c.block_start_rows-6.ensures)
+    (c.to_words-7.ensures ∙ c.block_start_rows-7.ensures)
+    (c.to_words-8.ensures ∙ c.block_start_rows-8.ensures) j lane in
     lane_is 8 j c.interleave.result _ (search rules) (ap length words ∙ length-start blake2s _)
     (λ k lt. c.interleave.ensures j k lane lt) ∙ words

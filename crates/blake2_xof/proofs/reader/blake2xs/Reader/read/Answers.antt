@@ -4,7 +4,7 @@ use Rattle.std.proofs.Common.{arith, length-drop, rules}
 use Rattle.std.proofs.lemmas.List.{append-nil, drop-drop, drop_all, take_rest}
 use Rattle.blake2_simd.specs.Family.{blake2s}
 use Rattle.blake2_xof.specs.Blake2xs.{output_of}
-use Rattle.blake2_xof.specs.Xof.{settings, stream}
+use Rattle.blake2_xof.specs.Xof.{settings, xof_output}
 use Rattle.blake2_xof.proofs.ReadInPieces.{more_read}
 use Rattle.blake2_xof.proofs.reader.blake2xs.Reader.read.Goals as goal
 
@@ -23,7 +23,7 @@ loop-done-preserved c =
     drop_all (length out - d) (drop d out) (omega (arith, length-drop d out)) in
     let s : List ℕ = drop self.position (output_of self) in
     let from : drop now.position (output_of now) ≡ drop d s =
-    (λ i. drop (read.position i) (stream blake2s (settings (read.xof_length i) []
+    (λ i. drop (read.position i) (xof_output blake2s (settings (read.xof_length i) []
     (take 8 (read.texts i)) (drop 8 (read.texts i))) (read.root i)))
     ∙ sym (drop-drop d self.position (output_of self)) in
     let whole : sub ++ drop (length out - d) (drop d out) ≡ take r (drop d s) ++ drop r (drop d out) =

@@ -1,6 +1,6 @@
 use Rattle.std.proofs.Common.{◌+◌, ◌-◌, length, arith}
 use Rattle.std.proofs.lemmas.Slice.{drop-put_mid}
-use Rattle.blake2_digest.proofs.buffer.put_behind.Goals as goal
+use Rattle.blake2_digest.proofs.buffer.write_after.Goals as goal
 
 pub returns-clause-rest : goal.returns-clause-rest
 returns-clause-rest g c =

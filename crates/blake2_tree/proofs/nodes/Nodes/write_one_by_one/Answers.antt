@@ -5,7 +5,7 @@ use Rattle.blake2_tree.specs.NodeViews.{shared_parameters, node_digest}
 use Rattle.blake2_tree.proofs.MessageLeaves.{leaf_count-short, range_digests-short}
 use Rattle.blake2_tree.proofs.MessageLeaves.{range_digests-long}
 use Rattle.blake2_tree.proofs.RangeWrites.{AreWritten-more, written-all}
-use Rattle.blake2_tree.proofs.nodes.Nodes.write_each.Goals as goal
+use Rattle.blake2_tree.proofs.nodes.Nodes.write_one_by_one.Goals as goal
 
 pub loop-rest-preserved : goal.loop-rest-preserved
 loop-rest-preserved c =

@@ -1,7 +1,7 @@
 use Rattle.std.proofs.Common.{List, ℕ, ap, ◌∙◌}
 use Rattle.blake2_simd.specs.Family.{blake2b, iv}
 use Rattle.blake2_compress.specs.Hash.{parameter_words, start, words_of, xor_words}
-use Rattle.blake2_xof.proofs.reader.blake2xb.Reader.start.Goals as goal
+use Rattle.blake2_xof.proofs.reader.blake2xb.Reader.block_start_rows.Goals as goal
 
 pub returns : goal.returns
 unfolding start parameter_words

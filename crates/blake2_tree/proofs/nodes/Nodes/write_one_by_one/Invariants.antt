@@ -1,7 +1,7 @@
 use Rattle.std.proofs.Common.{length}
 use Rattle.blake2_tree.specs.NodeViews.{shared_parameters}
 use Rattle.blake2_tree.proofs.RangeWrites.{AreWritten}
-use Rattle.blake2_tree.proofs.nodes.Nodes.write_each.Given as goal
+use Rattle.blake2_tree.proofs.nodes.Nodes.write_one_by_one.Given as goal
 
 abbrev pub invariant-loop-rest : goal.invariant-loop-rest
 invariant-loop-rest l =

@@ -1,18 +1,17 @@
--- Made by tools/twins.py from proofs/outputs/blake2xb/start/Answers.antt.
 use Rattle.std.proofs.Common.{◌≡◌, [], Some, refl, rules}
 use Rattle.std.proofs.lemmas.Bool.{iff_false}
 use Rattle.std.specs.Prelude.{unwrap_or}
-use Rattle.blake2.specs.Family.{blake2s}
-use Rattle.blake2_xof.specs.Blake2xs.{meaning}
+use Rattle.blake2.specs.Family.{blake2b}
+use Rattle.blake2_xof.specs.Blake2xb.{meaning}
 use Rattle.b2_commands.specs.ReadOptions.{given_of}
 use Rattle.b2_commands.specs.ArgumentTasks.{Given}
 use Rattle.b2_commands.proofs.OutputLaws.{AreGiven, empty_refused, start_fresh, start_refused}
-use Rattle.b2_commands.proofs.outputs.blake2xs.start.Goals as goal
+use Rattle.b2_commands.proofs.outputs.blake2xb.init_output.Goals as goal
 
 pub returns-then-has_empty_key-clause-length : goal.returns-then-has_empty_key-clause-length
 returns-then-has_empty_key-clause-length c =
     let empty : (given_of c.args.options.now).key ≡ Some [] = search rules in
-    (λ _. rw empty (empty_refused blake2s _ _), λ _. refl)
+    (λ _. rw empty (empty_refused blake2b _ _), λ _. refl)
 
 pub returns-in-Ok-clause-length : goal.returns-in-Ok-clause-length
 returns-in-Ok-clause-length c =
@@ -24,7 +23,7 @@ returns-in-Ok-clause-length c =
       persona_is = c.persona.ensures;
       not_empty = iff_false c.has_empty_key.ensures c.if-has_empty_key.false;
     } in
-    start_refused blake2s c.args.size given.key _ _ _ _ _ _ are c.requires.some c.requires.known
+    start_refused blake2b c.args.size given.key _ _ _ _ _ _ are c.requires.some c.requires.known
     c.in-Ok.ensures.refused
 
 pub returns-in-Err-clause-length : goal.returns-in-Err-clause-length
@@ -37,7 +36,7 @@ returns-in-Err-clause-length c =
       persona_is = c.persona.ensures;
       not_empty = iff_false c.has_empty_key.ensures c.if-has_empty_key.false;
     } in
-    start_refused blake2s c.args.size given.key _ _ _ _ _ _ are c.requires.some c.requires.known
+    start_refused blake2b c.args.size given.key _ _ _ _ _ _ are c.requires.some c.requires.known
     c.in-Err.ensures.refused
 
 pub returns-in-Ok-clause-fresh : goal.returns-in-Ok-clause-fresh
@@ -50,4 +49,4 @@ returns-in-Ok-clause-fresh c =
       persona_is = c.persona.ensures;
       not_empty = iff_false c.has_empty_key.ensures c.if-has_empty_key.false;
     } in
-    start_fresh blake2s meaning c.args.size given.key _ _ _ _ _ c.in-Ok.state are c.in-Ok.ensures.fresh
+    start_fresh blake2b meaning c.args.size given.key _ _ _ _ _ c.in-Ok.state are c.in-Ok.ensures.fresh

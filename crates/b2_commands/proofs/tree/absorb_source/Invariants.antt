@@ -1,7 +1,7 @@
 use Rattle.std.proofs.Common.{◌≡◌, ℕ, ◌-◌, ◌^◌, false, List, length}
 use Rattle.std.specs.Io.KnownBytes.{Consumes}
 use Rattle.blake2_tree.specs.TreeHashers.{count, Took}
-use Rattle.b2_commands.proofs.tree.absorb.Given as goal
+use Rattle.b2_commands.proofs.tree.absorb_source.Given as goal
 
 -- The hasher has absorbed what the source returned.
 abbrev pub invariant-pieces : goal.invariant-pieces

@@ -1,7 +1,7 @@
 use Rattle.std.proofs.Common.{◌++◌, rules, take}
 use Rattle.std.proofs.KnownBytes.{Consumes-trans}
 use Rattle.b2_commands.proofs.FilledBuffers.{Took-trans}
-use Rattle.b2_commands.proofs.tree.absorb.Goals as goal
+use Rattle.b2_commands.proofs.tree.absorb_source.Goals as goal
 
 pub pieces-preserved : goal.pieces-preserved
 pieces-preserved g c =
