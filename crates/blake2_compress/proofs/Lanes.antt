@@ -6,7 +6,7 @@ use Rattle.std.proofs.lemmas.List.{append-nil, ext_get_or, get_or-map, get_or_de
 use Rattle.std.proofs.lemmas.List.{get_or-set_other, get_or-set_same}
 use Rattle.std.specs.Borrow.{Bor}
 use Rattle.blake2_simd.specs.Family.{Family, block_bytes}
-use Rattle.blake2_simd.specs.Rows.{eight, lane}
+use Rattle.blake2_simd.specs.Rows.{chaining_words, lane}
 use Rattle.blake2_simd.proofs.Columns.{eight_read}
 use Rattle.blake2_simd.proofs.Lanes.{lane_of, lanes}
 use Rattle.blake2_simd.proofs.Words.{cells, cells-drop}
@@ -162,7 +162,7 @@ pub two_columns : (h low high : List (List ℕ)) (j : ℕ) (d0 d1 d2 d3 d4 d5 d6
     ∷ get_or h 3 d3 ∷ []) k j)
     → ((k : ℕ) → k < 4 → lane high j k ≡ lane (get_or h 4 d4 ∷ get_or h 5 d5 ∷ get_or h 6 d6
     ∷ get_or h 7 d7 ∷ []) k j)
-    → eight (slice_index_or low j [] ∷ slice_index_or high j [] ∷ []) ≡ in_lane j h
+    → chaining_words (slice_index_or low j [] ∷ slice_index_or high j [] ∷ []) ≡ in_lane j h
 two_columns h low high j d0 d1 d2 d3 d4 d5 d6 d7 long first last =
     (λ i. first 0 (omega arith) i ∷ first 1 (omega arith) i ∷ first 2 (omega arith) i
     ∷ first 3 (omega arith) i ∷ last 0 (omega arith) i ∷ last 1 (omega arith) i
@@ -182,12 +182,12 @@ unfolding chain
 no_block f h d n e = sym (ap (chain f h 0 d) e)
 
 -- One more block.
-pub block_more : (f : Family) (h : List ℕ) (d : List (List ℕ)) (i t : ℕ) (old new block : List ℕ)
+pub chain_step : (f : Family) (h : List ℕ) (d : List (List ℕ)) (i t : ℕ) (old new block : List ℕ)
     → old ≡ chain f h 0 d i
     → new ≡ compress f old block t inner → block ≡ slice_index_or d i []
     → t ≡ (i + 1) * block_bytes f → new ≡ chain f h 0 d (i + 1)
 unfolding chain
-block_more f h d i t old new block before compressed is_block counted =
+chain_step f h d i t old new block before compressed is_block counted =
     let next : suc i ≡ i + 1 = omega arith in
     let at : t ≡ 0 + (i + 1) * block_bytes f = omega arith in
     compressed ∙ (λ k. compress f (before k) (is_block k) (at k) inner) ∙ ap (chain f h 0 d) next

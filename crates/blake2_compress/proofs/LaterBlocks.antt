@@ -40,10 +40,10 @@ chunks_enough blake2b m = omega arith
 chunks_enough blake2s m = omega arith
 
 -- Without a key the rest is the message after its first block.
-pub rest_none : (f : Family) (b : ℕ) → block_bytes f ≡ b → (key : Option (List ℕ)) (m : List ℕ)
+pub rest_unkeyed : (f : Family) (b : ℕ) → block_bytes f ≡ b → (key : Option (List ℕ)) (m : List ℕ)
     → key ≡ None → drop (min (length m) b) m ≡ drop b (data_bytes f key m)
 unfolding key_block
-rest_none f b e key m none =
+rest_unkeyed f b e key m none =
     cut_short b m ∙ ap (λ (k : Option (List ℕ)). drop b (data_bytes f k m)) (sym none)
   where
     cut_short : (b : ℕ) (m : List ℕ) → drop (min (length m) b) m ≡ drop b m
@@ -58,10 +58,10 @@ rest_none f b e key m none =
     ]
 
 -- With a key the rest is the whole message.
-pub rest_some : (f : Family) (b : ℕ) → block_bytes f ≡ b → (key : Option (List ℕ)) (k m : List ℕ)
+pub rest_keyed : (f : Family) (b : ℕ) → block_bytes f ≡ b → (key : Option (List ℕ)) (k m : List ℕ)
     → key ≡ Some k → KeyFits f key → m ≡ drop b (data_bytes f key m)
 unfolding key_block
-rest_some f b e key k m some fits =
+rest_keyed f b e key k m some fits =
     let here : KeyFits f (Some k) = subst (KeyFits f) some fits in
     let first : length (padded (block_bytes f) k) ≡ b =
     length-padded (block_bytes f) k (omega (arith, key_bytes_fit f)) ∙ e in

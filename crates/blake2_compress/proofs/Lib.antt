@@ -21,3 +21,4 @@ pub mod ManyMessages
 pub mod LaterBlocks
 pub mod MessagePieces
 pub mod WholeMessages
+pub mod ContinuedRuns

@@ -10,7 +10,7 @@ use Rattle.std.proofs.lemmas.List.{map-append, get_or-map, take-take}
 use Rattle.std.specs.Borrow.{Bor}
 use Rattle.blake2_simd.specs.Family.{Family, block_bytes}
 use Rattle.blake2_simd.specs.Lanes.{in_lane}
-use Rattle.blake2_simd.specs.Rows.{eight, lane}
+use Rattle.blake2_simd.specs.Rows.{chaining_words, lane}
 use Rattle.blake2_simd.proofs.Columns.{eight_read, four_read}
 use Rattle.blake2_simd.proofs.Lanes.{in_eight}
 use Rattle.blake2_compress.specs.declared.inputs.Input as GivenInput
@@ -22,7 +22,7 @@ use Rattle.blake2_compress.specs.Lanes.{AcceptsAtOnce, after_blocks, block_lists
 use Rattle.blake2_compress.specs.Lanes.{no_input}
 use Rattle.blake2_compress.specs.Run.{step_count}
 use Rattle.blake2_compress.specs.Views.{input_of}
-use Rattle.blake2_compress.proofs.Lanes.{AreLater, block_in_list, block_more, blocks_at, lane_is}
+use Rattle.blake2_compress.proofs.Lanes.{AreLater, block_in_list, chain_step, blocks_at, lane_is}
 use Rattle.blake2_compress.proofs.Lanes.{lane_word, later_after, no_block, no_blocks, run_end}
 use Rattle.blake2_compress.proofs.Lanes.{set_more, xor_at, xor_read, mapped}
 use Rattle.blake2_compress.proofs.ParameterSizes.{length-start}
@@ -115,16 +115,16 @@ word_in_lane words read i m j low same =
     ∙ sym (lane_word words m j [] low)
 
 -- The words of w from word k on are in a lane of rows: first those of the rows a.
-lane_part : (j k : ℕ) (a rest : List (List ℕ)) (w : List ℕ) → k + length a ≤ length w
+lane-prefix : (j k : ℕ) (a rest : List (List ℕ)) (w : List ℕ) → k + length a ≤ length w
     → ((i : ℕ) → i < length a → lane a i j ≡ slice_index w (k + i))
     → in_lane j rest ≡ drop (k + length a) w → in_lane j (a ++ rest) ≡ drop k w
-lane_part j k [] rest w fits each after =
+lane-prefix j k [] rest w fits each after =
     let none : k + 0 ≡ k = omega arith in
     after ∙ ap (λ (n : ℕ). drop n w) none
-lane_part j k (x ∷ a) rest w fits each after =
+lane-prefix j k (x ∷ a) rest w fits each after =
     let here : k + 0 ≡ k = omega arith in
     let next : k + suc (length a) ≡ suc k + length a = omega arith in
-    let others = lane_part j (suc k) a rest w (omega arith) (λ i lt. each (suc i) (omega arith)
+    let others = lane-prefix j (suc k) a rest w (omega arith) (λ i lt. each (suc i) (omega arith)
     ∙ ap (slice_index w) (omega arith)) (after ∙ ap (λ (n : ℕ). drop n w) next) in
     (λ t. (each 0 (omega arith) ∙ ap (slice_index w) here) t ∷ others t)
     ∙ sym (drop-cons w k 0 (omega arith))
@@ -134,7 +134,7 @@ last_part : (j k : ℕ) (a : List (List ℕ)) (w : List ℕ) → length w ≡ k 
     → ((i : ℕ) → i < length a → lane a i j ≡ slice_index w (k + i))
     → in_lane j (a ++ []) ≡ drop k w
 last_part j k a w long each =
-    lane_part j k a [] w (omega arith) each (sym (drop_all (k + length a) w (omega arith)))
+    lane-prefix j k a [] w (omega arith) each (sym (drop_all (k + length a) w (omega arith)))
 
 -- Sixteen words in two lists of eight rows.
 pub two_parts : (j : ℕ) (a b : List (List ℕ)) (w : List ℕ) → length a ≡ 8 → length b ≡ 8
@@ -142,7 +142,7 @@ pub two_parts : (j : ℕ) (a b : List (List ℕ)) (w : List ℕ) → length a �
     → ((i : ℕ) → i < 8 → lane b i j ≡ slice_index w (8 + i)) → in_lane j (a ++ (b ++ [])) ≡ w
 two_parts j a b w la lb lw in_a in_b =
     let next : 8 ≡ 0 + length a = omega arith in
-    lane_part j 0 a _ w (omega arith) (λ i lt. in_a i (omega arith))
+    lane-prefix j 0 a _ w (omega arith) (λ i lt. in_a i (omega arith))
     (last_part j 8 b w (omega arith) (λ i lt. in_b i (omega arith))
     ∙ ap (λ (n : ℕ). drop n w) next)
 
@@ -159,9 +159,9 @@ four_parts j a b c d w la lb lc ld lw in_a in_b in_c in_d =
     let at_c : 8 ≡ 4 + length b = omega arith in
     let at_d : 12 ≡ 8 + length c = omega arith in
     let from : ℕ → List ℕ = λ n. drop n w in
-    lane_part j 0 a _ w (omega arith) (λ i lt. in_a i (omega arith))
-    (lane_part j 4 b _ w (omega arith) (λ i lt. in_b i (omega arith))
-    (lane_part j 8 c _ w (omega arith) (λ i lt. in_c i (omega arith))
+    lane-prefix j 0 a _ w (omega arith) (λ i lt. in_a i (omega arith))
+    (lane-prefix j 4 b _ w (omega arith) (λ i lt. in_b i (omega arith))
+    (lane-prefix j 8 c _ w (omega arith) (λ i lt. in_c i (omega arith))
     (last_part j 12 d w (omega arith) (λ i lt. in_d i (omega arith)) ∙ ap from at_d)
     ∙ ap from at_c) ∙ ap from at_b)
 
@@ -224,7 +224,7 @@ inner_run f inputs lists n m j h first new flags later low off begun rest all =
     let d = blocks f (input_data f (input_at inputs j)) in
     let one : block_bytes f ≡ (0 + 1) * block_bytes f = omega arith in
     let start : first ≡ chain f h 0 d 1 =
-    block_more f h d 0 (block_bytes f) h first _ (no_block f h d 0 refl)
+    chain_step f h d 0 (block_bytes f) h first _ (no_block f h d 0 refl)
     (begun ∙ ap (compress f h _ (block_bytes f)) off) refl one in
     rest
     ∙ (λ k. after_blocks f first (slice_index_or lists j []) (2 * block_bytes f) (off k)
@@ -275,8 +275,8 @@ OutputOf f size columns k out = (length (slice_index_or columns k []) ≡ 8)
 
 -- The same of a column that is read as two rows h.
 pub column_output : (f : Family) (size k : ℕ) (columns h : List (List ℕ)) (w d out : List ℕ)
-    → k < length columns → length w ≡ 8 → w ≡ get_or columns k d → eight h ≡ w
-    → out ≡ take size (bytes_of f (eight h)) → OutputOf f size columns k out
+    → k < length columns → length w ≡ 8 → w ≡ get_or columns k d → chaining_words h ≡ w
+    → out ≡ take size (bytes_of f (chaining_words h)) → OutputOf f size columns k out
 column_output f size k columns h w d out low long read rows made =
     let same = read ∙ get_or_default columns k d [] low in
     (sym (ap length same) ∙ long, made ∙ ap (λ l. take size (bytes_of f l)) (rows ∙ same))

@@ -7,7 +7,7 @@ use Rattle.std.proofs.lemmas.Grind.{flat_map-append}
 use Rattle.std.specs.Int.{to_le_bytes}
 use borrow.Rule.Slice.PartMut.{put_mid}
 use Rattle.blake2_simd.specs.Family.{Family, blake2b, blake2s, word, word_bytes}
-use Rattle.blake2_simd.specs.Rows.{eight, lane_bytes}
+use Rattle.blake2_simd.specs.Rows.{chaining_words, lane_bytes}
 use Rattle.blake2_compress.specs.Hash.{bytes_of}
 use Rattle.blake2_simd.proofs.Words.{cells, cells-drop}
 use Rattle.blake2_compress.proofs.RunSizes.{length-bytes_of}
@@ -44,7 +44,7 @@ pub rows_written : (f : Family) (h : List (List ℕ)) (d e x y : List ℕ) → l
     → length x ≡ 4 * word_bytes f → length y ≡ length
     (take (4 * word_bytes f) (drop (4 * word_bytes f) (x ++ replicate (4 * word_bytes f) 0)))
     → put_mid (4 * word_bytes f) (4 * word_bytes f) (x ++ replicate (4 * word_bytes f) 0) y
-    ≡ bytes_of f (eight h)
+    ≡ bytes_of f (chaining_words h)
 unfolding bytes_of
 rows_written f h d e x y lh ex ey lx same_length =
     let ly : length y ≡ 4 * word_bytes f = same_length ∙ half_length (4 * word_bytes f) x lx in
@@ -54,7 +54,7 @@ rows_written f h d e x y lh ex ey lx same_length =
     let lb : length b ≡ 4 = four_lanes f b (sym (ap length ey) ∙ ly) in
     let same_a : a ≡ get_or h 0 [] = get_or_default h 0 d [] (omega arith) in
     let same_b : b ≡ get_or h 1 [] = get_or_default h 1 e [] (omega arith) in
-    let words : a ++ b ≡ eight h =
+    let words : a ++ b ≡ chaining_words h =
     (λ i. sym (cells-drop a 0 4 la) i ++ sym (cells-drop b 0 4 lb) i)
     ∙ (λ i. cells (same_a i) 0 4 ++ cells (same_b i) 0 4) in
     halves_written (4 * word_bytes f) x y lx ly ∙ (λ i. ex i ++ ey i)

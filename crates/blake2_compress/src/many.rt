@@ -4,7 +4,8 @@
 pub mod blake2b;
 pub mod blake2s;
 
-ghost use Rattle.std.specs.Prelude.{◌≡◌, ◌+◌, ◌<◌, ◌≤◌, ℕ, [], length, slice_index_or};
+ghost use Rattle.std.specs.Prelude.{◌≡◌, ◌+◌, ◌^◌, ◌<◌, ◌≤◌, ℕ, [], length, slice_index};
+ghost use Rattle.std.specs.Prelude.{slice_index_or};
 ghost use Rattle.blake2_simd.specs.Family.{Family, block_bytes};
 ghost use Rattle.blake2_compress.specs.Hash.{blocks, input_data};
 ghost use Rattle.blake2_compress.specs.Inputs.{Accepts};
@@ -32,4 +33,17 @@ fn later_blocks<'a, const B: usize>(input: &Input<'a>, count: usize) -> &'a [[u8
     };
     let (blocks, _) = rest.as_chunks::<B>();
     &blocks[..count]
+}
+
+// The counters that are `count` bytes after these.
+#[inline(always)]
+fn counters_after<const N: usize>(counters: &[u64; N], count: u64) -> [u64; N]
+    requires { (j : ℕ) → j < N → slice_index counters.now j + count < 2 ^ 64 }
+    ensures { (j : ℕ) → j < N → slice_index result j ≡ slice_index counters.now j + count }
+{
+    let mut after = [0; N];
+    for j in 0..N {
+        after[j] = counters[j] + count;
+    }
+    after
 }

@@ -5,7 +5,7 @@ use Rattle.blake2_simd.specs.Family.{Family}
 use Rattle.blake2.specs.States.{digest_of}
 use Rattle.blake2_state.specs.ConstructorArguments.{given_key, given_count}
 use Rattle.blake2_state.specs.declared.StateParameters.{StateParameters}
-use Rattle.blake2_ffi.specs.declared.Text.{Text}
+use Rattle.blake2_state.specs.declared.many.Text.{Text}
 
 -- The digests of the messages, `size` bytes each, one after the other, all under the same key, salt
 -- and personalization.

@@ -34,14 +34,14 @@ const INIT_BYTES: usize = 1024;
 
 const WRITE_BYTES: usize = 1536;
 
-// The same of `absorb`, and of `finalize` and `is_digest_of`.
+// The same of `update_in_frame`, and of `finalize` and `is_digest_of`.
 const UPDATE_BYTES: usize = 1152;
 
 const FINAL_BYTES: usize = 1664;
 
 // Whether the key's block is pending: fewer bytes are compressed than a start leaves pending. It
 // is then the next block that is compressed.
-fn has_key_pending(state: &State) -> bool {
+pub(crate) fn has_key_pending(state: &State) -> bool {
     state.counter < state.start_length as u64
 }
 
@@ -55,7 +55,7 @@ fn admits(output_size: usize, key_size: usize) -> bool
 
 // The longest digest without a key, in one call, which needs no state. The compiler knows its first
 // words and the length that is copied.
-fn write_longest(out: &mut [u8], input: &[u8])
+fn write_full_digest(out: &mut [u8], input: &[u8])
     requires size { length out.old ≡ 64 }
     requires counted { length input.now < 2 ^ 64 }
     ensures { out.new ≡ digest_of blake2b 64 [] [] None input.now }
@@ -118,7 +118,7 @@ pub extern "C" fn vulfsjor_ffi_blake2b(out: &mut [u8], input: &[u8], key: &[u8])
         return -1;
     }
     if out.len() == 64 {
-        write_longest(out, input);
+        write_full_digest(out, input);
     } else {
         write_digest(out, input, None);
     }
@@ -272,7 +272,7 @@ pub extern "C" fn vulfsjor_ffi_blake2b_init_param(state: &mut State, block: &[u8
 
 // Absorbs the input, in a separate frame, which the caller scrubs.
 #[inline(never)]
-fn absorb(state: &mut State, input: &[u8])
+fn update_in_frame(state: &mut State, input: &[u8])
     requires ready { IsReady state.old }
     requires counted { meaning.count state.old + length input.now < 2 ^ 64 }
     ensures ready { IsReadyFor state.old.output_size state.new }
@@ -285,14 +285,14 @@ fn absorb(state: &mut State, input: &[u8])
 // What `vulfsjor_ffi_blake2b_update` does if the key's block is pending. Other updates do not make
 // a frame for this one.
 #[inline(never)]
-fn absorb_scrubbed(state: &mut State, input: &[u8])
+fn update_scrubbed(state: &mut State, input: &[u8])
     requires ready { IsReady state.old }
     requires counted { meaning.count state.old + length input.now < 2 ^ 64 }
     ensures ready { IsReadyFor state.old.output_size state.new }
     ensures key { key_length state.new ≡ key_length state.old }
     ensures taken { Updated meaning state.old input.now state.new }
 {
-    absorb(state, input);
+    update_in_frame(state, input);
     scrub_stack::<UPDATE_BYTES>();
 }
 
@@ -314,7 +314,7 @@ pub extern "C" fn vulfsjor_ffi_blake2b_update(state: &mut State, input: &[u8]) -
         return -1;
     }
     if has_key_pending(state) {
-        absorb_scrubbed(state, input);
+        update_scrubbed(state, input);
     } else {
         state.update(input);
     }

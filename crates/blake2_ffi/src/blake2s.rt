@@ -35,14 +35,14 @@ const INIT_BYTES: usize = 768;
 
 const WRITE_BYTES: usize = 768;
 
-// The same of `absorb`, and of `finalize` and `is_digest_of`.
+// The same of `update_in_frame`, and of `finalize` and `is_digest_of`.
 const UPDATE_BYTES: usize = 512;
 
 const FINAL_BYTES: usize = 768;
 
 // Whether the key's block is pending: fewer bytes are compressed than a start leaves pending. It
 // is then the next block that is compressed.
-fn has_key_pending(state: &State) -> bool {
+pub(crate) fn has_key_pending(state: &State) -> bool {
     state.counter < state.start_length as u64
 }
 
@@ -56,7 +56,7 @@ fn admits(output_size: usize, key_size: usize) -> bool
 
 // The longest digest without a key, in one call, which needs no state. The compiler knows its first
 // words and the length that is copied.
-fn write_longest(out: &mut [u8], input: &[u8])
+fn write_full_digest(out: &mut [u8], input: &[u8])
     requires size { length out.old ≡ 32 }
     requires counted { length input.now < 2 ^ 64 }
     ensures { out.new ≡ digest_of blake2s 32 [] [] None input.now }
@@ -119,7 +119,7 @@ pub extern "C" fn vulfsjor_ffi_blake2s(out: &mut [u8], input: &[u8], key: &[u8])
         return -1;
     }
     if out.len() == 32 {
-        write_longest(out, input);
+        write_full_digest(out, input);
     } else {
         write_digest(out, input, None);
     }
@@ -274,7 +274,7 @@ pub extern "C" fn vulfsjor_ffi_blake2s_init_param(state: &mut State, block: &[u8
 
 // Absorbs the input, in a separate frame, which the caller scrubs.
 #[inline(never)]
-fn absorb(state: &mut State, input: &[u8])
+fn update_in_frame(state: &mut State, input: &[u8])
     requires ready { IsReady state.old }
     requires counted { meaning.count state.old + length input.now < 2 ^ 64 }
     ensures ready { IsReadyFor state.old.output_size state.new }
@@ -287,14 +287,14 @@ fn absorb(state: &mut State, input: &[u8])
 // What `vulfsjor_ffi_blake2s_update` does if the key's block is pending. Other updates do not make
 // a frame for this one.
 #[inline(never)]
-fn absorb_scrubbed(state: &mut State, input: &[u8])
+fn update_scrubbed(state: &mut State, input: &[u8])
     requires ready { IsReady state.old }
     requires counted { meaning.count state.old + length input.now < 2 ^ 64 }
     ensures ready { IsReadyFor state.old.output_size state.new }
     ensures key { key_length state.new ≡ key_length state.old }
     ensures taken { Updated meaning state.old input.now state.new }
 {
-    absorb(state, input);
+    update_in_frame(state, input);
     scrub_stack::<UPDATE_BYTES>();
 }
 
@@ -316,7 +316,7 @@ pub extern "C" fn vulfsjor_ffi_blake2s_update(state: &mut State, input: &[u8]) -
         return -1;
     }
     if has_key_pending(state) {
-        absorb_scrubbed(state, input);
+        update_scrubbed(state, input);
     } else {
         state.update(input);
     }

@@ -20,7 +20,7 @@ const INIT_BYTES: usize = 5120;
 
 const WRITE_BYTES: usize = 8704;
 
-// The same of `absorb`, of `finalize` and `is_digest_of`, and of `start_again`.
+// The same of `update_in_frame`, of `finalize` and `is_digest_of`, and of `reset_in_frame`.
 const UPDATE_BYTES: usize = 3072;
 
 const FINAL_BYTES: usize = 5632;
@@ -149,7 +149,7 @@ pub extern "C" fn vulfsjor_ffi_blake2sp_init_key(
 
 // Absorbs the input, in a separate frame, which the caller scrubs.
 #[inline(never)]
-fn absorb(state: &mut State, input: &[u8])
+fn update_in_frame(state: &mut State, input: &[u8])
     requires ready { IsReady state.old }
     requires counted { meaning.count state.old + length input.now < 2 ^ 64 }
     ensures ready { IsReadyFor state.old.output_size state.new }
@@ -161,13 +161,13 @@ fn absorb(state: &mut State, input: &[u8])
 // What `vulfsjor_ffi_blake2sp_update` does if the key's blocks are pending. Other updates do not
 // make a frame for this one.
 #[inline(never)]
-fn absorb_scrubbed(state: &mut State, input: &[u8])
+fn update_scrubbed(state: &mut State, input: &[u8])
     requires ready { IsReady state.old }
     requires counted { meaning.count state.old + length input.now < 2 ^ 64 }
     ensures ready { IsReadyFor state.old.output_size state.new }
     ensures taken { Updated meaning state.old input.now state.new }
 {
-    absorb(state, input);
+    update_in_frame(state, input);
     scrub_stack::<UPDATE_BYTES>();
 }
 
@@ -188,7 +188,7 @@ pub extern "C" fn vulfsjor_ffi_blake2sp_update(state: &mut State, input: &[u8]) 
         return -1;
     }
     if has_key_pending(state) {
-        absorb_scrubbed(state, input);
+        update_scrubbed(state, input);
     } else {
         state.update(input);
     }
@@ -267,7 +267,7 @@ pub extern "C" fn vulfsjor_ffi_blake2sp_verify(state: &mut State, tag: &[u8]) ->
 // What `vulfsjor_ffi_blake2sp_reset` does if it is not refused, in a separate frame, which the
 // caller scrubs if there is a key.
 #[inline(never)]
-fn start_again(state: &mut State)
+fn reset_in_frame(state: &mut State)
     requires { IsReady state.old }
     ensures ready { IsReadyFor state.old.output_size state.new }
     ensures reset { StartedAgain meaning state.old state.new }
@@ -288,7 +288,7 @@ pub extern "C" fn vulfsjor_ffi_blake2sp_reset(state: &mut State) -> i32
         return -1;
     }
     let has_key = state.start_length != 0;
-    start_again(state);
+    reset_in_frame(state);
     if has_key {
         scrub_stack::<RESET_BYTES>();
     }

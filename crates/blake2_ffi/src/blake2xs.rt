@@ -24,7 +24,7 @@ const INIT_BYTES: usize = 2304;
 
 const WRITE_BYTES: usize = 7168;
 
-// The same of `absorb`, of `read` and of `start_again`.
+// The same of `update_in_frame`, of `read` and of `reset_in_frame`.
 const UPDATE_BYTES: usize = 3072;
 
 const READ_BYTES: usize = 4096;
@@ -162,7 +162,7 @@ pub extern "C" fn vulfsjor_ffi_blake2xs_init_salt_personal(
 
 // Absorbs the input, in a separate frame, which the caller scrubs.
 #[inline(never)]
-fn absorb(state: &mut State, input: &[u8])
+fn update_in_frame(state: &mut State, input: &[u8])
     requires absorbing { IsAbsorbing state.old }
     requires counted { meaning.count state.old + length input.now < 2 ^ 64 }
     ensures absorbing { IsAbsorbing state.new }
@@ -192,7 +192,7 @@ pub extern "C" fn vulfsjor_ffi_blake2xs_update(state: &mut State, input: &[u8]) 
         return -1;
     }
     let has_key = has_key_pending(state);
-    absorb(state, input);
+    update_in_frame(state, input);
     if has_key {
         scrub_stack::<UPDATE_BYTES>();
     }
@@ -243,7 +243,7 @@ pub extern "C" fn vulfsjor_ffi_blake2xs_squeeze(state: &mut State, out: &mut [u8
 // What `vulfsjor_ffi_blake2xs_reset` does if it is not refused, in a separate frame, which the
 // caller scrubs if there is a key.
 #[inline(never)]
-fn start_again(state: &mut State)
+fn reset_in_frame(state: &mut State)
     requires { IsReady state.old }
     ensures absorbing { IsAbsorbing state.new }
     ensures xof_length { state.new.reader.xof_length ≡ state.old.reader.xof_length }
@@ -270,7 +270,7 @@ pub extern "C" fn vulfsjor_ffi_blake2xs_reset(state: &mut State) -> i32
         return -1;
     }
     let has_key = has_key(state);
-    start_again(state);
+    reset_in_frame(state);
     if has_key {
         scrub_stack::<RESET_BYTES>();
     }

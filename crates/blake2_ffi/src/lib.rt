@@ -23,17 +23,11 @@ mod blake2xs;
 mod many;
 mod plans;
 mod saved;
+mod several;
 mod trees;
 
 use blake2::Tree;
 use blake2_digest::constant_time_eq;
-
-/// One of several messages, as `vulfsjor_message` of the header: a pointer and a length.
-#[repr(C)]
-pub struct Text<'a> {
-    /// Its bytes.
-    pub bytes: &'a [u8],
-}
 
 /// The position of a node in a tree of hashes, as `vulfsjor_tree` of the header (the BLAKE2
 /// document, 2.10). The fields are those of [`Tree`], without room between them.

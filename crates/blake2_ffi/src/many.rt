@@ -4,7 +4,7 @@ ghost use Rattle.std.specs.Prelude.{◌≡◌, ◌≤◌, ◌<◌, ◌^◌, ◌*
 ghost use Rattle.std.specs.Prelude.{IsTrue};
 ghost use Rattle.std.specs.List.{All, flat_map};
 
-use crate::Text;
+use blake2_state::many::Text;
 
 /// Writes the first `size` bytes, at most `N`, of each digest at the beginning of `out`, one
 /// after the other. `out` must have room for them, and what is after them stays as it is.

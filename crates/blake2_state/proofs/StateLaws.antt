@@ -2,7 +2,8 @@
 use Rattle.std.proofs.Common.{◌≡◌, ℕ, zero, suc, ◌+◌, ◌-◌, ◌*◌, ◌≤◌, ◌==◌, Bool, true, false, List}
 use Rattle.std.proofs.Common.{[]}
 use Rattle.std.proofs.Common.{◌∷◌, ◌++◌, bit_xor}
-use Rattle.std.proofs.Common.{length, take, drop, replicate, slice_index, Option, Some, None, refl, sym, ap, subst}
+use Rattle.std.proofs.Common.{length, take, drop, replicate, slice_index, Option, Some, None, refl}
+use Rattle.std.proofs.Common.{sym, ap, subst}
 use Rattle.std.proofs.Common.{◌∙◌, rules, arith, length-append}
 use Rattle.std.proofs.lemmas.List.{take_all, length-take-le}
 use Rattle.std.proofs.lemmas.Nat.{le_bytes_4, le_bytes_8}
@@ -15,7 +16,7 @@ use Rattle.blake2_compress.specs.Hash.{AreBytes, words_of, bytes_of, xor_words, 
 use Rattle.blake2_compress.specs.Hash.{parameter_words}
 use Rattle.blake2_compress.proofs.ParameterTexts.{padded-append_zeros}
 use Rattle.blake2_compress.proofs.ParameterSizes.{AreBytes-low, length-parameter_block}
-use Rattle.blake2_digest.specs.Blocks.{handed_on, held_back}
+use Rattle.blake2_digest.specs.Blocks.{compressed_blocks, pending_bytes}
 use Rattle.blake2_digest.specs.States.{Meaning, Updated, Fresh, AtStart, NodeSet, StartedAgain}
 use Rattle.blake2_digest.proofs.Texts.{zeros_overwritten}
 use Rattle.blake2_digest.proofs.Cutting.{handed_none, held_all}
@@ -55,10 +56,10 @@ Updated_kept f size_of state_of {old} {x} {new} fits e size same =
     let s = state_of old in
     let b : ℕ = block_bytes f in
     let room : length (s.pending ++ x) ≤ b = omega (arith, length-append s.pending x, fits) in
-    let none : s.core ≡ absorbed f s.core (handed_on b (s.pending ++ x)) =
+    let none : s.core ≡ absorbed f s.core (compressed_blocks b (s.pending ++ x)) =
     sym (ap (absorbed f s.core) (handed_none b (s.pending ++ x) (block_positive f) room)
     ∙ absorbed-nil f s.core) in
-    let all : (state_of new).pending ≡ held_back b (s.pending ++ x) =
+    let all : (state_of new).pending ≡ pending_bytes b (s.pending ++ x) =
     e ∙ sym (held_all b (s.pending ++ x) (block_positive f) room) in
     Updated_sized f size_of state_of old x new size
     (same ∙ (λ i. record s { core = none i; pending = all i }))
@@ -73,8 +74,8 @@ after s core pending = record s {
 -- Any input, from the core that absorbed it.
 pub Updated_absorbed : {S : Type 0} (f : Family) (size_of : S → ℕ) (state_of : S → State) {old : S}
     {x : List ℕ} {new : S} {begun core : CoreState} → begun ≡ (state_of old).core
-    → core ≡ absorbed f begun (handed_on (block_bytes f) ((state_of old).pending ++ x))
-    → (state_of new).pending ≡ held_back (block_bytes f) ((state_of old).pending ++ x)
+    → core ≡ absorbed f begun (compressed_blocks (block_bytes f) ((state_of old).pending ++ x))
+    → (state_of new).pending ≡ pending_bytes (block_bytes f) ((state_of old).pending ++ x)
     → (state_of new).core.h ≡ core.h → (state_of new).core.count ≡ core.count
     → size_of new ≡ size_of old
     → state_of new ≡ after (state_of old) (state_of new).core (state_of new).pending
@@ -83,7 +84,7 @@ unfolding absorbed
 Updated_absorbed f size_of state_of {old} {x} {new} begins taken pends words counted size same =
     let s = state_of old in
     let e = taken ∙ ap (λ (b : CoreState). absorbed f b
-    (handed_on (block_bytes f) (s.pending ++ x))) begins in
+    (compressed_blocks (block_bytes f) (s.pending ++ x))) begins in
     let chain = words ∙ ap (λ (b : CoreState). b.h) e in
     let counts = counted ∙ ap (λ (b : CoreState). b.count) e in
     Updated_sized f size_of state_of old x new size (same ∙ (λ i. record s {

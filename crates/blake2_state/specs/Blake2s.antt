@@ -1,13 +1,16 @@
 -- Made by tools/twins.py from specs/Blake2b.antt.
 -- What a plain state of BLAKE2s means.
-use Rattle.std.specs.Prelude.{◌≡◌, ℕ, ◌+◌, ◌^◌, ◌<◌, ◌≤◌, List, take, replicate}
+use Rattle.std.specs.Prelude.{◌≡◌, ℕ, ◌+◌, ◌^◌, ◌<◌, ◌≤◌, List, ◌++◌, length, take, replicate}
+use Rattle.std.specs.Prelude.{slice_index_or}
 use Rattle.blake2_simd.specs.Family.{blake2s}
-use Rattle.blake2_digest.specs.States.{Meaning}
+use Rattle.blake2_digest.specs.States.{Meaning, Updated}
 use Rattle.blake2_digest.specs.Texts.{padded}
 use Rattle.blake2.specs.States as Held
 use Rattle.blake2_state.specs.declared.blake2s.State.{State}
 use Rattle.blake2_state.specs.States.{is_on, meaning_sized, named_key_size}
 use Rattle.blake2_state.specs.SavedStates.{encoding}
+use Rattle.blake2_state.specs.SeveralStates.{piece_at}
+use Rattle.blake2_state.specs.declared.many.Text.{Text}
 
 -- The state that a plain state holds. The pending bytes are at the beginning of their field, and
 -- the start block is at the beginning of the key's block, which is the key padded with zeros.
@@ -45,6 +48,21 @@ IsKeyed s = 1 ≤ key_length s
 abbrev pub IsReadyFor : ℕ → State → Type 0
 IsReadyFor size s = IsReady s × (s.output_size ≡ size)
 
+-- What is not compressed yet, if the state is given this input.
+abbrev pub uncompressed : State → List ℕ → List ℕ
+uncompressed s x = take s.pending_length s.pending ++ x
+
+-- The state can absorb this input: it is ready, and the count stays below 2^64.
+abbrev pub CanAbsorb : State → List ℕ → Type 0
+CanAbsorb s x = IsReady s × (meaning.count s + length x < 2 ^ 64)
+
+-- The new state is the old one after it absorbs this input.
+pub record Absorbed (old : State) (x : List ℕ) (new : State) : Type 0 where
+  pub ready : IsReady new
+  pub size : new.output_size ≡ old.output_size
+  pub key : key_length new ≡ key_length old
+  pub updated : Updated meaning old x new
+
 -- The state can be saved: it returns digests and has no key.
 pub record CanBeSaved (s : State) : Type 0 where
   pub ready : IsReady s
@@ -74,3 +92,11 @@ zeros = record {
   pending = replicate 64 0;
   key = replicate 32 0;
 }
+
+-- State j of several can absorb its input.
+abbrev pub CanAbsorbAt : List State → List Text → ℕ → Type 0
+CanAbsorbAt states inputs j = CanAbsorb (slice_index_or states j zeros) (piece_at inputs j)
+
+-- What it has not compressed, with its input.
+abbrev pub text_at : List State → List Text → ℕ → List ℕ
+text_at states inputs j = uncompressed (slice_index_or states j zeros) (piece_at inputs j)

@@ -6,3 +6,4 @@ pub mod States
 pub mod TreeStates
 pub mod Runs
 pub mod SavedStates
+pub mod SeveralStates

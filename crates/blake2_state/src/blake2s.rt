@@ -103,7 +103,7 @@ impl State {
     }
 
     // A state from these words that has absorbed nothing, under no key.
-    fn starting_from(first: [u32; 8], output_size: u16) -> Self
+    fn from_start_words(first: [u32; 8], output_size: u16) -> Self
         ensures { result
             ≡ record zeros { chain = first; first = first; output_size = output_size } }
     {
@@ -139,7 +139,7 @@ impl State {
             (digest_under blake2s (given_parameters parameters.now) None) 0 result }
     {
         let core = Blake2sVarCore::from_parameters(parameters);
-        Self::starting_from(core.first_words(), parameters.output_size as u16)
+        Self::from_start_words(core.first_words(), parameters.output_size as u16)
     }
 
     // A state under this key that has absorbed nothing else.
@@ -247,7 +247,7 @@ impl State {
         if block[0] == 0 || block[0] > 32 || block[1] > 32 {
             return Err(InvalidLength);
         }
-        Ok(Self::starting_from(to_words(&start_of(block)), block[0] as u16))
+        Ok(Self::from_start_words(to_words(&start_of(block)), block[0] as u16))
     }
 
     // The core that the state holds.
@@ -313,7 +313,7 @@ impl State {
     }
 
     // Absorbs an input that the pending block has room for.
-    fn keep(&mut self, input: &[u8])
+    fn append_pending(&mut self, input: &[u8])
         requires ready { IsReady self.old }
         requires room { self.old.pending_length + length input.now ≤ 64 }
         requires counted { meaning.count self.old + length input.now < 2 ^ 64 }
@@ -349,7 +349,7 @@ impl State {
     // core, whose words would move to rows and back. It stays a separate call, so that `update`
     // saves no registers if one byte comes.
     #[inline(never)]
-    fn take(&mut self, input: &[u8])
+    fn absorb_blocks(&mut self, input: &[u8])
         requires ready { IsReady self.old }
         requires counted { meaning.count self.old + length input.now < 2 ^ 64 }
         ensures ready { IsReady self.new }
@@ -358,7 +358,7 @@ impl State {
         ensures updated { Updated meaning self.old input.now self.new }
     {
         if input.len() <= 64 - self.pending_length as usize {
-            self.keep(input);
+            self.append_pending(input);
         } else {
             self.absorb(input);
         }
@@ -378,7 +378,7 @@ impl State {
         if input.len() == 1 && self.pending_length < 64 {
             self.keep_byte(input[0]);
         } else {
-            self.take(input);
+            self.absorb_blocks(input);
         }
     }
 

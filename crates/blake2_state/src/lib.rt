@@ -11,6 +11,7 @@ ghost use Rattle.blake2_state.specs.ConstructorArguments.{parameters_given};
 pub mod blake2b;
 pub mod blake2s;
 pub mod laws;
+pub mod many;
 pub mod runs;
 mod saved;
 pub mod tree;

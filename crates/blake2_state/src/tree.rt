@@ -232,11 +232,11 @@ impl TreeState {
         if !accepts(output_size, salt.len(), persona.len(), leaf_length) {
             return Err(InvalidLength);
         }
-        Ok(Self::begun(output_size, salt, persona, leaf_length))
+        Ok(Self::new_accepted(output_size, salt, persona, leaf_length))
     }
 
     // The same if the lengths are accepted.
-    fn begun(output_size: usize, salt: &[u8], persona: &[u8], leaf_length: u32) -> Self
+    fn new_accepted(output_size: usize, salt: &[u8], persona: &[u8], leaf_length: u32) -> Self
         requires least { 1 ≤ output_size }
         requires most { output_size ≤ 64 }
         requires salt { length salt.now ≤ 16 }

@@ -3,7 +3,7 @@
 ghost use Rattle.std.specs.Prelude.{◌≡◌, ◌%◌, [], take, drop, slice_index_or};
 ghost use Rattle.blake2_simd.specs.Family.{blake2b, sigma};
 ghost use Rattle.blake2_simd.specs.Round;
-ghost use Rattle.blake2_simd.specs.Rows.{eight, sixteen};
+ghost use Rattle.blake2_simd.specs.Rows.{chaining_words, work_words};
 ghost use Rattle.blake2_compress.specs.Hash;
 ghost use Rattle.blake2_compress.specs.Hash.{after_rounds, before_rounds, bytes_of};
 ghost use Rattle.blake2_compress.specs.Hash.{words_of, xor_words};
@@ -35,8 +35,9 @@ pub(crate) fn block_words(block: &[u8; 128]) -> [u64; 16]
 // to make the row of both flags.
 #[tactic(auto, using(crate::proofs::FlagRows::xor_nothing), unfolding(crate::specs::Hash::before_rounds, crate::specs::Hash::xor_words))]
 #[inline(always)]
-fn begin(h: [u64x4; 2], counter: u64, flags: Flags) -> [u64x4; 4]
-    ensures { sixteen result ≡ before_rounds blake2b (eight h) counter (given_flags flags) }
+fn work_vector(h: [u64x4; 2], counter: u64, flags: Flags) -> [u64x4; 4]
+    ensures { work_words result
+        ≡ before_rounds blake2b (chaining_words h) counter (given_flags flags) }
 {
     let [low, high] = to_rows(&BLAKE2B_IV);
     let none = u64x4::new(0, 0, 0, 0);
@@ -58,8 +59,8 @@ fn begin(h: [u64x4; 2], counter: u64, flags: Flags) -> [u64x4; 4]
 // of SIGMA (RFC 7693, 2.7).
 #[inline(always)]
 fn round_at(v: &mut [u64x4; 4], m: &[u64; 16], i: usize)
-    ensures { sixteen v.new
-        ≡ Round.round blake2b (sixteen v.old) m.now (slice_index_or sigma (i % 10) []) }
+    ensures { work_words v.new
+        ≡ Round.round blake2b (work_words v.old) m.now (slice_index_or sigma (i % 10) []) }
 {
     u64x4::round(v, m, &SIGMA[i % 10]);
 }
@@ -68,7 +69,7 @@ fn round_at(v: &mut [u64x4; 4], m: &[u64; 16], i: usize)
 // SIGMA at run time.
 #[inline(always)]
 fn rounds(v: &mut [u64x4; 4], m: &[u64; 16])
-    ensures { sixteen v.new ≡ after_rounds blake2b (sixteen v.old) m.now 12 }
+    ensures { work_words v.new ≡ after_rounds blake2b (work_words v.old) m.now 12 }
 {
     round_at(v, m, 0);
     round_at(v, m, 1);
@@ -87,9 +88,9 @@ fn rounds(v: &mut [u64x4; 4], m: &[u64; 16])
 // The chaining words with both halves of the rows xored into them.
 #[tactic(auto, unfolding(crate::specs::Hash::xor_words))]
 #[inline(always)]
-fn finish(h: [u64x4; 2], v: [u64x4; 4]) -> [u64x4; 2]
-    ensures { eight result
-        ≡ xor_words (xor_words (eight h) (take 8 (sixteen v))) (drop 8 (sixteen v)) }
+fn xor_halves(h: [u64x4; 2], v: [u64x4; 4]) -> [u64x4; 2]
+    ensures { chaining_words result
+        ≡ xor_words (xor_words (chaining_words h) (take 8 (work_words v))) (drop 8 (work_words v)) }
 {
     [h[0] ^ v[0] ^ v[2], h[1] ^ v[1] ^ v[3]]
 }
@@ -100,13 +101,13 @@ fn finish(h: [u64x4; 2], v: [u64x4; 4]) -> [u64x4; 2]
 #[tactic(auto, unfolding(crate::specs::Hash::compress))]
 #[inline]
 pub fn compress(h: &mut [u64x4; 2], block: &[u8; 128], counter: u64, flags: Flags)
-    ensures { eight h.new
-        ≡ Hash.compress blake2b (eight h.old) block.now counter (given_flags flags) }
+    ensures { chaining_words h.new
+        ≡ Hash.compress blake2b (chaining_words h.old) block.now counter (given_flags flags) }
 {
     let m = block_words(block);
-    let mut v = begin(*h, counter, flags);
+    let mut v = work_vector(*h, counter, flags);
     rounds(&mut v, &m);
-    *h = finish(*h, v);
+    *h = xor_halves(*h, v);
 }
 
 /// Computes the same as `compress`, with the eight chaining words as an array.
@@ -121,7 +122,7 @@ pub fn compress_words(h: &mut [u64; 8], block: &[u8; 128], counter: u64, flags: 
 /// Returns eight words as two rows of four.
 #[inline(always)]
 pub fn to_rows(words: &[u64; 8]) -> [u64x4; 2]
-    ensures { eight result ≡ words.now }
+    ensures { chaining_words result ≡ words.now }
 {
     [
         u64x4::new(words[0], words[1], words[2], words[3]),
@@ -131,7 +132,7 @@ pub fn to_rows(words: &[u64; 8]) -> [u64x4; 2]
 
 /// Returns the eight words of two rows.
 pub fn to_words(rows: &[u64x4; 2]) -> [u64; 8]
-    ensures { result ≡ eight rows.now }
+    ensures { result ≡ chaining_words rows.now }
 {
     let [h0, h1, h2, h3] = rows[0].to_array();
     let [h4, h5, h6, h7] = rows[1].to_array();
@@ -142,7 +143,7 @@ pub fn to_words(rows: &[u64x4; 2]) -> [u64; 8]
 /// 2.4). Those of the last chaining words begin with the digest (3.3).
 #[inline(always)]
 pub fn to_bytes(rows: &[u64x4; 2]) -> [u8; 64]
-    ensures { result ≡ bytes_of blake2b (eight rows.now) }
+    ensures { result ≡ bytes_of blake2b (chaining_words rows.now) }
 {
     let mut bytes = [0; 64];
     bytes[..32].copy_from_slice(&rows[0].to_bytes());
@@ -154,7 +155,7 @@ pub fn to_bytes(rows: &[u64x4; 2]) -> [u8; 64]
 #[tactic(auto, unfolding(crate::specs::Hash::xor_words))]
 #[inline(always)]
 pub(crate) fn xor_rows(a: [u64x4; 2], b: [u64x4; 2]) -> [u64x4; 2]
-    ensures { eight result ≡ xor_words (eight a) (eight b) }
+    ensures { chaining_words result ≡ xor_words (chaining_words a) (chaining_words b) }
 {
     [a[0] ^ b[0], a[1] ^ b[1]]
 }

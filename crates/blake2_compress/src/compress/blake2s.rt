@@ -4,7 +4,7 @@
 ghost use Rattle.std.specs.Prelude.{◌≡◌, ◌%◌, [], take, drop, slice_index_or};
 ghost use Rattle.blake2_simd.specs.Family.{blake2s, sigma};
 ghost use Rattle.blake2_simd.specs.Round;
-ghost use Rattle.blake2_simd.specs.Rows.{eight, sixteen};
+ghost use Rattle.blake2_simd.specs.Rows.{chaining_words, work_words};
 ghost use Rattle.blake2_compress.specs.Hash;
 ghost use Rattle.blake2_compress.specs.Hash.{after_rounds, before_rounds, bytes_of};
 ghost use Rattle.blake2_compress.specs.Hash.{words_of, xor_words};
@@ -36,8 +36,9 @@ pub(crate) fn block_words(block: &[u8; 64]) -> [u32; 16]
 // to make the row of both flags.
 #[tactic(auto, using(crate::proofs::FlagRows::xor_nothing), unfolding(crate::specs::Hash::before_rounds, crate::specs::Hash::xor_words))]
 #[inline(always)]
-fn begin(h: [u32x4; 2], counter: u64, flags: Flags) -> [u32x4; 4]
-    ensures { sixteen result ≡ before_rounds blake2s (eight h) counter (given_flags flags) }
+fn work_vector(h: [u32x4; 2], counter: u64, flags: Flags) -> [u32x4; 4]
+    ensures { work_words result
+        ≡ before_rounds blake2s (chaining_words h) counter (given_flags flags) }
 {
     let [low, high] = to_rows(&BLAKE2S_IV);
     let none = u32x4::new(0, 0, 0, 0);
@@ -61,8 +62,8 @@ fn begin(h: [u32x4; 2], counter: u64, flags: Flags) -> [u32x4; 4]
 // of SIGMA (RFC 7693, 2.7).
 #[inline(always)]
 fn round_at(v: &mut [u32x4; 4], m: &[u32; 16], i: usize)
-    ensures { sixteen v.new
-        ≡ Round.round blake2s (sixteen v.old) m.now (slice_index_or sigma (i % 10) []) }
+    ensures { work_words v.new
+        ≡ Round.round blake2s (work_words v.old) m.now (slice_index_or sigma (i % 10) []) }
 {
     u32x4::round(v, m, &SIGMA[i % 10]);
 }
@@ -71,7 +72,7 @@ fn round_at(v: &mut [u32x4; 4], m: &[u32; 16], i: usize)
 // SIGMA at run time.
 #[inline(always)]
 fn rounds(v: &mut [u32x4; 4], m: &[u32; 16])
-    ensures { sixteen v.new ≡ after_rounds blake2s (sixteen v.old) m.now 10 }
+    ensures { work_words v.new ≡ after_rounds blake2s (work_words v.old) m.now 10 }
 {
     round_at(v, m, 0);
     round_at(v, m, 1);
@@ -88,9 +89,9 @@ fn rounds(v: &mut [u32x4; 4], m: &[u32; 16])
 // The chaining words with both halves of the rows xored into them.
 #[tactic(auto, unfolding(crate::specs::Hash::xor_words))]
 #[inline(always)]
-fn finish(h: [u32x4; 2], v: [u32x4; 4]) -> [u32x4; 2]
-    ensures { eight result
-        ≡ xor_words (xor_words (eight h) (take 8 (sixteen v))) (drop 8 (sixteen v)) }
+fn xor_halves(h: [u32x4; 2], v: [u32x4; 4]) -> [u32x4; 2]
+    ensures { chaining_words result
+        ≡ xor_words (xor_words (chaining_words h) (take 8 (work_words v))) (drop 8 (work_words v)) }
 {
     [h[0] ^ v[0] ^ v[2], h[1] ^ v[1] ^ v[3]]
 }
@@ -101,13 +102,13 @@ fn finish(h: [u32x4; 2], v: [u32x4; 4]) -> [u32x4; 2]
 #[tactic(auto, unfolding(crate::specs::Hash::compress))]
 #[inline]
 pub fn compress(h: &mut [u32x4; 2], block: &[u8; 64], counter: u64, flags: Flags)
-    ensures { eight h.new
-        ≡ Hash.compress blake2s (eight h.old) block.now counter (given_flags flags) }
+    ensures { chaining_words h.new
+        ≡ Hash.compress blake2s (chaining_words h.old) block.now counter (given_flags flags) }
 {
     let m = block_words(block);
-    let mut v = begin(*h, counter, flags);
+    let mut v = work_vector(*h, counter, flags);
     rounds(&mut v, &m);
-    *h = finish(*h, v);
+    *h = xor_halves(*h, v);
 }
 
 /// Computes the same as `compress`, with the eight chaining words as an array.
@@ -122,7 +123,7 @@ pub fn compress_words(h: &mut [u32; 8], block: &[u8; 64], counter: u64, flags: F
 /// Returns eight words as two rows of four.
 #[inline(always)]
 pub fn to_rows(words: &[u32; 8]) -> [u32x4; 2]
-    ensures { eight result ≡ words.now }
+    ensures { chaining_words result ≡ words.now }
 {
     [
         u32x4::new(words[0], words[1], words[2], words[3]),
@@ -132,7 +133,7 @@ pub fn to_rows(words: &[u32; 8]) -> [u32x4; 2]
 
 /// Returns the eight words of two rows.
 pub fn to_words(rows: &[u32x4; 2]) -> [u32; 8]
-    ensures { result ≡ eight rows.now }
+    ensures { result ≡ chaining_words rows.now }
 {
     let [h0, h1, h2, h3] = rows[0].to_array();
     let [h4, h5, h6, h7] = rows[1].to_array();
@@ -143,7 +144,7 @@ pub fn to_words(rows: &[u32x4; 2]) -> [u32; 8]
 /// 2.4). Those of the last chaining words begin with the digest (3.3).
 #[inline(always)]
 pub fn to_bytes(rows: &[u32x4; 2]) -> [u8; 32]
-    ensures { result ≡ bytes_of blake2s (eight rows.now) }
+    ensures { result ≡ bytes_of blake2s (chaining_words rows.now) }
 {
     let mut bytes = [0; 32];
     bytes[..16].copy_from_slice(&rows[0].to_bytes());
@@ -155,7 +156,7 @@ pub fn to_bytes(rows: &[u32x4; 2]) -> [u8; 32]
 #[tactic(auto, unfolding(crate::specs::Hash::xor_words))]
 #[inline(always)]
 pub(crate) fn xor_rows(a: [u32x4; 2], b: [u32x4; 2]) -> [u32x4; 2]
-    ensures { eight result ≡ xor_words (eight a) (eight b) }
+    ensures { chaining_words result ≡ xor_words (chaining_words a) (chaining_words b) }
 {
     [a[0] ^ b[0], a[1] ^ b[1]]
 }

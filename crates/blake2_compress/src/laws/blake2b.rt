@@ -3,7 +3,7 @@
 ghost use Rattle.std.specs.Prelude.{◌≡◌, ◌≢◌, ℕ, ◌<◌, ◌≤◌, length, slice_index};
 ghost use Rattle.blake2_simd.specs.Family.{blake2b};
 ghost use Rattle.blake2_simd.specs.Round.{round};
-ghost use Rattle.blake2_simd.specs.Rows.{sixteen};
+ghost use Rattle.blake2_simd.specs.Rows.{work_words};
 ghost use Rattle.blake2_compress.specs.Hash;
 ghost use Rattle.blake2_compress.specs.DigestLaws.{ZerosLeaveDigests};
 
@@ -15,8 +15,8 @@ use blake2_simd::rows::u64x4;
 /// be below 16.
 pub fn unround_undoes_round(v: &mut [u64x4; 4], m: &[u64; 16], s: &[usize; 16]) -> [u64x4; 4]
     requires { (j : ℕ) → j < 16 → slice_index s.now j < 16 }
-    ensures between { sixteen result ≡ round blake2b (sixteen v.old) m.now s.now }
-    ensures undone { sixteen v.new ≡ sixteen v.old }
+    ensures between { work_words result ≡ round blake2b (work_words v.old) m.now s.now }
+    ensures undone { work_words v.new ≡ work_words v.old }
 {
     // Their type says that they are words.
     let _words = u64x4::words(v);
@@ -30,8 +30,8 @@ pub fn unround_undoes_round(v: &mut [u64x4; 4], m: &[u64; 16], s: &[usize; 16]) 
 /// number of `s` must be below 16.
 pub fn round_undoes_unround(w: &mut [u64x4; 4], m: &[u64; 16], s: &[usize; 16]) -> [u64x4; 4]
     requires { (j : ℕ) → j < 16 → slice_index s.now j < 16 }
-    ensures between { round blake2b (sixteen result) m.now s.now ≡ sixteen w.old }
-    ensures undone { sixteen w.new ≡ sixteen w.old }
+    ensures between { round blake2b (work_words result) m.now s.now ≡ work_words w.old }
+    ensures undone { work_words w.new ≡ work_words w.old }
 {
     u64x4::unround(w, m, s);
     let between = *w;
@@ -43,9 +43,9 @@ pub fn round_undoes_unround(w: &mut [u64x4; 4], m: &[u64; 16], s: &[usize; 16]) 
 /// different lists of sixteen words into different lists. Each number of `s` must be below 16.
 pub fn round_keeps_apart(a: &mut [u64x4; 4], b: &mut [u64x4; 4], m: &[u64; 16], s: &[usize; 16])
     requires { (j : ℕ) → j < 16 → slice_index s.now j < 16 }
-    ensures first { sixteen a.new ≡ round blake2b (sixteen a.old) m.now s.now }
-    ensures second { sixteen b.new ≡ round blake2b (sixteen b.old) m.now s.now }
-    ensures apart { sixteen a.old ≢ sixteen b.old → sixteen a.new ≢ sixteen b.new }
+    ensures first { work_words a.new ≡ round blake2b (work_words a.old) m.now s.now }
+    ensures second { work_words b.new ≡ round blake2b (work_words b.old) m.now s.now }
+    ensures apart { work_words a.old ≢ work_words b.old → work_words a.new ≢ work_words b.new }
 {
     // Their type says that they are words.
     let _words = (u64x4::words(a), u64x4::words(b));

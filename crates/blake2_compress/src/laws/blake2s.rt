@@ -4,7 +4,7 @@
 ghost use Rattle.std.specs.Prelude.{◌≡◌, ◌≢◌, ℕ, ◌<◌, ◌≤◌, length, slice_index};
 ghost use Rattle.blake2_simd.specs.Family.{blake2s};
 ghost use Rattle.blake2_simd.specs.Round.{round};
-ghost use Rattle.blake2_simd.specs.Rows.{sixteen};
+ghost use Rattle.blake2_simd.specs.Rows.{work_words};
 ghost use Rattle.blake2_compress.specs.Hash;
 ghost use Rattle.blake2_compress.specs.DigestLaws.{ZerosLeaveDigests};
 
@@ -16,8 +16,8 @@ use blake2_simd::rows::u32x4;
 /// be below 16.
 pub fn unround_undoes_round(v: &mut [u32x4; 4], m: &[u32; 16], s: &[usize; 16]) -> [u32x4; 4]
     requires { (j : ℕ) → j < 16 → slice_index s.now j < 16 }
-    ensures between { sixteen result ≡ round blake2s (sixteen v.old) m.now s.now }
-    ensures undone { sixteen v.new ≡ sixteen v.old }
+    ensures between { work_words result ≡ round blake2s (work_words v.old) m.now s.now }
+    ensures undone { work_words v.new ≡ work_words v.old }
 {
     // Their type says that they are words.
     let _words = u32x4::words(v);
@@ -31,8 +31,8 @@ pub fn unround_undoes_round(v: &mut [u32x4; 4], m: &[u32; 16], s: &[usize; 16]) 
 /// number of `s` must be below 16.
 pub fn round_undoes_unround(w: &mut [u32x4; 4], m: &[u32; 16], s: &[usize; 16]) -> [u32x4; 4]
     requires { (j : ℕ) → j < 16 → slice_index s.now j < 16 }
-    ensures between { round blake2s (sixteen result) m.now s.now ≡ sixteen w.old }
-    ensures undone { sixteen w.new ≡ sixteen w.old }
+    ensures between { round blake2s (work_words result) m.now s.now ≡ work_words w.old }
+    ensures undone { work_words w.new ≡ work_words w.old }
 {
     u32x4::unround(w, m, s);
     let between = *w;
@@ -44,9 +44,9 @@ pub fn round_undoes_unround(w: &mut [u32x4; 4], m: &[u32; 16], s: &[usize; 16]) 
 /// different lists of sixteen words into different lists. Each number of `s` must be below 16.
 pub fn round_keeps_apart(a: &mut [u32x4; 4], b: &mut [u32x4; 4], m: &[u32; 16], s: &[usize; 16])
     requires { (j : ℕ) → j < 16 → slice_index s.now j < 16 }
-    ensures first { sixteen a.new ≡ round blake2s (sixteen a.old) m.now s.now }
-    ensures second { sixteen b.new ≡ round blake2s (sixteen b.old) m.now s.now }
-    ensures apart { sixteen a.old ≢ sixteen b.old → sixteen a.new ≢ sixteen b.new }
+    ensures first { work_words a.new ≡ round blake2s (work_words a.old) m.now s.now }
+    ensures second { work_words b.new ≡ round blake2s (work_words b.old) m.now s.now }
+    ensures apart { work_words a.old ≢ work_words b.old → work_words a.new ≢ work_words b.new }
 {
     // Their type says that they are words.
     let _words = (u32x4::words(a), u32x4::words(b));

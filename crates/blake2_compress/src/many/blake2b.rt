@@ -3,12 +3,12 @@
 pub mod eight;
 
 ghost use Rattle.std.specs.Prelude.{◌≡◌, ◌↔◌, ◌<◌, ◌≤◌, ◌+◌, ◌-◌, ◌*◌, ◌^◌, ◌%◌, ℕ, List, [], ◌++◌};
-ghost use Rattle.std.specs.Prelude.{◌⊎◌, IsTrue, length, bit_xor, map, take, drop, slice_index};
-ghost use Rattle.std.specs.Prelude.{slice_index_or};
+ghost use Rattle.std.specs.Prelude.{◌∷◌, ◌⊎◌, IsTrue, length, bit_xor, map, take, drop};
+ghost use Rattle.std.specs.Prelude.{slice_index, slice_index_or};
 ghost use Rattle.blake2_simd.specs.Family.{blake2b, output_bytes, sigma};
 ghost use Rattle.blake2_simd.specs.Lanes.{in_lane};
 ghost use Rattle.blake2_simd.specs.Round;
-ghost use Rattle.blake2_simd.specs.Rows.{eight, lane};
+ghost use Rattle.blake2_simd.specs.Rows.{chaining_words, lane};
 ghost use Rattle.blake2_compress.specs.Hash;
 ghost use Rattle.blake2_compress.specs.Hash.{after_rounds, before_rounds, blocks, bytes_of, chain};
 ghost use Rattle.blake2_compress.specs.Hash.{digest, input_data, input_flags, input_start};
@@ -19,9 +19,9 @@ ghost use Rattle.blake2_compress.specs.Lanes.{input_at, texts};
 ghost use Rattle.blake2_compress.specs.Run;
 ghost use Rattle.blake2_compress.specs.Views.{given_flags, input_of};
 
-use super::later_blocks;
+use super::{counters_after, later_blocks};
 use crate::compress::Flags;
-use crate::compress::blake2b::{block_words, to_bytes};
+use crate::compress::blake2b::{block_words, to_bytes, to_words};
 use crate::consts::{BLAKE2B_IV, SIGMA};
 use crate::inputs::Input;
 use crate::inputs::blake2b::accepts;
@@ -32,7 +32,7 @@ use blake2_simd::rows::u64x4;
 /// Returns how many messages are best hashed in parallel: 1, 4 or 8. It is 4, and a build for a
 /// processor on which another number is faster has that number in its place. So a caller must be
 /// right for each of the three.
-pub fn lanes() -> usize
+pub fn best_lane_count() -> usize
     ensures { (result ≡ 1) ⊎ (result ≡ 4) ⊎ (result ≡ 8) }
 {
     4
@@ -71,7 +71,7 @@ pub fn interleave(words: &[[u64; 8]; 4]) -> [u64x4; 8]
 #[inline(always)]
 pub fn lane_rows(rows: &[u64x4; 8], j: usize) -> [u64x4; 2]
     requires { j < 4 }
-    ensures { eight result ≡ in_lane j rows.now }
+    ensures { chaining_words result ≡ in_lane j rows.now }
 {
     let low = u64x4::transpose([rows[0], rows[1], rows[2], rows[3]]);
     let high = u64x4::transpose([rows[4], rows[5], rows[6], rows[7]]);
@@ -129,7 +129,7 @@ fn block_rows(blocks: &[&[u8; 128]; 4]) -> [u64x4; 16]
 // final flag is on, and into its eighth if the last-node flag is on.
 #[tactic(auto, unfolding(crate::specs::Hash::before_rounds, crate::specs::Hash::xor_words))]
 #[inline(always)]
-fn last_words(counter: u64, flags: Flags) -> [u64; 8]
+fn work_vector_end(counter: u64, flags: Flags) -> [u64; 8]
     ensures { (h : List ℕ) → h ++ result ≡ before_rounds blake2b h counter (given_flags flags) }
 {
     let [v8, v9, v10, v11, v12, v13, v14, v15] = BLAKE2B_IV;
@@ -150,16 +150,16 @@ fn last_words(counter: u64, flags: Flags) -> [u64; 8]
 // The rows before the first round: the chaining words, and in each lane the last words with its
 // counter and under its flags.
 #[inline(always)]
-fn begin(h: &[u64x4; 8], counters: &[u64; 4], flags: &[Flags; 4]) -> [u64x4; 16]
+fn work_vector(h: &[u64x4; 8], counters: &[u64; 4], flags: &[Flags; 4]) -> [u64x4; 16]
     ensures { (j : ℕ) → j < 4
         → in_lane j result ≡ before_rounds blake2b (in_lane j h.now)
         (slice_index counters.now j) (flags_at flags.now j) }
 {
     let last = [
-        last_words(counters[0], flags[0]),
-        last_words(counters[1], flags[1]),
-        last_words(counters[2], flags[2]),
-        last_words(counters[3], flags[3]),
+        work_vector_end(counters[0], flags[0]),
+        work_vector_end(counters[1], flags[1]),
+        work_vector_end(counters[2], flags[2]),
+        work_vector_end(counters[3], flags[3]),
     ];
     let w = interleave(&last);
     [
@@ -204,7 +204,7 @@ fn rounds(v: &mut [u64x4; 16], m: &[u64x4; 16])
 
 // The exclusive or of three rows.
 #[inline(always)]
-fn xor(a: u64x4, b: u64x4, c: u64x4) -> u64x4
+fn xor3(a: u64x4, b: u64x4, c: u64x4) -> u64x4
     ensures { (j : ℕ) → j < 4 → slice_index result j
         ≡ bit_xor (bit_xor (slice_index a j) (slice_index b j)) (slice_index c j) }
 {
@@ -213,38 +213,56 @@ fn xor(a: u64x4, b: u64x4, c: u64x4) -> u64x4
 
 // The chaining words with both halves of the rows xored into them.
 #[inline(always)]
-fn finish(h: &[u64x4; 8], v: &[u64x4; 16]) -> [u64x4; 8]
+fn xor_halves(h: &[u64x4; 8], v: &[u64x4; 16]) -> [u64x4; 8]
     ensures { (j : ℕ) → j < 4 → in_lane j result
         ≡ xor_words (xor_words (in_lane j h.now) (take 8 (in_lane j v.now)))
         (drop 8 (in_lane j v.now)) }
 {
     let mut result = *h;
     for k in 0..8 {
-        result[k] = xor(h[k], v[k], v[8 + k]);
+        result[k] = xor3(h[k], v[k], v[8 + k]);
     }
     result
+}
+
+// Computes F, the compression (RFC 7693, 3.2), of four messages in parallel. `h` holds their
+// chaining words, block j is the next 128 bytes of message j, with it `counters[j]` bytes of that
+// message are counted, without padding, and its flags are `flags[j]`. It is written out in each of
+// its callers, also when compiled: a loop that passed the rows to a call and back would take a
+// fifth longer.
+#[tactic(auto, unfolding(crate::specs::Hash::compress))]
+#[inline(always)]
+fn compress_lanes(
+    h: &mut [u64x4; 8],
+    blocks: &[&[u8; 128]; 4],
+    counters: &[u64; 4],
+    flags: &[Flags; 4],
+)
+    ensures { (j : ℕ) → j < 4 → in_lane j h.new
+        ≡ Hash.compress blake2b (in_lane j h.old) (slice_index_or (texts blocks.now) j [])
+        (slice_index counters.now j) (flags_at flags.now j) }
+{
+    let m = block_rows(blocks);
+    let mut v = work_vector(h, counters, flags);
+    rounds(&mut v, &m);
+    *h = xor_halves(h, &v);
 }
 
 /// Computes F, the compression (RFC 7693, 3.2), of four messages in parallel. `h` holds their
 /// chaining words, block j is the next 128 bytes of message j, and its flags are `flags[j]`.
 /// `counter` is the number of bytes counted for each message up to and including this block,
 /// without padding.
-#[tactic(auto, unfolding(crate::specs::Hash::compress))]
 #[inline]
 pub fn compress(h: &mut [u64x4; 8], blocks: &[&[u8; 128]; 4], counter: u64, flags: &[Flags; 4])
     ensures { (j : ℕ) → j < 4 → in_lane j h.new
         ≡ Hash.compress blake2b (in_lane j h.old) (slice_index_or (texts blocks.now) j [])
         counter (flags_at flags.now j) }
 {
-    let m = block_rows(blocks);
-    let mut v = begin(h, &[counter; 4], flags);
-    rounds(&mut v, &m);
-    *h = finish(h, &v);
+    compress_lanes(h, blocks, &[counter; 4], flags);
 }
 
 /// Computes the same as `compress`, with a counter for each message: that of message j is
 /// `counters[j]`.
-#[tactic(auto, unfolding(crate::specs::Hash::compress))]
 #[inline]
 pub fn compress_each(
     h: &mut [u64x4; 8],
@@ -256,14 +274,11 @@ pub fn compress_each(
         ≡ Hash.compress blake2b (in_lane j h.old) (slice_index_or (texts blocks.now) j [])
         (slice_index counters.now j) (flags_at flags.now j) }
 {
-    let m = block_rows(blocks);
-    let mut v = begin(h, counters, flags);
-    rounds(&mut v, &m);
-    *h = finish(h, &v);
+    compress_lanes(h, blocks, counters, flags);
 }
 
 // The chaining words that the inputs start from, at digests of `output_size` bytes.
-fn start(output_size: usize, inputs: &[Input<'_>; 4]) -> [u64x4; 8]
+fn start_lanes(output_size: usize, inputs: &[Input<'_>; 4]) -> [u64x4; 8]
     requires size { output_size ≤ output_bytes blake2b }
     requires accepted { (j : ℕ) → j < 4 → Accepts blake2b (input_at inputs.now j) }
     ensures { (j : ℕ) → j < 4
@@ -277,27 +292,52 @@ fn start(output_size: usize, inputs: &[Input<'_>; 4]) -> [u64x4; 8]
 }
 
 // Compresses blocks of each of four messages, one after another, the same number of each, with
-// flags j for message j. `counter` bytes are counted with the first of them, 128 more with each
-// that follows, and less than 2^64 with the last. `counted` says so with 128 more on each side, and
-// so for no blocks too. The loop has the only call of `compress`, so that the compiler lays it out
-// there. It works on a copy of the rows, so that what is the same for all blocks is computed once.
-fn compress_blocks(h: &mut [u64x4; 8], blocks: &[&[[u8; 128]]; 4], counter: u64, flags: &[Flags; 4])
+// flags j for message j. With the first of them `counters[j]` bytes are counted for message j, 128
+// more with each that follows, and less than 2^64 with the last, as `counted` says for any number
+// of blocks. It works on a copy of the rows, so that what is the same for all blocks is computed
+// once.
+fn compress_blocks(
+    h: &mut [u64x4; 8],
+    blocks: &[&[[u8; 128]]; 4],
+    counters: &[u64; 4],
+    flags: &[Flags; 4],
+)
     requires same_number { (j : ℕ) → j < 4
         → length (slice_index_or (block_lists blocks.now) j [])
         ≡ length (slice_index_or (block_lists blocks.now) 0 []) }
-    requires counted { counter + 128 * length (slice_index_or (block_lists blocks.now) 0 [])
-        ≤ 2 ^ 64 + 127 }
+    requires counted { (j : ℕ) → j < 4 → slice_index counters.now j
+        + 128 * length (slice_index_or (block_lists blocks.now) 0 []) ≤ 2 ^ 64 + 127 }
     ensures { (j : ℕ) → j < 4 → in_lane j h.new
         ≡ after_blocks blake2b (in_lane j h.old) (slice_index_or (block_lists blocks.now) j [])
-        counter (flags_at flags.now j) (length (slice_index_or (block_lists blocks.now) 0 [])) }
+        (slice_index counters.now j) (flags_at flags.now j)
+        (length (slice_index_or (block_lists blocks.now) 0 [])) }
 {
     let [p0, p1, p2, p3] = *blocks;
     let mut rows = *h;
     for i in 0..p0.len() {
         let here = [&p0[i], &p1[i], &p2[i], &p3[i]];
-        compress(&mut rows, &here, counter + 128 * i as u64, flags);
+        let counted = counters_after(counters, 128 * i as u64);
+        compress_lanes(&mut rows, &here, &counted, flags);
     }
     *h = rows;
+}
+
+// Compresses a block of each of four messages.
+fn compress_next(
+    h: &mut [u64x4; 8],
+    blocks: &[[u8; 128]; 4],
+    counters: &[u64; 4],
+    flags: &[Flags; 4],
+)
+    ensures { (j : ℕ) → j < 4 → in_lane j h.new
+        ≡ Hash.compress blake2b (in_lane j h.old) (slice_index_or blocks.now j [])
+        (slice_index counters.now j) (flags_at flags.now j) }
+{
+    let b0 = [blocks[0]];
+    let b1 = [blocks[1]];
+    let b2 = [blocks[2]];
+    let b3 = [blocks[3]];
+    compress_blocks(h, &[&b0, &b1, &b2, &b3], counters, flags);
 }
 
 // Compresses block i of each of four inputs.
@@ -315,16 +355,18 @@ fn compress_at(
         (slice_index_or (blocks blake2b (input_data blake2b (input_at inputs.now j))) i [])
         counter (flags_at flags.now j) }
 {
-    let b0 = [block_at(&inputs[0], i)];
-    let b1 = [block_at(&inputs[1], i)];
-    let b2 = [block_at(&inputs[2], i)];
-    let b3 = [block_at(&inputs[3], i)];
-    compress_blocks(h, &[&b0[..], &b1[..], &b2[..], &b3[..]], counter, flags);
+    let here = [
+        block_at(&inputs[0], i),
+        block_at(&inputs[1], i),
+        block_at(&inputs[2], i),
+        block_at(&inputs[3], i),
+    ];
+    compress_next(h, &here, &[counter; 4], flags);
 }
 
 // Compresses all blocks of four inputs except the last. Those from the second on are read from
 // the messages without a copy.
-fn absorb_inner(h: &mut [u64x4; 8], inputs: &[Input<'_>; 4])
+fn compress_all_but_last(h: &mut [u64x4; 8], inputs: &[Input<'_>; 4])
     requires accepted { (j : ℕ) → j < 4 → Accepts blake2b (input_at inputs.now j) }
     requires same_number { (j : ℕ) → j < 4
         → Run.step_count blake2b (input_at inputs.now j)
@@ -344,7 +386,9 @@ fn absorb_inner(h: &mut [u64x4; 8], inputs: &[Input<'_>; 4])
     for j in 0..4 {
         later[j] = later_blocks(&inputs[j], count - 2);
     }
-    compress_blocks(h, &later, 256, &flags);
+    // A variable, since a reference to a literal would be to data of the program.
+    let counters = [256; 4];
+    compress_blocks(h, &later, &counters, &flags);
 }
 
 // The flags of the last compression of four inputs.
@@ -360,7 +404,7 @@ fn last_flags(inputs: &[Input<'_>; 4]) -> [Flags; 4]
 }
 
 // Compresses all blocks of four inputs.
-fn absorb(h: &mut [u64x4; 8], inputs: &[Input<'_>; 4])
+fn compress_all(h: &mut [u64x4; 8], inputs: &[Input<'_>; 4])
     requires accepted { (j : ℕ) → j < 4 → Accepts blake2b (input_at inputs.now j) }
     requires same_count { (j : ℕ) → j < 4
         → length (input_data blake2b (input_at inputs.now j))
@@ -369,7 +413,7 @@ fn absorb(h: &mut [u64x4; 8], inputs: &[Input<'_>; 4])
         ≡ last_chain blake2b (in_lane j h.old) 0 (input_data blake2b (input_at inputs.now j))
         (input_flags (input_at inputs.now j)) }
 {
-    absorb_inner(h, inputs);
+    compress_all_but_last(h, inputs);
     let last = step_count::<128>(&inputs[0]) as usize - 1;
     let flags = last_flags(inputs);
     compress_at(h, inputs, last, counted::<128>(&inputs[0]), &flags);
@@ -378,7 +422,7 @@ fn absorb(h: &mut [u64x4; 8], inputs: &[Input<'_>; 4])
 // The first N bytes of the chaining words of a message.
 fn output<const N: usize>(h: &[u64x4; 2]) -> [u8; N]
     requires { N ≤ output_bytes blake2b }
-    ensures { result ≡ take N (bytes_of blake2b (eight h.now)) }
+    ensures { result ≡ take N (bytes_of blake2b (chaining_words h.now)) }
 {
     let whole = to_bytes(h);
     let mut bytes = [0; N];
@@ -398,8 +442,8 @@ fn outputs<const N: usize>(output_size: usize, inputs: &[Input<'_>; 4]) -> [[u8;
         (input_start blake2b output_size (input_at inputs.now j)) 0
         (input_data blake2b (input_at inputs.now j)) (input_flags (input_at inputs.now j)))) }
 {
-    let mut h = start(output_size, inputs);
-    absorb(&mut h, inputs);
+    let mut h = start_lanes(output_size, inputs);
+    compress_all(&mut h, inputs);
     let low = u64x4::transpose([h[0], h[1], h[2], h[3]]);
     let high = u64x4::transpose([h[4], h[5], h[6], h[7]]);
     let mut outputs = [[0; N]; 4];
@@ -451,4 +495,48 @@ pub fn hash_four_sized(output_size: usize, inputs: &[Input<'_>; 4]) -> [[u8; 64]
         ≡ map (λ input. digest blake2b output_size (input_of input)) inputs.now }
 {
     outputs(output_size, inputs)
+}
+
+// The eight words of each message, from rows.
+#[inline(always)]
+fn separate(rows: &[u64x4; 8]) -> [[u64; 8]; 4]
+    ensures { (j : ℕ) → j < 4 → slice_index_or result j [] ≡ in_lane j rows.now }
+{
+    [
+        to_words(&lane_rows(rows, 0)),
+        to_words(&lane_rows(rows, 1)),
+        to_words(&lane_rows(rows, 2)),
+        to_words(&lane_rows(rows, 3)),
+    ]
+}
+
+/// Returns the chaining words of each of four messages after one more block, `first`, and then the
+/// same number of blocks of each. `words[j]` are those of message j before, for which `counters[j]`
+/// bytes are counted; less than 2^64 are with the last block. So the messages may be at different
+/// places. None of the blocks is the last of its message.
+pub fn continue_four(
+    words: &[[u64; 8]; 4],
+    first: &[[u8; 128]; 4],
+    later: &[&[[u8; 128]]; 4],
+    counters: &[u64; 4],
+) -> [[u64; 8]; 4]
+    // The type says so, and a proof has to know it.
+    requires long { (j : ℕ) → j < 4 → length (slice_index_or words.now j []) ≡ 8 }
+    requires same_number { (j : ℕ) → j < 4
+        → length (slice_index_or (block_lists later.now) j [])
+        ≡ length (slice_index_or (block_lists later.now) 0 []) }
+    requires counted { (j : ℕ) → j < 4 → slice_index counters.now j
+        + 128 * length (slice_index_or (block_lists later.now) 0 []) + 128 < 2 ^ 64 }
+    ensures { (j : ℕ) → j < 4 → slice_index_or result j []
+        ≡ chain blake2b (slice_index_or words.now j []) (slice_index counters.now j)
+        (slice_index_or first.now j [] ∷ slice_index_or (block_lists later.now) j [])
+        (length (slice_index_or (block_lists later.now) 0 []) + 1) }
+{
+    let mut rows = interleave(words);
+    let flags = [Flags::INNER; 4];
+    compress_next(&mut rows, first, &counters_after(counters, 128), &flags);
+    if !later[0].is_empty() {
+        compress_blocks(&mut rows, later, &counters_after(counters, 256), &flags);
+    }
+    separate(&rows)
 }

@@ -2,12 +2,12 @@
 // tools/twins.py makes what blake2b/eight.rt has too, except what tools/twins.txt names.
 
 ghost use Rattle.std.specs.Prelude.{◌≡◌, ◌↔◌, ◌<◌, ◌≤◌, ◌+◌, ◌-◌, ◌*◌, ◌^◌, ◌%◌, ℕ, List, [], ◌++◌};
-ghost use Rattle.std.specs.Prelude.{◌⊎◌, IsTrue, length, bit_xor, map, take, drop, slice_index};
-ghost use Rattle.std.specs.Prelude.{slice_index_or};
+ghost use Rattle.std.specs.Prelude.{◌∷◌, ◌⊎◌, IsTrue, length, bit_xor, map, take, drop};
+ghost use Rattle.std.specs.Prelude.{slice_index, slice_index_or};
 ghost use Rattle.blake2_simd.specs.Family.{blake2s, output_bytes, sigma};
 ghost use Rattle.blake2_simd.specs.Lanes.{in_lane};
 ghost use Rattle.blake2_simd.specs.Round;
-ghost use Rattle.blake2_simd.specs.Rows.{eight, lane};
+ghost use Rattle.blake2_simd.specs.Rows.{chaining_words, lane};
 ghost use Rattle.blake2_compress.specs.Hash;
 ghost use Rattle.blake2_compress.specs.Hash.{after_rounds, before_rounds, blocks, bytes_of, chain};
 ghost use Rattle.blake2_compress.specs.Hash.{digest, input_data, input_flags, input_start};
@@ -18,7 +18,7 @@ ghost use Rattle.blake2_compress.specs.Lanes.{input_at, texts};
 ghost use Rattle.blake2_compress.specs.Run;
 ghost use Rattle.blake2_compress.specs.Views.{given_flags, input_of};
 
-use super::later_blocks;
+use super::{counters_after, later_blocks};
 use crate::compress::Flags;
 use crate::compress::blake2s::{block_words, to_bytes, to_rows};
 use crate::consts::{BLAKE2S_IV, SIGMA};
@@ -31,7 +31,7 @@ use blake2_simd::rows::{u32x4, u32x8};
 /// Returns how many messages are best hashed in parallel: 1 or 8. It is 8, and a build for a
 /// processor on which one after another is faster has 1 in its place. So a caller must be right for
 /// both.
-pub fn lanes() -> usize
+pub fn best_lane_count() -> usize
     ensures { (result ≡ 1) ⊎ (result ≡ 8) }
 {
     8
@@ -79,7 +79,7 @@ pub fn interleave(words: &[[u32; 8]; 8]) -> [u32x8; 8]
 #[inline(always)]
 pub fn lane_rows(rows: &[u32x8; 8], j: usize) -> [u32x4; 2]
     requires { j < 8 }
-    ensures { eight result ≡ in_lane j rows.now }
+    ensures { chaining_words result ≡ in_lane j rows.now }
 {
     let words = u32x8::transpose(*rows);
     to_rows(&words[j].to_array())
@@ -151,7 +151,7 @@ fn block_rows(blocks: &[&[u8; 64]; 8]) -> [u32x8; 16]
 // is on, and into its eighth if the last-node flag is on.
 #[tactic(auto, unfolding(crate::specs::Hash::before_rounds, crate::specs::Hash::xor_words))]
 #[inline(always)]
-fn last_words(counter: u64, flags: Flags) -> [u32; 8]
+fn work_vector_end(counter: u64, flags: Flags) -> [u32; 8]
     ensures { (h : List ℕ) → h ++ result ≡ before_rounds blake2s h counter (given_flags flags) }
 {
     let [v8, v9, v10, v11, v12, v13, v14, v15] = BLAKE2S_IV;
@@ -174,20 +174,20 @@ fn last_words(counter: u64, flags: Flags) -> [u32; 8]
 // The rows before the first round: the chaining words, and in each lane the last words with its
 // counter and under its flags.
 #[inline(always)]
-fn begin(h: &[u32x8; 8], counters: &[u64; 8], flags: &[Flags; 8]) -> [u32x8; 16]
+fn work_vector(h: &[u32x8; 8], counters: &[u64; 8], flags: &[Flags; 8]) -> [u32x8; 16]
     ensures { (j : ℕ) → j < 8
         → in_lane j result ≡ before_rounds blake2s (in_lane j h.now)
         (slice_index counters.now j) (flags_at flags.now j) }
 {
     let last = [
-        last_words(counters[0], flags[0]),
-        last_words(counters[1], flags[1]),
-        last_words(counters[2], flags[2]),
-        last_words(counters[3], flags[3]),
-        last_words(counters[4], flags[4]),
-        last_words(counters[5], flags[5]),
-        last_words(counters[6], flags[6]),
-        last_words(counters[7], flags[7]),
+        work_vector_end(counters[0], flags[0]),
+        work_vector_end(counters[1], flags[1]),
+        work_vector_end(counters[2], flags[2]),
+        work_vector_end(counters[3], flags[3]),
+        work_vector_end(counters[4], flags[4]),
+        work_vector_end(counters[5], flags[5]),
+        work_vector_end(counters[6], flags[6]),
+        work_vector_end(counters[7], flags[7]),
     ];
     let w = interleave(&last);
     [
@@ -230,7 +230,7 @@ fn rounds(v: &mut [u32x8; 16], m: &[u32x8; 16])
 
 // The exclusive or of three rows.
 #[inline(always)]
-fn xor(a: u32x8, b: u32x8, c: u32x8) -> u32x8
+fn xor3(a: u32x8, b: u32x8, c: u32x8) -> u32x8
     ensures { (j : ℕ) → j < 8 → slice_index result j
         ≡ bit_xor (bit_xor (slice_index a j) (slice_index b j)) (slice_index c j) }
 {
@@ -239,38 +239,56 @@ fn xor(a: u32x8, b: u32x8, c: u32x8) -> u32x8
 
 // The chaining words with both halves of the rows xored into them.
 #[inline(always)]
-fn finish(h: &[u32x8; 8], v: &[u32x8; 16]) -> [u32x8; 8]
+fn xor_halves(h: &[u32x8; 8], v: &[u32x8; 16]) -> [u32x8; 8]
     ensures { (j : ℕ) → j < 8 → in_lane j result
         ≡ xor_words (xor_words (in_lane j h.now) (take 8 (in_lane j v.now)))
         (drop 8 (in_lane j v.now)) }
 {
     let mut result = *h;
     for k in 0..8 {
-        result[k] = xor(h[k], v[k], v[8 + k]);
+        result[k] = xor3(h[k], v[k], v[8 + k]);
     }
     result
+}
+
+// Computes F, the compression (RFC 7693, 3.2), of eight messages in parallel. `h` holds their
+// chaining words, block j is the next 64 bytes of message j, with it `counters[j]` bytes of that
+// message are counted, without padding, and its flags are `flags[j]`. It is written out in each of
+// its callers, also when compiled: a loop that passed the rows to a call and back would take a
+// fifth longer.
+#[tactic(auto, unfolding(crate::specs::Hash::compress))]
+#[inline(always)]
+fn compress_lanes(
+    h: &mut [u32x8; 8],
+    blocks: &[&[u8; 64]; 8],
+    counters: &[u64; 8],
+    flags: &[Flags; 8],
+)
+    ensures { (j : ℕ) → j < 8 → in_lane j h.new
+        ≡ Hash.compress blake2s (in_lane j h.old) (slice_index_or (texts blocks.now) j [])
+        (slice_index counters.now j) (flags_at flags.now j) }
+{
+    let m = block_rows(blocks);
+    let mut v = work_vector(h, counters, flags);
+    rounds(&mut v, &m);
+    *h = xor_halves(h, &v);
 }
 
 /// Computes F, the compression (RFC 7693, 3.2), of eight messages in parallel. `h` holds their
 /// chaining words, block j is the next 64 bytes of message j, and its flags are `flags[j]`.
 /// `counter` is the number of bytes counted for each message up to and including this block,
 /// without padding.
-#[tactic(auto, unfolding(crate::specs::Hash::compress))]
 #[inline]
 pub fn compress(h: &mut [u32x8; 8], blocks: &[&[u8; 64]; 8], counter: u64, flags: &[Flags; 8])
     ensures { (j : ℕ) → j < 8 → in_lane j h.new
         ≡ Hash.compress blake2s (in_lane j h.old) (slice_index_or (texts blocks.now) j [])
         counter (flags_at flags.now j) }
 {
-    let m = block_rows(blocks);
-    let mut v = begin(h, &[counter; 8], flags);
-    rounds(&mut v, &m);
-    *h = finish(h, &v);
+    compress_lanes(h, blocks, &[counter; 8], flags);
 }
 
 /// Computes the same as `compress`, with a counter for each message: that of message j is
 /// `counters[j]`.
-#[tactic(auto, unfolding(crate::specs::Hash::compress))]
 #[inline]
 pub fn compress_each(
     h: &mut [u32x8; 8],
@@ -282,14 +300,11 @@ pub fn compress_each(
         ≡ Hash.compress blake2s (in_lane j h.old) (slice_index_or (texts blocks.now) j [])
         (slice_index counters.now j) (flags_at flags.now j) }
 {
-    let m = block_rows(blocks);
-    let mut v = begin(h, counters, flags);
-    rounds(&mut v, &m);
-    *h = finish(h, &v);
+    compress_lanes(h, blocks, counters, flags);
 }
 
 // The chaining words that the inputs start from, at digests of `output_size` bytes.
-fn start(output_size: usize, inputs: &[Input<'_>; 8]) -> [u32x8; 8]
+fn start_lanes(output_size: usize, inputs: &[Input<'_>; 8]) -> [u32x8; 8]
     requires size { output_size ≤ output_bytes blake2s }
     requires accepted { (j : ℕ) → j < 8 → Accepts blake2s (input_at inputs.now j) }
     ensures { (j : ℕ) → j < 8
@@ -303,19 +318,25 @@ fn start(output_size: usize, inputs: &[Input<'_>; 8]) -> [u32x8; 8]
 }
 
 // Compresses blocks of each of eight messages, one after another, the same number of each, with
-// flags j for message j. `counter` bytes are counted with the first of them, 64 more with each
-// that follows, and less than 2^64 with the last, as `counted` says for any number of blocks. The
-// loop has the only call of `compress`, so that the compiler lays it out there. It works on a
-// copy of the rows, so that what is the same for all blocks is computed once.
-fn compress_blocks(h: &mut [u32x8; 8], blocks: &[&[[u8; 64]]; 8], counter: u64, flags: &[Flags; 8])
+// flags j for message j. With the first of them `counters[j]` bytes are counted for message j, 64
+// more with each that follows, and less than 2^64 with the last, as `counted` says for any number
+// of blocks. It works on a copy of the rows, so that what is the same for all blocks is computed
+// once.
+fn compress_blocks(
+    h: &mut [u32x8; 8],
+    blocks: &[&[[u8; 64]]; 8],
+    counters: &[u64; 8],
+    flags: &[Flags; 8],
+)
     requires same_number { (j : ℕ) → j < 8
         → length (slice_index_or (block_lists blocks.now) j [])
         ≡ length (slice_index_or (block_lists blocks.now) 0 []) }
-    requires counted { counter + 64 * length (slice_index_or (block_lists blocks.now) 0 [])
-        ≤ 2 ^ 64 + 63 }
+    requires counted { (j : ℕ) → j < 8 → slice_index counters.now j
+        + 64 * length (slice_index_or (block_lists blocks.now) 0 []) ≤ 2 ^ 64 + 63 }
     ensures { (j : ℕ) → j < 8 → in_lane j h.new
         ≡ after_blocks blake2s (in_lane j h.old) (slice_index_or (block_lists blocks.now) j [])
-        counter (flags_at flags.now j) (length (slice_index_or (block_lists blocks.now) 0 [])) }
+        (slice_index counters.now j) (flags_at flags.now j)
+        (length (slice_index_or (block_lists blocks.now) 0 [])) }
 {
     let [p0, p1, p2, p3, p4, p5, p6, p7] = *blocks;
     let mut rows = *h;
@@ -323,9 +344,37 @@ fn compress_blocks(h: &mut [u32x8; 8], blocks: &[&[[u8; 64]]; 8], counter: u64, 
         let here = [
             &p0[i], &p1[i], &p2[i], &p3[i], &p4[i], &p5[i], &p6[i], &p7[i],
         ];
-        compress(&mut rows, &here, counter + 64 * i as u64, flags);
+        let counted = counters_after(counters, 64 * i as u64);
+        compress_lanes(&mut rows, &here, &counted, flags);
     }
     *h = rows;
+}
+
+// Compresses a block of each of eight messages.
+fn compress_next(
+    h: &mut [u32x8; 8],
+    blocks: &[[u8; 64]; 8],
+    counters: &[u64; 8],
+    flags: &[Flags; 8],
+)
+    ensures { (j : ℕ) → j < 8 → in_lane j h.new
+        ≡ Hash.compress blake2s (in_lane j h.old) (slice_index_or blocks.now j [])
+        (slice_index counters.now j) (flags_at flags.now j) }
+{
+    let b0 = [blocks[0]];
+    let b1 = [blocks[1]];
+    let b2 = [blocks[2]];
+    let b3 = [blocks[3]];
+    let b4 = [blocks[4]];
+    let b5 = [blocks[5]];
+    let b6 = [blocks[6]];
+    let b7 = [blocks[7]];
+    compress_blocks(
+        h,
+        &[&b0, &b1, &b2, &b3, &b4, &b5, &b6, &b7],
+        counters,
+        flags,
+    );
 }
 
 // Compresses block i of each of eight inputs.
@@ -343,34 +392,22 @@ fn compress_at(
         (slice_index_or (blocks blake2s (input_data blake2s (input_at inputs.now j))) i [])
         counter (flags_at flags.now j) }
 {
-    let b0 = [block_at(&inputs[0], i)];
-    let b1 = [block_at(&inputs[1], i)];
-    let b2 = [block_at(&inputs[2], i)];
-    let b3 = [block_at(&inputs[3], i)];
-    let b4 = [block_at(&inputs[4], i)];
-    let b5 = [block_at(&inputs[5], i)];
-    let b6 = [block_at(&inputs[6], i)];
-    let b7 = [block_at(&inputs[7], i)];
-    compress_blocks(
-        h,
-        &[
-            &b0[..],
-            &b1[..],
-            &b2[..],
-            &b3[..],
-            &b4[..],
-            &b5[..],
-            &b6[..],
-            &b7[..],
-        ],
-        counter,
-        flags,
-    );
+    let here = [
+        block_at(&inputs[0], i),
+        block_at(&inputs[1], i),
+        block_at(&inputs[2], i),
+        block_at(&inputs[3], i),
+        block_at(&inputs[4], i),
+        block_at(&inputs[5], i),
+        block_at(&inputs[6], i),
+        block_at(&inputs[7], i),
+    ];
+    compress_next(h, &here, &[counter; 8], flags);
 }
 
 // Compresses all blocks of eight inputs except the last. Those from the second on are read from
 // the messages without a copy.
-fn absorb_inner(h: &mut [u32x8; 8], inputs: &[Input<'_>; 8])
+fn compress_all_but_last(h: &mut [u32x8; 8], inputs: &[Input<'_>; 8])
     requires accepted { (j : ℕ) → j < 8 → Accepts blake2s (input_at inputs.now j) }
     requires same_number { (j : ℕ) → j < 8
         → Run.step_count blake2s (input_at inputs.now j)
@@ -390,7 +427,9 @@ fn absorb_inner(h: &mut [u32x8; 8], inputs: &[Input<'_>; 8])
     for j in 0..8 {
         later[j] = later_blocks(&inputs[j], count - 2);
     }
-    compress_blocks(h, &later, 128, &flags);
+    // A variable, since a reference to a literal would be to data of the program.
+    let counters = [128; 8];
+    compress_blocks(h, &later, &counters, &flags);
 }
 
 // The flags of the last compression of eight inputs.
@@ -410,7 +449,7 @@ fn last_flags(inputs: &[Input<'_>; 8]) -> [Flags; 8]
 }
 
 // Compresses all blocks of eight inputs.
-fn absorb(h: &mut [u32x8; 8], inputs: &[Input<'_>; 8])
+fn compress_all(h: &mut [u32x8; 8], inputs: &[Input<'_>; 8])
     requires accepted { (j : ℕ) → j < 8 → Accepts blake2s (input_at inputs.now j) }
     requires same_count { (j : ℕ) → j < 8
         → length (input_data blake2s (input_at inputs.now j))
@@ -419,7 +458,7 @@ fn absorb(h: &mut [u32x8; 8], inputs: &[Input<'_>; 8])
         ≡ last_chain blake2s (in_lane j h.old) 0 (input_data blake2s (input_at inputs.now j))
         (input_flags (input_at inputs.now j)) }
 {
-    absorb_inner(h, inputs);
+    compress_all_but_last(h, inputs);
     let last = step_count::<64>(&inputs[0]) as usize - 1;
     let flags = last_flags(inputs);
     compress_at(h, inputs, last, counted::<64>(&inputs[0]), &flags);
@@ -428,7 +467,7 @@ fn absorb(h: &mut [u32x8; 8], inputs: &[Input<'_>; 8])
 // The first N bytes of the chaining words of a message.
 fn output<const N: usize>(h: &[u32x4; 2]) -> [u8; N]
     requires { N ≤ output_bytes blake2s }
-    ensures { result ≡ take N (bytes_of blake2s (eight h.now)) }
+    ensures { result ≡ take N (bytes_of blake2s (chaining_words h.now)) }
 {
     let whole = to_bytes(h);
     let mut bytes = [0; N];
@@ -448,8 +487,8 @@ fn outputs<const N: usize>(output_size: usize, inputs: &[Input<'_>; 8]) -> [[u8;
         (input_start blake2s output_size (input_at inputs.now j)) 0
         (input_data blake2s (input_at inputs.now j)) (input_flags (input_at inputs.now j)))) }
 {
-    let mut h = start(output_size, inputs);
-    absorb(&mut h, inputs);
+    let mut h = start_lanes(output_size, inputs);
+    compress_all(&mut h, inputs);
     let words = u32x8::transpose(h);
     let mut outputs = [[0; N]; 8];
     for j in 0..8 {
@@ -500,4 +539,53 @@ pub fn hash_eight_sized(output_size: usize, inputs: &[Input<'_>; 8]) -> [[u8; 32
         ≡ map (λ input. digest blake2s output_size (input_of input)) inputs.now }
 {
     outputs(output_size, inputs)
+}
+
+// The eight words of each message, from rows.
+#[inline(always)]
+fn separate(rows: &[u32x8; 8]) -> [[u32; 8]; 8]
+    ensures { (j : ℕ) → j < 8 → slice_index_or result j [] ≡ in_lane j rows.now }
+{
+    let words = u32x8::transpose(*rows);
+    [
+        words[0].to_array(),
+        words[1].to_array(),
+        words[2].to_array(),
+        words[3].to_array(),
+        words[4].to_array(),
+        words[5].to_array(),
+        words[6].to_array(),
+        words[7].to_array(),
+    ]
+}
+
+/// Returns the chaining words of each of eight messages after one more block, `first`, and then the
+/// same number of blocks of each. `words[j]` are those of message j before, for which `counters[j]`
+/// bytes are counted; less than 2^64 are with the last block. So the messages may be at different
+/// places. None of the blocks is the last of its message.
+pub fn continue_eight(
+    words: &[[u32; 8]; 8],
+    first: &[[u8; 64]; 8],
+    later: &[&[[u8; 64]]; 8],
+    counters: &[u64; 8],
+) -> [[u32; 8]; 8]
+    // The type says so, and a proof has to know it.
+    requires long { (j : ℕ) → j < 8 → length (slice_index_or words.now j []) ≡ 8 }
+    requires same_number { (j : ℕ) → j < 8
+        → length (slice_index_or (block_lists later.now) j [])
+        ≡ length (slice_index_or (block_lists later.now) 0 []) }
+    requires counted { (j : ℕ) → j < 8 → slice_index counters.now j
+        + 64 * length (slice_index_or (block_lists later.now) 0 []) + 64 < 2 ^ 64 }
+    ensures { (j : ℕ) → j < 8 → slice_index_or result j []
+        ≡ chain blake2s (slice_index_or words.now j []) (slice_index counters.now j)
+        (slice_index_or first.now j [] ∷ slice_index_or (block_lists later.now) j [])
+        (length (slice_index_or (block_lists later.now) 0 []) + 1) }
+{
+    let mut rows = interleave(words);
+    let flags = [Flags::INNER; 8];
+    compress_next(&mut rows, first, &counters_after(counters, 64), &flags);
+    if !later[0].is_empty() {
+        compress_blocks(&mut rows, later, &counters_after(counters, 128), &flags);
+    }
+    separate(&rows)
 }

@@ -2,7 +2,7 @@
 
 ghost use Rattle.std.specs.Prelude.{◌≡◌, ◌↔◌, IsTrue, length};
 ghost use Rattle.blake2_simd.specs.Family.{blake2b, iv};
-ghost use Rattle.blake2_simd.specs.Rows.{eight};
+ghost use Rattle.blake2_simd.specs.Rows.{chaining_words};
 ghost use Rattle.blake2_compress.specs.Hash;
 ghost use Rattle.blake2_compress.specs.Hash.{AdmitsTree, Fits, start, words_of, xor_words};
 ghost use Rattle.blake2_compress.specs.ParameterBlock;
@@ -64,7 +64,7 @@ fn block_of(parameters: &Parameters<'_>) -> [u8; 64]
 #[inline(always)]
 pub fn block_rows(block: &[u8]) -> [u64x4; 2]
     requires { length block.now ≡ 64 }
-    ensures { eight result ≡ words_of blake2b 8 block.now }
+    ensures { chaining_words result ≡ words_of blake2b 8 block.now }
 {
     [
         u64x4::from_le_bytes(&block[..32]),
@@ -77,7 +77,7 @@ pub fn block_rows(block: &[u8]) -> [u64x4; 2]
 #[inline(always)]
 pub fn start_of(block: &[u8]) -> [u64x4; 2]
     requires { length block.now ≡ 64 }
-    ensures { eight result ≡ xor_words (iv blake2b) (words_of blake2b 8 block.now) }
+    ensures { chaining_words result ≡ xor_words (iv blake2b) (words_of blake2b 8 block.now) }
 {
     xor_rows(to_rows(&BLAKE2B_IV), block_rows(block))
 }
@@ -97,7 +97,7 @@ pub fn parameter_words(parameters: &Parameters<'_>) -> [u64; 8]
 #[tactic(auto, unfolding(crate::specs::Hash::start, crate::specs::Hash::parameter_words))]
 pub fn start_rows(parameters: &Parameters<'_>) -> [u64x4; 2]
     requires { Fits blake2b (given_parameters parameters.now) }
-    ensures { eight result ≡ start blake2b (given_parameters parameters.now) }
+    ensures { chaining_words result ≡ start blake2b (given_parameters parameters.now) }
 {
     start_of(&block_of(parameters))
 }

@@ -3,7 +3,7 @@
 
 ghost use Rattle.std.specs.Prelude.{◌≡◌, ◌↔◌, IsTrue, length};
 ghost use Rattle.blake2_simd.specs.Family.{blake2s, iv};
-ghost use Rattle.blake2_simd.specs.Rows.{eight};
+ghost use Rattle.blake2_simd.specs.Rows.{chaining_words};
 ghost use Rattle.blake2_compress.specs.Hash;
 ghost use Rattle.blake2_compress.specs.Hash.{AdmitsTree, Fits, start, words_of, xor_words};
 ghost use Rattle.blake2_compress.specs.ParameterBlock;
@@ -68,7 +68,7 @@ fn block_of(parameters: &Parameters<'_>) -> [u8; 32]
 #[inline(always)]
 pub fn block_rows(block: &[u8]) -> [u32x4; 2]
     requires { length block.now ≡ 32 }
-    ensures { eight result ≡ words_of blake2s 8 block.now }
+    ensures { chaining_words result ≡ words_of blake2s 8 block.now }
 {
     [
         u32x4::from_le_bytes(&block[..16]),
@@ -81,7 +81,7 @@ pub fn block_rows(block: &[u8]) -> [u32x4; 2]
 #[inline(always)]
 pub fn start_of(block: &[u8]) -> [u32x4; 2]
     requires { length block.now ≡ 32 }
-    ensures { eight result ≡ xor_words (iv blake2s) (words_of blake2s 8 block.now) }
+    ensures { chaining_words result ≡ xor_words (iv blake2s) (words_of blake2s 8 block.now) }
 {
     xor_rows(to_rows(&BLAKE2S_IV), block_rows(block))
 }
@@ -101,7 +101,7 @@ pub fn parameter_words(parameters: &Parameters<'_>) -> [u32; 8]
 #[tactic(auto, unfolding(crate::specs::Hash::start, crate::specs::Hash::parameter_words))]
 pub fn start_rows(parameters: &Parameters<'_>) -> [u32x4; 2]
     requires { Fits blake2s (given_parameters parameters.now) }
-    ensures { eight result ≡ start blake2s (given_parameters parameters.now) }
+    ensures { chaining_words result ≡ start blake2s (given_parameters parameters.now) }
 {
     start_of(&block_of(parameters))
 }

@@ -3,7 +3,7 @@
 
 ghost use Rattle.std.specs.Prelude.{◌≡◌, ◌+◌, ◌<◌, ◌≤◌, ◌^◌, false, length, take, Some};
 ghost use Rattle.blake2_simd.specs.Family.{blake2s, output_bytes};
-ghost use Rattle.blake2_simd.specs.Rows.{eight};
+ghost use Rattle.blake2_simd.specs.Rows.{chaining_words};
 ghost use Rattle.blake2_compress.specs.Hash.{data_bytes, digest, final, last_chain};
 ghost use Rattle.blake2_compress.specs.Inputs.{KeyFits};
 ghost use Rattle.blake2_compress.specs.Views.{key_of};
@@ -18,9 +18,10 @@ use blake2_simd::rows::u32x4;
 
 // Compresses all blocks of a message, before which `counted` bytes were counted. The last one is
 // padded in a copy, and the others are read from the message.
-fn absorb(h: &mut [u32x4; 2], message: &[u8], counted: u64)
+fn compress_all(h: &mut [u32x4; 2], message: &[u8], counted: u64)
     requires { counted + length message.now < 2 ^ 64 }
-    ensures { eight h.new ≡ last_chain blake2s (eight h.old) counted message.now (final false) }
+    ensures { chaining_words h.new
+        ≡ last_chain blake2s (chaining_words h.old) counted message.now (final false) }
 {
     let inner = message.len().saturating_sub(1) / 64;
     let (whole, _) = message.as_chunks::<64>();
@@ -37,7 +38,7 @@ fn absorb(h: &mut [u32x4; 2], message: &[u8], counted: u64)
 fn absorb_keyed(h: &mut [u32x4; 2], key: &[u8], message: &[u8])
     requires key { KeyFits blake2s (Some key.now) }
     requires counted { 64 + length message.now < 2 ^ 64 }
-    ensures { eight h.new ≡ last_chain blake2s (eight h.old) 0
+    ensures { chaining_words h.new ≡ last_chain blake2s (chaining_words h.old) 0
         (data_bytes blake2s (Some key.now) message.now) (final false) }
 {
     let block = padded(key);
@@ -46,7 +47,7 @@ fn absorb_keyed(h: &mut [u32x4; 2], key: &[u8], message: &[u8])
         return;
     }
     compress(h, &block, 64, Flags::INNER);
-    absorb(h, message, 64);
+    compress_all(h, message, 64);
 }
 
 /// Returns 32 bytes whose first `output_size`, at most 32, are the digest of the message under the
@@ -67,7 +68,7 @@ pub fn hash(output_size: usize, key: Option<&[u8]>, message: &[u8]) -> [u8; 32]
 {
     let mut h = start_rows(&parameters(output_size, &key));
     match key {
-        None => absorb(&mut h, message, 0),
+        None => compress_all(&mut h, message, 0),
         Some(key) => absorb_keyed(&mut h, key, message),
     }
     to_bytes(&h)

@@ -12,15 +12,15 @@ ghost use Rattle.blake2_state.specs.ConstructorArguments.{parameters_given};
 ghost use Rattle.blake2_ffi.specs.SeveralMessages.{AreCounted, digests_of, digests_given};
 ghost use Rattle.blake2_ffi.specs.Status.{Returns};
 
-use crate::Text;
 use crate::many::{are_counted, is_room_for, write_digests};
 use blake2::Tree;
 use blake2::many::blake2b::eight::{accepts_eight, hash_eight_sized};
-use blake2::many::blake2b::{accepts_four, hash_four_sized, lanes};
+use blake2::many::blake2b::{accepts_four, best_lane_count, hash_four_sized};
 use blake2::transcripts::Input;
 use blake2_digest::scrub_stack;
 use blake2_state::StateParameters;
 use blake2_state::blake2b::State;
+use blake2_state::many::Text;
 
 // Bytes of the stack that `write_all` reaches with all that it calls, rounded up, as built by LLVM
 // for x86-64-v4, where eight messages are hashed in parallel. Other builds reach less.
@@ -103,7 +103,7 @@ fn write_eight(out: &mut [u8], given: &StateParameters<'_>, messages: &[Text<'_>
 
 // Writes the digests of the first messages at the beginning of `out`, 4 if these are hashed in
 // parallel, otherwise one, and returns how many.
-fn write_few(out: &mut [u8], given: &StateParameters<'_>, messages: &[Text<'_>]) -> usize
+fn write_next_group(out: &mut [u8], given: &StateParameters<'_>, messages: &[Text<'_>]) -> usize
     requires taken { AdmitsState blake2b (parameters_given given.now sequential) }
     requires counted { AreCounted blake2b given.now.key.now messages.now }
     requires some { 1 ≤ length messages.now }
@@ -113,7 +113,7 @@ fn write_few(out: &mut [u8], given: &StateParameters<'_>, messages: &[Text<'_>])
     ensures digests { out.new ≡ digests_given blake2b given.now (take result messages.now)
         ++ drop (result * given.now.output_size) out.old }
 {
-    if lanes() >= 4 && messages.len() >= 4 {
+    if best_lane_count() >= 4 && messages.len() >= 4 {
         let StateParameters {
             output_size,
             key,
@@ -146,17 +146,17 @@ fn write_next(out: &mut [u8], given: &StateParameters<'_>, messages: &[Text<'_>]
     ensures digests { out.new ≡ digests_given blake2b given.now (take result messages.now)
         ++ drop (result * given.now.output_size) out.old }
 {
-    if lanes() >= 8 && messages.len() >= 8 && write_eight(out, given, messages) {
+    if best_lane_count() >= 8 && messages.len() >= 8 && write_eight(out, given, messages) {
         return 8;
     }
-    write_few(out, given, messages)
+    write_next_group(out, given, messages)
 }
 
 /// Writes the digests of the messages, each as `vulfsjor_ffi_blake2b` would with this size and key,
 /// and with a salt and a persona of up to 16 bytes each, one after the other. As many messages in a
-/// row that have one length are hashed in parallel as `lanes` says. Returns 0, or -1 if a length is
-/// not one that BLAKE2b accepts, a message and the key's block have 2^64 bytes or more, or `out`
-/// does not have exactly `output_size` bytes for each message; nothing is then written.
+/// row that have one length are hashed in parallel as `best_lane_count` says. Returns 0, or -1 if a
+/// length is not one that BLAKE2b accepts, a message and the key's block have 2^64 bytes or more,
+/// or `out` does not have exactly `output_size` bytes for each message; nothing is then written.
 #[unsafe(no_mangle)]
 pub extern "C" fn vulfsjor_ffi_blake2b_many(
     out: &mut [u8],

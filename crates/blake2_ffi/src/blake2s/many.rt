@@ -12,14 +12,14 @@ ghost use Rattle.blake2_state.specs.ConstructorArguments.{parameters_given};
 ghost use Rattle.blake2_ffi.specs.SeveralMessages.{AreCounted, digests_of, digests_given};
 ghost use Rattle.blake2_ffi.specs.Status.{Returns};
 
-use crate::Text;
 use crate::many::{are_counted, is_room_for, write_digests};
 use blake2::Tree;
-use blake2::many::blake2s::{accepts_eight, hash_eight_sized, lanes};
+use blake2::many::blake2s::{accepts_eight, best_lane_count, hash_eight_sized};
 use blake2::transcripts::Input;
 use blake2_digest::scrub_stack;
 use blake2_state::StateParameters;
 use blake2_state::blake2s::State;
+use blake2_state::many::Text;
 
 // Bytes of the stack that `write_all` reaches with all that it calls, rounded up, as built by LLVM
 // for x86-64-v2 and for x86-64-v3.
@@ -78,7 +78,7 @@ fn write_next(out: &mut [u8], given: &StateParameters<'_>, messages: &[Text<'_>]
     ensures digests { out.new ≡ digests_given blake2s given.now (take result messages.now)
         ++ drop (result * given.now.output_size) out.old }
 {
-    if lanes() >= 8 && messages.len() >= 8 {
+    if best_lane_count() >= 8 && messages.len() >= 8 {
         let StateParameters {
             output_size,
             key,
@@ -106,9 +106,9 @@ fn write_next(out: &mut [u8], given: &StateParameters<'_>, messages: &[Text<'_>]
 
 /// Writes the digests of the messages, each as `vulfsjor_ffi_blake2s` would with this size and key,
 /// and with a salt and a persona of up to 8 bytes each, one after the other. As many messages in a
-/// row that have one length are hashed in parallel as `lanes` says. Returns 0, or -1 if a length is
-/// not one that BLAKE2s accepts, a message and the key's block have 2^64 bytes or more, or `out`
-/// does not have exactly `output_size` bytes for each message; nothing is then written.
+/// row that have one length are hashed in parallel as `best_lane_count` says. Returns 0, or -1 if a
+/// length is not one that BLAKE2s accepts, a message and the key's block have 2^64 bytes or more,
+/// or `out` does not have exactly `output_size` bytes for each message; nothing is then written.
 #[unsafe(no_mangle)]
 pub extern "C" fn vulfsjor_ffi_blake2s_many(
     out: &mut [u8],

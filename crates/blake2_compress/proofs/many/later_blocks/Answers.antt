@@ -6,7 +6,7 @@ use Rattle.blake2_compress.specs.Hash.{input_data}
 use Rattle.blake2_compress.specs.Inputs.{Accepts}
 use Rattle.blake2_compress.specs.Run.{step_count}
 use Rattle.blake2_compress.specs.Views.{key_of, input_of}
-use Rattle.blake2_compress.proofs.LaterBlocks.{rest_none, rest_some, later_block, later_enough}
+use Rattle.blake2_compress.proofs.LaterBlocks.{rest_unkeyed, rest_keyed, later_block, later_enough}
 use Rattle.blake2_compress.proofs.many.later_blocks.Given.{Over}
 use Rattle.blake2_compress.proofs.many.later_blocks.Goals.{in-None, in-Some}
 use Rattle.blake2_compress.proofs.many.later_blocks.Goals as goal
@@ -22,8 +22,8 @@ rest_is g c =
       | in-None w ↦
           ap (λ r. r.now) w.rest-is ∙ take_rest message w.min.result
           ∙ ap (λ (n : ℕ). drop n message) w.min.ensures
-          ∙ rest_none g.f g.row.B family _ message (ap key_of w.in-None.is)
-      | in-Some w ↦ ap (λ r. r.now) w.rest-is ∙ rest_some g.f g.row.B family _ _ message
+          ∙ rest_unkeyed g.f g.row.B family _ message (ap key_of w.in-None.is)
+      | in-Some w ↦ ap (λ r. r.now) w.rest-is ∙ rest_keyed g.f g.row.B family _ _ message
           (ap key_of w.in-Some.is) accepted.key_fits
     ]
 

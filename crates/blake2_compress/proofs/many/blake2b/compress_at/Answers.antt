@@ -1,17 +1,20 @@
-use Rattle.std.proofs.Common.{ℕ, List, [], ◌∷◌, slice_index_or, ap, ◌∙◌}
+use Rattle.std.proofs.Common.{ℕ, List, [], slice_index_or, ◌∙◌}
+use Rattle.std.proofs.lemmas.List.{get_or-replicate}
 use Rattle.blake2_simd.specs.Family.{blake2b}
+use Rattle.blake2_simd.specs.Lanes.{in_lane}
 use Rattle.blake2_simd.proofs.Lanes.{listed_in_four}
-use Rattle.blake2_compress.specs.Hash.{blocks, input_data}
-use Rattle.blake2_compress.specs.Lanes.{input_at}
-use Rattle.blake2_compress.proofs.Lanes.{single_after}
+use Rattle.blake2_compress.specs.Hash.{blocks, compress, input_data}
+use Rattle.blake2_compress.specs.Lanes.{flags_at, input_at}
 use Rattle.blake2_compress.proofs.many.blake2b.compress_at.Goals as goal
 
 pub returns : goal.returns
 returns c j h =
     let block : ℕ → List ℕ = λ k. slice_index_or
     (blocks blake2b (input_data blake2b (input_at c.args.inputs.now k))) c.args.i [] in
-    let single : List ℕ → List (List ℕ) = λ b. b ∷ [] in
-    c.compress_blocks.ensures j h
-    ∙ single_after blake2b _ (block j) _ _ _ (listed_in_four (λ k. single (block k)) _ _ _ _
-    (ap single c.block_at.ensures) (ap single c.block_at-2.ensures) (ap single c.block_at-3.ensures)
-    (ap single c.block_at-4.ensures) j h)
+    let here = listed_in_four block _ _ _ _
+    c.block_at.ensures c.block_at-2.ensures c.block_at-3.ensures
+    c.block_at-4.ensures j h in
+    let counted = get_or-replicate 4 j c.args.counter 0 h in
+    c.compress_next.ensures j h
+    ∙ (λ i. compress blake2b (in_lane j c.args.h.now) (here i) (counted i)
+    (flags_at c.args.flags.now j))

@@ -19,5 +19,5 @@ loop-i-preserved c j h =
     (λ k. slice_index_or (slice_index_or (block_lists lists) k []) i []) _ _ _ _
     (here 0 _ (omega arith)) (here 1 _ (omega arith)) (here 2 _ (omega arith))
     (here 3 _ (omega arith)) j h in
-    one_more_after blake2b _ _ _ _ i _ _ _ _ (c.loop-i.invariant j h) (c.compress.ensures j h) at
-    (omega arith)
+    one_more_after blake2b _ _ _ _ i _ _ _ _ (c.loop-i.invariant j h) (c.compress_lanes.ensures j h)
+    at (omega (arith, c.counters_after-counted.ensures j h))

@@ -1,4 +1,4 @@
-use Rattle.std.proofs.Common.{◌≡◌, ◌<◌, ℕ, [], slice_index_or}
+use Rattle.std.proofs.Common.{◌≡◌, ◌<◌, ℕ, [], slice_index, slice_index_or}
 use Rattle.blake2_simd.specs.Family.{blake2b}
 use Rattle.blake2_simd.specs.Lanes.{in_lane}
 use Rattle.blake2_compress.specs.Lanes.{after_blocks, block_lists, flags_at}
@@ -7,4 +7,5 @@ use Rattle.blake2_compress.proofs.many.blake2b.compress_blocks.Given as goal
 abbrev pub invariant-loop-i : goal.invariant-loop-i
 invariant-loop-i l = (j : ℕ) → j < 4
     → in_lane j l.rows ≡ after_blocks blake2b (in_lane j l.fn.h)
-    (slice_index_or (block_lists l.fn.blocks) j []) l.fn.counter (flags_at l.fn.flags j) l.i
+    (slice_index_or (block_lists l.fn.blocks) j []) (slice_index l.fn.counters j)
+    (flags_at l.fn.flags j) l.i

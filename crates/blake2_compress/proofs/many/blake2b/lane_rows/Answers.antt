@@ -1,7 +1,7 @@
 use Rattle.std.proofs.Common.{◌≡◌, ℕ, List, [], ◌∷◌, length, get_or, slice_index_or, ◌∙◌}
 use Rattle.std.proofs.Common.{arith, rules}
 use Rattle.std.proofs.lemmas.List.{get_or_default}
-use Rattle.blake2_simd.specs.Rows.{eight}
+use Rattle.blake2_simd.specs.Rows.{chaining_words}
 use Rattle.blake2_compress.proofs.Lanes.{two_columns}
 use Rattle.blake2_compress.proofs.many.blake2b.lane_rows.Goals as goal
 
@@ -16,7 +16,7 @@ returns c =
     let long_high : length high ≡ 4 = search rules in
     let at : (x : List (List ℕ)) (d : List ℕ) → length x ≡ 4 → get_or x j d ≡ slice_index_or x j [] =
     λ x d four. get_or_default x j d [] (omega (arith, four, c.requires)) in
-    (λ i. eight (at low c.index-low-j.result long_low i ∷ at high c.index-high-j.result long_high i
+    (λ i. chaining_words (at low c.index-low-j.result long_low i ∷ at high c.index-high-j.result long_high i
     ∷ []))
     ∙ two_columns rows low high j _ _ _ _ _ _ _ _ long
     (λ k lt. c.transpose-low.ensures k j lt c.requires)

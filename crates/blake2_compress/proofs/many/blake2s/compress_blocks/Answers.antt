@@ -21,5 +21,5 @@ loop-i-preserved c j h =
     (here 0 _ (omega arith)) (here 1 _ (omega arith)) (here 2 _ (omega arith))
     (here 3 _ (omega arith)) (here 4 _ (omega arith)) (here 5 _ (omega arith))
     (here 6 _ (omega arith)) (here 7 _ (omega arith)) j h in
-    one_more_after blake2s _ _ _ _ i _ _ _ _ (c.loop-i.invariant j h) (c.compress.ensures j h) at
-    (omega arith)
+    one_more_after blake2s _ _ _ _ i _ _ _ _ (c.loop-i.invariant j h) (c.compress_lanes.ensures j h)
+    at (omega (arith, c.counters_after-counted.ensures j h))

@@ -18,6 +18,6 @@ pub returns : goal.returns
 returns g c j lt =
     let made = filled_all c.loop-j.invariant c.loop-j-test.false j lt in
     made.1 ∙ ap (λ (w : List ℕ). take g.row.N (bytes_of blake2s w))
-    (column_run blake2s c.absorb.new.h _ j _ (input_at c.args.inputs.now j) _ made.0
-    (c.absorb.ensures j lt) (c.start-h.ensures j lt)
+    (column_run blake2s c.compress_all.new.h _ j _ (input_at c.args.inputs.now j) _ made.0
+    (c.compress_all.ensures j lt) (c.start_lanes-h.ensures j lt)
     (λ k low. c.transpose-words.ensures k j low lt))

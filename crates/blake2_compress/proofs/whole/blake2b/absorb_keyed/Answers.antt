@@ -1,6 +1,6 @@
 use Rattle.std.proofs.Common.{◌≡◌, ◌<◌, ◌∙◌, ℕ, false, nat_eq, rules, sym}
 use Rattle.blake2_simd.specs.Family.{blake2b}
-use Rattle.blake2_simd.specs.Rows.{eight}
+use Rattle.blake2_simd.specs.Rows.{chaining_words}
 use Rattle.blake2_compress.specs.Hash.{compress, final, inner}
 use Rattle.blake2_compress.proofs.WholeMessages.{key_first, key_only}
 use Rattle.blake2_compress.proofs.whole.blake2b.absorb_keyed.Goals as goal
@@ -10,15 +10,15 @@ some_bytes n e = search rules
 
 pub returns-then-is_empty : goal.returns-then-is_empty
 returns-then-is_empty c =
-    key_only blake2b (eight c.args.h.now) c.args.key.now c.args.message.now _ (final false)
+    key_only blake2b (chaining_words c.args.h.now) c.args.key.now c.args.message.now _ (final false)
     c.requires.key (search rules) (c.compress.ensures
-    ∙ (λ k. compress blake2b (eight c.args.h.now) (c.padded-block.ensures k) 128
+    ∙ (λ k. compress blake2b (chaining_words c.args.h.now) (c.padded-block.ensures k) 128
     (c.last_block.ensures k)))
 
 pub returns : goal.returns
 returns c =
-    key_first blake2b (eight c.args.h.now) (eight c.compress-2.new.h) c.args.key.now
+    key_first blake2b (chaining_words c.args.h.now) (chaining_words c.compress-2.new.h) c.args.key.now
     c.args.message.now _ (final false) c.requires.key
     (some_bytes _ (sym c.if-is_empty.false ∙ c.is_empty.ensures)) (c.compress-2.ensures
-    ∙ (λ k. compress blake2b (eight c.args.h.now) (c.padded-block.ensures k) 128 inner))
-    c.absorb.ensures
+    ∙ (λ k. compress blake2b (chaining_words c.args.h.now) (c.padded-block.ensures k) 128 inner))
+    c.compress_all.ensures

@@ -1,6 +1,6 @@
 use Rattle.std.proofs.Common.{◌≡◌, ◌∙◌, List, ℕ, Option, false, ap, sym}
 use Rattle.blake2_simd.specs.Family.{blake2b}
-use Rattle.blake2_simd.specs.Rows.{eight}
+use Rattle.blake2_simd.specs.Rows.{chaining_words}
 use Rattle.blake2_compress.specs.Hash.{data_bytes, final, last_chain, start}
 use Rattle.blake2_compress.specs.Views.{key_of}
 use Rattle.blake2_compress.proofs.WholeMessages.{no_key, whole_digest}
@@ -11,13 +11,13 @@ pub returns : goal.returns
 returns c =
     let key : Option (List ℕ) = key_of c.args.key in
     let m : List ℕ = c.args.message.now in
-    let begun : List ℕ = eight c.start_rows-h.result in
+    let begun : List ℕ = chaining_words c.start_rows-h.result in
     let after : List ℕ → List ℕ = λ z. last_chain blake2b begun 0 z (final false) in
-    let run : eight c.match-key.h ≡ after (data_bytes blake2b key m) =
+    let run : chaining_words c.match-key.h ≡ after (data_bytes blake2b key m) =
     elim c.match-key.branch [
-      | in-None w ↦ ap eight w.h-is ∙ w.absorb.ensures
+      | in-None w ↦ ap chaining_words w.h-is ∙ w.compress_all.ensures
           ∙ ap after (no_key blake2b key m (ap key_of w.in-None.is))
-      | in-Some w ↦ ap eight w.h-is ∙ w.absorb_keyed.ensures
+      | in-Some w ↦ ap chaining_words w.h-is ∙ w.absorb_keyed.ensures
           ∙ ap (λ k. after (data_bytes blake2b k m)) (sym (ap key_of w.in-Some.is))
     ] in
     whole_digest blake2b c.args.output_size key m begun _ _ c.to_bytes.ensures

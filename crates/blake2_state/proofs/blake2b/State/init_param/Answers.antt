@@ -8,7 +8,7 @@ use Rattle.blake2_state.proofs.blake2b.State.init_param.Goals as goal
 
 pub returns-clause-fresh : goal.returns-clause-fresh
 returns-clause-fresh c =
-    rw c.starting_from.ensures
+    rw c.from_start_words.ensures
     (Fresh_block _ _ _ c.args.block.now refl refl (c.to_words.ensures ∙ c.start_of.ensures))
 
 pub returns-clause-key : goal.returns-clause-key
@@ -17,5 +17,5 @@ returns-clause-key c =
     let bytes : AreBytes block = search rules in
     let whole : length block ≡ 64 = search rules in
     let words = c.to_words.ensures ∙ c.start_of.ensures in
-    rw c.starting_from.ensures (ap (named_key_size blake2b) words
+    rw c.from_start_words.ensures (ap (named_key_size blake2b) words
     ∙ named_by-block blake2b block whole (AreBytes-take (word_bytes blake2b) block bytes))

@@ -1,7 +1,7 @@
 use Rattle.std.proofs.Common.{ℕ, ◌++◌, ◌+◌, List, take, drop, ap, ◌∙◌, arith}
 use Rattle.std.proofs.lemmas.List.{length-take}
 use Rattle.blake2_simd.specs.Family.{blake2b}
-use Rattle.blake2_simd.specs.Rows.{eight}
+use Rattle.blake2_simd.specs.Rows.{chaining_words}
 use Rattle.blake2_compress.specs.Hash.{bytes_of, compress}
 use Rattle.blake2_compress.specs.Views.{given_flags}
 use Rattle.blake2.specs.Cores.{CoreState}
@@ -18,7 +18,7 @@ returns c =
     let long = length-take p held.pending in
     let flags = given_flags c.last_block-flags.result in
     let last = completed-by blake2b (state_of held).core (take p held.pending) p
-    c.padded-block.result (eight c.compress.new.h) flags
+    c.padded-block.result (chaining_words c.compress.new.h) flags
     (omega (arith, long, c.requires.ready.pending))
     c.padded-block.ensures c.last_block-flags.ensures
     (c.compress.ensures ∙ ap (λ (w : List ℕ). compress blake2b w c.padded-block.result

@@ -9,7 +9,7 @@ use Rattle.blake2_state.proofs.blake2s.State.init_param.Goals as goal
 
 pub returns-clause-fresh : goal.returns-clause-fresh
 returns-clause-fresh c =
-    rw c.starting_from.ensures
+    rw c.from_start_words.ensures
     (Fresh_block _ _ _ c.args.block.now refl refl (c.to_words.ensures ∙ c.start_of.ensures))
 
 pub returns-clause-key : goal.returns-clause-key
@@ -18,5 +18,5 @@ returns-clause-key c =
     let bytes : AreBytes block = search rules in
     let whole : length block ≡ 32 = search rules in
     let words = c.to_words.ensures ∙ c.start_of.ensures in
-    rw c.starting_from.ensures (ap (named_key_size blake2s) words
+    rw c.from_start_words.ensures (ap (named_key_size blake2s) words
     ∙ named_by-block blake2s block whole (AreBytes-take (word_bytes blake2s) block bytes))

@@ -8,13 +8,13 @@ use Rattle.blake2_state.proofs.blake2s.State.unkeyed.Goals as goal
 
 pub returns-clause-fresh : goal.returns-clause-fresh
 returns-clause-fresh c =
-    rw c.starting_from.ensures
+    rw c.from_start_words.ensures
     (Fresh_unkeyed _ _ _ (given_parameters c.args.parameters.now) c.requires.keyless
     c.from_parameters-core.ensures c.first_words.ensures refl refl)
 
 pub returns-clause-key : goal.returns-clause-key
 returns-clause-key c =
     let parameters = given_parameters c.args.parameters.now in
-    rw c.starting_from.ensures
+    rw c.from_start_words.ensures
     (ap (named_key_size blake2s) (c.first_words.ensures ∙ ap (λ core. core.start) c.from_parameters-core.ensures)
     ∙ named_by-parameters blake2s parameters c.requires.admitted.fits)

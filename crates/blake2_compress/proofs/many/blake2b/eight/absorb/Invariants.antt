@@ -1,8 +1,0 @@
-use Rattle.blake2_simd.specs.Family.{blake2b}
-use Rattle.blake2_compress.proofs.many.blake2b.eight.absorb.Given as goal
-
-abbrev pub ghost-step_count : goal.ghost-step_count
-ghost-step_count a = blake2b
-
-abbrev pub ghost-counted : goal.ghost-counted
-ghost-counted a = blake2b

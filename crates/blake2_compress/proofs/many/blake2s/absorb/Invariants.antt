@@ -1,9 +1,0 @@
--- Made by tools/twins.py from proofs/many/blake2b/eight/absorb/Invariants.antt.
-use Rattle.blake2_simd.specs.Family.{blake2s}
-use Rattle.blake2_compress.proofs.many.blake2s.absorb.Given as goal
-
-abbrev pub ghost-step_count : goal.ghost-step_count
-ghost-step_count a = blake2s
-
-abbrev pub ghost-counted : goal.ghost-counted
-ghost-counted a = blake2s

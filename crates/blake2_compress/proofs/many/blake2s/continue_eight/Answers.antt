@@ -1,0 +1,41 @@
+-- Made by tools/twins.py from proofs/many/blake2b/eight/continue_eight/Answers.antt.
+use Rattle.std.proofs.Common.{◌≡◌, ◌+◌, ℕ, List, [], length, slice_index, slice_index_or, sym, ap}
+use Rattle.std.proofs.Common.{◌∙◌}
+use Rattle.std.proofs.Common.{arith, rules}
+use Rattle.blake2_simd.specs.Family.{blake2s}
+use Rattle.blake2_simd.specs.Lanes.{in_lane}
+use Rattle.blake2_compress.specs.Hash.{compress, inner}
+use Rattle.blake2_compress.specs.Lanes.{after_blocks, block_lists}
+use Rattle.blake2_compress.proofs.ContinuedRuns.{later_from}
+use Rattle.blake2_compress.proofs.Lanes.{blocks_at, inner_at, lane_is, no_blocks, none_after}
+use Rattle.blake2_compress.proofs.many.blake2s.continue_eight.Goals.{then-not-is_empty}
+use Rattle.blake2_compress.proofs.many.blake2s.continue_eight.Goals.{else-not-is_empty}
+use Rattle.blake2_compress.proofs.many.blake2s.continue_eight.Goals as goal
+
+pub returns : goal.returns
+returns c j lt =
+    let h : List ℕ = slice_index_or c.args.words.now j [] in
+    let counter : ℕ = slice_index c.args.counters.now j in
+    let b : List ℕ = slice_index_or c.args.first.now j [] in
+    let lists = block_lists c.args.later.now in
+    let later : List (List ℕ) = slice_index_or lists j [] in
+    let n : ℕ = length (slice_index_or lists 0 []) in
+    let begun : List ℕ = in_lane j c.compress_next.new.h in
+    let row : in_lane j c.interleave-rows.result ≡ h =
+    lane_is 8 j c.interleave-rows.result h (search rules) (c.requires.long j lt)
+    (λ k low. c.interleave-rows.ensures j k lt low) in
+    let first : begun ≡ compress blake2s h b (counter + 64) inner = c.compress_next.ensures j lt
+    ∙ (λ i. compress blake2s (row i) b (c.counters_after.ensures j lt i) (inner_at 8 j i)) in
+    let many : length c.args.later.now ≡ 8 = search rules in
+    let same = ap length (blocks_at c.args.later.now 0 no_blocks (omega (arith, many))) in
+    let rest : in_lane j c.if-not-is_empty.rows
+    ≡ after_blocks blake2s begun later (counter + 128) inner n = elim c.if-not-is_empty.branch [
+      | then-not-is_empty w ↦ ap (in_lane j) w.rows-is ∙ w.compress_blocks.ensures j lt
+          ∙ (λ i. after_blocks blake2s begun later
+          (w.counters_after-then-not-is_empty.ensures j lt i) (inner_at 8 j i) n)
+      | else-not-is_empty w ↦
+          let none : n ≡ 0 = grind (arith, same, w.if-not-is_empty, c.is_empty.ensures) in
+          ap (in_lane j) w.rows-is ∙ none_after blake2s begun later (counter + 128) inner
+          ∙ ap (after_blocks blake2s begun later (counter + 128) inner) (sym none)
+    ] in
+    c.separate.ensures j lt ∙ rest ∙ later_from blake2s h begun counter b later n first

@@ -1,0 +1,16 @@
+-- Made by tools/twins.py from proofs/blake2b/write_full_digest/Answers.antt.
+use Rattle.std.proofs.Common.{None, arith, refl, sym, ◌∙◌}
+use Rattle.std.proofs.lemmas.List.{take_all}
+use Rattle.blake2.specs.Family.{blake2s}
+use Rattle.blake2_compress.proofs.InputBlocks.{counted_none}
+use Rattle.blake2_ffi.proofs.blake2s.write_full_digest.Goals as goal
+
+pub hash-requires-clause-counted : goal.hash-requires-clause-counted
+hash-requires-clause-counted c =
+    omega (arith, counted_none blake2s None c.args.input.now refl)
+
+pub returns : goal.returns
+returns c =
+    c.copy_from_slice.ensures.after
+    ∙ sym (take_all 32 c.hash.result (omega (arith, c.requires.size, c.copy_from_slice.ensures.len)))
+    ∙ c.hash.ensures

@@ -1,0 +1,4 @@
+//! Several states.
+
+mod blake2b;
+mod blake2s;
