@@ -18,7 +18,7 @@ _b2sum() {
                 mapfile -t COMPREPLY < <(compgen -f -- "$word")
                 return
             fi
-            words="--algorithm --binary --check --help --ignore-missing --key-file --length --no-names
+            words="--algorithm --binary --check --help --ignore-missing --key-file --key-hex-file --length --no-names
                 --personal --personal-text --progress --quiet --raw --salt --seal --sealed --show-digests --status
                 --strict --tag --text --threads --tree --version --warn --zero"
             ;;

@@ -10,6 +10,7 @@ complete -c b2sum -s z -l zero -d 'end each line with a zero byte'
 complete -c b2sum -l no-names -d 'print digits only'
 complete -c b2sum -l raw -d 'print the bytes of a digest'
 complete -c b2sum -l key-file -r -d 'use the key in a file'
+complete -c b2sum -l key-hex-file -r -d 'use the key in the hexadecimal digits of a file'
 complete -c b2sum -l personal -x -d personalization
 complete -c b2sum -l personal-text -x -d 'personalization as a text'
 complete -c b2sum -l salt -x -d salt

@@ -192,7 +192,7 @@ impl<F: Source, I: Source> OpenFile for Opened<F, I> {
         self.error.is_some()
     }
 
-    fn reason(&self) -> io::Error {
+    fn last_error(&self) -> io::Error {
         error_or_other(self.error)
     }
 
@@ -362,7 +362,7 @@ impl<W: Write> Sink for Writer<W> {
 impl<W: Write> Output for Writer<W> {
     ghost failure = { λ s. s.error };
 
-    fn reason(&self) -> io::Error {
+    fn last_error(&self) -> io::Error {
         error_or_other(self.error)
     }
 }

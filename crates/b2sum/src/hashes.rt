@@ -111,7 +111,7 @@ impl Hashes for Blake2 {
 
 // Absorbs what the source returns, to its end. Returns whether it got there: otherwise a read has
 // failed, or the state has no room for all of it.
-fn absorb<H: Absorb, S: OpenFile>(source: &mut S, state: &mut H, buffer: &mut [u8]) -> bool
+fn absorb_source<H: Absorb, S: OpenFile>(source: &mut S, state: &mut H, buffer: &mut [u8]) -> bool
     requires source { S.failed source.old ≡ false }
     requires buffer { 0 < length buffer.old }
     requires ready { H.IsReady state.old }
@@ -161,7 +161,7 @@ fn fault_of<S: OpenFile>(source: &S) -> StreamFault
 // Initializes a state, in a separate frame, which the caller scrubs if there is a key. Returns
 // whether the parameters are accepted.
 #[inline(never)]
-fn start<H: HashState>(state: &mut H, given: &StateParameters<'_>) -> bool
+fn init_state<H: HashState>(state: &mut H, given: &StateParameters<'_>) -> bool
     ensures refused { result ≡ false ↔ ¬ H.accepts given.now }
     ensures ready { result ≡ true → H.IsReady state.new }
     ensures size { result ≡ true → H.size state.new ≡ given.now.output_size }
@@ -169,7 +169,7 @@ fn start<H: HashState>(state: &mut H, given: &StateParameters<'_>) -> bool
     ensures digest { result ≡ true → (y : List ℕ) → H.future state.new y ≡ H.digest given.now y }
     ensures count { result ≡ true → H.count state.new ≡ H.key_count given.now }
 {
-    state.start(given)
+    state.init_given(given)
 }
 
 fn digest<H: HashState + Drop, S: OpenFile>(
@@ -189,13 +189,13 @@ fn digest<H: HashState + Drop, S: OpenFile>(
         (H.accepts given.now) (H.key_count given.now) H.limit) }
 {
     let mut state = H::zeros();
-    if !start(&mut state, given) {
+    if !init_state(&mut state, given) {
         return Err(StreamFault::TooLong);
     }
     if !given.key.is_empty() {
         scrub_stack::<START_BYTES>();
     }
-    if !absorb(source, &mut state, buffer) {
+    if !absorb_source(source, &mut state, buffer) {
         return Err(fault_of(source));
     }
     state.write_digest(&mut out[..]);
@@ -210,7 +210,7 @@ fn digest_list(given: &StateParameters<'_>, list: &[u8], out: &mut [u8; 64])
     ensures { out.new ≡ digest_given blake2b given.now sequential false list.now }
 {
     let mut state = blake2b::State::zeros();
-    if start(&mut state, given) {
+    if init_state(&mut state, given) {
         if !given.key.is_empty() {
             scrub_stack::<START_BYTES>();
         }
@@ -258,7 +258,7 @@ fn absorb_tree<S: OpenFile>(
         × Consumes (S.left source.old) (S.left source.new) text
         × (2 ^ 58 ≤ count state.old + length text) }
 {
-    absorb(source, state, buffer)
+    absorb_source(source, state, buffer)
 }
 
 fn digest_tree<S: OpenFile>(

@@ -21,12 +21,12 @@ const USUAL_ARGUMENT: usize = 256;
 
 fn main(rt: HostRuntime) -> ExitCode {
     let Ok(program) = program(&rt, rt.alloc()) else {
-        return exhausted(rt.stderr(), b"b2sum");
+        return report_exhausted_memory(rt.stderr(), b"b2sum");
     };
     let output = Writer::new(rt.stdout());
     let messages = Writer::new(rt.stderr());
     let Ok(input) = Opened::input(rt.alloc(), rt.stdin()) else {
-        return exhausted(rt.stderr(), program.name.as_slice());
+        return report_exhausted_memory(rt.stderr(), program.name.as_slice());
     };
     let session = Session::new(rt.alloc(), input, output, messages);
     let words = arguments(&rt, rt.alloc());
@@ -39,12 +39,12 @@ fn main(rt: HostRuntime) -> ExitCode {
             };
             ExitCode::from(run(&host, &mut session, words.as_slice()))
         }
-        _ => exhausted(rt.stderr(), program.name.as_slice()),
+        _ => report_exhausted_memory(rt.stderr(), program.name.as_slice()),
     }
 }
 
 // Prints that an allocation failed, in a message of the program of this name. Returns the status.
-fn exhausted(messages: impl Write + Drop, name: &[u8]) -> ExitCode {
+fn report_exhausted_memory(messages: impl Write + Drop, name: &[u8]) -> ExitCode {
     let mut messages = Writer::new(messages);
     if write_whole(&mut messages, name).is_ok() {
         let _ = write_whole(&mut messages, b": memory exhausted\n");

@@ -60,7 +60,7 @@ pub trait HashState: Absorb {
     fn zeros() -> Self;
 
     /// Initializes the state. Returns whether it accepts the parameters.
-    fn start(&mut self, given: &StateParameters<'_>) -> bool
+    fn init_given(&mut self, given: &StateParameters<'_>) -> bool
         ensures refused { result ≡ false ↔ ¬ accepts given.now }
         ensures ready { result ≡ true → Self.IsReady self.new }
         ensures size { result ≡ true → Self.size self.new ≡ given.now.output_size }

@@ -1,6 +1,7 @@
 -- Lines that are checked as they are read.
 use Rattle.std.proofs.Common.{◌≡◌, ◌≢◌, ℕ, ◌<◌, ◌==◌, Bool, true, false, List, [], ◌∷◌, ◌++◌}
-use Rattle.std.proofs.Common.{Option, Some, None, Result, Ok, Err, if◌then◌else◌, refl, ap, ◌∙◌, sym, subst, length}
+use Rattle.std.proofs.Common.{Option, Some, None, Result, Ok, Err, if◌then◌else◌, refl, ap, ◌∙◌}
+use Rattle.std.proofs.Common.{sym, subst, length}
 use Rattle.std.proofs.Common.{append_assoc, append-nil, is_none, inl, inr, arith}
 use Rattle.std.proofs.KnownBytes.{Consumes-nil, Consumes-trans}
 use Rattle.std.proofs.lemmas.List.Splits.{slice_split_at, slice_split_none, length-slice_split}
@@ -13,10 +14,11 @@ use Rattle.b2sum_lines.specs.ManifestLines.{Line, line_entry}
 use Rattle.b2sum_lines.specs.declared.entry.Spacing.{Spacing}
 use Rattle.b2sum_commands.specs.declared.check.Verdict.{Verdict}
 use Rattle.b2sum_commands.specs.declared.check.Verdict.TheVariants.{Equal, Different, Unread}
-use Rattle.b2sum_commands.specs.declared.check.Verdict.TheVariants.{Skipped, Malformed, Unmet, Comment}
+use Rattle.b2sum_commands.specs.declared.check.Verdict.TheVariants.{Skipped, Malformed, Unmet}
+use Rattle.b2sum_commands.specs.declared.check.Verdict.TheVariants.{Comment}
 use Rattle.b2sum_commands.specs.declared.options.Options.{Options}
 use Rattle.b2sum_commands.specs.LineNeeds.{lacks_of, meets}
-use Rattle.b2sum_commands.specs.Messages.{is_dash}
+use Rattle.b2sum_commands.specs.Messages.{is_standard_input}
 use Rattle.b2sum_commands.specs.World.{Streams, World, HasFailed, InTurn, OnlyTells, TellsText}
 use Rattle.b2sum_commands.specs.PrintedSums.{ReadsAs, LeavesInput}
 use Rattle.b2sum_commands.specs.Manifests.{item, checkable, trimmed, IsItem, IsLine, IsVerdict}
@@ -68,13 +70,13 @@ turn_more does (w ∷ xs) x old mid new (z ∷ ys) y before one =
 abbrev pub IsOther : Option (Result Line Verdict) → Type 0
 IsOther None = ⊤
 IsOther (Some (Err v)) = ⊤
-IsOther (Some (Ok e)) = is_dash e.name ≡ false
+IsOther (Some (Ok e)) = is_standard_input e.name ≡ false
 
 checked_other : (o : Options) (e : Option Line) → IsOther (Some (checkable o true e))
 checked_other o None = tt
-checked_other o (Some e) = go (is_dash e.name) (meets o e) refl
+checked_other o (Some e) = go (is_standard_input e.name) (meets o e) refl
   where
-    go : (dash met : Bool) → is_dash e.name ≡ dash
+    go : (dash met : Bool) → is_standard_input e.name ≡ dash
         → IsOther (Some (if dash then Err Malformed
         else if met then Ok e else Err (Unmet (lacks_of o e))))
     go true met is = tt
@@ -100,10 +102,10 @@ pub verdict_moved : (w : World) (o : Options) (left after now : Option (List ℕ
     → IsVerdict w o now i v found now
 verdict_moved w o left after now (Err verdict) v found other is = (is.0, refl)
 verdict_moved w o left after now (Ok e) Equal found other is =
-    (is.0, reads_moved (is_dash e.name) (w.files.holds e.name) left after now is.0 other is.1, is.2)
+    (is.0, reads_moved (is_standard_input e.name) (w.files.holds e.name) left after now is.0 other is.1, is.2)
 verdict_moved w o left after now (Ok e) Different found other is = (
   is.0,
-  reads_moved (is_dash e.name) (w.files.holds e.name) left after now is.0 other is.1,
+  reads_moved (is_standard_input e.name) (w.files.holds e.name) left after now is.0 other is.1,
   is.2,
   is.3,
 )
@@ -120,21 +122,22 @@ unread_moved : (w : World) (o : Options) (left : Option (List ℕ)) (i : Result 
 unread_moved w o left (Err verdict) old new told = told
 unread_moved w o left (Ok e) old new told = told
 
-item_moved : (w : World) (o : Options) (left : Option (List ℕ)) (i : Option (Result Line Verdict))
-    (old new : Streams) (v : Verdict) → IsOther i → IsItem w o i old new v
-    → IsItem w o i (read_to true left old) (read_to true left new) v
-item_moved w o left None old new v other is = (is.0, ap (read_to true left) is.1)
-item_moved w o left (Some i) old new v other is =
+item_moved : (w : World) (o : Options) (line : List ℕ) (left : Option (List ℕ))
+    (i : Option (Result Line Verdict)) (old new : Streams) (v : Verdict) → IsOther i
+    → IsItem w o line i old new v
+    → IsItem w o line i (read_to true left old) (read_to true left new) v
+item_moved w o line left None old new v other is = (is.0, ap (read_to true left) is.1)
+item_moved w o line left (Some i) old new v other is =
     let moved = verdict_moved w o old.left new.left left i v is.1.0 other is.1.1 in
     let told = λ (bad : v ≡ Unread). unread_moved w o left i old new (is.2.0 bad) in
-    (is.0, (is.1.0, moved, is.1.2), (told, is.2.1, is.2.2))
+    (is.0, (is.1.0, moved, is.1.2), (told, is.2.1, is.2.2, is.2.3))
 
 -- The check of a line does not depend on how far its manifest is read.
 line_moved : (w : World) (o : Options) (input : Bool) (line : List ℕ) (left : Option (List ℕ))
     (old new : Streams) (v : Verdict) → IsLine w o input line old new v
     → IsLine w o input line (read_to input left old) (read_to input left new) v
 line_moved w o true line left old new v is =
-    item_moved w o left (item o true old.place.spacing line) old new v (item_other o old.place.spacing line) is
+    item_moved w o line left (item o true old.place.spacing line) old new v (item_other o old.place.spacing line) is
 line_moved w o false line left old new v is = is
 
 reads_left : (dash : Bool) (held left after : Option (List ℕ)) (text : List ℕ)
@@ -147,9 +150,9 @@ verdict_left : (w : World) (o : Options) (left after : Option (List ℕ)) (i : R
     → after ≡ left
 verdict_left w o left after (Err verdict) v found other is = is.1
 verdict_left w o left after (Ok e) Equal found other is =
-    reads_left (is_dash e.name) (w.files.holds e.name) left after is.0 other is.1
+    reads_left (is_standard_input e.name) (w.files.holds e.name) left after is.0 other is.1
 verdict_left w o left after (Ok e) Different found other is =
-    reads_left (is_dash e.name) (w.files.holds e.name) left after is.0 other is.1
+    reads_left (is_standard_input e.name) (w.files.holds e.name) left after is.0 other is.1
 verdict_left w o left after (Ok e) Unread found other is =
     subst (λ (b : Bool). LeavesInput b left after) other is.0
 verdict_left w o left after (Ok e) Skipped found other is = is.2
@@ -157,10 +160,11 @@ verdict_left w o left after (Ok e) Malformed found other is = absurd is
 verdict_left w o left after (Ok e) (Unmet lacks) found other is = absurd is
 verdict_left w o left after (Ok e) Comment found other is = absurd is
 
-item_left : (w : World) (o : Options) (i : Option (Result Line Verdict)) (old new : Streams)
-    (v : Verdict) → IsOther i → IsItem w o i old new v → new.left ≡ old.left
-item_left w o None old new v other is = ap (λ (s : Streams). s.left) is.1
-item_left w o (Some i) old new v other is =
+item_left : (w : World) (o : Options) (line : List ℕ) (i : Option (Result Line Verdict))
+    (old new : Streams) (v : Verdict) → IsOther i → IsItem w o line i old new v
+    → new.left ≡ old.left
+item_left w o line None old new v other is = ap (λ (s : Streams). s.left) is.1
+item_left w o line (Some i) old new v other is =
     verdict_left w o old.left new.left i v is.1.0 other is.1.1
 
 -- The check of a line leaves its manifest as far as it is read.
@@ -170,7 +174,7 @@ pub line_left : {F : Type 0} (left : F → Option (List ℕ)) (file : Option F) 
     → source_left left file old.left ≡ source_left left file new.left
 line_left left (Some file) w o input line old new v same is = refl
 line_left left None w o true line old new v same is =
-    sym (item_left w o (item o true old.place.spacing line) old new v (item_other o old.place.spacing line) is)
+    sym (item_left w o line (item o true old.place.spacing line) old new v (item_other o old.place.spacing line) is)
 line_left left None w o false line old new v same is = absurd (grind (arith, same))
 
 -- ---- as far as a manifest is read
@@ -428,9 +432,9 @@ is_begun false held left text before rest from passed =
 -- what it has left then.
 pub manifest_ended : (w : World) (o : Options) (name : List ℕ) (old mid new : Streams)
     (vs : List Verdict) (found : Option Counts) (holds : Bool) (before rest at : Option (List ℕ))
-    → before ≡ (if is_dash name then old.left else w.files.holds name)
-    → AreRead w o (is_dash name) before rest old mid vs
-    → EndsAt found vs rest at (w.breaks name) → (is_dash name ≡ true → at ≡ mid.left)
+    → before ≡ (if is_standard_input name then old.left else w.files.holds name)
+    → AreRead w o (is_standard_input name) before rest old mid vs
+    → EndsAt found vs rest at (w.breaks name) → (is_standard_input name ≡ true → at ≡ mid.left)
     → OnlyTells mid new → TellsEnd w.program o name found holds (TellsText mid new)
     → GoesOn w o name old new (Some holds)
 manifest_ended w o name old mid new vs None holds before rest at from read broken input last told =
@@ -438,9 +442,9 @@ manifest_ended w o name old mid new vs None holds before rest at from read broke
       told.0,
       record {
         text = read.text;
-        left = (read_to (is_dash name) mid.left old).left;
+        left = (read_to (is_standard_input name) mid.left old).left;
         verdicts = vs;
-        begins = is_begun (is_dash name) (w.files.holds name) old.left read.text before rest from
+        begins = is_begun (is_standard_input name) (w.files.holds name) old.left read.text before rest from
             read.passed;
         are_judged = record { end = mid; lines = read.lines; last = last };
         told = inr (broken, told.1);
@@ -449,9 +453,9 @@ manifest_ended w o name old mid new vs None holds before rest at from read broke
 manifest_ended w o name old mid new vs (Some counts) holds before rest at from read ends input last told =
     inr (record {
       text = read.text;
-      left = (read_to (is_dash name) mid.left old).left;
+      left = (read_to (is_standard_input name) mid.left old).left;
       verdicts = vs;
-      is_text = is_text (is_dash name) (w.files.holds name) old.left mid.left read.text before rest
+      is_text = is_text (is_standard_input name) (w.files.holds name) old.left mid.left read.text before rest
           at from read.passed ends.1 ends.2 input;
       are_judged = record { end = mid; lines = read.lines; last = last };
       is_result = told.0 ∙ counted_holds o.is_strict vs counts ends.0;
@@ -467,8 +471,8 @@ unopened w o name old new last told = inl (
     text = [];
     left = old.left;
     verdicts = [];
-    begins = is_begun (is_dash name) (w.files.holds name) old.left []
-        (if is_dash name then old.left else w.files.holds name) _ refl (Consumes-nil _);
+    begins = is_begun (is_standard_input name) (w.files.holds name) old.left []
+        (if is_standard_input name then old.left else w.files.holds name) _ refl (Consumes-nil _);
     are_judged = record { end = old; lines = refl; last = last };
     told = inl told;
   },

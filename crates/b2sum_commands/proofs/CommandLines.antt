@@ -1,7 +1,8 @@
 -- Command lines that mean the same.
 use Rattle.std.proofs.Common.{◌≡◌, ℕ, ◌+◌, ◌==◌, Bool, true, false, List, [], ◌∷◌, ◌++◌}
 use Rattle.std.proofs.Common.{length, take, drop, Some, None, Result, Ok, Err, refl, ap}
-use Rattle.std.proofs.Common.{◌∙◌, sym, append_assoc, append-nil, length-append, arith, codes, nat_eq}
+use Rattle.std.proofs.Common.{◌∙◌, sym, append_assoc, append-nil, length-append, arith, codes}
+use Rattle.std.proofs.Common.{nat_eq}
 use Rattle.std.proofs.Common.{◌&&◌, eq-eqb, true≢false}
 use Rattle.std.proofs.lemmas.Bool.{ne_eqb, lt-ltb, le-ltb}
 use Rattle.std.proofs.lemmas.List.{get_or_append_left, take_at}
@@ -14,8 +15,9 @@ use Rattle.b2sum_commands.specs.declared.option_names.Flag.{Flag}
 use Rattle.b2sum_commands.specs.OptionNames.{has_value, letter_flag}
 use Rattle.b2sum_commands.specs.CommandLine.{Choice, End, Next, Anything, ValueOf, OnlyFile}
 use Rattle.b2sum_commands.specs.CommandLine.{ReadWords}
-use Rattle.b2sum_commands.specs.CommandLine.{choosing, read_alone, read_any, read_cut}
-use Rattle.b2sum_commands.specs.CommandLine.{read_letters, read_long, read_with, read_words}
+use Rattle.b2sum_commands.specs.CommandLine.{choosing, read_switch, read_option_or_file, read_cut}
+use Rattle.b2sum_commands.specs.CommandLine.{read_letters, read_long, read_option_with_value}
+use Rattle.b2sum_commands.specs.CommandLine.{read_words}
 use Rattle.b2sum_commands.specs.CommandLine.{set_flag, set_value, with_option}
 use Rattle.b2sum_commands.specs.CommandLineLaws.{before_any, FilesFollow, LettersAreWords}
 use Rattle.b2sum_commands.specs.CommandLineLaws.{LettersHaveValues, NamesHaveValues}
@@ -40,7 +42,7 @@ via_option s words (Ok read) = refl
 any_letters : (s : ReadWords) (word : List ℕ) → bytes_eq word (codes "--") ≡ false
     → starts_with nat_eq word (codes "--") ≡ false → starts_with nat_eq word (codes "-") ≡ true
     → bytes_eq word (codes "-") ≡ false
-    → read_any s word ≡ with_option s (read_letters s.choice (drop 1 word))
+    → read_option_or_file s word ≡ with_option s (read_letters s.choice (drop 1 word))
 any_letters s word whole front first alone = rw whole (rw front (rw first (rw alone refl)))
 
 turned : (a : ℕ) → (a == 45) ≡ false → (45 == a) ≡ false
@@ -154,8 +156,8 @@ cut_equals name value none =
     (take_at name (61 ∷ value) (length name) refl)
     ∙ ap (λ (rest : List ℕ). Some (name, rest)) (after_equals name value))
 
-uncut : (name : List ℕ) → All (λ b. equals b ≡ false) name → cut_at 61 name ≡ None
-uncut name none =
+cut_at-none : (name : List ℕ) → All (λ b. equals b ≡ false) name → cut_at 61 name ≡ None
+cut_at-none name none =
     let at = position_or_len_is equals name (length name) 0 (omega arith)
     (λ k below. none k 0 below) (λ below. absurd (omega (arith, below))) in
     rw (le-ltb (position_or_len equals name) (length name) (omega (arith, at))) refl
@@ -179,15 +181,15 @@ names_have_values c files (b ∷ name) value words f some none is has =
   where
     joined : read_long c ((b ∷ name) ++ (61 ∷ value)) ≡ choosing Anything (set_value f value c)
     joined = ap (read_cut c ((b ∷ name) ++ (61 ∷ value))) (cut_equals (b ∷ name) value none)
-        ∙ ap (λ o. read_with c o value) is ∙ given
+        ∙ ap (λ o. read_option_with_value c o value) is ∙ given
       where
-        given : read_with c (Some f) value ≡ choosing Anything (set_value f value c)
+        given : read_option_with_value c (Some f) value ≡ choosing Anything (set_value f value c)
         given = rw has refl
 
     alone : read_long c (b ∷ name) ≡ Ok (c, ValueOf f)
-    alone = ap (read_cut c (b ∷ name)) (uncut (b ∷ name) none) ∙ ap (read_alone c) is ∙ awaited
+    alone = ap (read_cut c (b ∷ name)) (cut_at-none (b ∷ name) none) ∙ ap (read_switch c) is ∙ awaited
       where
-        awaited : read_alone c (Some f) ≡ Ok (c, ValueOf f)
+        awaited : read_switch c (Some f) ≡ Ok (c, ValueOf f)
         awaited = rw has refl
 
 -- ---- files

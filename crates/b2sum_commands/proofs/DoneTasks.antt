@@ -6,7 +6,7 @@ use Rattle.b2sum_commands.specs.World.{World, AllInTurn}
 use Rattle.b2sum_commands.specs.SealedLists.{ArePrinted, IsCheckedAs}
 use Rattle.b2sum_commands.specs.CommandLine.{Choice}
 use Rattle.b2sum_commands.specs.AcceptedOptions.{AreOptions}
-use Rattle.b2sum_commands.specs.ProgramRuns.{AreDone, DoesTask, HasKey, AfterKey}
+use Rattle.b2sum_commands.specs.ProgramRuns.{AreDone, DoesTask, HasKey, TakesKey}
 use Rattle.b2sum_commands.specs.ProgramRuns.{WarnsOfMacs, are_short_macs}
 
 -- A warning prints nothing.
@@ -18,7 +18,7 @@ unprinted_warning false program old new same = ap (λ (s : Streams). s.held) sam
 -- A check of manifests is the task of a choice.
 pub checks_done : (w : World) (c : Choice) (o : Options) (names : List (List ℕ))
     (old keyed warned begun new : Streams) (end : Option Bool) → AreOptions c o × HasKey w old.left c o
-    → AfterKey c.key_file old keyed
+    → TakesKey w c.key_file o old keyed
     → WarnsOfMacs (are_short_macs o) w.program keyed warned → o.checks ≡ true → begun ≡ warned
     → AllInTurn (IsCheckedAs o.is_sealed w o) names begun new end → DoesTask w c names old new end
 checks_done w c o names old keyed warned begun new end are after warns checks at done = (
@@ -36,7 +36,7 @@ checks_done w c o names old keyed warned begun new end are after warns checks at
 -- The lines of files are the task of a choice.
 pub sums_done : (w : World) (c : Choice) (o : Options) (names : List (List ℕ))
     (old keyed warned begun new : Streams) (end : Option Bool) → AreOptions c o × HasKey w old.left c o
-    → AfterKey c.key_file old keyed
+    → TakesKey w c.key_file o old keyed
     → WarnsOfMacs (are_short_macs o) w.program keyed warned → o.checks ≡ false → begun ≡ warned
     → ArePrinted o.is_sealed w o names begun new end → DoesTask w c names old new end
 sums_done w c o names old keyed warned begun new end are after warns checks at done = (

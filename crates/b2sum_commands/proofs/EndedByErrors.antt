@@ -1,6 +1,7 @@
 -- Sums, verdicts and checks of manifests that an error ends.
 use Rattle.std.proofs.Common.{◌≡◌, ◌⊎◌, ℕ, ◌<◌, ◌==◌, Bool, true, false, List, [], ◌∷◌, ◌++◌}
-use Rattle.std.proofs.Common.{Option, Some, None, inl, inr, refl, ap, ◌∙◌, sym, subst, length, arith}
+use Rattle.std.proofs.Common.{Option, Some, None, inl, inr, refl, ap, ◌∙◌, sym, subst, length}
+use Rattle.std.proofs.Common.{arith}
 use Rattle.std.proofs.Common.{append_assoc, append-nil, Result, Ok, Err, OnErr, IsErrAnd, IfSome}
 use Rattle.std.specs.Result.{result_ok}
 use Rattle.std.proofs.KnownBytes.{Consumes-nil, Consumes-trans}
@@ -12,7 +13,7 @@ use Rattle.b2sum_commands.specs.declared.check.Verdict.{Verdict}
 use Rattle.b2sum_commands.specs.declared.line_reader.LineEnd.{LineEnd}
 use Rattle.b2sum_commands.specs.declared.line_reader.LineEnd.TheVariants.{Newline, Last, Failure}
 use Rattle.b2sum_commands.specs.declared.options.Options.{Options}
-use Rattle.b2sum_commands.specs.Messages.{is_dash}
+use Rattle.b2sum_commands.specs.Messages.{is_standard_input}
 use Rattle.b2sum_commands.specs.World.{Place, Streams, World, StopsIn}
 use Rattle.b2sum_commands.specs.PrintedSums.{LeavesInput}
 use Rattle.b2sum_commands.specs.Manifests.{item, IsVerdict, verdict_lines, BeginsVerdict}
@@ -98,10 +99,10 @@ consumes_first None c bs cs p = (None, tt)
 consumes_first (Some x) None bs cs p = absurd p
 consumes_first (Some x) (Some z) bs cs p = (Some (cs ++ z), p ∙ append_assoc bs cs z)
 
-left_to : (input : Bool) (left : Option (List ℕ)) (s : Streams)
+read_to-left : (input : Bool) (left : Option (List ℕ)) (s : Streams)
     → LeavesInput input s.left (read_to input left s).left
-left_to true left s = tt
-left_to false left s = refl
+read_to-left true left s = tt
+read_to-left false left s = refl
 
 left_same : (input : Bool) (left : Option (List ℕ)) → LeavesInput input left left
 left_same true left = tt
@@ -120,7 +121,7 @@ stopped_between w o name input before old unread rest now new vs r same =
       passed = first.1;
       whole = inl r.cuts;
       left = (read_to input now.left old).left;
-      leaves = left_to input now.left old;
+      leaves = read_to-left input now.left old;
       lines = record {
         done = lines_of r.done;
         rest = [];
@@ -146,7 +147,7 @@ stopped_line w o name input before old unread rest now vs line text rest' mid ne
   passed = passed;
   whole = whole;
   left = (read_to input new.left old).left;
-  leaves = left_to input new.left old;
+  leaves = read_to-left input new.left old;
   lines = record {
     done = lines_of r.done;
     rest = line ∷ [];
@@ -164,14 +165,14 @@ last_is [] none = absurd (omega (arith, none))
 last_is (x ∷ xs) some = refl
 
 -- The line has no newline after it.
-stopped_last : (w : World) (o : Options) (name : List ℕ) (input : Bool) (before : Option (List ℕ)) (old : Streams)
+ends_unterminated : (w : World) (o : Options) (name : List ℕ) (input : Bool) (before : Option (List ℕ)) (old : Streams)
     (unread : List ℕ) (rest : Option (List ℕ)) (now : Streams) (vs : List Verdict)
     (more line : List ℕ) (rest' : Option (List ℕ)) (mid new : Streams)
     → Reading w o input before old unread rest now vs → Consumes rest rest' more
     → IsOneLine line × (unread ++ more ≡ line) → 0 < length line → IsAtEnd rest' ⊎ w.breaks name
     → ((left : Option (List ℕ)) → read_to input left mid ≡ read_to input left now)
     → BeginsLine w o input line mid new → AreStopped w o name input before old new
-stopped_last w o name input before old unread rest now vs more line rest' mid new r taken cut some ends same begun =
+ends_unterminated w o name input before old unread rest now vs more line rest' mid new r taken cut some ends same begun =
     stopped_line w o name input before old unread rest now vs line (r.done ++ line) rest' mid new r
     (subst (Consumes before rest') (append_assoc r.done unread more ∙ ap (λ x. r.done ++ x) cut.1)
     (Consumes-trans before rest rest' (r.done ++ unread) more r.passed taken))
@@ -211,14 +212,14 @@ stopped_in w o name input before old unread rest now vs Newline more line unread
     (r.cuts shut ∙ ap (λ x. lines_of r.done ++ x) (line_first line [] cut.0))
     (inl (whole_line r.done line r.cuts cut.0)) same begun
 stopped_in w o name input before old unread rest now vs Last more line unread' rest' left mid new r taken cut after some same begun =
-    stopped_last w o name input before old unread rest now vs more line rest' mid new r taken cut
+    ends_unterminated w o name input before old unread rest now vs more line rest' mid new r taken cut
     (other some) (inl (subst IsAtEnd (sym after.0) after.1)) same begun
   where
     other : (Last ≡ Newline) ⊎ (0 < length line) → 0 < length line
     other (inl is) = absurd (grind (arith, is))
     other (inr some) = some
 stopped_in w o name input before old unread rest now vs Failure more line unread' rest' left mid new r taken cut after some same begun =
-    stopped_last w o name input before old unread rest now vs more line rest' mid new r taken cut
+    ends_unterminated w o name input before old unread rest now vs more line rest' mid new r taken cut
     (other some) (inr after) same begun
   where
     other : (Failure ≡ Newline) ⊎ (0 < length line) → 0 < length line
@@ -234,7 +235,7 @@ unstarted w o name old new same = record {
   passed = Consumes-nil (manifest_bytes w old.left name);
   whole = inl (λ more. refl);
   left = old.left;
-  leaves = left_same (is_dash name) old.left;
+  leaves = left_same (is_standard_input name) old.left;
   lines = record {
     done = [];
     rest = [];
@@ -262,7 +263,7 @@ stopped_after w o name input before rest at old mid new vs found read ends same 
   passed = read.passed;
   whole = inr (ends_all found vs rest at (w.breaks name) ends);
   left = (read_to input mid.left old).left;
-  leaves = left_to input mid.left old;
+  leaves = read_to-left input mid.left old;
   lines = record {
     done = lines_of read.text;
     rest = [];

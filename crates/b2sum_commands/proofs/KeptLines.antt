@@ -5,7 +5,7 @@ use Rattle.std.proofs.KnownBytes.{Appends-nil, Appends-trans}
 use Rattle.std.specs.Io.KnownBytes.{Appends}
 use Rattle.blake2_streams.specs.Streams.{TakesPart}
 use Rattle.b2sum_commands.specs.declared.options.Options.{Options}
-use Rattle.b2sum_commands.specs.Messages.{is_dash}
+use Rattle.b2sum_commands.specs.Messages.{is_standard_input}
 use Rattle.b2sum_commands.specs.PrintedSums.{IsKept, IsSum, ReadsAs, entry_of, printed}
 use Rattle.b2sum_commands.specs.PrintedSums.{printed_function}
 use Rattle.b2sum_commands.specs.World.{StopsIn, Streams, World}
@@ -30,7 +30,7 @@ kept_more false old mid new before between after first then = tt
 -- An error ended the line of a file: nothing or a part of it is printed.
 pub sum_stops : (w : World) (o : Options) (name : List ℕ) (old new : Streams)
     (before : Option (List ℕ)) (text digest shown : List ℕ) → before ≡ old.held
-    → ReadsAs (is_dash name) (w.files.holds name) old.left new.left text
+    → ReadsAs (is_standard_input name) (w.files.holds name) old.left new.left text
     → digest ≡ w.hashing.digest o (printed_function o) text
     → shown ≡ printed o.shape o.ends_zero (record {
       algorithm = o.algorithm;

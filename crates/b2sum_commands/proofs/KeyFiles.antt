@@ -1,10 +1,13 @@
 -- The key of a key file.
-use Rattle.std.proofs.Common.{◌≡◌, ◌⊎◌, ℕ, Bool, true, false, List, Option, Some, None, Result, Ok, Err}
-use Rattle.std.proofs.Common.{IfOk, IfSome, if◌then◌else◌, inl, inr, sym, subst}
+use Rattle.std.proofs.Common.{◌≡◌, ◌⊎◌, ℕ, Bool, true, false, List, Option, Some, None, Result, Ok}
+use Rattle.std.proofs.Common.{Err}
+use Rattle.std.proofs.Common.{IfOk, IfSome, if◌then◌else◌, inl, inr, sym, subst, length, ◌<◌}
+use Rattle.std.specs.Io.KnownBytes.{Consumes, IsAtEnd}
 use Rattle.std.specs.declared.io.Error.{Error}
-use Rattle.b2sum_commands.specs.Messages.{Cannot, is_dash}
+use Rattle.b2sum_commands.specs.KeyTexts.{key_in, key_room}
+use Rattle.b2sum_commands.specs.Messages.{Cannot, is_standard_input}
 use Rattle.b2sum_commands.specs.ProgramRuns.{LacksKey, TellsNoKey, key_reason}
-use Rattle.b2sum_commands.specs.World.{IsNoKey, Streams, Tells, World}
+use Rattle.b2sum_commands.specs.World.{IsKey, IsNoKey, Streams, Tells, World}
 use Rattle.b2sum_commands.proofs.KnownBytes.{IsKnown, no_key_known}
 
 -- What holds of what two calls found, if it follows from two facts.
@@ -20,37 +23,60 @@ pub none_found : {A E : Type 0} (r : Result (Option A) E) (X Y : Type 0) → (X 
 none_found (Ok k) X Y f h = λ is. f (h is)
 none_found (Err e) X Y f h = tt
 
+-- All bytes of a file have this key.
+pub is_key : (hex : Bool) (most : ℕ) (left end : Option (List ℕ)) (bytes key : List ℕ)
+    → Consumes left end bytes → IsAtEnd end → Some key ≡ key_in hex most bytes
+    → IsKey left hex most key
+is_key hex most left end bytes key given at_end has =
+    record { bytes = bytes; end = end; given = given; at_end = at_end; has = sym has }
+
+-- All bytes of a file have no key.
+pub is_no_key : (hex : Bool) (most : ℕ) (left end : Option (List ℕ)) (bytes : List ℕ)
+    → Consumes left end bytes → IsAtEnd end → None ≡ key_in hex most bytes
+    → IsNoKey left hex most
+is_no_key hex most left end bytes given at_end none =
+    (bytes, end, given, inl (at_end, sym none))
+
+-- A file has more bytes than one with a key.
+pub is_long_key : (hex : Bool) (most : ℕ) (left end : Option (List ℕ)) (bytes : List ℕ)
+    → Consumes left end bytes → key_room hex most < length bytes → IsNoKey left hex most
+is_long_key hex most left end bytes given many = (bytes, end, given, inr many)
+
 -- An open file of this name, of which so much is left, has no key, as a message says.
-abbrev pub OpenLacks : World → List ℕ → ℕ → Option (List ℕ) → Streams → Streams → Type 0
-OpenLacks w name most left old new = (reason : List ℕ)
+abbrev pub OpenLacks : World → List ℕ → Bool → ℕ → Option (List ℕ) → Streams → Streams → Type 0
+OpenLacks w name hex most left old new = (reason : List ℕ)
     × (((e : Error) × w.fails name e × w.files.describes e reason)
-    ⊎ (IsNoKey left most × (reason ≡ key_reason most)))
+    ⊎ (IsNoKey left hex most × (reason ≡ key_reason hex most)))
     × Tells w old new (Cannot name reason)
 
 -- Standard input has no key.
-pub input_lacks : (w : World) (name : List ℕ) (most : ℕ) (old new : Streams) → is_dash name ≡ true
-    → OpenLacks w name most old.left old new → TellsNoKey w name most old new
-input_lacks w name most old new dash told = (told.0, go told.1, told.2)
+pub input_lacks : (w : World) (name : List ℕ) (hex : Bool) (most : ℕ) (old new : Streams)
+    → is_standard_input name ≡ true → OpenLacks w name hex most old.left old new
+    → TellsNoKey w name hex most old new
+input_lacks w name hex most old new dash told = (told.0, go told.1, told.2)
   where
     go : ((e : Error) × w.fails name e × w.files.describes e told.0)
-        ⊎ (IsNoKey old.left most × (told.0 ≡ key_reason most)) → LacksKey w old.left most name told.0
+        ⊎ (IsNoKey old.left hex most × (told.0 ≡ key_reason hex most))
+        → LacksKey w old.left hex most name told.0
     go (inl broken) = inl (broken.0, inr broken.1, broken.2)
     go (inr none) = inr (
-      subst (λ (b : Bool). IsNoKey (if b then old.left else w.files.holds name) most) (sym dash) none.0,
+      subst (λ (b : Bool). IsNoKey (if b then old.left else w.files.holds name) hex most) (sym dash)
+          none.0,
       none.1,
     )
 
 -- A file has no key.
-pub file_lacks : (w : World) (name : List ℕ) (most : ℕ) (left : Option (List ℕ))
-    (old new : Streams) → is_dash name ≡ false → IsKnown (w.files.holds name) left
-    → OpenLacks w name most left old new → TellsNoKey w name most old new
-file_lacks w name most left old new other known told = (told.0, go told.1, told.2)
+pub file_lacks : (w : World) (name : List ℕ) (hex : Bool) (most : ℕ) (left : Option (List ℕ))
+    (old new : Streams) → is_standard_input name ≡ false → IsKnown (w.files.holds name) left
+    → OpenLacks w name hex most left old new → TellsNoKey w name hex most old new
+file_lacks w name hex most left old new other known told = (told.0, go told.1, told.2)
   where
     go : ((e : Error) × w.fails name e × w.files.describes e told.0)
-        ⊎ (IsNoKey left most × (told.0 ≡ key_reason most)) → LacksKey w old.left most name told.0
+        ⊎ (IsNoKey left hex most × (told.0 ≡ key_reason hex most))
+        → LacksKey w old.left hex most name told.0
     go (inl broken) = inl (broken.0, inr broken.1, broken.2)
     go (inr none) = inr (
-      subst (λ (b : Bool). IsNoKey (if b then old.left else w.files.holds name) most) (sym other)
-          (no_key_known (w.files.holds name) left most known none.0),
+      subst (λ (b : Bool). IsNoKey (if b then old.left else w.files.holds name) hex most) (sym other)
+          (no_key_known (w.files.holds name) left hex most known none.0),
       none.1,
     )

@@ -1,5 +1,6 @@
 -- What is known of the bytes of a file that is open: nothing, if nothing is known of its name.
-use Rattle.std.proofs.Common.{◌≡◌, ◌⊎◌, ℕ, Bool, true, false, List, Option, Some, None, inl, inr, refl}
+use Rattle.std.proofs.Common.{◌≡◌, ◌⊎◌, ℕ, Bool, true, false, List, Option, Some, None, inl, inr}
+use Rattle.std.proofs.Common.{refl}
 use Rattle.std.proofs.Common.{[], ◌<◌, length, ap, subst, sym, true≢false, IfSome, if◌then◌else◌}
 use Rattle.std.specs.Io.KnownBytes.{Consumes, IsAtEnd}
 use Rattle.blake2_streams.specs.Streams.{GivesAll}
@@ -7,6 +8,7 @@ use Rattle.b2sum_commands.specs.declared.check.Counts.{Counts}
 use Rattle.b2sum_commands.specs.declared.check.Verdict.{Verdict}
 use Rattle.b2sum_commands.specs.declared.options.Options.{Options}
 use Rattle.b2sum_commands.specs.ManifestChecks.{AreRead, AreStopped, AreWholeLines, EndsAt}
+use Rattle.b2sum_commands.specs.KeyTexts.{key_in, key_room}
 use Rattle.b2sum_commands.specs.World.{World, Streams, IsKey, IsNoKey}
 
 -- What an open file has left, if something is known of the file of its name.
@@ -22,24 +24,24 @@ gives_known None left end text known gives =
 gives_known (Some bytes) left end text known gives =
     (end, subst (λ (l : Option (List ℕ)). GivesAll l end text) known gives)
 
-pub key_known : (held left : Option (List ℕ)) (most : ℕ) (key : List ℕ) → IsKnown held left
-    → IsKey left most key → IsKey held most key
-key_known None left most key known is =
-    record { some = is.some; fits = is.fits; end = None; given = tt; at_end = tt }
-key_known (Some bytes) left most key known is =
-    subst (λ (l : Option (List ℕ)). IsKey l most key) known is
+pub key_known : (held left : Option (List ℕ)) (hex : Bool) (most : ℕ) (key : List ℕ)
+    → IsKnown held left → IsKey left hex most key → IsKey held hex most key
+key_known None left hex most key known is =
+    record { bytes = is.bytes; end = None; given = tt; at_end = tt; has = is.has }
+key_known (Some bytes) left hex most key known is =
+    subst (λ (l : Option (List ℕ)). IsKey l hex most key) known is
 
-no_end : (bytes : List ℕ) (most : ℕ) (end : Option (List ℕ))
-    → ((bytes ≡ []) × IsAtEnd end) ⊎ (most < length bytes)
-    → ((bytes ≡ []) × IsAtEnd None) ⊎ (most < length bytes)
-no_end bytes most end (inl none) = inl (none.0, tt)
-no_end bytes most end (inr many) = inr many
+no_end : (hex : Bool) (bytes : List ℕ) (most : ℕ) (end : Option (List ℕ))
+    → (IsAtEnd end × (key_in hex most bytes ≡ None)) ⊎ (key_room hex most < length bytes)
+    → (IsAtEnd None × (key_in hex most bytes ≡ None)) ⊎ (key_room hex most < length bytes)
+no_end hex bytes most end (inl none) = inl (tt, none.1)
+no_end hex bytes most end (inr many) = inr many
 
-pub no_key_known : (held left : Option (List ℕ)) (most : ℕ) → IsKnown held left
-    → IsNoKey left most → IsNoKey held most
-no_key_known None left most known is = (is.0, None, tt, no_end is.0 most is.1 is.3)
-no_key_known (Some bytes) left most known is =
-    subst (λ (l : Option (List ℕ)). IsNoKey l most) known is
+pub no_key_known : (held left : Option (List ℕ)) (hex : Bool) (most : ℕ) → IsKnown held left
+    → IsNoKey left hex most → IsNoKey held hex most
+no_key_known None left hex most known is = (is.0, None, tt, no_end hex is.0 most is.1 is.3)
+no_key_known (Some bytes) left hex most known is =
+    subst (λ (l : Option (List ℕ)). IsNoKey l hex most) known is
 
 -- ---- a manifest
 

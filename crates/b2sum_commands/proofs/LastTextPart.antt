@@ -1,5 +1,6 @@
 -- The last part of a text.
-use Rattle.std.proofs.Common.{◌≡◌, ℕ, ◌+◌, ◌-◌, ◌<◌, ◌≤◌, ◌==◌, Bool, true, false, ◌||◌, List, [], ◌∷◌}
+use Rattle.std.proofs.Common.{◌≡◌, ℕ, ◌+◌, ◌-◌, ◌<◌, ◌≤◌, ◌==◌, Bool, true, false, ◌||◌, List, []}
+use Rattle.std.proofs.Common.{◌∷◌}
 use Rattle.std.proofs.Common.{◌++◌, refl, ap, ◌∙◌, sym, subst, length, drop, take, get_or, arith}
 use Rattle.std.proofs.Common.{add-one, drop-cons, length-drop, eq-eqb}
 use Rattle.std.proofs.lemmas.List.{take-append-drop, take_all}

@@ -1,10 +1,11 @@
 -- The messages at the end of a manifest.
-use Rattle.std.proofs.Common.{◌≡◌, ℕ, ◌==◌, ◌&&◌, Bool, true, false, not, List, [], ◌++◌, Option, inr}
+use Rattle.std.proofs.Common.{◌≡◌, ℕ, ◌==◌, ◌&&◌, Bool, true, false, not, List, [], ◌++◌, Option}
+use Rattle.std.proofs.Common.{inr}
 use Rattle.std.proofs.Common.{sym, subst}
 use Rattle.std.proofs.KnownBytes.{Appends-nil}
 use Rattle.b2sum_commands.specs.declared.check.Counts.{Counts}
 use Rattle.b2sum_commands.specs.declared.options.Options.{Options}
-use Rattle.b2sum_commands.specs.Manifests.{is_nothing}
+use Rattle.b2sum_commands.specs.Manifests.{prints_nothing}
 use Rattle.b2sum_commands.specs.Messages.{LinesNeed, Message, VerifiesNone, message, message_if}
 use Rattle.b2sum_commands.specs.Reports.{has_no_entry, report_text, warnings}
 use Rattle.b2sum_commands.specs.World.{IsWritten}
@@ -39,7 +40,7 @@ four_written a b c d e v w x y z first second third fourth p q r s =
 
 -- The messages at the end of a manifest, one after the other.
 pub reported : (a b c d : Bool) (w x y z : Option (List ℕ)) (program name : List ℕ) (o : Options)
-    (counts : Counts) → has_no_entry counts ≡ false → is_nothing o.report ≡ false
+    (counts : Counts) → has_no_entry counts ≡ false → prints_nothing o.report ≡ false
     → IsWritten a b w x (message_if (not (counts.unmet == 0)) program (LinesNeed name counts.lacks))
     → IsWritten b c x y (warnings program counts)
     → IsWritten c d y z

@@ -4,7 +4,7 @@ use Rattle.std.proofs.Common.{true, if◌then◌else◌, ap, subst, ◌∙◌}
 use Rattle.std.specs.Result.{result_ok}
 use Rattle.b2sum_commands.specs.LineReads.{IsOpenManifest, source_left, source_name}
 use Rattle.b2sum_commands.specs.ManifestChecks.{AreRead, AreStopped, EndsAt, GoesOn}
-use Rattle.b2sum_commands.specs.Messages.{is_dash}
+use Rattle.b2sum_commands.specs.Messages.{is_standard_input}
 use Rattle.b2sum_commands.specs.Reports.{TellsEnd}
 use Rattle.b2sum_commands.specs.World.{OnlyTells, Streams, TellsText, World}
 use Rattle.b2sum_commands.specs.declared.check.Counts.{Counts}
@@ -19,9 +19,9 @@ use Rattle.b2sum_commands.proofs.KnownBytes.{seen_stopped}
 known_start : {F : Type 0} (named : F → List ℕ) (left : F → Option (List ℕ)) (file : Option F)
     (lines : List ℕ) (held input : Option (List ℕ)) (name : List ℕ)
     → IsOpenManifest named left held input name file lines
-    → seen (is_dash name) held (source_left left file input) ≡ (if is_dash name then input else held)
+    → seen (is_standard_input name) held (source_left left file input) ≡ (if is_standard_input name then input else held)
 known_start named left file lines held input name opened =
-    seen_start (is_dash name) held (source_left left file input) input opened.whole
+    seen_start (is_standard_input name) held (source_left left file input) input opened.whole
     (λ dash. source_at left file input (opened.is_input ∙ dash))
 
 -- An error ended its check.
@@ -33,25 +33,25 @@ pub opened_stops : {F : Type 0} (named : F → List ℕ) (left : F → Option (L
 opened_stops named left file lines w o name old new opened stopped =
     let held = w.files.holds name in
     let before = source_left left file old.left in
-    subst (λ (l : Option (List ℕ)). AreStopped w o name (is_dash name) l old new)
+    subst (λ (l : Option (List ℕ)). AreStopped w o name (is_standard_input name) l old new)
     (known_start named left file lines held old.left name opened)
-    (seen_stopped (is_dash name) held w o name (is_dash name) before old new
+    (seen_stopped (is_standard_input name) held w o name (is_standard_input name) before old new
     (subst (λ (b : Bool). AreStopped w o name b before old new) opened.is_input
     (subst (λ (n : List ℕ). AreStopped w o n (is_none file) before old new) opened.is_named stopped)))
 
 -- Its lines were checked, and its last messages are told, or an error ended that.
 told_or_stopped : {E : Type 0} (w : World) (o : Options) (name : List ℕ) (old mid new : Streams)
     (vs : List Verdict) (found : Option Counts) (before rest at : Option (List ℕ)) (r : Result Bool E)
-    → before ≡ (if is_dash name then old.left else w.files.holds name)
-    → AreRead w o (is_dash name) before rest old mid vs
-    → EndsAt found vs rest at (w.breaks name) → (is_dash name ≡ true → at ≡ mid.left)
+    → before ≡ (if is_standard_input name then old.left else w.files.holds name)
+    → AreRead w o (is_standard_input name) before rest old mid vs
+    → EndsAt found vs rest at (w.breaks name) → (is_standard_input name ≡ true → at ≡ mid.left)
     → OnlyTells mid new → IfOk r (λ holds. TellsEnd w.program o name found holds (TellsText mid new))
     → GoesOn w o name old new (result_ok r)
 told_or_stopped w o name old mid new vs found before rest at (Ok holds) from read ends input last told =
     manifest_ended w o name old mid new vs found holds before rest at from read ends input last told
 told_or_stopped w o name old mid new vs found before rest at (Err e) from read ends input last told =
-    subst (λ (l : Option (List ℕ)). AreStopped w o name (is_dash name) l old new) from
-    (stopped_after w o name (is_dash name) before rest at old mid new vs found read ends
+    subst (λ (l : Option (List ℕ)). AreStopped w o name (is_standard_input name) l old new) from
+    (stopped_after w o name (is_standard_input name) before rest at old mid new vs found read ends
     (ap (λ (s : Streams). s.held) last))
 
 pub opened_goes_on : {F E : Type 0} (named : F → List ℕ) (left : F → Option (List ℕ))
@@ -68,12 +68,12 @@ opened_goes_on named left file after lines w o name old mid new rest vs found r 
     let held = w.files.holds name in
     let first = source_left left file old.left in
     let now = source_left left after mid.left in
-    told_or_stopped w o name old mid new vs found (seen (is_dash name) held first)
-    (seen (is_dash name) held rest) (seen (is_dash name) held now) r
+    told_or_stopped w o name old mid new vs found (seen (is_standard_input name) held first)
+    (seen (is_standard_input name) held rest) (seen (is_standard_input name) held now) r
     (known_start named left file lines held old.left name opened)
-    (seen_read (is_dash name) held w o (is_dash name) first rest old mid vs
+    (seen_read (is_standard_input name) held w o (is_standard_input name) first rest old mid vs
     (subst (λ (b : Bool). AreRead w o b first rest old mid vs) opened.is_input read))
-    (seen_ends (is_dash name) held found vs rest now (w.breaks name)
+    (seen_ends (is_standard_input name) held found vs rest now (w.breaks name)
     (subst (λ (n : List ℕ). EndsAt found vs rest now (w.breaks n)) opened.is_named ends))
-    (λ dash. seen_input (is_dash name) held now dash
+    (λ dash. seen_input (is_standard_input name) held now dash
     ∙ source_at left after mid.left (same ∙ opened.is_input ∙ dash)) last told

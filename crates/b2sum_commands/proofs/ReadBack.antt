@@ -20,12 +20,13 @@ use Rattle.b2sum_lines.proofs.RoundTrip.{entry_read_by}
 use Rattle.blake2_streams.specs.Streams.{GivesAll}
 use Rattle.b2sum_commands.specs.declared.check.Verdict.{Verdict}
 use Rattle.b2sum_commands.specs.declared.check.Verdict.TheVariants.{Equal, Different, Unread}
-use Rattle.b2sum_commands.specs.declared.check.Verdict.TheVariants.{Skipped, Malformed, Unmet, Comment}
+use Rattle.b2sum_commands.specs.declared.check.Verdict.TheVariants.{Skipped, Malformed, Unmet}
+use Rattle.b2sum_commands.specs.declared.check.Verdict.TheVariants.{Comment}
 use Rattle.b2sum_commands.specs.declared.options.Options.{Options}
 use Rattle.b2sum_commands.specs.declared.options.Shape.{Shape}
 use Rattle.b2sum_commands.specs.declared.options.Shape.TheVariants.{Named}
 use Rattle.b2sum_commands.specs.LineNeeds.{has_demanded_length}
-use Rattle.b2sum_commands.specs.Messages.{is_dash}
+use Rattle.b2sum_commands.specs.Messages.{is_standard_input}
 use Rattle.b2sum_commands.specs.World.{Place, Streams, World, InTurn, AllInTurn, Ends}
 use Rattle.b2sum_commands.specs.PrintedSums.{entry_of, ended_line, printed}
 use Rattle.b2sum_commands.specs.PrintedSums.{printed_function, IsSum}
@@ -40,13 +41,13 @@ use Rattle.b2sum_commands.proofs.CheckedLines.{line_first}
 
 -- ---- a line
 
-not_is : (b : Bool) → not b ≡ true → b ≡ false
-not_is true h = absurd (search (h, rules))
-not_is false h = refl
+false_of_not : (b : Bool) → not b ≡ true → b ≡ false
+false_of_not true h = absurd (search (h, rules))
+false_of_not false h = refl
 
 -- A clear byte is no newline, and no carriage return.
-ends_none : (b : ℕ) → clear b ≡ true → ((b == 10) ≡ false) × ((b == 13) ≡ false)
-ends_none b h = or_parts (b == 10) (b == 13) (not_is ((b == 10) || (b == 13)) h)
+clear_ends_no_line : (b : ℕ) → clear b ≡ true → ((b == 10) ≡ false) × ((b == 13) ≡ false)
+clear_ends_no_line b h = or_parts (b == 10) (b == 13) (false_of_not ((b == 10) || (b == 13)) h)
 
 clear_at : (line : List ℕ) (k d : ℕ) → list_all clear line ≡ true → k < length line
     → clear (get_or line k d) ≡ true
@@ -56,17 +57,17 @@ clear_at (b ∷ line) (suc k) d all below =
     clear_at line k d (and_parts (clear b) (list_all clear line) all).1 (omega (arith, below))
 
 one_line : (line : List ℕ) → list_all clear line ≡ true → IsOneLine line
-one_line line all k d below = (ends_none (get_or line k d) (clear_at line k d all below)).0
+one_line line all k d below = (clear_ends_no_line (get_or line k d) (clear_at line k d all below)).0
 
 -- All of such a line is read.
-trimmed_is : (line : List ℕ) → begins line ≡ true → list_all clear line ≡ true
+trimmed-clear : (line : List ℕ) → begins line ≡ true → list_all clear line ≡ true
     → trimmed line ≡ Some line
-trimmed_is [] first all = absurd (search (first, rules))
-trimmed_is (b ∷ line) first all =
-    let mark : (b == 35) ≡ false = not_is (b == 35) first in
+trimmed-clear [] first all = absurd (search (first, rules))
+trimmed-clear (b ∷ line) first all =
+    let mark : (b == 35) ≡ false = false_of_not (b == 35) first in
     let last : length (b ∷ line) - 1 < length (b ∷ line) = omega arith in
     let end : (get_or (b ∷ line) (length (b ∷ line) - 1) 0 == 13) ≡ false =
-    (ends_none _ (clear_at (b ∷ line) (length (b ∷ line) - 1) 0 all last)).1 in
+    (clear_ends_no_line _ (clear_at (b ∷ line) (length (b ∷ line) - 1) 0 all last)).1 in
     rw (mark, end) refl
 
 -- ---- an entry
@@ -82,7 +83,7 @@ line_item : (c : Options) (input : Bool) (s : Spacing) (e : Line) → Readable c
     → item c input s (entry_line e) ≡ Some (Ok e)
 line_item c input s e r two =
     ap (option_map (λ (body : List ℕ). checkable c input (line_entry c.algorithm s body)))
-    (trimmed_is (entry_line e) (line_begins e r.writable) (line_clear e r.writable))
+    (trimmed-clear (entry_line e) (line_begins e r.writable) (line_clear e r.writable))
     ∙ ap (λ (o : Option Line). Some (checkable c input o))
     (entry_read_by e r.writable r.marked c.algorithm r.algorithm s (λ _. two))
     ∙ ap (λ (o : Result Line Verdict). Some o) r.accepted
@@ -183,19 +184,19 @@ same_texts dash (Some bytes) a b c d x y other known first second =
 -- The file of an entry is the same as when that was printed.
 record Kept (w : World) (c : Options) (e : Line) : Type 0 where
   same : (left after : Option (List ℕ)) (text : List ℕ)
-      → ReadsAs (is_dash e.name) (w.files.holds e.name) left after text
+      → ReadsAs (is_standard_input e.name) (w.files.holds e.name) left after text
       → w.hashing.digest c (listed_function e) text ≡ e.digest
 
 kept_entry : (w : World) (c o : Options) (name text : List ℕ) (old new : Option (List ℕ))
     → AreReadable w o → HaveSameDigests w c o
-    → (is_dash name ≡ false) × (is_some (w.files.holds name) ≡ true)
-    → ReadsAs (is_dash name) (w.files.holds name) old new text → Kept w c (entry_of w o name text)
+    → (is_standard_input name ≡ false) × (is_some (w.files.holds name) ≡ true)
+    → ReadsAs (is_standard_input name) (w.files.holds name) old new text → Kept w c (entry_of w o name text)
 kept_entry w c o name text old new are same is read = record {
   same = λ left after again other. same (listed_function (entry_of w o name text)) again
       ∙ ap (λ (n : ℕ). w.hashing.digest o (record { algorithm = o.algorithm; bytes = n }) again)
       (are.digests text).1
       ∙ ap (w.hashing.digest o (printed_function o))
-      (same_texts (is_dash name) (w.files.holds name) left after old new again text is.0 is.1 other
+      (same_texts (is_standard_input name) (w.files.holds name) left after old new again text is.0 is.1 other
       read);
 }
 
@@ -256,8 +257,8 @@ verdicts_kept w c input (e ∷ es) lines before after vs all kept two are done =
         → (list_all is_kept vs ≡ true) × (length vs ≡ length (e ∷ es))
     some [] done again = absurd done
     some (v ∷ vs) done again =
-        let is : IsItem w c (Some (Ok e)) before done.0 v =
-        subst (λ (i : Option (Result Line Verdict)). IsItem w c i before done.0 v)
+        let is : IsItem w c (entry_line e) (Some (Ok e)) before done.0 v =
+        subst (λ (i : Option (Result Line Verdict)). IsItem w c (entry_line e) i before done.0 v)
         (line_item c input before.place.spacing e all.0 two) done.1 in
         let spaced : done.0.place.spacing ≢ One =
         λ one. two_after before.place.spacing e.style two all.0.marked (sym (ap (λ (p : Place). p.spacing) is.0) ∙ one) in
@@ -276,19 +277,19 @@ record Found (w : World) (o : Options) (names : List (List ℕ)) (old new : Stre
   all : list_all (λ well. well) each ≡ list_all is_some found
   printed : Appends old.held new.held (flat_map (ended_line false) (entries_in found))
 
-find : (w : World) (o : Options) (names : List (List ℕ)) (old new : Streams) (each : List Bool)
+printed_entries : (w : World) (o : Options) (names : List (List ℕ)) (old new : Streams) (each : List Bool)
     → o.shape ≡ Named → o.ends_zero ≡ false → InTurn (Ends (IsSum w o)) names old new each
     → Found w o names old new each
-find w o [] old new [] shape ends done = record {
+printed_entries w o [] old new [] shape ends done = record {
   found = [];
   are_entries = done;
   all = refl;
   printed = subst (λ (s : Streams). Appends old.held s.held []) (sym done) (Appends-nil old.held);
 }
-find w o [] old new (well ∷ each) shape ends done = absurd done
-find w o (name ∷ names) old new [] shape ends done = absurd done
-find w o (name ∷ names) old new (true ∷ each) shape ends done =
-    let rest = find w o names done.0 new each shape ends done.2 in
+printed_entries w o [] old new (well ∷ each) shape ends done = absurd done
+printed_entries w o (name ∷ names) old new [] shape ends done = absurd done
+printed_entries w o (name ∷ names) old new (true ∷ each) shape ends done =
+    let rest = printed_entries w o names done.0 new each shape ends done.2 in
     let e = entry_of w o name done.1.0.0 in
     record {
       found = Some e ∷ rest.found;
@@ -299,8 +300,8 @@ find w o (name ∷ names) old new (true ∷ each) shape ends done =
           (subst (λ (zero : Bool). Appends old.held done.0.held (printed o.shape zero e)) ends
           done.1.0.2)) rest.printed;
     }
-find w o (name ∷ names) old new (false ∷ each) shape ends done =
-    let rest = find w o names done.0 new each shape ends done.2 in
+printed_entries w o (name ∷ names) old new (false ∷ each) shape ends done =
+    let rest = printed_entries w o names done.0 new each shape ends done.2 in
     record {
       found = None ∷ rest.found;
       are_entries = (done.0, done.1, rest.are_entries);
@@ -315,7 +316,7 @@ pub manifest_printed : (w : World) (o : Options) (names : List (List ℕ)) (old 
     → AllInTurn (IsSum w o) names old new (result_ok r)
     → IfOk r (IsManifest w o names old new)
 manifest_printed w o names old new (Ok are_read) shape ends done =
-    let all = find w o names old new done.0 shape ends done.1 in
+    let all = printed_entries w o names old new done.0 shape ends done.1 in
     record {
       found = all.found;
       are_entries = all.are_entries;

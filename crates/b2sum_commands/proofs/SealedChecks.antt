@@ -11,7 +11,7 @@ use Rattle.b2sum_commands.specs.declared.check.Verdict.{Verdict}
 use Rattle.b2sum_commands.specs.declared.options.Options.{Options}
 use Rattle.b2sum_commands.specs.ManifestChecks.{IsText}
 use Rattle.b2sum_commands.specs.Manifests.{BeginsLine, IsLine}
-use Rattle.b2sum_commands.specs.Messages.{Cannot, is_dash}
+use Rattle.b2sum_commands.specs.Messages.{Cannot, is_standard_input}
 use Rattle.b2sum_commands.specs.PrintedSums.{IsKept, IsSum}
 use Rattle.b2sum_commands.specs.Reports.{AreCounted, TellsEnd}
 use Rattle.b2sum_commands.specs.SealedLists.{ArePrinted, IsProven, IsSealed, IsOverlong, LacksList}
@@ -88,7 +88,7 @@ OpenUnlisted w name most left old new = (reason : List ℕ)
     × Tells w old new (Cannot name reason)
 
 pub input_unlisted : (w : World) (name : List ℕ) (most : ℕ) (old new : Streams)
-    → is_dash name ≡ true → OpenUnlisted w name most old.left old new
+    → is_standard_input name ≡ true → OpenUnlisted w name most old.left old new
     → TellsUnlisted w name most old new
 input_unlisted w name most old new dash told = (told.0, go told.1, told.2)
   where
@@ -101,7 +101,7 @@ input_unlisted w name most old new dash told = (told.0, go told.1, told.2)
     )
 
 pub file_unlisted : (w : World) (name : List ℕ) (most : ℕ) (left : Option (List ℕ))
-    (old new : Streams) → is_dash name ≡ false → IsKnown (w.files.holds name) left
+    (old new : Streams) → is_standard_input name ≡ false → IsKnown (w.files.holds name) left
     → OpenUnlisted w name most left old new → TellsUnlisted w name most old new
 file_unlisted w name most left old new other known told = (told.0, go told.1, told.2)
   where
@@ -169,7 +169,7 @@ text_stops w o input all old rest line after now new vs first sofar begun = reco
 pub record IsRead (w : World) (name : List ℕ) (old read : Streams) (text : List ℕ) : Type 0 where
   pub left : Option (List ℕ)
   pub at : read ≡ record old { left = left }
-  pub is_text : IsText (is_dash name) (w.files.holds name) old.left left text
+  pub is_text : IsText (is_standard_input name) (w.files.holds name) old.left left text
   pub fits : length text ≤ 2 ^ 28
 
 -- The seal does not hold.
@@ -193,7 +193,7 @@ seal_broken w o name old read new text r broken only told = inl (
 pub seal_holds : {E : Type 0} (w : World) (o : Options) (name : List ℕ) (old read mid new : Streams)
     (text : List ℕ) (vs : List Verdict) (counts : Counts) (r : Result Bool E)
     → IsRead w name old read text → IsSealed w.hashing o text
-    → InTurn (IsLine w o (is_dash name)) (lines_of text) read mid vs → AreCounted vs counts
+    → InTurn (IsLine w o (is_standard_input name)) (lines_of text) read mid vs → AreCounted vs counts
     → OnlyTells mid new
     → IfOk r (λ holds. TellsEnd w.program o name (Some counts) holds (TellsText mid new))
     → IsProven w o name old new (result_ok r)
@@ -206,7 +206,7 @@ seal_holds w o name old read mid new text vs counts (Ok holds) r sealed lines co
         is_text = r.is_text;
         are_judged = record {
           end = mid;
-          lines = subst (λ (s : Streams). InTurn (IsLine w o (is_dash name)) (lines_of text) s mid vs)
+          lines = subst (λ (s : Streams). InTurn (IsLine w o (is_standard_input name)) (lines_of text) s mid vs)
               r.at lines;
           last = last;
         };
@@ -229,7 +229,7 @@ seal_holds w o name old read mid new text vs counts (Err e) r sealed lines count
         results = vs;
         mid = mid;
         are_done = subst
-            (λ (s : Streams). InTurn (IsLine w o (is_dash name)) (lines_of text) s mid vs) r.at lines;
+            (λ (s : Streams). InTurn (IsLine w o (is_standard_input name)) (lines_of text) s mid vs) r.at lines;
         next = ap (λ (s : Streams). s.held) last;
       };
     })
@@ -237,25 +237,25 @@ seal_holds w o name old read mid new text vs counts (Err e) r sealed lines count
 -- The seal holds, and an error ended the check of a line.
 pub seal_stopped : (w : World) (o : Options) (name : List ℕ) (old read new : Streams)
     (text : List ℕ) → IsRead w name old read text → IsSealed w.hashing o text
-    → IsStopped (IsLine w o (is_dash name)) (BeginsLine w o (is_dash name)) (lines_of text) read new
+    → IsStopped (IsLine w o (is_standard_input name)) (BeginsLine w o (is_standard_input name)) (lines_of text) read new
     → IsProven w o name old new None
 seal_stopped w o name old read new text r sealed stopped = inr (record {
   text = text;
   left = r.left;
   is_text = r.is_text;
   sealed = sealed;
-  lines = subst (λ (s : Streams). IsStopped (IsLine w o (is_dash name))
-      (BeginsLine w o (is_dash name)) (lines_of text) s new) r.at stopped;
+  lines = subst (λ (s : Streams). IsStopped (IsLine w o (is_standard_input name))
+      (BeginsLine w o (is_standard_input name)) (lines_of text) s new) r.at stopped;
 })
 
 -- A list that was read.
 pub read_of : (w : World) (name : List ℕ) (old read : Streams) (list text : List ℕ)
     (left : Option (List ℕ)) → read ≡ record old { left = left }
-    → IsText (is_dash name) (w.files.holds name) old.left left list → length list ≤ 2 ^ 28
+    → IsText (is_standard_input name) (w.files.holds name) old.left left list → length list ≤ 2 ^ 28
     → text ≡ list → IsRead w name old read text
 read_of w name old read list text left at is fits same = record {
   left = left;
   at = at;
-  is_text = subst (IsText (is_dash name) (w.files.holds name) old.left left) (sym same) is;
+  is_text = subst (IsText (is_standard_input name) (w.files.holds name) old.left left) (sym same) is;
   fits = subst (λ (t : List ℕ). length t ≤ 2 ^ 28) (sym same) fits;
 }

@@ -1,5 +1,6 @@
 -- The stop of a part of a command line is that of the whole.
-use Rattle.std.proofs.Common.{◌≡◌, ℕ, true, false, List, Result, Ok, Err, IfErr, Option, None, Bool, inl, inr}
+use Rattle.std.proofs.Common.{◌≡◌, ℕ, true, false, List, Result, Ok, Err, IfErr, Option, None, Bool}
+use Rattle.std.proofs.Common.{inl, inr}
 use Rattle.std.proofs.Common.{Vec, Global, map}
 use Rattle.std.specs.Option.{option_map}
 use Rattle.std.proofs.Common.{refl, ap, sym, subst, ◌∙◌, drop, codes, nat_eq}
@@ -10,7 +11,8 @@ use Rattle.b2sum_commands.specs.declared.options.Stop.TheVariants.{Help, Version
 use Rattle.b2sum_commands.specs.declared.options.Stop.TheVariants.{NoMemory}
 use Rattle.b2sum_commands.specs.CommandLine.{Choice, Next, ReadWords, End, Helped, Versioned}
 use Rattle.b2sum_commands.specs.CommandLine.{Refused}
-use Rattle.b2sum_commands.specs.CommandLine.{with_option, read_any, read_long, read_letters}
+use Rattle.b2sum_commands.specs.CommandLine.{with_option, read_option_or_file, read_long}
+use Rattle.b2sum_commands.specs.CommandLine.{read_letters}
 use Rattle.b2sum_commands.specs.World.{Streams}
 use Rattle.b2sum_commands.specs.CommandLineViews.{StopsBy, IsPrinted}
 use Rattle.b2sum_commands.specs.World.{World}
@@ -35,20 +37,20 @@ option_stops s r (Ok x) h = tt
 option_stops s r (Err stop) h = stops_through (with_option s) (λ e. refl) r stop h
 
 -- The stop of an option with two hyphens.
-pub long_stops : {A : Type 0} (s : ReadWords) (word rest : List ℕ) (result : Result A Stop)
+pub long_option_error : {A : Type 0} (s : ReadWords) (word rest : List ℕ) (result : Result A Stop)
     → bytes_eq word (codes "--") ≡ false → starts_with nat_eq word (codes "--") ≡ true
     → rest ≡ drop 2 word → IfErr result (StopsBy (read_long s.choice rest))
-    → IfErr result (StopsBy (read_any s word))
-long_stops s word rest result whole front is h =
+    → IfErr result (StopsBy (read_option_or_file s word))
+long_option_error s word rest result whole front is h =
     rw whole (rw front (option_stops s (read_long s.choice (drop 2 word)) result (rw (sym is) h)))
 
 -- The stop of letters.
-pub letters_stop : {A : Type 0} (s : ReadWords) (word rest : List ℕ) (result : Result A Stop)
+pub short_options_error : {A : Type 0} (s : ReadWords) (word rest : List ℕ) (result : Result A Stop)
     → bytes_eq word (codes "--") ≡ false → starts_with nat_eq word (codes "--") ≡ false
     → starts_with nat_eq word (codes "-") ≡ true → bytes_eq word (codes "-") ≡ false
     → rest ≡ drop 1 word → IfErr result (StopsBy (read_letters s.choice rest))
-    → IfErr result (StopsBy (read_any s word))
-letters_stop s word rest result whole front first alone is h =
+    → IfErr result (StopsBy (read_option_or_file s word))
+short_options_error s word rest result whole front first alone is h =
     rw whole (rw front (rw first (rw alone
     (option_stops s (read_letters s.choice (drop 1 word)) result (rw (sym is) h)))))
 

@@ -1,19 +1,22 @@
 -- The counts of verdicts.
-use Rattle.std.proofs.Common.{◌≡◌, ℕ, ◌+◌, ◌==◌, ◌&&◌, ◌||◌, nat_lt, Bool, true, false, not, if◌then◌else◌}
+use Rattle.std.proofs.Common.{◌≡◌, ℕ, ◌+◌, ◌==◌, ◌&&◌, ◌||◌, nat_lt, Bool, true, false, not}
+use Rattle.std.proofs.Common.{if◌then◌else◌}
 use Rattle.std.proofs.Common.{List, [], ◌∷◌, ◌++◌, fold, refl, ap, ◌∙◌, sym, arith, zero, suc}
 use Rattle.std.proofs.lemmas.Bool.{ne_eqb, lt-ltb}
 use Rattle.std.proofs.lemmas.List.Sums.{sum_by-append, sum_by-cons}
 use Rattle.std.specs.List.{list_all, list_any, count_by}
-use Rattle.b2sum_commands.specs.Manifests.{is_different, is_equal, is_fine, is_formed, holds_by}
+use Rattle.b2sum_commands.specs.Manifests.{is_different, is_equal, passes_lenient_check}
+use Rattle.b2sum_commands.specs.Manifests.{is_well_formed, holds_by}
 use Rattle.b2sum_commands.specs.LineNeeds.{no_lacks}
 use Rattle.b2sum_commands.specs.Manifests.{capped}
 use Rattle.b2sum_commands.specs.Reports.{AreCounted, Adds, also_lack, holds_counted, more_if}
-use Rattle.b2sum_commands.specs.Reports.{is_unread, is_skipped, is_malformed, is_unmet}
+use Rattle.b2sum_commands.specs.Reports.{is_unread, is_skipped, is_malformed, has_unmet_needs}
 use Rattle.b2sum_commands.specs.declared.check.Counts.{Counts}
 use Rattle.b2sum_commands.specs.declared.check.Verdict.{Verdict}
 use Rattle.b2sum_commands.specs.declared.line_needs.Lacks.{Lacks}
 use Rattle.b2sum_commands.specs.declared.check.Verdict.TheVariants.{Equal, Different, Unread}
-use Rattle.b2sum_commands.specs.declared.check.Verdict.TheVariants.{Skipped, Malformed, Unmet, Comment}
+use Rattle.b2sum_commands.specs.declared.check.Verdict.TheVariants.{Skipped, Malformed, Unmet}
+use Rattle.b2sum_commands.specs.declared.check.Verdict.TheVariants.{Comment}
 
 -- ---- one more verdict
 
@@ -53,7 +56,7 @@ count_step vs v old new c a = record {
   unread = kind_step is_unread vs v old.unread new.unread c.unread a.unread;
   skipped = kind_step is_skipped vs v old.skipped new.skipped c.skipped a.skipped;
   malformed = kind_step is_malformed vs v old.malformed new.malformed c.malformed a.malformed;
-  unmet = kind_step is_unmet vs v old.unmet new.unmet c.unmet a.unmet;
+  unmet = kind_step has_unmet_needs vs v old.unmet new.unmet c.unmet a.unmet;
   lacks = a.lacks ∙ ap (λ (l : Lacks). also_lack l v) c.lacks ∙ sym (lacks_more no_lacks vs v);
 }
 
@@ -114,8 +117,8 @@ and_false true = refl
 and_false false = refl
 
 -- All is fine if no file has another digest, none cannot be read, and no line needs other options.
-all_fine : (vs : List Verdict) → list_all is_fine vs
-    ≡ (none_of is_different vs && (none_of is_unread vs && none_of is_unmet vs))
+all_fine : (vs : List Verdict) → list_all passes_lenient_check vs
+    ≡ (none_of is_different vs && (none_of is_unread vs && none_of has_unmet_needs vs))
 all_fine [] = refl
 all_fine (Equal ∷ vs) = all_fine vs
 all_fine (Different ∷ vs) = refl
@@ -126,7 +129,7 @@ all_fine (Unmet lacks ∷ vs) = sym (ap (λ b. none_of is_different vs && b)
     (and_false (none_of is_unread vs)) ∙ and_false (none_of is_different vs))
 all_fine (Comment ∷ vs) = all_fine vs
 
-formed_is : (v : Verdict) → is_formed v ≡ not (is_malformed v)
+formed_is : (v : Verdict) → is_well_formed v ≡ not (is_malformed v)
 formed_is Equal = refl
 formed_is Different = refl
 formed_is Unread = refl
@@ -135,9 +138,9 @@ formed_is Malformed = refl
 formed_is (Unmet lacks) = refl
 formed_is Comment = refl
 
-all_formed : (vs : List Verdict) → list_all is_formed vs ≡ none_of is_malformed vs
+all_formed : (vs : List Verdict) → list_all is_well_formed vs ≡ none_of is_malformed vs
 all_formed [] = refl
-all_formed (v ∷ vs) = ap (λ b. b && list_all is_formed vs) (formed_is v)
+all_formed (v ∷ vs) = ap (λ b. b && list_all is_well_formed vs) (formed_is v)
     ∙ ap (λ b. not (is_malformed v) && b) (all_formed vs)
 
 -- The result by the counts is that by the verdicts.
@@ -148,7 +151,7 @@ counted_holds strict vs c are =
       some_kind is_equal vs c.equal are.equal,
       no_kind is_different vs c.different are.different,
       no_kind is_unread vs c.unread are.unread,
-      no_kind is_unmet vs c.unmet are.unmet,
+      no_kind has_unmet_needs vs c.unmet are.unmet,
       no_kind is_malformed vs c.malformed are.malformed,
       ← all_fine vs,
       ← all_formed vs,

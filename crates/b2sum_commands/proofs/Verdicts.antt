@@ -1,17 +1,20 @@
 -- Lines that are checked.
-use Rattle.std.proofs.Common.{◌≡◌, ◌≢◌, ℕ, Bool, true, List, [], ◌∷◌, Option, Some, None, refl, ap, ◌∙◌}
+use Rattle.std.proofs.Common.{◌≡◌, ◌≢◌, ℕ, Bool, true, List, [], ◌∷◌, Option, Some, None, refl, ap}
+use Rattle.std.proofs.Common.{◌∙◌}
 use Rattle.std.proofs.Common.{sym, subst, length, arith, Result, Ok, Err, IfOk, true≢false}
 use Rattle.std.proofs.KnownBytes.{Appends-nil}
 use Rattle.std.specs.Io.KnownBytes.{Appends}
 use Rattle.b2sum_lines.specs.ManifestLines.{Line}
-use Rattle.b2sum_commands.specs.Messages.{Improper, message_if}
+use Rattle.b2sum_commands.specs.Messages.{LineNeeds, message_if}
 use Rattle.b2sum_commands.specs.World.{OnlyTells, Place, Streams, TellsText, World}
 use Rattle.b2sum_commands.specs.Manifests.{is_silent, item, next_place, HasVerdict, IsItem, IsLine}
-use Rattle.b2sum_commands.specs.Manifests.{TellsUnread, TellsVerdict, is_warnings}
+use Rattle.b2sum_commands.specs.Manifests.{TellsUnread, TellsVerdict, improper}
+use Rattle.b2sum_commands.specs.Manifests.{is_warnings}
 use Rattle.b2sum_commands.specs.Reports.{is_malformed, is_unread}
 use Rattle.b2sum_commands.specs.declared.check.Verdict.{Verdict}
 use Rattle.b2sum_commands.specs.declared.check.Verdict.TheVariants.{Comment, Malformed, Unmet}
-use Rattle.b2sum_commands.specs.declared.check.Verdict.TheVariants.{Unread}
+use Rattle.b2sum_commands.specs.declared.check.Verdict.TheVariants.{Unread, Equal, Different}
+use Rattle.b2sum_commands.specs.declared.check.Verdict.TheVariants.{Skipped}
 use Rattle.b2sum_commands.specs.declared.line_needs.Lacks.{Lacks}
 use Rattle.b2sum_commands.specs.declared.options.Options.{Options}
 
@@ -28,18 +31,19 @@ unread_placed w o (Ok e) old new place told = told
 pub line_checked : (w : World) (o : Options) (input : Bool) (line : List ℕ) (old mid new : Streams)
     (i : Result Line Verdict) (v : Verdict) → item o input old.place.spacing line ≡ Some i
     → mid ≡ record old { place = next_place old.place (Some i) } → new.place ≡ mid.place
-    → HasVerdict Appends w o i mid new v → TellsVerdict w o i mid new v
+    → HasVerdict Appends w o i mid new v → TellsVerdict w o line i mid new v
     → IsLine w o input line old new v
 line_checked w o input line old mid new i v is at same verdict told =
-    let placed : TellsVerdict w o i (record old { place = next_place old.place (Some i) }) new v =
-    subst (λ (s : Streams). TellsVerdict w o i s new v) at told in
-    subst (λ (x : Option (Result Line Verdict)). IsItem w o x old new v) (sym is) (
+    let placed : TellsVerdict w o line i (record old { place = next_place old.place (Some i) }) new v =
+    subst (λ (s : Streams). TellsVerdict w o line i s new v) at told in
+    subst (λ (x : Option (Result Line Verdict)). IsItem w o line x old new v) (sym is) (
       same ∙ ap (λ (s : Streams). s.place) at,
       subst (λ (s : Streams). HasVerdict Appends w o i s new v) at verdict,
       (
         λ bad. unread_placed w o i old new (next_place old.place (Some i)) (placed.0 bad),
         placed.1,
         placed.2,
+        placed.3,
       ),
     )
 
@@ -48,14 +52,15 @@ pub comment_line : (w : World) (o : Options) (input : Bool) (line : List ℕ) (o
     → item o input old.place.spacing line ≡ None
     → mid ≡ record old { place = next_place old.place None } → IsLine w o input line old mid Comment
 comment_line w o input line old mid is at =
-    subst (λ (x : Option (Result Line Verdict)). IsItem w o x old mid Comment) (sym is) (refl, at)
+    subst (λ (x : Option (Result Line Verdict)). IsItem w o line x old mid Comment) (sym is)
+    (refl, at)
 
 -- A line that is not properly formatted.
 pub malformed_line : (w : World) (o : Options) (input : Bool) (line : List ℕ)
     (old mid new : Streams) → item o input old.place.spacing line ≡ Some (Err Malformed)
     → mid ≡ record old { place = next_place old.place (Some (Err Malformed)) } → OnlyTells mid new
     → TellsText mid new (message_if (is_warnings o.report) w.program
-    (Improper mid.place.name mid.place.number o.algorithm))
+    (improper o mid.place.name mid.place.number line))
     → IsLine w o input line old new Malformed
 malformed_line w o input line old mid new is at last told =
     let same : new.place ≡ mid.place = ap (λ (s : Streams). s.place) last in
@@ -67,25 +72,50 @@ malformed_line w o input line old mid new is at last told =
     ) (
       λ bad. absurd (true≢false (sym (ap is_unread bad))),
       λ _. subst (λ (p : Place). TellsText mid new (message_if (is_warnings o.report) w.program
-          (Improper p.name p.number o.algorithm))) (sym same) told,
+          (improper o p.name p.number line))) (sym same) told,
+      λ lacks bad. absurd (true≢false (ap is_malformed bad)),
       λ quiet. absurd (true≢false (sym quiet)),
     )
 
+same_lacks : {a b : Lacks} → Unmet a ≡ Unmet b → a ≡ b
+same_lacks {a} {b} is = ap (λ v. lacks_in a v) is
+  where
+    lacks_in : Lacks → Verdict → Lacks
+    lacks_in other Equal = other
+    lacks_in other Different = other
+    lacks_in other Unread = other
+    lacks_in other Skipped = other
+    lacks_in other Malformed = other
+    lacks_in other (Unmet lacks) = lacks
+    lacks_in other Comment = other
+
 -- A line that needs other options.
-pub unmet_line : (w : World) (o : Options) (input : Bool) (line : List ℕ) (old mid : Streams)
+pub unmet_line : (w : World) (o : Options) (input : Bool) (line : List ℕ) (old mid new : Streams)
     (lacks : Lacks) → item o input old.place.spacing line ≡ Some (Err (Unmet lacks))
     → mid ≡ record old { place = next_place old.place (Some (Err (Unmet lacks))) }
-    → IsLine w o input line old mid (Unmet lacks)
-unmet_line w o input line old mid lacks is at =
-    line_checked w o input line old mid mid (Err (Unmet lacks)) (Unmet lacks) is at refl
-    ([], (refl, refl), Appends-nil mid.held) (
+    → OnlyTells mid new → TellsText mid new (message_if (is_warnings o.report) w.program
+    (LineNeeds mid.place.name mid.place.number lacks))
+    → IsLine w o input line old new (Unmet lacks)
+unmet_line w o input line old mid new lacks is at last told =
+    let same : new.place ≡ mid.place = ap (λ (s : Streams). s.place) last in
+    line_checked w o input line old mid new (Err (Unmet lacks)) (Unmet lacks) is at same (
+      [],
+      (refl, ap (λ (s : Streams). s.left) last),
+      subst (λ (h : Option (List ℕ)). Appends mid.held h []) (sym (ap (λ (s : Streams). s.held) last))
+          (Appends-nil mid.held),
+    ) (
       λ bad. absurd (true≢false (sym (ap is_unread bad))),
       λ bad. absurd (true≢false (sym (ap is_malformed bad))),
-      λ quiet. refl,
+      λ others bad. subst (λ (l : Lacks). TellsText mid new
+          (message_if (is_warnings o.report) w.program
+          (LineNeeds new.place.name new.place.number l))) (same_lacks bad)
+          (subst (λ (p : Place). TellsText mid new (message_if (is_warnings o.report) w.program
+          (LineNeeds p.name p.number lacks))) (sym same) told),
+      λ quiet. absurd (true≢false (sym quiet)),
     )
 
-speaks : (v : Verdict) → is_silent v ≡ true → v ≢ Unread
-speaks v silent is = true≢false (sym silent ∙ ap is_silent is)
+silent-not_unread : (v : Verdict) → is_silent v ≡ true → v ≢ Unread
+silent-not_unread v silent is = true≢false (sym silent ∙ ap is_silent is)
 
 -- The line of an entry is checked.
 pub entry_line : {E : Type 0} (w : World) (o : Options) (input : Bool) (line : List ℕ)
@@ -99,6 +129,7 @@ entry_line w o input line old mid new e (Ok v) is at same verdict told silent =
     line_checked w o input line old mid new (Ok e) v is at same verdict (
       told,
       λ bad. absurd ((subst (HasVerdict Appends w o (Ok e) mid new) bad verdict).1),
-      λ quiet. silent (speaks v quiet),
+      λ lacks bad. absurd ((subst (HasVerdict Appends w o (Ok e) mid new) bad verdict).1),
+      λ quiet. silent (silent-not_unread v quiet),
     )
 entry_line w o input line old mid new e (Err error) is at same verdict told silent = tt

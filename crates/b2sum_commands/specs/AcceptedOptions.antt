@@ -19,7 +19,7 @@ use Rattle.b2sum_commands.specs.declared.options.Shape.TheVariants.{Named, Digit
 use Rattle.b2sum_commands.specs.declared.options.Report.TheVariants.{Each, Warnings, Failures}
 use Rattle.b2sum_commands.specs.declared.options.Report.TheVariants.{Nothing}
 use Rattle.b2sum_commands.specs.CommandLine.{Choice, End, Refused, reading}
-use Rattle.b2sum_commands.specs.Messages.{is_dash}
+use Rattle.b2sum_commands.specs.Messages.{is_standard_input}
 
 -- The algorithm has trees.
 abbrev pub has_trees : Algorithm → Bool
@@ -30,9 +30,9 @@ has_trees Blake2sp = false
 has_trees (Tree leaf) = true
 
 -- The last of the options for a mode is `--text`.
-abbrev pub is_text : Option Bool → Bool
-is_text None = false
-is_text (Some binary) = not binary
+abbrev pub is_text_mode : Option Bool → Bool
+is_text_mode None = false
+is_text_mode (Some binary) = not binary
 
 -- The last of the options for a mode is not `--text`, and there is one.
 abbrev pub is_binary : Option Bool → Bool
@@ -40,11 +40,11 @@ is_binary None = false
 is_binary (Some binary) = binary
 
 -- A check prints a line for each file.
-abbrev pub is_each : Report → Bool
-is_each Each = true
-is_each Warnings = false
-is_each Failures = false
-is_each Nothing = false
+abbrev pub prints_each_file : Report → Bool
+prints_each_file Each = true
+prints_each_file Warnings = false
+prints_each_file Failures = false
+prints_each_file Nothing = false
 
 -- The algorithm has digests of this length.
 abbrev pub has_length : Choice → Bool
@@ -66,7 +66,8 @@ has_labels c =
 abbrev pub goes_with_tree : Choice → Bool
 goes_with_tree c =
     if is_none c.leaf then is_none c.threads || c.checks
-    else has_trees c.algorithm && (is_none c.key_file && (c.checks || not (is_text c.is_binary)))
+    else has_trees c.algorithm
+    && (is_none c.key_file && (c.checks || not (is_text_mode c.is_binary)))
 
 -- The options go with a check: none is only for digests that are printed. Under a key the digest of
 -- a file that was changed is a MAC, and is not shown.
@@ -79,39 +80,45 @@ goes_with_check c =
 -- The options go with digests that are printed: none is only for a check.
 abbrev pub goes_with_sums : Choice → Bool
 goes_with_sums c =
-    not c.ignores_missing && (is_each c.report && (not c.is_strict && not c.shows_digests))
+    not c.ignores_missing && (prints_each_file c.report && (not c.is_strict && not c.shows_digests))
 
 -- There are not two personas.
 abbrev pub has_one_persona : Choice → Bool
 has_one_persona c = not (has_bytes c.persona && has_bytes c.persona_text)
+
+-- There is one file of a key, of bytes or of digits.
+abbrev pub has_one_key : Choice → Bool
+has_one_key c = not (c.key_is_raw && c.key_is_hex)
 
 -- The options go with a list that is sealed: its lines have tags, names and a key. A tree has no
 -- key. To be checked a sealed list needs a key too.
 abbrev pub goes_with_seals : Choice → Bool
 goes_with_seals c =
     (not c.seals || (is_some c.key_file && (is_none c.leaf && (not c.checks
-    && (not c.ends_zero && (not (c.has_no_names || c.is_raw) && not (is_text c.is_binary)))))))
+    && (not c.ends_zero && (not (c.has_no_names || c.is_raw) && not (is_text_mode c.is_binary)))))))
     && (not c.is_sealed || (c.checks && is_some c.key_file))
 
 -- The options go together.
 abbrev pub goes_together : Choice → Bool
 goes_together c =
     goes_with_seals c
-    && (not (c.is_tagged && is_text c.is_binary)
+    && (not (c.is_tagged && is_text_mode c.is_binary)
     && (not (c.is_tagged && (c.has_no_names || c.is_raw))
     && (has_one_persona c
-    && (goes_with_tree c && (if c.checks then goes_with_check c else goes_with_sums c)))))
+    && (has_one_key c
+    && (goes_with_tree c && (if c.checks then goes_with_check c else goes_with_sums c))))))
 
 -- The file of the key, if there is one, is standard input.
 abbrev pub is_input : Option (List ℕ) → Bool
 is_input None = false
-is_input (Some name) = is_dash name
+is_input (Some name) = is_standard_input name
 
 -- The options go with the files: bytes alone are those of one file, and standard input is not the
 -- key and a file too.
 abbrev pub goes_with_files : Choice → List (List ℕ) → Bool
 goes_with_files c files =
-    (not c.is_raw || (length files == 1)) && not (is_input c.key_file && list_any is_dash files)
+    (not c.is_raw || (length files == 1))
+    && not (is_input c.key_file && list_any is_standard_input files)
 
 -- The choice is accepted with these files.
 abbrev pub accepted : Choice → List (List ℕ) → Bool
@@ -154,6 +161,7 @@ pub record AreOptions (c : Choice) (o : Options) : Type 0 where
   pub demands_length : o.demands_length ≡ (not (c.bits == 0) || is_some c.key_file)
   pub demands_algorithm : o.demands_algorithm ≡ (c.names_algorithm || is_some c.leaf)
   pub key : c.key_file ≡ None → o.key.items ≡ []
+  pub key_is_hex : o.key_is_hex ≡ c.key_is_hex
   pub input_is_key : o.input_is_key ≡ is_input c.key_file
   pub needs : o.needs ≡ chosen_needs c
   pub salt : o.salt.items ≡ c.salt
@@ -171,13 +179,13 @@ pub record AreOptions (c : Choice) (o : Options) : Type 0 where
   pub shows_progress : o.shows_progress ≡ c.shows_progress
 
 -- A choice and files, if the choice is accepted.
-abbrev pub accepting : Result (Choice × List (List ℕ)) End → Result (Choice × List (List ℕ)) End
-accepting (Ok read) = if accepted read.0 read.1 then Ok read else Err Refused
-accepting (Err e) = Err e
+abbrev pub if_accepted : Result (Choice × List (List ℕ)) End → Result (Choice × List (List ℕ)) End
+if_accepted (Ok read) = if accepted read.0 read.1 then Ok read else Err Refused
+if_accepted (Err e) = Err e
 
 -- What a command line means, if its choice is accepted.
 abbrev pub command_line : List (List ℕ) → Result (Choice × List (List ℕ)) End
-command_line words = accepting (reading words)
+command_line words = if_accepted (reading words)
 
 -- The arguments are those of this command line.
 pub record AreArguments (words : List (List ℕ)) (a : Arguments) : Type 0 where

@@ -3,7 +3,7 @@
 use Rattle.std.specs.Prelude.{ℕ, ◌+◌, ◌-◌, ◌*◌, ◌^◌, ◌%◌, ◌==◌, ◌&&◌, ◌||◌, nat_lt, nat_le}
 use Rattle.std.specs.Prelude.{nat_eq, Bool, true, false, not, if◌then◌else◌, List, [], ◌∷◌, ◌++◌}
 use Rattle.std.specs.Prelude.{drop, codes, Option, Some, None, Result, Ok, Err}
-use Rattle.std.specs.List.{starts_with, find, count_by}
+use Rattle.std.specs.List.{starts_with, find, count_by, list_all}
 use Rattle.std.specs.Result.{result_ok}
 use Rattle.std.specs.Str.{bytes_eq}
 use Rattle.hex.specs.Hex.{decode_of}
@@ -13,6 +13,7 @@ use Rattle.b2sum_lines.specs.declared.entry.Algorithm.TheVariants.{Blake2b, Blak
 use Rattle.b2sum_lines.specs.declared.entry.Algorithm.TheVariants.{Blake2sp}
 use Rattle.b2sum_commands.specs.declared.option_names.Flag.{Flag}
 use Rattle.b2sum_commands.specs.declared.option_names.Flag.TheVariants.{Algorithm, Length, KeyFile}
+use Rattle.b2sum_commands.specs.declared.option_names.Flag.TheVariants.{KeyHexFile}
 use Rattle.b2sum_commands.specs.declared.option_names.Flag.TheVariants.{Personal, Salt, Tree}
 use Rattle.b2sum_commands.specs.declared.option_names.Flag.TheVariants.{PersonalText, Progress}
 use Rattle.b2sum_commands.specs.declared.option_names.Flag.TheVariants.{ShowDigests}
@@ -35,15 +36,18 @@ pub data End : Type 0 where
   Refused : End
 
 -- What the options choose. `names_algorithm` is that there is `--algorithm`. A length of 0 bits is
--- the algorithm's longest. A persona is given by digits or as a text; one that is not given has no
--- bytes. `is_binary` is that of the last of `--binary`, `--text`, `--tag` and `--seal`. Lines that
--- are to be sealed have tags.
+-- the algorithm's longest. `key_is_raw` and `key_is_hex` are that there is `--key-file` and
+-- `--key-hex-file`: the file is that of the last of them. A persona is given by digits or as a
+-- text; one that is not given has no bytes. `is_binary` is that of the last of `--binary`,
+-- `--text`, `--tag` and `--seal`. Lines that are to be sealed have tags.
 pub record Choice : Type 0 where
   pub algorithm : entry.Algorithm
   pub names_algorithm : Bool
   pub leaf : Option ℕ
   pub bits : ℕ
   pub key_file : Option (List ℕ)
+  pub key_is_raw : Bool
+  pub key_is_hex : Bool
   pub salt : List ℕ
   pub persona : List ℕ
   pub persona_text : List ℕ
@@ -70,6 +74,8 @@ no_choice = record {
   leaf = None;
   bits = 0;
   key_file = None;
+  key_is_raw = false;
+  key_is_hex = false;
   salt = [];
   persona = [];
   persona_text = [];
@@ -147,10 +153,19 @@ algorithm_in value =
     else if bytes_eq value (codes "blake2sp") then Some Blake2sp
     else None
 
--- The bytes that hexadecimal digits of either case write: at least one.
+-- The byte is zero.
+abbrev pub is_zero : ℕ → Bool
+is_zero b = b == 0
+
+-- The bytes, if one of them is not zero. Zeros are the same as no salt and no personalization.
+abbrev pub not_zeros : Option (List ℕ) → Option (List ℕ)
+not_zeros None = None
+not_zeros (Some bytes) = if list_all is_zero bytes then None else Some bytes
+
+-- The bytes that hexadecimal digits of either case write: not only zeros.
 abbrev pub bytes_in : List ℕ → Option (List ℕ)
 bytes_in [] = None
-bytes_in (digit ∷ digits) = result_ok (decode_of (digit ∷ digits))
+bytes_in (digit ∷ digits) = not_zeros (result_ok (decode_of (digit ∷ digits)))
 
 -- The bytes of a text: at least one.
 abbrev pub text_in : List ℕ → Option (List ℕ)
@@ -182,6 +197,7 @@ set_flag Version c = Err Versioned
 set_flag Algorithm c = Ok c
 set_flag Length c = Ok c
 set_flag KeyFile c = Ok c
+set_flag KeyHexFile c = Ok c
 set_flag Personal c = Ok c
 set_flag PersonalText c = Ok c
 set_flag Salt c = Ok c
@@ -198,7 +214,8 @@ abbrev pub set_value : Flag → List ℕ → Choice → Result Choice End
 set_value Algorithm v c =
     with_value (algorithm_in v) (λ a. record c { algorithm = a; names_algorithm = true })
 set_value Length v c = with_value (bits_in v) (λ n. record c { bits = n })
-set_value KeyFile v c = Ok (record c { key_file = Some v })
+set_value KeyFile v c = Ok (record c { key_file = Some v; key_is_raw = true })
+set_value KeyHexFile v c = Ok (record c { key_file = Some v; key_is_hex = true })
 set_value Personal v c = with_value (bytes_in v) (λ bytes. record c { persona = bytes })
 set_value PersonalText v c = with_value (text_in v) (λ bytes. record c { persona_text = bytes })
 set_value Salt v c = with_value (bytes_in v) (λ bytes. record c { salt = bytes })
@@ -227,8 +244,8 @@ set_value Version v c = Ok c
 abbrev pub all_flags : List Flag
 all_flags =
     Length ∷ Check ∷ IgnoreMissing ∷ Quiet ∷ Status ∷ Warn ∷ Strict ∷ Tag ∷ Zero ∷ Binary ∷ Text
-    ∷ Algorithm ∷ KeyFile ∷ Personal ∷ PersonalText ∷ Salt ∷ Tree ∷ Threads ∷ Progress ∷ NoNames
-    ∷ Raw ∷ ShowDigests ∷ Seal ∷ Sealed ∷ Help ∷ Version ∷ []
+    ∷ Algorithm ∷ KeyFile ∷ KeyHexFile ∷ Personal ∷ PersonalText ∷ Salt ∷ Tree ∷ Threads ∷ Progress
+    ∷ NoNames ∷ Raw ∷ ShowDigests ∷ Seal ∷ Sealed ∷ Help ∷ Version ∷ []
 
 -- The first of two options that is there.
 abbrev pub or_else : Option Flag → Option Flag → Option Flag
@@ -236,8 +253,8 @@ or_else None other = other
 or_else (Some flag) other = Some flag
 
 -- The option whose long name begins with these bytes, if only one does.
-abbrev pub only_beginning : List ℕ → Option Flag
-only_beginning name =
+abbrev pub unique_prefix_option : List ℕ → Option Flag
+unique_prefix_option name =
     if count_by (λ f. starts_with nat_eq (long_name f) name) all_flags == 1
     then find (λ f. starts_with nat_eq (long_name f) name) all_flags
     else None
@@ -245,7 +262,8 @@ only_beginning name =
 -- The option that a long name means: the one of this name, or else the only one whose name begins
 -- with it.
 abbrev pub flag_named : List ℕ → Option Flag
-flag_named name = or_else (find (λ f. bytes_eq (long_name f) name) all_flags) (only_beginning name)
+flag_named name =
+    or_else (find (λ f. bytes_eq (long_name f) name) all_flags) (unique_prefix_option name)
 
 -- ---- words
 
@@ -278,20 +296,20 @@ read_letters c (letter ∷ letters) =
     ]
 
 -- A long option without a value in its word: the value is the next word, if it has one.
-abbrev pub read_alone : Choice → Option Flag → Result (Choice × Next) End
-read_alone c None = Err Refused
-read_alone c (Some f) = if has_value f then Ok (c, ValueOf f) else choosing Anything (set_flag f c)
+abbrev pub read_switch : Choice → Option Flag → Result (Choice × Next) End
+read_switch c None = Err Refused
+read_switch c (Some f) = if has_value f then Ok (c, ValueOf f) else choosing Anything (set_flag f c)
 
 -- A long option with a value in its word.
-abbrev pub read_with : Choice → Option Flag → List ℕ → Result (Choice × Next) End
-read_with c None value = Err Refused
-read_with c (Some f) value =
+abbrev pub read_option_with_value : Choice → Option Flag → List ℕ → Result (Choice × Next) End
+read_option_with_value c None value = Err Refused
+read_option_with_value c (Some f) value =
     if has_value f then choosing Anything (set_value f value c) else Err Refused
 
 -- A long option, cut at `=`.
 abbrev pub read_cut : Choice → List ℕ → Option (List ℕ × List ℕ) → Result (Choice × Next) End
-read_cut c word None = read_alone c (flag_named word)
-read_cut c word (Some cut) = read_with c (flag_named cut.0) cut.1
+read_cut c word None = read_switch c (flag_named word)
+read_cut c word (Some cut) = read_option_with_value c (flag_named cut.0) cut.1
 
 -- The rest of a word that two hyphens begin: a name, or a name, `=` and a value.
 abbrev pub read_long : Choice → List ℕ → Result (Choice × Next) End
@@ -313,8 +331,8 @@ abbrev pub with_file : ReadWords → List ℕ → ReadWords
 with_file s name = record s { files = s.files ++ name ∷ [] }
 
 -- A word that is not a value: `--`, a long option, letters, or a file. `-` alone is a file.
-abbrev pub read_any : ReadWords → List ℕ → Result ReadWords End
-read_any s word =
+abbrev pub read_option_or_file : ReadWords → List ℕ → Result ReadWords End
+read_option_or_file s word =
     if bytes_eq word (codes "--") then Ok (record s { next = OnlyFile })
     else if starts_with nat_eq word (codes "--")
     then with_option s (read_long s.choice (drop 2 word))
@@ -324,7 +342,7 @@ read_any s word =
 
 -- A word, which is what the state says.
 abbrev pub read_next : Next → ReadWords → List ℕ → Result ReadWords End
-read_next Anything s word = read_any s word
+read_next Anything s word = read_option_or_file s word
 read_next (ValueOf f) s word = with_option s (choosing Anything (set_value f word s.choice))
 read_next OnlyFile s word = Ok (with_file s word)
 
@@ -335,15 +353,15 @@ read_words s (word ∷ words) =
     elim (read_next s.next s word) [ Err e ↦ Err e | Ok t ↦ read_words t words ]
 
 -- The files, or `-` alone if there are none.
-abbrev pub or_dash : List (List ℕ) → List (List ℕ)
-or_dash [] = codes "-" ∷ []
-or_dash (name ∷ names) = name ∷ names
+abbrev pub or_standard_input : List (List ℕ) → List (List ℕ)
+or_standard_input [] = codes "-" ∷ []
+or_standard_input (name ∷ names) = name ∷ names
 
 -- The choice and the files at the end of the words. A value that is still to come is missing.
 abbrev pub ended : Next → ReadWords → Result (Choice × List (List ℕ)) End
-ended Anything s = Ok (s.choice, or_dash s.files)
+ended Anything s = Ok (s.choice, or_standard_input s.files)
 ended (ValueOf f) s = Err Refused
-ended OnlyFile s = Ok (s.choice, or_dash s.files)
+ended OnlyFile s = Ok (s.choice, or_standard_input s.files)
 
 -- What a command line means: a choice and files, or why it names no task.
 abbrev pub reading : List (List ℕ) → Result (Choice × List (List ℕ)) End

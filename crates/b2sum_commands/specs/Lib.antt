@@ -1,5 +1,7 @@
 pub mod Messages
 pub mod LineNeeds
+pub mod KeyTexts
+pub mod OtherHashes
 pub mod World
 pub mod TextParts
 pub mod ProgramName

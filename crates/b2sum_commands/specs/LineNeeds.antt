@@ -1,5 +1,6 @@
 -- What lines of a manifest need, next to what the options have, and how messages name that.
-use Rattle.std.specs.Prelude.{ℕ, ◌+◌, ◌*◌, ◌^◌, ◌-◌, ◌==◌, ◌&&◌, ◌||◌, min, Bool, true, false, not}
+use Rattle.std.specs.Prelude.{ℕ, ◌+◌, ◌*◌, ◌^◌, ◌-◌, ◌==◌, ◌&&◌, ◌||◌, min, nat_lt, Bool, true}
+use Rattle.std.specs.Prelude.{false, not}
 use Rattle.std.specs.Prelude.{if◌then◌else◌, List, [], ◌++◌, length, codes, decimal}
 use Rattle.std.specs.Prelude.{Option, Some, None}
 use Rattle.std.specs.Option.{option_or}
@@ -49,11 +50,20 @@ has_needs o Bare = true
 abbrev pub has_any : Needs → Bool
 has_any needs = needs.key || (needs.salt || needs.personal)
 
+-- A tree of leaves with fewer than 1,024 bytes, which costs more time than others.
+abbrev pub is_slow : Algorithm → Bool
+is_slow Blake2b = false
+is_slow Blake2s = false
+is_slow Blake2bp = false
+is_slow Blake2sp = false
+is_slow (Tree leaf) = nat_lt leaf 1024
+
 -- A digest is of the algorithm of the options, if they demand that, or have a key, a salt or a
--- personalization, which is for that algorithm. Otherwise it is of any.
+-- personalization, which is for that algorithm, or it is of a tree that is slow. Otherwise it is of
+-- any.
 abbrev pub has_algorithm : Options → Algorithm → Bool
 has_algorithm o a =
-    not (o.demands_algorithm || has_any o.needs)
+    not (o.demands_algorithm || (has_any o.needs || is_slow a))
     || (algorithm_number a == algorithm_number o.algorithm)
 
 -- The options are those that an entry needs: its digest has the length and the algorithm that they
@@ -65,8 +75,8 @@ meets o e =
 -- ---- what is lacking
 
 -- What the first has and the second has not.
-abbrev pub without : Needs → Needs → Needs
-without a b = record {
+abbrev pub needs_difference : Needs → Needs → Needs
+needs_difference a b = record {
   key = a.key && not b.key;
   salt = a.salt && not b.salt;
   personal = a.personal && not b.personal;
@@ -82,7 +92,7 @@ needs_of o Bare = o.needs
 -- The line is of another algorithm, and cannot be checked without that.
 abbrev pub needs_algorithm : Options → Line → Bool
 needs_algorithm o e = not (algorithm_number e.algorithm == algorithm_number o.algorithm)
-    && (o.demands_algorithm || has_any (needs_of o e.style))
+    && (o.demands_algorithm || (has_any (needs_of o e.style) || is_slow e.algorithm))
 
 -- The length that the options demand: with the algorithm of the line, if they are to have that, the
 -- longest if they have the longest of their own.
@@ -102,8 +112,8 @@ needs_length o e = not (o.needs.key && not (needs_of o e.style).key)
 -- What the options have to be for the line of an entry.
 abbrev pub lacks_of : Options → Line → Lacks
 lacks_of o e = record {
-  missing = without (needs_of o e.style) o.needs;
-  unwanted = without o.needs (needs_of o e.style);
+  missing = needs_difference (needs_of o e.style) o.needs;
+  unwanted = needs_difference o.needs (needs_of o e.style);
   algorithm = if needs_algorithm o e then Some e.algorithm else None;
   bytes = if needs_length o e then Some (length e.digest) else None;
 }
@@ -117,8 +127,8 @@ abbrev pub no_lacks : Lacks
 no_lacks = record { missing = no_needs; unwanted = no_needs; algorithm = None; bytes = None }
 
 -- What one of both has.
-abbrev pub either : Needs → Needs → Needs
-either a b = record {
+abbrev pub needs_union : Needs → Needs → Needs
+needs_union a b = record {
   key = a.key || b.key;
   salt = a.salt || b.salt;
   personal = a.personal || b.personal;
@@ -127,8 +137,8 @@ either a b = record {
 -- What several lines lack: the first algorithm, and the first length.
 abbrev pub both_lack : Lacks → Lacks → Lacks
 both_lack a b = record {
-  missing = either a.missing b.missing;
-  unwanted = either a.unwanted b.unwanted;
+  missing = needs_union a.missing b.missing;
+  unwanted = needs_union a.unwanted b.unwanted;
   algorithm = option_or a.algorithm b.algorithm;
   bytes = option_or a.bytes b.bytes;
 }

@@ -3,7 +3,7 @@ use Rattle.std.specs.Prelude.{◌≡◌, ℕ, ◌==◌, false, List, [], ◌∷�
 use Rattle.std.specs.Prelude.{IfSome, is_none}
 use Rattle.std.specs.Io.KnownBytes.{IsAtEnd}
 use Rattle.std.specs.List.{All}
-use Rattle.b2sum_commands.specs.Messages.{is_dash}
+use Rattle.b2sum_commands.specs.Messages.{is_standard_input}
 use Rattle.b2sum_commands.specs.declared.line_reader.LineEnd.{LineEnd}
 use Rattle.b2sum_commands.specs.declared.line_reader.LineEnd.TheVariants.{Newline, Last, Failure}
 
@@ -41,7 +41,8 @@ source_left left (Some file) input = left file
 pub record IsOpenManifest {F : Type 0} (named : F → List ℕ) (left : F → Option (List ℕ))
     (held input : Option (List ℕ)) (name : List ℕ) (file : Option F) (lines : List ℕ) : Type 0
   where
-    pub is_input : is_none file ≡ is_dash name
+    pub is_input : is_none file ≡ is_standard_input name
     pub is_named : source_name named file ≡ name
     pub unread : lines ≡ []
-    pub whole : is_dash name ≡ false → IfSome held (λ _. source_left left file input ≡ held)
+    pub whole : is_standard_input name ≡ false
+        → IfSome held (λ _. source_left left file input ≡ held)

@@ -13,7 +13,7 @@ use Rattle.b2sum_commands.specs.declared.check.Item.TheVariants.{Comment, Listed
 use Rattle.b2sum_commands.specs.declared.check.Verdict.{Verdict}
 use Rattle.b2sum_commands.specs.declared.check.Verdict.TheVariants as verdict
 use Rattle.b2sum_commands.specs.declared.options.Options.{Options}
-use Rattle.b2sum_commands.specs.Messages.{BreaksOff, Cannot, is_dash}
+use Rattle.b2sum_commands.specs.Messages.{BreaksOff, Cannot, is_standard_input}
 use Rattle.b2sum_commands.specs.World.{World, Streams, InTurn, IsStopped, OnlyTells, Tells}
 use Rattle.b2sum_commands.specs.PrintedSums.{LeavesInput}
 use Rattle.b2sum_commands.specs.Manifests.{IsLine, BeginsLine, first_place, holds_by}
@@ -80,15 +80,15 @@ pub record IsJudged (w : World) (o : Options) (name : List ℕ) (old new : Strea
   pub text : List ℕ
   pub left : Option (List ℕ)
   pub verdicts : List Verdict
-  pub is_text : IsText (is_dash name) (w.files.holds name) old.left left text
+  pub is_text : IsText (is_standard_input name) (w.files.holds name) old.left left text
   pub are_judged :
-      AreJudged w o (is_dash name) text (record old { left = left }) new verdicts
+      AreJudged w o (is_standard_input name) text (record old { left = left }) new verdicts
   pub is_result : result ≡ holds_by o.is_strict verdicts
   pub reported : IsReported w o name verdicts are_judged.end new
 
 -- A message says why the manifest of this name cannot be opened.
 abbrev pub TellsUnopened : World → List ℕ → Streams → Streams → Type 0
-TellsUnopened w name old new = (is_dash name ≡ false) × (e : Error)
+TellsUnopened w name old new = (is_standard_input name ≡ false) × (e : Error)
     × w.files.refuses name e × (reason : List ℕ) × w.files.describes e reason
     × Tells w old new (Cannot name reason)
 
@@ -103,9 +103,9 @@ pub record IsCutShort (w : World) (o : Options) (name : List ℕ) (old new : Str
   pub text : List ℕ
   pub left : Option (List ℕ)
   pub verdicts : List Verdict
-  pub begins : IsBeginning (is_dash name) (w.files.holds name) old.left text
+  pub begins : IsBeginning (is_standard_input name) (w.files.holds name) old.left text
   pub are_judged :
-      AreJudged w o (is_dash name) text (record old { left = left }) new verdicts
+      AreJudged w o (is_standard_input name) text (record old { left = left }) new verdicts
   pub told : TellsCut w name are_judged.end new
 
 -- The lines of a text are whole: they stay the same, whatever comes after it.
@@ -127,7 +127,7 @@ pub record AreStopped (w : World) (o : Options) (name : List ℕ) (input : Bool)
 
 -- What the manifest of this name has: what is left of standard input for `-`.
 abbrev pub manifest_bytes : World → Option (List ℕ) → List ℕ → Option (List ℕ)
-manifest_bytes w left name = if is_dash name then left else w.files.holds name
+manifest_bytes w left name = if is_standard_input name then left else w.files.holds name
 
 -- The manifest of this name is checked from here on, or it was not read to its end, and does not
 -- hold. If there is no result, an error ended the check.
@@ -135,7 +135,7 @@ abbrev pub GoesOn : World → Options → List ℕ → Streams → Streams → O
 GoesOn w o name old new (Some result) =
     ((result ≡ false) × IsCutShort w o name old new) ⊎ IsJudged w o name old new result
 GoesOn w o name old new None =
-    AreStopped w o name (is_dash name) (manifest_bytes w old.left name) old new
+    AreStopped w o name (is_standard_input name) (manifest_bytes w old.left name) old new
 
 -- The manifest of this name is checked. Which spacing its lines have, and their numbers, do not
 -- depend on other manifests.

@@ -24,7 +24,9 @@ use Rattle.b2sum_commands.specs.declared.options.Report.{Report}
 use Rattle.b2sum_commands.specs.declared.options.Report.TheVariants.{Each, Warnings, Failures}
 use Rattle.b2sum_commands.specs.declared.options.Report.TheVariants.{Nothing}
 use Rattle.b2sum_commands.specs.LineNeeds.{lacks_of, meets}
-use Rattle.b2sum_commands.specs.Messages.{Improper, is_dash, message_if}
+use Rattle.b2sum_commands.specs.Messages.{Foreign, Improper, LineNeeds, Message}
+use Rattle.b2sum_commands.specs.Messages.{is_standard_input, message_if}
+use Rattle.b2sum_commands.specs.OtherHashes.{is_foreign}
 use Rattle.b2sum_commands.specs.World.{Place, Streams, World, TellsText}
 use Rattle.b2sum_commands.specs.PrintedSums.{ReadsAs, LeavesInput, CannotSum, IsMissing}
 use Rattle.b2sum_commands.specs.PrintedSums.{TellsCause}
@@ -51,7 +53,7 @@ trimmed (b ∷ line) = if b == 35 then None else not_empty (without_return (b �
 abbrev pub checkable : Options → Bool → Option Line → Result Line Verdict
 checkable o input None = Err Malformed
 checkable o input (Some e) =
-    if (input || o.input_is_key) && is_dash e.name then Err Malformed
+    if (input || o.input_is_key) && is_standard_input e.name then Err Malformed
     else if meets o e then Ok e else Err (Unmet (lacks_of o e))
 
 -- The hash function of an entry: the algorithm, and the length of the digest.
@@ -102,16 +104,16 @@ abbrev pub IsVerdict : World → Options → Option (List ℕ) → Result Line V
     → Option (List ℕ) → Type 0
 IsVerdict w o left (Err verdict) v found after = (v ≡ verdict) × (after ≡ left)
 IsVerdict w o left (Ok e) Equal found after =
-    (text : List ℕ) × ReadsAs (is_dash e.name) (w.files.holds e.name) left after text
+    (text : List ℕ) × ReadsAs (is_standard_input e.name) (w.files.holds e.name) left after text
     × (w.hashing.digest o (listed_function e) text ≡ e.digest)
 IsVerdict w o left (Ok e) Different found after =
-    (text : List ℕ) × ReadsAs (is_dash e.name) (w.files.holds e.name) left after text
+    (text : List ℕ) × ReadsAs (is_standard_input e.name) (w.files.holds e.name) left after text
     × (found ≡ w.hashing.digest o (listed_function e) text) × (found ≢ e.digest)
 IsVerdict w o left (Ok e) Unread found after =
-    LeavesInput (is_dash e.name) left after
+    LeavesInput (is_standard_input e.name) left after
     × (x : Error) × CannotSum w o (listed_function e) e.name x
 IsVerdict w o left (Ok e) Skipped found after =
-    (o.ignores_missing ≡ true) × (is_dash e.name ≡ false) × (after ≡ left)
+    (o.ignores_missing ≡ true) × (is_standard_input e.name ≡ false) × (after ≡ left)
     × IsMissing w.files e.name
 IsVerdict w o left (Ok e) Malformed found after = ⊥
 IsVerdict w o left (Ok e) (Unmet lacks) found after = ⊥
@@ -144,30 +146,31 @@ is_different (Unmet lacks) = false
 is_different Comment = false
 
 -- The verdict does not fail a check that is not strict.
-abbrev pub is_fine : Verdict → Bool
-is_fine Equal = true
-is_fine Different = false
-is_fine Unread = false
-is_fine Skipped = true
-is_fine Malformed = true
-is_fine (Unmet lacks) = false
-is_fine Comment = true
+abbrev pub passes_lenient_check : Verdict → Bool
+passes_lenient_check Equal = true
+passes_lenient_check Different = false
+passes_lenient_check Unread = false
+passes_lenient_check Skipped = true
+passes_lenient_check Malformed = true
+passes_lenient_check (Unmet lacks) = false
+passes_lenient_check Comment = true
 
 -- The line is that of an entry.
-abbrev pub is_formed : Verdict → Bool
-is_formed Equal = true
-is_formed Different = true
-is_formed Unread = true
-is_formed Skipped = true
-is_formed Malformed = false
-is_formed (Unmet lacks) = true
-is_formed Comment = true
+abbrev pub is_well_formed : Verdict → Bool
+is_well_formed Equal = true
+is_well_formed Different = true
+is_well_formed Unread = true
+is_well_formed Skipped = true
+is_well_formed Malformed = false
+is_well_formed (Unmet lacks) = true
+is_well_formed Comment = true
 
 -- A manifest holds: a file has its digest, none has another or cannot be read, no line needs other
 -- options, and if the check is strict, no line is malformed.
 abbrev pub holds_by : Bool → List Verdict → Bool
 holds_by strict vs =
-    list_any is_equal vs && (list_all is_fine vs && (not strict || list_all is_formed vs))
+    list_any is_equal vs
+    && (list_all passes_lenient_check vs && (not strict || list_all is_well_formed vs))
 
 -- ---- what is printed
 
@@ -195,13 +198,13 @@ digest_lines listed found =
     ++ codes "  found:    " ++ encode_lower found ++ (10 ∷ [])
 
 -- Nothing is printed of files.
-abbrev pub is_nothing : Report → Bool
-is_nothing Each = false
-is_nothing Warnings = false
-is_nothing Failures = false
-is_nothing Nothing = true
+abbrev pub prints_nothing : Report → Bool
+prints_nothing Each = false
+prints_nothing Warnings = false
+prints_nothing Failures = false
+prints_nothing Nothing = true
 
--- Lines that are not properly formatted have messages.
+-- Lines that are not properly formatted, or need other options, have messages.
 abbrev pub is_warnings : Report → Bool
 is_warnings Each = false
 is_warnings Warnings = true
@@ -210,7 +213,7 @@ is_warnings Nothing = false
 
 -- The digests are printed after a verdict: the file has another one, and its line is printed.
 abbrev pub are_shown : Options → Verdict → Bool
-are_shown o v = o.shows_digests && (is_different v && not (is_nothing o.report))
+are_shown o v = o.shows_digests && (is_different v && not (prints_nothing o.report))
 
 -- What is printed after the name of an entry of this digest, whose file has the digest `found`.
 abbrev pub full_outcome : Options → Verdict → List ℕ → List ℕ → List ℕ
@@ -218,13 +221,13 @@ full_outcome o v listed found =
     outcome o.report v ++ (if are_shown o v then digest_lines listed found else [])
 
 -- A name as it is printed, escaped if it has a newline.
-abbrev pub shown_name : List ℕ → List ℕ
-shown_name name = if list_any (λ b. b == 10) name then 92 ∷ escaped name else name
+abbrev pub printed_name : List ℕ → List ℕ
+printed_name name = if list_any (λ b. b == 10) name then 92 ∷ escaped name else name
 
 -- A name and what is printed after it, or nothing.
 abbrev pub with_name : List ℕ → List ℕ → List ℕ
 with_name name [] = []
-with_name name (b ∷ text) = shown_name name ++ (b ∷ text)
+with_name name (b ∷ text) = printed_name name ++ (b ∷ text)
 
 -- The lines of an entry with this verdict, whose file has the digest `found`. A line that cannot be
 -- checked has none.
@@ -239,7 +242,7 @@ is_silent Different = true
 is_silent Unread = false
 is_silent Skipped = true
 is_silent Malformed = false
-is_silent (Unmet lacks) = true
+is_silent (Unmet lacks) = false
 is_silent Comment = true
 
 -- A sink accepted this much of the lines of a verdict that is right.
@@ -254,27 +257,37 @@ abbrev pub TellsUnread : World → Options → Result Line Verdict → Streams �
 TellsUnread w o (Err verdict) old new = ⊥
 TellsUnread w o (Ok e) old new = TellsCause w o (listed_function e) e.name old new
 
--- What is told of a line with this verdict: why its file cannot be read, that it is not properly
--- formatted, if the options warn of that, or nothing.
-abbrev pub TellsVerdict : World → Options → Result Line Verdict → Streams → Streams → Verdict
-    → Type 0
-TellsVerdict w o i old new v = (v ≡ Unread → TellsUnread w o i old new)
-    × (v ≡ Malformed → TellsText old new (message_if (is_warnings o.report) w.program
-    (Improper new.place.name new.place.number o.algorithm)))
+-- What is said of a line that is not that of an entry, the one of this number.
+abbrev pub improper : Options → List ℕ → ℕ → List ℕ → Message
+improper o name number line =
+    if is_foreign line then Foreign name number else Improper name number o.algorithm
+
+-- What is told of a line with this verdict: why its file cannot be read, or, if the options warn of
+-- lines, that it is not properly formatted, is of another hash function, or needs other options.
+-- Otherwise it is nothing.
+abbrev pub TellsVerdict : World → Options → List ℕ → Result Line Verdict → Streams → Streams
+    → Verdict → Type 0
+TellsVerdict w o line i old new v = (v ≡ Unread → TellsUnread w o i old new)
+    × (v ≡ Malformed → TellsText old new
+    (message_if (is_warnings o.report) w.program
+    (improper o new.place.name new.place.number line)))
+    × ((lacks : Lacks) → v ≡ Unmet lacks → TellsText old new (message_if (is_warnings o.report)
+    w.program (LineNeeds new.place.name new.place.number lacks)))
     × (is_silent v ≡ true → new.told ≡ old.told)
 
 -- A line is checked: its entry has a verdict, or the line has one that cannot be checked, and the
 -- lines of that are printed.
-abbrev pub IsItem : World → Options → Option (Result Line Verdict) → Streams → Streams → Verdict
-    → Type 0
-IsItem w o None old new v =
+abbrev pub IsItem : World → Options → List ℕ → Option (Result Line Verdict) → Streams → Streams
+    → Verdict → Type 0
+IsItem w o line None old new v =
     (v ≡ Comment) × (new ≡ record old { place = next_place old.place None })
-IsItem w o (Some i) old new v = (new.place ≡ next_place old.place (Some i))
-    × HasVerdict Appends w o i old new v × TellsVerdict w o i old new v
+IsItem w o line (Some i) old new v = (new.place ≡ next_place old.place (Some i))
+    × HasVerdict Appends w o i old new v × TellsVerdict w o line i old new v
 
 -- A line of a manifest is checked. `input` says that the manifest is standard input.
 abbrev pub IsLine : World → Options → Bool → List ℕ → Streams → Streams → Verdict → Type 0
-IsLine w o input line old new v = IsItem w o (item o input old.place.spacing line) old new v
+IsLine w o input line old new v =
+    IsItem w o line (item o input old.place.spacing line) old new v
 
 -- Nothing is printed for an entry, or a part of the lines of a verdict that is right.
 abbrev pub BeginsVerdict : World → Options → Result Line Verdict → Streams → Streams → Type 0

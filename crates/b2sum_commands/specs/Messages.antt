@@ -16,6 +16,10 @@ pub data Message : Type 0 where
   BreaksOff : List ℕ → Message
   -- The line of this number is not that of an entry, which would be of this algorithm.
   Improper : List ℕ → ℕ → Algorithm → Message
+  -- The line of this number is one of another hash function.
+  Foreign : List ℕ → ℕ → Message
+  -- The line of this number needs options.
+  LineNeeds : List ℕ → ℕ → Lacks → Message
   -- No line is that of an entry.
   HasNoEntry : List ℕ → Message
   -- Lines need options.
@@ -28,6 +32,8 @@ pub data Message : Type 0 where
   Usage : List ℕ → Message
   -- A value is wrong, as one line or two say.
   Value : List ℕ → List ℕ → Message
+  -- The key in the file of this name is hexadecimal digits, as they are.
+  DigitsAsKey : List ℕ → Message
   -- The digests are MACs that are short enough to be guessed.
   ShortMacs : Message
   -- A write to the output failed, for a reason.
@@ -40,12 +46,12 @@ abbrev pub line : List ℕ → List ℕ → List ℕ → List ℕ → List ℕ
 line program a b c = program ++ codes ": " ++ a ++ b ++ c ++ (10 ∷ [])
 
 -- The name of standard input.
-abbrev pub is_dash : List ℕ → Bool
-is_dash name = bytes_eq name (45 ∷ [])
+abbrev pub is_standard_input : List ℕ → Bool
+is_standard_input name = bytes_eq name (45 ∷ [])
 
 -- The name of a manifest in messages.
 abbrev pub title_of : List ℕ → List ℕ
-title_of name = quoted_name (if is_dash name then codes "standard input" else name)
+title_of name = quoted_name (if is_standard_input name then codes "standard input" else name)
 
 -- The line of a text, if there is one.
 abbrev pub line_if_any : List ℕ → List ℕ → List ℕ
@@ -58,6 +64,10 @@ message program (Cannot name reason) = line program (quoted_name name) (codes ":
 message program (BreaksOff name) = line program (title_of name) (codes ": ") (codes "read error")
 message program (Improper name n a) = line program (title_of name)
     (codes ": " ++ decimal n ++ codes ": improperly formatted " ++ tag a) (codes " checksum line")
+message program (Foreign name n) = line program (title_of name)
+    (codes ": " ++ decimal n) (codes ": checksum line of another algorithm")
+message program (LineNeeds name n lacks) =
+    line program (title_of name) (codes ": " ++ decimal n ++ codes ": needs") (lacks_text lacks)
 message program (HasNoEntry name) =
     line program (title_of name) (codes ": no properly formatted checksum lines found") []
 message program (LinesNeed name lacks) =
@@ -69,6 +79,8 @@ message program (HaveCount n one several) =
 message program (Usage text) = line program text [] [] ++ (codes "Try '" ++ program
     ++ codes " --help' for more information.\n")
 message program (Value first second) = line program first [] [] ++ line_if_any program second
+message program (DigitsAsKey name) = line program (codes "WARNING: ") (quoted_name name)
+    (codes ": has only hexadecimal digits, which --key-hex-file would decode")
 message program ShortMacs =
     line program (codes "WARNING: MACs below 128 bits can be guessed") [] []
 message program (WriteFailed None) = line program (codes "write error") [] []

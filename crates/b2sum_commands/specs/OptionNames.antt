@@ -3,6 +3,7 @@ use Rattle.std.specs.Prelude.{ℕ, ◌==◌, Bool, true, false, if◌then◌else
 use Rattle.std.specs.Prelude.{Option, Some, None}
 use Rattle.b2sum_commands.specs.declared.option_names.Flag.{Flag}
 use Rattle.b2sum_commands.specs.declared.option_names.Flag.TheVariants.{Algorithm, Length, KeyFile}
+use Rattle.b2sum_commands.specs.declared.option_names.Flag.TheVariants.{KeyHexFile}
 use Rattle.b2sum_commands.specs.declared.option_names.Flag.TheVariants.{Personal, Salt, Tree}
 use Rattle.b2sum_commands.specs.declared.option_names.Flag.TheVariants.{PersonalText, Progress}
 use Rattle.b2sum_commands.specs.declared.option_names.Flag.TheVariants.{ShowDigests}
@@ -17,6 +18,7 @@ abbrev pub long_name : Flag → List ℕ
 long_name Algorithm = codes "algorithm"
 long_name Length = codes "length"
 long_name KeyFile = codes "key-file"
+long_name KeyHexFile = codes "key-hex-file"
 long_name Personal = codes "personal"
 long_name PersonalText = codes "personal-text"
 long_name Salt = codes "salt"
@@ -46,6 +48,7 @@ abbrev pub has_value : Flag → Bool
 has_value Algorithm = true
 has_value Length = true
 has_value KeyFile = true
+has_value KeyHexFile = true
 has_value Personal = true
 has_value PersonalText = true
 has_value Salt = true

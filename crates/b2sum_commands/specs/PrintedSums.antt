@@ -12,7 +12,7 @@ use Rattle.b2sum_commands.specs.declared.hashes.Function.{Function}
 use Rattle.b2sum_commands.specs.declared.options.Options.{Options}
 use Rattle.b2sum_commands.specs.declared.options.Shape.{Shape}
 use Rattle.b2sum_commands.specs.declared.options.Shape.TheVariants.{Named, Digits, Bytes}
-use Rattle.b2sum_commands.specs.Messages.{Cannot, is_dash}
+use Rattle.b2sum_commands.specs.Messages.{Cannot, is_standard_input}
 use Rattle.b2sum_commands.specs.World.{Files, Streams, World, Tells}
 
 -- A source returned this text up to its end: standard input, which had `left` before and has
@@ -30,7 +30,7 @@ LeavesInput false left after = after ≡ left
 -- The file of this name is not read to its end: opening it or a read of it returned this error.
 abbrev pub CannotGet : World → List ℕ → Error → Type 0
 CannotGet w name e =
-    ((is_dash name ≡ false) × w.files.refuses name e) ⊎ w.fails name e
+    ((is_standard_input name ≡ false) × w.files.refuses name e) ⊎ w.fails name e
 
 -- There is no file of this name.
 abbrev pub IsMissing : Files → List ℕ → Type 0
@@ -85,7 +85,7 @@ IsKept true old new before after =
 abbrev pub HasSum : (Option (List ℕ) → Option (List ℕ) → List ℕ → Type 0) → World → Options
     → List ℕ → Streams → Streams → Type 0
 HasSum accepts w o name old new =
-    (text : List ℕ) × ReadsAs (is_dash name) (w.files.holds name) old.left new.left text
+    (text : List ℕ) × ReadsAs (is_standard_input name) (w.files.holds name) old.left new.left text
     × accepts old.held new.held (printed o.shape o.ends_zero (entry_of w o name text))
 
 -- The line of the file of this name is printed, and no message. If the result is false, nothing is
@@ -96,8 +96,8 @@ abbrev pub IsSum : World → Options → List ℕ → Streams → Streams → Op
 IsSum w o name old new (Some true) =
     HasSum Appends w o name old new × (new.told ≡ old.told)
 IsSum w o name old new (Some false) =
-    LeavesInput (is_dash name) old.left new.left × (new.held ≡ old.held)
+    LeavesInput (is_standard_input name) old.left new.left × (new.held ≡ old.held)
     × (TellsCause w o (printed_function o) name old new
-    ⊎ ((o.ignores_missing ≡ true) × (is_dash name ≡ false) × IsMissing w.files name
+    ⊎ ((o.ignores_missing ≡ true) × (is_standard_input name ≡ false) × IsMissing w.files name
     × (new.told ≡ old.told)))
 IsSum w o name old new None = (new.held ≡ old.held) ⊎ HasSum TakesPart w o name old new

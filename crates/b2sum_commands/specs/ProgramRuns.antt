@@ -5,7 +5,9 @@ use Rattle.std.specs.Io.KnownBytes.{Appends, Consumes, IsAtEnd}
 use Rattle.std.specs.declared.io.Error.{Error}
 use Rattle.b2sum_lines.specs.ManifestLines.{max_bytes}
 use Rattle.b2sum_commands.specs.declared.options.Options.{Options}
-use Rattle.b2sum_commands.specs.Messages.{Cannot, ShortMacs, Usage, Value, is_dash, message}
+use Rattle.b2sum_commands.specs.KeyTexts.{are_digits}
+use Rattle.b2sum_commands.specs.Messages.{Cannot, DigitsAsKey, ShortMacs, Usage, Value}
+use Rattle.b2sum_commands.specs.Messages.{is_standard_input, message, message_if}
 use Rattle.b2sum_commands.specs.World.{Files, World, Streams, AllInTurn, IsKey, IsNoKey, Tells}
 use Rattle.b2sum_commands.specs.World.{StopsIn, IsEnded, OnlyTells, TellsText}
 use Rattle.b2sum_commands.specs.PrintedSums.{CannotGet}
@@ -23,13 +25,14 @@ AreDone false w o names old new end = ArePrinted o.is_sealed w o names old new e
 
 -- The bytes of the key file of this name: those that are left of standard input for `-`.
 abbrev pub key_file_bytes : Files → Option (List ℕ) → List ℕ → Option (List ℕ)
-key_file_bytes files left name = if is_dash name then left else files.holds name
+key_file_bytes files left name = if is_standard_input name then left else files.holds name
 
--- The key of the options is that of the key file, if the choice has one.
+-- The key of the options is that of the key file, if the choice has one: its bytes, or those that
+-- its digits write.
 abbrev pub HasKey : World → Option (List ℕ) → Choice → Options → Type 0
 HasKey w left c o =
     IfSome c.key_file (λ name.
-    IsKey (key_file_bytes w.files left name) (max_bytes o.algorithm) o.key.items)
+    IsKey (key_file_bytes w.files left name) o.key_is_hex (max_bytes o.algorithm) o.key.items)
 
 -- Standard input is at its end after the key, if that is there, and else as it was.
 abbrev pub IsPastKey : Bool → Option (List ℕ) → Option (List ℕ) → Type 0
@@ -42,29 +45,32 @@ AfterKey file old new = (left : Option (List ℕ)) × (new ≡ record old { left
     × IsPastKey (is_input file) old.left left
 
 -- Why a file has no key of at most this many bytes.
-abbrev pub key_reason : ℕ → List ℕ
-key_reason most = if most == 64 then codes "a key has 1 to 64 bytes"
+abbrev pub key_reason : Bool → ℕ → List ℕ
+key_reason false most = if most == 64 then codes "a key has 1 to 64 bytes"
     else codes "a key of BLAKE2s or BLAKE2sp has 1 to 32 bytes"
+key_reason true most =
+    if most == 64 then codes "a key has 2 to 128 hexadecimal digits, two for each byte"
+    else codes "a key of BLAKE2s or BLAKE2sp has 2 to 64 hexadecimal digits, two for each byte"
 
--- The key file of this name has no key, for this reason: it is not read to its end, or has too few
--- bytes or too many.
-abbrev pub LacksKey : World → Option (List ℕ) → ℕ → List ℕ → List ℕ → Type 0
-LacksKey w left most name reason =
+-- The key file of this name has no key, for this reason: it is not read to its end, has too few
+-- bytes or too many, or not the digits of a key.
+abbrev pub LacksKey : World → Option (List ℕ) → Bool → ℕ → List ℕ → List ℕ → Type 0
+LacksKey w left hex most name reason =
     ((e : Error) × CannotGet w name e × w.files.describes e reason)
-    ⊎ (IsNoKey (key_file_bytes w.files left name) most × (reason ≡ key_reason most))
+    ⊎ (IsNoKey (key_file_bytes w.files left name) hex most × (reason ≡ key_reason hex most))
 
 -- A message says that the file of this name has no key, and why.
-abbrev pub TellsNoKey : World → List ℕ → ℕ → Streams → Streams → Type 0
-TellsNoKey w name most old new = (reason : List ℕ) × LacksKey w old.left most name reason
-    × Tells w old new (Cannot name reason)
+abbrev pub TellsNoKey : World → List ℕ → Bool → ℕ → Streams → Streams → Type 0
+TellsNoKey w name hex most old new = (reason : List ℕ)
+    × LacksKey w old.left hex most name reason × Tells w old new (Cannot name reason)
 
 -- There is a key file, and it has no key, as a message says. Nothing is printed.
-pub record IsKeyless (w : World) (file : Option (List ℕ)) (most : ℕ) (old new : Streams) : Type 0
-  where
-    pub name : List ℕ
-    pub named : file ≡ Some name
-    pub told : TellsNoKey w name most old new
-    pub kept : new.held ≡ old.held
+pub record IsKeyless (w : World) (file : Option (List ℕ)) (hex : Bool) (most : ℕ)
+    (old new : Streams) : Type 0 where
+  pub name : List ℕ
+  pub named : file ≡ Some name
+  pub told : TellsNoKey w name hex most old new
+  pub kept : new.held ≡ old.held
 
 -- The digests are MACs of fewer than 128 bits.
 abbrev pub are_short_macs : Options → Bool
@@ -76,12 +82,25 @@ WarnsOfMacs true program old new =
     OnlyTells old new × TellsText old new (message program ShortMacs)
 WarnsOfMacs false program old new = new ≡ old
 
--- The task of a choice is done for the files of these names: the key is read, and then a warning
--- says that MACs are short, before any file is read.
+-- The program of this name warns of a key that is read from this file as it is, and is only
+-- hexadecimal digits. Otherwise it says nothing.
+abbrev pub WarnsOfDigits : List ℕ → Option (List ℕ) → Options → Streams → Streams → Type 0
+WarnsOfDigits program None o old new = new ≡ old
+WarnsOfDigits program (Some name) o old new = OnlyTells old new
+    × TellsText old new
+    (message_if (not o.key_is_hex && are_digits o.key.items) program (DigitsAsKey name))
+
+-- The key is read, and nothing else is changed. Then a warning may say that it is only digits.
+abbrev pub TakesKey : World → Option (List ℕ) → Options → Streams → Streams → Type 0
+TakesKey w file o old new =
+    (read : Streams) × AfterKey file old read × WarnsOfDigits w.program file o read new
+
+-- The task of a choice is done for the files of these names: the key is read, and then warnings say
+-- that it is only digits, and that MACs are short, before any file is read.
 abbrev pub DoesTask : World → Choice → List (List ℕ) → Streams → Streams → Option Bool → Type 0
 DoesTask w c names old new end =
     (o : Options) × AreOptions c o × HasKey w old.left c o
-    × (keyed : Streams) × AfterKey c.key_file old keyed
+    × (keyed : Streams) × TakesKey w c.key_file o old keyed
     × (warned : Streams) × WarnsOfMacs (are_short_macs o) w.program keyed warned
     × AreDone o.checks w o names warned new end
 
@@ -89,7 +108,7 @@ DoesTask w c names old new end =
 -- is printed.
 abbrev pub IsUnbegun : World → Choice → Streams → Streams → Option Bool → Type 0
 IsUnbegun w c old new (Some well) = (well ≡ false) × (o : Options) × AreOptions c o
-    × IsKeyless w c.key_file (max_bytes o.algorithm) old new
+    × IsKeyless w c.key_file o.key_is_hex (max_bytes o.algorithm) old new
 IsUnbegun w c old new None = new.held ≡ old.held
 
 -- The task of a choice is done for the files of these names, or it is not begun.

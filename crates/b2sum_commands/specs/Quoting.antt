@@ -46,8 +46,8 @@ are_plain [] = true
 are_plain (b ∷ rest) = (is_mark b || is_plain b) && list_all is_plain rest
 
 -- The name is between double quotes: it has a single quote, and all its bytes are plain.
-abbrev pub is_double : List ℕ → Bool
-is_double name = list_any (λ b. b == 39) name && are_plain name
+abbrev pub takes_double_quotes : List ℕ → Bool
+takes_double_quotes name = list_any (λ b. b == 39) name && are_plain name
 
 -- The letter of a byte that has one: of 7 to 13.
 abbrev pub escape_letter : ℕ → ℕ
@@ -86,7 +86,7 @@ quoted_bytes is_open (b ∷ rest) =
 abbrev pub quoted_name : List ℕ → List ℕ
 quoted_name name =
     if not (needs_quotes name) then name
-    else if is_double name then 34 ∷ (name ++ (34 ∷ []))
+    else if takes_double_quotes name then 34 ∷ (name ++ (34 ∷ []))
     else 39 ∷ (quoted_bytes false name ++ (39 ∷ []))
 
 -- A byte of a value: a quote and a backslash have a backslash before them.

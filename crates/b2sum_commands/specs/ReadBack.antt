@@ -16,7 +16,7 @@ use Rattle.b2sum_commands.specs.declared.check.Verdict.TheVariants.{Comment}
 use Rattle.b2sum_commands.specs.declared.hashes.Function.{Function}
 use Rattle.b2sum_commands.specs.declared.options.Options.{Options}
 use Rattle.b2sum_commands.specs.LineNeeds.{has_needs, has_algorithm}
-use Rattle.b2sum_commands.specs.Messages.{is_dash}
+use Rattle.b2sum_commands.specs.Messages.{is_standard_input}
 use Rattle.b2sum_commands.specs.World.{Streams, World, InTurn}
 use Rattle.b2sum_commands.specs.PrintedSums.{ReadsAs, IsSum, entry_of, printed_function}
 use Rattle.b2sum_commands.specs.Manifests.{item, spacing_past, IsLine}
@@ -35,7 +35,7 @@ AreReadAs c input s lines entries = items c input s lines ≡ map (λ e. Some (O
 -- none.
 abbrev pub IsEntry : World → Options → List ℕ → Streams → Streams → Option Line → Type 0
 IsEntry w o name old new (Some e) =
-    (text : List ℕ) × ReadsAs (is_dash name) (w.files.holds name) old.left new.left text
+    (text : List ℕ) × ReadsAs (is_standard_input name) (w.files.holds name) old.left new.left text
     × (e ≡ entry_of w o name text)
 IsEntry w o name old new None = IsSum w o name old new (Some false)
 
@@ -68,7 +68,7 @@ pub record AcceptsPrinted (c o : Options) : Type 0 where
 -- manifest, or had the key, none is that.
 abbrev pub AreNames : Bool → List (List ℕ) → Type 0
 AreNames input names = All (λ name. (0 < length name) × (has_zero name ≡ false)
-    × ((input && is_dash name) ≡ false)) names
+    × ((input && is_standard_input name) ≡ false)) names
 
 -- A check by the options `c` computes the digests of the options `o`: it has their key, salt and
 -- persona.
@@ -80,7 +80,7 @@ HaveSameDigests w c o =
 -- input.
 abbrev pub AreKept : World → List (List ℕ) → Type 0
 AreKept w names =
-    All (λ name. (is_dash name ≡ false) × (is_some (w.files.holds name) ≡ true)) names
+    All (λ name. (is_standard_input name ≡ false) × (is_some (w.files.holds name) ≡ true)) names
 
 -- The verdict is that a file has its digest, or was not read.
 abbrev pub is_kept : Verdict → Bool

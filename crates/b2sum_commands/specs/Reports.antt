@@ -10,7 +10,7 @@ use Rattle.b2sum_commands.specs.declared.check.Verdict.TheVariants.{Comment}
 use Rattle.b2sum_commands.specs.declared.line_needs.Lacks.{Lacks}
 use Rattle.b2sum_commands.specs.declared.options.Options.{Options}
 use Rattle.b2sum_commands.specs.LineNeeds.{both_lack, no_lacks}
-use Rattle.b2sum_commands.specs.Manifests.{capped, is_different, is_equal, is_nothing}
+use Rattle.b2sum_commands.specs.Manifests.{capped, is_different, is_equal, prints_nothing}
 use Rattle.b2sum_commands.specs.Messages.{BreaksOff, HasNoEntry, HaveCount, LinesNeed}
 use Rattle.b2sum_commands.specs.Messages.{VerifiesNone, message, message_if}
 use Rattle.b2sum_commands.specs.World.{World, Streams, TellsText}
@@ -48,14 +48,14 @@ is_malformed (Unmet lacks) = false
 is_malformed Comment = false
 
 -- The line needs other options.
-abbrev pub is_unmet : Verdict → Bool
-is_unmet Equal = false
-is_unmet Different = false
-is_unmet Unread = false
-is_unmet Skipped = false
-is_unmet Malformed = false
-is_unmet (Unmet lacks) = true
-is_unmet Comment = false
+abbrev pub has_unmet_needs : Verdict → Bool
+has_unmet_needs Equal = false
+has_unmet_needs Different = false
+has_unmet_needs Unread = false
+has_unmet_needs Skipped = false
+has_unmet_needs Malformed = false
+has_unmet_needs (Unmet lacks) = true
+has_unmet_needs Comment = false
 
 -- What lines lack, with one more that has this verdict.
 abbrev pub also_lack : Lacks → Verdict → Lacks
@@ -74,7 +74,7 @@ pub record AreCounted (vs : List Verdict) (counts : Counts) : Type 0 where
   pub unread : counts.unread ≡ capped (count_by is_unread vs)
   pub skipped : counts.skipped ≡ capped (count_by is_skipped vs)
   pub malformed : counts.malformed ≡ capped (count_by is_malformed vs)
-  pub unmet : counts.unmet ≡ capped (count_by is_unmet vs)
+  pub unmet : counts.unmet ≡ capped (count_by has_unmet_needs vs)
   pub lacks : counts.lacks ≡ fold also_lack no_lacks vs
 
 -- A count with one more, if that is of its kind.
@@ -89,7 +89,7 @@ pub record Adds (v : Verdict) (old new : Counts) : Type 0 where
   pub unread : new.unread ≡ more_if (is_unread v) old.unread
   pub skipped : new.skipped ≡ more_if (is_skipped v) old.skipped
   pub malformed : new.malformed ≡ more_if (is_malformed v) old.malformed
-  pub unmet : new.unmet ≡ more_if (is_unmet v) old.unmet
+  pub unmet : new.unmet ≡ more_if (has_unmet_needs v) old.unmet
   pub lacks : new.lacks ≡ also_lack old.lacks v
 
 -- A manifest holds by its counts: a file has its digest, and no line fails the check.
@@ -128,7 +128,7 @@ warnings program c =
 abbrev pub report_text : List ℕ → List ℕ → Options → Counts → List ℕ
 report_text program name o c =
     if has_no_entry c then message program (HasNoEntry name)
-    else if is_nothing o.report then []
+    else if prints_nothing o.report then []
     else message_if (not (c.unmet == 0)) program (LinesNeed name c.lacks)
     ++ (warnings program c
     ++ message_if (o.ignores_missing && (c.equal == 0)) program (VerifiesNone name))

@@ -6,7 +6,7 @@ use Rattle.std.specs.declared.io.Error.{Error}
 use Rattle.hex.specs.Hex.{encode_lower}
 use Rattle.text_lines.specs.Cuts.{lines_of}
 use Rattle.b2sum_commands.specs.declared.options.Options.{Options}
-use Rattle.b2sum_commands.specs.Messages.{Cannot, Message, is_dash}
+use Rattle.b2sum_commands.specs.Messages.{Cannot, Message, is_standard_input}
 use Rattle.b2sum_commands.specs.World.{Hashing, World, Streams, AllInTurn, IsStopped, OnlyTells}
 use Rattle.b2sum_commands.specs.World.{StopsIn, Tells}
 use Rattle.b2sum_commands.specs.PrintedSums.{CannotGet, IsSum}
@@ -84,7 +84,7 @@ unsealed name = Cannot name (codes "the seal does not hold")
 pub record IsUnsealed (w : World) (o : Options) (name : List ℕ) (old new : Streams) : Type 0 where
   pub text : List ℕ
   pub left : Option (List ℕ)
-  pub is_text : IsText (is_dash name) (w.files.holds name) old.left left text
+  pub is_text : IsText (is_standard_input name) (w.files.holds name) old.left left text
   pub broken : IsSealed w.hashing o text → ⊥
   pub only : OnlyTells (record old { left = left }) new
   pub told : Tells w old new (unsealed name)
@@ -101,9 +101,10 @@ pub record IsBelieved (w : World) (o : Options) (name : List ℕ) (old new : Str
 pub record IsLeftOff (w : World) (o : Options) (name : List ℕ) (old new : Streams) : Type 0 where
   pub text : List ℕ
   pub left : Option (List ℕ)
-  pub is_text : IsText (is_dash name) (w.files.holds name) old.left left text
+  pub is_text : IsText (is_standard_input name) (w.files.holds name) old.left left text
   pub sealed : IsSealed w.hashing o text
-  pub lines : IsStopped (IsLine w o (is_dash name)) (BeginsLine w o (is_dash name)) (lines_of text)
+  pub lines : IsStopped (IsLine w o (is_standard_input name))
+      (BeginsLine w o (is_standard_input name)) (lines_of text)
       (record old { left = left }) new
 
 -- A list of at most 2^28 bytes is believed if it is sealed. Otherwise it does not hold. If there is

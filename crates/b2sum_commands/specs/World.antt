@@ -1,6 +1,6 @@
 -- What a run finds, and what goes on from one file to the next.
 use Rattle.std.specs.Prelude.{◌≡◌, ℕ, Bool, true, List, [], ◌∷◌, Option, ◌⊎◌, ◌<◌}
-use Rattle.std.specs.Prelude.{◌≤◌, ◌++◌, length, Some, None}
+use Rattle.std.specs.Prelude.{◌++◌, length, Some, None}
 use Rattle.std.specs.Io.KnownBytes.{Appends, Consumes, IsAtEnd}
 use Rattle.std.specs.List.{list_all}
 use Rattle.std.specs.declared.io.Error.{Error}
@@ -8,6 +8,7 @@ use Rattle.blake2_streams.specs.Streams.{TakesPart}
 use Rattle.b2sum_lines.specs.declared.entry.Spacing.{Spacing}
 use Rattle.b2sum_commands.specs.declared.hashes.Function.{Function}
 use Rattle.b2sum_commands.specs.declared.options.Options.{Options}
+use Rattle.b2sum_commands.specs.KeyTexts.{key_in, key_room}
 use Rattle.b2sum_commands.specs.Messages.{Message, NoMemory, WriteFailed, message}
 
 -- Files by their names: the bytes of a file, if that is known, whether it may be that the file
@@ -73,19 +74,19 @@ world_of program named failed failure files hashing = record {
   fails = HasError named failed failure;
 }
 
--- The bytes are all those of a file, which holds `held` if that is known, and at least one and at
--- most this many.
-pub record IsKey (held : Option (List ℕ)) (most : ℕ) (key : List ℕ) : Type 0 where
-  pub some : 1 ≤ length key
-  pub fits : length key ≤ most
+-- All bytes of a file, which holds `held` if that is known, have this key of at most so many bytes.
+-- `hex` is that they are hexadecimal digits.
+pub record IsKey (held : Option (List ℕ)) (hex : Bool) (most : ℕ) (key : List ℕ) : Type 0 where
+  pub bytes : List ℕ
   pub end : Option (List ℕ)
-  pub given : Consumes held end key
+  pub given : Consumes held end bytes
   pub at_end : IsAtEnd end
+  pub has : key_in hex most bytes ≡ Some key
 
--- A file has no key: it has no bytes, or more than this many.
-abbrev pub IsNoKey : Option (List ℕ) → ℕ → Type 0
-IsNoKey held most = (bytes : List ℕ) × (end : Option (List ℕ)) × Consumes held end bytes
-    × (((bytes ≡ []) × IsAtEnd end) ⊎ (most < length bytes))
+-- A file has no key: all its bytes have none, or it has more than a key file can have.
+abbrev pub IsNoKey : Option (List ℕ) → Bool → ℕ → Type 0
+IsNoKey held hex most = (bytes : List ℕ) × (end : Option (List ℕ)) × Consumes held end bytes
+    × ((IsAtEnd end × (key_in hex most bytes ≡ None)) ⊎ (key_room hex most < length bytes))
 
 -- A sink accepted a line after all others, or it has failed. A sink that has failed stays so.
 pub record IsWritten (was_failed is_failed : Bool) (old new : Option (List ℕ)) (line : List ℕ)

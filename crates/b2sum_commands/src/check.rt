@@ -10,7 +10,7 @@ ghost use Rattle.hex.specs.Hex.{encode_lower};
 ghost use Rattle.std.specs.Option.{option_map};
 ghost use Rattle.std.specs.Result.{result_ok};
 ghost use Rattle.b2sum_lines.specs.EntryViews.{entry_value};
-ghost use Rattle.b2sum_commands.specs.Messages.{Improper, VerifiesNone, message_if};
+ghost use Rattle.b2sum_commands.specs.Messages.{LineNeeds, VerifiesNone, message, message_if};
 ghost use Rattle.b2sum_commands.specs.World.{world_of, AllInTurn, KeepsOutput, OnlyTells, StopsIn};
 ghost use Rattle.b2sum_commands.specs.World.{HasFailed, IsWritten, TellsText};
 ghost use Rattle.b2sum_commands.specs.LineReads.{IsCutOff, IsAfter, source_left, source_name};
@@ -20,9 +20,9 @@ ghost use Rattle.b2sum_commands.specs.Manifests.{IsLine, IsMet, TellsUnread, nex
 ghost use Rattle.b2sum_commands.specs.Manifests.{BeginsLine, BeginsVerdict};
 ghost use Rattle.b2sum_commands.specs.Reports.{AreCounted, Adds, has_no_entry, warnings};
 ghost use Rattle.b2sum_commands.specs.Reports.{holds_counted, report_text, TellsEnd};
-ghost use Rattle.b2sum_commands.specs.Manifests.{outcome, with_name, verdict_lines, is_nothing};
+ghost use Rattle.b2sum_commands.specs.Manifests.{outcome, with_name, verdict_lines, prints_nothing};
 ghost use Rattle.b2sum_commands.specs.Manifests.{are_shown, digest_lines, full_outcome, HasVerdict};
-ghost use Rattle.b2sum_commands.specs.Manifests.{is_warnings};
+ghost use Rattle.b2sum_commands.specs.Manifests.{improper, is_warnings};
 ghost use Rattle.b2sum_commands.specs.ManifestChecks.{item_value, IfListed, IsChecked, GoesOn};
 ghost use Rattle.b2sum_commands.specs.ManifestChecks.{AreRead, EndsAt, AreStopped, TellsUnopened};
 ghost use Rattle.b2sum_commands.specs.SealedLists.{IsCheckedAs};
@@ -38,13 +38,14 @@ use crate::hashes::{Function, Hashes};
 use crate::line_needs::{Lacks, meets};
 use crate::line_reader::{LineEnd, LineReader};
 use crate::messages::{
-    warn_of_count, warn_of_file, warn_of_line, warn_of_needs, warn_of_no_entry, warn_of_none,
-    warn_of_read,
+    warn_of_count, warn_of_file, warn_of_foreign, warn_of_line, warn_of_line_needs, warn_of_needs,
+    warn_of_no_entry, warn_of_none, warn_of_read,
 };
 use crate::options::{Options, Report};
+use crate::other_hashes::is_foreign;
 use crate::sealed_checks::check_sealed;
 use crate::session::{Host, Program, Session};
-use crate::sums::{Read, digest_file, is_dash};
+use crate::sums::{Read, digest_file, is_standard_input};
 use b2sum_lines::{Entry, Spacing, Style, push_escaped, read_line};
 use blake2_digest::constant_time_eq;
 use blake2_streams::Sink;
@@ -284,7 +285,7 @@ fn open_manifest<H: Hashes, D: Disk, K: Output, E: Sink>(
     ensures memory { IsOkUnless result Fault.NoMemory }
 {
     let lines = LineReader::new(host.program.alloc)?;
-    if is_dash(name) {
+    if is_standard_input(name) {
         return Ok(Some(Manifest { file: None, lines }));
     }
     match host.disk.open(host.program.alloc, name) {
@@ -377,10 +378,13 @@ pub(crate) fn check_line<H: Hashes, D: Disk, K: Output, E: Sink>(
     match item {
         Item::Comment => Ok(Verdict::Comment),
         Item::Malformed => {
-            warn_if_wanted(&host.program, options, session)?;
+            warn_if_wanted(&host.program, options, session, line)?;
             Ok(Verdict::Malformed)
         }
-        Item::Unmet(lacks) => Ok(Verdict::Unmet(lacks)),
+        Item::Unmet(lacks) => {
+            warn_of_unmet(&host.program, options, session, lacks)?;
+            Ok(Verdict::Unmet(lacks))
+        }
         Item::Listed(entry) => check_entry(host, options, session, &entry),
     }
 }
@@ -397,15 +401,16 @@ fn pass_line<F: OpenFile, K: Output, E: Sink>(session: &mut Session<F, K, E>, it
     session.place.number = session.place.number.saturating_add(1);
 }
 
-// Prints the message of a line that is not properly formatted, if the options want it.
+// Prints the message of a line that is not that of an entry, if the options want it.
 fn warn_if_wanted<F: OpenFile, K: Output, E: Sink>(
     program: &Program,
     options: &Options,
     session: &mut Session<F, K, E>,
+    line: &[u8],
 ) -> Result<(), AllocError>
     ensures told { OnOk result (TellsText session.old session.new
         (message_if (is_warnings options.now.report) program.now.name.items
-        (Improper session.old.place.name session.old.place.number options.now.algorithm))) }
+        (improper options.now session.old.place.name session.old.place.number line.now))) }
     ensures only { OnlyTells session.old session.new }
 {
     if options.report != Report::Warnings {
@@ -413,7 +418,48 @@ fn warn_if_wanted<F: OpenFile, K: Output, E: Sink>(
     }
     let (place, messages) = (&session.place, &mut session.messages);
     let name = place.name.as_slice();
-    warn_of_line(program, messages, name, place.number, options.algorithm)?;
+    warn_of_improper(program, options, messages, name, place.number, line)?;
+    Ok(())
+}
+
+// Prints the message of a line that is not that of an entry, the one of this number.
+fn warn_of_improper<E: Sink>(
+    program: &Program,
+    options: &Options,
+    messages: &mut E,
+    name: &[u8],
+    number: u64,
+    line: &[u8],
+) -> Result<(), AllocError>
+    ensures { OnOk result (IsWritten (E.failed messages.old) (E.failed messages.new)
+        (E.held messages.old) (E.held messages.new) (message program.now.name.items
+        (improper options.now name.now number line.now))) }
+{
+    if is_foreign(line) {
+        warn_of_foreign(program, messages, name, number)
+    } else {
+        warn_of_line(program, messages, name, number, options.algorithm)
+    }
+}
+
+// Prints the message of a line that needs other options, if the options want it.
+fn warn_of_unmet<F: OpenFile, K: Output, E: Sink>(
+    program: &Program,
+    options: &Options,
+    session: &mut Session<F, K, E>,
+    lacks: Lacks,
+) -> Result<(), AllocError>
+    ensures told { OnOk result (TellsText session.old session.new
+        (message_if (is_warnings options.now.report) program.now.name.items
+        (LineNeeds session.old.place.name session.old.place.number lacks))) }
+    ensures only { OnlyTells session.old session.new }
+{
+    if options.report != Report::Warnings {
+        return Ok(());
+    }
+    let (place, messages) = (&session.place, &mut session.messages);
+    let name = place.name.as_slice();
+    warn_of_line_needs(program, messages, name, place.number, lacks)?;
     Ok(())
 }
 
@@ -450,7 +496,7 @@ fn read_item(
     match read_line(alloc, options.algorithm, spacing, line)? {
         None => Ok(Item::Malformed),
         Some(entry) => {
-            if (is_input || options.input_is_key) && is_dash(entry.name.as_slice()) {
+            if (is_input || options.input_is_key) && is_standard_input(entry.name.as_slice()) {
                 return Ok(Item::Malformed);
             }
             if meets(options, &entry) {
@@ -621,7 +667,9 @@ fn full_outcome(
 fn are_shown(options: &Options, verdict: Verdict) -> bool
     ensures { result ≡ are_shown options.now verdict }
 {
-    options.shows_digests && matches!(verdict, Verdict::Different) && !is_nothing(options.report)
+    options.shows_digests
+        && matches!(verdict, Verdict::Different)
+        && !prints_nothing(options.report)
 }
 
 // Appends the line of a digest, with this before it.
@@ -720,7 +768,7 @@ fn report<E: Sink>(
         warn_of_no_entry(program, messages, name)?;
         return Ok(());
     }
-    if is_nothing(options.report) {
+    if prints_nothing(options.report) {
         return Ok(());
     }
     warn_of_needs(program, messages, name, counts.unmet, counts.lacks)?;
@@ -750,8 +798,8 @@ fn warn_if_none<E: Sink>(
 }
 
 // Returns whether messages are not wanted.
-fn is_nothing(report: Report) -> bool
-    ensures { result ≡ is_nothing report }
+fn prints_nothing(report: Report) -> bool
+    ensures { result ≡ prints_nothing report }
 {
     matches!(report, Report::Nothing)
 }

@@ -15,11 +15,11 @@ ghost use Rattle.b2sum_commands.specs.AcceptedOptions.{goes_with_files};
 ghost use Rattle.b2sum_commands.specs.AcceptedOptions.{chosen_needs, chosen_style, chosen_shape};
 ghost use Rattle.b2sum_commands.specs.AcceptedOptions.{has_bytes, has_trees, with_leaf, AreOptions};
 ghost use Rattle.b2sum_commands.specs.AcceptedOptions.{has_one_persona, is_input};
-ghost use Rattle.b2sum_commands.specs.Messages.{is_dash};
+ghost use Rattle.b2sum_commands.specs.Messages.{is_standard_input};
 ghost use Rattle.b2sum_commands.specs.CommandLineViews.{choice_of, IsUnfit};
 
 use crate::options::{Arguments, Options, Reader, Report, Shape, Stop, joined};
-use crate::sums::is_dash;
+use crate::sums::is_standard_input;
 use b2sum_lines::{Algorithm, Needs, Style};
 use std::alloc::Global;
 
@@ -41,6 +41,7 @@ pub(crate) fn finish(alloc: Global, reader: Reader, files: Vec<Vec<u8>>) -> Resu
         bytes: output_bytes(&reader),
         demands_length: reader.bits != 0 || reader.key_file.is_some(),
         demands_algorithm: reader.names_algorithm || reader.leaf.is_some(),
+        key_is_hex: reader.key_is_hex,
         input_is_key: has_input_key(&reader),
         key: Vec::new(alloc),
         needs: needs_of(&reader),
@@ -141,7 +142,7 @@ fn has_input_key(reader: &Reader) -> bool
     ensures { result ≡ is_input (choice_of reader.now).key_file }
 {
     match &reader.key_file {
-        Some(name) => is_dash(name.as_slice()),
+        Some(name) => is_standard_input(name.as_slice()),
         None => false,
     }
 }
@@ -256,6 +257,9 @@ fn conflict(reader: &Reader) -> Option<&'static [u8]>
     if has_two_personas(reader) {
         return Some(b"the --personal and --personal-text options are mutually exclusive");
     }
+    if reader.key_is_raw && reader.key_is_hex {
+        return Some(b"the --key-file and --key-hex-file options are mutually exclusive");
+    }
     if reader.leaf.is_some() {
         if !has_trees(reader.algorithm) {
             return Some(b"the --tree option supports blake2b only");
@@ -359,10 +363,10 @@ fn conflict_of_files(reader: &Reader, files: &[Vec<u8>]) -> Option<&'static [u8]
 
 // Returns whether standard input is one of the files.
 fn has_dash(files: &[Vec<u8>]) -> bool
-    ensures { result ≡ list_any is_dash (map (λ file. file.items) files.now) }
+    ensures { result ≡ list_any is_standard_input (map (λ file. file.items) files.now) }
 {
     for file in files {
-        if is_dash(file.as_slice()) {
+        if is_standard_input(file.as_slice()) {
             return true;
         }
     }

@@ -44,7 +44,7 @@ pub trait OpenFile {
         ensures { result ≡ failed self.now };
 
     /// Returns the error of the last read that failed.
-    fn reason(&self) -> io::Error
+    fn last_error(&self) -> io::Error
         ensures { failed self.now ≡ true → failure self.now ≡ Some result };
 
     /// Returns the number by which the system knows the file.
@@ -58,7 +58,7 @@ pub trait Output: Sink {
     ghost failure: { Self → Option Error };
 
     /// Returns the error of the last write that failed.
-    fn reason(&self) -> io::Error
+    fn last_error(&self) -> io::Error
         ensures { Self.failed self.now ≡ true → failure self.now ≡ Some result };
 }
 
@@ -137,7 +137,7 @@ pub(crate) fn put<K: Sink>(sink: &mut K, text: &[u8]) -> Result<(), DeviceError>
 }
 
 /// Writes a message, and leaves a failure to the sink.
-pub(crate) fn tell<E: Sink>(sink: &mut E, text: &[u8])
+pub(crate) fn print_message<E: Sink>(sink: &mut E, text: &[u8])
     ensures { IsWritten (E.failed sink.old) (E.failed sink.new) (E.held sink.old) (E.held sink.new)
         text.now }
 {

@@ -1,10 +1,15 @@
 //! The key of digests, from a file.
 
-ghost use Rattle.std.specs.Prelude.{◌≡◌, ◌⊎◌, ℕ, List, Option, ◌≤◌, ◌==◌, length, true, None};
+ghost use Rattle.std.specs.Prelude.{◌≡◌, ◌⊎◌, ℕ, List, Option, ◌≤◌, length, true, None};
 ghost use Rattle.std.specs.Prelude.{IfOk, IfSome, IsOkUnless};
+ghost use Rattle.std.specs.List.{list_all};
+ghost use Rattle.std.specs.Option.{option_map};
+ghost use Rattle.hex.specs.Hex.{is_hex_digit};
+ghost use Rattle.b2sum_commands.specs.KeyTexts.{are_digits, fitting, key_in, key_room};
+ghost use Rattle.b2sum_commands.specs.KeyTexts.{without_newline};
 ghost use Rattle.std.specs.Io.KnownBytes.{Consumes, IsAtEnd};
 ghost use Rattle.std.specs.declared.io.Error.{Error};
-ghost use Rattle.b2sum_commands.specs.Messages.{Cannot, is_dash, message};
+ghost use Rattle.b2sum_commands.specs.Messages.{Cannot, is_standard_input, message};
 ghost use Rattle.b2sum_commands.specs.World.{HasError, IsKey, IsNoKey, IsWritten, world_of};
 ghost use Rattle.b2sum_commands.specs.ProgramRuns.{IsPastKey, TellsNoKey, key_file_bytes};
 ghost use Rattle.b2sum_commands.specs.ProgramRuns.{key_reason};
@@ -13,38 +18,42 @@ use crate::devices::{Disk, Fault, OpenFile, Output};
 use crate::hashes::Hashes;
 use crate::messages::{warn_of_file, warn_of_name};
 use crate::session::{Host, Session};
-use crate::sums::is_dash;
+use crate::sums::is_standard_input;
 use blake2_streams::Sink;
+use hex::FromHexError;
 use std::alloc::Global;
 
-/// Returns the bytes of the key's file, all of them, at least 1 and at most `most`. For another
-/// file the result is `None`, after a message. The memory has to be hidden, as far as the disk can.
-/// The error is `Fault::NoMemory`.
+/// Returns the key of the key's file: all its bytes, or those that it has as hexadecimal digits if
+/// the options say so, at least 1 and at most `most`. For another file the result is `None`, after
+/// a message. The memory has to be hidden, as far as the disk can. The error is `Fault::NoMemory`.
 pub(crate) fn read_key<H: Hashes, D: Disk, K: Output, E: Sink>(
     host: &Host<H, D>,
     session: &mut Session<D::File, K, E>,
     name: &[u8],
-    most: usize,
+    form: Form,
     is_hidden: bool,
 ) -> Result<Option<Vec<u8>>, Fault>
-    requires { is_hidden ≡ D.hides host.now.disk }
+    requires hidden { is_hidden ≡ D.hides host.now.disk }
+    requires most { form.most ≤ 64 }
     ensures key { IfOk result (λ found. IfSome found (λ key. IsKey
-        (key_file_bytes (D.files host.now.disk) session.old.left name.now) most key.items)) }
+        (key_file_bytes (D.files host.now.disk) session.old.left name.now) form.is_hex form.most
+        key.items)) }
     ensures kept { IfOk result (λ found. IfSome found (λ _. (left : Option (List ℕ))
         × (session.new ≡ record session.old { left = left })
-        × IsPastKey (is_dash name.now) session.old.left left)) }
+        × IsPastKey (is_standard_input name.now) session.old.left left)) }
     ensures told { IfOk result (λ found. found ≡ None → TellsNoKey
         (world_of host.now.program.name.items D.File.named D.File.failed D.File.failure
-        (D.files host.now.disk) H.hashing) name.now most session.old session.new) }
+        (D.files host.now.disk) H.hashing) name.now form.is_hex form.most session.old
+        session.new) }
     ensures held { session.new.held ≡ session.old.held }
     ensures memory { IsOkUnless result Fault.NoMemory }
 {
     let messages = &mut session.messages;
-    if is_dash(name) {
-        return read_key_from(host, &mut session.input, name, most, messages);
+    if is_standard_input(name) {
+        return read_key_from(host, &mut session.input, name, form, messages);
     }
     match host.disk.open(host.program.alloc, name) {
-        Ok(mut file) => read_key_from(host, &mut file, name, most, messages),
+        Ok(mut file) => read_key_from(host, &mut file, name, form, messages),
         Err(error) => {
             warn_of_file(host, error, messages, name)?;
             Ok(None)
@@ -52,17 +61,27 @@ pub(crate) fn read_key<H: Hashes, D: Disk, K: Output, E: Sink>(
     }
 }
 
-// Returns all bytes of an open file of this name as the key, as `read_key` does.
+/// What a key file has.
+#[derive(Clone, Copy, Debug, PartialEq, Eq)]
+pub(crate) struct Form {
+    /// It has hexadecimal digits, which write the key.
+    pub(crate) is_hex: bool,
+    /// The most bytes of the key, at most 64.
+    pub(crate) most: usize,
+}
+
+// Returns the key in all bytes of an open file of this name, as `read_key` does.
 fn read_key_from<H, D: Disk, E: Sink>(
     host: &Host<H, D>,
     file: &mut D::File,
     name: &[u8],
-    most: usize,
+    form: Form,
     messages: &mut E,
 ) -> Result<Option<Vec<u8>>, Fault>
-    requires { D.File.named file.old ≡ name.now }
+    requires named { D.File.named file.old ≡ name.now }
+    requires most { form.most ≤ 64 }
     ensures key { IfOk result (λ key. IfSome key
-        (λ bytes. IsKey (D.File.left file.old) most bytes.items)) }
+        (λ bytes. IsKey (D.File.left file.old) form.is_hex form.most bytes.items)) }
     ensures end { IfOk result (λ key. IfSome key
         (λ _. IsPastKey true (D.File.left file.old) (D.File.left file.new))) }
     ensures name { D.File.named file.new ≡ name.now }
@@ -70,30 +89,123 @@ fn read_key_from<H, D: Disk, E: Sink>(
     ensures told { IfOk result (λ key. key ≡ None → (reason : List ℕ)
         × (((e : Error) × HasError D.File.named D.File.failed D.File.failure name.now e
         × (D.files host.now.disk).describes e reason)
-        ⊎ (IsNoKey (D.File.left file.old) most × (reason ≡ key_reason most)))
+        ⊎ (IsNoKey (D.File.left file.old) form.is_hex form.most
+        × (reason ≡ key_reason form.is_hex form.most)))
         × IsWritten (E.failed messages.old) (E.failed messages.new) (E.held messages.old)
         (E.held messages.new) (message host.now.program.name.items (Cannot name.now reason))) }
     ensures memory { IsOkUnless result Fault.NoMemory }
 {
-    let Some(key) = read_bytes(host.program.alloc, file, most)? else {
-        warn_of_file(host, file.reason(), messages, name)?;
+    let alloc = host.program.alloc;
+    let Some(bytes) = read_bytes(alloc, file, key_room(form))? else {
+        warn_of_file(host, file.last_error(), messages, name)?;
         return Ok(None);
     };
-    if key.is_empty() || key.len() > most {
-        warn_of_name(&host.program, messages, name, key_reason(most))?;
+    if bytes.len() > key_room(form) {
+        warn_of_name(&host.program, messages, name, key_reason(form))?;
         return Ok(None);
     }
+    let Some(key) = key_in(alloc, form, bytes)? else {
+        warn_of_name(&host.program, messages, name, key_reason(form))?;
+        return Ok(None);
+    };
     Ok(Some(key))
 }
 
-// Returns why a file has no key of at most this many bytes.
-fn key_reason(most: usize) -> &'static [u8]
-    ensures { result.now ≡ key_reason most }
+// Returns the most bytes that a file with a key has.
+fn key_room(form: Form) -> usize
+    requires { form.most ≤ 64 }
+    ensures { result ≡ key_room form.is_hex form.most }
 {
-    if most == 64 {
-        b"a key has 1 to 64 bytes"
+    if form.is_hex {
+        2 * form.most + 1
     } else {
-        b"a key of BLAKE2s or BLAKE2sp has 1 to 32 bytes"
+        form.most
+    }
+}
+
+// Returns the key that the bytes of a key file have, or `None` if they are no key. It has a
+// separate frame, as `read_bytes` has.
+#[inline(never)]
+fn key_in(alloc: Global, form: Form, bytes: Vec<u8>) -> Result<Option<Vec<u8>>, Fault>
+    ensures key { IfOk result (λ found. option_map (λ key. key.items) found
+        ≡ key_in form.is_hex form.most bytes.items) }
+    ensures memory { IsOkUnless result Fault.NoMemory }
+{
+    if !form.is_hex {
+        return Ok(fitting(form.most, bytes));
+    }
+    match hex::decode(alloc, without_newline(bytes.as_slice())) {
+        Ok(key) => Ok(fitting(form.most, key)),
+        Err(FromHexError::OutOfMemory) => Err(Fault::NoMemory),
+        Err(_) => Ok(None),
+    }
+}
+
+// Returns the key, if it has at least one byte and at most so many.
+fn fitting(most: usize, key: Vec<u8>) -> Option<Vec<u8>>
+    ensures { option_map (λ k. k.items) result ≡ fitting most key.items }
+{
+    if !key.is_empty() && key.len() <= most {
+        Some(key)
+    } else {
+        None
+    }
+}
+
+// Returns the text without one newline at its end.
+fn without_newline(text: &[u8]) -> &[u8]
+    ensures { result.now ≡ without_newline text.now }
+{
+    if text.is_empty() {
+        return text;
+    }
+    let last = text.len() - 1;
+    if text[last] == b'\n' {
+        &text[..last]
+    } else {
+        text
+    }
+}
+
+/// Returns whether there are only hexadecimal digits, at least one, with a newline after them or
+/// none.
+pub(crate) fn are_digits(bytes: &[u8]) -> bool
+    ensures { result ≡ are_digits bytes.now }
+{
+    let digits = without_newline(bytes);
+    !digits.is_empty() && all_digits(digits)
+}
+
+// Returns whether all bytes are hexadecimal digits.
+fn all_digits(text: &[u8]) -> bool
+    ensures { result ≡ list_all is_hex_digit text.now }
+{
+    for byte in text {
+        if !is_digit(*byte) {
+            return false;
+        }
+    }
+    true
+}
+
+// Returns whether the byte is a hexadecimal digit of either case.
+fn is_digit(byte: u8) -> bool
+    ensures { result ≡ is_hex_digit byte }
+{
+    matches!(byte, b'A'..=b'F' | b'a'..=b'f' | b'0'..=b'9')
+}
+
+// Returns why a file has no key.
+fn key_reason(form: Form) -> &'static [u8]
+    ensures { result.now ≡ key_reason form.is_hex form.most }
+{
+    match (form.is_hex, form.most == 64) {
+        (false, true) => b"a key has 1 to 64 bytes",
+        (false, false) => b"a key of BLAKE2s or BLAKE2sp has 1 to 32 bytes",
+        (true, true) => b"a key has 2 to 128 hexadecimal digits, two for each byte",
+        (true, false) => {
+            b"a key of BLAKE2s or BLAKE2sp has 2 to 64 hexadecimal digits, two for each byte"
+        }
     }
 }
 

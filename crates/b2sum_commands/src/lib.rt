@@ -14,6 +14,7 @@ mod line_reader;
 mod messages;
 mod option_names;
 mod options;
+mod other_hashes;
 mod program;
 mod quoting;
 mod sealed_checks;

@@ -3,11 +3,12 @@
 ghost use Rattle.std.specs.Prelude.{◌≡◌, ◌++◌, [], OnOk, if◌then◌else◌};
 ghost use Rattle.b2sum_lines.specs.EntryViews.{entry_value};
 ghost use Rattle.b2sum_commands.specs.LineNeeds.{algorithm_number, has_algorithm, has_needs, meets};
-ghost use Rattle.b2sum_commands.specs.LineNeeds.{has_any, has_demanded_length, same_needs};
-ghost use Rattle.b2sum_commands.specs.LineNeeds.{both_lack, either, lacks_of, needs_of, no_lacks};
+ghost use Rattle.b2sum_commands.specs.LineNeeds.{has_any, has_demanded_length, is_slow};
+ghost use Rattle.b2sum_commands.specs.LineNeeds.{same_needs, both_lack, needs_union, lacks_of};
+ghost use Rattle.b2sum_commands.specs.LineNeeds.{needs_of, no_lacks};
 ghost use Rattle.b2sum_commands.specs.LineNeeds.{algorithm_text, lacks_text, length_text};
 ghost use Rattle.b2sum_commands.specs.LineNeeds.{length_for, needs_algorithm, needs_length};
-ghost use Rattle.b2sum_commands.specs.LineNeeds.{needs_options, without};
+ghost use Rattle.b2sum_commands.specs.LineNeeds.{needs_options, needs_difference};
 
 use crate::options::Options;
 use b2sum_lines::{Algorithm, Entry, Needs, Style};
@@ -48,12 +49,25 @@ fn same_needs(a: Needs, b: Needs) -> bool
 }
 
 // Returns whether the options can check digests of this algorithm: one that they demand, or that a
-// key, a salt or a personalization is for, is theirs.
+// key, a salt or a personalization is for, or that is slow, is theirs.
 fn has_algorithm(options: &Options, algorithm: Algorithm) -> bool
     ensures { result ≡ has_algorithm options.now algorithm }
 {
-    let is_any = !(options.demands_algorithm || has_any(options.needs));
+    let is_any = !(options.demands_algorithm || has_any(options.needs) || is_slow(algorithm));
     is_any || number_of(algorithm) == number_of(options.algorithm)
+}
+
+// Fewer bytes of a leaf than these cost a tree more time than a digest by far.
+const LEAF_BYTES: u32 = 1024;
+
+// Returns whether the algorithm is a tree of small leaves.
+fn is_slow(algorithm: Algorithm) -> bool
+    ensures { result ≡ is_slow algorithm }
+{
+    match algorithm {
+        Algorithm::Tree(leaf) => leaf < LEAF_BYTES,
+        _ => false,
+    }
 }
 
 fn has_any(needs: Needs) -> bool
@@ -112,8 +126,8 @@ impl Lacks {
     {
         let needs = needs_of(options, entry.style);
         Lacks {
-            missing: without(needs, options.needs),
-            unwanted: without(options.needs, needs),
+            missing: needs_difference(needs, options.needs),
+            unwanted: needs_difference(options.needs, needs),
             algorithm: if needs_algorithm(options, entry) {
                 Some(entry.algorithm)
             } else {
@@ -131,8 +145,8 @@ impl Lacks {
     pub(crate) fn add(&mut self, other: Lacks)
         ensures { self.new ≡ both_lack self.old other }
     {
-        self.missing = either(self.missing, other.missing);
-        self.unwanted = either(self.unwanted, other.unwanted);
+        self.missing = needs_union(self.missing, other.missing);
+        self.unwanted = needs_union(self.unwanted, other.unwanted);
         self.algorithm = self.algorithm.or(other.algorithm);
         self.bytes = self.bytes.or(other.bytes);
     }
@@ -163,7 +177,9 @@ fn needs_algorithm(options: &Options, entry: &Entry) -> bool
     ensures { result ≡ needs_algorithm options.now (entry_value entry.now) }
 {
     number_of(entry.algorithm) != number_of(options.algorithm)
-        && (options.demands_algorithm || has_any(needs_of(options, entry.style)))
+        && (options.demands_algorithm
+            || has_any(needs_of(options, entry.style))
+            || is_slow(entry.algorithm))
 }
 
 // Returns whether an entry's digest has another length than the one that is demanded, or would be
@@ -178,8 +194,8 @@ fn needs_length(options: &Options, entry: &Entry) -> bool
 }
 
 // Returns what the first has, and the second has not.
-fn without(first: Needs, second: Needs) -> Needs
-    ensures { result ≡ without first second }
+fn needs_difference(first: Needs, second: Needs) -> Needs
+    ensures { result ≡ needs_difference first second }
 {
     Needs {
         key: first.key && !second.key,
@@ -189,8 +205,8 @@ fn without(first: Needs, second: Needs) -> Needs
 }
 
 // Returns what one of both has.
-fn either(first: Needs, second: Needs) -> Needs
-    ensures { result ≡ either first second }
+fn needs_union(first: Needs, second: Needs) -> Needs
+    ensures { result ≡ needs_union first second }
 {
     Needs {
         key: first.key || second.key,

@@ -5,17 +5,18 @@ ghost use Rattle.std.specs.Prelude.{◌==◌, List, ℕ, ◌⊎◌, None, Some};
 ghost use Rattle.b2sum_commands.specs.LineNeeds.{lacks_text};
 ghost use Rattle.b2sum_commands.specs.Messages.{line, message, title_of};
 ghost use Rattle.b2sum_commands.specs.Messages.{BreaksOff, Cannot, HasNoEntry, HaveCount};
+ghost use Rattle.b2sum_commands.specs.Messages.{DigitsAsKey, Foreign, LineNeeds};
 ghost use Rattle.b2sum_commands.specs.Messages.{Improper, LinesNeed, Message, NoMemory, ShortMacs};
 ghost use Rattle.b2sum_commands.specs.Messages.{Usage, Value, VerifiesNone, WriteFailed};
 ghost use Rattle.b2sum_commands.specs.Messages.{message_if};
 ghost use Rattle.b2sum_commands.specs.World.{IsWriteError, IsWritten};
 
-use crate::devices::{Disk, tell};
+use crate::devices::{Disk, print_message};
 use crate::line_needs::Lacks;
 use crate::options::joined;
 use crate::quoting::quoted_name;
 use crate::session::{Host, Program};
-use crate::sums::is_dash;
+use crate::sums::is_standard_input;
 use b2sum_lines::Algorithm;
 use blake2_streams::Sink;
 use std::alloc::AllocError;
@@ -56,7 +57,7 @@ fn warn<E: Sink>(
         (line program.now.name.items first.now second.now third.now)) }
 {
     let text = line_of(program, first, second, third)?;
-    tell(sink, text.as_slice());
+    print_message(sink, text.as_slice());
     Ok(())
 }
 
@@ -102,7 +103,7 @@ fn warn_of_manifest<E: Sink>(
         (E.held sink.new)
         (line program.now.name.items (title_of name.now) first.now second.now)) }
 {
-    let shown: &[u8] = if is_dash(name) {
+    let shown: &[u8] = if is_standard_input(name) {
         b"standard input"
     } else {
         name
@@ -141,6 +142,43 @@ pub(crate) fn warn_of_line<E: Sink>(
     place.extend_from_slice(b": improperly formatted ")?;
     place.extend_from_slice(algorithm.tag(program.alloc)?.as_slice())?;
     warn_of_manifest(program, sink, name, place.as_slice(), b" checksum line")
+}
+
+/// Says that the line of this number is one of another hash function.
+pub(crate) fn warn_of_foreign<E: Sink>(
+    program: &Program,
+    sink: &mut E,
+    name: &[u8],
+    number: u64,
+) -> Result<(), AllocError>
+    ensures { OnOk result (IsWritten (E.failed sink.old) (E.failed sink.new) (E.held sink.old)
+        (E.held sink.new) (message program.now.name.items (Foreign name.now number))) }
+{
+    let mut place = Vec::new(program.alloc);
+    place.extend_from_slice(b": ")?;
+    push_decimal(&mut place, number)?;
+    let text = b": checksum line of another algorithm";
+    warn_of_manifest(program, sink, name, place.as_slice(), text)
+}
+
+/// Says which options the line of this number needs.
+pub(crate) fn warn_of_line_needs<E: Sink>(
+    program: &Program,
+    sink: &mut E,
+    name: &[u8],
+    number: u64,
+    lacks: Lacks,
+) -> Result<(), AllocError>
+    ensures { OnOk result (IsWritten (E.failed sink.old) (E.failed sink.new) (E.held sink.old)
+        (E.held sink.new) (message program.now.name.items (LineNeeds name.now number lacks))) }
+{
+    let mut place = Vec::new(program.alloc);
+    place.extend_from_slice(b": ")?;
+    push_decimal(&mut place, number)?;
+    place.extend_from_slice(b": needs")?;
+    let mut text = Vec::new(program.alloc);
+    lacks.push_options(&mut text)?;
+    warn_of_manifest(program, sink, name, place.as_slice(), text.as_slice())
 }
 
 /// Says that no line of the manifest of this name is that of an entry.
@@ -223,7 +261,7 @@ pub(crate) fn warn_of_usage<E: Sink>(
     let (name, rest) = (program.name.as_slice(), b" --help' for more information.\n");
     let mut lines = line_of(program, text, b"", b"")?;
     lines.extend_from_slice(joined(program.alloc, b"Try '", name, rest)?.as_slice())?;
-    tell(sink, lines.as_slice());
+    print_message(sink, lines.as_slice());
     Ok(())
 }
 
@@ -241,11 +279,11 @@ pub(crate) fn warn_of_value<E: Sink>(
 {
     let mut lines = line_of(program, first, b"", b"")?;
     if second.is_empty() {
-        tell(sink, lines.as_slice());
+        print_message(sink, lines.as_slice());
         return Ok(());
     }
     lines.extend_from_slice(line_of(program, second, b"", b"")?.as_slice())?;
-    tell(sink, lines.as_slice());
+    print_message(sink, lines.as_slice());
     Ok(())
 }
 
@@ -256,7 +294,7 @@ pub(crate) fn warn_of_write<H, D: Disk, E: Sink>(host: &Host<H, D>, error: io::E
         (message host.now.program.name.items said) }
 {
     match line_of_write(host, error) {
-        Ok(text) => tell(sink, text.as_slice()),
+        Ok(text) => print_message(sink, text.as_slice()),
         Err(_) => tell_named(&host.program, sink, b": write error\n"),
     }
 }
@@ -269,6 +307,22 @@ fn line_of_write<H, D: Disk>(host: &Host<H, D>, error: io::Error) -> Result<Vec<
 {
     let reason = host.disk.reason_of(host.program.alloc, error)?;
     line_of(&host.program, b"write error: ", reason.as_bytes(), b"")
+}
+
+/// Warns that the key in the file of this name is hexadecimal digits, as they are.
+pub(crate) fn warn_of_key_digits<E: Sink>(
+    program: &Program,
+    sink: &mut E,
+    name: &[u8],
+) -> Result<(), AllocError>
+    ensures unsaid { IsErr result → sink.new ≡ sink.old }
+    ensures said { OnOk result (IsWritten (E.failed sink.old) (E.failed sink.new)
+        (E.held sink.old) (E.held sink.new)
+        (message program.now.name.items (DigitsAsKey name.now))) }
+{
+    let name = quoted_name(program.alloc, name)?;
+    let text = b": has only hexadecimal digits, which --key-hex-file would decode";
+    warn(program, sink, b"WARNING: ", name.as_slice(), text)
 }
 
 /// Warns that the digests are MACs that are short enough to be guessed. It allocates nothing.
@@ -296,6 +350,6 @@ fn tell_named<E: Sink>(program: &Program, sink: &mut E, text: &[u8])
     ensures { IsWritten (E.failed sink.old) (E.failed sink.new) (E.held sink.old) (E.held sink.new)
         (program.now.name.items ++ text.now) }
 {
-    tell(sink, program.name.as_slice());
-    tell(sink, text);
+    print_message(sink, program.name.as_slice());
+    print_message(sink, text);
 }

@@ -12,6 +12,7 @@ pub(crate) enum Flag {
     Algorithm,
     Length,
     KeyFile,
+    KeyHexFile,
     Personal,
     PersonalText,
     Salt,
@@ -46,6 +47,7 @@ impl Flag {
             Flag::Algorithm => b"algorithm",
             Flag::Length => b"length",
             Flag::KeyFile => b"key-file",
+            Flag::KeyHexFile => b"key-hex-file",
             Flag::Personal => b"personal",
             Flag::PersonalText => b"personal-text",
             Flag::Salt => b"salt",
@@ -81,6 +83,7 @@ impl Flag {
             Flag::Algorithm
                 | Flag::Length
                 | Flag::KeyFile
+                | Flag::KeyHexFile
                 | Flag::Personal
                 | Flag::PersonalText
                 | Flag::Salt
@@ -107,7 +110,7 @@ impl Flag {
 }
 
 /// The long options, in the order in which messages list them.
-pub(crate) static FLAGS: [Flag; 26] = [
+pub(crate) static FLAGS: [Flag; 27] = [
     Flag::Length,
     Flag::Check,
     Flag::IgnoreMissing,
@@ -121,6 +124,7 @@ pub(crate) static FLAGS: [Flag; 26] = [
     Flag::Text,
     Flag::Algorithm,
     Flag::KeyFile,
+    Flag::KeyHexFile,
     Flag::Personal,
     Flag::PersonalText,
     Flag::Salt,

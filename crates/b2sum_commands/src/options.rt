@@ -3,7 +3,8 @@
 ghost use Rattle.std.specs.Prelude.{◌≡◌, ◌≤◌, IfOk, OnOk, Some, Ok, IfErr, ◌++◌, ◌∷◌, [], map};
 ghost use Rattle.b2sum_commands.specs.CommandLine.{set_flag, set_value, no_choice};
 ghost use Rattle.b2sum_commands.specs.CommandLine.{flag_named, value_or_next, read_letters};
-ghost use Rattle.b2sum_commands.specs.CommandLine.{read_alone, read_with, read_long, read_any};
+ghost use Rattle.b2sum_commands.specs.CommandLine.{read_switch, read_option_with_value, read_long};
+ghost use Rattle.b2sum_commands.specs.CommandLine.{read_option_or_file};
 ghost use Rattle.b2sum_commands.specs.CommandLine.{read_next, reading};
 ghost use Rattle.b2sum_commands.specs.AcceptedOptions.{AreArguments, command_line};
 ghost use Rattle.b2sum_commands.specs.CommandLineViews.{choice_of, next_of, read_words_of, StopsBy};
@@ -56,6 +57,8 @@ pub struct Options {
     pub demands_algorithm: bool,
     /// The key, which has no bytes if there is none.
     pub key: Vec<u8>,
+    /// The key's file has hexadecimal digits, which write the key.
+    pub key_is_hex: bool,
     /// Standard input is the key, and so is no file.
     pub input_is_key: bool,
     /// What the digests need besides a file: whether there is a key, a salt and a persona.
@@ -141,6 +144,8 @@ pub(crate) struct Reader {
     pub(crate) bits: u64,
     pub(crate) bits_text: Vec<u8>,
     pub(crate) key_file: Option<Vec<u8>>,
+    pub(crate) key_is_raw: bool,
+    pub(crate) key_is_hex: bool,
     pub(crate) salt: Vec<u8>,
     pub(crate) persona: Vec<u8>,
     pub(crate) persona_text: Vec<u8>,
@@ -171,6 +176,8 @@ impl Reader {
             bits: 0,
             bits_text: Vec::new(alloc),
             key_file: None,
+            key_is_raw: false,
+            key_is_hex: false,
             salt: Vec::new(alloc),
             persona: Vec::new(alloc),
             persona_text: Vec::new(alloc),
@@ -260,7 +267,7 @@ fn read_word(
         (read_words_of reader.old (map (λ f. f.items) files.old.items) next) word.now)) }
 {
     match next {
-        Next::Any => read_any(alloc, reader, files, word),
+        Next::Any => read_option_or_file(alloc, reader, files, word),
         Next::Awaited(flag, _) => {
             take_value(alloc, reader, flag, word)?;
             Ok(Next::Any)
@@ -273,17 +280,19 @@ fn read_word(
 }
 
 // Reads an option or a file. Returns what the word after it is.
-fn read_any(
+fn read_option_or_file(
     alloc: Global,
     reader: &mut Reader,
     files: &mut Vec<Vec<u8>>,
     word: &[u8],
 ) -> Result<Next, Stop>
     ensures read { IfOk result (λ after.
-        read_any (read_words_of reader.old (map (λ f. f.items) files.old.items) Any) word.now
+        read_option_or_file (read_words_of reader.old (map (λ f. f.items) files.old.items) Any)
+        word.now
         ≡ Ok (read_words_of reader.new (map (λ f. f.items) files.new.items) after)) }
     ensures stop { IfErr result (StopsBy
-        (read_any (read_words_of reader.old (map (λ f. f.items) files.old.items) Any) word.now)) }
+        (read_option_or_file (read_words_of reader.old (map (λ f. f.items) files.old.items) Any)
+        word.now)) }
 {
     if word == b"--".as_slice() {
         return Ok(Next::File);
@@ -382,20 +391,20 @@ fn read_long(alloc: Global, reader: &mut Reader, word: &[u8]) -> Result<Next, St
     match split_once(word, b'=') {
         None => {
             let flag = long_flag(alloc, word, word)?;
-            read_alone(reader, flag)
+            read_switch(reader, flag)
         }
         Some((name, value)) => {
             let flag = long_flag(alloc, name, word)?;
-            read_with(alloc, reader, flag, value)
+            read_option_with_value(alloc, reader, flag, value)
         }
     }
 }
 
 // Takes a long option without a value in its word. Returns what the next word is.
-fn read_alone(reader: &mut Reader, flag: Flag) -> Result<Next, Stop>
-    ensures read { IfOk result (λ next. read_alone (choice_of reader.old) (Some flag)
+fn read_switch(reader: &mut Reader, flag: Flag) -> Result<Next, Stop>
+    ensures read { IfOk result (λ next. read_switch (choice_of reader.old) (Some flag)
         ≡ Ok (choice_of reader.new, next_of next)) }
-    ensures stop { IfErr result (StopsBy (read_alone (choice_of reader.old) (Some flag))) }
+    ensures stop { IfErr result (StopsBy (read_switch (choice_of reader.old) (Some flag))) }
 {
     if flag.has_value() {
         return Ok(Next::Awaited(flag, None));
@@ -405,11 +414,17 @@ fn read_alone(reader: &mut Reader, flag: Flag) -> Result<Next, Stop>
 }
 
 // Takes a long option with a value in its word. Returns what the next word is.
-fn read_with(alloc: Global, reader: &mut Reader, flag: Flag, value: &[u8]) -> Result<Next, Stop>
-    ensures read { IfOk result (λ next. read_with (choice_of reader.old) (Some flag) value.now
+fn read_option_with_value(
+    alloc: Global,
+    reader: &mut Reader,
+    flag: Flag,
+    value: &[u8],
+) -> Result<Next, Stop>
+    ensures read { IfOk result (λ next.
+        read_option_with_value (choice_of reader.old) (Some flag) value.now
         ≡ Ok (choice_of reader.new, next_of next)) }
     ensures stop { IfErr result
-        (StopsBy (read_with (choice_of reader.old) (Some flag) value.now)) }
+        (StopsBy (read_option_with_value (choice_of reader.old) (Some flag) value.now)) }
 {
     if !flag.has_value() {
         let text = b"' doesn't allow an argument";
@@ -470,7 +485,14 @@ fn take_value(alloc: Global, reader: &mut Reader, flag: Flag, value: &[u8]) -> R
             reader.algorithm = algorithm_of(alloc, value)?;
             reader.names_algorithm = true;
         }
-        Flag::KeyFile => reader.key_file = Some(copied(alloc, value)?),
+        Flag::KeyFile => {
+            reader.key_file = Some(copied(alloc, value)?);
+            reader.key_is_raw = true;
+        }
+        Flag::KeyHexFile => {
+            reader.key_file = Some(copied(alloc, value)?);
+            reader.key_is_hex = true;
+        }
         Flag::Personal => reader.persona = bytes_of(alloc, PERSONAL, value)?,
         Flag::PersonalText => reader.persona_text = text_of(alloc, PERSONAL, value)?,
         Flag::Salt => reader.salt = bytes_of(alloc, b"invalid salt: ", value)?,

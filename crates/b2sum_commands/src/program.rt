@@ -1,13 +1,14 @@
 //! The run of the program.
 
-ghost use Rattle.std.specs.Prelude.{◌≡◌, ◌⊎◌, ◌≤◌, map, None, Err, IfOk, IfSome};
-ghost use Rattle.std.specs.Prelude.{IsErrOf, IsOkUnless, Bool, Option, true};
+ghost use Rattle.std.specs.Prelude.{◌≡◌, ◌⊎◌, ◌≤◌, map, None, Some, Err, IfOk, IfSome};
+ghost use Rattle.std.specs.Prelude.{IsErrOf, IsOkUnless, OnOk, Bool, Option, true};
 ghost use Rattle.std.specs.Option.{option_map};
 ghost use Rattle.std.specs.Result.{result_ok};
 ghost use Rattle.b2sum_commands.specs.CommandLine.{Choice, Refused};
 ghost use Rattle.b2sum_commands.specs.AcceptedOptions.{AreOptions, command_line};
-ghost use Rattle.b2sum_commands.specs.World.{world_of, IsEnded};
-ghost use Rattle.b2sum_commands.specs.ProgramRuns.{DoesChoice, DoesLine, HasKey, AfterKey};
+ghost use Rattle.b2sum_commands.specs.World.{world_of, IsEnded, OnlyTells};
+ghost use Rattle.b2sum_commands.specs.ProgramRuns.{DoesChoice, DoesLine, HasKey, TakesKey};
+ghost use Rattle.b2sum_commands.specs.ProgramRuns.{WarnsOfDigits};
 ghost use Rattle.b2sum_commands.specs.ProgramRuns.{IsKeyless, TellsRefusal};
 ghost use Rattle.b2sum_commands.specs.ProgramRuns.{RunsLine, help_of, status_of};
 ghost use Rattle.b2sum_commands.specs.ProgramRuns.{WarnsOfMacs, are_short_macs};
@@ -17,14 +18,16 @@ ghost use Rattle.b2sum_commands.specs.CommandLineViews.{IsPrinted};
 use crate::check::check_manifests;
 use crate::devices::{Disk, Fault, OpenFile, Output, put};
 use crate::hashes::Hashes;
-use crate::key::read_key;
+use crate::key::{Form, are_digits, read_key};
 use crate::messages::{
-    warn_of_memory, warn_of_short_macs, warn_of_usage, warn_of_value, warn_of_write,
+    warn_of_key_digits, warn_of_memory, warn_of_short_macs, warn_of_usage, warn_of_value,
+    warn_of_write,
 };
 use crate::options::{Arguments, Options, Stop, joined, read_arguments};
 use crate::seals::print_list;
 use crate::session::{Host, Program, Session};
 use blake2_streams::Sink;
+use std::alloc::AllocError;
 
 // What comes after `Usage: ` and the program's name.
 const HELP: &[u8] = b" [OPTION].. [FILE]..
@@ -42,6 +45,8 @@ Print or check BLAKE2 digests. With no FILE, or if FILE is -, read standard inpu
       --raw             print only the bytes of the digest of one FILE
       --key-file FILE   use the bytes of the file, or of standard input if it is -, as the key:
                         at most 64, or 32 for blake2s and blake2sp
+      --key-hex-file FILE
+                        use the key that the hexadecimal digits of the file write
       --salt HEX        use this salt: at most 16 bytes, or 8 for blake2s and blake2sp
       --personal HEX    use this personalization: at most 16 bytes, or 8 for blake2s and blake2sp
       --personal-text TEXT
@@ -54,7 +59,7 @@ Print or check BLAKE2 digests. With no FILE, or if FILE is -, read standard inpu
       --sealed          check lists that --seal printed, and believe none whose seal does not hold
       --strict          fail for improperly formatted lines
       --show-digests    print the expected and the found digest of each file that differs
-  -w, --warn            warn about improperly formatted lines
+  -w, --warn            warn about each line that is improperly formatted or needs other options
       --threads N       hash trees by at most N threads; 0, the default: all processors
       --progress        show the progress of long reads on a terminal
       --help            print this help
@@ -94,7 +99,7 @@ pub fn run<H: Hashes, D: Disk, K: Output, E: Sink>(
         Ok(true) => 0,
         Ok(false) => 1,
         Err(Fault::WriteFailed) => {
-            let error = session.output.reason();
+            let error = session.output.last_error();
             warn_of_write(host, error, &mut session.messages);
             1
         }
@@ -228,23 +233,46 @@ fn with_key<H: Hashes, D: Disk, K: Output, E: Sink>(
         session.old.left c o)) }
     ensures bytes { IfOk result (λ found. IfSome found (λ o. o.bytes ≡ options.bytes)) }
     ensures held { session.new.held ≡ session.old.held }
-    ensures kept { IfOk result (λ found. IfSome found (λ _. AfterKey
-        (option_map (λ name. name.items) key_file) session.old session.new)) }
+    ensures kept { IfOk result (λ found. IfSome found (λ o. TakesKey
+        (world_of host.now.program.name.items D.File.named D.File.failed D.File.failure
+        (D.files host.now.disk) H.hashing)
+        (option_map (λ name. name.items) key_file) o session.old session.new)) }
     ensures keyless { IfOk result (λ found. found ≡ None → IsKeyless
         (world_of host.now.program.name.items D.File.named D.File.failed D.File.failure
         (D.files host.now.disk) H.hashing)
-        (option_map (λ name. name.items) key_file) (max_bytes options.algorithm)
-        session.old session.new) }
+        (option_map (λ name. name.items) key_file) options.key_is_hex
+        (max_bytes options.algorithm) session.old session.new) }
     ensures memory { IsOkUnless result Fault.NoMemory }
 {
     let Some(name) = key_file else {
         return Ok(Some(options));
     };
-    let most = options.algorithm.max_bytes();
+    let form = Form {
+        is_hex: options.key_is_hex,
+        most: options.algorithm.max_bytes(),
+    };
     let is_hidden = host.disk.hide_memory();
-    let Some(key) = read_key(host, session, name.as_slice(), most, is_hidden)? else {
+    let Some(key) = read_key(host, session, name.as_slice(), form, is_hidden)? else {
         return Ok(None);
     };
     options.key = key;
+    warn_if_digits(&host.program, &options, session, name.as_slice())?;
     Ok(Some(options))
+}
+
+// Warns of a key that is read from the file of this name as it is, and is only hexadecimal digits.
+fn warn_if_digits<F: OpenFile, K: Output, E: Sink>(
+    program: &Program,
+    options: &Options,
+    session: &mut Session<F, K, E>,
+    name: &[u8],
+) -> Result<(), AllocError>
+    ensures told { OnOk result (WarnsOfDigits program.now.name.items (Some name.now) options.now
+        session.old session.new) }
+    ensures only { OnlyTells session.old session.new }
+{
+    if !options.key_is_hex && are_digits(options.key.as_slice()) {
+        warn_of_key_digits(program, &mut session.messages, name)?;
+    }
+    Ok(())
 }

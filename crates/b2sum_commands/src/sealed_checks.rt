@@ -9,7 +9,7 @@ ghost use Rattle.text_lines.specs.Cuts.{lines_of};
 ghost use Rattle.b2sum_commands.specs.declared.check.Verdict as verdict;
 ghost use Rattle.b2sum_commands.specs.ManifestChecks.{IsText};
 ghost use Rattle.b2sum_commands.specs.Manifests.{BeginsLine, IsLine};
-ghost use Rattle.b2sum_commands.specs.Messages.{Cannot, is_dash, message};
+ghost use Rattle.b2sum_commands.specs.Messages.{Cannot, is_standard_input, message};
 ghost use Rattle.b2sum_commands.specs.Reports.{AreCounted};
 ghost use Rattle.b2sum_commands.specs.SealedLists.{IsCheckedAs, IsOverlong, IsUnlisted};
 ghost use Rattle.b2sum_commands.specs.SealedLists.{long_reason};
@@ -22,7 +22,7 @@ use crate::messages::{warn_of_file, warn_of_name};
 use crate::options::Options;
 use crate::seals::is_sealed;
 use crate::session::{Host, Session};
-use crate::sums::is_dash;
+use crate::sums::is_standard_input;
 use blake2_streams::Sink;
 use std::alloc::{AllocError, Global};
 use text_lines::split_line;
@@ -58,7 +58,7 @@ pub(crate) fn check_sealed<H: Hashes, D: Disk, K: Output, E: Sink>(
         warn_of_name(&host.program, &mut session.messages, name, reason)?;
         return Ok(false);
     }
-    let counts = check_text(host, options, session, is_dash(name), text)?;
+    let counts = check_text(host, options, session, is_standard_input(name), text)?;
     end_manifest(
         &host.program,
         options,
@@ -78,8 +78,8 @@ fn read_list<H: Hashes, D: Disk, K: Output, E: Sink>(
 ) -> Result<Option<Vec<u8>>, Fault>
     ensures text { IfOk result (λ found. IfSome found (λ list. (left : Option (List ℕ))
         × (session.new ≡ record session.old { left = left })
-        × IsText (is_dash name.now) ((D.files host.now.disk).holds name.now) session.old.left left
-        list.items
+        × IsText (is_standard_input name.now) ((D.files host.now.disk).holds name.now)
+        session.old.left left list.items
         × (length list.items ≤ most))) }
     ensures unlisted { IfOk result (λ found. found ≡ None → IsUnlisted
         (world_of host.now.program.name.items D.File.named D.File.failed D.File.failure
@@ -88,7 +88,7 @@ fn read_list<H: Hashes, D: Disk, K: Output, E: Sink>(
     ensures memory { IsOkUnless result Fault.NoMemory }
 {
     let messages = &mut session.messages;
-    if is_dash(name) {
+    if is_standard_input(name) {
         return read_list_from(host, &mut session.input, name, most, messages);
     }
     match host.disk.open(host.program.alloc, name) {
@@ -125,7 +125,7 @@ fn read_list_from<H, D: Disk, E: Sink>(
     let mut piece = new_piece(host.program.alloc)?;
     let piece = piece.as_mut_slice();
     let Some(list) = read_whole(host.program.alloc, file, piece, most)? else {
-        warn_of_file(host, file.reason(), messages, name)?;
+        warn_of_file(host, file.last_error(), messages, name)?;
         return Ok(None);
     };
     if list.len() > most {

@@ -9,7 +9,7 @@ ghost use Rattle.std.specs.Io.KnownBytes.{Appends};
 ghost use Rattle.blake2_streams.specs.Streams.{GivesAll};
 ghost use Rattle.std.specs.Result.{result_ok};
 ghost use Rattle.b2sum_commands.specs.declared.sums.Read.TheVariants.{Whole, Missing, Failed};
-ghost use Rattle.b2sum_commands.specs.Messages.{is_dash};
+ghost use Rattle.b2sum_commands.specs.Messages.{is_standard_input};
 ghost use Rattle.b2sum_commands.specs.World.{world_of, AllInTurn, KeepsOutput, StopsIn};
 ghost use Rattle.b2sum_commands.specs.PrintedSums.{ReadsAs, LeavesInput, IsMissing, IsSum};
 ghost use Rattle.b2sum_commands.specs.PrintedSums.{ended_line, IsKept, TellsCause};
@@ -46,22 +46,22 @@ pub(crate) fn digest_file<H: Hashes, D: Disk, K: Output, E: Sink>(
     out: &mut [u8; 64],
 ) -> Result<Read, Fault>
     ensures whole { IfOk result (λ read. read ≡ Whole → (text : List ℕ)
-        × ReadsAs (is_dash name.now) ((D.files host.now.disk).holds name.now)
+        × ReadsAs (is_standard_input name.now) ((D.files host.now.disk).holds name.now)
         session.old.left session.new.left text
         × (take function.bytes out.new ≡ H.hashing.digest options.now function text)) }
     ensures missing { IfOk result (λ read. read ≡ Missing → (options.now.ignores_missing ≡ true)
-        × (is_dash name.now ≡ false) × IsMissing (D.files host.now.disk) name.now) }
+        × (is_standard_input name.now ≡ false) × IsMissing (D.files host.now.disk) name.now) }
     ensures told { IfOk result (λ read. read ≡ Failed → TellsCause
         (world_of host.now.program.name.items D.File.named D.File.failed D.File.failure
         (D.files host.now.disk) H.hashing)
         options.now function name.now session.old session.new) }
     ensures silent { IfOk result (λ read. read ≢ Failed → session.new.told ≡ session.old.told) }
-    ensures leaves { LeavesInput (is_dash name.now) session.old.left session.new.left }
+    ensures leaves { LeavesInput (is_standard_input name.now) session.old.left session.new.left }
     ensures output { KeepsOutput session.old session.new }
     ensures memory { IsOkUnless result Fault.NoMemory }
 {
     let hashes = &host.hashes;
-    if is_dash(name) {
+    if is_standard_input(name) {
         let input = &mut session.input;
         let buffer = session.buffer.as_mut_slice();
         if let Err(error) = digest_open(hashes, options, function, input, buffer, out) {
@@ -109,7 +109,7 @@ fn digest_open<H: Hashes, F: OpenFile>(
     ensures name { F.named source.new ≡ F.named source.old }
 {
     if source.failed() {
-        return Err(source.reason());
+        return Err(source.last_error());
     }
     if hashes
         .digest_source(options, function, source, buffer, out)
@@ -117,7 +117,7 @@ fn digest_open<H: Hashes, F: OpenFile>(
     {
         return Ok(());
     }
-    Err(source.reason())
+    Err(source.last_error())
 }
 
 /// Prints the line of each file, and nothing else. Returns whether all were read. A file that
@@ -289,8 +289,8 @@ fn copied(alloc: Global, bytes: &[u8]) -> Result<Vec<u8>, Fault>
 }
 
 /// Returns whether the name is `-`, which means standard input.
-pub(crate) fn is_dash(name: &[u8]) -> bool
-    ensures { result ≡ is_dash name.now }
+pub(crate) fn is_standard_input(name: &[u8]) -> bool
+    ensures { result ≡ is_standard_input name.now }
 {
     name == b"-".as_slice()
 }

@@ -1,10 +1,11 @@
 //! The values of options.
 
 ghost use Rattle.std.specs.Prelude.{◌≡◌, IfErr, IfOk, Some};
+ghost use Rattle.std.specs.List.{list_all};
 ghost use Rattle.std.specs.Result.{result_ok};
 ghost use Rattle.b2sum_commands.specs.CommandLine.{number_in, without_blanks, without_plus};
 ghost use Rattle.b2sum_commands.specs.CommandLine.{leaf_in, bits_in, bytes_in, algorithm_in};
-ghost use Rattle.b2sum_commands.specs.CommandLine.{text_in, threads_in};
+ghost use Rattle.b2sum_commands.specs.CommandLine.{is_zero, text_in, threads_in};
 ghost use Rattle.b2sum_commands.specs.CommandLineViews.{IsRefusal, IsWrong};
 
 use crate::options::{Stop, joined};
@@ -51,7 +52,11 @@ pub(crate) fn algorithm_of(alloc: Global, value: &[u8]) -> Result<Algorithm, Sto
     Err(Stop::Usage(text))
 }
 
-// Returns the bytes that hexadecimal digits write: at least one.
+// Why a salt and a personalization of zeros are refused: BLAKE2 pads those that are not there with
+// zeros.
+const ZEROS: &[u8] = b"a value of zeros only is the same as none";
+
+// Returns the bytes that hexadecimal digits write: not only zeros.
 pub(crate) fn bytes_of(alloc: Global, line: &[u8], value: &[u8]) -> Result<Vec<u8>, Stop>
     ensures bytes { IfOk result (λ bytes. bytes_in value.now ≡ Some bytes.items) }
     ensures stop { IfErr result (IsWrong (bytes_in value.now)) }
@@ -60,13 +65,30 @@ pub(crate) fn bytes_of(alloc: Global, line: &[u8], value: &[u8]) -> Result<Vec<u
         return Err(wrong_value(alloc, line, value, b"the value has no digits"));
     }
     match hex::decode(alloc, value) {
-        Ok(bytes) => Ok(bytes),
+        Ok(bytes) => {
+            if are_zeros(bytes.as_slice()) {
+                return Err(wrong_value(alloc, line, value, ZEROS));
+            }
+            Ok(bytes)
+        }
         Err(FromHexError::OutOfMemory) => Err(Stop::NoMemory),
         Err(_) => {
             let reason = b"the value is not hexadecimal digits, two for each byte";
             Err(wrong_value(alloc, line, value, reason))
         }
     }
+}
+
+// Returns whether all bytes are zero.
+fn are_zeros(bytes: &[u8]) -> bool
+    ensures { result ≡ list_all is_zero bytes.now }
+{
+    for byte in bytes {
+        if *byte != 0 {
+            return false;
+        }
+    }
+    true
 }
 
 // Returns the bytes of a text: at least one.

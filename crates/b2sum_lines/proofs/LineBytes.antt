@@ -1,6 +1,8 @@
 -- The bytes of a line that is written: no newline and no carriage return, and no comment mark first.
-use Rattle.std.proofs.Common.{◌≡◌, ℕ, ◌*◌, ◌/◌, ◌<◌, ◌≤◌, ◌==◌, Bool, true, false, not, List, [], ◌∷◌}
-use Rattle.std.proofs.Common.{◌++◌, ◌||◌, length, if◌then◌else◌, refl, ◌∙◌, arith, codes, decimal, ◌^◌}
+use Rattle.std.proofs.Common.{◌≡◌, ℕ, ◌*◌, ◌/◌, ◌<◌, ◌≤◌, ◌==◌, Bool, true, false, not, List, []}
+use Rattle.std.proofs.Common.{◌∷◌}
+use Rattle.std.proofs.Common.{◌++◌, ◌||◌, length, if◌then◌else◌, refl, ◌∙◌, arith, codes, decimal}
+use Rattle.std.proofs.Common.{◌^◌}
 use Rattle.std.proofs.lemmas.Bool.{and_from, or_parts}
 use Rattle.std.proofs.lemmas.Bool.Decides.{nat_tests}
 use Rattle.std.proofs.lemmas.Fmt.{decimal_is_IsNumeral}
@@ -10,14 +12,15 @@ use Rattle.std.specs.List.{list_all}
 use Rattle.std.specs.Str.Parse.{AllDigits}
 use Rattle.hex.specs.Hex.{encode_lower, encode_with, IsBytes}
 use Rattle.b2sum_lines.specs.declared.entry.Algorithm.{Algorithm}
-use Rattle.b2sum_lines.specs.declared.entry.Algorithm.TheVariants.{Blake2b, Blake2s, Blake2bp, Blake2sp, Tree}
+use Rattle.b2sum_lines.specs.declared.entry.Algorithm.TheVariants.{Blake2b, Blake2s, Blake2bp}
+use Rattle.b2sum_lines.specs.declared.entry.Algorithm.TheVariants.{Blake2sp, Tree}
 use Rattle.b2sum_lines.specs.declared.entry.Needs.{Needs}
 use Rattle.b2sum_lines.specs.declared.entry.Style.{Style}
 use Rattle.b2sum_lines.specs.declared.entry.Style.TheVariants.{Tagged, Text, Binary, Bare}
 use Rattle.b2sum_lines.specs.ManifestLines.{Line, max_bytes, tag, escape, escaped, needs_escape}
 use Rattle.b2sum_lines.specs.ManifestLines.{HasLeaf}
 use Rattle.b2sum_lines.specs.ManifestLines.{needs_text, part_if, tag_length, body_line, entry_line}
-use Rattle.b2sum_lines.specs.ManifestLines.{name_text, line_mark, is_special, IsWritable}
+use Rattle.b2sum_lines.specs.ManifestLines.{name_text, escape_mark, is_special, IsWritable}
 use Rattle.b2sum_lines.proofs.HexDigits.{digit_passes, digits_pass}
 use Rattle.b2sum_lines.proofs.RoundTrip.{max_fits}
 
@@ -144,7 +147,7 @@ body_begins Bare a digest text are some = digits_begin digest (32 ∷ text) are 
 
 -- The line of an entry has no newline and no carriage return.
 pub line_clear : (e : Line) → IsWritable e → list_all clear (entry_line e) ≡ true
-line_clear e w = both (line_mark e.name) _ (mark_clear (needs_escape e.name))
+line_clear e w = both (escape_mark e.name) _ (mark_clear (needs_escape e.name))
     (body_clear e.style e.algorithm e.digest (name_text e.name) w.are_bytes
     (max_fits e.algorithm (length e.digest) w.fits) w.has_leaf (name_clear e.name))
   where

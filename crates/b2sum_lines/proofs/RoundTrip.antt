@@ -1,5 +1,6 @@
 -- A line that was written is read as its entry.
-use Rattle.std.proofs.Common.{◌≡◌, ℕ, ◌-◌, ◌*◌, ◌/◌, ◌<◌, ◌≤◌, ◌==◌, Bool, true, false, not, List, [], ◌∷◌}
+use Rattle.std.proofs.Common.{◌≡◌, ℕ, ◌-◌, ◌*◌, ◌/◌, ◌<◌, ◌≤◌, ◌==◌, Bool, true, false, not, List}
+use Rattle.std.proofs.Common.{[], ◌∷◌}
 use Rattle.std.proofs.Common.{◌++◌, ◌&&◌, ◌||◌, length, Option, Some, None, refl, sym, ap, ◌∙◌}
 use Rattle.std.proofs.Common.{append_assoc, length-append, arith, rules, eqb-true, codes, decimal}
 use Rattle.std.proofs.Common.{nat_lt, nat_le, ◌^◌, get_or}
@@ -20,7 +21,8 @@ use Rattle.std.specs.Str.{bytes_eq}
 use Rattle.hex.specs.Hex.{encode_lower, encode_with, is_hex_digit, lower_digits, IsBytes}
 use Rattle.hex.proofs.HexLemmas.{decode_of-encode_lower}
 use Rattle.b2sum_lines.specs.declared.entry.Algorithm.{Algorithm}
-use Rattle.b2sum_lines.specs.declared.entry.Algorithm.TheVariants.{Blake2b, Blake2s, Blake2bp, Blake2sp, Tree}
+use Rattle.b2sum_lines.specs.declared.entry.Algorithm.TheVariants.{Blake2b, Blake2s, Blake2bp}
+use Rattle.b2sum_lines.specs.declared.entry.Algorithm.TheVariants.{Blake2sp, Tree}
 use Rattle.b2sum_lines.specs.declared.entry.Needs.{Needs}
 use Rattle.b2sum_lines.specs.declared.entry.Style.{Style}
 use Rattle.b2sum_lines.specs.declared.entry.Style.TheVariants.{Tagged, Text, Binary, Bare}
@@ -34,7 +36,8 @@ use Rattle.b2sum_lines.specs.ManifestLines.{needs_text, needs_at, leaf_value, ta
 use Rattle.b2sum_lines.specs.ManifestLines.{blake2s_tag, part_if, part_or, part_at, with_key}
 use Rattle.b2sum_lines.specs.ManifestLines.{with_salt}
 use Rattle.b2sum_lines.specs.ManifestLines.{with_personal}
-use Rattle.b2sum_lines.specs.ManifestLines.{skip, front, cut_last, unescape_onto, has_zero}
+use Rattle.b2sum_lines.specs.ManifestLines.{drop_while, take_while, split_at_last, unescape_onto}
+use Rattle.b2sum_lines.specs.ManifestLines.{has_zero}
 use Rattle.b2sum_lines.specs.ManifestLines.{name_of, digest_of_digits, checked_digest, two_spaces}
 use Rattle.b2sum_lines.specs.ManifestLines.{mark_style, entry_with, untagged_entry, after_prefix}
 use Rattle.b2sum_lines.specs.ManifestLines.{after_length, after_opening, tagged_text}
@@ -78,7 +81,7 @@ fails b h =
     record { blank = parts.0; mark = parts.1; tagged = parts.2; parenthesis = parts.3 }
 
 skip_digits : (xs ys : List ℕ) → list_all good xs ≡ true
-    → skip is_hex_digit (xs ++ ys) ≡ skip is_hex_digit ys
+    → drop_while is_hex_digit (xs ++ ys) ≡ drop_while is_hex_digit ys
 skip_digits [] ys h = refl
 skip_digits (b ∷ xs) ys h =
     let parts = and_parts (good b) (list_all good xs) h in
@@ -129,8 +132,8 @@ digest_read a bytes are some fits =
 
 -- ---- the parts of an untagged line
 
-front_of : (p : ℕ → Bool) (xs ys : List ℕ) → skip p (xs ++ ys) ≡ ys → front p (xs ++ ys) ≡ xs
-front_of p xs ys e =
+front-append : (p : ℕ → Bool) (xs ys : List ℕ) → drop_while p (xs ++ ys) ≡ ys → take_while p (xs ++ ys) ≡ xs
+front-append p xs ys e =
     let n : length (xs ++ ys) - length ys ≡ length xs = omega (arith, length-append xs ys) in
     rw (e, n) (take_at xs ys (length xs) refl)
 
@@ -148,10 +151,10 @@ untagged_read : (a : Algorithm) (s : Spacing) (is_escaped : Bool) (m : ℕ) (dig
     ≡ entry_with a is_escaped digest (record { style = mark_style m; text = c ∷ text })
 untagged_read a s is_escaped m digest c text are some fits two mark =
     let rest = 32 ∷ m ∷ c ∷ text in
-    let skipped : skip is_hex_digit (encode_lower digest ++ rest) ≡ rest =
+    let skipped : drop_while is_hex_digit (encode_lower digest ++ rest) ≡ rest =
     skip_digits (encode_lower digest) rest (good_digits digest are) in
     rw (
-      front_of is_hex_digit (encode_lower digest) rest skipped,
+      front-append is_hex_digit (encode_lower digest) rest skipped,
       skipped,
       mark,
       digest_read a digest are some fits,
@@ -160,7 +163,7 @@ untagged_read a s is_escaped m digest c text are some fits two mark =
 
 -- ---- the parts of a tagged line
 
-no_parenthesis : (xs : List ℕ) → list_all good xs ≡ true → cut_last 41 xs ≡ None
+no_parenthesis : (xs : List ℕ) → list_all good xs ≡ true → split_at_last 41 xs ≡ None
 no_parenthesis [] h = refl
 no_parenthesis (b ∷ xs) h =
     let parts = and_parts (good b) (list_all good xs) h in
@@ -169,9 +172,9 @@ no_parenthesis (b ∷ xs) h =
 
 -- What follows the tag, cut at the last parenthesis.
 tag_cut : (before digits : List ℕ) → list_all good digits ≡ true
-    → cut_last 41 (before ++ (41 ∷ 32 ∷ 61 ∷ 32 ∷ digits)) ≡ Some (before, 32 ∷ 61 ∷ 32 ∷ digits)
+    → split_at_last 41 (before ++ (41 ∷ 32 ∷ 61 ∷ 32 ∷ digits)) ≡ Some (before, 32 ∷ 61 ∷ 32 ∷ digits)
 tag_cut before digits h =
-    let none : cut_last 41 (32 ∷ 61 ∷ 32 ∷ digits) ≡ None = rw (no_parenthesis digits h) refl in
+    let none : split_at_last 41 (32 ∷ 61 ∷ 32 ∷ digits) ≡ None = rw (no_parenthesis digits h) refl in
     cut_front 41 before (32 ∷ 61 ∷ 32 ∷ digits) refl none
 
 -- The text of a name behind the length of the digest.
@@ -187,7 +190,7 @@ text_read a n text = go (n == max_bytes a) refl
         (prefix_found (45 ∷ decimal (8 * n)) (32 ∷ 40 ∷ text)))
 
 digits_alone : (digest : List ℕ) → IsBytes digest → 0 < length digest
-    → skip is_blank (encode_lower digest) ≡ encode_lower digest
+    → drop_while is_blank (encode_lower digest) ≡ encode_lower digest
 unfolding encode_with
 digits_alone [] are some = absurd (omega (arith, some))
 digits_alone (b ∷ bytes) are some =
@@ -246,11 +249,11 @@ record Ends (rest : List ℕ) : Type 0 where
   key : after_prefix (codes "-key") rest ≡ None
   salt : after_prefix (codes "-salt") rest ≡ None
   personal : after_prefix (codes "-personal") rest ≡ None
-  digit : skip is_ascii_digit rest ≡ rest
+  digit : drop_while is_ascii_digit rest ≡ rest
 
 -- A text that a hyphen and a digit begin.
-ends_digit : (d : ℕ) (rest : List ℕ) → 48 ≤ d → d ≤ 57 → Ends (45 ∷ d ∷ rest)
-ends_digit d rest low high =
+ends_before_digit : (d : ℕ) (rest : List ℕ) → 48 ≤ d → d ≤ 57 → Ends (45 ∷ d ∷ rest)
+ends_before_digit d rest low high =
     let tree : (d == 116) ≡ false = other d 116 (omega (arith, high)) in
     let key : (d == 107) ≡ false = other d 107 (omega (arith, high)) in
     let salt : (d == 115) ≡ false = other d 115 (omega (arith, high)) in
@@ -276,7 +279,7 @@ length_ends a n rest fits = go (n == max_bytes a) refl
     first [] some each = absurd (omega (arith, some))
     first (d ∷ ds) some each =
         let is = digit_from_value d each.0 in
-        ends_digit d (ds ++ (32 ∷ rest)) is.0 is.1
+        ends_before_digit d (ds ++ (32 ∷ rest)) is.0 is.1
 
     go : (b : Bool) → (n == max_bytes a) ≡ b → Ends (tag_length a n ++ (32 ∷ rest))
     go true is = rw is (record {
@@ -329,7 +332,7 @@ needs_read needs rest ends =
 needs_end : (needs : Needs) (rest : List ℕ) → Ends rest
     → (after_prefix (codes "p") (needs_text needs ++ rest) ≡ None)
     × (after_prefix (codes "-tree-") (needs_text needs ++ rest) ≡ None)
-    × (skip is_ascii_digit (needs_text needs ++ rest) ≡ needs_text needs ++ rest)
+    × (drop_while is_ascii_digit (needs_text needs ++ rest) ≡ needs_text needs ++ rest)
 needs_end needs rest ends = go needs.key needs.salt needs.personal
   where
     go : (key salt personal : Bool)
@@ -337,7 +340,7 @@ needs_end needs rest ends = go needs.key needs.salt needs.personal
         (needs_text (record { key = key; salt = salt; personal = personal }) ++ rest) ≡ None)
         × (after_prefix (codes "-tree-")
         (needs_text (record { key = key; salt = salt; personal = personal }) ++ rest) ≡ None)
-        × (skip is_ascii_digit
+        × (drop_while is_ascii_digit
         (needs_text (record { key = key; salt = salt; personal = personal }) ++ rest)
         ≡ needs_text (record { key = key; salt = salt; personal = personal }) ++ rest)
     go true salt personal = (refl, refl, refl)
@@ -346,7 +349,7 @@ needs_end needs rest ends = go needs.key needs.salt needs.personal
     go false false false = (ends.parallel, ends.tree, ends.digit)
 
 skip_decimal : (xs ys : List ℕ) → list_all is_ascii_digit xs ≡ true
-    → skip is_ascii_digit (xs ++ ys) ≡ skip is_ascii_digit ys
+    → drop_while is_ascii_digit (xs ++ ys) ≡ drop_while is_ascii_digit ys
 skip_decimal [] ys h = refl
 skip_decimal (b ∷ xs) ys h =
     let parts = and_parts (is_ascii_digit b) (list_all is_ascii_digit xs) h in
@@ -379,19 +382,19 @@ leaf_read leaf some fits =
 -- The name of an algorithm is read.
 algorithm_read : (a : Algorithm) (rest : List ℕ) → HasLeaf a
     → (after_prefix (codes "p") rest ≡ None) → (after_prefix (codes "-tree-") rest ≡ None)
-    → (skip is_ascii_digit rest ≡ rest) → tag_at (tag a ++ rest) ≡ Some (a, rest)
+    → (drop_while is_ascii_digit rest ≡ rest) → tag_at (tag a ++ rest) ≡ Some (a, rest)
 algorithm_read Blake2b rest leaf parallel tree digit = rw (parallel, tree) refl
 algorithm_read Blake2s rest leaf parallel tree digit = rw (parallel) refl
 algorithm_read Blake2bp rest leaf parallel tree digit = refl
 algorithm_read Blake2sp rest leaf parallel tree digit = refl
 algorithm_read (Tree n) rest leaf parallel tree digit =
     let read = leaf_read n leaf.0 leaf.1 in
-    let skipped : skip is_ascii_digit (decimal n ++ rest) ≡ rest =
+    let skipped : drop_while is_ascii_digit (decimal n ++ rest) ≡ rest =
     skip_decimal (decimal n) rest read.0 ∙ digit in
     ap (λ (xs : List ℕ). option_map
-    (λ (leaf : ℕ). (Tree leaf, skip is_ascii_digit (decimal n ++ rest))) (leaf_value xs))
-    (front_of is_ascii_digit (decimal n) rest skipped)
-    ∙ ap (option_map (λ (leaf : ℕ). (Tree leaf, skip is_ascii_digit (decimal n ++ rest)))) read.1
+    (λ (leaf : ℕ). (Tree leaf, drop_while is_ascii_digit (decimal n ++ rest))) (leaf_value xs))
+    (front-append is_ascii_digit (decimal n) rest skipped)
+    ∙ ap (option_map (λ (leaf : ℕ). (Tree leaf, drop_while is_ascii_digit (decimal n ++ rest)))) read.1
     ∙ ap (λ (xs : List ℕ). Some (Tree n, xs)) skipped
 
 -- ---- whole lines

@@ -1,8 +1,9 @@
 -- Steps of loops over the bytes of a text.
 use Rattle.std.proofs.Common.{◌≡◌, ℕ, ◌+◌, ◌<◌, ◌==◌, true, List, [], ◌∷◌, ◌++◌, length}
-use Rattle.std.proofs.Common.{take, drop, get_or, Some, None, refl, sym, ap, ◌∙◌, add-one, drop-cons}
+use Rattle.std.proofs.Common.{take, drop, get_or, Some, None, refl, sym, ap, ◌∙◌, add-one}
+use Rattle.std.proofs.Common.{drop-cons}
 use Rattle.std.proofs.lemmas.List.{take-append-drop}
-use Rattle.b2sum_lines.specs.ManifestLines.{cut_last}
+use Rattle.b2sum_lines.specs.ManifestLines.{split_at_last}
 
 -- The rest of a text from an index is the byte there and the rest after it.
 pub rest_is : (text : List ℕ) (i : ℕ) → i < length text
@@ -11,16 +12,16 @@ rest_is text i below = rw (add-one) (drop-cons text i 0 below)
 
 -- A text is cut at a byte with none like it behind.
 pub cut_front : (byte : ℕ) (front rest : List ℕ) → (byte == byte) ≡ true
-    → cut_last byte rest ≡ None
-    → cut_last byte (front ++ (byte ∷ rest)) ≡ Some (front, rest)
+    → split_at_last byte rest ≡ None
+    → split_at_last byte (front ++ (byte ∷ rest)) ≡ Some (front, rest)
 cut_front byte [] rest same none = rw (none, same) refl
 cut_front byte (b ∷ front) rest same none = rw (cut_front byte front rest same none) refl
 
 pub cut_found : (byte : ℕ) (text : List ℕ) (i : ℕ) → i < length text
-    → get_or text i 0 ≡ byte → (byte == byte) ≡ true → cut_last byte (drop (i + 1) text) ≡ None
-    → cut_last byte text ≡ Some (take i text, drop (i + 1) text)
+    → get_or text i 0 ≡ byte → (byte == byte) ≡ true → split_at_last byte (drop (i + 1) text) ≡ None
+    → split_at_last byte text ≡ Some (take i text, drop (i + 1) text)
 cut_found byte text i below is same none =
-    ap (cut_last byte) (sym (take-append-drop i text)
+    ap (split_at_last byte) (sym (take-append-drop i text)
     ∙ ap (λ xs. take i text ++ xs) (rest_is text i below
     ∙ ap (λ b. b ∷ drop (i + 1) text) is))
     ∙ cut_front byte (take i text) (drop (i + 1) text) same none

@@ -84,8 +84,8 @@ abbrev pub needs_escape : List ℕ → Bool
 needs_escape name = list_any is_special name
 
 -- The backslash at the front of the line of an escaped name.
-abbrev pub line_mark : List ℕ → List ℕ
-line_mark name = if needs_escape name then 92 ∷ [] else []
+abbrev pub escape_mark : List ℕ → List ℕ
+escape_mark name = if needs_escape name then 92 ∷ [] else []
 
 -- A name as a line has it.
 abbrev pub name_text : List ℕ → List ℕ
@@ -106,7 +106,7 @@ body_line Bare a digest text = encode_lower digest ++ (32 ∷ text)
 
 -- The line of an entry, without its newline.
 abbrev pub entry_line : Line → List ℕ
-entry_line e = line_mark e.name ++ body_line e.style e.algorithm e.digest (name_text e.name)
+entry_line e = escape_mark e.name ++ body_line e.style e.algorithm e.digest (name_text e.name)
 
 -- The line of an entry whose name is written as it is, for lines that end with a zero byte.
 abbrev pub plain_line : Line → List ℕ
@@ -117,27 +117,27 @@ abbrev pub is_blank : ℕ → Bool
 is_blank b = (b == 32) || (b == 9)
 
 -- What follows the bytes that pass the test.
-abbrev pub skip : (ℕ → Bool) → List ℕ → List ℕ
-skip p [] = []
-skip p (b ∷ rest) = if p b then skip p rest else b ∷ rest
+abbrev pub drop_while : (ℕ → Bool) → List ℕ → List ℕ
+drop_while p [] = []
+drop_while p (b ∷ rest) = if p b then drop_while p rest else b ∷ rest
 
 -- The bytes at the front that pass the test.
-abbrev pub front : (ℕ → Bool) → List ℕ → List ℕ
-front p text = take (length text - length (skip p text)) text
+abbrev pub take_while : (ℕ → Bool) → List ℕ → List ℕ
+take_while p text = take (length text - length (drop_while p text)) text
 
 -- Puts a byte before the first part.
-abbrev pub onto_part : ℕ → List ℕ × List ℕ → List ℕ × List ℕ
-onto_part b parts = (b ∷ parts.0, parts.1)
+abbrev pub prepend_to_first : ℕ → List ℕ × List ℕ → List ℕ × List ℕ
+prepend_to_first b parts = (b ∷ parts.0, parts.1)
 
 -- The parts around a byte, if the first part has been cut from what follows it.
 abbrev pub cut_here : ℕ → ℕ → List ℕ → Option (List ℕ × List ℕ) → Option (List ℕ × List ℕ)
-cut_here byte b rest (Some parts) = Some (onto_part b parts)
+cut_here byte b rest (Some parts) = Some (prepend_to_first b parts)
 cut_here byte b rest None = if b == byte then Some ([], rest) else None
 
 -- What is before the last such byte, and what is after it.
-abbrev pub cut_last : ℕ → List ℕ → Option (List ℕ × List ℕ)
-cut_last byte [] = None
-cut_last byte (b ∷ rest) = cut_here byte b rest (cut_last byte rest)
+abbrev pub split_at_last : ℕ → List ℕ → Option (List ℕ × List ℕ)
+split_at_last byte [] = None
+split_at_last byte (b ∷ rest) = cut_here byte b rest (split_at_last byte rest)
 
 -- The byte that a backslash and this byte stand for.
 abbrev pub escape_value : ℕ → Option ℕ
@@ -227,7 +227,8 @@ entry_with a is_escaped digest named =
 abbrev pub untagged_entry : Algorithm → Spacing → Bool → List ℕ → Option Line
 untagged_entry a spacing is_escaped line =
     option_and_then (λ digest. option_and_then (entry_with a is_escaped digest)
-    (after_digits spacing (skip is_hex_digit line))) (digest_of_digits a (front is_hex_digit line))
+    (after_digits spacing (drop_while is_hex_digit line)))
+    (digest_of_digits a (take_while is_hex_digit line))
 
 -- What follows these bytes at the front of a text.
 abbrev pub after_prefix : List ℕ → List ℕ → Option (List ℕ)
@@ -249,8 +250,8 @@ leaf_value digits = if is_leaf digits then Some (digits_value 10 digits) else No
 -- that.
 abbrev pub tree_tag : List ℕ → Option (Algorithm × List ℕ)
 tree_tag text =
-    option_map (λ leaf. (Tree leaf, skip is_ascii_digit text))
-    (leaf_value (front is_ascii_digit text))
+    option_map (λ leaf. (Tree leaf, drop_while is_ascii_digit text))
+    (leaf_value (take_while is_ascii_digit text))
 
 -- The algorithm whose name goes on so after `BLAKE2b`, and what follows its name. What follows
 -- `-tree-` is given, if that is there.
@@ -330,7 +331,7 @@ tagged_text a n text =
 -- The digits after the last parenthesis: blanks, `=`, blanks, digits.
 abbrev pub after_equals : List ℕ → Option (List ℕ)
 after_equals [] = None
-after_equals (b ∷ rest) = if b == 61 then Some (skip is_blank rest) else None
+after_equals (b ∷ rest) = if b == 61 then Some (drop_while is_blank rest) else None
 
 -- The entry of what follows such a tag, cut at the last parenthesis.
 abbrev pub tagged_parts : Algorithm → Needs → Bool → List ℕ × List ℕ → Option Line
@@ -338,12 +339,12 @@ tagged_parts a needs is_escaped parts =
     option_and_then (λ digits. option_and_then (λ digest. option_and_then
     (λ text. entry_with a is_escaped digest (record { style = Tagged needs; text = text }))
     (tagged_text a (length digest) parts.0)) (digest_of_digits a digits))
-    (after_equals (skip is_blank parts.1))
+    (after_equals (drop_while is_blank parts.1))
 
 -- The entry of an algorithm with what its tag needs, and what follows that.
 abbrev pub tagged_entry : Algorithm → Bool → Needs × List ℕ → Option Line
 tagged_entry a is_escaped tag =
-    option_and_then (tagged_parts a tag.0 is_escaped) (cut_last 41 tag.1)
+    option_and_then (tagged_parts a tag.0 is_escaped) (split_at_last 41 tag.1)
 
 -- The entry of a line without its mark: a tagged line, if there is a tag, whose algorithm is that
 -- of the tag. A tree has no other lines.
@@ -363,7 +364,7 @@ marked_entry a spacing (b ∷ rest) =
 -- The entry that a line is read as, if it is one: that of its tag, or else one of the algorithm.
 -- The line has no newline.
 abbrev pub line_entry : Algorithm → Spacing → List ℕ → Option Line
-line_entry a spacing line = marked_entry a spacing (skip is_blank line)
+line_entry a spacing line = marked_entry a spacing (drop_while is_blank line)
 
 -- The line of this style is tagged.
 abbrev pub is_tagged : Style → Bool

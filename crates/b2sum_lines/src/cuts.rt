@@ -4,7 +4,8 @@ ghost use Rattle.std.specs.Prelude.{◌≡◌, ◌≤◌, length};
 ghost use Rattle.std.specs.Option.{option_map};
 ghost use Rattle.std.specs.Char.{is_ascii_digit};
 ghost use Rattle.hex.specs.Hex.{is_hex_digit};
-ghost use Rattle.b2sum_lines.specs.ManifestLines.{is_blank, skip, cut_last, after_prefix};
+ghost use Rattle.b2sum_lines.specs.ManifestLines.{is_blank, drop_while, split_at_last};
+ghost use Rattle.b2sum_lines.specs.ManifestLines.{after_prefix};
 
 // Returns whether the byte is a space or a tab.
 fn is_blank(byte: u8) -> bool
@@ -22,7 +23,7 @@ fn is_digit(byte: u8) -> bool
 
 /// Returns what follows the spaces and tabs at the front.
 pub(crate) fn skip_blanks(text: &[u8]) -> &[u8]
-    ensures { result.now ≡ skip is_blank text.now }
+    ensures { result.now ≡ drop_while is_blank text.now }
 {
     for (i, byte) in text.iter().enumerate() {
         if !is_blank(*byte) {
@@ -34,7 +35,7 @@ pub(crate) fn skip_blanks(text: &[u8]) -> &[u8]
 
 /// Returns what follows the hexadecimal digits at the front.
 pub(crate) fn skip_digits(text: &[u8]) -> &[u8]
-    ensures rest { result.now ≡ skip is_hex_digit text.now }
+    ensures rest { result.now ≡ drop_while is_hex_digit text.now }
     ensures shorter { length result.now ≤ length text.now }
 {
     for (i, byte) in text.iter().enumerate() {
@@ -47,7 +48,7 @@ pub(crate) fn skip_digits(text: &[u8]) -> &[u8]
 
 /// Returns what follows the decimal digits at the front.
 pub(crate) fn skip_decimals(text: &[u8]) -> &[u8]
-    ensures rest { result.now ≡ skip is_ascii_digit text.now }
+    ensures rest { result.now ≡ drop_while is_ascii_digit text.now }
     ensures shorter { length result.now ≤ length text.now }
 {
     for (i, byte) in text.iter().enumerate() {
@@ -59,8 +60,9 @@ pub(crate) fn skip_decimals(text: &[u8]) -> &[u8]
 }
 
 /// Returns what is before the last such byte and what is after it, or `None` if there is none.
-pub(crate) fn cut_last(text: &[u8], byte: u8) -> Option<(&[u8], &[u8])>
-    ensures { option_map (λ parts. (parts.0.now, parts.1.now)) result ≡ cut_last byte text.now }
+pub(crate) fn split_at_last(text: &[u8], byte: u8) -> Option<(&[u8], &[u8])>
+    ensures { option_map (λ parts. (parts.0.now, parts.1.now)) result
+        ≡ split_at_last byte text.now }
 {
     let mut at = text.len();
     'searching: while at > 0 {

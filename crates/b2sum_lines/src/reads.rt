@@ -12,7 +12,7 @@ ghost use Rattle.b2sum_lines.specs.ManifestLines.{after_prefix};
 ghost use Rattle.b2sum_lines.specs.ManifestLines.{tag_at, needs_at};
 ghost use Rattle.b2sum_lines.specs.EntryViews.{entry_value};
 
-use crate::cuts::{after_prefix, cut_last, skip_blanks, skip_digits};
+use crate::cuts::{after_prefix, skip_blanks, skip_digits, split_at_last};
 use crate::entry::{Algorithm, Entry, Spacing, Style};
 use crate::names::name_of;
 use crate::tags::{algorithm_of, needs_of};
@@ -95,7 +95,7 @@ fn read_tagged(
     ensures fits { IfOk result (λ entry. IfSome entry (λ e. length e.digest.items ≤ 64)) }
 {
     let (needs, text) = needs_of(text);
-    let Some((front, tail)) = cut_last(text, b')') else {
+    let Some((front, tail)) = split_at_last(text, b')') else {
         return Ok(None);
     };
     let Some(digits) = after_equals(skip_blanks(tail)) else {

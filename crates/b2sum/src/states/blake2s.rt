@@ -47,7 +47,7 @@ impl HashState for State {
         State::zeros()
     }
 
-    fn start(&mut self, given: &StateParameters<'_>) -> bool {
+    fn init_given(&mut self, given: &StateParameters<'_>) -> bool {
         let Ok(started) = State::init_salt_personal(given) else {
             return false;
         };

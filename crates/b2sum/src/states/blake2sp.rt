@@ -45,7 +45,7 @@ impl HashState for State {
         State::zeros()
     }
 
-    fn start(&mut self, given: &StateParameters<'_>) -> bool {
+    fn init_given(&mut self, given: &StateParameters<'_>) -> bool {
         let StateParameters {
             output_size,
             key,

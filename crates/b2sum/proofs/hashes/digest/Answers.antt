@@ -1,4 +1,5 @@
-use Rattle.std.proofs.Common.{◌≡◌, ℕ, ◌+◌, ◌<◌, ◌∙◌, ap, refl, Bool, true, false, List, ◌++◌, length}
+use Rattle.std.proofs.Common.{◌≡◌, ℕ, ◌+◌, ◌<◌, ◌∙◌, ap, refl, Bool, true, false, List, ◌++◌}
+use Rattle.std.proofs.Common.{length}
 use Rattle.std.proofs.Common.{append-nil, arith, inl, inr}
 use Rattle.std.specs.Prelude.{Option, Some, None, IfSome, Ok}
 use Rattle.blake2_streams.specs.Streams.{GivesAll}
@@ -25,7 +26,7 @@ whole_fits (Some bytes) (Some rest) text failed accepted counted limit all fits 
 
 pub returns-clause-too_long : goal.returns-clause-too_long
 returns-clause-too_long g c =
-    let all = c.if-not-absorb.ensures.whole refl in
+    let all = c.if-not-absorb_source.ensures.whole refl in
     whole_fits _ _ all.0 _ _ _ _ all.1
-    (omega (arith, all.2, c.if-not-start.ensures.count refl))
-    (λ no. let bad : true ≡ false = c.if-not-start.ensures.refused.1 no in cc)
+    (omega (arith, all.2, c.if-not-init_state.ensures.count refl))
+    (λ no. let bad : true ≡ false = c.if-not-init_state.ensures.refused.1 no in cc)

@@ -1,4 +1,5 @@
-use Rattle.std.proofs.Common.{◌≡◌, ℕ, List, Option, Result, Ok, length, take, ap, ◌∙◌, sym, subst, rules}
+use Rattle.std.proofs.Common.{◌≡◌, ℕ, List, Option, Result, Ok, length, take, ap, ◌∙◌, sym, subst}
+use Rattle.std.proofs.Common.{rules}
 use Rattle.b2sum_lines.specs.EntryViews.{entry_value}
 use Rattle.b2sum_lines.specs.ManifestLines.{Line}
 use Rattle.b2sum_commands.specs.World.{world_of, Streams, StopsIn}

@@ -39,8 +39,8 @@ returns-in-Comment-clause-checked g c =
     comment_line w c.args.options.now c.args.is_input c.args.line.now c.args.session.now
     c.pass_line.new.session p.is p.at
 
-pub returns-in-Unmet-clause-checked : goal.returns-in-Unmet-clause-checked
-returns-in-Unmet-clause-checked g c =
+pub returns-in_ok-warn_of_unmet-in-Unmet-clause-checked : goal.returns-in_ok-warn_of_unmet-in-Unmet-clause-checked
+returns-in_ok-warn_of_unmet-in-Unmet-clause-checked g c =
     let w = world_of c.args.host.now.program.name.items g.D.File.OpenFile.named
     g.D.File.OpenFile.failed g.D.File.OpenFile.failure (g.D.Disk.files c.args.host.now.disk)
     g.H.Hashes.hashing in
@@ -48,7 +48,8 @@ returns-in-Unmet-clause-checked g c =
     c.pass_line.new.session c.spacing-spacing.result c.in_ok-item.item _ c.spacing-spacing.ensures
     c.in_ok-item.ensures.is c.pass_line.ensures (ap item_value c.in-Unmet.is) in
     unmet_line w c.args.options.now c.args.is_input c.args.line.now c.args.session.now
-    c.pass_line.new.session c.in-Unmet.lacks p.is p.at
+    c.pass_line.new.session c.warn_of_unmet.new.session c.in-Unmet.lacks p.is p.at
+    c.warn_of_unmet.ensures.only c.in_ok-warn_of_unmet-in-Unmet.ensures.told
 
 pub returns-in-Listed-clause-checked : goal.returns-in-Listed-clause-checked
 returns-in-Listed-clause-checked g c =

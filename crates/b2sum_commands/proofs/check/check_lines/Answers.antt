@@ -1,4 +1,5 @@
-use Rattle.std.proofs.Common.{◌≡◌, ◌⊎◌, ◌==◌, inl, inr, ◌<◌, Bool, length, [], List, ℕ, Option, refl, ap, ◌∙◌, subst, is_none, rules}
+use Rattle.std.proofs.Common.{◌≡◌, ◌⊎◌, ◌==◌, inl, inr, ◌<◌, Bool, length, [], List, ℕ, Option}
+use Rattle.std.proofs.Common.{refl, ap, ◌∙◌, subst, is_none, rules}
 use Rattle.std.specs.Io.KnownBytes.{Consumes}
 use Rattle.b2sum_commands.specs.World.{Streams}
 use Rattle.b2sum_commands.specs.LineReads.{source_left, source_name, IsAfter}

@@ -1,18 +1,22 @@
 use Rattle.std.proofs.Common.{◌≡◌, ℕ, Bool, List, Option, true, false, ap, refl, rules, subst, sym}
-use Rattle.b2sum_commands.specs.Messages.{is_dash}
+use Rattle.b2sum_commands.specs.Messages.{is_standard_input}
 use Rattle.b2sum_commands.specs.ProgramRuns.{IsPastKey}
 use Rattle.b2sum_commands.specs.World.{Streams, world_of}
-use Rattle.b2sum_commands.proofs.KeyFiles.{OpenLacks, both_found, file_lacks, input_lacks, none_found}
+use Rattle.b2sum_commands.proofs.KeyFiles.{OpenLacks, both_found, file_lacks, input_lacks}
+use Rattle.b2sum_commands.proofs.KeyFiles.{none_found}
 use Rattle.b2sum_commands.proofs.StandardInputName.{dash_name}
 use Rattle.b2sum_commands.proofs.key.read_key.Goals as goal
 
-pub read_key_from-requires : goal.read_key_from-requires
-read_key_from-requires g c =
-    dash_name c.args.name.now (g.D.File.OpenFile.named c.session.inside.input) c.session.invariant.2
-    (search (rules, c.if-is_dash.true, c.is_dash.ensures))
+pub read_key_from-requires-clause-most : goal.read_key_from-requires-clause-most
+read_key_from-requires-clause-most g c = c.requires.most
 
-pub returns-then-is_dash-clause-told : goal.returns-then-is_dash-clause-told
-returns-then-is_dash-clause-told g c =
+pub read_key_from-requires-clause-named : goal.read_key_from-requires-clause-named
+read_key_from-requires-clause-named g c =
+    dash_name c.args.name.now (g.D.File.OpenFile.named c.session.inside.input) c.session.invariant.2
+    (search (rules, c.if-is_standard_input.true, c.is_standard_input.ensures))
+
+pub returns-then-is_standard_input-clause-told : goal.returns-then-is_standard_input-clause-told
+returns-then-is_standard_input-clause-told g c =
     let w = world_of c.args.host.now.program.name.items g.D.File.OpenFile.named
     g.D.File.OpenFile.failed g.D.File.OpenFile.failure (g.D.Disk.files c.args.host.now.disk)
     g.H.Hashes.hashing in
@@ -22,17 +26,17 @@ returns-then-is_dash-clause-told g c =
       told = g.E.Sink.held c.read_key_from.new.messages;
       messages_failed = g.E.Sink.failed c.read_key_from.new.messages;
     } in
-    let dash : is_dash name ≡ true = search (rules, c.if-is_dash.true, c.is_dash.ensures) in
-    none_found c.read_key_from.result _ _ (λ told. input_lacks w name c.args.most old new dash
-    (subst (λ (s : Streams). OpenLacks w name c.args.most s.left s new) c.session.view_is told))
+    let dash : is_standard_input name ≡ true = search (rules, c.if-is_standard_input.true, c.is_standard_input.ensures) in
+    none_found c.read_key_from.result _ _ (λ told. input_lacks w name c.args.form.is_hex c.args.form.most old new dash
+    (subst (λ (s : Streams). OpenLacks w name c.args.form.is_hex c.args.form.most s.left s new) c.session.view_is told))
     c.read_key_from.ensures.told
 
-pub returns-then-is_dash-clause-kept : goal.returns-then-is_dash-clause-kept
-returns-then-is_dash-clause-kept g c =
+pub returns-then-is_standard_input-clause-kept : goal.returns-then-is_standard_input-clause-kept
+returns-then-is_standard_input-clause-kept g c =
     let name : List ℕ = c.args.name.now in
     let old : Streams = c.args.session.now in
     let left : Option (List ℕ) = g.D.File.OpenFile.left c.read_key_from.new.file in
-    let dash : is_dash name ≡ true = search (rules, c.if-is_dash.true, c.is_dash.ensures) in
+    let dash : is_standard_input name ≡ true = search (rules, c.if-is_standard_input.true, c.is_standard_input.ensures) in
     both_found c.read_key_from.result _ _ _ (λ key past same. (
       left,
       search (rules, same, c.session.view_is),
@@ -53,17 +57,17 @@ returns-in-Ok-clause-told g c =
       messages_failed = g.E.Sink.failed c.read_key_from-in-Ok.new.messages;
     } in
     let left : Option (List ℕ) = g.D.File.OpenFile.left c.in-Ok.file in
-    let other : is_dash name ≡ false = search (rules, c.if-is_dash.false, c.is_dash.ensures) in
-    none_found c.read_key_from-in-Ok.result _ _ (λ told. file_lacks w name c.args.most left old new
+    let other : is_standard_input name ≡ false = search (rules, c.if-is_standard_input.false, c.is_standard_input.ensures) in
+    none_found c.read_key_from-in-Ok.result _ _ (λ told. file_lacks w name c.args.form.is_hex c.args.form.most left old new
     other c.in-Ok.ensures.bytes
-    (subst (λ (s : Streams). OpenLacks w name c.args.most left s new) c.session.view_is told))
+    (subst (λ (s : Streams). OpenLacks w name c.args.form.is_hex c.args.form.most left s new) c.session.view_is told))
     c.read_key_from-in-Ok.ensures.told
 
 pub returns-in-Ok-clause-kept : goal.returns-in-Ok-clause-kept
 returns-in-Ok-clause-kept g c =
     let name : List ℕ = c.args.name.now in
     let old : Streams = c.args.session.now in
-    let other : is_dash name ≡ false = search (rules, c.if-is_dash.false, c.is_dash.ensures) in
+    let other : is_standard_input name ≡ false = search (rules, c.if-is_standard_input.false, c.is_standard_input.ensures) in
     both_found c.read_key_from-in-Ok.result _ _ _ (λ key past same. (
       old.left,
       search (rules, same, c.session.view_is),

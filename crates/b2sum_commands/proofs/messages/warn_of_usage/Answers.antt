@@ -11,4 +11,4 @@ returns-clause-said g c =
     ∙ ap (λ (l : List ℕ). l ++ c.as_slice.result.now) c.in_ok-lines.ensures
     ∙ ap (λ (l : List ℕ). first ++ l) (c.as_slice.ensures.value ∙ c.in_ok-joined.ensures
     ∙ ap (λ (n : List ℕ). codes "Try '" ++ (n ++ codes " --help' for more information.\n"))
-    c.as_slice-name.ensures.value)) c.tell.ensures
+    c.as_slice-name.ensures.value)) c.print_message.ensures

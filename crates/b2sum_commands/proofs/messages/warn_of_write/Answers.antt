@@ -1,4 +1,5 @@
-use Rattle.std.proofs.Common.{◌≡◌, ◌++◌, ◌∷◌, [], ℕ, List, None, Some, ap, codes, inl, inr, refl, subst, ◌∙◌}
+use Rattle.std.proofs.Common.{◌≡◌, ◌++◌, ◌∷◌, [], ℕ, List, None, Some, ap, codes, inl, inr, refl}
+use Rattle.std.proofs.Common.{subst, ◌∙◌}
 use Rattle.b2sum_commands.specs.Messages.{WriteFailed, line}
 use Rattle.b2sum_commands.specs.World.{IsWritten}
 use Rattle.b2sum_commands.proofs.messages.warn_of_write.Goals as goal
@@ -13,7 +14,7 @@ returns-in-Ok g c =
     let text = c.in-Ok.ensures in (
       WriteFailed (Some text.0),
       inr (text.0, text.1, refl),
-      subst (IsWritten _ _ _ _) (c.as_slice.ensures.value ∙ text.2) c.tell.ensures,
+      subst (IsWritten _ _ _ _) (c.as_slice.ensures.value ∙ text.2) c.print_message.ensures,
     )
 
 pub returns-in-Err : goal.returns-in-Err

@@ -38,7 +38,7 @@ returns-in-Err-WriteFailed-clause-line g c =
     ended_run w _ _ _ c.args.session.now c.run_words.new.session new None
     c.in-Err-WriteFailed.ensures.line refl
     (subst (λ (mid : Streams). IsEnded w mid new) c.session.view_is
-    (ended_by_write w _ new c.reason-error.result failed (c.reason-error.ensures failed)
+    (ended_by_write w _ new c.last_error-error.result failed (c.last_error-error.ensures failed)
     c.warn_of_write.ensures refl))
 
 pub returns-in-Err-WriteFailed-clause-refused : goal.returns-in-Err-WriteFailed-clause-refused

@@ -1,4 +1,5 @@
-use Rattle.std.proofs.Common.{◌≡◌, List, Vec, ℕ, Global, inl, inr, refl, IfSome, subst, ap, ◌∙◌, rules}
+use Rattle.std.proofs.Common.{◌≡◌, List, Vec, ℕ, Global, inl, inr, refl, IfSome, subst, ap, ◌∙◌}
+use Rattle.std.proofs.Common.{rules}
 use Rattle.b2sum_lines.specs.ManifestLines.{max_bytes}
 use Rattle.std.specs.Result.{result_ok}
 use Rattle.b2sum_commands.specs.declared.options.Options.{Options}
@@ -7,7 +8,7 @@ use Rattle.b2sum_commands.specs.World.{world_of, AllInTurn}
 use Rattle.b2sum_commands.specs.SealedLists.{ArePrinted, IsCheckedAs}
 use Rattle.b2sum_commands.specs.AcceptedOptions.{AreOptions}
 use Rattle.std.specs.Option.{option_map}
-use Rattle.b2sum_commands.specs.ProgramRuns.{HasKey, AfterKey, IsKeyless, DoesChoice}
+use Rattle.b2sum_commands.specs.ProgramRuns.{HasKey, TakesKey, IsKeyless, DoesChoice}
 use Rattle.b2sum_commands.specs.ProgramRuns.{are_short_macs}
 use Rattle.b2sum_commands.proofs.EndedByErrors.{stops}
 use Rattle.b2sum_commands.proofs.DoneInTurn.{items_of}
@@ -22,7 +23,7 @@ returns-in_default-clause-choice g c = λ ch are given. inr (
   subst (λ file. IsKeyless (world_of c.args.host.now.program.name.items
       g.D.File.OpenFile.named g.D.File.OpenFile.failed
       g.D.File.OpenFile.failure (g.D.Disk.files c.args.host.now.disk)
-      g.H.Hashes.hashing) file (max_bytes c.args.arguments.options.algorithm) c.args.session.now
+      g.H.Hashes.hashing) file c.args.arguments.options.key_is_hex (max_bytes c.args.arguments.options.algorithm) c.args.session.now
       c.with_key.new.session) given (c.in_ok-options.ensures.keyless (search rules)),
 )
 
@@ -38,9 +39,10 @@ returns-then-options-2-clause-choice g c = λ ch are given.
     let chosen : AreOptions ch o × HasKey w old.left ch o =
     subst (λ found. IfSome found (λ (x : Options). AreOptions ch x × HasKey w old.left ch x))
     c.in-Some.is (c.in_ok-options.ensures.options ch are given) in
-    let after : AfterKey ch.key_file old keyed = subst (λ file. AfterKey file old keyed) given
-    (subst (λ found. IfSome found (λ (x : Options). AfterKey
-    (option_map (λ (n : Vec ℕ Global). n.items) c.args.arguments.key_file) old keyed)) c.in-Some.is
+    let after : TakesKey w ch.key_file o old keyed =
+    subst (λ file. TakesKey w file o old keyed) given
+    (subst (λ found. IfSome found (λ (x : Options). TakesKey w
+    (option_map (λ (n : Vec ℕ Global). n.items) c.args.arguments.key_file) x old keyed)) c.in-Some.is
     c.in_ok-options.ensures.kept) in
     let warned = c.warn_if_short.new.session in
     let begun : c.make_room.new.self ≡ warned = c.make_room.ensures in
@@ -64,9 +66,10 @@ returns-clause-choice g c = λ ch are given.
     let chosen : AreOptions ch o × HasKey w old.left ch o =
     subst (λ found. IfSome found (λ (x : Options). AreOptions ch x × HasKey w old.left ch x))
     c.in-Some.is (c.in_ok-options.ensures.options ch are given) in
-    let after : AfterKey ch.key_file old keyed = subst (λ file. AfterKey file old keyed) given
-    (subst (λ found. IfSome found (λ (x : Options). AfterKey
-    (option_map (λ (n : Vec ℕ Global). n.items) c.args.arguments.key_file) old keyed)) c.in-Some.is
+    let after : TakesKey w ch.key_file o old keyed =
+    subst (λ file. TakesKey w file o old keyed) given
+    (subst (λ found. IfSome found (λ (x : Options). TakesKey w
+    (option_map (λ (n : Vec ℕ Global). n.items) c.args.arguments.key_file) x old keyed)) c.in-Some.is
     c.in_ok-options.ensures.kept) in
     let warned = c.warn_if_short.new.session in
     let begun : c.make_room.new.self ≡ warned = c.make_room.ensures in

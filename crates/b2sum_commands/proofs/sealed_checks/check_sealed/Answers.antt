@@ -44,7 +44,7 @@ returns-clause-checked g c =
     (read_of w name begun read c.in-Some.list.items text found.0 found.1 found.2 found.3
     c.as_slice-text.ensures.value)
     (c.in_ok-is_sealed.ensures.sealed.0 (search (rules, c.if-not-branch)))
-    (subst (λ (b : Bool). InTurn (IsLine w o b) (lines_of text) read mid lines.0) c.is_dash.ensures
+    (subst (λ (b : Bool). InTurn (IsLine w o b) (lines_of text) read mid lines.0) c.is_standard_input.ensures
     lines.1)
     lines.2 last
     (subst (λ (s : Streams). IfOk r (λ holds. TellsEnd w.program o name (Some counts) holds

@@ -1,5 +1,5 @@
 use Rattle.std.proofs.Common.{ap, rules, subst, ◌∙◌, sym, List, ℕ, Option}
-use Rattle.b2sum_commands.specs.Messages.{is_dash}
+use Rattle.b2sum_commands.specs.Messages.{is_standard_input}
 use Rattle.b2sum_commands.specs.PrintedSums.{ReadsAs, IsSum}
 use Rattle.b2sum_commands.specs.World.{Streams, world_of, StopsIn}
 use Rattle.b2sum_commands.proofs.EndedByErrors.{stops}
@@ -33,6 +33,6 @@ returns-in_err-put_line-clause-line g c =
     } in
     stops (IsSum w o name old new) _ _ c.from_residual-in_err-put_line.ensures.1
     (sum_stops w o name old new (g.K.Sink.held c.session.inside.output) whole.0 _ _ held
-    (subst (λ (l : Option (List ℕ)). ReadsAs (is_dash name) (w.files.holds name) old.left l whole.0)
+    (subst (λ (l : Option (List ℕ)). ReadsAs (is_standard_input name) (w.files.holds name) old.left l whole.0)
     (sym left) whole.1) whole.2 (c.as_slice.ensures.value ∙ c.in_ok-line.ensures.text)
     c.in_err-put_line.ensures.part)

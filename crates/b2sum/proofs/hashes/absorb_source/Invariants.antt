@@ -1,7 +1,7 @@
 use Rattle.std.proofs.Common.{◌≡◌, ◌+◌, ◌<◌, List, ℕ, ◌++◌, length, false}
 use Rattle.std.specs.Io.KnownBytes.{Consumes}
 use Rattle.blake2_digest.specs.Texts.{AreBytes}
-use Rattle.b2sum.proofs.hashes.absorb.Given as goal
+use Rattle.b2sum.proofs.hashes.absorb_source.Given as goal
 
 abbrev pub invariant-reading : goal.invariant-reading
 invariant-reading g l = record {

@@ -2,7 +2,7 @@ use Rattle.std.proofs.Common.{◌∙◌, ap, sym, false, ◌||◌, append_assoc,
 use Rattle.std.proofs.Common.{◌++◌}
 use Rattle.std.proofs.KnownBytes.{Consumes-trans}
 use Rattle.blake2_digest.proofs.Texts.{AreBytes-append}
-use Rattle.b2sum.proofs.hashes.absorb.Goals as goal
+use Rattle.b2sum.proofs.hashes.absorb_source.Goals as goal
 
 pub reading-preserved : goal.reading-preserved
 reading-preserved g c =

@@ -1,9 +1,9 @@
 use Rattle.std.proofs.Common.{◌≡◌, ◌+◌, ◌-◌, ◌<◌, length, take, drop, Some, None}
 use Rattle.std.proofs.Common.{refl, sym, ap, ◌∙◌, arith, eq-eqb}
 use Rattle.std.proofs.lemmas.List.{take_rest}
-use Rattle.b2sum_lines.specs.ManifestLines.{cut_last}
+use Rattle.b2sum_lines.specs.ManifestLines.{split_at_last}
 use Rattle.b2sum_lines.proofs.TextLoops.{cut_found}
-use Rattle.b2sum_lines.proofs.cuts.cut_last.Goals as goal
+use Rattle.b2sum_lines.proofs.cuts.split_at_last.Goals as goal
 
 pub returns-then-text-at : goal.returns-then-text-at
 returns-then-text-at c =
@@ -11,7 +11,7 @@ returns-then-text-at c =
     let i = c.searching.at - 1 in
     let below : i < length text = omega (arith, c.searching.invariant.within, c.searching-test.true) in
     let same : i + 1 ≡ c.searching.at = omega (arith, c.searching-test.true) in
-    let none : cut_last c.args.byte (drop (i + 1) text) ≡ None =
+    let none : split_at_last c.args.byte (drop (i + 1) text) ≡ None =
     rw same c.searching.invariant.none in
     ap (λ xs. Some (take i text, xs)) (take_rest text (i + 1))
     ∙ sym (cut_found c.args.byte text i below c.if-text-at.true

@@ -1,6 +1,0 @@
--- Made by tools/twins.py from proofs/states/blake2bp/StateHashState/start/Answers.antt.
-use Rattle.std.proofs.Common.{false}
-use Rattle.b2sum.proofs.states.blake2sp.StateHashState.start.Goals as goal
-
-pub returns-clause-digest : goal.returns-clause-digest
-returns-clause-digest c = λ _ y. c.in-Ok.ensures.fresh.future false y
