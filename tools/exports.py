@@ -32,7 +32,7 @@ STRUCTS = {
         ("xof/src", "State", ("blake2xb", "blake2xs"))) for hash in hashes},
     "tree_state": ("crates/blake2_state/src/tree.rt", "TreeState", None),
     "tree": ("crates/blake2_ffi/src/lib.rt", "NodeParameters", "Tree"),
-    "message": ("crates/blake2_ffi/src/lib.rt", "Text", "Text"),
+    "message": ("crates/blake2_state/src/many.rt", "Text", "Text"),
     "limits": ("crates/blake2_tree/src/thread_plan.rt", "Limits", "Limits"),
     "plan": ("crates/blake2_tree/src/thread_plan.rt", "Plan", "Plan"),
     "part": ("crates/blake2_tree/src/thread_plan.rt", "Part", "Part"),
@@ -43,7 +43,7 @@ NAMES = {"NodeParameters": "tree", "Text": "message", "Tree": "tree", "TreeState
          **{f"Blake2{name}State": f"blake2{name}_state" for name in ("b", "s", "bp", "sp", "xb", "xs")}}
 # Names that differ: C's are those of the BLAKE2 document.
 SAME = {"persona": "personal", "persona_length": "personal_length", "messages_length": "count",
-        "bytes_length": "length"}
+        "states_length": "state_count", "inputs_length": "input_count", "bytes_length": "length"}
 
 OF_RUST = {"personal": "persona", "personal_length": "persona_length"}
 # What library.rs calls the structs.
@@ -116,7 +116,8 @@ def in_rust(words):
     name, type_ = of_c(words)
     star, _, struct = type_.rpartition(" ")
     if struct in IN_RUST:
-        array = "*const " if struct == "message" else {"*mut": "&mut ", "*const": "&"}[star]
+        is_array = name in ("messages", "inputs", "states")
+        array = f"{star} " if is_array else {"*mut": "&mut ", "*const": "&"}[star]
         type_ = array + IN_RUST[struct]
     return f"{OF_RUST.get(name, name)}: {type_}"
 

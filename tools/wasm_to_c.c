@@ -167,13 +167,26 @@ typedef u64 wide;
     uint64_t frame[words]; \
     const uint64_t top = (ADDRESS(frame) + sizeof frame) & ~UINT64_C(15)
 
+/* ---- pairs */
+/* As many messages as are converted for one call. */
+enum { GROUP = 32 };
+
+/* Messages as the module has them, two 64-bit numbers each. */
+static void pairs_of(const vulfsjor_message *messages, size_t count, uint64_t *pairs) {
+    size_t i;
+
+    for (i = 0; i < count; i++) {
+        store64(ADDRESS(pairs + 2 * i), ADDRESS(messages[i].bytes));
+        store64(ADDRESS(pairs + 2 * i + 1), messages[i].length);
+    }
+}
+
 /* ---- many */
 @HEAD@
-    /* The module's messages are two 64-bit numbers each. A call refuses all groups or none, except
-     * for a length, so that is looked at before the first. */
-    enum { GROUP = 32 };
+    /* A call refuses all groups or none, except for a length, so that is looked at before the
+     * first. */
     const uint64_t most = UINT64_MAX - (key_length ? VULFSJOR_@FAMILY@_BLOCKBYTES : 0);
-    uint64_t group[2 * GROUP];
+    uint64_t pairs[2 * GROUP];
     size_t i, n;
 
     if (!output_size || out_length % output_size || out_length / output_size != count) return -1;
@@ -181,14 +194,31 @@ typedef u64 wide;
         if (messages[i].length > most) return -1;
     do {
         n = count < GROUP ? count : GROUP;
-        for (i = 0; i < n; i++) {
-            store64(ADDRESS(group + 2 * i), ADDRESS(messages[i].bytes));
-            store64(ADDRESS(group + 2 * i + 1), messages[i].length);
-        }
-        if (@INNER@(ADDRESS(out), n * output_size, output_size, ADDRESS(group), n, ADDRESS(key),
+        pairs_of(messages, n, pairs);
+        if (@INNER@(ADDRESS(out), n * output_size, output_size, ADDRESS(pairs), n, ADDRESS(key),
                 key_length, ADDRESS(salt), salt_length, ADDRESS(personal), personal_length))
             return -1;
         out += n * output_size, messages += n, count -= n;
     } while (count);
+    return 0;
+}
+
+/* ---- update_many */
+@HEAD@
+    /* A call refuses one group or none, so all states are looked at before the first. Their numbers
+     * are little-endian, and at most 128 bytes are pending. */
+    uint64_t pairs[2 * GROUP], counted;
+    size_t i, n;
+
+    if (input_count != state_count) return -1;
+    for (i = 0; i < state_count; i++) {
+        counted = load64(ADDRESS(&states[i].counter)) + *(const uint8_t *)&states[i].pending_length;
+        if (!@READY@(ADDRESS(states + i)) || inputs[i].length > UINT64_MAX - counted) return -1;
+    }
+    for (; state_count; states += n, inputs += n, state_count -= n) {
+        n = state_count < GROUP ? state_count : GROUP;
+        pairs_of(inputs, n, pairs);
+        if (@INNER@(ADDRESS(states), n, ADDRESS(pairs), n)) return -1;
+    }
     return 0;
 }

@@ -262,7 +262,10 @@ class Program:
         head = self.language.exported(name.removeprefix("vulfsjor_ffi_"), result, parameters)
         if "vulfsjor_message" in types:
             family = "BLAKE2B" if "blake2b" in name else "BLAKE2S"
-            return self.parts.fill("many", HEAD=head, INNER=inner, FAMILY=family)
+            part = re.search("(update_)?many$", name)[0]
+            ready = self.c_name(self.exports[name.replace(part, "digest_size")])
+            self.needs("pairs"), self.needs("load64"), self.needs("store64")
+            return self.parts.fill(part, HEAD=head, INNER=inner, FAMILY=family, READY=ready)
         words, lines, after = [], [], []
         for const, type_, star, each in parameters:
             is_struct = type_ in self.header.structs

@@ -74,7 +74,7 @@ class Rust(wasm_to_c.C):
     def exported(self, name, result, parameters):
         types = {type_ for _, type_, _, _ in parameters}
         own = name + "<S>" * any(type_.endswith("_state") for type_ in types)
-        given = ", ".join(f"{each}: {rust_type(const, type_, star)}" for const, type_, star, each in parameters)
+        given = ", ".join(f"{each}: {rust_type(*words, each)}" for *words, each in parameters)
         answer = "" if result == "void" else f" -> {TYPES[result]}"
         return "#[cfg(feature = \"std\")]\n" * bool(types & {*WITH_STD}) + filled(
             f"pub(crate) unsafe fn {own}({given}){answer} {{")
@@ -100,8 +100,10 @@ class Program(wasm_to_c.Program):
         return self.parts.fill("scrub", NAME=self.c_name(k), WORDS=(self.scrubbed(k) + wasm_to_c.MARGIN) // 8)
 
 
-def rust_type(const, type_, star):
+def rust_type(const, type_, star, name):
     """The type of a parameter of the header in the crate. Each function accepts any type for a state."""
+    if name == "states":
+        return "*mut S"
     if type_.endswith("_state"):
         return f"&{'' if const else 'mut '}S"
     if type_ in TYPES:

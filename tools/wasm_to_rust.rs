@@ -134,15 +134,25 @@ unsafe fn @NAME@() {
         core::ptr::write_volatile(word, 0);
     }
 }
-// ---- many
-@HEAD@
-    // The module's messages are two 64-bit numbers each. The crate passes at most PART.
+// ---- pairs
+// Messages as the module has them, two 64-bit numbers each. The crate passes at most PART.
+unsafe fn pairs_of(messages: *const Text, count: usize) -> [u64; 2 * crate::family::PART] {
     let mut pairs = [0_u64; 2 * crate::family::PART];
     for (i, message) in core::slice::from_raw_parts(messages, count).iter().enumerate() {
         pairs[2 * i] = (message.bytes as u64).to_le();
         pairs[2 * i + 1] = (message.length as u64).to_le();
     }
+    pairs
+}
+// ---- many
+@HEAD@
+    let mut pairs = pairs_of(messages, count);
     @INNER@(out as u64, out_length as u64, output_size as u64, address!(pairs), count as u64,
         key as u64, key_length as u64, salt as u64, salt_length as u64, personal as u64,
         personal_length as u64) as i32
+}
+// ---- update_many
+@HEAD@
+    let mut pairs = pairs_of(inputs, input_count);
+    @INNER@(states as u64, state_count as u64, address!(pairs), input_count as u64) as i32
 }

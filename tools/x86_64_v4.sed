@@ -9,7 +9,7 @@
 }
 # Eight messages of BLAKE2b are hashed in parallel. If the function that says how many does not have
 # the number exactly once, the text is refused.
-/^define .*@"blake2_compress::many::blake2b::lanes"/,/^}/{
+/^define .*@"blake2_compress::many::blake2b::best_lane_count"/,/^}/{
     /^define /H
     /^  store i64 4, ptr/{
         s/i64 4/i64 8/
