@@ -70,6 +70,9 @@ CALL(vulfsjor_ffi_blake2b_init_param, int32_t, (vulfsjor_blake2b_state *state, c
      size_t block_length), (state, block, block_length))
 CALL(vulfsjor_ffi_blake2b_update, int32_t, (vulfsjor_blake2b_state *state, const uint8_t *input,
      size_t input_length), (state, input, input_length))
+CALL(vulfsjor_ffi_blake2b_update_many, int32_t, (vulfsjor_blake2b_state *states, size_t state_count,
+     const vulfsjor_message *inputs, size_t input_count), (states, state_count, inputs,
+     input_count))
 CALL(vulfsjor_ffi_blake2b_final, int32_t, (vulfsjor_blake2b_state *state, uint8_t *out,
      size_t out_length), (state, out, out_length))
 CALL(vulfsjor_ffi_blake2b_verify, int32_t, (vulfsjor_blake2b_state *state, const uint8_t *tag,
@@ -108,6 +111,9 @@ CALL(vulfsjor_ffi_blake2s_init_param, int32_t, (vulfsjor_blake2s_state *state, c
      size_t block_length), (state, block, block_length))
 CALL(vulfsjor_ffi_blake2s_update, int32_t, (vulfsjor_blake2s_state *state, const uint8_t *input,
      size_t input_length), (state, input, input_length))
+CALL(vulfsjor_ffi_blake2s_update_many, int32_t, (vulfsjor_blake2s_state *states, size_t state_count,
+     const vulfsjor_message *inputs, size_t input_count), (states, state_count, inputs,
+     input_count))
 CALL(vulfsjor_ffi_blake2s_final, int32_t, (vulfsjor_blake2s_state *state, uint8_t *out,
      size_t out_length), (state, out, out_length))
 CALL(vulfsjor_ffi_blake2s_verify, int32_t, (vulfsjor_blake2s_state *state, const uint8_t *tag,

@@ -78,17 +78,19 @@ extern "C" {
 #endif
 
 /* For a pointer and the length of what it points to, by their places among the arguments: the
- * function reads or writes that many bytes at most. gcc 10 and later then warns of a call whose
- * memory is known to be shorter. */
+ * function reads or writes that many bytes or elements at most. gcc 10 and later then warns of a
+ * call whose memory is known to be shorter. */
 #ifdef __has_attribute
 #if __has_attribute(access)
 #define VULFSJOR_READS(pointer, length) __attribute__((access(read_only, pointer, length)))
 #define VULFSJOR_WRITES(pointer, length) __attribute__((access(write_only, pointer, length)))
+#define VULFSJOR_CHANGES(pointer, length) __attribute__((access(read_write, pointer, length)))
 #endif
 #endif
 #ifndef VULFSJOR_READS
 #define VULFSJOR_READS(pointer, length)
 #define VULFSJOR_WRITES(pointer, length)
+#define VULFSJOR_CHANGES(pointer, length)
 #endif
 
 /* Whether the bytes of a number are in the order of a parameter block. */
@@ -363,7 +365,8 @@ typedef char vulfsjor_layouts[sizeof(vulfsjor_blake2b_state) == 344 &&
  * every byte of a state was written. Each function does what is said below of the function with its
  * name, with these exceptions:
  *   - A key of 0 bytes is no key. Only init_key and derive_key refuse it.
- *   - many fails if out_length is not count times output_size.
+ *   - many fails if out_length is not count times output_size, and update_many if there are more
+ *     inputs or fewer than states.
  *   - memcmp accepts two lengths; buffers of different lengths differ.
  *   - state_size returns the length of a state.
  *   - tree_check returns 0 if vulfsjor_tree_init accepts these lengths, and -1 otherwise. */
@@ -392,6 +395,8 @@ int32_t vulfsjor_ffi_blake2b_init_param(vulfsjor_blake2b_state *state, const uin
                                         size_t block_length);
 int32_t vulfsjor_ffi_blake2b_update(vulfsjor_blake2b_state *state, const uint8_t *input,
                                     size_t input_length);
+int32_t vulfsjor_ffi_blake2b_update_many(vulfsjor_blake2b_state *states, size_t state_count,
+                                         const vulfsjor_message *inputs, size_t input_count);
 int32_t vulfsjor_ffi_blake2b_final(vulfsjor_blake2b_state *state, uint8_t *out, size_t out_length);
 int32_t vulfsjor_ffi_blake2b_verify(vulfsjor_blake2b_state *state, const uint8_t *tag,
                                     size_t tag_length);
@@ -427,6 +432,8 @@ int32_t vulfsjor_ffi_blake2s_init_param(vulfsjor_blake2s_state *state, const uin
                                         size_t block_length);
 int32_t vulfsjor_ffi_blake2s_update(vulfsjor_blake2s_state *state, const uint8_t *input,
                                     size_t input_length);
+int32_t vulfsjor_ffi_blake2s_update_many(vulfsjor_blake2s_state *states, size_t state_count,
+                                         const vulfsjor_message *inputs, size_t input_count);
 int32_t vulfsjor_ffi_blake2s_final(vulfsjor_blake2s_state *state, uint8_t *out, size_t out_length);
 int32_t vulfsjor_ffi_blake2s_verify(vulfsjor_blake2s_state *state, const uint8_t *tag,
                                     size_t tag_length);
@@ -828,6 +835,19 @@ VULFSJOR_MUST_USE static inline int vulfsjor_blake2b_update(vulfsjor_blake2b_sta
     return vulfsjor_ffi_blake2b_update(S, vulfsjor_text(in), inlen);
 }
 
+/* Absorbs pieces[i] into states[i], for each i below count, as vulfsjor_blake2b_update does. The
+ * pieces have any lengths, and the states are at any places of their inputs. As many states in a row
+ * go on in parallel as messages of vulfsjor_blake2b_many, up to where the shortest of their pieces
+ * ends, if each has more than a block to absorb. Returns -1 if states, pieces or the bytes of a piece
+ * are null, a state is not ready, or the bytes absorbed of one, as for vulfsjor_blake2b_update, would
+ * be 2^64 or more. All states are then unchanged. */
+VULFSJOR_CHANGES(1, 3) VULFSJOR_READS(2, 3)
+VULFSJOR_MUST_USE static inline int vulfsjor_blake2b_update_many(
+    vulfsjor_blake2b_state *states, const vulfsjor_message *pieces, size_t count) {
+    if (!states || !pieces || vulfsjor_null_message(pieces, count) < count) return -1;
+    return vulfsjor_ffi_blake2b_update_many(states, count, pieces, count);
+}
+
 /* Writes the digest of all input to out, and wipes the state. outlen must be the length of the
  * digest, vulfsjor_blake2b_digest_size. Returns -1 if it is another or the state is not ready. Then
  * out and the state are unchanged. */
@@ -1080,6 +1100,19 @@ VULFSJOR_MUST_USE static inline int vulfsjor_blake2s_update(vulfsjor_blake2s_sta
                                                             const void *in, size_t inlen) {
     if (!S || (!in && inlen)) return -1;
     return vulfsjor_ffi_blake2s_update(S, vulfsjor_text(in), inlen);
+}
+
+/* Absorbs pieces[i] into states[i], for each i below count, as vulfsjor_blake2s_update does. The
+ * pieces have any lengths, and the states are at any places of their inputs. As many states in a row
+ * go on in parallel as messages of vulfsjor_blake2s_many, up to where the shortest of their pieces
+ * ends, if each has more than a block to absorb. Returns -1 if states, pieces or the bytes of a piece
+ * are null, a state is not ready, or the bytes absorbed of one, as for vulfsjor_blake2s_update, would
+ * be 2^64 or more. All states are then unchanged. */
+VULFSJOR_CHANGES(1, 3) VULFSJOR_READS(2, 3)
+VULFSJOR_MUST_USE static inline int vulfsjor_blake2s_update_many(
+    vulfsjor_blake2s_state *states, const vulfsjor_message *pieces, size_t count) {
+    if (!states || !pieces || vulfsjor_null_message(pieces, count) < count) return -1;
+    return vulfsjor_ffi_blake2s_update_many(states, count, pieces, count);
 }
 
 /* Writes the digest of all input to out, and wipes the state. outlen must be the length of the

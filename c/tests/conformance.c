@@ -5,9 +5,9 @@
  * Of every call it checks too: a refused call changes neither the state nor the output, a refused init or load and each
  * end leave zeros, nothing is written past an output, another length of an output is refused, a null state, output or text
  * is refused, and a length that 32 bits would take for another, _refused names the argument, the count grows by what
- * was absorbed, all inits that have the arguments make the same state, a state without a key verifies nothing, and
- * states of nodes have the digests of ranges. A text is in an allocation of its length, and so is a state, for
- * sanitizers.
+ * was absorbed, all inits that have the arguments make the same state, a state without a key verifies nothing, several
+ * states absorb in one call what they absorb alone, and states of nodes have the digests of ranges. A text is in an
+ * allocation of its length, and so is a state, for sanitizers.
  *
  *   cc -std=c99 -I FOLDER/include conformance.c ARCHIVE -o conformance     for BLAKE2b; the others as in family.h
  *   cc the same with -DTEST_T                                              for the tree of two levels
@@ -21,7 +21,7 @@
 
 /* The cases of each file, and those that C skips, on 64 and on 32 bits. */
 static const struct { const char *hash; int cases, skipped, skipped_on_32; } files[] = {
-    {"blake2b", 3397, 228, 255}, {"blake2s", 2845, 224, 251}, {"blake2bp", 1323, 8, 26}, {"blake2sp", 1147, 8, 26},
+    {"blake2b", 3641, 228, 255}, {"blake2s", 3089, 224, 251}, {"blake2bp", 1323, 8, 26}, {"blake2sp", 1147, 8, 26},
     {"blake2xb", 1310, 10, 35}, {"blake2xs", 1115, 9, 28}, {"tree", 2323, 253, 272}};
 
 static state_t *slots[26];
@@ -225,25 +225,32 @@ static void call_equal(state_t *S, const given *g, text one) {
 }
 
 #ifdef TEST_NODES
-static void call_many(state_t *S, const given *g, text unused) {
-    static uint8_t nothing[1];
+/* Takes the words from the third on as messages. Returns the number of the first that is null. */
+static size_t take_messages(void) {
     size_t null = 0;
-    message_count = 0;
     for (size_t i = 2; i < parts; i++) {
         if (strchr(part[i], '=')) continue;
         text t = secret_of(part[i]);
         vulfsjor_message made = {t.bytes, t.length};
         /* `none` is null by turns with 0 and 1 byte, and no bytes is never null. */
         if (!t.bytes && t.length) made.length = message_count % 2;
-        else if (!t.bytes) made.bytes = nothing;
+        else if (!t.bytes) made.bytes = malloc(1);
         null += made.bytes && null == message_count;
         messages[message_count++] = made;
     }
     CHECK(vulfsjor_null_message(messages, message_count) == null);
+    return null;
+}
+
+static void free_messages(void) {
+    while (message_count) free((void *)messages[--message_count].bytes);
+}
+
+static void call_many(state_t *S, const given *g, text unused) {
+    take_messages();
     CHECK(BLAKE(many)(got, g->size, NULL, message_count, TEXTS) == -1);
     call_bytes(NULL, g, unused);
-    while (message_count)
-        if (messages[--message_count].bytes != nothing) free((void *)messages[message_count].bytes);
+    free_messages();
 }
 #endif
 
@@ -339,6 +346,86 @@ static void call_load(state_t *S, const given *g, text unused) {
     has_key[*part[1] - 'a'] = 0;
     if (status) gives_refusal("saved");
     free(saved.bytes);
+}
+
+/* ---- calls of several states */
+
+/* States or messages, in an allocation of their length. */
+static void *copy_of(const void *from, size_t count, size_t size) {
+    return memcpy(malloc(count * size), from, count * size);
+}
+
+/* Whether none of the states absorbs its piece, and each stays as it is. */
+static int are_refused(const state_t *states, const vulfsjor_message *pieces, size_t count) {
+    state_t *tried = copy_of(states, count, sizeof *states);
+    const int status = BLAKE(update_many)(tried, pieces, count), is_same = same(tried, states, count * sizeof *states);
+    free(tried);
+    return status == -1 && is_same;
+}
+
+/* With a null piece at this place, one byte more than its state can count, or an ended state, none absorbs. A byte less
+ * is absorbed if all else is right. */
+static void refuse_one(const state_t *states, size_t count, size_t i, int is_right) {
+    static const uint8_t bytes[2 * BLOCK];
+    state_t *others = copy_of(states, count, sizeof *states);
+    vulfsjor_message *pieces = copy_of(messages, count, sizeof *messages);
+    for (size_t length = 0; length < 3; length++) {
+        pieces[i] = (vulfsjor_message){NULL, length};
+        CHECK(are_refused(others, pieces, count));
+    }
+    SET(others[i].counter, (uint64_t)0 - 2 * BLOCK);
+    pieces[i] = (vulfsjor_message){bytes, 2 * BLOCK - (size_t)GET(others[i].pending_length)};
+    CHECK(are_refused(others, pieces, count));
+    pieces[i].length--;
+    CHECK(!is_right || !are_refused(others, pieces, count));
+    pieces[i] = messages[i];
+    memset(&others[i], 0, sizeof *others);
+    CHECK(are_refused(others, pieces, count));
+    free(others), free(pieces);
+}
+
+/* Without states or pieces, and with other numbers of them; with none of both nothing is done. */
+static void refuse_lists(const state_t *states, const vulfsjor_message *pieces, size_t count) {
+    const size_t others[][2] = {{count, 0}, {0, count}, {count, count - 1}, {count - 1, count}, {count, count + 1},
+                                {count, count + TWO_TO(32)}, {count + TWO_TO(32), count}};
+    state_t *tried = copy_of(states, count, sizeof *states);
+    for (size_t i = 0; i < COUNT_OF(others); i++)
+        CHECK(others[i][0] == others[i][1] || LIBRARY(update_many)(tried, others[i][0], pieces, others[i][1]) == -1);
+    CHECK(BLAKE(update_many)(NULL, pieces, count) == -1 && BLAKE(update_many)(tried, NULL, count) == -1);
+    CHECK(BLAKE(update_many)(NULL, pieces, 0) == -1 && BLAKE(update_many)(tried, NULL, 0) == -1);
+    CHECK(!BLAKE(update_many)(tried, pieces, 0) && same(tried, states, count * sizeof *states));
+    free(tried);
+}
+
+/* Whether the pieces are those that the words say. */
+static int are_as_said(const vulfsjor_message *pieces) {
+    int are_same = same(pieces, messages, message_count * sizeof *pieces);
+    for (size_t i = 0; i < message_count; i++) {
+        const text said = text_of(part[2 + i]);
+        are_same &= !said.bytes || same(said.bytes, pieces[i].bytes, said.length);
+        free(said.bytes);
+    }
+    return are_same;
+}
+
+/* The states absorb what each of them absorbs alone, or they all stay as they are. */
+static void call_updates(state_t *S, const given *g, text unused) {
+    const size_t count = strlen(part[1]), null = take_messages();
+    state_t *states = malloc(count * sizeof *states), *alone;
+    vulfsjor_message *pieces = copy_of(messages, count, sizeof *messages);
+    int status = null < count ? -1 : 0;
+    CHECK(message_count == count);
+    for (size_t i = 0; i < count; i++) states[i] = *slots[part[1][i] - 'a'];
+    alone = copy_of(states, count, sizeof *states);
+    for (size_t i = 0; i < count; i++) status |= BLAKE(update)(&alone[i], TEXT(pieces[i]));
+    if (status) memcpy(alone, states, count * sizeof *states);
+    for (size_t i = 0; i < count; i++) refuse_one(states, count, i, !status);
+    refuse_lists(states, pieces, count);
+    gives_status(BLAKE(update_many)(states, pieces, count));
+    CHECK(!*got == !status && same(states, alone, count * sizeof *states) && are_as_said(pieces));
+    for (size_t i = 0; i < count; i++) *slots[part[1][i] - 'a'] = states[i];
+    free(states), free(alone), free(pieces);
+    free_messages();
 }
 #endif
 
@@ -469,7 +556,7 @@ static const struct row {
 #endif
 #ifdef TEST_NODES
     {"many", call_many, 0, 0}, {"last", call_change, 1, 0}, {"skip", call_skip, 1, 0},
-    {"save", call_save, 1, 0}, {"load", call_load, 1, 0},
+    {"save", call_save, 1, 0}, {"load", call_load, 1, 0}, {"updates", call_updates, 0, 0},
 #endif
 };
 

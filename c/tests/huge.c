@@ -98,6 +98,23 @@ static void check_message(void) {
     CHECK(!BLAKE(final)(&state, out, MAX) && has_digits(out, HASH));
 }
 
+/* States at several places of the message, which absorb the rest of it in one call. */
+static void check_states(void) {
+    state_t states[LANES];
+    vulfsjor_message rests[LANES];
+
+    for (size_t i = 0; i < LANES; i++) {
+        const size_t place = i * BLOCK / 3;
+        CHECK(!BLAKE(init)(&states[i], MAX) && !BLAKE(update)(&states[i], message, place));
+        rests[i] = (vulfsjor_message){message + place, LENGTH - place};
+    }
+    CHECK(!BLAKE(update_many)(states, rests, LANES));
+    for (size_t i = 0; i < LANES; i++) {
+        CHECK(BLAKE(count)(&states[i]) == LENGTH);
+        CHECK(!BLAKE(final)(&states[i], out, MAX) && has_digits(out, HASH));
+    }
+}
+
 /* ---- several messages */
 
 /* Messages of one byte whose digests have 2^32 bytes in sum, and one message of LENGTH bytes. */
@@ -196,6 +213,7 @@ int main(void) {
 #endif
     if (getenv("VULFSJOR_TEST_HUGE")) {
         check_message();
+        check_states();
         check_many();
 #ifndef TEST_S
         check_tree();

@@ -1,9 +1,9 @@
 #!/usr/bin/env bash
-# Counts the instructions that calls of the C library need (repeat_call.c): four leaves of a tree, four messages of
-# BLAKE2b and eight of BLAKE2s, which the build for x86-64-v3 hashes in parallel, need fewer than one by one, since no
-# digest shows whether they were. The build for x86-64-v2 gains only about 1 in 100, so there these are skipped. If
-# valgrind, which counts them, is absent, all are skipped. secrets.sh tests that the time of a comparison depends on no
-# byte.
+# Counts the instructions that calls of the C library need (repeat_call.c): four leaves of a tree, four messages or
+# states of BLAKE2b and eight of BLAKE2s, which the build for x86-64-v3 hashes in parallel, need fewer than one by one,
+# since no digest shows whether they were. The build for x86-64-v2 gains only about 1 in 100, so there these are
+# skipped. If valgrind, which counts them, is absent, all are skipped. secrets.sh tests that the time of a comparison
+# depends on no byte.
 source "$(dirname "$(readlink -f "$0")")/common.sh"
 . "$tests/choosing.sh"
 
@@ -49,6 +49,8 @@ check_at_once() {
     check "the root of five leaves and a byte" takes_at_most root $((5 * 65536 + 1)) 450
     for count in 4 8; do check "blake2b_many, $count messages" takes_a_share {many,each}_blake2b $count 80; done
     for count in 8 16; do check "blake2s_many, $count messages" takes_a_share {many,each}_blake2s $count 60; done
+    for count in 4 8; do check "update_many, $count of BLAKE2b" takes_a_share {states,alone}_blake2b $count 80; done
+    for count in 8 16; do check "update_many, $count of BLAKE2s" takes_a_share {states,alone}_blake2s $count 60; done
 }
 
 test_instruction_counts() {

@@ -88,6 +88,22 @@ CALL(call_one_call, ONE_CALL(out, SIZE, message, length, key, MAX))
 static vulfsjor_tree tree = {3, 4096, 2, 2, 0, MAX}, no_tree = {3, 4096, 2, 0, 0, MAX};
 static uint8_t saved[CONSTANT(SAVEDBYTES)]; /* a state without a key */
 
+/* States that absorb in one call, and the number of the one whose key's block is pending, or of states: in all. */
+static state_t several[LANES + 1];
+static size_t states, keyed;
+
+static void start_several(void) {
+    for (size_t i = 0; i < states; i++)
+        CHECK(!(i == keyed || keyed == states ? BLAKE(init_key)(&several[i], MAX, key, MAX)
+                                              : BLAKE(init)(&several[i], MAX)));
+}
+
+/* The last of them is not ready. */
+static void start_all_but_the_last(void) {
+    start_several();
+    several[states - 1].output_size = 0;
+}
+
 #define MANY(count) BLAKE(many)(out, MAX, messages, count, key, MAX, 0, 0, 0, 0)
 CALL(call_many_one, MANY(1))
 CALL(call_many_four, MANY(4))
@@ -339,6 +355,17 @@ static int rows(int line) {
     ROW("many, four messages", nothing, 0, call_many_four());
     ROW("many, as many as are hashed at once", nothing, 0, call_many_lanes());
     ROW("many, one more, of another length", nothing, 0, call_many_more());
+    for (size_t i = 0; i < 10; i++) {
+        static const size_t counts[] = {1, 3, 4, 4, LANES, LANES, LANES, LANES, LANES + 1, LANES + 1},
+                            places[] = {0, 2, 0, 4, 0, 3, LANES - 1, LANES, LANES, LANES + 1};
+        static char name[100];
+
+        if (!line) states = counts[i], keyed = places[i];
+        if (!line) snprintf(name, sizeof name, "update_many, %zu states, key in %zu (%zu: all)", states, keyed, states);
+        ROW(name, start_several, 0, BLAKE(update_many)(several, messages, states));
+        ROW("update_many, refused for the last of these", start_all_but_the_last, 0,
+            !BLAKE(update_many)(several, messages, states));
+    }
     ROW("set_last_node", init_and_update, 0, BLAKE(set_last_node)(&state, 1));
     ROW("save, refused for the key", start_keyed, 0, !BLAKE(save)(&state, saved));
     ROW("save, refused for the key, after an update", init_and_update, 0, !BLAKE(save)(&state, saved));

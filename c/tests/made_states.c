@@ -43,6 +43,8 @@ static void check_refused_and_unchanged(state_t state) {
 #endif
 #ifdef TEST_NODES
     CHECK(BLAKE(set_last_node)(&state, 1) == -1 && BLAKE(set_last_node)(&state, 0) == -1);
+    CHECK(BLAKE(update_many)(&state, &(vulfsjor_message){bytes, 5}, 1) == -1);
+    CHECK(BLAKE(update_many)(&state, &(vulfsjor_message){bytes, 0}, 1) == -1);
     check_not_saved(&state);
 #endif
     CHECK(SAME(state, before) && SAME(out, blank));
@@ -346,13 +348,50 @@ static void check_saved(void) {
 #endif
 
 /* Random bytes as a state, and in the fields of some a number that a state may have. */
-static void random_states(void) {
+static state_t random_state(int i) {
     state_t state;
+    for (size_t j = 0; j < sizeof state; j++) ((uint8_t *)&state)[j] = (uint8_t)random_below(1 << 24);
+    if (i % 4) vary_state(&state, i);
+    return state;
+}
+
+#ifdef TEST_NODES
+/* As many of them that are ready as go on in lanes, and one more, or more than two groups of the file in C, absorb in
+ * one call what each of them absorbs alone; and nothing if one is not ready, or counts 2^64 - 1 bytes. */
+static void several_random_states(void) {
+    enum { STATES = 71 };
+    for (int turn = 0; turn < 300; turn++) {
+        const size_t count = turn % 10 ? LANES + 1 : STATES, place = (size_t)turn % count;
+        state_t states[STATES], alone[STATES], kept;
+        vulfsjor_message pieces[STATES];
+        memset(states, 0, sizeof states);
+        memset(alone, 0, sizeof alone);
+        for (size_t i = 0; i < count;) {
+            const size_t least = turn % 3 ? BLOCK + 1 : 1;
+            pieces[i] = (vulfsjor_message){bytes + i, least + random_below(1 << 24) % (4 * BLOCK)};
+            alone[i] = states[i] = random_state(1 + turn % 3);
+            i += BLAKE(update)(&alone[i], pieces[i].bytes, pieces[i].length) == 0;
+        }
+        CHECK(BLAKE(update_many)(states, pieces, count) == 0 && SAME(states, alone));
+        kept = states[place];
+        states[place].output_size = 0;
+        memcpy(alone, states, sizeof alone);
+        CHECK(BLAKE(update_many)(states, pieces, count) == -1 && SAME(states, alone));
+        states[place] = kept;
+        pieces[place].length = 1;
+        states[place].counter = MOST;
+        *(uint8_t *)&states[place].counter -= *(uint8_t *)&states[place].pending_length; /* in little-endian order */
+        memcpy(alone, states, sizeof alone);
+        CHECK(BLAKE(update_many)(states, pieces, count) == -1 && SAME(states, alone));
+    }
+}
+#endif
+
+static void random_states(void) {
     uint8_t out[6 * MAX];
     int taken = 0;
     for (int i = 0; i < 4000; i++) {
-        for (size_t j = 0; j < sizeof state; j++) ((uint8_t *)&state)[j] = (uint8_t)random_below(1 << 24);
-        if (i % 4) vary_state(&state, i);
+        state_t state = random_state(i);
         int updated = BLAKE(update)(&state, bytes, (size_t)i % (4 * BLOCK)), other = 0;
         size_t room = room_in(&state) < sizeof out ? (size_t)room_in(&state) : random_below(1 << 24) % sizeof out;
 #ifdef TEST_NODES
@@ -406,6 +445,7 @@ int main(void) {
     long_counts();
     random_states();
 #ifdef TEST_NODES
+    several_random_states();
     check_saved();
 #endif
 #ifdef TEST_T

@@ -19,7 +19,8 @@ ANSWERS = 0, 0xaaaaaaaaaaaaaaaa
 # pointer that is not null, or 0.
 NAMES = {"S": ["state"], "in": ["input"], "P": ["block"], "outlen": ["out_length", "output_size"],
          "xoflen": ["xof_length"], "inlen": ["input_length", "message_length"],
-         "length": ["length", "a_length", "b_length"]}
+         "length": ["length", "a_length", "b_length"], "pieces": ["inputs"],
+         "count": ["count", "state_count", "input_count"]}
 # Which may be null and 0, but for these functions.
 NULLS = {"in": "", "key": "_(init_key|derive_key|mac)", "salt": "", "personal": "", "tag": "", "context": "",
          "digests": "_of_leaves", "a": "", "b": "", "length": "", "out": "(?<!squeeze)"}
@@ -106,8 +107,8 @@ class Calls:
             text = re.sub("len$", "", word)
             is_null = is_least and text in NULLS and not (NULLS[text] and re.search(NULLS[text] + "$", name))
             value, argument = f"{i:x}0000000{i:x}000000{i:x}", "NUMBER({})"
-            if "state *" in kind or word == "messages":
-                value, argument = ("messages", "{}") if word == "messages" else ("state", "(void *){}")
+            if "state *" in kind or "message *" in kind:
+                value, argument = ("messages", "{}") if "message *" in kind else ("state", "(void *){}")
             elif kind.endswith("*"):
                 value, argument = (ANY, "NULL") if is_null else (f"{i:x}00", "ADDRESS({})")
             elif kind == "int ":  # a flag, whose low bits are zeros
@@ -121,7 +122,7 @@ class Calls:
             arguments.append(argument.format(value))
             for to in NAMES.get(word, [f"{text}_length" if text != word else word]):
                 values[to] = value
-        if name.endswith("_many") and name != of:  # the room is a product
+        if name.endswith("_many") and name != of and "output_size" in values:  # the room is a product
             values["out_length"] = f"{3 * int(values['output_size'], 16) % 2**64:x}"
         if name.endswith("_verify") and name != of:
             self.code.append("memset(state, 16, sizeof state);")  # it has a key and a digest that is no short tag

@@ -4,9 +4,9 @@ of the calls that are marked as wrong:
 
     c/tests/warned_calls.py FOLDER/include >warned_calls.c
 
-Each pointer that has a length points in turn to one byte less, and so does an array. The output of _many is left out,
-whose length is a product, which no attribute of gcc can say. A status is ignored, which has no warning for an init,
-which makes later calls fail too, load, reset and set_last_node."""
+Each pointer that has a length points in turn to one byte or element less, and so does an array. The output of _many is
+left out, whose length is a product, which no attribute of gcc can say. A status is ignored, which has no warning for an
+init, which makes later calls fail too, load, reset and set_last_node."""
 
 import re
 import sys
@@ -15,7 +15,7 @@ from passed_arguments import prototypes
 
 STATES = "blake2b", "blake2s", "blake2bp", "blake2sp", "blake2xb", "blake2xs", "tree"
 OTHERS = "text|bytes|is_half_key|are_refused|ffi_.*"
-LENGTHS = {"a": "length", "b": "length", "bytes": "length", "messages": "count"}
+LENGTHS = {"a": "length", "b": "length", "bytes": "length", "messages": "count", "pieces": "count", "states": "count"}
 ARRAY = "unsigned char *"  # that of save
 
 
@@ -40,9 +40,9 @@ def has_length(name, parameters, i):
 def argument(kind, word):
     """A right argument for a parameter."""
     if kind.endswith("state *"):
-        return "&" + re.search(r"vulfsjor_(\w+)_state", kind)[1] + "_run"
+        return re.search(r"vulfsjor_(\w+)_state", kind)[1] + "_all"
     if kind.endswith("*"):
-        return {"const vulfsjor_tree *": "&node", "const vulfsjor_message *": "messages"}.get(kind, "whole")
+        return {"const vulfsjor_tree *": "&node", "const vulfsjor_message *": "messages_all"}.get(kind, "bytes_all")
     return "0" if word == "progress" else "8"
 
 
@@ -59,16 +59,17 @@ def calls(include):
             if parameters[-1][0] == ARRAY:
                 given[-1] = f"{'saved' if short is None else 'cut'}_{name.split('_')[1]}"
             elif short is not None:
-                given[short] = "fewer" if given[short] == "messages" else "less"
+                given[short] = given[short].replace("_all", "_fewer")
             yield short is None, f"{'status = ' * (kind == 'int')}{name}({', '.join(given)});"
 
 
 def main():
     every = list(calls(sys.argv[1]))
-    print("#include <vulfsjor_threads.h>", *(f"static vulfsjor_{name}_state {name}_run;" for name in STATES),
+    print("#include <vulfsjor_threads.h>", *(f"static vulfsjor_{name}_state {name}_all[8];" for name in STATES),
+          *(f"static vulfsjor_{name}_state {name}_fewer[7];" for name in STATES[:2]),
           *(f"static unsigned char saved_{name}[VULFSJOR_{name.upper()}_SAVEDBYTES], "
             f"cut_{name}[VULFSJOR_{name.upper()}_SAVEDBYTES - 1];" for name in STATES[:2]),
-          "static char whole[8], less[7];", "static vulfsjor_message messages[8], fewer[7];",
+          "static char bytes_all[8], bytes_fewer[7];", "static vulfsjor_message messages_all[8], messages_fewer[7];",
           "static vulfsjor_tree node;", "static volatile int status;", "void calls(void);", "void calls(void) {",
           *(f"    {call}{'' if is_right else ' // NO: .'}" for is_right, call in every), "}", sep="\n")
     return len(every) < 230
