@@ -4,9 +4,18 @@ use crate::library::{self, Blake2bState, Blake2bpState, Blake2sState, Blake2spSt
 use crate::params::FamilyLimits;
 use crate::{InvalidArgument, InvalidState, KeyedState, MacError, Params};
 
-// The number of messages that one call of the library gets in `digest_many`. Their pointers are on
-// the stack.
+// The number of messages that one call of the library gets in `digest_many` and `update_many`.
+// Their pointers are on the stack.
 pub(crate) const PART: usize = 16;
+
+// Pointers to at most PART messages, and then to empty ones. They are valid as long as these are.
+fn texts_of(messages: &[impl AsRef<[u8]>]) -> [Text; PART] {
+    let mut texts = [Text::of(b""); PART];
+    for (text, message) in texts.iter_mut().zip(messages) {
+        *text = Text::of(message.as_ref());
+    }
+    texts
+}
 
 // What all families have, on top of the states and the functions of `library`.
 macro_rules! family {
@@ -19,6 +28,7 @@ macro_rules! family {
         ///
         /// A clone is independent: each absorbs its own further input.
         #[must_use = "its input is lost with it"]
+        #[repr(transparent)] // so that hashers in a slice are states in a row
         pub struct $hasher {
             pub(crate) state: $state,
         }
@@ -259,7 +269,8 @@ macro_rules! family {
 macro_rules! sequential {
     (
         $at_once:literal, $hasher:ident, $make:ident, $state:ident, $max:literal, $limits:expr,
-        $many:ident, $init_tree:ident, $set_last_node:ident, $saved:literal, $save:ident, $load:ident
+        $many:ident, $update_many:ident, $init_tree:ident, $set_last_node:ident, $block:literal,
+        $saved:literal, $save:ident, $load:ident
     ) => {
         impl $hasher {
             /// Returns a hasher with these parameters.
@@ -308,7 +319,7 @@ macro_rules! sequential {
             /// Writes the digests of several messages under these parameters, each of `N` bytes.
             ///
             /// Messages in a row that have the same length are hashed
-            #[doc = concat!($at_once, " at a time, which is faster on a processor with AVX2.")]
+            #[doc = concat!($at_once, ", which is faster on a processor with AVX2.")]
             ///
             /// ```
             #[doc = concat!("use vulfsjor::{Params, ", stringify!($hasher), "};")]
@@ -358,10 +369,7 @@ macro_rules! sequential {
             ) -> Result<(), InvalidArgument> {
                 let Params { salt, persona, .. } = *params;
                 let key = params.key_or_none();
-                let mut texts = [Text::of(b""); PART];
-                for (text, message) in texts.iter_mut().zip(messages) {
-                    *text = Text::of(message.as_ref());
-                }
+                let texts = texts_of(messages);
                 // Safety: the pointers come from slices of these lengths, also those of the
                 // messages. The output overlaps none of them.
                 let status = unsafe {
@@ -380,6 +388,68 @@ macro_rules! sequential {
                     )
                 };
                 InvalidArgument::unless_zero(status, || params.check(&$limits))
+            }
+
+            /// Absorbs the inputs, each into the hasher at its place, as [`update`](Self::update)
+            /// of each would.
+            ///
+            /// The inputs have any lengths, and the hashers any parameters and earlier input. As
+            /// many hashers in a row go on at a time as messages of
+            /// [`digest_many`](Self::digest_many), up to where the shortest of their inputs ends,
+            /// if each has more than a block to absorb.
+            ///
+            /// ```
+            #[doc = concat!("use vulfsjor::", stringify!($hasher), ";")]
+            ///
+            #[doc = concat!("let mut hashers = vec![", stringify!($hasher), "::new(); 2];")]
+            #[doc = concat!(
+                stringify!($hasher), "::update_many(&mut hashers, &[\"hello \", \"good\"]);"
+            )]
+            #[doc = concat!(
+                stringify!($hasher), "::update_many(&mut hashers, &[\"world\", \"bye\"]);"
+            )]
+            #[doc = concat!(
+                "assert_eq!(hashers[1].finalize(), ", stringify!($hasher), "::digest(\"goodbye\"));"
+            )]
+            /// ```
+            ///
+            /// # Panics
+            ///
+            /// If there are more inputs or fewer than hashers, or if the input of one hasher since
+            /// its last reset, with the block of a key, would have 2^64 bytes or more. All hashers
+            /// are then unchanged, if an input has the same length each time `as_ref` is called.
+            pub fn update_many(hashers: &mut [Self], inputs: &[impl AsRef<[u8]>]) {
+                assert_eq!(inputs.len(), hashers.len(), "an input for each hasher");
+                let mut pairs = hashers.iter().zip(inputs);
+                let can_all = pairs.all(|(hasher, input)| hasher.can_absorb(input.as_ref()));
+                assert!(can_all, "an input of 2^64 bytes");
+                for (part, inputs) in hashers.chunks_mut(PART).zip(inputs.chunks(PART)) {
+                    Self::update_part(part, inputs);
+                }
+            }
+
+            // Whether `update` absorbs the input. If less than a block is left before 2^64, only a
+            // hasher without a key does, and that can be saved.
+            fn can_absorb(&self, input: &[u8]) -> bool {
+                let count = self.count().checked_add(input.len() as u64);
+                count.map_or(false, |count| count <= u64::MAX - $block || self.save().is_ok())
+            }
+
+            // `update_many` of at most PART hashers.
+            fn update_part(hashers: &mut [Self], inputs: &[impl AsRef<[u8]>]) {
+                let texts = texts_of(inputs);
+                // Safety: a hasher has the layout of its state, since it is transparent. The
+                // pointers come from slices of these lengths, also those of the inputs, which the
+                // states cannot overlap.
+                let status = unsafe {
+                    library::$update_many(
+                        hashers.as_mut_ptr().cast::<$state>(),
+                        hashers.len(),
+                        texts.as_ptr(),
+                        inputs.len(),
+                    )
+                };
+                assert_eq!(status, 0, "an input of 2^64 bytes");
             }
 
             /// Sets or clears the last-node flag (the BLAKE2 document, section 2.10), at any time
@@ -542,30 +612,34 @@ family!(
 );
 
 sequential!(
-    "four",
+    "four at a time, or eight with AVX-512",
     Blake2b,
     blake2b,
     Blake2bState,
     64,
     FamilyLimits::BLAKE2B,
     blake2b_many,
+    blake2b_update_many,
     blake2b_init_tree,
     blake2b_set_last_node,
+    128,
     275,
     blake2b_save,
     blake2b_load
 );
 
 sequential!(
-    "eight",
+    "eight at a time",
     Blake2s,
     blake2s,
     Blake2sState,
     32,
     FamilyLimits::BLAKE2S,
     blake2s_many,
+    blake2s_update_many,
     blake2s_init_tree,
     blake2s_set_last_node,
+    64,
     147,
     blake2s_save,
     blake2s_load

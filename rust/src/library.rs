@@ -344,6 +344,12 @@ functions! {
         tree: &Tree,
     ) -> i32;
     fn blake2b_update(state: &mut Blake2bState, input: *const u8, input_length: usize) -> i32;
+    fn blake2b_update_many(
+        states: *mut Blake2bState,
+        state_count: usize,
+        inputs: *const Text,
+        input_count: usize,
+    ) -> i32;
     fn blake2b_final(state: &mut Blake2bState, out: *mut u8, out_length: usize) -> i32;
     fn blake2b_verify(state: &mut Blake2bState, tag: *const u8, tag_length: usize) -> i32;
     fn blake2b_set_last_node(state: &mut Blake2bState, on: u32) -> i32;
@@ -389,6 +395,12 @@ functions! {
         tree: &Tree,
     ) -> i32;
     fn blake2s_update(state: &mut Blake2sState, input: *const u8, input_length: usize) -> i32;
+    fn blake2s_update_many(
+        states: *mut Blake2sState,
+        state_count: usize,
+        inputs: *const Text,
+        input_count: usize,
+    ) -> i32;
     fn blake2s_final(state: &mut Blake2sState, out: *mut u8, out_length: usize) -> i32;
     fn blake2s_verify(state: &mut Blake2sState, tag: *const u8, tag_length: usize) -> i32;
     fn blake2s_set_last_node(state: &mut Blake2sState, on: u32) -> i32;

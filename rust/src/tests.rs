@@ -50,7 +50,7 @@ macro_rules! family {
             // A hasher that has compressed this number of bytes less than 2^64, a multiple of its leaves.
             // c/include/vulfsjor.h names the word of a leaf's counter, and the next, whose first $pending bits are the
             // number of pending bytes.
-            fn near_the_end(mut hasher: $hasher, bytes: u64) -> $hasher {
+            pub(super) fn near_the_end(mut hasher: $hasher, bytes: u64) -> $hasher {
                 hasher.state.0[$counter] = (0u64.wrapping_sub(bytes) / $leaves).to_le();
                 let others = !0u64 << ($pending - 1) << 1;
                 hasher.state.0[$counter + 1] &= others.to_le();
@@ -115,6 +115,95 @@ family!(blake2bp, Blake2bp, Blake2bpState, 32, 64, 4, 2048, 512, digest, finaliz
 family!(blake2sp, Blake2sp, Blake2spState, 32, 64, 8, 2048, 512, digest, finalize(), finalize_reset(), reset());
 family!(blake2xb, Blake2xb, Blake2xbState, 16, 32, 1, 256, 128, output, reset());
 family!(blake2xs, Blake2xs, Blake2xsState, 8, 16, 1, 128, 64, output, reset());
+
+// Several hashers in one call, of which one cannot absorb its input. In the crate, a part of 16 is a call of the library.
+macro_rules! several {
+    ($test:ident, $hasher:ident, $state:ident, $make:ident, $block:literal) => {
+        mod $test {
+            use super::*;
+            use std::vec::Vec;
+
+            fn words(hashers: &[$hasher]) -> Vec<[u64; $state::ZEROS.0.len()]> {
+                hashers.iter().map(|hasher| hasher.state.0).collect()
+            }
+
+            // This number of hashers, and the one at the place can absorb one byte less than a block.
+            fn one_near_the_end(count: usize, place: usize, key: &[u8]) -> Vec<$hasher> {
+                let params = if key.is_empty() { Params::new() } else { Params::new().key(key) };
+                let mut hashers = std::vec![$hasher::new(); count];
+                hashers[place] = $make::near_the_end(params.$make().unwrap(), $block);
+                hashers
+            }
+
+            #[test]
+            fn all_absorb_or_none() {
+                let long = std::vec![0; LONG];
+                let places = |count| (0..count).map(move |place| (count, place));
+                for (count, place) in [1, 4, 9, 16, 17, 33].into_iter().flat_map(places) {
+                    for key in [&b""[..], b"key"] {
+                        let mut hashers = one_near_the_end(count, place, key);
+                        let mut inputs = std::vec![&long[..3 * $block]; count];
+                        let before = words(&hashers);
+                        for length in [$block, $block + 1, LONG] {
+                            inputs[place] = &long[..length];
+                            let update = || $hasher::update_many(&mut hashers, &inputs);
+                            assert!(panic_of(update).contains("an input of 2^64 bytes"));
+                            assert_eq!(words(&hashers), before);
+                        }
+                        inputs[place] = &long[..$block - 1];
+                        let mut wanted = hashers.clone();
+                        for (hasher, input) in wanted.iter_mut().zip(&inputs) {
+                            hasher.update(input);
+                        }
+                        $hasher::update_many(&mut hashers, &inputs);
+                        let key_block = if key.is_empty() { 0 } else { $block };
+                        assert_eq!(hashers[place].count(), u64::MAX - key_block);
+                        for (hasher, wanted) in hashers.iter().zip(&wanted) {
+                            assert_eq!((hasher.finalize(), hasher.count()), (wanted.finalize(), wanted.count()));
+                        }
+                    }
+                }
+            }
+
+            #[test]
+            fn none_absorbs_if_no_init_has_made_one() {
+                for place in 0..9 {
+                    let mut hashers = std::vec![$hasher::new(); 9];
+                    hashers[place].state = $state::ZEROS;
+                    let before = words(&hashers);
+                    let update = || $hasher::update_many(&mut hashers, &[[7; 3 * $block]; 9]);
+                    assert!(panic_of(update).contains("an input of 2^64 bytes"));
+                    assert_eq!(words(&hashers), before);
+                }
+            }
+
+            // An input that is one byte when it is looked at, and a block from then on.
+            struct Growing(std::cell::Cell<usize>);
+
+            impl AsRef<[u8]> for Growing {
+                fn as_ref(&self) -> &[u8] {
+                    &[7; $block][..self.0.replace($block)]
+                }
+            }
+
+            #[test]
+            fn an_input_that_grows_is_refused() {
+                for count in [1, 9, 16, 17, 33] {
+                    let mut hashers = one_near_the_end(count, count - 1, b"");
+                    let before = words(&hashers);
+                    let inputs: Vec<_> = (0..count).map(|_| Growing(1.into())).collect();
+                    let update = || $hasher::update_many(&mut hashers, &inputs);
+                    assert!(panic_of(update).contains("an input of 2^64 bytes"));
+                    let of_last_call = (count - 1) / 16 * 16;
+                    assert_eq!(words(&hashers)[of_last_call..], before[of_last_call..]);
+                }
+            }
+        }
+    };
+}
+
+several!(several_of_blake2b, Blake2b, Blake2bState, blake2b, 128);
+several!(several_of_blake2s, Blake2s, Blake2sState, blake2s, 64);
 
 #[test]
 fn a_tree_that_no_init_has_made_is_refused() {

@@ -7,7 +7,12 @@ use std::collections::HashMap;
 use std::error::Error;
 use std::io;
 use std::mem::{size_of, MaybeUninit};
+use std::panic::{catch_unwind, AssertUnwindSafe};
+use std::sync::Mutex;
 use vulfsjor::*;
+
+// How many hashers absorb in one call: some of them in fours or eights, and in up to three calls of the library.
+const COUNTS: [usize; 11] = [0, 1, 3, 4, 5, 7, 8, 9, 16, 17, 33];
 
 // A value's bytes, before it is dropped and after.
 fn bytes_around_drop<T>(value: T) -> [Vec<u8>; 2] {
@@ -100,6 +105,68 @@ macro_rules! family {
                 }
             }
 
+            // The number of a hasher decides its parameters.
+            fn hasher_with_own_params(i: usize) -> $hasher {
+                let node = Tree { fanout: 2, depth: 2, node_offset: i as u64, ..Tree::SEQUENTIAL };
+                let params = Params::new().output_size(1 + i % $max).persona(b"several");
+                let all = [params, params.key(&[9; $max]), params.tree(node).last_node(true), params.key(b"k").salt(b"s")];
+                all[i % all.len()].$make().unwrap()
+            }
+
+            fn digests(hashers: &[$hasher]) -> Vec<(Digest, u64)> {
+                hashers.iter().map(|hasher| (hasher.finalize(), hasher.count())).collect()
+            }
+
+            // Of up to four blocks before the call, and of up to four in it, each length after each length.
+            #[test]
+            fn several_hashers_absorb_as_each_would() {
+                let bytes: Vec<u8> = (0..8 * $max + 200).map(|i| (i * i / 3) as u8).collect();
+                let multiples = (0..=4).map(|blocks| blocks * 2 * $max);
+                let lengths: Vec<usize> = multiples.flat_map(|n| [n, n + 1, n + 2 * $max - 1]).collect();
+                let length = |i: usize| lengths[i % lengths.len()];
+                let rounds = (0..lengths.len()).flat_map(|first| [0, 1, 4].map(|step| (first, step)));
+                for ((first, step), count) in rounds.flat_map(|round| COUNTS.map(|count| (round, count))) {
+                    let mut hashers: Vec<_> = (0..count).map(hasher_with_own_params).collect();
+                    let mut wanted = hashers.clone();
+                    for start in [8 * first, first] {
+                        let input = |i| &bytes[i..][..length(start + step * i)];
+                        let (inputs, copies): (Vec<_>, _) = ((0..count).map(input).collect(), hashers.clone());
+                        let before = digests(&copies);
+                        $hasher::update_many(&mut hashers, &inputs);
+                        for (hasher, input) in wanted.iter_mut().zip(&inputs) {
+                            hasher.update(input);
+                        }
+                        assert_eq!(digests(&hashers), digests(&wanted), "{count} {first} {step} {start}");
+                        assert_eq!(digests(&copies), before);
+                    }
+                }
+            }
+
+            #[test]
+            fn several_hashers_absorb_inputs_of_any_type() {
+                let mut hashers = vec![$hasher::new(); 2];
+                $hasher::update_many(&mut hashers, &["a", ""]);
+                $hasher::update_many(&mut hashers, &[String::from("b"), String::from("xy")]);
+                $hasher::update_many(&mut hashers, &[vec![b'c'], vec![]]);
+                $hasher::update_many(&mut hashers[1..], &[b"z"]);
+                $hasher::update_many(&mut [], &[""; 0]);
+                assert_eq!(digests(&hashers), [($hasher::digest("abc"), 3), ($hasher::digest("xyz"), 3)]);
+            }
+
+            #[test]
+            fn several_hashers_have_an_input_each() {
+                for (count, others) in COUNTS.map(|count| (count, [0, 1, count + 1, count + 16, count + 256])) {
+                    for other in others.into_iter().chain(count.checked_sub(1)).filter(|other| *other != count) {
+                        let mut hashers: Vec<_> = (0..count).map(hasher_with_own_params).collect();
+                        let (before, inputs) = (digests(&hashers), vec![[7; 300]; other]);
+                        let update = AssertUnwindSafe(|| $hasher::update_many(&mut hashers, &inputs));
+                        let said = catch_unwind(update).unwrap_err().downcast::<String>().unwrap();
+                        assert!(said.contains("an input for each hasher"));
+                        assert_eq!(digests(&hashers), before);
+                    }
+                }
+            }
+
             // Calls that copy a state leave no copy of the key that is in it.
             #[test]
             fn nothing_of_a_key_is_left_on_the_stack() {
@@ -112,6 +179,8 @@ macro_rules! family {
                 assert_eq!(left(&|| assert_eq!(mac.finalize(), tag)), 0);
                 assert_eq!(left(&|| assert!(mac.verify(tag.as_bytes()).is_ok())), 0);
                 assert_eq!(left(&|| assert!(mac.verify(b"wrong").is_err())), 0);
+                let several = Mutex::new(vec![hasher.as_ref().clone(); 9]);
+                assert_eq!(left(&|| $hasher::update_many(&mut several.lock().unwrap(), &[[7; 300]; 9])), 0);
                 // The test sees a copy.
                 let copy = || {
                     let mut copy = [0u8; $max];

@@ -66,7 +66,7 @@ struct Sequential<H, M> {
 }
 
 macro_rules! sequential {
-    ($make:ident, $hash:ident, $hasher:ident, $mac:ident, $max:literal $(, $last:ident)?) => {
+    ($make:ident, $hash:ident, $hasher:ident, $mac:ident, $max:literal $(, $last:ident, $many:ident)?) => {
         impl common::Hash<InvalidArgument> for Sequential<$hasher, $mac> {
             fn update(&mut self, message: &[u8]) -> Outcome {
                 if self.hasher.count().checked_add(message.len() as u64).is_none() {
@@ -149,10 +149,29 @@ macro_rules! sequential {
             }
             Some(digest)
         }
+
+        $(/// Several hashers of this family absorb in one call, and each MAC alone. What is refused changes no digest of
+        /// the rest of a case.
+        fn $many(hashes: &mut [Box<dyn common::Hash<InvalidArgument>>], messages: &[Vec<u8>]) -> Outcome {
+            let typed = hashes.iter_mut().map(|hash| hash.any().downcast_mut::<Sequential<$hasher, $mac>>());
+            let runs = typed.collect::<Option<Vec<_>>>()?;
+            let mut hashers: Vec<_> = runs.iter().map(|run| run.hasher.clone()).collect();
+            let mut counts = hashers.iter().map(|hasher| hasher.count()).zip(messages);
+            let is_too_long = counts.any(|(count, message)| count.checked_add(message.len() as u64).is_none());
+            let update = AssertUnwindSafe(|| $hasher::update_many(&mut hashers, messages));
+            assert_eq!(catch_unwind(update).is_err(), is_too_long);
+            for ((run, hasher), message) in runs.into_iter().zip(hashers).zip(messages) {
+                run.hasher = hasher;
+                for mac in run.mac.iter_mut().filter(|_| !is_too_long) {
+                    mac.update(message);
+                }
+            }
+            Some(Ok(String::from(if is_too_long { "! message" } else { "" })))
+        })?
     };
 }
-sequential!(blake2b, blake2b_hash, Blake2b, Blake2bMac, 64, set_last_node);
-sequential!(blake2s, blake2s_hash, Blake2s, Blake2sMac, 32, set_last_node);
+sequential!(blake2b, blake2b_hash, Blake2b, Blake2bMac, 64, set_last_node, blake2b_update_many);
+sequential!(blake2s, blake2s_hash, Blake2s, Blake2sMac, 32, set_last_node, blake2s_update_many);
 sequential!(blake2bp, blake2bp_hash, Blake2bp, Blake2bpMac, 64);
 sequential!(blake2sp, blake2sp_hash, Blake2sp, Blake2spMac, 32);
 
@@ -293,6 +312,10 @@ impl Driver for Crate {
         Some(if name == "blake2b" { load!(Blake2b, Blake2bMac) } else { load!(Blake2s, Blake2sMac) })
     }
 
+    fn update_many(&self, hashes: &mut [Box<dyn common::Hash<InvalidArgument>>], messages: &[Vec<u8>]) -> Outcome {
+        blake2b_update_many(hashes, messages).or_else(|| blake2s_update_many(hashes, messages))
+    }
+
     fn call(&self, call: &[&str], given: &Given) -> Outcome {
         match call[0] {
             "hash" => hash(call[1], &bytes(call[2])?, given),
@@ -378,5 +401,5 @@ fn hash(name: &str, message: &[u8], given: &Given) -> Outcome {
 #[test]
 fn cases() {
     let names = ["blake2b", "blake2s", "blake2bp", "blake2sp", "blake2xb", "blake2xs", "tree"];
-    run(&Crate, &names, (61181, &[("equal", 25), ("reset", 83), ("skip", 172), ("verify", 108)]));
+    run(&Crate, &names, (71571, &[("equal", 25), ("reset", 83), ("skip", 202), ("verify", 108)]));
 }

@@ -1,4 +1,5 @@
 //! The conformance cases (tests/conformance/README.md), and the lines that tests/vectors.py prints.
+use std::any::Any;
 use std::collections::{BTreeMap, HashMap};
 use std::fmt::Debug;
 use std::path::{Path, PathBuf};
@@ -105,14 +106,18 @@ pub trait Hash<E>: Copies<E> {
     }
 }
 
-/// The copy of a hash, which is its clone.
+/// The copy of a hash, which is its clone, and the hash with its type.
 pub trait Copies<E> {
     fn copy(&self) -> Box<dyn Hash<E>>;
+    fn any(&mut self) -> &mut dyn Any;
 }
 
 impl<E, T: Hash<E> + Clone + 'static> Copies<E> for T {
     fn copy(&self) -> Box<dyn Hash<E>> {
         Box::new(self.clone())
+    }
+    fn any(&mut self) -> &mut dyn Any {
+        self
     }
 }
 
@@ -148,12 +153,28 @@ fn call_of_hash<E>(hashes: &mut Hashes<E>, call: &[&str]) -> Outcome<E> {
     }
 }
 
-/// What a driver has: how a hash is made, how one is loaded, which may be absent, the calls without a state, and whether
-/// an error is the one of an argument of this call.
+/// The outcome of the call in which several hashes absorb.
+fn call_of_hashes<D: Driver>(driver: &D, hashes: &mut Hashes<D::Error>, call: &[&str]) -> Outcome<D::Error> {
+    let messages = call[2..].iter().map(|word| bytes(word)).collect::<Option<Vec<_>>>()?;
+    let names: Vec<_> = call[1].chars().map(String::from).collect();
+    if !names.iter().all(|name| hashes.contains_key(name)) {
+        return None;
+    }
+    let mut several: Vec<_> = names.iter().map(|name| hashes.remove(name).unwrap()).collect();
+    let outcome = driver.update_many(&mut several, &messages);
+    hashes.extend(names.into_iter().zip(several));
+    outcome
+}
+
+/// What a driver has: how a hash is made, how one is loaded and how several absorb in one call, which may be absent, the
+/// calls without a state, and whether an error is the one of an argument of this call.
 pub trait Driver {
     type Error: Debug;
     fn make(&self, hash: &str, given: &Given) -> Made<Self::Error>;
     fn load(&self, _hash: &str, _saved: &[u8]) -> Option<Option<Box<dyn Hash<Self::Error>>>> {
+        None
+    }
+    fn update_many(&self, _hashes: &mut [Box<dyn Hash<Self::Error>>], _messages: &[Vec<u8>]) -> Outcome<Self::Error> {
         None
     }
     fn call(&self, call: &[&str], given: &Given) -> Outcome<Self::Error>;
@@ -202,6 +223,7 @@ pub fn run<D: Driver>(driver: &D, names: &[&str], all: (usize, &[(&str, usize)])
                     done()
                 }
                 "hash" | "many" | "equal" | "derive" | "leaves" | "top" => driver.call(&call, &given),
+                "updates" => call_of_hashes(driver, &mut hashes, &call),
                 _ => call_of_hash(&mut hashes, &call),
             };
             let is_right = match &got {

@@ -11,6 +11,9 @@ fn main() -> Result<(), InvalidArgument> {
     tree.root_threads(0, &bytes)?; // refused
     Blake2xb::derive_key(&bytes, &mut digests, b"context")?; // refused
     Blake2b::digest_many(&[bytes], &params, &mut [digests])?; // refused
+    Blake2b::update_many(&[bytes], &mut [Blake2b::new()]); // refused
+    Blake2b::update_many(&mut [Blake2s::new()], &[bytes]); // refused
+    Blake2b::update_many(&mut [Blake2b::new()], &bytes); // refused
     let _ = params.key(&text); // refused
     let _ = params.output_size(b"key"); // refused
     let _ = Blake2bMac::default(); // refused
