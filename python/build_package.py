@@ -40,9 +40,9 @@ TEXTS = {"aarch64": ["aarch64/vulfsjor.s"],
 MACROS = {"linux": "elf.inc", "macosx": "macho.inc", "windows": "coff.inc"}
 
 # The module's own sources, and the files of a source distribution: those of this folder, and those of the repository.
-MODULE = [f"src/{name}.c" for name in ("module", "library", "arguments", "by_threads", "trees", "xof")]
-OWN = ("README.md", "build_package.py", "pyproject.toml", *MODULE, "src/library.h", "tests/*.py", "vulfsjor/*.py",
-       "vulfsjor/*.pyi", "vulfsjor/py.typed")
+MODULE = [f"src/{name}.c" for name in ("module", "library", "several", "arguments", "by_threads", "trees", "xof")]
+OWN = ("README.md", "build_package.py", "pyproject.toml", *MODULE, "src/hashes.h", "src/library.h", "tests/*.py",
+       "vulfsjor/*.py", "vulfsjor/*.pyi", "vulfsjor/py.typed")
 SHARED = {
     "src/vulfsjor.h": "c/include/vulfsjor.h",
     "src/vulfsjor_threads.h": "c/include/vulfsjor_threads.h",

@@ -57,7 +57,7 @@ for each in "${interpreters[@]}"; do
     elif [ "$(version_of "$each")" = "$last" ]; then
         skip "the tests in $each" "VULFSJOR_TEST_HUGE is not set" && continue
     else
-        some=(-ktest_{against_hashlib,api,conformance,files,names,refusals,threads})
+        some=(-ktest_{against_hashlib,api,conformance,files,names,refusals,threads,update_many})
     fi
     check "the tests in $each" in_time "$each" -m unittest discover -v -s "$tests" "${some[@]}"
     while IFS='|' read -r test why; do

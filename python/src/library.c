@@ -1,39 +1,11 @@
 /* BLAKE2b, BLAKE2s, BLAKE2bp and BLAKE2sp for Python, with the interface of hashlib, by the proved
  * functions of the library vulfsjor, whose assembly is linked with this file. */
-#include "library.h"
+#include "hashes.h"
 
 /* ---- The families */
 
-/* Several messages, held while their digests are computed. */
-typedef struct messages {
-    Py_ssize_t count;
-    Py_buffer *views;
-    vulfsjor_message *texts;
-} messages;
-
-/* What differs between them. Each function is one call of the header's. BLAKE2bp and BLAKE2sp have
- * a fixed tree: they ignore that of init, and set_last_node, many, save and load are NULL. */
-typedef struct family {
-    const char *name, *prefix, *arguments;
-    int block, out, key, salt, person;
-    size_t state;
-    uint64_t last_offset;
-    int (*init)(void *run, size_t out, const Py_buffer *key, const Py_buffer *salt,
-                const Py_buffer *person, const vulfsjor_tree *tree);
-    int (*set_last_node)(void *run);
-    int (*update)(void *run, const void *in, size_t length);
-    int (*end)(void *run, uint8_t *out, size_t size);
-    int (*verify)(void *run, const void *tag, size_t length);
-    void (*wipe)(void *run);
-    int (*many)(uint8_t *out, size_t size, const messages *m, const Py_buffer *key,
-                const Py_buffer *salt, const Py_buffer *person);
-    int saved;
-    int (*save)(const void *run, uint8_t *out);
-    int (*load)(void *run, const void *saved, size_t length, int *size);
-} family;
-
 /* What all have. The formats of the arguments are those of `parse`. */
-#define FAMILY(f, NAME, format, offset, last, many, saved, save, load)                             \
+#define FAMILY(f, NAME, format, offset, last, update_many, many, saved, save, load)                \
     static int f##_update(void *S, const void *in, size_t n) {                                     \
         return vulfsjor_##f##_update(S, in, n);                                                    \
     }                                                                                              \
@@ -44,12 +16,13 @@ typedef struct family {
         return vulfsjor_##f##_verify_short_mac(S, t, n); /* the caller looks at allow_short */     \
     }                                                                                              \
     static void f##_wipe(void *S) { vulfsjor_##f##_wipe(S); }                                      \
-    static const family f = {                                                                      \
+    const family f = {                                                                             \
         #f, #NAME "_", format ":" #f,                                                              \
         VULFSJOR_##NAME##_BLOCKBYTES, VULFSJOR_##NAME##_OUTBYTES, VULFSJOR_##NAME##_KEYBYTES,      \
         VULFSJOR_##NAME##_SALTBYTES, VULFSJOR_##NAME##_PERSONALBYTES,                              \
         sizeof(vulfsjor_##f##_state), offset,                                                      \
-        f##_init, last, f##_update, f##_end, f##_verify, f##_wipe, many, saved, save, load};
+        f##_init, last, f##_update, update_many, f##_end, f##_verify, f##_wipe, many, saved,       \
+        save, load};
 
 #define PLAIN(f, NAME, offset)                                                                     \
     static int f##_init(void *S, size_t o, const Py_buffer *k, const Py_buffer *s,                 \
@@ -57,6 +30,9 @@ typedef struct family {
         return vulfsjor_##f##_init_tree(S, o, KEY(k), TEXT(s), TEXT(p), t);                        \
     }                                                                                              \
     static int f##_last(void *S) { return vulfsjor_##f##_set_last_node(S, 1); }                    \
+    static int f##_update_many(void *runs, const messages *m) {                                    \
+        return vulfsjor_##f##_update_many(runs, m->texts, (size_t)m->count);                       \
+    }                                                                                              \
     static int f##_many(uint8_t *out, size_t o, const messages *m, const Py_buffer *k,             \
                         const Py_buffer *s, const Py_buffer *p) {                                  \
         return vulfsjor_##f##_many(out, o, m->texts, (size_t)m->count, KEY(k), TEXT(s), TEXT(p));  \
@@ -67,7 +43,7 @@ typedef struct family {
         *size = (int)vulfsjor_##f##_digest_size(S);                                                \
         return status;                                                                             \
     }                                                                                              \
-    FAMILY(f, NAME, "|O$iy*y*y*iiOOiipp", offset, f##_last, f##_many,                              \
+    FAMILY(f, NAME, "|O$iy*y*y*iiOOiipp", offset, f##_last, f##_update_many, f##_many,             \
            VULFSJOR_##NAME##_SAVEDBYTES, f##_save, f##_load)
 PLAIN(blake2b, BLAKE2B, UINT64_MAX)
 PLAIN(blake2s, BLAKE2S, ((uint64_t)1 << 48) - 1)
@@ -78,7 +54,7 @@ PLAIN(blake2s, BLAKE2S, ((uint64_t)1 << 48) - 1)
         (void)t;                                                                                   \
         return vulfsjor_##f##_init_salt_personal(S, o, KEY(k), TEXT(s), TEXT(p));                  \
     }                                                                                              \
-    FAMILY(f, NAME, "|O$iy*y*y*p", 0, NULL, NULL, 0, NULL, NULL)
+    FAMILY(f, NAME, "|O$iy*y*y*p", 0, NULL, NULL, NULL, 0, NULL, NULL)
 PARALLEL(blake2bp, BLAKE2BP)
 PARALLEL(blake2sp, BLAKE2SP)
 
@@ -111,25 +87,6 @@ static int check_most(uint64_t number, uint64_t most, const char *name) {
 }
 
 /* ---- Hash objects */
-
-typedef union state {
-    vulfsjor_blake2b_state b;
-    vulfsjor_blake2s_state s;
-    vulfsjor_blake2bp_state bp;
-    vulfsjor_blake2sp_state sp;
-} state;
-
-/* With the GIL the lock is made at the first update of many bytes: nothing else lets other threads
- * run. The size is that of the digest. An object of blake2b may have a key, one of blake2b_mac has
- * one. */
-typedef struct hash {
-    PyObject_HEAD
-    const family *f;
-    PyThread_type_lock lock;
-    int size;
-    short is_keyed, is_mac; /* a MAC's tag is not short, or is so by name */
-    state run;
-} hash;
 
 /* Absorbs the bytes. 0, or -1 with an exception. */
 static int absorb(hash *self, PyObject *data) {
@@ -282,6 +239,10 @@ static void end_of_life(PyObject *object) {
     if (self->lock) PyThread_free_lock(self->lock);
     PyObject_Free(object);
     Py_DECREF(type);
+}
+
+hash *hash_of(PyObject *object) {
+    return PyType_GetSlot(Py_TYPE(object), Py_tp_dealloc) == (void *)end_of_life ? (hash *)object : NULL;
 }
 
 static PyObject *update(PyObject *self, PyObject *data) {
@@ -454,201 +415,7 @@ static PyGetSetDef fields[] = {
     {"digest_size", size_of, NULL, "The number of bytes in the digest.", NULL},
     {NULL, NULL, NULL, NULL, NULL}};
 
-/* ---- Several messages in parallel */
-
-static void let_go(messages *m) {
-    while (m->count > 0) PyBuffer_Release(&m->views[--m->count]);
-    PyMem_Free(m->views);
-    PyMem_Free(m->texts);
-}
-
-/* Takes hold of the objects of a tuple. 0, or -1 with an exception. let_go follows in either
- * case. */
-static int hold_tuple(messages *m, PyObject *tuple) {
-    Py_ssize_t count = PyTuple_Size(tuple);
-    m->count = 0;
-    m->views = PyMem_Calloc((size_t)count, sizeof *m->views);
-    m->texts = PyMem_Calloc((size_t)count, sizeof *m->texts);
-    if (!m->views || !m->texts) {
-        PyErr_NoMemory();
-        return -1;
-    }
-    for (; m->count < count; m->count++) {
-        Py_buffer *view = &m->views[m->count];
-        if (view_of(PyTuple_GetItem(tuple, m->count), view)) return -1;
-        m->texts[m->count].bytes = vulfsjor_text(view->buf);
-        m->texts[m->count].length = (size_t)view->len;
-    }
-    return 0;
-}
-
-/* Returns a list of digests that are stored one after another. */
-static PyObject *list_of(const uint8_t *digests, Py_ssize_t count, int size) {
-    PyObject *list = PyList_New(count);
-    for (Py_ssize_t i = 0; list && i < count; i++) {
-        PyObject *digest = PyBytes_FromStringAndSize((const char *)digests + i * size, size);
-        if (!digest || PyList_SetItem(list, i, digest)) Py_CLEAR(list);
-    }
-    return list;
-}
-
-static PyObject *digests_of(const messages *m, const given *g, const family *f) {
-    uint8_t *digests = PyMem_Malloc((size_t)m->count * (size_t)g->size);
-    PyObject *list = NULL;
-    int status;
-    if (!digests) return PyErr_NoMemory();
-    Py_BEGIN_ALLOW_THREADS
-    status = f->many(digests, (size_t)g->size, m, &g->key, &g->salt, &g->person);
-    Py_END_ALLOW_THREADS
-    if (status) PyErr_SetString(PyExc_SystemError, "the library refuses what was checked");
-    else list = list_of(digests, m->count, g->size);
-    PyMem_Free(digests);
-    return list;
-}
-
-/* Whether this is one message, and not several: a string, or a buffer of single bytes. */
-static int is_one(PyObject *data) {
-    const char *kind;
-    Py_buffer view;
-    int is_one;
-    if (PyUnicode_Check(data)) return 1;
-    if (!PyObject_CheckBuffer(data)) return 0;
-    if (PyObject_GetBuffer(data, &view, PyBUF_FULL_RO)) {
-        PyErr_Clear(); /* its items may be messages all the same */
-        return 0;
-    }
-    kind = view.format ? view.format + strspn(view.format, "<>=@!") : "B";
-    is_one = view.ndim == 1 && strchr("Bbc", *kind);
-    PyBuffer_Release(&view);
-    return is_one;
-}
-
-/* Bytes that stay what they are: the message itself if it is bytes, and a copy of any other. */
-static PyObject *kept(PyObject *message) {
-    PyObject *copied;
-    Py_buffer view;
-    if (PyBytes_CheckExact(message)) return Py_NewRef(message);
-    if (view_of(message, &view)) return NULL;
-    copied = PyBytes_FromStringAndSize(view.buf, view.len);
-    PyBuffer_Release(&view);
-    return copied;
-}
-
-/* The next messages of an iterator as a list, which is empty at its end: each is copied before the
- * next is asked for, which may be written over it. They are whole groups of those that are hashed in
- * parallel. NULL with an exception. */
-static PyObject *next_few(PyObject *iterator) {
-    enum { GROUP = 8, FEW = 512, SHORT = 1 << 18, LONG = 1 << 26 };
-    PyObject *list = PyList_New(0), *message, *held;
-    Py_ssize_t count = 0, length = 0;
-    int failed = !list;
-    while (!failed && length < LONG && (count % GROUP || (count < FEW && length < SHORT)) &&
-           (message = PyIter_Next(iterator))) {
-        held = kept(message);
-        failed = !held || PyList_Append(list, held);
-        if (held) length += PyBytes_Size(held);
-        count++;
-        Py_DECREF(message);
-        Py_XDECREF(held);
-    }
-    if (failed || PyErr_Occurred()) Py_CLEAR(list);
-    return list;
-}
-
-static PyObject *digests_of_tuple(PyObject *tuple, const given *g, const family *f) {
-    PyObject *list = NULL;
-    messages held;
-    if (!hold_tuple(&held, tuple)) list = digests_of(&held, g, f);
-    let_go(&held);
-    return list;
-}
-
-/* The bytes are those in this room from now on. */
-static void move_to(uint8_t *room, Py_buffer *text) {
-    if (text->len) memcpy(room, text->buf, (size_t)text->len);
-    text->buf = room;
-}
-
-/* Digests of what an iterator yields. No more than some of its messages are held at a time. Its code
- * may change all else that was given, of which there is a copy. */
-static PyObject *digests_of_iterator(PyObject *iterator, const given *g, const family *f) {
-    uint8_t key[64], salt[16], person[16];
-    given own = *g;
-    PyObject *all = PyList_New(0), *few, *tuple, *digests;
-    Py_ssize_t count = all ? 1 : 0;
-    move_to(key, &own.key);
-    move_to(salt, &own.salt);
-    move_to(person, &own.person);
-    while (count) {
-        few = next_few(iterator);
-        tuple = few ? PyList_AsTuple(few) : NULL;
-        digests = tuple ? digests_of_tuple(tuple, &own, f) : NULL;
-        count = digests ? PyList_Size(digests) : 0;
-        if (!digests || PyList_SetSlice(all, PyList_Size(all), PyList_Size(all), digests)) {
-            Py_CLEAR(all);
-            count = 0;
-        }
-        Py_XDECREF(few);
-        Py_XDECREF(tuple);
-        Py_XDECREF(digests);
-    }
-    vulfsjor_wipe(key, sizeof key);
-    return all;
-}
-
-/* What a list, a tuple and the rows of a buffer hold is there all at once, and not copied. */
-static PyObject *digests_of_messages(PyObject *data, const given *g, const family *f) {
-    const int is_there = PyList_CheckExact(data) || PyTuple_CheckExact(data) || PyObject_CheckBuffer(data);
-    PyObject *held, *list = NULL;
-    if (is_one(data))
-        return refused(PyExc_TypeError, "messages must be several, such as a list of bytes, not one");
-    if (PyAnySet_Check(data))
-        return refused(PyExc_TypeError, "messages must be in an order, which a set has not");
-    if (PyDict_Check(data))
-        return refused(PyExc_TypeError, "messages must not be a dict, whose keys they would be");
-    held = is_there ? PySequence_Tuple(data) : PyObject_GetIter(data);
-    if (held) list = is_there ? digests_of_tuple(held, g, f) : digests_of_iterator(held, g, f);
-    Py_XDECREF(held);
-    return list;
-}
-
-static PyObject *many(PyObject *args, PyObject *words, const family *f, const char *arguments) {
-    static char *names[] = {"", "digest_size", "key", "salt", "person", NULL};
-    given g = {.size = f->out};
-    PyObject *list = NULL;
-    if (!PyArg_ParseTupleAndKeywords(args, words, arguments, names, &g.data, to_size, &g.size,
-                                     &g.key, &g.salt, &g.person))
-        return NULL;
-    if (!check(g.size, 1, f->out, "digest_size", " bytes") &&
-        !check_text(&g.salt, f->salt, "salt") && !check_text(&g.person, f->person, "person") &&
-        !check_text(&g.key, f->key, "key"))
-        list = digests_of_messages(g.data, &g, f);
-    release_given(&g);
-    return list;
-}
-
-static PyObject *many_b(PyObject *module, PyObject *args, PyObject *words) {
-    (void)module;
-    return many(args, words, &blake2b, "O|$O&y*y*y*:blake2b_many");
-}
-
-static PyObject *many_s(PyObject *module, PyObject *args, PyObject *words) {
-    (void)module;
-    return many(args, words, &blake2s, "O|$O&y*y*y*:blake2s_many");
-}
-
-/* ---- The classes, and the functions of several messages */
-
-#define MANY(f, size, lanes)                                                                       \
-    #f "_many(messages, /, *, digest_size=" #size ", key=b'', salt=b'', person=b'')\n--\n\n"       \
-       "Return a list of the digests of the messages, each under these parameters.\n\n"            \
-       "Messages in a row of the same length are hashed " lanes " in parallel, which is faster\n"  \
-       "on a processor with AVX2. What an iterator yields is copied when it comes, unless it is\n"   \
-       "bytes: it may be one buffer that is filled again and again."
-PyMethodDef hash_functions[] = {
-    {"blake2b_many", WITH_WORDS(many_b), MANY(blake2b, 64, "four")},
-    {"blake2s_many", WITH_WORDS(many_s), MANY(blake2s, 32, "eight")},
-    {NULL, NULL, 0, NULL}};
+/* ---- The classes */
 
 #define TREE                                                                                       \
     " fanout=1, depth=1,\n"                                                                        \

@@ -68,10 +68,11 @@ typedef struct classes {
 /* The digits of at most 64 bytes, as a string. */
 PyObject *digits_of(const uint8_t *bytes, Py_ssize_t length);
 
-/* ---- library.c: the functions of several messages, for the module, and the classes of hashes and MACs, whose class
- * this is. */
-extern PyMethodDef hash_functions[];
+/* ---- library.c: the classes of hashes and MACs, whose class this is. */
 int add_hash_types(PyObject *module, PyObject *type_of_types);
+
+/* ---- several.c: the functions of several messages and of several hash objects, for the module. */
+extern PyMethodDef several_functions[];
 
 /* ---- trees.c: the functions of the tree of two levels, for the module, and its classes. */
 extern PyMethodDef tree_functions[];

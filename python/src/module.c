@@ -94,7 +94,7 @@ static PyModuleDef_Slot module_slots[] = {
     {4, (void *)1}, {3, (void *)2}, {Py_mod_exec, ask_processor}, {Py_mod_exec, fill_module}, {0, NULL}};
 static PyModuleDef module = {
     PyModuleDef_HEAD_INIT, "vulfsjor._library", "The functions of the package vulfsjor, in C.",
-    sizeof(classes), hash_functions, NULL, visit_classes, clear_classes, free_classes};
+    sizeof(classes), several_functions, NULL, visit_classes, clear_classes, free_classes};
 
 /* Every interpreter that loads the module writes the same pointer. */
 PyMODINIT_FUNC PyInit__library(void) {

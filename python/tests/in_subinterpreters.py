@@ -32,6 +32,9 @@ except vulfsjor.InvalidTag:
     pass
 else:
     raise AssertionError
+several = [vulfsjor.blake2b(), vulfsjor.blake2b(key=b"key"), vulfsjor.blake2b()]
+vulfsjor.update_many(several, [b"x", data, data])
+assert several[1].digest() == {WANTED[0]!r}
 assert vulfsjor.blake2bp(data).digest() == {PARALLEL!r}
 assert vulfsjor.blake2s_many([data, data]) == [{WANTED[1]!r}] * 2
 for threads in (1, 3 if sys.version_info >= (3, 13) else 1):

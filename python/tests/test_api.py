@@ -224,6 +224,20 @@ class Secrets(unittest.TestCase):
                 *([lambda: mac.digest(99)] if size else [lambda: mac.verify(b"x"), lambda: mac.verify(tag)])), mac)
 
     @unittest.skipIf(WITHOUT_GIL, "without the GIL the memory is too large to search")
+    def test_updates_leave_no_copy_of_a_state(self):
+        """Those of several objects, which are absorbed, or refused since a count is near 2^64."""
+        for (_, make, *_, longest), place in zip(PLAIN, (152, 88), strict=True):
+            key = os.urandom(longest)
+            mac, late = make(key=key), make(key=key)
+            count = ctypes.c_uint64.from_address(id(late) + object.__basicsize__ + place)
+            self.assertEqual(count.value, 0)
+            count.value = 2**64 - 4 * longest
+            for pieces in ([bytes(300)] * 9, [b"", b"x", b""] * 3, [b""] * 2, [b""]):
+                for more in ([], [late]):  # one by one: the next call overwrites what this one has left
+                    self.leave_no_copy(key, [lambda: vulfsjor.update_many(
+                        [*(mac.copy() for _ in pieces), *more], pieces + [bytes(300)] * len(more))], mac, late)
+
+    @unittest.skipIf(WITHOUT_GIL, "without the GIL the memory is too large to search")
     def test_trees_leave_no_copy_of_a_state(self):
         """Here of the bytes of a message that wait in it. A digest compresses them, which leaves them on the stack."""
         message = os.urandom(32)
@@ -281,6 +295,14 @@ class Views(unittest.TestCase):
                 lambda: mac(key, digest_size=0), lambda: make("x", key=key, salt=key), lambda: make(digest_size=0),
                 *((lambda: make(depth=0), lambda: make(leaf_size=-1), lambda: many([held] * 5, salt=key),
                    lambda: many([held, "x"], key=key, salt=key)) if many else ()))
+        for _, make, *_ in PLAIN:
+            first, other, update_many = make(key=b"key"), make(), vulfsjor.update_many
+            yield from (
+                lambda: update_many([first, other], [held, key]), lambda: update_many([first, other], [held, "x"]),
+                lambda: update_many(iter([first, other]), map(memoryview, (held, key))),
+                lambda: update_many([first], map(memoryview, (held, key))), lambda: update_many([first], [held, key]),
+                lambda: update_many([first, held], [held, key]), lambda: update_many([first, first], [held, key]),
+                lambda: update_many({first}, [held]), lambda: update_many([first], {}))
         for _, make, *_ in OUTPUTS:
             found = make(b"x", key=b"key", length=3000)
             yield from (

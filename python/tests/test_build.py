@@ -201,8 +201,8 @@ class Build(Test):
             words = said.splitlines()
             self.assertEqual(name, f"vulfsjor-{VERSION}-cp311-abi3-{re.sub('[-.]', '_', platform_name)}.whl")
             self.assertEqual([word for word in words if word.endswith((".c", ".s", ".S"))],
-                             ["src/module.c", "src/library.c", "src/arguments.c", "src/by_threads.c", "src/trees.c",
-                              "src/xof.c", *sources])
+                             ["src/module.c", "src/library.c", "src/several.c", "src/arguments.c", "src/by_threads.c",
+                              "src/trees.c", "src/xof.c", *sources])
             several = sources == assembly and re.search("x86_64|amd64", platform_name)
             self.assertEqual([word.partition("=")[0] for word in words if word.startswith("-DBUILD")],
                              ["-DBUILD_v2", "-DBUILD_v3", "-DBUILD_v4"] if several else ["-DBUILD"])

@@ -13,7 +13,8 @@ import unittest
 import support
 from support import FOLDER, HERE, HUGE, long, run
 
-FILES = [f"test_{subject}.py" for subject in ("against_hashlib", "conformance", "files", "refusals", "threads")]
+FILES = [f"test_{subject}.py" for subject in ("against_hashlib", "conformance", "files", "refusals", "threads",
+                                              "update_many")]
 ABOUT = """import sys, sysconfig
 print(sys.executable, *sys.version_info[:2], bool(sysconfig.get_config_var("Py_GIL_DISABLED")),
       sys.implementation.name == "cpython", sep="|")"""

@@ -129,6 +129,9 @@ RESULTS = {
     "vulfsjor.file_digest(open('/dev/null', 'rb', 0), vulfsjor.blake2s)": "vulfsjor.blake2s",
     **{f"vulfsjor.blake2{family}_many([b'x'], digest_size=4, key=b'', salt=b'', person=b'')":
        "list[bytes]" for family in "bs"},
+    **{f"vulfsjor.update_many({hashes}, {pieces})": "None" for make in (
+        "blake2b()", "blake2s()", "blake2b_mac(b'k')", "blake2s_mac(b'k')") for hashes, pieces in (
+        (f"[vulfsjor.{make}]", "[b'x']"), (f"(vulfsjor.{make} for _ in '12')", "iter([b'x', bytearray(b'y')])"))},
     **{f"vulfsjor.blake2x{family}{rest}": kind for family in "bs" for rest, kind in {
         "(b'', length=9, key=b'', salt=b'', person=b'')": f"vulfsjor.blake2x{family}",
         "(length=None).copy()": f"vulfsjor.blake2x{family}", "().update(b'x')": "None",
@@ -175,6 +178,12 @@ REFUSED = (
     "vulfsjor.file_digest(io.BytesIO(), 'blake2s', length=5)",
     "vulfsjor.file_digest(io.BytesIO(), 'blake2s_mac')", "vulfsjor.file_digest(io.BytesIO(), 5)",
     "vulfsjor.tree_root_file(1.5, 1)", "vulfsjor.tree_root_file('/dev/null', 1, progress=5)",
+    *(f"vulfsjor.update_many({wrong})" for wrong in (
+        "[vulfsjor.blake2b()]", "[vulfsjor.blake2b()], [b'x'], []", "hashes=[vulfsjor.blake2b()], pieces=[b'x']",
+        "vulfsjor.blake2b(), [b'x']", "[vulfsjor.blake2b()], b'x'", "[vulfsjor.blake2b()], ['x']",
+        "[vulfsjor.blake2b()], 'x'", "[vulfsjor.blake2bp()], [b'x']", "[vulfsjor.blake2sp_mac(b'k')], [b'x']",
+        "[vulfsjor.blake2b(), vulfsjor.blake2s()], [b'x', b'y']", "[vulfsjor.blake2xb()], [b'x']",
+        "[vulfsjor.blake2b(), vulfsjor.blake2b_mac(b'k')], [b'x', b'y']", "[vulfsjor.TreeHasher(5)], [b'x']")),
 )
 # Checks that are taken for values, and comparisons that are never true, which only a type checker refuses.
 CHECKS = (
@@ -189,7 +198,8 @@ NAMED = {
                     "SupportsIndex"),
     **dict.fromkeys(("leaf_size", "node_offset", "length", "first", "skip", "file"), "int"),
     **dict.fromkeys(("allow_short", "ends", "last_node", "usedforsecurity"), "bool"),
-    "messages": "Iterable[_Bytes]", "path": "FileDescriptorOrPath",
+    "messages": "Iterable[_Bytes]", "path": "FileDescriptorOrPath", "pieces": "Iterable[_Bytes]",
+    "hashes": "Iterable[blake2b] | Iterable[blake2b_mac] | Iterable[blake2s] | Iterable[blake2s_mac]",
     "progress": "Callable[[int], object] | None",
 }
 

@@ -4,6 +4,7 @@ faults."""
 import contextlib
 import functools
 import io
+import itertools
 import os
 import signal
 import sys
@@ -25,6 +26,17 @@ KINDS = (*((make, (), lambda data, theirs=theirs: theirs(data).digest()) for _, 
          *((make, (99,), lambda data, make=make: make(data).digest(99)) for _, make, *_ in OUTPUTS),
          (functools.partial(vulfsjor.TreeHasher, 1 << 12, digest_size=20), (),
           lambda data: oracle.tree_root(data, 1 << 12, 20)))
+
+
+def update(hasher):
+    """A long update of an object."""
+    hasher.update(LONG)
+
+
+def update_several(hasher):
+    """The same of one object of several."""
+    make = type(hasher)
+    vulfsjor.update_many([make(), hasher, make()], [b"x", LONG, b"y"])
 
 
 def accepts(mac, tag):
@@ -72,6 +84,8 @@ class Threads(unittest.TestCase):
         for _, make, *_ in OUTPUTS:
             self.let_others_run(lambda: make().update(LONG), lambda: make().digest(1 << 24),
                                 lambda: make().hexdigest(1 << 24))
+        for _, make, *_ in PLAIN:
+            self.let_others_run(lambda: update_several(make()))
         self.let_others_run(
             lambda: vulfsjor.derive_key(b"key", b"", 1 << 24), lambda: vulfsjor.derive_key(b"key", LONG, 9),
             lambda: vulfsjor.file_digest(io.BytesIO(LONG), "blake2b"),
@@ -85,19 +99,21 @@ class Threads(unittest.TestCase):
     def test_others_wait_for_a_long_update(self):
         """A call of an object sees all of an update that is under way, at least once in a hundred
         tries: in a single try the update may not have started."""
-        for make, size, theirs in KINDS:
+        several = [(update_several, make, (), lambda data, theirs=theirs: theirs(data).digest())
+                   for _, make, theirs, *_ in PLAIN]
+        for work, make, size, theirs in (*((update, *kind) for kind in KINDS), *several):
             wanted = theirs(LONG)
             for call in (lambda hasher: hasher.copy().digest(*size) == wanted,
                          lambda hasher: hasher.digest(*size) == wanted,
                          *[lambda hasher: hasher.load(hasher.save()).digest() == wanted] * hasattr(make, "save")):
-                self.assertTrue(any(self.is_met(call, make()) for _ in range(100)))
+                self.assertTrue(any(self.is_met(call, make(), work) for _ in range(100)))
         for _, make, *_ in FAMILIES:
             tag = make(LONG, key=b"key").digest()  # test_conformance.py knows that it is right
             self.assertTrue(any(self.is_met(lambda mac: accepts(mac, tag), make(key=b"key")) for _ in range(100)))
 
-    def is_met(self, call, hasher):
+    def is_met(self, call, hasher, work=update):
         """The result of a call while another thread updates the object."""
-        with by_threads(1, lambda: hasher.update(LONG)):
+        with by_threads(1, lambda: work(hasher)):
             time.sleep(0.002)
             return call(hasher)
 
@@ -106,12 +122,18 @@ class Threads(unittest.TestCase):
         for _, make, _, _, _ in FAMILIES:
             hasher, short = make(), bytes(2047)
             self.assertEqual(self.turns_during(lambda: [hasher.update(short) for _ in range(3000)]), 0)
+        for _, make, *_ in PLAIN:
+            several, short = [make() for _ in range(3)], [bytes(1024), b"", bytes(1023)]
+            self.assertEqual(self.turns_during(lambda: [vulfsjor.update_many(several, short) for _ in range(3000)]), 0)
 
     def test_2048_bytes_are_long(self):
-        for make, *_ in KINDS:
-            hasher, before, end = make(), self.turns, time.monotonic() + 20
+        """Of one object, or of several together."""
+        for call in (*(functools.partial(make().update, bytes(2048)) for make, *_ in KINDS),
+                     *(functools.partial(vulfsjor.update_many, [make(), make()], [bytes(1024)] * 2)
+                       for _, make, *_ in PLAIN)):
+            before, end = self.turns, time.monotonic() + 20
             while self.turns == before and time.monotonic() < end:
-                hasher.update(bytes(2048))
+                call()
             self.assertGreater(self.turns, before)
 
 
@@ -171,6 +193,66 @@ class Shared(unittest.TestCase):
             with by_threads(4, work):
                 pass
             self.assertEqual(hasher.digest(*size), wanted(bytes(4 * 3000 * 99)))
+
+    def test_lists_in_other_orders(self):
+        """Threads update the same objects, by lists in other orders and alone, with many bytes and few. None waits for
+        ever, and no update is lost."""
+        for _, make, theirs, *_ in PLAIN:
+            ours, done = [make() for _ in range(4)], []
+
+            def work(order, length):
+                several = [ours[place] for place in order]
+                for _ in range(200):
+                    vulfsjor.update_many(several, [bytes(length)] * len(order))
+                    several[-1].update(bytes(2048))
+                    several[0].digest()
+                done.extend([*order] * length + [order[-1]] * 2048)
+
+            threads = [threading.Thread(target=work, args=(order, length), daemon=True)
+                       for order, length in zip(itertools.permutations(range(4), 3), itertools.cycle((3000, 99)))]
+            for thread in threads:
+                thread.start()
+            end = time.monotonic() + 60
+            for thread in threads:
+                thread.join(max(0, end - time.monotonic()))
+            self.assertFalse(any(thread.is_alive() for thread in threads))
+            self.assertEqual([each.digest() for each in ours],
+                             [theirs(bytes(200 * done.count(place))).digest() for place in range(4)])
+
+    def test_a_call_that_waits(self):
+        """A call waits for an object. Meanwhile a long update of another begins, and is not lost, whichever is the
+        first of the call and by its address."""
+        short, long, longest = bytes(5), LONG, bytes(3 << 24)
+        for (_, make, theirs, *_), step, turned in itertools.product(PLAIN, (1, -1), (1, -1, 1, -1)):
+            first, last = sorted((make(), make()), key=id)[::step]
+            threads = [threading.Thread(target=call, args=given) for call, *given in (
+                (last.update, long), (vulfsjor.update_many, [first, last][::turned], [short] * 2),
+                (first.update, longest))]
+            for thread in threads:
+                thread.start()
+                time.sleep(0.002)
+            for thread in threads:
+                thread.join()
+            self.assertEqual([first.digest(), last.digest()],
+                             [theirs(longest + short).digest(), theirs(long + short).digest()])
+
+    def test_what_a_call_holds(self):
+        """While a call absorbs, its pieces do not change their lengths, and it needs neither of the lists."""
+        for _, make, theirs, *_ in PLAIN:
+            for _ in range(100):
+                ours, piece, is_held = [make(), make()], bytearray(LONG), False
+                hashes, pieces = ours[:], [b"x", piece]
+                with by_threads(1, lambda: vulfsjor.update_many(hashes, pieces)):
+                    time.sleep(0.002)
+                    hashes.clear(), pieces.clear()
+                    try:
+                        piece.append(1)
+                    except BufferError:
+                        is_held = True
+                if is_held:
+                    break
+            self.assertTrue(is_held)
+            self.assertEqual([each.digest() for each in ours], [theirs(b"x").digest(), theirs(LONG).digest()])
 
     def test_counts_of_whole_updates(self):
         hasher, counts, piece = vulfsjor.TreeHasher(64), set(), bytes(100_003)

@@ -72,6 +72,7 @@ from vulfsjor._library import (
     tree_leaves,
     tree_root,
     tree_root_of_leaves,
+    update_many,
 )
 from vulfsjor._files import file_digest, tree_root_file
 
@@ -79,5 +80,5 @@ __all__ = [
     "InvalidTag", "TreeHasher", "blake2b", "blake2b_mac", "blake2b_many", "blake2bp",
     "blake2bp_mac", "blake2s", "blake2s_mac", "blake2s_many", "blake2sp", "blake2sp_mac",
     "blake2xb", "blake2xs", "derive_key", "file_digest", "tree_leaf_count", "tree_leaves",
-    "tree_root", "tree_root_file", "tree_root_of_leaves",
+    "tree_root", "tree_root_file", "tree_root_of_leaves", "update_many",
 ]

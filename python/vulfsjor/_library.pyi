@@ -448,6 +448,20 @@ def tree_root_of_leaves(
 
     The digests have 64 bytes for each leaf. There is at least one leaf.
     """
+def update_many(
+    hashes: Iterable[blake2b] | Iterable[blake2b_mac] | Iterable[blake2s] | Iterable[blake2s_mac],
+    pieces: Iterable[_Bytes],
+    /,
+) -> None:
+    """Absorb each piece into the hash object at its place, as its update would.
+
+    The objects are of one class: blake2b, blake2b_mac, blake2s or blake2s_mac. The pieces have
+    any lengths. More pieces than objects, or fewer, or an object that is there twice, raise
+    ValueError. After an exception all objects are unchanged. Objects in a row absorb in
+    parallel up to where the shortest of their pieces ends, if each has more than a block to
+    absorb, which is faster on a processor with AVX2. Pieces that an iterator yields are copied
+    as by blake2b_many.
+    """
 def derive_key(key: _Bytes, context: _Bytes, length: int) -> bytes:
     """Return a key of this length, derived from a key of 1 to 64 bytes for a context.
 
