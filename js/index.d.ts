@@ -309,6 +309,14 @@ export class Blake2b extends Hasher {
    * keep them as safe as the input. Throws a `RangeError` for what is not a saved state of this hash.
    */
   static load<Hash extends Blake2b>(this: new (...options: never[]) => Hash, saved: Bytes): Hash;
+  /**
+   * Absorbs each piece into the hash at its place, as its `update` would, all or none: a call that is
+   * refused changes no hash. Throws a `TypeError` for a hash of another class, one that has ended and
+   * one with an open pipe. Throws a `RangeError` if there are more pieces or fewer than hashes, if a
+   * hash is there twice, or if a message would reach 2^64 bytes. Each piece of an iterable that is
+   * not an array is copied when it comes. It is not faster than separate updates.
+   */
+  static updateMany(hashes: Iterable<Blake2b>, pieces: Iterable<Bytes>): void;
 }
 
 /** An incremental BLAKE2s hash. */
@@ -318,6 +326,8 @@ export class Blake2s extends Hasher {
   save(): Uint8Array;
   /** As `load` of `Blake2b`. */
   static load<Hash extends Blake2s>(this: new (...options: never[]) => Hash, saved: Bytes): Hash;
+  /** As `updateMany` of `Blake2b`. */
+  static updateMany(hashes: Iterable<Blake2s>, pieces: Iterable<Bytes>): void;
 }
 
 /** An incremental BLAKE2bp hash. */

@@ -2,8 +2,8 @@
 // index.d.ts documents the interface.
 
 import {
-  OPTIONS, bytesOf, checkedSettings, copyOf, flagOf, isBytes, kindOf, lengthOf, offsetOf, readSettings,
-  refuseMore, settingsOf,
+  OPTIONS, bytesOf, checkedSettings, flagOf, kindOf, lengthOf, offsetOf, readSettings, refuseMore,
+  settingsOf, takeBytes,
 } from "./src/arguments.js";
 import { BLAKE2B, Blake2b } from "./src/blake2b.js";
 import { BLAKE2S, Blake2s } from "./src/blake2s.js";
@@ -36,27 +36,12 @@ function hashOne(kind, caller, message, options, count) {
   return hash(kind, bytes, settingsOf(kind, options, caller));
 }
 
-const iteratorOfArrays = Array.prototype[Symbol.iterator];
-
 function hashSeveral(kind, caller, messages, options, rest) {
   refuseMore(rest.length, caller, 2);
-  const isIterable = typeof messages?.[Symbol.iterator] === "function";
-  if (!isIterable || typeof messages === "string" || isBytes(messages)) {
-    throw new TypeError(
-      `${caller}: messages must be an iterable of bytes, not ${kindOf(messages)}` +
-        (isBytes(messages) ? "; several messages are expected, not one" : ""),
-    );
-  }
   const [, read] = readSettings(kind, options, caller, OPTIONS.basic);
-  // What an array holds is there all at once. Any other iterable may yield one buffer that it fills
-  // again and again, so each message is copied before the next is asked for.
-  const isArray = Array.isArray(messages) && messages[Symbol.iterator] === iteratorOfArrays;
-  const given = isArray
-    ? Array.from(messages)
-    : Array.from(messages, (message, i) => copyOf(bytesOf(message, caller, `message ${i}`)));
+  const given = takeBytes(messages, caller, "message");
   const settings = checkedSettings(kind, read, caller); // again, after code of the caller
-  const bytes = isArray ? given.map((message, i) => bytesOf(message, caller, `message ${i}`)) : given;
-  return hashMany(kind, bytes, settings);
+  return hashMany(kind, given.map((message, i) => bytesOf(message, caller, `message ${i}`)), settings);
 }
 
 export function blake2b(message, options) {

@@ -118,7 +118,35 @@ export function bytesOf(value, caller, what) {
   }
 }
 
-// The same with a length between the bounds; empty if the value is undefined.
+const iteratorOfArrays = Array.prototype[Symbol.iterator];
+
+/**
+ * The values of an iterable as an array, each mapped if there is a function for that. An iterable
+ * may run code of the caller, so check the values after all lists of a call are taken.
+ */
+export function take(values, caller, what, of, each) {
+  const isIterable = typeof values?.[Symbol.iterator] === "function";
+  if (!isIterable || typeof values === "string" || ArrayBuffer.isView(values)) {
+    throw new TypeError(
+      `${caller}: ${what} must be an iterable of ${of}, not ${kindOf(values)}` +
+        (of === "bytes" && isBytes(values) ? `; several ${what} are expected, not one` : ""),
+    );
+  }
+  return each === undefined ? [...values] : Array.from(values, each);
+}
+
+/**
+ * The same for bytes, which bytesOf has to check then. What an array holds is there all at once.
+ * Any other iterable may yield one buffer that it fills again and again, so each is copied before
+ * the next is asked for.
+ */
+export function takeBytes(values, caller, what) {
+  const isArray = Array.isArray(values) && values[Symbol.iterator] === iteratorOfArrays;
+  const copy = (value, i) => copyOf(bytesOf(value, caller, `${what} ${i}`));
+  return take(values, caller, `${what}s`, "bytes", isArray ? undefined : copy);
+}
+
+// What bytesOf returns, with a length between the bounds; empty if the value is undefined.
 function shortBytesOf(value, caller, what, least, most) {
   if (value === undefined) return EMPTY;
   const bytes = bytesOf(value, caller, what);

@@ -1,6 +1,6 @@
 // BLAKE2s of one message, in a module of its own.
 import { BLAKE2S_NUMBERS, Kind, newModule } from "./engine.js";
-import { Hasher, loadState, saveState } from "./hashers.js";
+import { Hasher, loadState, saveState, updateMany } from "./hashers.js";
 import { decode } from "./wasm_blake2s.js";
 
 export const BLAKE2S =
@@ -18,5 +18,9 @@ export class Blake2s extends Hasher {
   static load(saved) {
     const isOne = this === Blake2s || this?.prototype instanceof Blake2s;
     return loadState(BLAKE2S, "Blake2s", isOne, this, saved, arguments.length - 1);
+  }
+
+  static updateMany(hashes, pieces) {
+    updateMany(BLAKE2S, "Blake2s", hashes, pieces, arguments.length - 2);
   }
 }

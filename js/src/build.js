@@ -1,4 +1,4 @@
 // Made by tools/build.mjs from dist/wasm/vulfsjor.wasm. Do not edit.
 
 /** The line of dist/MANIFEST for the module. */
-export const line = "788f9dc86a3cb5a5d981bda9a6dcc70b3ff7c4eba0b7a47d9af12a34281a6aac  wasm/vulfsjor.wasm";
+export const line = "290a6bdac989fb0053fa2244d3b1352374c09670a769bf9b865a0da1564e97b2  wasm/vulfsjor.wasm";

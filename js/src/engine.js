@@ -389,6 +389,16 @@ function updateIn(engine, kind, state, waiting, message) {
   return isAbsorbed;
 }
 
+/** Whether a state after which nothing waits would absorb a message. It stays as it is. */
+export const accepts = (kind, state, message) => withEngine(acceptsIn, kind, state, message);
+
+function acceptsIn(engine, kind, state, message) {
+  engine.bytes.set(state, engine.base + STATE);
+  const isAccepted = engine.updateFromWindow(kind, 0, message);
+  engine.clean(kind, lengthOf(message));
+  return isAccepted;
+}
+
 // Puts a state into the slot, and absorbs what waits after it.
 function putWhole(engine, kind, state, waiting) {
   engine.bytes.set(state, engine.base + STATE);

@@ -2,8 +2,8 @@
 // holds it only during a call. Short updates only append to the bytes that wait after it.
 
 import {
-  OPTIONS, bytesOf, copyOf, flagOf, isPlainBytes, lengthOf, readSettings, refuseDetached, refuseMore,
-  settingsOf,
+  OPTIONS, bytesOf, copyOf, flagOf, isPlainBytes, kindOf, lengthOf, readSettings, refuseDetached,
+  refuseMore, settingsOf, take, takeBytes,
 } from "./arguments.js";
 import * as engine from "./engine.js";
 import { hex } from "./hex.js";
@@ -41,6 +41,10 @@ export const saveState = (kind, hasher, more) => ofStates.save(kind, hasher, mor
  */
 export const loadState = (kind, name, isOne, called, saved, more) =>
   ofStates.load(kind, name, isOne, called, saved, more);
+
+/** Absorbs each piece into the hash of this kind at its place, after a check of all arguments. */
+export const updateMany = (kind, name, hashes, pieces, more) =>
+  ofStates.updateMany(kind, name, hashes, pieces, more);
 
 /** Whether a value is one of these hashes. */
 export const isHasher = (value) => ofPipes.is(value);
@@ -124,6 +128,7 @@ export class Hasher {
     // Called later: esbuild 0.17 cannot read a private method in a static block.
     ofStates.save = (...values) => Hasher.#save(...values);
     ofStates.load = (...values) => Hasher.#load(...values);
+    ofStates.updateMany = (...values) => Hasher.#updateMany(...values);
   }
 
   static #save(kind, hasher, more) {
@@ -152,6 +157,42 @@ export class Hasher {
     hasher.#digestLength = numbers.getUint8(8);
     hasher.#state = state;
     return hasher;
+  }
+
+  // One after another: what hashes them in lanes would more than double the module in each bundle.
+  static #updateMany(kind, name, hashes, pieces, more) {
+    const caller = `${name}.updateMany`;
+    refuseMore(more, caller, 2, "a hash has its options already");
+    const all = take(hashes, caller, "hashes", name);
+    const given = takeBytes(pieces, caller, "piece");
+    if (given.length !== all.length) {
+      throw new RangeError(
+        `${caller}: there must be a piece for each hash, not ${given.length} for ${all.length}`,
+      );
+    }
+    const bytes = given.map((piece, i) =>
+      isPlainBytes(piece) ? piece : bytesOf(piece, caller, `piece ${i}`));
+    all.forEach((hasher, i) => {
+      if (!isHasher(hasher) || hasher.#kind !== kind) {
+        throw new TypeError(`${caller}: hash ${i} must be a ${name}, not ${kindOf(hasher)}`);
+      }
+      if (hasher.#hasEnded) refuseEnded(hasher, `${caller}: hash ${i}`);
+      if (hasher.#isPiped) refusePiped(hasher, `${caller}: hash ${i}`);
+      // from certainBelow on nothing waits, and only the library knows
+      if (hasher.#count >= kind.certainBelow && !engine.accepts(kind, hasher.#state, bytes[i])) {
+        throw new RangeError(`${caller}: hash ${i}: the message is too long`);
+      }
+    });
+    let twice; // the first place of a hash that is at an earlier one, too
+    all.forEach((hasher, i) => {
+      if (hasher.#hasEnded) twice ??= i;
+      hasher.#hasEnded = true; // if the call throws
+    });
+    if (twice === undefined) {
+      all.forEach((hasher, i) => engine.granted(Hasher.#absorb(hasher, bytes[i]) ? 0 : -1));
+    }
+    for (const hasher of all) hasher.#hasEnded = false;
+    if (twice !== undefined) throw new RangeError(`${caller}: hash ${twice} is there twice`);
   }
 
   // Refuses a call without its hash, which may be any value, and arguments beyond the last. Calls
@@ -202,25 +243,34 @@ export class Hasher {
     Hasher.#check(this, "update", arguments.length - 1, 1);
     const bytes =
       isPlainBytes(message) ? message : bytesOf(message, this.#caller("update"), "message");
-    const state = this.#own("update");
-    const { stateLength, room, certainBelow } = this.#kind;
-    const length = lengthOf(bytes);
-    if (this.#waiting + length > room || this.#count >= certainBelow) {
-      return this.#updateState(state, bytes);
-    }
-    state.set(bytes, stateLength + this.#waiting);
-    this.#waiting += length;
-    return this;
+    this.#own("update");
+    if (Hasher.#absorb(this, bytes)) return this;
+    throw new RangeError(`${this.#caller("update")}: the message is too long`);
   }
 
-  #updateState(state, bytes) {
+  // Returns false, and changes nothing, if the message would be too long. Static, since a call of a
+  // private method takes longer.
+  static #absorb(hasher, bytes) {
+    const { stateLength, room, certainBelow } = hasher.#kind;
+    const length = lengthOf(bytes);
+    if (hasher.#waiting + length > room || hasher.#count >= certainBelow) {
+      return hasher.#absorbNow(bytes);
+    }
+    hasher.#state.set(bytes, stateLength + hasher.#waiting);
+    hasher.#waiting += length;
+    return true;
+  }
+
+  #absorbNow(bytes) {
+    const hasEnded = this.#hasEnded; // until all of updateMany have absorbed
     this.#hasEnded = true; // if the call throws
-    const isTaken = engine.update(this.#kind, state, this.#waiting, bytes);
-    this.#hasEnded = false;
-    if (!isTaken) throw new RangeError(`${this.#caller("update")}: the message is too long`);
-    this.#count += this.#waiting + lengthOf(bytes);
-    this.#waiting = 0;
-    return this;
+    const isTaken = engine.update(this.#kind, this.#state, this.#waiting, bytes);
+    this.#hasEnded = hasEnded;
+    if (isTaken) {
+      this.#count += this.#waiting + lengthOf(bytes);
+      this.#waiting = 0;
+    }
+    return isTaken;
   }
 
   digest() {

@@ -11,7 +11,7 @@ const NAMES = {
 };
 // What the message of an error has, by the argument that is refused.
 const REASONS = {
-  ...NAMES, size: /digestLength|outputLength|: length must/, message: /message/, digests: /digests/, tag: /tag/,
+  ...NAMES, size: /digestLength|outputLength|: length must/, message: /message|piece/, digests: /digests/, tag: /tag/,
   first: /first|below byte 2\^58/, saved: /saved/, left: /are left|: length must/, context: /context/,
   state: /has ended, by digest, hex, verify, wipe or a failed call$|was wiped, or a call failed$|already being read$/,
 };
@@ -117,6 +117,11 @@ class Driver {
   }
   update([slot, message]) {
     check(this.of(slot).update(bytesOf(message)) === this.of(slot), "update returns another object");
+  }
+  updates([slots, ...pieces]) {
+    const hashes = [...slots].map((slot) => this.of(slot));
+    const { updateMany } = hashes[0].constructor;
+    check(updateMany(hashes, pieces.map(bytesOf)) === undefined, "updateMany returns something");
   }
   copy([slot, other]) {
     this.objects[other] = this.of(slot).copy();

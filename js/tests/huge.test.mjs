@@ -89,8 +89,12 @@ test("messages of 2^32 bytes and more", FULL, async (t) => {
     });
     assert.equal(counts.at(-1)[0], SIZE + 1000);
   }
-  await t.test("blake2bMany, treeRootOfLeaves, equal", () => {
+  await t.test("blake2bMany, updateMany, treeRootOfLeaves, equal", () => {
     assert.equal(hex(vulfsjor.blake2bMany([tail, message], short)[1]), WANTED[0][2]);
+    const runs = [new vulfsjor.Blake2b(), new vulfsjor.Blake2b(short)];
+    vulfsjor.Blake2b.updateMany(runs, [tail, message]);
+    vulfsjor.Blake2b.updateMany(runs, [tail, tail]);
+    assert.equal(runs[1].hex(), WANTED[0][3]);
     assert.equal(hex(treeRootOfLeaves(message, treeOf(5))), ROOT);
     assertClean();
     const other = sparseMessage();

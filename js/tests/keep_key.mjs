@@ -35,6 +35,11 @@ const actions = {
     run.update(long).copy().update(short).digest();
     run.reset().update(short).digest();
   },
+  "updateMany": () => {
+    const runs = [short, long, short].map(() => new call({ key }));
+    call.updateMany(runs, [short, long, new Uint8Array(100_000)]);
+    runs.forEach((run) => run.digest());
+  },
   "read and wipe": () => {
     const output = new Blake2xb({ key });
     const copy = output.copy().update(short);

@@ -63,7 +63,7 @@ const FORMS = [
     ...(HUGE ? [`digest of ${name}`, `empty digest of ${name}`, `wipe of ${name}`] : []),
   ]),
   "one call in the heap of blake2b", "digest in the heap of Blake2b", "blake2bMany", "dropped of Blake2b",
-  "read and wipe", "deriveKey",
+  "updateMany of Blake2b", ...(HUGE ? ["updateMany of Blake2s"] : []), "read and wipe", "deriveKey",
 ];
 
 test("pieces of a key in the memory of the process", async (t) => {

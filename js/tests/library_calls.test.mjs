@@ -9,7 +9,7 @@ import {
 import { BLAKE2B } from "../src/blake2b.js";
 import { BLAKE2S } from "../src/blake2s.js";
 import * as engine from "../src/engine.js";
-import { Hasher } from "../src/hashers.js";
+import { Hasher, updateMany } from "../src/hashers.js";
 import { partOfPlan, planOf } from "../src/leaves.js";
 import * as whole from "../src/whole_module.js";
 import { assertClean, assertZeros, withOthers } from "./common.mjs";
@@ -147,6 +147,46 @@ testCalls("short updates wait, and make no call", () => {
     "blake2s_init_salt_personal", "blake2s_update 5", "blake2s_final");
   assertCalls(() => new Blake2xb().update(part(3)).update(part(4)),
     "blake2xb_init_salt_personal", "blake2xb_update 3", "blake2xb_update 4");
+});
+
+testCalls("hashes of one call absorb one after another, and short pieces wait", () => {
+  const hashes = Array.from({ length: 4 }, () => new Blake2s());
+  const updateAll = (...lengths) => Blake2s.updateMany(hashes, lengths.map(part));
+  assertCalls(() => updateAll(WAITING, 0, WAITING + 1, 3), `blake2s_update ${WAITING + 1}`);
+  assertCalls(() => updateAll(1, PIECE, WAITING, PIECE),
+    `blake2s_update ${WAITING + 1}`, `blake2s_update ${PIECE}`, `blake2s_update ${PIECE}`, "blake2s_update 3");
+  assertCalls(() => updateAll(0, WAITING, 1, WAITING), `blake2s_update ${WAITING + 1}`);
+  assertCalls(() => updateAll(0, 0, 0, 0));
+  assertCalls(() => Blake2s.updateMany([], []));
+  assertCalls(() => assert.throws(() => updateAll(PIECE, PIECE, PIECE)));
+  // near the end of what the library accepts a piece is tried first
+  const saved = new Blake2s().save();
+  new DataView(saved.buffer).setBigUint64(72, 2n ** 53n, true);
+  const late = Blake2s.load(saved);
+  assertCalls(() => Blake2s.updateMany([hashes[1], late], [part(PIECE), part(3)]),
+    "blake2s_update 3", `blake2s_update ${PIECE}`, `blake2s_update ${WAITING}`, "blake2s_update 3");
+});
+
+testCalls("a piece that is too long is refused before any hash absorbs", () => {
+  const kind = { ...BLAKE2B, certainBelow: 2000 };
+  const make = () => new Hasher(kind, "Blake2b", undefined, 0);
+  const [first, late] = [make().update(part(3)), make().update(part(WAITING)).update(part(WAITING))];
+  const wanted = [first, late].map((hash) => hash.copy().update(part(WAITING)).hex());
+  const both = () => updateMany(kind, "Blake2b", [first, late], [part(WAITING), part(WAITING)], 0);
+  whileRefused("blake2b_update", () => {
+    for (const work of [both, both]) {
+      assertCalls(() => assert.throws(work,
+        { name: "RangeError", message: "Blake2b.updateMany: hash 1: the message is too long" }),
+      `blake2b_update ${WAITING}`);
+    }
+  });
+  assertCalls(both, ...[WAITING, WAITING + 3, WAITING].map((length) => `blake2b_update ${length}`));
+  assert.deepEqual([first, late].map((hash) => hash.hex()), wanted);
+  // what the library refuses after all that ends the hashes
+  const hashes = [new Blake2b(), new Blake2b()];
+  whileRefused("blake2b_update", () => assert.throws(() => Blake2b.updateMany(hashes, [part(PIECE), part(1)]),
+    { name: "Error", message: "vulfsjor: the library refused a call" }));
+  for (const hash of hashes) assert.throws(() => hash.hex(), /has ended, by .* or a failed call$/);
 });
 
 testCalls("what waits is absorbed to be saved, and waits on", () => {

@@ -95,6 +95,7 @@ test("a stack that is full ends a call, and not the library", () => {
     () => blake2b(M), () => new Blake2b({ key: KEY }).update(M).digest(), () => equal(M, M),
     () => treeRoot(LONG, { leafLength: 99 }), () => blake2bMany([M, M, M, M, LONG]),
     () => blake2bp(M), () => new Blake2sp({ key: KEY }).update(LONG).digest(),
+    () => Blake2b.updateMany([new Blake2b({ key: KEY }), new Blake2b({ key: KEY })], [LONG, LONG]),
   ]) {
     // calls at each depth of a full stack on the way back, until three have found enough of it left
     let [refused, passed] = [0, 0];

@@ -46,6 +46,10 @@ class Counted extends Blake2b {
 }
 new Counted().update(digest).copy().reset().count++;
 Counted.load(again.save()).count++;
+const nothing: void = Blake2b.updateMany([new Blake2b(), new Counted()], new Set<Bytes>([digest, new ArrayBuffer(3)]));
+Counted.updateMany([new Counted()].values(), [new DataView(new ArrayBuffer(3))]);
+Blake2s.updateMany([again], [new SharedArrayBuffer(3)]);
+console.log(nothing);
 
 // what is undefined is not given
 const no = undefined;
@@ -115,6 +119,14 @@ Blake2b.load("00");
 Blake2s.load(digest, {}); // which say all that options say
 new Blake2bp().save(); // only BLAKE2b and BLAKE2s have saved states
 TreeHash.load(digest);
+Blake2bp.updateMany([new Blake2bp()], [digest]); // and calls of several hashes
+Blake2b.updateMany([new Blake2bp()], [digest]); // which are of the class
+Blake2s.updateMany(copy, [digest]); // several hashes
+Blake2s.updateMany([copy], digest); // and several pieces
+Blake2b.updateMany([new Blake2b()], ["text"]);
+Blake2b.updateMany([new Blake2b()]);
+Blake2s.updateMany([copy], [digest], {});
+if (Blake2b.updateMany([], [])) console.log();
 if (new Blake2b({ key: digest }).verify(digest)) console.log(); // a check has no value, which nobody compares
 if (await new Blake2b({ key: digest }).verify(digest)) console.log();
 if (copy.verify) console.log(); // nor is a check that is not called
