@@ -2239,7 +2239,7 @@
 	str	x26, [sp, #5368]
 	str	xzr, [sp, #5384]
 	str	xzr, [sp, #5376]
-	bl	blake2_state..blake2b..State..take_1_a64
+	bl	blake2_state..blake2b..State..absorb_blocks_1_a64
 	add	x1, sp, #1, lsl #12
 	add	x0, sp, #2080
 	and	w3, w25, #0x1
@@ -2953,7 +2953,7 @@
 136:
 	add	x0, x0, #368
 	add	x1, x1, #832
-	bl	blake2_state..blake2s..State..take_1_a64
+	bl	blake2_state..blake2s..State..absorb_blocks_1_a64
 	add	x1, sp, #1, lsl #12
 	mov	w0, wzr
 	mov	w2, #4096
@@ -3461,7 +3461,7 @@
 157:
 	add	x0, x0, #832
 	add	x1, x1, #832
-	bl	blake2_state..blake2b..State..take_1_a64
+	bl	blake2_state..blake2b..State..absorb_blocks_1_a64
 	add	x1, sp, #1, lsl #12
 	mov	w0, wzr
 	mov	w2, #4096
@@ -4688,7 +4688,7 @@
 	add	x1, sp, #1, lsl #12
 	add	x0, x21, #8
 	add	x1, x1, #832
-	bl	blake2_state..blake2b..State..take_1_a64
+	bl	blake2_state..blake2b..State..absorb_blocks_1_a64
 222:
 	add	x1, sp, #1, lsl #12
 	mov	w0, wzr
@@ -4736,14 +4736,14 @@
 	mov	w2, #1
 227:
 	add	x1, x1, #832
-	bl	blake2_state..blake2s..State..take_1_a64
+	bl	blake2_state..blake2s..State..absorb_blocks_1_a64
 	b	222b
 228:
 	add	x1, sp, #1, lsl #12
 	add	x0, x21, #8
 	mov	w2, #1
 	add	x1, x1, #832
-	bl	blake2_state..blake2b..State..take_1_a64
+	bl	blake2_state..blake2b..State..absorb_blocks_1_a64
 	b	222b
 229:
 	add	x0, sp, #3, lsl #12
@@ -7469,7 +7469,7 @@
 	b	504f
 390:
 	add	x0, x20, #16
-	bl	blake2_state..blake2s..State..take_1_a64
+	bl	blake2_state..blake2s..State..absorb_blocks_1_a64
 	b	395f
 391:
 	add	x0, x20, #16
@@ -7477,13 +7477,13 @@
 392:
 	add	x0, x20, #16
 	mov	w2, #1
-	bl	blake2_state..blake2s..State..take_1_a64
+	bl	blake2_state..blake2s..State..absorb_blocks_1_a64
 	b	395f
 393:
 	add	x0, x20, #16
 	mov	w2, #1
 394:
-	bl	blake2_state..blake2b..State..take_1_a64
+	bl	blake2_state..blake2b..State..absorb_blocks_1_a64
 395:
 	mov	x21, x28
 	b	376b
@@ -11188,7 +11188,7 @@
 	.byte	(2b-1b)>>2
 	.byte	(6b-1b)>>2
 
-	vj_function	blake2_state..blake2b..State..take_1_a64
+	vj_function	blake2_state..blake2b..State..absorb_blocks_1_a64
 	sub	sp, sp, #192
 	str	x21, [sp, #160]
 	ldr	w21, [x0, #136]
@@ -11309,7 +11309,7 @@
 	cmp	x20, x8
 	b.eq	6b
 	b	3b
-	vj_end	blake2_state..blake2b..State..take_1_a64
+	vj_end	blake2_state..blake2b..State..absorb_blocks_1_a64
 
 	vj_function	blake2_digest..buffer..digest_into..33c1e97afcdf8a5d_1_a64
 	stp	x29, x30, [sp, #-80]!
@@ -11573,7 +11573,7 @@
 	b	2b
 	vj_end	blake2_digest..buffer..digest_into..33c1e97afcdf8a5d_1_a64
 
-	vj_function	blake2_state..blake2s..State..take_1_a64
+	vj_function	blake2_state..blake2s..State..absorb_blocks_1_a64
 	sub	sp, sp, #160
 	stp	x22, x21, [sp, #128]
 	ldrh	w22, [x0, #72]
@@ -11855,7 +11855,7 @@
 	cmp	x2, x8
 	b.eq	11b
 	b	2b
-	vj_end	blake2_state..blake2s..State..take_1_a64
+	vj_end	blake2_state..blake2s..State..absorb_blocks_1_a64
 
 	vj_function	blake2_digest..wiping..settle..128_1_a64
 	ldp	q0, q1, [x0]

@@ -154,6 +154,19 @@ typedef u64 wide;
     uint64_t frame[words]; \
     const uint64_t top = (ADDRESS(frame) + sizeof frame) & ~UINT64_C(15)
 
+/* As many messages as are converted for one call. */
+enum { GROUP = 32 };
+
+/* Messages as the module has them, two 64-bit numbers each. */
+static void pairs_of(const vulfsjor_message *messages, size_t count, uint64_t *pairs) {
+    size_t i;
+
+    for (i = 0; i < count; i++) {
+        store64(ADDRESS(pairs + 2 * i), ADDRESS(messages[i].bytes));
+        store64(ADDRESS(pairs + 2 * i + 1), messages[i].length);
+    }
+}
+
 /* rattle::export vulfsjor_ffi_memcmp */
 APART u32 exported_memcmp(u64 v0, u64 v1, u64 v2, u64 v3) {
  u32 v4, v8;
@@ -1298,6 +1311,8 @@ APART void multi3(u64 v0, u64 v1, u64 v2, u64 v3, u64 v4) {
  store64(v0, (v1 << 32) | (v2 & 0xffffffff));
 }
 
+SCRUB(digest_wiping_scrub_stack_9216, 11264)
+
 /* blake2_state::blake2b::State::write_digest */
 APART void state_blake2b_State_write_digest(u64 v0, u64 v1) {
  u64 v2, v3;
@@ -1465,8 +1480,8 @@ l1:;
  return v7;
 }
 
-/* blake2_state::blake2b::State::take */
-APART void state_blake2b_State_take(u64 v0, u64 v1, u64 v2) {
+/* blake2_state::blake2b::State::absorb_blocks */
+APART void state_blake2b_State_absorb_blocks(u64 v0, u64 v1, u64 v2) {
  u32 v5;
  u64 v3, v4, v6, v7, v8, v9, v10, v11, v12, v13, v14, v15, v16, v17, v18, v19, v20, v21, v22, v23,
    t0;
@@ -1682,11 +1697,11 @@ l5:;
  store64(v9 + 8, load64(v5 + 360));
  store64(v9, load64(v5 + 352));
  if (v17 == 1) goto l14;
- state_blake2b_State_take(v5 + 8, v18, v17);
+ state_blake2b_State_absorb_blocks(v5 + 8, v18, v17);
  goto l13;
 l14:;
  if (v13 == 0) goto l15;
- state_blake2b_State_take(v5 + 8, v18, 1);
+ state_blake2b_State_absorb_blocks(v5 + 8, v18, 1);
  goto l13;
 l15:;
  store8(v10 + (u64)v21, load8(v18));
@@ -1700,8 +1715,6 @@ l4:;
 l2:;
  return;
 }
-
-SCRUB(digest_wiping_scrub_stack_9216, 11264)
 
 /* rattle::export vulfsjor_ffi_blake2b_many */
 APART u32 exported_blake2b_many(u64 v0, u64 v1, u64 v2, u64 v3, u64 v4, u64 v5, u64 v6, u64 v7, u64
@@ -2030,17 +2043,17 @@ l1:;
  return 0xffffffff;
 }
 
-/* blake2_ffi::blake2b::absorb */
-APART void ffi_blake2b_absorb(u64 v0, u64 v1, u64 v2) {
+/* blake2_ffi::blake2b::update_in_frame */
+APART void ffi_blake2b_update_in_frame(u64 v0, u64 v1, u64 v2) {
  u32 v4, v5;
  if (v2 == 1) goto l2;
- state_blake2b_State_take(v0, v1, v2);
+ state_blake2b_State_absorb_blocks(v0, v1, v2);
  return;
 l2:;
  v2 = v0 + 136;
  v4 = load32(v2);
  if (v4 < 128) goto l3;
- state_blake2b_State_take(v0, v1, 1);
+ state_blake2b_State_absorb_blocks(v0, v1, 1);
  return;
 l3:;
  v5 = load8(v1);
@@ -2051,9 +2064,9 @@ l3:;
 
 SCRUB(digest_wiping_scrub_stack_1152, 3200)
 
-/* blake2_ffi::blake2b::absorb_scrubbed */
-APART void ffi_blake2b_absorb_scrubbed(u64 v0, u64 v1, u64 v2) {
- ffi_blake2b_absorb(v0, v1, v2);
+/* blake2_ffi::blake2b::update_scrubbed */
+APART void ffi_blake2b_update_scrubbed(u64 v0, u64 v1, u64 v2) {
+ ffi_blake2b_update_in_frame(v0, v1, v2);
  digest_wiping_scrub_stack_1152();
  return;
 }
@@ -2075,15 +2088,15 @@ APART u32 exported_blake2b_update(u64 v0, u64 v1, u64 v2) {
  if (v2 > (~(v7 + v8))) goto l1;
  v1 += (v1 == 0 ? UINT64_C(4096) : 0);
  if (v7 >= (u64)v6) goto l5;
- ffi_blake2b_absorb_scrubbed(v0, v1, v2);
+ ffi_blake2b_update_scrubbed(v0, v1, v2);
  goto l2;
 l5:;
  if (v2 == 1) goto l6;
- state_blake2b_State_take(v0, v1, v2);
+ state_blake2b_State_absorb_blocks(v0, v1, v2);
  goto l2;
 l6:;
  if (v5 != 128) goto l3;
- state_blake2b_State_take(v0, v1, 1);
+ state_blake2b_State_absorb_blocks(v0, v1, 1);
  goto l2;
 l3:;
  v4 = load8(v1);
@@ -2093,6 +2106,83 @@ l2:;
  v4 = 0;
 l1:;
  return v4;
+}
+
+/* blake2_ffi::several::blake2b::update_in_frame */
+APART void ffi_several_blake2b_update_in_frame(u64 v0, u64 v1, u64 v2) {
+ u32 v6, v7;
+ u64 v4, v5;
+ if (v2 == 0) goto l2;
+l3:;
+ v4 = load64(v1);
+ v5 = load64(v1 + 8);
+ if (v5 == 1) goto l5;
+ state_blake2b_State_absorb_blocks(v0, v4, v5);
+ goto l4;
+l5:;
+ v5 = v0 + 136;
+ v6 = load32(v5);
+ if (v6 < 128) goto l6;
+ state_blake2b_State_absorb_blocks(v0, v4, 1);
+ goto l4;
+l6:;
+ v7 = load8(v4);
+ store32(v5, v6 + 1);
+ store8(v0 + (u64)v6 + 152, v7);
+l4:;
+ v0 += 344;
+ v1 += 16;
+ v2 -= 1;
+ if (v2 != 0) goto l3;
+l2:;
+ return;
+}
+
+/* rattle::export vulfsjor_ffi_blake2b_update_many */
+APART u32 exported_blake2b_update_many(u64 v0, u64 v1, u64 v2, u64 v3) {
+ u32 v5, v8;
+ u64 v6, v7, v9;
+ v5 = 0xffffffff;
+ if (v3 != v1) goto l1;
+ v6 = v2 + (v2 == 0 ? UINT64_C(4096) : 0);
+ v7 = v0 + (v0 == 0 ? UINT64_C(4096) : 0);
+ if (v3 == 0) goto l5;
+ v2 = v7 + 128;
+ v0 = v6 + 8;
+ v1 = v3;
+l6:;
+ v5 = 0xffffffff;
+ if ((load32(v2 + 16) - 1) > 63) goto l1;
+ v8 = load32(v2 + 8);
+ if (v8 > 128) goto l1;
+ if (load32(v2 + 12) > 128) goto l1;
+ v5 = 0xffffffff;
+ v9 = load64(v2);
+ if (v9 > sign64(~v8, 0x80000000)) goto l1;
+ if (load64(v0) > (~(v9 + (u64)v8))) goto l1;
+ v2 += 344;
+ v0 += 16;
+ v1 -= 1;
+ if (!(v1 == 0)) goto l6;
+l5:;
+ v2 = v7 + 140;
+ v0 = 0xffffffffffffffff;
+l7:;
+ v0 += 1;
+ if (v3 == v0) goto l3;
+ v1 = v2 - 12;
+ v9 = (u64)load32(v2);
+ v2 += 344;
+ if (load64(v1) >= v9) goto l7;
+ ffi_several_blake2b_update_in_frame(v7, v6, v3);
+ digest_wiping_scrub_stack_9216();
+ goto l2;
+l3:;
+ ffi_several_blake2b_update_in_frame(v7, v6, v3);
+l2:;
+ v5 = 0;
+l1:;
+ return v5;
 }
 
 /* blake2_ffi::blake2b::finalize */
@@ -3734,8 +3824,8 @@ l3:;
  return;
 }
 
-/* blake2_state::blake2s::State::take */
-APART void state_blake2s_State_take(u64 v0, u64 v1, u64 v2) {
+/* blake2_state::blake2s::State::absorb_blocks */
+APART void state_blake2s_State_absorb_blocks(u64 v0, u64 v1, u64 v2) {
  u32 v4;
  u64 v3, v5, v6, v7, v8, v9, v10, v11, v12, v13, v14;
  FRAME(12);
@@ -3997,11 +4087,11 @@ l5:;
  store64(v9 + 16, load64(v5 + 208));
  store64(v9 + 24, load64(v5 + 216));
  if (v17 == 1) goto l14;
- state_blake2s_State_take(v5, v18, v17);
+ state_blake2s_State_absorb_blocks(v5, v18, v17);
  goto l13;
 l14:;
  if (v13 == 0) goto l15;
- state_blake2s_State_take(v5, v18, 1);
+ state_blake2s_State_absorb_blocks(v5, v18, 1);
  goto l13;
 l15:;
  store8(v10 + (u64)v26, load8(v18));
@@ -4338,17 +4428,17 @@ l1:;
  return 0xffffffff;
 }
 
-/* blake2_ffi::blake2s::absorb */
-APART void ffi_blake2s_absorb(u64 v0, u64 v1, u64 v2) {
+/* blake2_ffi::blake2s::update_in_frame */
+APART void ffi_blake2s_update_in_frame(u64 v0, u64 v1, u64 v2) {
  u32 v4, v5;
  if (v2 == 1) goto l2;
- state_blake2s_State_take(v0, v1, v2);
+ state_blake2s_State_absorb_blocks(v0, v1, v2);
  return;
 l2:;
  v2 = v0 + 72;
  v4 = load16(v2);
  if (v4 < 64) goto l3;
- state_blake2s_State_take(v0, v1, 1);
+ state_blake2s_State_absorb_blocks(v0, v1, 1);
  return;
 l3:;
  v5 = load8(v1);
@@ -4359,9 +4449,9 @@ l3:;
 
 SCRUB(digest_wiping_scrub_stack_512, 2560)
 
-/* blake2_ffi::blake2s::absorb_scrubbed */
-APART void ffi_blake2s_absorb_scrubbed(u64 v0, u64 v1, u64 v2) {
- ffi_blake2s_absorb(v0, v1, v2);
+/* blake2_ffi::blake2s::update_scrubbed */
+APART void ffi_blake2s_update_scrubbed(u64 v0, u64 v1, u64 v2) {
+ ffi_blake2s_update_in_frame(v0, v1, v2);
  digest_wiping_scrub_stack_512();
  return;
 }
@@ -4383,15 +4473,15 @@ APART u32 exported_blake2s_update(u64 v0, u64 v1, u64 v2) {
  if (v2 > (~(v7 + v8))) goto l1;
  v1 += (v1 == 0 ? UINT64_C(4096) : 0);
  if (v7 >= v6) goto l5;
- ffi_blake2s_absorb_scrubbed(v0, v1, v2);
+ ffi_blake2s_update_scrubbed(v0, v1, v2);
  goto l2;
 l5:;
  if (v2 == 1) goto l6;
- state_blake2s_State_take(v0, v1, v2);
+ state_blake2s_State_absorb_blocks(v0, v1, v2);
  goto l2;
 l6:;
  if (v5 != 64) goto l3;
- state_blake2s_State_take(v0, v1, 1);
+ state_blake2s_State_absorb_blocks(v0, v1, 1);
  goto l2;
 l3:;
  v4 = load8(v1);
@@ -4401,6 +4491,83 @@ l2:;
  v4 = 0;
 l1:;
  return v4;
+}
+
+/* blake2_ffi::several::blake2s::update_in_frame */
+APART void ffi_several_blake2s_update_in_frame(u64 v0, u64 v1, u64 v2) {
+ u32 v6, v7;
+ u64 v4, v5;
+ if (v2 == 0) goto l2;
+l3:;
+ v4 = load64(v1);
+ v5 = load64(v1 + 8);
+ if (v5 == 1) goto l5;
+ state_blake2s_State_absorb_blocks(v0, v4, v5);
+ goto l4;
+l5:;
+ v5 = v0 + 72;
+ v6 = load16(v5);
+ if (v6 < 64) goto l6;
+ state_blake2s_State_absorb_blocks(v0, v4, 1);
+ goto l4;
+l6:;
+ v7 = load8(v4);
+ store16(v5, v6 + 1);
+ store8(v0 + (u64)v6 + 80, v7);
+l4:;
+ v0 += 176;
+ v1 += 16;
+ v2 -= 1;
+ if (v2 != 0) goto l3;
+l2:;
+ return;
+}
+
+/* rattle::export vulfsjor_ffi_blake2s_update_many */
+APART u32 exported_blake2s_update_many(u64 v0, u64 v1, u64 v2, u64 v3) {
+ u32 v5, v8;
+ u64 v6, v7, v9;
+ v5 = 0xffffffff;
+ if (v3 != v1) goto l1;
+ v6 = v2 + (v2 == 0 ? UINT64_C(4096) : 0);
+ v7 = v0 + (v0 == 0 ? UINT64_C(4096) : 0);
+ if (v3 == 0) goto l5;
+ v2 = v7 + 64;
+ v0 = v6 + 8;
+ v1 = v3;
+l6:;
+ v5 = 0xffffffff;
+ if (((load16(v2 + 12) - 1) & 0xffff) > 31) goto l1;
+ v8 = load16(v2 + 8);
+ if (v8 > 64) goto l1;
+ if (load16(v2 + 10) > 64) goto l1;
+ v5 = 0xffffffff;
+ v9 = load64(v2);
+ if (v9 > sign64((u64)(~v8), 0x8000)) goto l1;
+ if (load64(v0) > (~(v9 + (u64)v8))) goto l1;
+ v2 += 176;
+ v0 += 16;
+ v1 -= 1;
+ if (!(v1 == 0)) goto l6;
+l5:;
+ v2 = v7 + 74;
+ v0 = 0xffffffffffffffff;
+l7:;
+ v0 += 1;
+ if (v3 == v0) goto l3;
+ v1 = v2 - 10;
+ v9 = (u64)load16(v2);
+ v2 += 176;
+ if (load64(v1) >= v9) goto l7;
+ ffi_several_blake2s_update_in_frame(v7, v6, v3);
+ digest_wiping_scrub_stack_9216();
+ goto l2;
+l3:;
+ ffi_several_blake2s_update_in_frame(v7, v6, v3);
+l2:;
+ v5 = 0;
+l1:;
+ return v5;
 }
 
 /* blake2_ffi::blake2s::finalize */
@@ -7304,17 +7471,17 @@ l1:;
  return v5;
 }
 
-/* blake2_ffi::blake2bp::absorb */
-APART void ffi_blake2bp_absorb(u64 v0, u64 v1, u64 v2) {
+/* blake2_ffi::blake2bp::update_in_frame */
+APART void ffi_blake2bp_update_in_frame(u64 v0, u64 v1, u64 v2) {
  parallel_blake2bp_State_update(v0, v1, v2);
  return;
 }
 
 SCRUB(digest_wiping_scrub_stack_3072, 5120)
 
-/* blake2_ffi::blake2bp::absorb_scrubbed */
-APART void ffi_blake2bp_absorb_scrubbed(u64 v0, u64 v1, u64 v2) {
- ffi_blake2bp_absorb(v0, v1, v2);
+/* blake2_ffi::blake2bp::update_scrubbed */
+APART void ffi_blake2bp_update_scrubbed(u64 v0, u64 v1, u64 v2) {
+ ffi_blake2bp_update_in_frame(v0, v1, v2);
  digest_wiping_scrub_stack_3072();
  return;
 }
@@ -7335,7 +7502,7 @@ APART u32 exported_blake2bp_update(u64 v0, u64 v1, u64 v2) {
  v1 += (v1 == 0 ? UINT64_C(4096) : 0);
  if (v6 != 0) goto l3;
  if (v7 == 0) goto l3;
- ffi_blake2bp_absorb_scrubbed(v0, v1, v2);
+ ffi_blake2bp_update_scrubbed(v0, v1, v2);
  goto l2;
 l3:;
  parallel_blake2bp_State_update(v0, v1, v2);
@@ -7457,8 +7624,8 @@ l2:;
  return v4;
 }
 
-/* blake2_ffi::blake2bp::start_again */
-APART void ffi_blake2bp_start_again(u64 v0) {
+/* blake2_ffi::blake2bp::reset_in_frame */
+APART void ffi_blake2bp_reset_in_frame(u64 v0) {
  u64 v1, v2, v3, v4;
  FRAME(210);
  v1 = top - 1664;
@@ -7498,7 +7665,7 @@ APART u32 exported_blake2bp_reset(u64 v0) {
  if (load64(v0 + 256) > ((~v3) >> 2)) goto l2;
  v3 = load64(v0 + 1488);
  if (v3 > 512) goto l2;
- ffi_blake2bp_start_again(v0);
+ ffi_blake2bp_reset_in_frame(v0);
  v2 = 0;
  if (v3 == 0) goto l2;
  digest_wiping_scrub_stack_1792();
@@ -9843,15 +10010,15 @@ l1:;
  return v5;
 }
 
-/* blake2_ffi::blake2sp::absorb */
-APART void ffi_blake2sp_absorb(u64 v0, u64 v1, u64 v2) {
+/* blake2_ffi::blake2sp::update_in_frame */
+APART void ffi_blake2sp_update_in_frame(u64 v0, u64 v1, u64 v2) {
  parallel_blake2sp_State_update(v0, v1, v2);
  return;
 }
 
-/* blake2_ffi::blake2sp::absorb_scrubbed */
-APART void ffi_blake2sp_absorb_scrubbed(u64 v0, u64 v1, u64 v2) {
- ffi_blake2sp_absorb(v0, v1, v2);
+/* blake2_ffi::blake2sp::update_scrubbed */
+APART void ffi_blake2sp_update_scrubbed(u64 v0, u64 v1, u64 v2) {
+ ffi_blake2sp_update_in_frame(v0, v1, v2);
  digest_wiping_scrub_stack_3072();
  return;
 }
@@ -9872,7 +10039,7 @@ APART u32 exported_blake2sp_update(u64 v0, u64 v1, u64 v2) {
  v1 += (v1 == 0 ? UINT64_C(4096) : 0);
  if (v6 != 0) goto l3;
  if (v7 == 0) goto l3;
- ffi_blake2sp_absorb_scrubbed(v0, v1, v2);
+ ffi_blake2sp_update_scrubbed(v0, v1, v2);
  goto l2;
 l3:;
  parallel_blake2sp_State_update(v0, v1, v2);
@@ -9994,8 +10161,8 @@ l2:;
  return v4;
 }
 
-/* blake2_ffi::blake2sp::start_again */
-APART void ffi_blake2sp_start_again(u64 v0) {
+/* blake2_ffi::blake2sp::reset_in_frame */
+APART void ffi_blake2sp_reset_in_frame(u64 v0) {
  u64 v1, v2, v3, v4, v5, v6, v7, v8, v9, v10, v11, v12, v13, v14, v15, v16, v17, v18, v19;
  FRAME(218);
  v1 = top - 1728;
@@ -10132,7 +10299,7 @@ APART u32 exported_blake2sp_reset(u64 v0) {
  if (load64(v0 + 256) > ((~v3) >> 3)) goto l2;
  v3 = load64(v0 + 1520);
  if (v3 > 512) goto l2;
- ffi_blake2sp_start_again(v0);
+ ffi_blake2sp_reset_in_frame(v0);
  v2 = 0;
  if (v3 == 0) goto l2;
  digest_wiping_scrub_stack_1792();
@@ -10333,11 +10500,11 @@ l3:;
  v11 = (u64)v10;
  if (v3 > (~v11)) goto l2;
  if (v3 == 1) goto l8;
- state_blake2b_State_take(v6, v2, v3);
+ state_blake2b_State_absorb_blocks(v6, v2, v3);
  goto l7;
 l8:;
  if (v5 == 0) goto l9;
- state_blake2b_State_take(v6, v2, 1);
+ state_blake2b_State_absorb_blocks(v6, v2, 1);
  goto l7;
 l9:;
  store8(v4 + v11, load8(v2));
@@ -10520,17 +10687,17 @@ l2:;
  return v9;
 }
 
-/* blake2_ffi::blake2xb::absorb */
-APART void ffi_blake2xb_absorb(u64 v0, u64 v1, u64 v2) {
+/* blake2_ffi::blake2xb::update_in_frame */
+APART void ffi_blake2xb_update_in_frame(u64 v0, u64 v1, u64 v2) {
  u32 v4, v5;
  if (v2 == 1) goto l2;
- state_blake2b_State_take(v0, v1, v2);
+ state_blake2b_State_absorb_blocks(v0, v1, v2);
  return;
 l2:;
  v2 = v0 + 136;
  v4 = load32(v2);
  if (v4 < 128) goto l3;
- state_blake2b_State_take(v0, v1, 1);
+ state_blake2b_State_absorb_blocks(v0, v1, 1);
  return;
 l3:;
  v5 = load8(v1);
@@ -10562,10 +10729,10 @@ APART u32 exported_blake2xb_update(u64 v0, u64 v1, u64 v2) {
  if (v2 > (~(v8 + (u64)v6))) goto l2;
  v1 += (v1 == 0 ? UINT64_C(4096) : 0);
  if (v8 == 0) goto l3;
- ffi_blake2xb_absorb(v0, v1, v2);
+ ffi_blake2xb_update_in_frame(v0, v1, v2);
  return 0;
 l3:;
- ffi_blake2xb_absorb(v0, v1, v2);
+ ffi_blake2xb_update_in_frame(v0, v1, v2);
  v4 = 0;
  if (v7 == 0) goto l2;
  digest_wiping_scrub_stack_3072();
@@ -10609,8 +10776,8 @@ l2:;
  return v4;
 }
 
-/* blake2_ffi::blake2xb::start_again */
-APART void ffi_blake2xb_start_again(u64 v0) {
+/* blake2_ffi::blake2xb::reset_in_frame */
+APART void ffi_blake2xb_reset_in_frame(u64 v0) {
  u32 v1;
  store64(v0 + 128, 0);
  store64(v0 + 56, load64(v0 + 120));
@@ -10669,7 +10836,7 @@ APART u32 exported_blake2xb_reset(u64 v0) {
  v6 = load64(v0 + 440);
  if ((v6 - 1) > 0xfffffffe) goto l2;
  if (load64(v0 + 448) > (v6 == 0xffffffff ? 0x4000000000 : v6)) goto l2;
- ffi_blake2xb_start_again(v0);
+ ffi_blake2xb_reset_in_frame(v0);
  v2 = 0;
  if (v5 == 0) goto l2;
  digest_wiping_scrub_stack_1792();
@@ -10867,11 +11034,11 @@ l3:;
  v4 = (u64)v11;
  if (v3 > (~v4)) goto l2;
  if (v3 == 1) goto l8;
- state_blake2s_State_take(v6 + 8, v2, v3);
+ state_blake2s_State_absorb_blocks(v6 + 8, v2, v3);
  goto l7;
 l8:;
  if (v5 == 0) goto l9;
- state_blake2s_State_take(v6 + 8, v2, 1);
+ state_blake2s_State_absorb_blocks(v6 + 8, v2, 1);
  goto l7;
 l9:;
  store8(v6 + 88 + v4, load8(v2));
@@ -11035,17 +11202,17 @@ l2:;
  return v9;
 }
 
-/* blake2_ffi::blake2xs::absorb */
-APART void ffi_blake2xs_absorb(u64 v0, u64 v1, u64 v2) {
+/* blake2_ffi::blake2xs::update_in_frame */
+APART void ffi_blake2xs_update_in_frame(u64 v0, u64 v1, u64 v2) {
  u32 v4, v5;
  if (v2 == 1) goto l2;
- state_blake2s_State_take(v0, v1, v2);
+ state_blake2s_State_absorb_blocks(v0, v1, v2);
  return;
 l2:;
  v2 = v0 + 72;
  v4 = load16(v2);
  if (v4 < 64) goto l3;
- state_blake2s_State_take(v0, v1, 1);
+ state_blake2s_State_absorb_blocks(v0, v1, 1);
  return;
 l3:;
  v5 = load8(v1);
@@ -11077,10 +11244,10 @@ APART u32 exported_blake2xs_update(u64 v0, u64 v1, u64 v2) {
  if (v2 > (~(v8 + (u64)v6))) goto l2;
  v1 += (v1 == 0 ? UINT64_C(4096) : 0);
  if (v8 == 0) goto l3;
- ffi_blake2xs_absorb(v0, v1, v2);
+ ffi_blake2xs_update_in_frame(v0, v1, v2);
  return 0;
 l3:;
- ffi_blake2xs_absorb(v0, v1, v2);
+ ffi_blake2xs_update_in_frame(v0, v1, v2);
  v4 = 0;
  if (v7 == 0) goto l2;
  digest_wiping_scrub_stack_3072();
@@ -11122,8 +11289,8 @@ l2:;
  return v4;
 }
 
-/* blake2_ffi::blake2xs::start_again */
-APART void ffi_blake2xs_start_again(u64 v0) {
+/* blake2_ffi::blake2xs::reset_in_frame */
+APART void ffi_blake2xs_reset_in_frame(u64 v0) {
  store64(v0 + 64, 0);
  store64(v0 + 112, 0);
  store64(v0 + 120, 0);
@@ -11164,7 +11331,7 @@ APART u32 exported_blake2xs_reset(u64 v0) {
  v6 = load64(v0 + 224);
  if ((v6 - 1) > 0xfffe) goto l2;
  if (load64(v0 + 232) > (v6 == 0xffff ? 0x2000000000 : v6)) goto l2;
- ffi_blake2xs_start_again(v0);
+ ffi_blake2xs_reset_in_frame(v0);
  v2 = 0;
  if (v5 == 0) goto l2;
  digest_wiping_scrub_stack_1792();
@@ -11316,11 +11483,11 @@ APART void state_tree_TreeState_close_leaf(u64 v0, u64 v1, u64 v2, u64 v3) {
  v8 = (u64)v7;
  v9 = load64(v1 + 696) - (load64(v6) + v8);
  if (v9 == 1) goto l3;
- state_blake2b_State_take(v1, v2, v9);
+ state_blake2b_State_absorb_blocks(v1, v2, v9);
  goto l2;
 l3:;
  if (v7 < 128) goto l4;
- state_blake2b_State_take(v1, v2, 1);
+ state_blake2b_State_absorb_blocks(v1, v2, 1);
  goto l2;
 l4:;
  v10 = load8(v2);
@@ -11352,7 +11519,7 @@ l6:;
  store64(v4 + 32, load64(v4 + 80));
  store64(v4 + 40, load64(v4 + 88));
  state_blake2b_State_write_digest(v1, v4 + 96);
- state_blake2b_State_take(v1 + 344, v4 + 96, 64);
+ state_blake2b_State_absorb_blocks(v1 + 344, v4 + 96, 64);
  v14 = v1 + 688;
  t0 = v14;
  v14 = load64(v14) + 1;
@@ -11410,11 +11577,11 @@ APART void state_tree_TreeState_update(u64 v0, u64 v1, u64 v2) {
  v8 = (u64)v7;
  if (v2 > (load64(v5) - (load64(v6) + v8))) goto l2;
  if (v2 == 1) goto l3;
- state_blake2b_State_take(v0, v1, v2);
+ state_blake2b_State_absorb_blocks(v0, v1, v2);
  return;
 l3:;
  if (v7 < 128) goto l4;
- state_blake2b_State_take(v0, v1, 1);
+ state_blake2b_State_absorb_blocks(v0, v1, 1);
  return;
 l4:;
  v9 = load8(v1);
@@ -11491,7 +11658,7 @@ l12:;
  store64(v3 + 680, v5);
  store64(v3 + 648, load64(v3 + 712));
  store64(v3 + 640, load64(v3 + 704));
- state_blake2b_State_take(v11, v3 + 40, 64);
+ state_blake2b_State_absorb_blocks(v11, v3 + 40, 64);
  v19 = load64(v20) + 1;
  store64(v20, v19);
  fill(v3 + 736, 0, 32);
@@ -11541,13 +11708,13 @@ l7:;
  if (v1 < v2) goto l6;
 l5:;
  if (v2 == 1) goto l15;
- state_blake2b_State_take(v0, v8, v2);
+ state_blake2b_State_absorb_blocks(v0, v8, v2);
  return;
 l15:;
  v3 = v0 + 136;
  v7 = load32(v3);
  if (v7 < 128) goto l16;
- state_blake2b_State_take(v0, v8, 1);
+ state_blake2b_State_absorb_blocks(v0, v8, 1);
  return;
 l16:;
  v9 = load8(v8);
@@ -12468,7 +12635,7 @@ l56:;
  store64(v9 + 1792, load64(v9 + 1336));
  store64(v9 + 1784, load64(v9 + 1328));
  state_blake2b_State_write_digest(v9, v9 + 576);
- state_blake2b_State_take(v9 + 1504, v9 + 576, 64);
+ state_blake2b_State_absorb_blocks(v9 + 1504, v9 + 576, 64);
  store32(v9 + 1652, 1);
  state_blake2b_State_write_digest(v9 + 1504, v14);
 l2:;
@@ -12722,7 +12889,7 @@ APART void state_tree_TreeState_write_root(u64 v0, u64 v1) {
  store64(v2 + 288, load64(v0 + 632));
  store64(v2 + 280, load64(v0 + 624));
  state_blake2b_State_write_digest(v2 + 344, v2 + 688);
- state_blake2b_State_take(v2, v2 + 688, 64);
+ state_blake2b_State_absorb_blocks(v2, v2 + 688, 64);
  store32(v2 + 148, 1);
  state_blake2b_State_write_digest(v2, v1);
  return;
@@ -13009,7 +13176,7 @@ l6:;
  store32(v9 + 160, v12);
  store32(v9 + 164, 1);
  fill(v9 + 168, 0, 192);
- state_blake2b_State_take(v9 + 16, v5, v3);
+ state_blake2b_State_absorb_blocks(v9 + 16, v5, v3);
  state_blake2b_State_write_digest(v9 + 16, v2);
 l2:;
  return v11;
@@ -13111,7 +13278,7 @@ l8:;
  store64(v5 + 32, load64(v5 + 216));
  store32(v5 + 48, v9);
  state_blake2b_State_write_digest(v0, v5 + 96);
- state_blake2b_State_take(v0 + 344, v5 + 96, 64);
+ state_blake2b_State_absorb_blocks(v0 + 344, v5 + 96, 64);
  v16 = v0 + 688;
  t3 = v16;
  v16 = load64(v16) + 1;
@@ -13176,7 +13343,7 @@ l12:;
  store64(v5 + 120, load64(v5 + 160));
  store64(v5 + 128, load64(v5 + 168));
  store32(v5 + 144, v9);
- state_blake2b_State_take(v0 + 344, v1, v2);
+ state_blake2b_State_absorb_blocks(v0 + 344, v1, v2);
  v2 = v0 + 688;
  t4 = v2;
  v2 = load64(v2) + v14;
@@ -13586,11 +13753,10 @@ int32_t NAME(blake2b)(uint8_t *out, size_t out_length, const uint8_t *input, siz
 int32_t NAME(blake2b_many)(uint8_t *out, size_t out_length, size_t output_size, const
         vulfsjor_message *messages, size_t count, const uint8_t *key, size_t key_length, const
         uint8_t *salt, size_t salt_length, const uint8_t *personal, size_t personal_length) {
-    /* The module's messages are two 64-bit numbers each. A call refuses all groups or none, except
-     * for a length, so that is looked at before the first. */
-    enum { GROUP = 32 };
+    /* A call refuses all groups or none, except for a length, so that is looked at before the
+     * first. */
     const uint64_t most = UINT64_MAX - (key_length ? VULFSJOR_BLAKE2B_BLOCKBYTES : 0);
-    uint64_t group[2 * GROUP];
+    uint64_t pairs[2 * GROUP];
     size_t i, n;
 
     if (!output_size || out_length % output_size || out_length / output_size != count) return -1;
@@ -13598,11 +13764,8 @@ int32_t NAME(blake2b_many)(uint8_t *out, size_t out_length, size_t output_size, 
         if (messages[i].length > most) return -1;
     do {
         n = count < GROUP ? count : GROUP;
-        for (i = 0; i < n; i++) {
-            store64(ADDRESS(group + 2 * i), ADDRESS(messages[i].bytes));
-            store64(ADDRESS(group + 2 * i + 1), messages[i].length);
-        }
-        if (exported_blake2b_many(ADDRESS(out), n * output_size, output_size, ADDRESS(group), n, ADDRESS(key),
+        pairs_of(messages, n, pairs);
+        if (exported_blake2b_many(ADDRESS(out), n * output_size, output_size, ADDRESS(pairs), n, ADDRESS(key),
                 key_length, ADDRESS(salt), salt_length, ADDRESS(personal), personal_length))
             return -1;
         out += n * output_size, messages += n, count -= n;
@@ -13642,6 +13805,26 @@ int32_t NAME(blake2b_init_param)(vulfsjor_blake2b_state *state, const uint8_t *b
 int32_t NAME(blake2b_update)(vulfsjor_blake2b_state *state, const uint8_t *input, size_t
         input_length) {
     return (int32_t)exported_blake2b_update(ADDRESS(state), ADDRESS(input), input_length);
+}
+
+int32_t NAME(blake2b_update_many)(vulfsjor_blake2b_state *states, size_t state_count, const
+        vulfsjor_message *inputs, size_t input_count) {
+    /* A call refuses one group or none, so all states are looked at before the first. Their numbers
+     * are little-endian, and at most 128 bytes are pending. */
+    uint64_t pairs[2 * GROUP], counted;
+    size_t i, n;
+
+    if (input_count != state_count) return -1;
+    for (i = 0; i < state_count; i++) {
+        counted = load64(ADDRESS(&states[i].counter)) + *(const uint8_t *)&states[i].pending_length;
+        if (!exported_blake2b_digest_size(ADDRESS(states + i)) || inputs[i].length > UINT64_MAX - counted) return -1;
+    }
+    for (; state_count; states += n, inputs += n, state_count -= n) {
+        n = state_count < GROUP ? state_count : GROUP;
+        pairs_of(inputs, n, pairs);
+        if (exported_blake2b_update_many(ADDRESS(states), n, ADDRESS(pairs), n)) return -1;
+    }
+    return 0;
 }
 
 int32_t NAME(blake2b_final)(vulfsjor_blake2b_state *state, uint8_t *out, size_t out_length) {
@@ -13692,11 +13875,10 @@ int32_t NAME(blake2s)(uint8_t *out, size_t out_length, const uint8_t *input, siz
 int32_t NAME(blake2s_many)(uint8_t *out, size_t out_length, size_t output_size, const
         vulfsjor_message *messages, size_t count, const uint8_t *key, size_t key_length, const
         uint8_t *salt, size_t salt_length, const uint8_t *personal, size_t personal_length) {
-    /* The module's messages are two 64-bit numbers each. A call refuses all groups or none, except
-     * for a length, so that is looked at before the first. */
-    enum { GROUP = 32 };
+    /* A call refuses all groups or none, except for a length, so that is looked at before the
+     * first. */
     const uint64_t most = UINT64_MAX - (key_length ? VULFSJOR_BLAKE2S_BLOCKBYTES : 0);
-    uint64_t group[2 * GROUP];
+    uint64_t pairs[2 * GROUP];
     size_t i, n;
 
     if (!output_size || out_length % output_size || out_length / output_size != count) return -1;
@@ -13704,11 +13886,8 @@ int32_t NAME(blake2s_many)(uint8_t *out, size_t out_length, size_t output_size, 
         if (messages[i].length > most) return -1;
     do {
         n = count < GROUP ? count : GROUP;
-        for (i = 0; i < n; i++) {
-            store64(ADDRESS(group + 2 * i), ADDRESS(messages[i].bytes));
-            store64(ADDRESS(group + 2 * i + 1), messages[i].length);
-        }
-        if (exported_blake2s_many(ADDRESS(out), n * output_size, output_size, ADDRESS(group), n, ADDRESS(key),
+        pairs_of(messages, n, pairs);
+        if (exported_blake2s_many(ADDRESS(out), n * output_size, output_size, ADDRESS(pairs), n, ADDRESS(key),
                 key_length, ADDRESS(salt), salt_length, ADDRESS(personal), personal_length))
             return -1;
         out += n * output_size, messages += n, count -= n;
@@ -13748,6 +13927,26 @@ int32_t NAME(blake2s_init_param)(vulfsjor_blake2s_state *state, const uint8_t *b
 int32_t NAME(blake2s_update)(vulfsjor_blake2s_state *state, const uint8_t *input, size_t
         input_length) {
     return (int32_t)exported_blake2s_update(ADDRESS(state), ADDRESS(input), input_length);
+}
+
+int32_t NAME(blake2s_update_many)(vulfsjor_blake2s_state *states, size_t state_count, const
+        vulfsjor_message *inputs, size_t input_count) {
+    /* A call refuses one group or none, so all states are looked at before the first. Their numbers
+     * are little-endian, and at most 128 bytes are pending. */
+    uint64_t pairs[2 * GROUP], counted;
+    size_t i, n;
+
+    if (input_count != state_count) return -1;
+    for (i = 0; i < state_count; i++) {
+        counted = load64(ADDRESS(&states[i].counter)) + *(const uint8_t *)&states[i].pending_length;
+        if (!exported_blake2s_digest_size(ADDRESS(states + i)) || inputs[i].length > UINT64_MAX - counted) return -1;
+    }
+    for (; state_count; states += n, inputs += n, state_count -= n) {
+        n = state_count < GROUP ? state_count : GROUP;
+        pairs_of(inputs, n, pairs);
+        if (exported_blake2s_update_many(ADDRESS(states), n, ADDRESS(pairs), n)) return -1;
+    }
+    return 0;
 }
 
 int32_t NAME(blake2s_final)(vulfsjor_blake2s_state *state, uint8_t *out, size_t out_length) {

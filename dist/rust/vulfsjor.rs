@@ -125,6 +125,16 @@ macro_rules! operators {
 operators!(u32, i32, rotl32, rotr32, shr_s32, sign32, div_u32, rem_u32);
 operators!(u64, i64, rotl64, rotr64, shr_s64, sign64, div_u64, rem_u64);
 
+// Messages as the module has them, two 64-bit numbers each. The crate passes at most PART.
+unsafe fn pairs_of(messages: *const Text, count: usize) -> [u64; 2 * crate::family::PART] {
+    let mut pairs = [0_u64; 2 * crate::family::PART];
+    for (i, message) in core::slice::from_raw_parts(messages, count).iter().enumerate() {
+        pairs[2 * i] = (message.bytes as u64).to_le();
+        pairs[2 * i + 1] = (message.length as u64).to_le();
+    }
+    pairs
+}
+
 // rattle::export vulfsjor_ffi_memcmp
 #[inline(never)]
 unsafe fn exported_memcmp(mut v0: u64, mut v1: u64, mut v2: u64, mut v3: u64) -> u32 {
@@ -1452,6 +1462,15 @@ unsafe fn multi3(mut v0: u64, mut v1: u64, mut v2: u64, mut v3: u64, mut v4: u64
  store64(v0, (v1 << 32) | (v2 & 0xffffffff));
 }
 
+// Overwrites the stack below the caller.
+#[inline(never)]
+unsafe fn digest_wiping_scrub_stack_9216() {
+    let mut room = [0_u64; 1408];
+    for word in room.iter_mut() {
+        core::ptr::write_volatile(word, 0);
+    }
+}
+
 // blake2_state::blake2b::State::write_digest
 #[inline(never)]
 unsafe fn state_blake2b_State_write_digest(mut v0: u64, mut v1: u64) {
@@ -1654,9 +1673,9 @@ unsafe fn digest_buffer_digest_into_33c1e97afcdf8a5d(mut v0: u64, mut v1: u64, m
  return v7;
 }
 
-// blake2_state::blake2b::State::take
+// blake2_state::blake2b::State::absorb_blocks
 #[inline(never)]
-unsafe fn state_blake2b_State_take(mut v0: u64, mut v1: u64, mut v2: u64) {
+unsafe fn state_blake2b_State_absorb_blocks(mut v0: u64, mut v1: u64, mut v2: u64) {
  let mut v3: u64;
  let mut v4: u64;
  let mut v5: u32;
@@ -1931,12 +1950,12 @@ unsafe fn ffi_blake2b_many_write_all(mut v0: u64, mut v1: u64, mut v2: u64, mut 
  'l13: loop {
  'l14: loop {
  if v17 == 1 { break 'l14; }
- state_blake2b_State_take(v5.plus(8), v18, v17);
+ state_blake2b_State_absorb_blocks(v5.plus(8), v18, v17);
  break 'l13;
  }
  'l15: loop {
  if v13 == 0 { break 'l15; }
- state_blake2b_State_take(v5.plus(8), v18, 1);
+ state_blake2b_State_absorb_blocks(v5.plus(8), v18, 1);
  break 'l13;
  }
  store8(v10.plus(v21 as u64), load8(v18) as u64);
@@ -1950,15 +1969,6 @@ unsafe fn ffi_blake2b_many_write_all(mut v0: u64, mut v1: u64, mut v2: u64, mut 
  break 'l3; }
  break 'l2; }
  return;
-}
-
-// Overwrites the stack below the caller.
-#[inline(never)]
-unsafe fn digest_wiping_scrub_stack_9216() {
-    let mut room = [0_u64; 1408];
-    for word in room.iter_mut() {
-        core::ptr::write_volatile(word, 0);
-    }
 }
 
 // rattle::export vulfsjor_ffi_blake2b_many
@@ -2352,21 +2362,21 @@ unsafe fn exported_blake2b_init_param(mut v0: u64, mut v1: u64, mut v2: u64) -> 
  return 0xffffffff;
 }
 
-// blake2_ffi::blake2b::absorb
+// blake2_ffi::blake2b::update_in_frame
 #[inline(never)]
-unsafe fn ffi_blake2b_absorb(mut v0: u64, mut v1: u64, mut v2: u64) {
+unsafe fn ffi_blake2b_update_in_frame(mut v0: u64, mut v1: u64, mut v2: u64) {
  let mut v4: u32;
  let mut v5: u32;
  'l2: loop {
  if v2 == 1 { break 'l2; }
- state_blake2b_State_take(v0, v1, v2);
+ state_blake2b_State_absorb_blocks(v0, v1, v2);
  return;
  }
  'l3: loop {
  v2 = v0.plus(136);
  v4 = load32(v2);
  if v4 < 128 { break 'l3; }
- state_blake2b_State_take(v0, v1, 1);
+ state_blake2b_State_absorb_blocks(v0, v1, 1);
  return;
  }
  v5 = load8(v1);
@@ -2384,10 +2394,10 @@ unsafe fn digest_wiping_scrub_stack_1152() {
     }
 }
 
-// blake2_ffi::blake2b::absorb_scrubbed
+// blake2_ffi::blake2b::update_scrubbed
 #[inline(never)]
-unsafe fn ffi_blake2b_absorb_scrubbed(mut v0: u64, mut v1: u64, mut v2: u64) {
- ffi_blake2b_absorb(v0, v1, v2);
+unsafe fn ffi_blake2b_update_scrubbed(mut v0: u64, mut v1: u64, mut v2: u64) {
+ ffi_blake2b_update_in_frame(v0, v1, v2);
  digest_wiping_scrub_stack_1152();
  return;
 }
@@ -2417,16 +2427,16 @@ unsafe fn exported_blake2b_update(mut v0: u64, mut v1: u64, mut v2: u64) -> u32 
  v1 = v1.plus(if v1 == 0 { 4096_u64 } else { 0 });
  'l5: loop {
  if v7 >= (v6 as u64) { break 'l5; }
- ffi_blake2b_absorb_scrubbed(v0, v1, v2);
+ ffi_blake2b_update_scrubbed(v0, v1, v2);
  break 'l2;
  }
  'l6: loop {
  if v2 == 1 { break 'l6; }
- state_blake2b_State_take(v0, v1, v2);
+ state_blake2b_State_absorb_blocks(v0, v1, v2);
  break 'l2;
  }
  if v5 != 128 { break 'l3; }
- state_blake2b_State_take(v0, v1, 1);
+ state_blake2b_State_absorb_blocks(v0, v1, 1);
  break 'l2;
  }
  v4 = load8(v1);
@@ -2436,6 +2446,101 @@ unsafe fn exported_blake2b_update(mut v0: u64, mut v1: u64, mut v2: u64) -> u32 
  v4 = 0;
  break 'l1; }
  return v4;
+}
+
+// blake2_ffi::several::blake2b::update_in_frame
+#[inline(never)]
+unsafe fn ffi_several_blake2b_update_in_frame(mut v0: u64, mut v1: u64, mut v2: u64) {
+ let mut v4: u64;
+ let mut v5: u64;
+ let mut v6: u32;
+ let mut v7: u32;
+ 'l2: loop {
+ if v2 == 0 { break 'l2; }
+ 'l3: loop {
+ v4 = load64(v1);
+ 'l4: loop {
+ 'l5: loop {
+ v5 = load64(v1.plus(8));
+ if v5 == 1 { break 'l5; }
+ state_blake2b_State_absorb_blocks(v0, v4, v5);
+ break 'l4;
+ }
+ 'l6: loop {
+ v5 = v0.plus(136);
+ v6 = load32(v5);
+ if v6 < 128 { break 'l6; }
+ state_blake2b_State_absorb_blocks(v0, v4, 1);
+ break 'l4;
+ }
+ v7 = load8(v4);
+ store32(v5, v6.plus(1) as u64);
+ store8(v0.plus(v6 as u64).plus(152), v7 as u64);
+ break 'l4; }
+ v0 = v0.plus(344);
+ v1 = v1.plus(16);
+ v2 = v2.minus(1);
+ if v2 != 0 { continue 'l3; }
+ break 'l3; }
+ break 'l2; }
+ return;
+}
+
+// rattle::export vulfsjor_ffi_blake2b_update_many
+#[inline(never)]
+unsafe fn exported_blake2b_update_many(mut v0: u64, mut v1: u64, mut v2: u64, mut v3: u64) -> u32 {
+ let mut v5: u32;
+ let mut v6: u64;
+ let mut v7: u64;
+ let mut v8: u32;
+ let mut v9: u64;
+ 'l1: loop {
+ 'l2: loop {
+ 'l3: loop {
+ v5 = 0xffffffff;
+ if v3 != v1 { break 'l1; }
+ v6 = v2.plus(if v2 == 0 { 4096_u64 } else { 0 });
+ v7 = v0.plus(if v0 == 0 { 4096_u64 } else { 0 });
+ 'l5: loop {
+ if v3 == 0 { break 'l5; }
+ v2 = v7.plus(128);
+ v0 = v6.plus(8);
+ v1 = v3;
+ 'l6: loop {
+ v5 = 0xffffffff;
+ if load32(v2.plus(16)).minus(1) > 63 { break 'l1; }
+ v8 = load32(v2.plus(8));
+ if v8 > 128 { break 'l1; }
+ if load32(v2.plus(12)) > 128 { break 'l1; }
+ v5 = 0xffffffff;
+ v9 = load64(v2);
+ if v9 > sign64((!v8) as u64, 0x80000000) { break 'l1; }
+ if load64(v0) > (!v9.plus(v8 as u64)) { break 'l1; }
+ v2 = v2.plus(344);
+ v0 = v0.plus(16);
+ v1 = v1.minus(1);
+ if !(v1 == 0) { continue 'l6; }
+ break 'l6; }
+ break 'l5; }
+ v2 = v7.plus(140);
+ v0 = 0xffffffffffffffff;
+ 'l7: loop {
+ v0 = v0.plus(1);
+ if v3 == v0 { break 'l3; }
+ v1 = v2.minus(12);
+ v9 = load32(v2) as u64;
+ v2 = v2.plus(344);
+ if load64(v1) >= v9 { continue 'l7; }
+ break 'l7; }
+ ffi_several_blake2b_update_in_frame(v7, v6, v3);
+ digest_wiping_scrub_stack_9216();
+ break 'l2;
+ }
+ ffi_several_blake2b_update_in_frame(v7, v6, v3);
+ break 'l2; }
+ v5 = 0;
+ break 'l1; }
+ return v5;
 }
 
 // blake2_ffi::blake2b::finalize
@@ -4429,9 +4534,9 @@ unsafe fn state_blake2s_State_write_digest(mut v0: u64, mut v1: u64) {
  return;
 }
 
-// blake2_state::blake2s::State::take
+// blake2_state::blake2s::State::absorb_blocks
 #[inline(never)]
-unsafe fn state_blake2s_State_take(mut v0: u64, mut v1: u64, mut v2: u64) {
+unsafe fn state_blake2s_State_absorb_blocks(mut v0: u64, mut v1: u64, mut v2: u64) {
  let mut v3: u64;
  let mut v4: u32;
  let mut v5: u64;
@@ -4760,12 +4865,12 @@ unsafe fn ffi_blake2s_many_write_all(mut v0: u64, mut v1: u64, mut v2: u64, mut 
  'l13: loop {
  'l14: loop {
  if v17 == 1 { break 'l14; }
- state_blake2s_State_take(v5, v18, v17);
+ state_blake2s_State_absorb_blocks(v5, v18, v17);
  break 'l13;
  }
  'l15: loop {
  if v13 == 0 { break 'l15; }
- state_blake2s_State_take(v5, v18, 1);
+ state_blake2s_State_absorb_blocks(v5, v18, 1);
  break 'l13;
  }
  store8(v10.plus(v26 as u64), load8(v18) as u64);
@@ -5162,21 +5267,21 @@ unsafe fn exported_blake2s_init_param(mut v0: u64, mut v1: u64, mut v2: u64) -> 
  return 0xffffffff;
 }
 
-// blake2_ffi::blake2s::absorb
+// blake2_ffi::blake2s::update_in_frame
 #[inline(never)]
-unsafe fn ffi_blake2s_absorb(mut v0: u64, mut v1: u64, mut v2: u64) {
+unsafe fn ffi_blake2s_update_in_frame(mut v0: u64, mut v1: u64, mut v2: u64) {
  let mut v4: u32;
  let mut v5: u32;
  'l2: loop {
  if v2 == 1 { break 'l2; }
- state_blake2s_State_take(v0, v1, v2);
+ state_blake2s_State_absorb_blocks(v0, v1, v2);
  return;
  }
  'l3: loop {
  v2 = v0.plus(72);
  v4 = load16(v2);
  if v4 < 64 { break 'l3; }
- state_blake2s_State_take(v0, v1, 1);
+ state_blake2s_State_absorb_blocks(v0, v1, 1);
  return;
  }
  v5 = load8(v1);
@@ -5194,10 +5299,10 @@ unsafe fn digest_wiping_scrub_stack_512() {
     }
 }
 
-// blake2_ffi::blake2s::absorb_scrubbed
+// blake2_ffi::blake2s::update_scrubbed
 #[inline(never)]
-unsafe fn ffi_blake2s_absorb_scrubbed(mut v0: u64, mut v1: u64, mut v2: u64) {
- ffi_blake2s_absorb(v0, v1, v2);
+unsafe fn ffi_blake2s_update_scrubbed(mut v0: u64, mut v1: u64, mut v2: u64) {
+ ffi_blake2s_update_in_frame(v0, v1, v2);
  digest_wiping_scrub_stack_512();
  return;
 }
@@ -5227,16 +5332,16 @@ unsafe fn exported_blake2s_update(mut v0: u64, mut v1: u64, mut v2: u64) -> u32 
  v1 = v1.plus(if v1 == 0 { 4096_u64 } else { 0 });
  'l5: loop {
  if v7 >= v6 { break 'l5; }
- ffi_blake2s_absorb_scrubbed(v0, v1, v2);
+ ffi_blake2s_update_scrubbed(v0, v1, v2);
  break 'l2;
  }
  'l6: loop {
  if v2 == 1 { break 'l6; }
- state_blake2s_State_take(v0, v1, v2);
+ state_blake2s_State_absorb_blocks(v0, v1, v2);
  break 'l2;
  }
  if v5 != 64 { break 'l3; }
- state_blake2s_State_take(v0, v1, 1);
+ state_blake2s_State_absorb_blocks(v0, v1, 1);
  break 'l2;
  }
  v4 = load8(v1);
@@ -5246,6 +5351,101 @@ unsafe fn exported_blake2s_update(mut v0: u64, mut v1: u64, mut v2: u64) -> u32 
  v4 = 0;
  break 'l1; }
  return v4;
+}
+
+// blake2_ffi::several::blake2s::update_in_frame
+#[inline(never)]
+unsafe fn ffi_several_blake2s_update_in_frame(mut v0: u64, mut v1: u64, mut v2: u64) {
+ let mut v4: u64;
+ let mut v5: u64;
+ let mut v6: u32;
+ let mut v7: u32;
+ 'l2: loop {
+ if v2 == 0 { break 'l2; }
+ 'l3: loop {
+ v4 = load64(v1);
+ 'l4: loop {
+ 'l5: loop {
+ v5 = load64(v1.plus(8));
+ if v5 == 1 { break 'l5; }
+ state_blake2s_State_absorb_blocks(v0, v4, v5);
+ break 'l4;
+ }
+ 'l6: loop {
+ v5 = v0.plus(72);
+ v6 = load16(v5);
+ if v6 < 64 { break 'l6; }
+ state_blake2s_State_absorb_blocks(v0, v4, 1);
+ break 'l4;
+ }
+ v7 = load8(v4);
+ store16(v5, v6.plus(1) as u64);
+ store8(v0.plus(v6 as u64).plus(80), v7 as u64);
+ break 'l4; }
+ v0 = v0.plus(176);
+ v1 = v1.plus(16);
+ v2 = v2.minus(1);
+ if v2 != 0 { continue 'l3; }
+ break 'l3; }
+ break 'l2; }
+ return;
+}
+
+// rattle::export vulfsjor_ffi_blake2s_update_many
+#[inline(never)]
+unsafe fn exported_blake2s_update_many(mut v0: u64, mut v1: u64, mut v2: u64, mut v3: u64) -> u32 {
+ let mut v5: u32;
+ let mut v6: u64;
+ let mut v7: u64;
+ let mut v8: u32;
+ let mut v9: u64;
+ 'l1: loop {
+ 'l2: loop {
+ 'l3: loop {
+ v5 = 0xffffffff;
+ if v3 != v1 { break 'l1; }
+ v6 = v2.plus(if v2 == 0 { 4096_u64 } else { 0 });
+ v7 = v0.plus(if v0 == 0 { 4096_u64 } else { 0 });
+ 'l5: loop {
+ if v3 == 0 { break 'l5; }
+ v2 = v7.plus(64);
+ v0 = v6.plus(8);
+ v1 = v3;
+ 'l6: loop {
+ v5 = 0xffffffff;
+ if (load16(v2.plus(12)).minus(1) & 0xffff) > 31 { break 'l1; }
+ v8 = load16(v2.plus(8));
+ if v8 > 64 { break 'l1; }
+ if load16(v2.plus(10)) > 64 { break 'l1; }
+ v5 = 0xffffffff;
+ v9 = load64(v2);
+ if v9 > sign64((!v8) as u64, 0x8000) { break 'l1; }
+ if load64(v0) > (!v9.plus(v8 as u64)) { break 'l1; }
+ v2 = v2.plus(176);
+ v0 = v0.plus(16);
+ v1 = v1.minus(1);
+ if !(v1 == 0) { continue 'l6; }
+ break 'l6; }
+ break 'l5; }
+ v2 = v7.plus(74);
+ v0 = 0xffffffffffffffff;
+ 'l7: loop {
+ v0 = v0.plus(1);
+ if v3 == v0 { break 'l3; }
+ v1 = v2.minus(10);
+ v9 = load16(v2) as u64;
+ v2 = v2.plus(176);
+ if load64(v1) >= v9 { continue 'l7; }
+ break 'l7; }
+ ffi_several_blake2s_update_in_frame(v7, v6, v3);
+ digest_wiping_scrub_stack_9216();
+ break 'l2;
+ }
+ ffi_several_blake2s_update_in_frame(v7, v6, v3);
+ break 'l2; }
+ v5 = 0;
+ break 'l1; }
+ return v5;
 }
 
 // blake2_ffi::blake2s::finalize
@@ -8817,9 +9017,9 @@ unsafe fn exported_blake2bp_init_key(mut v0: u64, mut v1: u64, mut v2: u64, mut 
  return v5;
 }
 
-// blake2_ffi::blake2bp::absorb
+// blake2_ffi::blake2bp::update_in_frame
 #[inline(never)]
-unsafe fn ffi_blake2bp_absorb(mut v0: u64, mut v1: u64, mut v2: u64) {
+unsafe fn ffi_blake2bp_update_in_frame(mut v0: u64, mut v1: u64, mut v2: u64) {
  parallel_blake2bp_State_update(v0, v1, v2);
  return;
 }
@@ -8833,10 +9033,10 @@ unsafe fn digest_wiping_scrub_stack_3072() {
     }
 }
 
-// blake2_ffi::blake2bp::absorb_scrubbed
+// blake2_ffi::blake2bp::update_scrubbed
 #[inline(never)]
-unsafe fn ffi_blake2bp_absorb_scrubbed(mut v0: u64, mut v1: u64, mut v2: u64) {
- ffi_blake2bp_absorb(v0, v1, v2);
+unsafe fn ffi_blake2bp_update_scrubbed(mut v0: u64, mut v1: u64, mut v2: u64) {
+ ffi_blake2bp_update_in_frame(v0, v1, v2);
  digest_wiping_scrub_stack_3072();
  return;
 }
@@ -8863,7 +9063,7 @@ unsafe fn exported_blake2bp_update(mut v0: u64, mut v1: u64, mut v2: u64) -> u32
  v1 = v1.plus(if v1 == 0 { 4096_u64 } else { 0 });
  if v6 != 0 { break 'l3; }
  if v7 == 0 { break 'l3; }
- ffi_blake2bp_absorb_scrubbed(v0, v1, v2);
+ ffi_blake2bp_update_scrubbed(v0, v1, v2);
  break 'l2;
  }
  parallel_blake2bp_State_update(v0, v1, v2);
@@ -9011,9 +9211,9 @@ unsafe fn exported_blake2bp_verify(mut v0: u64, mut v1: u64, mut v2: u64) -> u32
  return v4;
 }
 
-// blake2_ffi::blake2bp::start_again
+// blake2_ffi::blake2bp::reset_in_frame
 #[inline(never)]
-unsafe fn ffi_blake2bp_start_again(mut v0: u64) {
+unsafe fn ffi_blake2bp_reset_in_frame(mut v0: u64) {
  let mut v1: u64;
  let mut v2: u64;
  let mut v3: u64;
@@ -9068,7 +9268,7 @@ unsafe fn exported_blake2bp_reset(mut v0: u64) -> u32 {
  if load64(v0.plus(256)) > ((!v3) >> 2) { break 'l2; }
  v3 = load64(v0.plus(1488));
  if v3 > 512 { break 'l2; }
- ffi_blake2bp_start_again(v0);
+ ffi_blake2bp_reset_in_frame(v0);
  v2 = 0;
  if v3 == 0 { break 'l2; }
  digest_wiping_scrub_stack_1792();
@@ -11890,17 +12090,17 @@ unsafe fn exported_blake2sp_init_key(mut v0: u64, mut v1: u64, mut v2: u64, mut 
  return v5;
 }
 
-// blake2_ffi::blake2sp::absorb
+// blake2_ffi::blake2sp::update_in_frame
 #[inline(never)]
-unsafe fn ffi_blake2sp_absorb(mut v0: u64, mut v1: u64, mut v2: u64) {
+unsafe fn ffi_blake2sp_update_in_frame(mut v0: u64, mut v1: u64, mut v2: u64) {
  parallel_blake2sp_State_update(v0, v1, v2);
  return;
 }
 
-// blake2_ffi::blake2sp::absorb_scrubbed
+// blake2_ffi::blake2sp::update_scrubbed
 #[inline(never)]
-unsafe fn ffi_blake2sp_absorb_scrubbed(mut v0: u64, mut v1: u64, mut v2: u64) {
- ffi_blake2sp_absorb(v0, v1, v2);
+unsafe fn ffi_blake2sp_update_scrubbed(mut v0: u64, mut v1: u64, mut v2: u64) {
+ ffi_blake2sp_update_in_frame(v0, v1, v2);
  digest_wiping_scrub_stack_3072();
  return;
 }
@@ -11927,7 +12127,7 @@ unsafe fn exported_blake2sp_update(mut v0: u64, mut v1: u64, mut v2: u64) -> u32
  v1 = v1.plus(if v1 == 0 { 4096_u64 } else { 0 });
  if v6 != 0 { break 'l3; }
  if v7 == 0 { break 'l3; }
- ffi_blake2sp_absorb_scrubbed(v0, v1, v2);
+ ffi_blake2sp_update_scrubbed(v0, v1, v2);
  break 'l2;
  }
  parallel_blake2sp_State_update(v0, v1, v2);
@@ -12075,9 +12275,9 @@ unsafe fn exported_blake2sp_verify(mut v0: u64, mut v1: u64, mut v2: u64) -> u32
  return v4;
 }
 
-// blake2_ffi::blake2sp::start_again
+// blake2_ffi::blake2sp::reset_in_frame
 #[inline(never)]
-unsafe fn ffi_blake2sp_start_again(mut v0: u64) {
+unsafe fn ffi_blake2sp_reset_in_frame(mut v0: u64) {
  let mut v1: u64;
  let mut v2: u64;
  let mut v3: u64;
@@ -12237,7 +12437,7 @@ unsafe fn exported_blake2sp_reset(mut v0: u64) -> u32 {
  if load64(v0.plus(256)) > ((!v3) >> 3) { break 'l2; }
  v3 = load64(v0.plus(1520));
  if v3 > 512 { break 'l2; }
- ffi_blake2sp_start_again(v0);
+ ffi_blake2sp_reset_in_frame(v0);
  v2 = 0;
  if v3 == 0 { break 'l2; }
  digest_wiping_scrub_stack_1792();
@@ -12486,12 +12686,12 @@ unsafe fn ffi_blake2xb_write(mut v0: u64, mut v1: u64, mut v2: u64, mut v3: u64,
  'l7: loop {
  'l8: loop {
  if v3 == 1 { break 'l8; }
- state_blake2b_State_take(v6, v2, v3);
+ state_blake2b_State_absorb_blocks(v6, v2, v3);
  break 'l7;
  }
  'l9: loop {
  if v5 == 0 { break 'l9; }
- state_blake2b_State_take(v6, v2, 1);
+ state_blake2b_State_absorb_blocks(v6, v2, 1);
  break 'l7;
  }
  store8(v4.plus(v11), load8(v2) as u64);
@@ -12718,21 +12918,21 @@ unsafe fn exported_blake2xb_init_salt_personal(mut v0: u64, mut v1: u64, mut v2:
  return v9;
 }
 
-// blake2_ffi::blake2xb::absorb
+// blake2_ffi::blake2xb::update_in_frame
 #[inline(never)]
-unsafe fn ffi_blake2xb_absorb(mut v0: u64, mut v1: u64, mut v2: u64) {
+unsafe fn ffi_blake2xb_update_in_frame(mut v0: u64, mut v1: u64, mut v2: u64) {
  let mut v4: u32;
  let mut v5: u32;
  'l2: loop {
  if v2 == 1 { break 'l2; }
- state_blake2b_State_take(v0, v1, v2);
+ state_blake2b_State_absorb_blocks(v0, v1, v2);
  return;
  }
  'l3: loop {
  v2 = v0.plus(136);
  v4 = load32(v2);
  if v4 < 128 { break 'l3; }
- state_blake2b_State_take(v0, v1, 1);
+ state_blake2b_State_absorb_blocks(v0, v1, 1);
  return;
  }
  v5 = load8(v1);
@@ -12772,10 +12972,10 @@ unsafe fn exported_blake2xb_update(mut v0: u64, mut v1: u64, mut v2: u64) -> u32
  v1 = v1.plus(if v1 == 0 { 4096_u64 } else { 0 });
  'l3: loop {
  if v8 == 0 { break 'l3; }
- ffi_blake2xb_absorb(v0, v1, v2);
+ ffi_blake2xb_update_in_frame(v0, v1, v2);
  return 0;
  }
- ffi_blake2xb_absorb(v0, v1, v2);
+ ffi_blake2xb_update_in_frame(v0, v1, v2);
  v4 = 0;
  if v7 == 0 { break 'l2; }
  digest_wiping_scrub_stack_3072();
@@ -12833,9 +13033,9 @@ unsafe fn exported_blake2xb_squeeze(mut v0: u64, mut v1: u64, mut v2: u64) -> u3
  return v4;
 }
 
-// blake2_ffi::blake2xb::start_again
+// blake2_ffi::blake2xb::reset_in_frame
 #[inline(never)]
-unsafe fn ffi_blake2xb_start_again(mut v0: u64) {
+unsafe fn ffi_blake2xb_reset_in_frame(mut v0: u64) {
  let mut v1: u32;
  store64(v0.plus(128), 0);
  store64(v0 + 56, load64(v0.plus(120)));
@@ -12899,7 +13099,7 @@ unsafe fn exported_blake2xb_reset(mut v0: u64) -> u32 {
  v6 = load64(v0.plus(440));
  if v6.minus(1) > 0xfffffffe { break 'l2; }
  if load64(v0.plus(448)) > (if v6 == 0xffffffff { 0x4000000000 } else { v6 }) { break 'l2; }
- ffi_blake2xb_start_again(v0);
+ ffi_blake2xb_reset_in_frame(v0);
  v2 = 0;
  if v5 == 0 { break 'l2; }
  digest_wiping_scrub_stack_1792();
@@ -13148,12 +13348,12 @@ unsafe fn ffi_blake2xs_write(mut v0: u64, mut v1: u64, mut v2: u64, mut v3: u64,
  'l7: loop {
  'l8: loop {
  if v3 == 1 { break 'l8; }
- state_blake2s_State_take(v6.plus(8), v2, v3);
+ state_blake2s_State_absorb_blocks(v6.plus(8), v2, v3);
  break 'l7;
  }
  'l9: loop {
  if v5 == 0 { break 'l9; }
- state_blake2s_State_take(v6.plus(8), v2, 1);
+ state_blake2s_State_absorb_blocks(v6.plus(8), v2, 1);
  break 'l7;
  }
  store8(v6.plus(88).plus(v4), load8(v2) as u64);
@@ -13349,21 +13549,21 @@ unsafe fn exported_blake2xs_init_salt_personal(mut v0: u64, mut v1: u64, mut v2:
  return v9;
 }
 
-// blake2_ffi::blake2xs::absorb
+// blake2_ffi::blake2xs::update_in_frame
 #[inline(never)]
-unsafe fn ffi_blake2xs_absorb(mut v0: u64, mut v1: u64, mut v2: u64) {
+unsafe fn ffi_blake2xs_update_in_frame(mut v0: u64, mut v1: u64, mut v2: u64) {
  let mut v4: u32;
  let mut v5: u32;
  'l2: loop {
  if v2 == 1 { break 'l2; }
- state_blake2s_State_take(v0, v1, v2);
+ state_blake2s_State_absorb_blocks(v0, v1, v2);
  return;
  }
  'l3: loop {
  v2 = v0.plus(72);
  v4 = load16(v2);
  if v4 < 64 { break 'l3; }
- state_blake2s_State_take(v0, v1, 1);
+ state_blake2s_State_absorb_blocks(v0, v1, 1);
  return;
  }
  v5 = load8(v1);
@@ -13403,10 +13603,10 @@ unsafe fn exported_blake2xs_update(mut v0: u64, mut v1: u64, mut v2: u64) -> u32
  v1 = v1.plus(if v1 == 0 { 4096_u64 } else { 0 });
  'l3: loop {
  if v8 == 0 { break 'l3; }
- ffi_blake2xs_absorb(v0, v1, v2);
+ ffi_blake2xs_update_in_frame(v0, v1, v2);
  return 0;
  }
- ffi_blake2xs_absorb(v0, v1, v2);
+ ffi_blake2xs_update_in_frame(v0, v1, v2);
  v4 = 0;
  if v7 == 0 { break 'l2; }
  digest_wiping_scrub_stack_3072();
@@ -13455,9 +13655,9 @@ unsafe fn exported_blake2xs_squeeze(mut v0: u64, mut v1: u64, mut v2: u64) -> u3
  return v4;
 }
 
-// blake2_ffi::blake2xs::start_again
+// blake2_ffi::blake2xs::reset_in_frame
 #[inline(never)]
-unsafe fn ffi_blake2xs_start_again(mut v0: u64) {
+unsafe fn ffi_blake2xs_reset_in_frame(mut v0: u64) {
  store64(v0.plus(64), 0);
  store64(v0.plus(112), 0);
  store64(v0.plus(120), 0);
@@ -13503,7 +13703,7 @@ unsafe fn exported_blake2xs_reset(mut v0: u64) -> u32 {
  v6 = load64(v0.plus(224));
  if v6.minus(1) > 0xfffe { break 'l2; }
  if load64(v0.plus(232)) > (if v6 == 0xffff { 0x2000000000 } else { v6 }) { break 'l2; }
- ffi_blake2xs_start_again(v0);
+ ffi_blake2xs_reset_in_frame(v0);
  v2 = 0;
  if v5 == 0 { break 'l2; }
  digest_wiping_scrub_stack_1792();
@@ -13701,12 +13901,12 @@ unsafe fn state_tree_TreeState_close_leaf(mut v0: u64, mut v1: u64, mut v2: u64,
  v8 = v7 as u64;
  v9 = load64(v1.plus(696)).minus(load64(v6).plus(v8));
  if v9 == 1 { break 'l3; }
- state_blake2b_State_take(v1, v2, v9);
+ state_blake2b_State_absorb_blocks(v1, v2, v9);
  break 'l2;
  }
  'l4: loop {
  if v7 < 128 { break 'l4; }
- state_blake2b_State_take(v1, v2, 1);
+ state_blake2b_State_absorb_blocks(v1, v2, 1);
  break 'l2;
  }
  v10 = load8(v2);
@@ -13740,7 +13940,7 @@ unsafe fn state_tree_TreeState_close_leaf(mut v0: u64, mut v1: u64, mut v2: u64,
  store64(v4 + 32, load64(v4 + 80));
  store64(v4 + 40, load64(v4 + 88));
  state_blake2b_State_write_digest(v1, v4.plus(96));
- state_blake2b_State_take(v1.plus(344), v4.plus(96), 64);
+ state_blake2b_State_absorb_blocks(v1.plus(344), v4.plus(96), 64);
  v14 = v1.plus(688);
  t0 = v14;
  v14 = load64(v14).plus(1);
@@ -13821,12 +14021,12 @@ unsafe fn state_tree_TreeState_update(mut v0: u64, mut v1: u64, mut v2: u64) {
  if v2 > load64(v5).minus(load64(v6).plus(v8)) { break 'l2; }
  'l3: loop {
  if v2 == 1 { break 'l3; }
- state_blake2b_State_take(v0, v1, v2);
+ state_blake2b_State_absorb_blocks(v0, v1, v2);
  return;
  }
  'l4: loop {
  if v7 < 128 { break 'l4; }
- state_blake2b_State_take(v0, v1, 1);
+ state_blake2b_State_absorb_blocks(v0, v1, 1);
  return;
  }
  v9 = load8(v1);
@@ -13910,7 +14110,7 @@ unsafe fn state_tree_TreeState_update(mut v0: u64, mut v1: u64, mut v2: u64) {
  store64(v3 + 680, v5);
  store64(v3 + 648, load64(v3 + 712));
  store64(v3 + 640, load64(v3 + 704));
- state_blake2b_State_take(v11, v3.plus(40), 64);
+ state_blake2b_State_absorb_blocks(v11, v3.plus(40), 64);
  v19 = load64(v20).plus(1);
  store64(v20, v19);
  fill(v3 + 736, 0, 32);
@@ -13964,14 +14164,14 @@ unsafe fn state_tree_TreeState_update(mut v0: u64, mut v1: u64, mut v2: u64) {
  break 'l5; }
  'l15: loop {
  if v2 == 1 { break 'l15; }
- state_blake2b_State_take(v0, v8, v2);
+ state_blake2b_State_absorb_blocks(v0, v8, v2);
  return;
  }
  'l16: loop {
  v3 = v0.plus(136);
  v7 = load32(v3);
  if v7 < 128 { break 'l16; }
- state_blake2b_State_take(v0, v8, 1);
+ state_blake2b_State_absorb_blocks(v0, v8, 1);
  return;
  }
  v9 = load8(v8);
@@ -14967,7 +15167,7 @@ unsafe fn exported_tree_root(mut v0: u64, mut v1: u64, mut v2: u64, mut v3: u64,
  store64(v9 + 1792, load64(v9 + 1336));
  store64(v9 + 1784, load64(v9 + 1328));
  state_blake2b_State_write_digest(v9, v9.plus(576));
- state_blake2b_State_take(v9.plus(1504), v9.plus(576), 64);
+ state_blake2b_State_absorb_blocks(v9.plus(1504), v9.plus(576), 64);
  store32(v9 + 1652, 1);
  state_blake2b_State_write_digest(v9.plus(1504), v14);
  break 'l2; }
@@ -15259,7 +15459,7 @@ unsafe fn state_tree_TreeState_write_root(mut v0: u64, mut v1: u64) {
  store64(v2 + 288, load64(v0.plus(632)));
  store64(v2 + 280, load64(v0.plus(624)));
  state_blake2b_State_write_digest(v2.plus(344), v2.plus(688));
- state_blake2b_State_take(v2, v2.plus(688), 64);
+ state_blake2b_State_absorb_blocks(v2, v2.plus(688), 64);
  store32(v2 + 148, 1);
  state_blake2b_State_write_digest(v2, v1);
  return;
@@ -15606,7 +15806,7 @@ unsafe fn exported_tree_root_of_leaves(mut v0: u64, mut v1: u64, mut v2: u64, mu
  store32(v9 + 160, v12 as u64);
  store32(v9 + 164, 1);
  fill(v9.plus(168), 0, 192);
- state_blake2b_State_take(v9.plus(16), v5, v3);
+ state_blake2b_State_absorb_blocks(v9.plus(16), v5, v3);
  state_blake2b_State_write_digest(v9.plus(16), v2);
  break 'l2; }
  return v11;
@@ -15747,7 +15947,7 @@ unsafe fn exported_tree_update_leaves(mut v0: u64, mut v1: u64, mut v2: u64, mut
  store64(v5 + 32, load64(v5 + 216));
  store32(v5 + 48, v9);
  state_blake2b_State_write_digest(v0, v5.plus(96));
- state_blake2b_State_take(v0.plus(344), v5.plus(96), 64);
+ state_blake2b_State_absorb_blocks(v0.plus(344), v5.plus(96), 64);
  v16 = v0.plus(688);
  t3 = v16;
  v16 = load64(v16).plus(1);
@@ -15816,7 +16016,7 @@ unsafe fn exported_tree_update_leaves(mut v0: u64, mut v1: u64, mut v2: u64, mut
  store64(v5 + 120, load64(v5 + 160));
  store64(v5 + 128, load64(v5 + 168));
  store32(v5 + 144, v9);
- state_blake2b_State_take(v0.plus(344), v1, v2);
+ state_blake2b_State_absorb_blocks(v0.plus(344), v1, v2);
  v2 = v0.plus(688);
  t4 = v2;
  v2 = load64(v2).plus(v14);
@@ -16305,12 +16505,7 @@ pub(crate) unsafe fn blake2b(out: *mut u8, out_length: usize, input: *const u8, 
 pub(crate) unsafe fn blake2b_many(out: *mut u8, out_length: usize, output_size: usize, messages:
         *const Text, count: usize, key: *const u8, key_length: usize, salt: *const u8, salt_length:
         usize, personal: *const u8, personal_length: usize) -> i32 {
-    // The module's messages are two 64-bit numbers each. The crate passes at most PART.
-    let mut pairs = [0_u64; 2 * crate::family::PART];
-    for (i, message) in core::slice::from_raw_parts(messages, count).iter().enumerate() {
-        pairs[2 * i] = (message.bytes as u64).to_le();
-        pairs[2 * i + 1] = (message.length as u64).to_le();
-    }
+    let mut pairs = pairs_of(messages, count);
     exported_blake2b_many(out as u64, out_length as u64, output_size as u64, address!(pairs), count as u64,
         key as u64, key_length as u64, salt as u64, salt_length as u64, personal as u64,
         personal_length as u64) as i32
@@ -16348,6 +16543,12 @@ pub(crate) unsafe fn blake2b_init_param<S>(state: &mut S, block: *const u8, bloc
 pub(crate) unsafe fn blake2b_update<S>(state: &mut S, input: *const u8, input_length: usize) -> i32
         {
     exported_blake2b_update(state as *mut _ as u64, input as u64, input_length as u64) as i32
+}
+
+pub(crate) unsafe fn blake2b_update_many<S>(states: *mut S, state_count: usize, inputs: *const Text,
+        input_count: usize) -> i32 {
+    let mut pairs = pairs_of(inputs, input_count);
+    exported_blake2b_update_many(states as u64, state_count as u64, address!(pairs), input_count as u64) as i32
 }
 
 pub(crate) unsafe fn blake2b_final<S>(state: &mut S, out: *mut u8, out_length: usize) -> i32 {
@@ -16398,12 +16599,7 @@ pub(crate) unsafe fn blake2s(out: *mut u8, out_length: usize, input: *const u8, 
 pub(crate) unsafe fn blake2s_many(out: *mut u8, out_length: usize, output_size: usize, messages:
         *const Text, count: usize, key: *const u8, key_length: usize, salt: *const u8, salt_length:
         usize, personal: *const u8, personal_length: usize) -> i32 {
-    // The module's messages are two 64-bit numbers each. The crate passes at most PART.
-    let mut pairs = [0_u64; 2 * crate::family::PART];
-    for (i, message) in core::slice::from_raw_parts(messages, count).iter().enumerate() {
-        pairs[2 * i] = (message.bytes as u64).to_le();
-        pairs[2 * i + 1] = (message.length as u64).to_le();
-    }
+    let mut pairs = pairs_of(messages, count);
     exported_blake2s_many(out as u64, out_length as u64, output_size as u64, address!(pairs), count as u64,
         key as u64, key_length as u64, salt as u64, salt_length as u64, personal as u64,
         personal_length as u64) as i32
@@ -16441,6 +16637,12 @@ pub(crate) unsafe fn blake2s_init_param<S>(state: &mut S, block: *const u8, bloc
 pub(crate) unsafe fn blake2s_update<S>(state: &mut S, input: *const u8, input_length: usize) -> i32
         {
     exported_blake2s_update(state as *mut _ as u64, input as u64, input_length as u64) as i32
+}
+
+pub(crate) unsafe fn blake2s_update_many<S>(states: *mut S, state_count: usize, inputs: *const Text,
+        input_count: usize) -> i32 {
+    let mut pairs = pairs_of(inputs, input_count);
+    exported_blake2s_update_many(states as u64, state_count as u64, address!(pairs), input_count as u64) as i32
 }
 
 pub(crate) unsafe fn blake2s_final<S>(state: &mut S, out: *mut u8, out_length: usize) -> i32 {

@@ -3635,7 +3635,7 @@
 	leaq	4960(%rsp), %rsi
 137:
 	movq	%rbx, %rdi
-	callq	blake2_state..blake2s..State..take_1_x86
+	callq	blake2_state..blake2s..State..absorb_blocks_1_x86
 138:
 	leaq	4960(%rsp), %rsi
 	movl	$4096, %edx
@@ -3686,7 +3686,7 @@
 	movl	$1, %edx
 144:
 	movq	%rbx, %rdi
-	callq	blake2_state..blake2b..State..take_1_x86
+	callq	blake2_state..blake2b..State..absorb_blocks_1_x86
 	jmp	138b
 145:
 	leaq	13152(%rsp), %rdi
@@ -6601,16 +6601,16 @@
 	je	311b
 	jmp	534f
 326:
-	callq	blake2_state..blake2s..State..take_1_x86
+	callq	blake2_state..blake2s..State..absorb_blocks_1_x86
 	jmp	330f
 327:
 	movl	$1, %edx
-	callq	blake2_state..blake2s..State..take_1_x86
+	callq	blake2_state..blake2s..State..absorb_blocks_1_x86
 	jmp	330f
 328:
 	movl	$1, %edx
 329:
-	callq	blake2_state..blake2b..State..take_1_x86
+	callq	blake2_state..blake2b..State..absorb_blocks_1_x86
 330:
 	movq	112(%rsp), %r12
 	movq	48(%rsp), %r14
@@ -9009,7 +9009,7 @@
 	leaq	4960(%rsp), %rdi
 472:
 	movq	%r13, %rsi
-	callq	blake2_state..blake2b..State..take_1_x86
+	callq	blake2_state..blake2b..State..absorb_blocks_1_x86
 	movq	128(%rsp), %rax
 	movzbl	%al, %ecx
 	leaq	1120(%rsp), %rdi
@@ -9241,7 +9241,7 @@
 	leaq	3456(%rsp), %rdi
 	leaq	4960(%rsp), %rsi
 483:
-	callq	blake2_state..blake2s..State..take_1_x86
+	callq	blake2_state..blake2s..State..absorb_blocks_1_x86
 484:
 	leaq	4960(%rsp), %rsi
 	movl	$4096, %edx
@@ -9660,7 +9660,7 @@
 	leaq	13152(%rsp), %rdi
 	leaq	4960(%rsp), %rsi
 498:
-	callq	blake2_state..blake2b..State..take_1_x86
+	callq	blake2_state..blake2b..State..absorb_blocks_1_x86
 499:
 	leaq	4960(%rsp), %rsi
 	movl	$4096, %edx
@@ -11908,7 +11908,7 @@
 	.long	38b-.L1_x86_JTI12_0
 	.long	5b-.L1_x86_JTI12_0
 
-	vj_function	blake2_state..blake2b..State..take_1_x86
+	vj_function	blake2_state..blake2b..State..absorb_blocks_1_x86
 	pushq	%r15
 	pushq	%r14
 	pushq	%rbx
@@ -12060,7 +12060,7 @@
 	cmpq	%rax, %r14
 	je	8b
 	jmp	3b
-	vj_end	blake2_state..blake2b..State..take_1_x86
+	vj_end	blake2_state..blake2b..State..absorb_blocks_1_x86
 
 	vj_function	blake2_digest..buffer..digest_into..33c1e97afcdf8a5d_1_x86
 	pushq	%rbp
@@ -12363,7 +12363,7 @@
 	retq
 	vj_end	blake2_digest..buffer..digest_into..33c1e97afcdf8a5d_1_x86
 
-	vj_function	blake2_state..blake2s..State..take_1_x86
+	vj_function	blake2_state..blake2s..State..absorb_blocks_1_x86
 	pushq	%rbp
 	pushq	%r15
 	pushq	%r14
@@ -12694,7 +12694,7 @@
 	popq	%r15
 	popq	%rbp
 	retq
-	vj_end	blake2_state..blake2s..State..take_1_x86
+	vj_end	blake2_state..blake2s..State..absorb_blocks_1_x86
 
 	vj_function	blake2_digest..wiping..settle..128_1_x86
 	movdqu	(%rdi), %xmm0
