@@ -26,7 +26,7 @@ HUGE = bool(os.environ.get("VULFSJOR_TEST_HUGE"))
 BLOCK = "00" * 128
 WORDS = f"w 0000000001010040{' 0000000000000000' * 7}\n"  # the parameter words of b512
 WRONG = (2, b"b2: wrong words\n")
-CONFORMING = "| b2 | blake2b | 673 of 3397 | none |\n| b2 | blake2s | 552 of 2845 | none |\n"
+CONFORMING = "| b2 | blake2b | 673 of 3641 | none |\n| b2 | blake2s | 552 of 3089 | none |\n"
 
 
 def wants(runs, words, status, out, data=b"", **more):

@@ -27,6 +27,7 @@ HUGE = bool(os.environ.get("VULFSJOR_TEST_HUGE"))
 LONG = "the {} is too long: at most 16 bytes, 8 for BLAKE2s and BLAKE2sp"
 NO_THREADS = "the value is not a number of threads, or 0 for all processors"
 NO_DIGITS = "the value is not hexadecimal digits, two for each byte"
+ZEROS = "a value of zeros only is the same as none"
 # Wrong arguments, and what is said of them.
 WRONG = {
     "--salt=": "invalid salt: ''\nthe value has no digits",
@@ -34,13 +35,21 @@ WRONG = {
     "--personal-text=": "invalid personalization: ''\nthe value has no bytes",
     "--salt 0": f"invalid salt: '0'\n{NO_DIGITS}",
     "--personal zz": f"invalid personalization: 'zz'\n{NO_DIGITS}",
-    **{f"{words} {'00' * length}": LONG.format("salt") for words, length in (
+    **{f"--salt {'00' * length}": f"invalid salt: '{'00' * length}'\n{ZEROS}" for length in (1, 2, 16, 17)},
+    **{f"--personal {'00' * length}": f"invalid personalization: '{'00' * length}'\n{ZEROS}" for length in (1, 8, 16)},
+    **{f"{words} {'01' * length}": LONG.format("salt") for words, length in (
         ("--salt", 17), ("-a blake2s --salt", 9), ("-a blake2sp --salt", 9))},
     **{f"{words} {value}": LONG.format("personalization") for words, value in (
-        ("--personal", "00" * 17), ("-a blake2s --personal", "00" * 9), ("--personal-text", "x" * 17),
+        ("--personal", "01" * 17), ("-a blake2s --personal", "01" * 9), ("--personal-text", "x" * 17),
         ("--personal-text", "\u00e9" * 9), ("-a blake2sp --personal-text", "x" * 9))},
     **{words: "the --personal and --personal-text options are mutually exclusive"
-       for words in ("--personal 00 --personal-text x", "-c --personal-text x --personal=00")},
+       for words in ("--personal 01 --personal-text x", "-c --personal-text x --personal=01")},
+    **{words: "the --key-file and --key-hex-file options are mutually exclusive"
+       for words in ("--key-file b --key-hex-file b", "-c --key-hex-file=- --key-file b",
+                     "--seal --key-hex-file b --key-file b --key-hex-file b")},
+    "-c --show-digests --key-hex-file b": "--show-digests does not support --key-file: "
+                                          "it would print a valid MAC of a changed file",
+    "--tree 4 --key-hex-file b": "the --tree option does not support --key-file",
     "--show-digests": "the --show-digests option is meaningful only when verifying checksums",
     "-c --show-digests --key-file b": "--show-digests does not support --key-file: "
                                       "it would print a valid MAC of a changed file",
@@ -51,7 +60,7 @@ WRONG = {
        for leaf in ("0", "4294967296", "4k")},
     **{f"--threads {count}": f"invalid number of threads: '{count}'\n{NO_THREADS}" for count in ("x", "4294967296")},
     **{words: "the --threads option is meaningful only with --tree"
-       for words in ("--threads 4", "--threads 0 --salt 00")},
+       for words in ("--threads 4", "--threads 0 --salt 01")},
     **{f"{words} --tag": "--tag does not support --no-names and --raw" for words in ("--raw", "--no-names")},
     **{f"-c {words}": "the --no-names and --raw options are meaningless when verifying checksums"
        for words in ("--raw", "--no-names")},
@@ -103,7 +112,10 @@ def test_names(runs):
 
 def test_parameters(runs):
     """What is refused of keys, salts, personalizations and algorithms. Random runs have those that are right."""
-    runs.wants(["--salt", "00" * 16, "b"], line("b", b"abc"))
+    for text in ("01", "0001", "0100", "00" * 15 + "01", "80" + "00" * 15):
+        given = bytes.fromhex(text)
+        runs.wants(["--salt", text, "b"], line("b", b"abc", salt=given))
+        runs.wants(["--personal=" + text, "b"], line("b", b"abc", person=given))
     for words, said in WRONG.items():
         runs.wants([*words.split(), "b"], "", said, 1, **({} if "\n" in said else {"Try": 1}))
     for length in (0, 33, 65):
@@ -123,6 +135,9 @@ def test_parameters(runs):
 NO_LINE = "'standard input': no properly formatted checksum lines found"
 NO_MATCH = "WARNING: 1 computed checksum did NOT match"
 SHORT = "WARNING: MACs below 128 bits can be guessed\n"
+LIKE_DIGITS = "has only hexadecimal digits, which --key-hex-file would decode"
+DIGITS = "a key has 2 to 128 hexadecimal digits, two for each byte"
+SHORT_DIGITS = "a key of BLAKE2s or BLAKE2sp has 2 to 64 hexadecimal digits, two for each byte"
 
 
 def test_tags(runs):
@@ -177,6 +192,121 @@ def test_key_input(runs):
     runs.wants(["-c", "--key-file", "-", "sums"], "", f"-: {os.strerror(errno.EISDIR)}", 1,
                stdin=os.open(runs.folder, os.O_RDONLY))
     runs.ends("keys on standard input")
+
+
+def test_hex_keys(runs):
+    """Keys in hexadecimal digits, which mean the same as their bytes. Whatever else is in the file is refused."""
+    keys = [bytes(range(length)) for length in (1, 2, 16, 31, 32, 33, 63, 64)]
+    for key, end in itertools.product([*keys, bytes(64), b"\xff" * 32, b"\xab\xcd\xef", b"00ff"], (b"", b"\n")):
+        digits = key.hex().encode()
+        for text in (digits, digits.upper(), digits.title()):
+            runs.write("keyhex", text + end)
+            runs.wants(["--key-hex-file", "keyhex", "--tag", "b"], line("b", b"abc", tag=True, key=key))
+            runs.wants(["--key-hex-file=-", "--tag", "b"], line("b", b"abc", tag=True, key=key), data=text + end)
+        runs.write("key", key)
+        runs.write("sums", line("b", b"abc", key=key).encode())
+        runs.wants(["-c", "--key-hex-file", "keyhex", "sums"], "b: OK\n")
+        ways, warned = (["--key-file", "key"], ["--key-hex-file", "keyhex"]), f"WARNING: key: {LIKE_DIGITS}\n"
+        for sealing, checking in itertools.product(ways, ways):
+            sealed = runs.run(["--seal", *sealing, "b", "a"])[0]
+            said = warned if key == b"00ff" and checking is ways[0] else ""
+            runs.wants(["-c", "--sealed", *checking], "b: OK\na: OK\n", said, data=sealed)
+            runs.wants(["-c", "--sealed", *checking], "", said + "-: the seal does not hold", 1,
+                       data=sealed.replace(b"sealed 2", b"sealed 3"))
+        for family in ("s", "sp"):
+            wanted = (line("b", b"abc", 256, family, key=key), "", 0) if len(key) <= 32 else (
+                "", f"keyhex: {SHORT_DIGITS}", 1)
+            runs.wants(["-a", "blake2" + family, "--key-hex-file", "keyhex", "b"], *wanted)
+    for text in (b"", b"\n", b"0", b"000", b"00\n\n", b"\n00", b"00 ", b" 00", b"0x00", b"0g", b"00\r\n", b"00\0",
+                 b"00" * 64 + b"0", b"00" * 65, b"00" * 65 + b"\n", b"00" * 64 + b"\n\n", b"00" * 1000, bytes(32)):
+        runs.write("keyhex", text)
+        runs.wants(["--key-hex-file", "keyhex", "b"], "", f"keyhex: {DIGITS}", 1)
+        runs.wants(["--key-hex-file=-", "b"], "", f"-: {DIGITS}", 1, data=text)
+        runs.wants(["-c", "--key-hex-file", "keyhex", "sums"], "", f"keyhex: {DIGITS}", 1)
+    runs.wants(["--key-hex-file", "none", "b"], "", f"none: {os.strerror(errno.ENOENT)}", 1)
+    for words in ([], ["-"], ["b", "-"], ["-c"], ["-c", "-"]):
+        runs.wants(["--key-hex-file", "-", *words], "", "standard input is the key, and cannot be a file too", 1,
+                   data=b"00", Try=1)
+    runs.write("keyhex", b"00" * 32)
+    os.chmod(runs.path("keyhex"), 0o644)
+    runs.wants(["--key-hex-file", "keyhex", "b"], line("b", b"abc", key=bytes(32)),
+               "WARNING: others may read the key file keyhex (chmod 600 prevents it)")
+    runs.wants(["-l", "64", "--key-hex-file", "-", "b"], line("b", b"abc", 64, key=bytes(32)), SHORT, data=b"00" * 32)
+    runs.ends("keys in hexadecimal digits")
+
+
+def test_digits_as_key(runs):
+    """A key file of digits whose bytes are the key: a warning names it, and the status stays the same."""
+    are = (b"00" * 16, b"0" * 33, b"00" * 16 + b"\n", b"aF", b"0", b"0\n", b"0" * 64, b"0" * 63 + b"\n", b"0123456789",
+           b"abcdef", b"ABCDEF\n")
+    are_not = (b"\n", b"00\n\n", b"\n00", b"0g", b"00 ", b"@", b"G", b"`", b"g", b"/", b":", b"0\0", b"00\r")
+    for text in are + are_not:
+        said = LIKE_DIGITS if text in are else ""
+        runs.write("key 1", text)
+        runs.wants(["--key-file", "key 1", "b"], line("b", b"abc", key=text), said and f"WARNING: 'key 1': {said}")
+        runs.wants(["--key-file=-", "b"], line("b", b"abc", key=text), said and f"WARNING: -: {said}", data=text)
+        runs.wants(["-c", "--key-file", "key 1"], "b: OK\n", said and f"WARNING: 'key 1': {said}",
+                   data=line("b", b"abc", key=text).encode())
+        runs.wants(["-l", "64", "--key-file", "key 1", "none"], "",
+                   (said and f"WARNING: 'key 1': {said}\n") + SHORT + f"none: {os.strerror(errno.ENOENT)}", 1)
+    runs.write("key", b"0" * 65)
+    runs.wants(["--key-file", "key", "b"], "", "key: a key has 1 to 64 bytes", 1)
+    runs.ends("key files of digits whose bytes are the key")
+
+
+def test_warned_lines(runs):
+    """With -w, what each line needs, by its number, and lines of other hash functions, by their tags."""
+    key = bytes(range(32))
+    runs.write("key", key)
+    text = (line("b", b"abc") + line("b", b"abc", tag=True, key=key) + "# comment\n"
+            + line("b", b"abc", 256, "s", tag=True, salt=b"\1") + line("b", b"abc", 128, tag=True, key=key)
+            + root_line("b", b"abc", 1023) + line("none", b"") + "SHA256 (b) = 00\nx\n")
+    runs.write("M", text.encode())
+    every = ["M: 2: needs --key-file", "M: 4: needs --salt --algorithm blake2s", "M: 5: needs --key-file --length 128",
+             "M: 6: needs --tree 1023", f"none: {os.strerror(errno.ENOENT)}",
+             "M: 8: checksum line of another algorithm", "M: 9: improperly formatted BLAKE2b checksum line"]
+    end = ["M: lines need --key-file --salt --algorithm blake2s --length 128",
+           "WARNING: 2 lines are improperly formatted", "WARNING: 4 lines need other options",
+           "WARNING: 1 listed file could not be read"]
+    out = "b: OK\nnone: FAILED open or read\n"
+    runs.wants(["-c", "-w", "M"], out, "\n".join(every + end), 1)
+    for words in ([], ["--quiet"], ["-w", "--quiet"]):
+        runs.wants(["-c", *words, "M"], out[6 * bool(words):], "\n".join(every[4:5] + end), 1)
+    runs.wants(["-c", "-w", "--status", "M"], "", every[4], 1)
+    runs.wants(["-c", "-w", "--key-file", "key", "-"], "", "\n".join([
+        "'standard input': 1: needs no --key-file", "'standard input': lines need no --key-file",
+        "WARNING: 1 line needs other options"]), 1, line("b", b"abc", tag=True).encode())
+    runs.write("new\nline", line("b", b"abc", tag=True, key=key).encode())
+    runs.wants(["-c", "-w", "new\nline"], "", "'new'$'\\n''line': 1: needs --key-file\n'new'$'\\n''line': "
+               "lines need --key-file\nWARNING: 1 line needs other options", 1)
+    digits = hashlib.sha256(b"abc").hexdigest()
+    for tag in ("MD5", "SHA1", "SHA224", "SHA256", "SHA384", "SHA512", "SHA3-224", "SHA3-512", "SM3", "BLAKE3"):
+        said = "'standard input': 2: checksum line of another algorithm\nWARNING: 1 line is improperly formatted"
+        entry = f"{tag} (b) = {digits}\n"
+        runs.wants(["-c", "-w"], "b: OK\n", said, 0, (line("b", b"abc") + entry).encode())
+        runs.wants(["-c", "-w", "--strict"], "b: OK\n", said, 1, (line("b", b"abc") + entry).encode())
+        runs.wants(["-c"], "b: OK\n", said.splitlines()[1], 0, (line("b", b"abc") + entry).encode())
+        runs.wants(["-c", "-w"], "", f"'standard input': 1: checksum line of another algorithm\n{NO_LINE}", 1,
+                   entry.encode())
+    for entry in ("SHA256(b) = 00", "SHA256  (b) = 00", " SHA256 (b) = 00", "sha256 (b) = 00", "SHA257 (b) = 00",
+                  "SHA3 (b) = 00", "BLAKE2x (b) = 00", "SHA256", "SHA256 b"):
+        runs.wants(["-c", "-w"], "", f"'standard input': 1: improperly formatted BLAKE2b checksum line\n{NO_LINE}", 1,
+                   entry.encode())
+    runs.ends("messages of --warn")
+
+
+def test_small_leaves(runs):
+    """Trees with leaves below 1,024 bytes are checked only if --tree names them."""
+    for leaf in (1, 4, 1023, 1024, 1025, 65536):
+        said, small = root_line("b", b"abc", leaf), leaf < 1024
+        needs = f"'standard input': lines need --tree {leaf}\nWARNING: 1 line needs other options"
+        runs.wants(["-c"], "" if small else "b: OK\n", needs if small else "", int(small), said.encode())
+        runs.wants(["-c", "--tree", str(leaf)], "b: OK\n", data=said.encode())
+        runs.wants(["-c", "--tree", str(leaf + 1)], "", needs, 1, said.encode())
+        runs.wants(["-c", "-a", "blake2b"], "", needs, 1, said.encode())
+        runs.wants(["-c", "--salt=01", "--tree", str(leaf)], "b: OK\n",
+                   data=root_line("b", b"abc", leaf, salt=b"\1").encode())
+    runs.ends("trees with small leaves in manifests")
 
 
 def test_macs(runs):
@@ -288,7 +418,7 @@ Check = collections.namedtuple("Check", "family given is_named bits options repo
 
 def random_hash(rng):
     """The options of a hash, its family, and the key, the salt and the personalization, if it has them."""
-    family = rng.choice(["b", "s", "bp", "sp", "tree-1", "tree-64", "tree-4294967295"])
+    family = rng.choice(["b", "s", "bp", "sp", "tree-1", "tree-64", "tree-1024", "tree-4294967295"])
     is_tree, most, given = family.startswith("tree-"), 8 if family[0] == "s" else 16, {}
     words = ["--tree", family[5:]] if is_tree else ["-a", "blake2" + family]
     if not is_tree and rng.random() < 0.3:
@@ -323,28 +453,34 @@ def random_options(rng):
     return words, Check(family, given, is_named, bits or ("key" in given and longest(family)), options, report, shares)
 
 
+def is_slow(family):
+    """Whether it is a tree that a check accepts only by its name."""
+    return family.startswith("tree-") and int(family[5:]) < 1024
+
+
 def lacks_of(check, family, given, bits):
     """What an entry needs that a check has not: options, those that it must not have, an algorithm, and a length. There
     is none of these if the check counts the entry (docs/SPECIFICATION.md, 11.2)."""
     missing, unwanted = given.keys() - check.given.keys(), check.given.keys() - given.keys()
     is_other = family != check.family
-    if not (missing or unwanted or is_other and (check.is_named or check.given) or check.bits not in (0, bits)):
+    if not (missing or unwanted or is_other and (check.is_named or check.given or is_slow(family))
+            or check.bits not in (0, bits)):
         return [], [], None, None
-    algorithm = family if is_other and (check.is_named or given) else None
+    algorithm = family if is_other and (check.is_named or given or is_slow(family)) else None
     is_longest = not check.bits or algorithm and check.bits == longest(check.family)
     demands = (check.bits or "key" in given) and "key" not in unwanted
     return missing, unwanted, algorithm, bits if demands and bits != (
         longest(family) if is_longest else check.bits) else None
 
 
-def needs_text(lacks):
-    """The message of what several entries need, of which the first tells the algorithm and the length."""
+def needed(lacks):
+    """The options that several entries need, of which the first tells the algorithm and the length."""
     missing, unwanted, algorithms, lengths = zip(*lacks)
     words = [NEEDED[it] for it in NEEDED if any(it in each for each in missing)]
     words += ["no " + NEEDED[it] for it in NEEDED if any(it in each for each in unwanted)]
     words += [f"--{'algorithm blake2' * (it[0] != 't')}{it.replace('-', ' ')}" for it in filter(None, algorithms)][:1]
     words += [f"--length {bits}" for bits in filter(None, lengths)][:1]
-    return f"'standard input': lines need {' '.join(words)}"
+    return " ".join(words)
 
 
 def random_line(rng, check):
@@ -389,7 +525,7 @@ def warnings(counts, lacks, check):
              "unmet": ("line needs other options", "lines need other options"),
              "unread": ("listed file could not be read", "listed files could not be read"),
              "different": ("computed checksum did NOT match", "computed checksums did NOT match")}
-    said = [needs_text(lacks)] if lacks else []
+    said = [f"'standard input': lines need {needed(lacks)}"] if lacks else []
     said += [f"WARNING: {counts[kind]} {text[counts[kind] > 1]}" for kind, text in texts.items() if counts[kind]]
     if "--ignore-missing" in check.options and not counts["equal"]:
         said.append("'standard input': no file was verified")
@@ -409,6 +545,7 @@ def random_check(rng, runs):
         counts[kind] += 1
         if kind == "unmet":
             lacks.append(lacking)
+            err += f"'standard input': {number}: needs {needed([lacking])}\n" if check.report == "-w" else ""
         if kind == "malformed" and check.report == "-w":
             tag = "BLAKE2" + "b-" * check.family.startswith("tree-") + check.family
             err += f"'standard input': {number}: improperly formatted {tag} checksum line\n"
@@ -496,6 +633,7 @@ def test_differences(runs):
 
 
 COMPUTING = (test_lengths, test_random, test_trees)
-TESTS = (*COMPUTING, test_parameters, test_tags, test_macs, test_sealed_manifests, test_names, test_differences,
+TESTS = (*COMPUTING, test_parameters, test_tags, test_macs, test_hex_keys, test_digits_as_key, test_warned_lines,
+         test_small_leaves, test_sealed_manifests, test_names, test_differences,
          test_key_input)
 run_tests(TESTS, COMPUTING if HUGE else ())

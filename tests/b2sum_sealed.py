@@ -42,7 +42,7 @@ WRONG = {
     "--sealed --key-file key": "the --sealed option is meaningful only when verifying checksums",
     "--seal --sealed --key-file key": "the --sealed option is meaningful only when verifying checksums",
     "-c --sealed": "the --sealed option needs --key-file",
-    "-c --sealed --salt 00": "the --sealed option needs --key-file",
+    "-c --sealed --salt 01": "the --sealed option needs --key-file",
 }
 
 

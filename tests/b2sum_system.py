@@ -44,9 +44,11 @@ def test_secrets(runs):
     the state. Once a key file is opened, the process cannot be dumped."""
     key = random.Random(3).randbytes(64)
     runs.write("long", bytes(200000))
-    for family, bits, some in (("b", 512, key), ("s", 256, key[:32]), ("bp", 512, key), ("sp", 256, key[:32])):
-        runs.write("key", some)
-        words = ["-a", "blake2" + family, "--key-file", "key"]
+    hashes = (("b", 512, key), ("s", 256, key[:32]), ("bp", 512, key), ("sp", 256, key[:32]))
+    for (family, bits, some), option in itertools.product(hashes, ("--key-file", "--key-hex-file")):
+        digits = some.hex().encode()
+        runs.write("key", digits + b"\n" if "hex" in option else some)
+        words = ["-a", "blake2" + family, option, "key"]
         manifest = line("long", bytes(200000), bits, family, key=some)
         runs.write("sums", (manifest + line("b", b"abc", bits, family, key=some)).encode())
         for more in (["long", "b", "-"], ["-c", "sums"]):
@@ -64,6 +66,9 @@ def test_secrets(runs):
                        1 <= most // pieces <= MOST_COPIES[family] and ends[0] > 6 and ends[1] > 4)
             for at in range(ends[1] - 1, ends[1] + 1):
                 runs.holds([*words, "the end", at], scan_memory(runs, words + more, some, "close", at) == (0, 0, 0))
+                runs.holds([*words, "digits", at], scan_memory(runs, words + more, digits, "close", at) == (0, 0, 0))
+            # Once the key is decoded, its digits are nowhere.
+            runs.holds([*words, "digits"], scan_memory(runs, words + more, digits, "readv", ends[0]) == (0, 0, 0))
     for at in (1, 3):
         found = scan_memory(runs, ["long", "b"], key, "readv", at)
         runs.holds(["no key", found], found and found[:2] == (0, 1))

@@ -213,6 +213,17 @@ class Model:
             raise Refused("message")
         state.message += added
 
+    def updates(self, slots, *messages):
+        """All or none: if one refuses, the states before it are again as they were."""
+        assert len(messages) == len(slots) == len(set(slots)), slots
+        before = {slot: dataclasses.replace(self.state(slot)) for slot in slots}
+        try:
+            for slot, message in zip(slots, messages):
+                self.update(slot, message)
+        except Refused:
+            self.slots |= before
+            raise
+
     def skip(self, slot, count):
         state = self.state(slot)
         assert not state.message and int(count) % SCALAR[family_of(state.name)].block == 0

@@ -21,6 +21,7 @@ from b2_model import Input  # noqa: E402
 from common import FAMILIES, Parser  # noqa: E402
 
 KEY, SALT, PERSON = 5000, 6000, 7000  # where keys, salts and personalizations begin
+LETTERS = "abcdefghijklmnopqrst"  # of states that absorb at once
 TEXTS = ("key", "salt", "person")
 NODE = ("fanout", "depth", "leaf", "offset", "node", "inner", "last")
 SUMS = os.path.join(os.path.dirname(os.path.abspath(__file__)), "SUMS")
@@ -41,6 +42,7 @@ PURPOSES = {
     "empty": "a key of no bytes, which is no absent key",
     "saved": "states that are saved at each number of pending bytes, loaded and finished",
     "loaded": "bytes that are loaded, with one changed at each place, and at their edges",
+    "updates": "states that absorb a piece each in one call, all or none",
 }
 
 
@@ -488,6 +490,115 @@ def loaded_counters(w):
                 loads(w, run._replace(counter=counter).encoded())
 
 
+def part(w, length):
+    """A part of the message of this length, from any place on."""
+    start = w.dice.randint(0, 300)
+    return f"{start}:{start + length}" if length or start % 2 else "-"
+
+
+def unkeyed(w):
+    return {name: value for name, value in w.arguments().items() if name != "key"}
+
+
+def made(w, slot, held=0, **given):
+    """The calls that make a state which has absorbed this many bytes."""
+    return [w.new(slot, **given), *[f"update {slot} {part(w, held)}"] * (held > 0)]
+
+
+def together(w, what, makers, lengths, *more):
+    """A case in which states, each from these calls, absorb pieces of these lengths in one call; then their digests."""
+    slots = LETTERS[:len(makers)]
+    w.case(what, *(call for calls in makers for call in calls),
+           f"updates {slots} {' '.join(part(w, length) for length in lengths)}", *more, *map(w.end, slots))
+
+
+def several_updates(w):
+    """States that absorb in one call: each length after each pending length, 1 to 20 of them, one unlike the rest."""
+    lengths = sorted({max(0, blocks * w.block + more) for blocks in range(4) for more in (-1, 0, 1)})
+    held = [0, 1, w.block - 1, w.block, w.dice.randint(2, w.block - 2), 2 * w.block + 1]
+    for pending in held[:5]:
+        for length in lengths:
+            together(w, "updates", [made(w, slot, pending, **unkeyed(w)) for slot in LETTERS[:8]], [length] * 8)
+    for count in range(1, 21):
+        for least in (0, w.block + 1):  # with more than a block each, they go on in lanes
+            together(w, "updates", [made(w, slot, w.dice.choice(held), **w.arguments()) for slot in LETTERS[:count]],
+                     [w.dice.choice([length for length in lengths if length >= least]) for _ in range(count)])
+    for place in range(9):
+        for length in (0, w.block, 40 * w.block + place):
+            each = [2 * w.block + w.dice.randint(1, w.block) for _ in range(9)]
+            each[place] = length
+            together(w, "updates", [made(w, slot, 0, size=w.longest) for slot in LETTERS[:9]], each)
+    for count in range(4, 14):
+        together(w, "updates-node", [made(w, slot, w.dice.choice(held), **w.arguments(**w.node()))
+                                     for slot in LETTERS[:count]], [w.dice.choice(lengths[4:]) for _ in range(count)])
+
+
+def keyed_updates(w):
+    """States whose key's block is pending, all of them or some, before pieces that compress it or do not."""
+    for length in (0, 1, w.block - 1, w.block, w.block + 1, 3 * w.block):
+        for count, step in ((1, 1), (4, 1), (5, 2), (8, 1), (9, 3)):
+            makers = [made(w, slot, 0, **w.arguments(**{"key": w.some(w.longest, 1)} if i % step == 0 else {}))
+                      for i, slot in enumerate(LETTERS[:count])]
+            together(w, "updates-key", makers, [length if i % step == 0 else w.dice.randint(0, 3 * w.block)
+                                                for i in range(count)])
+
+
+def counted_updates(w):
+    """States at counters of their own: around 2^32 and each later byte of the counter, and up to 2^64 - 1."""
+    for bit in (32, 33, 40, 48, 56, 63):
+        for count in (5, 8):
+            makers = [[w.new(slot, **w.arguments()), f"skip {slot} {2**bit - w.block * (i % 4)}", f"count {slot}"]
+                      if i != 6 else made(w, slot, 77) for i, slot in enumerate(LETTERS[:count])]
+            lengths = [3 * w.block + w.dice.randint(0, 9) for _ in range(count)]
+            together(w, "updates-counter", makers, lengths, "count a")
+    for place in range(9):  # one byte too many for one of them, and then as many as it can absorb
+        pending, room = w.dice.randint(0, w.block), w.dice.randint(2 * w.block, 4 * w.block)
+        run = sample(w, pending)._replace(counter=2**64 - 1 - pending - room)
+        makers = [[f"load {slot} {w.name} {run.encoded().hex()}"] if i == place else made(w, slot, 40 * i)
+                  for i, slot in enumerate(LETTERS[:9])]
+        lengths = [room + (i == place) for i in range(9)]
+        again = " ".join(part(w, room) for _ in lengths)
+        together(w, "updates-counter", makers, lengths, f"count {LETTERS[place]}", f"updates {LETTERS[:9]} {again}",
+                 f"count {LETTERS[place]}", f"updates {LETTERS[place]} 0:1")
+    for place in (0, 3, 7):  # a key counts as a block
+        skip = f"skip {LETTERS[place]} {2**64 - 4 * w.block}"
+        makers = [made(w, slot, 0, key=1 + i) + [skip] * (i == place) for i, slot in enumerate(LETTERS[:8])]
+        most = 3 * w.block - 1
+        together(w, "updates-counter", makers, [most + (i == place) for i in range(8)],
+                 f"updates {LETTERS[:8]} {' '.join(part(w, most) for _ in range(8))}", "count a")
+
+
+def refused_updates(w):
+    """No object for one of the pieces, or one of the states has ended: then none absorbs."""
+    for slots in (LETTERS[:count] for count in (1, 4, 9)):
+        for place, slot in enumerate(slots):
+            pieces = [part(w, w.dice.randint(0, 4 * w.block)) for _ in slots]
+            wrong, ends = [*pieces[:place], "none", *pieces[place + 1:]], list(map(w.end, slots))
+            makers = [call for each in slots for call in made(w, each, w.dice.randint(0, 2 * w.block), **w.arguments())]
+            w.case("updates-refused", *makers, f"updates {slots} {' '.join(wrong)}", f"count {slot}", *ends)
+            end = (f"digest {slot}", f"wipe {slot}", f"verify {slot} 00")[place % 3]
+            live = slots.replace(slot, "")
+            w.case("updates-refused", *makers, end, f"updates {slots} {' '.join(pieces)}",
+                   *[f"updates {live} {' '.join(pieces[1:])}"] * (live > ""), *ends)
+
+
+def walks_of_updates(w):
+    """Random calls of several states, some in one call."""
+    for i in range(30):
+        slots = LETTERS[:w.dice.randint(2, 12)]
+        w.case("updates-walk", *(w.new(slot, **w.arguments()) for slot in slots))
+        for _ in range(9):
+            chosen = w.dice.sample(slots, w.dice.randint(1, len(slots)))
+            least = w.dice.choice([0, w.block + 1])
+            pieces = " ".join(part(w, w.dice.randint(least, 4 * w.block)) for _ in chosen)
+            one, other = w.dice.sample(slots, 2)
+            calls = [f"updates {''.join(chosen)} {pieces}"] * 6 + [f"update {one} {part(w, 3 * w.block)}",
+                                                                  f"copy {one} {other}", w.end(one), w.new(one)]
+            w.call(w.dice.choice(calls + [f"reset {one}", f"last {one} 1"] * (i % 3 == 0)))
+        for slot in slots:
+            w.call(w.end(slot))
+
+
 def empty_keys(w):
     size = w.longest - 1
     w.case("empty-key", w.new(key="-"))
@@ -505,6 +616,7 @@ def text_of(name):
                  ended, resets, walks, *[several] * w.has_nodes, *[outputs] * w.is_output,
                  *[trees, parts_of_trees] * w.is_tree,
                  *[counters, saved_states, loaded_bytes, loaded_counters] * w.has_nodes,
+                 *[several_updates, keyed_updates, counted_updates, refused_updates, walks_of_updates] * w.has_nodes,
                  *[empty_keys] * ("key" in w.limits)):
         kind(w)
     return "\n".join([f"# {name}: conformance cases of BLAKE2, format 2. README.md describes them.", *w.lines, ""])

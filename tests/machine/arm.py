@@ -119,6 +119,8 @@ VECTORS: dict = {
     "uzp1": lambda n, a, b: joined(chunks(a + b, n)[::2]), "uzp2": lambda n, a, b: joined(chunks(a + b, n)[1::2]),
     "trn2": lambda n, a, b: joined(x + y for x, y in zip(chunks(a, n)[1::2], chunks(b, n)[1::2])),
     "ext": lambda n, a, b, k: (a + b)[k:], "xtn": lambda n, a: VECTORS["uzp1"](n, a, []),
+    "addhn": lambda n, a, b: VECTORS["uzp2"](n, VECTORS["add"](2 * n, a, b), []),
+    "addhn2": lambda n, old, a, b: old[:8] + VECTORS["addhn"](n, a, b),
     "uxtl": lambda n, a: VECTORS["zip1"](n // 2, a, [0] * 16),
     "rev64": lambda n, a: picked(n, [k ^ 8 // n - 1 for k in range(len(a) // n)], a),
     "rev32": lambda n, a: picked(n, [k ^ 4 // n - 1 for k in range(len(a) // n)], a),
@@ -126,7 +128,8 @@ VECTORS: dict = {
     "dup": lambda n, a: a[:n] * (16 // n), "movi": lambda n, k: [k, *[0] * (n - 1)] * (16 // n),
     **dict.fromkeys(("mov", "fmov"), lambda n, a: a),
 }
-COMPUTES, ACCUMULATES = ("add", "uqsub", "cmhi", "cmeq", "addv", "umaxv", "bic", "orn", "mvn", "shl", "usra"), ("usra",)
+COMPUTES = "add", "addhn", "addhn2", "uqsub", "cmhi", "cmeq", "addv", "umaxv", "bic", "orn", "mvn", "shl", "usra"
+ACCUMULATES = "addhn2", "usra"
 
 
 class Arm(Processor):

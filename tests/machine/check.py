@@ -223,7 +223,8 @@ def proofs(path: str, has_all: bool) -> Iterator[Job]:
 
 PAGE = os.path.join(programs.ROOT, "docs", "MACHINE.md")
 COLUMNS = tuple(changes.FILES[name] for name in ("v4", "v3", "v2", "arm", "wasm"))
-NOT_COMPUTED = {"_many": "several messages", "_save": "saved states", "_load": "saved states"}
+NOT_COMPUTED = {"_many": "several messages", "_update_many": "several states", "_save": "saved states",
+                "_load": "saved states"}
 GROUPS = {**call_cases.TITLES, "memcmp": "memcmp and wipe", "wipe": "memcmp and wipe", "blake2bp": "BLAKE2bp",
           "blake2sp": "BLAKE2sp", "tree": "trees"}
 
@@ -231,7 +232,7 @@ GROUPS = {**call_cases.TITLES, "memcmp": "memcmp and wipe", "wipe": "memcmp and 
 def shown(path: str, family: str, name: str) -> str:
     """What is shown with --long of a call in a file."""
     is_library = functions.architecture(path) != "wasm"
-    is_followed = is_library and path not in constant_time.NOT_FOLLOWED
+    is_followed = is_library and path not in constant_time.NOT_FOLLOWED and not name.endswith(constant_time.OF_ARRAYS)
     if name in call_cases.DECLARED and is_library:
         return "all cases" if "x" not in family or path == ALL_OF_X else "some cases" + "; secrets" * is_followed
     if is_followed and (path, name) not in constant_time.NOT_SHOWN:

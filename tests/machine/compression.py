@@ -76,10 +76,10 @@ class Call:
 
     def arguments(self) -> list:
         """The arguments after the chaining words: of one message the block, the counter and the flags, whose higher
-        bytes are undefined; of several the tables of blocks (addresses and numbers) and of flags around the counter."""
+        bytes are undefined; of several the tables of blocks (addresses and numbers), of counters and of flags."""
         if self.lanes > 1:
             pairs = [t for pair in zip(self.blocks, self.lengths) for t in pair]
-            return [self.table("blocks", pairs), self.counter, self.flags()]
+            return [self.table("blocks", pairs), *self.counters_and_flags()]
         return [self.blocks[0], self.counter] + [
             T.word([self.flag(name, 0)] + junk(name, 7)) for name in ("last", "node")]
 
@@ -94,12 +94,13 @@ class Call:
         self.regions[self.pointer(table)] = Cells(0, 8 * len(words), bytes_of(words).__getitem__, False)
         return table
 
-    def flags(self) -> T.Term:
-        """A pointer to the flags of all messages."""
+    def counters_and_flags(self) -> list:
+        """Pointers to the counters and to the flags of all messages."""
+        self.counters = [self.variable(64, "counter%d" % j, T.PUBLIC) for j in range(self.lanes)]
         flags = T.var(64, "flags", T.PUBLIC)
         bits = [self.flag(name, j) for j in range(self.lanes) for name in ("last", "node")]
         self.regions[self.pointer(flags)] = Cells(0, 2 * self.lanes, bits.__getitem__, False)
-        return flags
+        return [self.table("counters", self.counters), flags]
 
     def buffers(self) -> list:
         """Pointers to the first blocks, and the words that are there."""
@@ -125,7 +126,7 @@ class Call:
 
     def counted(self, j: int, i: T.Term) -> T.Term:
         """The counter of message j at block i."""
-        return T.add(64, (1, self.counter), (self.kind.block, i))
+        return T.add(64, (1, self.counters[j] if self.lanes > 1 else self.counter), (self.kind.block, i))
 
     def masks(self, j: int) -> list:
         """The words that the flags of message j are xored in as: of ones, if they are on."""
@@ -148,15 +149,11 @@ class Call:
 
 
 class EachCall(Call):
-    """A call of a function that compresses one block of each of several messages, with a counter for each."""
+    """A call of a function that compresses one block of each of several messages."""
 
     def arguments(self) -> list:
         """The tables of the blocks' addresses, of the counters and of the flags."""
-        self.counters = [self.variable(64, "counter%d" % j, T.PUBLIC) for j in range(self.lanes)]
-        return [self.table("blocks", self.blocks), self.table("counters", self.counters), self.flags()]
-
-    def counted(self, j: int, i: T.Term) -> T.Term:
-        return self.counters[j]
+        return [self.table("blocks", self.blocks), *self.counters_and_flags()]
 
 
 class StripesCall(Call):
@@ -180,7 +177,7 @@ class StripesCall(Call):
         return super().ends(left) + [T.add(64, (n, left)) for n in (size, -size)]
 
     def counted(self, j: int, i: T.Term) -> T.Term:
-        return T.add(64, (1, super().counted(j, i)), (1, T.const(64, self.kind.block)))
+        return T.add(64, (1, self.counter), (self.kind.block, i), (1, T.const(64, self.kind.block)))
 
     def masks(self, j: int) -> list:
         return [T.const(self.kind.w, 0)] * 2

@@ -48,7 +48,8 @@ LONGEST = {"blake2bp": 896, "blake2sp": 960}
 FAMILIES = ("blake2b", "blake2s", "blake2bp", "blake2sp")
 FINALIZING, ANSWERING = (tuple(name % family for family in FAMILIES)
                          for name in (functions.FINALIZE, functions.IS_DIGEST_OF))
-NOT_COMPUTED = ("_many", "_save", "_load")     # of these whole_calls.py does not show what they write
+NOT_COMPUTED = ("_many", "_update_many", "_save", "_load")  # of these whole_calls.py does not show what they write
+OF_ARRAYS = ("_update_many",)                   # whose secrets are not followed: they have an array of states
 OF_C = programs.OF_C
 NOT_FOLLOWED = ("dist/x86_64/vulfsjor-v4.s",)   # masks of AVX-512 are not followed
 # What is not shown, as pairs of a file and a function: pointers have bounds that are too hard for the ranges.
@@ -306,13 +307,14 @@ def compress(m: Any, arguments: list, name: str, kind: "Kind", lanes: int) -> No
 
 
 def exports(program: programs.Program) -> Iterator:
-    """The functions that C programs call, with their arguments and families."""
+    """The functions that C programs call, with their arguments and families, but for those of OF_ARRAYS."""
     for name in sorted(set(program.globals) - set(functions.SHARED)):
         m = NAME.fullmatch(name)
         if not m or name not in SIGNATURES:
             raise CannotShow("the arguments of %s are not known: %s does not declare it" % (name, HEADER))
         program.extent(name)           # refuses what is not a function, or may be another's
-        yield name, kinds_of(m[1], SIGNATURES[name]), m[1]
+        if not m[2].endswith(OF_ARRAYS):
+            yield name, kinds_of(m[1], SIGNATURES[name]), m[1]
 
 
 def show(program: programs.Program, name: str, kinds: tuple, family: str) -> Analysis:
