@@ -29,12 +29,13 @@ FILES = {"v4": "dist/x86_64/vulfsjor-v4.s", "v3": "dist/x86_64/vulfsjor-v3.s", "
 ENTRIES = {name: getattr(functions, name.upper().replace(" ", "_")) for name in (
     "one b", "one s", "many b", "many s", "eight b", "each b", "each s", "stripes b", "stripes s")}
 COUNT = 4                              # random changes of each function
-# Those that change nothing, as (path, function, number): a shuffle has no byte of that operand, or there is room for
-# more on the stack than the check of it needs.
-NEUTRAL = {("dist/wasm/vulfsjor.wasm", "one s", 3), ("js/src/wasm.js", "stripes s", 1),
-           ("js/src/wasm_blake2s.js", "one s", 0)}
+# One that changes nothing, as (path, function, number): there is room for more on the stack than the check of it needs.
+NEUTRAL = {("js/src/wasm_blake2s.js", "one s", 0)}
+# What has no byte of the operand before it, whose change would change nothing.
+ONE_OPERAND = re.compile(r"i8x16\.shuffle( (\d|1[0-5])){16}")
 # What no random change is of: what has no other place, and whose change could change nothing.
 FIXED = re.compile(r"rip|adrp|\bret|nop|call|[:<]|^\.|^(bl|end|block|loop|return|br|local.tee|drop)\b|\s\d+[bf]$")
+COMMENT = re.compile(r"(#\s|//).*")
 BRANCH = {"x86_64": "\tcmpb $7, (%%%s)\n\tje 99999f\n99999:\n",
           "aarch64": "\tldrb w9, [%s]\n\tcbz w9, 99999f\n99999:\n"}
 REGISTERS = {"x86_64": "rdi rsi rdx rcx r8 r9".split(), "aarch64": ["x%d" % k for k in range(6)]}
@@ -81,8 +82,7 @@ class Row(NamedTuple):
         return name, compression.show, (name, *entry)
 
     def cut(self, source: Any) -> tuple:
-        """What precedes the lines to change, these, and what comes after: the lines of a function, of its constants,
-        which precede it, or of all of a text."""
+        """What precedes the lines to change, these, and what follows: of a function, of its constants, or of all."""
         name = self.target()[0]
         if isinstance(source, dict) or not name:
             return "", source[name] if name else source.split("\n"), ""
@@ -103,9 +103,9 @@ class Row(NamedTuple):
 
     def changed(self, lines: list) -> list:
         """The lines with the change at the match of its number, counted from 1."""
-        clean = cleaned(lines)
+        clean, old = cleaned(lines), re.compile(self.old)
         exact = [k for k, text in enumerate(clean) if text == self.old]
-        found = exact or [k for k, text in enumerate(clean) if re.fullmatch(self.old, text)]
+        found = exact or [*filter(lambda k: old.fullmatch(clean[k]), range(len(clean)))]
         if len(found) < self.number:
             raise NoMatch("%r matches %d lines, fewer than %d" % (self.old, len(found), self.number))
         at = found[self.number - 1]
@@ -136,7 +136,7 @@ class Row(NamedTuple):
 
 def cleaned(lines: list) -> list:
     """Lines with single spaces, and without comments."""
-    return [" ".join(re.sub(r"(#\s|//).*", "", line).split()) for line in lines]
+    return [" ".join(COMMENT.sub("", line).split()) for line in lines]
 
 
 def table() -> list:
@@ -146,8 +146,9 @@ def table() -> list:
         for line in f:
             if not line.startswith(("#", "\n")):
                 marks, rest = re.fullmatch(r"([+*]*) *(.*)\n", line).groups()    # type: ignore[union-attr]
-                file, name, number, old, new = re.split(r" \|(?: |$)", rest, maxsplit=4)
-                found.append(Row(FILES[file], name, int(number), old.strip(), new.strip(), "+" in marks, "*" in marks))
+                files, name, number, old, new = re.split(r" \|(?: |$)", rest, maxsplit=4)
+                found += [Row(FILES[file], name, int(number), old.strip(), new.strip(), "+" in marks and k == 0,
+                              "*" in marks) for k, file in enumerate(files.split())]
     return found
 
 
@@ -163,8 +164,7 @@ def check_table() -> tuple:
 
 
 def check_unchanged() -> tuple:
-    """Whether the calls whose changes are refused are accepted without them, also where they are not followed
-    otherwise: a verdict, and how many there are."""
+    """Whether the calls whose changes are refused are accepted without them: a verdict, and how many there are."""
     calls = {(row.path, row.target()[2][0]) for row in table() if row.target()[1] is show_call}
     for path, exported in sorted(calls):
         show_call(programs.read(path), exported)
@@ -189,7 +189,8 @@ def random_changes(path: str, function: str) -> Iterator[Row]:
     """Changes of random instructions of a function: each becomes another of the same name, or is left out."""
     row, kind = Row(path, function, 1, "", ""), functions.architecture(path)
     texts = cleaned(row.cut(programs.source(path))[1])
-    names = {k: text.split()[0] for k, text in enumerate(texts) if text and not FIXED.search(text)}
+    names = {k: text.split()[0] for k, (text, next_text) in enumerate(zip(texts, texts[1:] + [""]))
+             if text and not FIXED.search(text) and not ONE_OPERAND.fullmatch(next_text)}
     for seed in range(COUNT):
         rng = random.Random("%s %s %d" % (path, row.target()[0], seed))
         others: set = set()
@@ -213,8 +214,7 @@ def check_random(path: str, entry: tuple) -> tuple:
 
 
 def check_branches(path: str, k: int) -> tuple:
-    """Whether a branch on argument k is refused in each exported function where it is secret: in taint tracking, and,
-    if it is a state, in whole calls."""
+    """Whether a branch on argument k, where it is secret, is refused in taint tracking and in whole calls."""
     kind, count = functions.architecture(path), 0
     branch = BRANCH[kind] % REGISTERS[kind][k]
     program = programs.Program(path, lambda text: re.sub(
@@ -239,8 +239,7 @@ def check_branches(path: str, k: int) -> tuple:
 
 
 class Planted(NamedTuple):
-    """An attribute that gets a wrong value, made from the right one, and the test that must see it, which returns a
-    verdict and why, or refuses."""
+    """An attribute that gets a wrong value, made from the right one, and the test that must see it, or refuse."""
 
     title: str
     owner: Any
